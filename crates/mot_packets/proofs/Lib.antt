@@ -1,0 +1,3 @@
+pub mod HeaderWord
+pub mod Pieces
+pub mod ReadBack

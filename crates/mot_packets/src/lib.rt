@@ -1,0 +1,10 @@
+//! Packets of a packet-mode sub-channel (EN 300 401, clause 5.3.2).
+#![tactic(auto)]
+
+mod header;
+mod packet;
+
+pub use packet::{Packet, cut_packet, packet_count};
+
+#[cfg(test)]
+mod tests;

@@ -1,0 +1,35 @@
+-- Some first bytes that were written.
+use Rattle.std.proofs.Common.{ℕ, List, [], ◌++◌, take, drop, Option, sym, ap, ◌∙◌, append_assoc, append-nil, take-append-drop}
+use Rattle.std.specs.Io.KnownBytes.{Appends}
+use Rattle.std.proofs.KnownBytes.{Appends-trans}
+use Rattle.mot_server.specs.Served.{WritesFront}
+
+pub WritesFront-take : (bytes : List ℕ) (at : ℕ) (old new : Option (List ℕ)) → Appends old new (take at bytes)
+    → WritesFront bytes old new
+WritesFront-take bytes at old new h = record {
+  written = take at bytes;
+  unwritten = drop at bytes;
+  split =
+      sym (take-append-drop at bytes);
+  appended = h;
+}
+
+-- all of them
+pub WritesFront-all : (bytes : List ℕ) (old new : Option (List ℕ)) → Appends old new bytes
+    → WritesFront bytes old new
+WritesFront-all bytes old new h = record {
+  written = bytes;
+  unwritten = [];
+  split = sym (append-nil bytes);
+  appended = h;
+}
+
+-- a front of what comes after bytes that were written
+pub WritesFront-after : (front bytes : List ℕ) (old mid new : Option (List ℕ)) → Appends old mid front
+    → WritesFront bytes mid new → WritesFront (front ++ bytes) old new
+WritesFront-after front bytes old mid new h w = record {
+  written = front ++ w.written;
+  unwritten = w.unwritten;
+  split = ap (λ l. front ++ l) w.split ∙ sym (append_assoc front w.written w.unwritten);
+  appended = Appends-trans old mid new front w.written h w.appended;
+}

@@ -1,0 +1,10 @@
+pub mod Pieces
+pub mod Numbers
+pub mod Words
+pub mod Fronts
+pub mod Requests
+pub mod Sent
+pub mod Input
+pub mod Outcomes
+pub mod Replies
+pub mod Runs

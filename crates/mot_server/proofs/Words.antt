@@ -1,0 +1,39 @@
+-- The words of a raw line.
+use Rattle.std.proofs.Common.{◌≡◌, ◌≢◌, ℕ, ◌<◌, Bool, true, false, cond, List, [], ◌∷◌, length, Err, Option, None, Some, refl, sym, ap, ◌∙◌, subst, arith}
+use Rattle.std.specs.Prelude.{nat_eq}
+use Rattle.std.specs.Borrow.{Bor}
+use Rattle.std.specs.List.{onto_first}
+use Rattle.mot_base.specs.declared.refusal.Refusal.TheVariants.{BadLine}
+use Rattle.mot_server.specs.Line.{words_of, words_after, raw_of}
+
+-- there is a word in every list of bytes
+some_cond : (b : Bool) (x : ℕ) (ps : List (List ℕ)) → 0 < length (cond b ([] ∷ ps) (onto_first x ps))
+some_cond true x ps = omega arith
+some_cond false x [] = omega arith
+some_cond false x (p ∷ ps) = omega arith
+
+some_word : (xs : List ℕ) → 0 < length (words_of xs)
+some_word [] = omega arith
+some_word (x ∷ xs) = some_cond (nat_eq x 32) x (words_of xs)
+
+-- the next word
+pub next_word : (o r : Option (Bor (List ℕ))) (x : Bor (List ℕ)) (a : List ℕ) → o ≡ Some x
+    → words_of x.now ≡ a ∷ words_after r → words_after o ≡ a ∷ words_after r
+next_word o r x a e h = ap words_after e ∙ h
+
+-- no word is left
+pub no_words : (o : Option (Bor (List ℕ))) → o ≡ None → length (words_after o) ≡ 0
+no_words o e = ap (λ r. length (words_after r)) e
+
+-- a word is left
+pub more_words : (o : Option (Bor (List ℕ))) (x : Bor (List ℕ)) → o ≡ Some x → 0 < length (words_after o)
+more_words o x e = subst (λ r. 0 < length (words_after r)) (sym e) (some_word x.now)
+
+-- a raw line has three words after its first
+pub raw_of-others : (words : List (List ℕ)) → length words ≢ 3 → raw_of words ≡ Err BadLine
+unfolding raw_of
+raw_of-others [] h = refl
+raw_of-others (a ∷ []) h = refl
+raw_of-others (a ∷ b ∷ []) h = refl
+raw_of-others (a ∷ b ∷ c ∷ []) h = absurd (h refl)
+raw_of-others (a ∷ b ∷ c ∷ d ∷ words) h = refl

@@ -1,0 +1,10 @@
+pub mod Geometry
+pub mod Hand
+pub mod Line
+pub mod Lines
+pub mod Program
+pub mod Progress
+pub mod Raw
+pub mod Served
+pub mod Session
+pub mod State

@@ -1,0 +1,35 @@
+-- The lines of an input: each ends with 0x0A, and what follows the last 0x0A is one, too, unless it is empty.
+use Rattle.std.specs.Prelude.{ℕ, ◌==◌, List, [], ◌∷◌, ◌++◌}
+use Rattle.std.specs.List.{slice_split}
+
+-- what stands between line ends; an input with none is one piece
+abbrev pub pieces_between : List ℕ → List (List ℕ)
+pieces_between input = slice_split (λ b. b == 10) input
+
+-- all but the last
+abbrev pub front : List (List ℕ) → List (List ℕ)
+front [] = []
+front (x ∷ []) = []
+front (x ∷ y ∷ zs) = x ∷ front (y ∷ zs)
+
+-- the last
+abbrev pub final : List (List ℕ) → List ℕ
+final [] = []
+final (x ∷ []) = x
+final (x ∷ y ∷ zs) = final (y ∷ zs)
+
+-- the lines whose end has come
+unfoldable pub whole_lines : List ℕ → List (List ℕ)
+whole_lines input = front (pieces_between input)
+
+-- what has come of the next line
+unfoldable pub rest_of : List ℕ → List ℕ
+rest_of input = final (pieces_between input)
+
+abbrev pub unless_empty : List ℕ → List (List ℕ)
+unless_empty [] = []
+unless_empty (b ∷ bs) = (b ∷ bs) ∷ []
+
+-- all lines
+unfoldable pub lines_of : List ℕ → List (List ℕ)
+lines_of input = whole_lines input ++ unless_empty (rest_of input)

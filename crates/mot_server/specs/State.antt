@@ -1,0 +1,5 @@
+-- What a server stands for.
+use Rattle.mot_server.specs.declared.geometry.Geometry.{Geometry}
+
+pub record ServerState : Type 0 where
+  pub geometry : Geometry
