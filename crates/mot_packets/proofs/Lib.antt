@@ -1,3 +1,4 @@
 pub mod HeaderWord
 pub mod Pieces
 pub mod ReadBack
+pub mod Rows

@@ -8,3 +8,4 @@ pub mod Input
 pub mod Outcomes
 pub mod Replies
 pub mod Runs
+pub mod Rows
