@@ -1,0 +1,6 @@
+pub mod Appended
+pub mod Beside
+pub mod Described
+pub mod Fits
+pub mod ReadBack
+pub mod Rows

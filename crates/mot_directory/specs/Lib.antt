@@ -1,0 +1,5 @@
+pub mod Directory
+pub mod Entries
+pub mod Header
+pub mod Parameter
+pub mod Stands

@@ -1,0 +1,104 @@
+ghost use Rattle.std.specs.Prelude.{◌≡◌, ℕ, ◌+◌, ◌^◌, ◌<◌, ◌≤◌, List, ◌++◌, length, map, vec_len, vec_capacity, All, Some, IfOk, IfErr, OnOk};
+ghost use Rattle.mot_base.specs.declared.refusal.Refusal.TheVariants.{OutOfMemory};
+ghost use Rattle.mot_carousel.specs.Carousel as whole;
+ghost use Rattle.mot_carousel.specs.Stands.{AreBodiesOf, carousel_of};
+ghost use Rattle.mot_directory.specs.Directory.{DirectoryFields, IsDirectory, IsEntry, bytes_of_directory, bytes_of_entry, directory_header_bytes, read_directory};
+ghost use Rattle.mot_directory.specs.Entries.{HasDirectory, directory_of, entries_of};
+ghost use Rattle.mot_directory.specs.Stands.{directory_size, entry_beside, entry_size};
+
+use crate::appending::{append, append_number};
+use crate::header::{append_header, header_size};
+use byteorder::{BigEndian, ByteOrder};
+use mot_base::{Refusal, SegmentSize};
+use mot_carousel::{Carousel, Object};
+use std::alloc::Global;
+
+/// The carousel's directory (EN 301 234), uncompressed and with no directory extension: the directory header,
+/// and each object's transport id and header, in the objects' order. Of the bodies it holds the lengths alone.
+/// It has 13 to 84,013 bytes, and its room is taken once. The only refusal is `OutOfMemory`.
+pub fn directory_bytes(
+    alloc: Global,
+    carousel: &Carousel,
+    segment_size: SegmentSize,
+) -> Result<Vec<u8>, Refusal>
+    // Whatever the bodies, it reads as the period, the segment size and the objects' entries, and each length
+    // fits its field.
+    ensures reads { IfOk result (λ bytes. (bodies : List (List ℕ)) → AreBodiesOf carousel.now bodies
+        → read_directory bytes.items ≡ Some (record {
+          period = carousel.now.period;
+          segment_size = segment_size;
+          entries = entries_of (carousel_of carousel.now bodies);
+        })) }
+    ensures written { IfOk result (λ bytes. (bodies : List (List ℕ)) → AreBodiesOf carousel.now bodies
+        → bytes.items ≡ bytes_of_directory (directory_of (carousel_of carousel.now bodies) segment_size)) }
+    ensures fits { OnOk result ((bodies : List (List ℕ)) → AreBodiesOf carousel.now bodies
+        → IsDirectory (directory_of (carousel_of carousel.now bodies) segment_size)) }
+    ensures bytes { IfOk result (λ bytes. All (λ b. b < 256) bytes.items) }
+    ensures size { IfOk result (λ bytes. vec_len bytes ≡ directory_size carousel.now) }
+    ensures longest { directory_size carousel.now ≤ 84013 }
+    ensures refused { IfErr result (λ refusal. refusal ≡ OutOfMemory) }
+
+    // Each directory whose lengths fit reads back, and each carousel within the limits has one.
+    ensures reads_back { (d : DirectoryFields) → IsDirectory d
+        → read_directory (bytes_of_directory d) ≡ Some d }
+    ensures carousels { (c : whole.Carousel) (size : ℕ) → HasDirectory c size
+        → read_directory (bytes_of_directory (directory_of c size)) ≡ Some (directory_of c size) }
+{
+    let size = directory_size(carousel);
+    let mut out = Vec::with_capacity(alloc, size)?;
+    append_directory_header(&mut out, size, carousel, segment_size);
+    for object in &carousel.objects {
+        append_entry(&mut out, object);
+    }
+    Ok(out)
+}
+
+/// How many bytes the directory has.
+fn directory_size(carousel: &Carousel) -> usize
+    ensures size { result ≡ directory_size carousel.now }
+    ensures longest { result ≤ 84013 }
+{
+    let mut size = 13;
+    for object in &carousel.objects {
+        size += 2 + header_size(object);
+    }
+    size
+}
+
+/// Adds the header of a directory of so many bytes.
+fn append_directory_header(
+    out: &mut Vec<u8>,
+    size: usize,
+    carousel: &Carousel,
+    segment_size: SegmentSize,
+)
+    requires size { size < 2 ^ 30 }
+    requires room { vec_len out.old + 13 ≤ vec_capacity out.old }
+    ensures items { out.new.items ≡ out.old.items
+        ++ directory_header_bytes size (vec_len carousel.now.objects) carousel.now.period segment_size }
+    ensures len { vec_len out.new ≡ vec_len out.old + 13 }
+    ensures capacity { vec_capacity out.old ≤ vec_capacity out.new }
+    ensures period { carousel.now.period ≤ 16777215 }
+    ensures segment_size { segment_size ≤ 8189 }
+    ensures bytes { All (λ b. b < 256) out.new.items }
+{
+    let mut header = [0; 13];
+    BigEndian::write_u32(&mut header, size as u32);
+    BigEndian::write_u16(&mut header[4..], carousel.objects.len() as u16);
+    BigEndian::write_u24(&mut header[6..], carousel.period.get());
+    BigEndian::write_u16(&mut header[9..], segment_size.get());
+    append(out, &header);
+}
+
+/// Adds an object's entry: its transport id and its header.
+fn append_entry(out: &mut Vec<u8>, object: &Object)
+    requires { vec_len out.old + entry_size object.now ≤ vec_capacity out.old }
+    ensures items { out.new.items ≡ out.old.items ++ bytes_of_entry (entry_beside object.now) }
+    ensures len { vec_len out.new ≡ vec_len out.old + entry_size object.now }
+    ensures capacity { vec_capacity out.old ≤ vec_capacity out.new }
+    ensures fits { IsEntry (entry_beside object.now) }
+    ensures bytes { All (λ b. b < 256) out.new.items }
+{
+    append_number(out, object.tid.get());
+    append_header(out, object);
+}
