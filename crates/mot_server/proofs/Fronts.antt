@@ -33,3 +33,13 @@ WritesFront-after front bytes old mid new h w = record {
   split = ap (λ l. front ++ l) w.split ∙ sym (append_assoc front w.written w.unwritten);
   appended = Appends-trans old mid new front w.written h w.appended;
 }
+
+-- a front of bytes that others come after
+pub WritesFront-before : (bytes rest : List ℕ) (old new : Option (List ℕ)) → WritesFront bytes old new
+    → WritesFront (bytes ++ rest) old new
+WritesFront-before bytes rest old new w = record {
+  written = w.written;
+  unwritten = w.unwritten ++ rest;
+  split = ap (λ l. l ++ rest) w.split ∙ append_assoc w.written w.unwritten rest;
+  appended = w.appended;
+}

@@ -3,9 +3,11 @@ pub mod Numbers
 pub mod Words
 pub mod Fronts
 pub mod Requests
+pub mod Asked
 pub mod Sent
 pub mod Input
 pub mod Outcomes
+pub mod Listed
 pub mod Replies
 pub mod Runs
 pub mod Rows

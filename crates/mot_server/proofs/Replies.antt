@@ -1,5 +1,5 @@
 -- Replies that were written, in full or in part.
-use Rattle.std.proofs.Common.{◌≡◌, ℕ, Bool, true, false, cond, List, [], length, Ok, Err, Option, Some, None, refl, sym, ap, ◌∙◌, inl, inr}
+use Rattle.std.proofs.Common.{◌≡◌, ℕ, Bool, true, false, cond, List, [], length, Ok, Err, Option, Some, None, refl, sym, ap, ◌∙◌, subst, inl, inr, ◌⊎◌}
 use Rattle.std.specs.Prelude.{nat_le}
 use Rattle.std.proofs.lemmas.Bool.{leb-false}
 use Rattle.std.specs.Io.KnownBytes.{Appends, Keeps}
@@ -7,16 +7,24 @@ use Rattle.std.proofs.KnownBytes.{Appends-kept}
 use Rattle.mot_base.specs.declared.group_kind.GroupKind.{GroupKind}
 use Rattle.mot_base.specs.declared.refusal.Refusal.{Refusal}
 use Rattle.mot_base.specs.declared.refusal.Refusal.TheVariants.{OutOfMemory}
+use Rattle.mot_carousel.specs.declared.carousel.Carousel as kept_carousel
+use Rattle.mot_carousel.specs.declared.command.Command.{Command}
+use Rattle.mot_carousel.specs.declared.command.Done.{Done}
+use Rattle.mot_carousel.specs.Carousel.{change}
+use Rattle.mot_carousel.specs.Stands.{carousel_of, AreBodiesOf}
 use Rattle.mot_server.specs.declared.line.Line.TheVariants.{Raw}
+use Rattle.mot_server.specs.declared.line.Line.TheVariants as asks
 use Rattle.mot_groups.specs.Group.{read_group}
 use Rattle.mot_server.specs.Hand.{held, request_in}
 use Rattle.mot_server.specs.Line.{line_of, OrOutOfMemory}
+use Rattle.mot_server.specs.Listing.{done_line, listing_text, kept_text}
 use Rattle.mot_server.specs.Raw.{raw_group}
 use Rattle.mot_server.specs.Progress.{WritesPackets, WritesPacketsInPart}
 use Rattle.mot_server.specs.Served.{WritesFront, Replied, BrokenOff}
-use Rattle.mot_server.specs.Session.{Answers, refusal, raw, no_memory, whole, raw_in_part, refused, packets, refusal_line, text_of}
+use Rattle.mot_server.specs.Session.{Answers, refusal, raw, command, refused_command, list, no_memory, whole, raw_in_part, refused, packets, accepted, listing, refusal_line, text_of}
 use Rattle.mot_server.specs.State.{ServerState}
 use Rattle.mot_server.proofs.Fronts.{WritesFront-all}
+use Rattle.mot_server.proofs.Listed.{kept_text-whole}
 use Rattle.mot_server.proofs.Requests.{line_of-long}
 
 module _ (state : ServerState) (line : List ℕ) (old new : Option (List ℕ)) where
@@ -67,6 +75,69 @@ module _ (state : ServerState) (line : List ℕ) (old new : Option (List ℕ)) w
       → WritesFront (refusal_line r) old new → BrokenOff state line state old new
   unfolding text_of
   BrokenOff-refused r h w = record { reply = refused r; begins = whole (answers-refused r h); appended = w }
+
+-- a command that was accepted
+module _ (before after : ServerState) (line : List ℕ) (old new : Option (List ℕ)) (c : Command) (d : Done)
+    (asked : line_of line ≡ Ok (asks.Command c))
+    (changed : change before.carousel before.geometry.objects c ≡ Ok (after.carousel, d))
+    (same : after.geometry ≡ before.geometry) where
+  answers-accepted : Answers before line (accepted d) after
+  answers-accepted = command c after.carousel d asked changed refl
+      (ap (λ g. record { geometry = g; carousel = after.carousel }) same)
+
+  pub Replied-accepted : Appends old new (done_line d) → Replied before line after old new
+  unfolding text_of
+  Replied-accepted w = record { reply = accepted d; answers = answers-accepted; appended = w }
+
+  pub BrokenOff-accepted : WritesFront (done_line d) old new → BrokenOff before line after old new
+  unfolding text_of
+  BrokenOff-accepted w = record { reply = accepted d; begins = whole answers-accepted; appended = w }
+
+-- a command that was refused
+module _ (before after : ServerState) (line : List ℕ) (old new : Option (List ℕ)) (c : Command) (r : Refusal)
+    (asked : line_of line ≡ Ok (asks.Command c))
+    (why : (r ≡ OutOfMemory) ⊎ (change before.carousel before.geometry.objects c ≡ Err r))
+    (same : after ≡ before) where
+  answers-refused_command : Answers before line (refused r) after
+  answers-refused_command = elim why [
+    | inl h ↦ no_memory (ap refused h) same
+    | inr h ↦ refused_command c r asked h refl same
+  ]
+
+  pub Replied-refused_command : Appends old new (refusal_line r) → Replied before line after old new
+  unfolding text_of
+  Replied-refused_command w = record { reply = refused r; answers = answers-refused_command; appended = w }
+
+  pub BrokenOff-refused_command : WritesFront (refusal_line r) old new → BrokenOff before line after old new
+  unfolding text_of
+  BrokenOff-refused_command w = record {
+    reply = refused r;
+    begins = whole answers-refused_command;
+    appended = w;
+  }
+
+-- a list
+module _ (state : ServerState) (line : List ℕ) (old new : Option (List ℕ))
+    (asked : line_of line ≡ Ok asks.List) (c : kept_carousel.Carousel)
+    (shown : (bodies : List (List ℕ)) × AreBodiesOf c bodies × (state.carousel ≡ carousel_of c bodies)) where
+  text : kept_text c ≡ listing_text state.carousel
+  text = kept_text-whole c shown.0 shown.1 ∙ ap listing_text (sym shown.2)
+
+  pub Replied-list : Appends old new (kept_text c) → Replied state line state old new
+  unfolding text_of
+  Replied-list w = record {
+    reply = listing state.carousel;
+    answers = list asked refl refl;
+    appended = subst (Appends old new) text w;
+  }
+
+  pub BrokenOff-list : WritesFront (kept_text c) old new → BrokenOff state line state old new
+  unfolding text_of
+  BrokenOff-list w = record {
+    reply = listing state.carousel;
+    begins = whole (list asked refl refl);
+    appended = subst (λ l. WritesFront l old new) text w;
+  }
 
 module _ (before : ServerState) (line : List ℕ) (after : ServerState) (old mid new : Option (List ℕ)) where
   -- a flush keeps what was written

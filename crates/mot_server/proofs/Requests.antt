@@ -1,5 +1,5 @@
 -- What lines ask for.
-use Rattle.std.proofs.Common.{◌≡◌, ℕ, ◌<◌, ◌≤◌, true, false, List, [], ◌∷◌, length, Ok, Err, refl, ap, ◌∙◌}
+use Rattle.std.proofs.Common.{◌≡◌, ℕ, ◌<◌, ◌≤◌, true, false, List, [], ◌∷◌, length, Ok, Err, refl}
 use Rattle.std.specs.Prelude.{bytes_eq, codes}
 use Rattle.std.proofs.lemmas.Bool.{lt-leb, le-leb}
 use Rattle.hex.specs.Hex.{decode_of}
@@ -7,7 +7,7 @@ use Rattle.mot_base.specs.declared.group_kind.GroupKind.{GroupKind}
 use Rattle.mot_base.specs.declared.refusal.Refusal.{Refusal}
 use Rattle.mot_base.specs.declared.refusal.Refusal.TheVariants.{BadLine}
 use Rattle.mot_server.specs.declared.line.Line.TheVariants.{Raw}
-use Rattle.mot_server.specs.Line.{number_of_word, kind_in, tid_in, segment_in, raw_of, request_of, words_of, line_of}
+use Rattle.mot_server.specs.Line.{number_of_word, kind_in, tid_in, segment_in, raw_of, put_of, replace_of, withdraw_of, period_of, list_of, request_of, words_of, line_of}
 
 module _ (words : List (List ℕ)) (kind tid hex : List ℕ) (three : words ≡ kind ∷ tid ∷ hex ∷ []) where
   pub raw_of-kind : (r : Refusal) → Err r ≡ kind_in (number_of_word kind) → Err r ≡ raw_of words
@@ -34,24 +34,45 @@ pub line_of-long : (line : List ℕ) → 530000 < length line → line_of line �
 unfolding line_of
 line_of-long line h = rw (lt-leb (length line) 530000 h) refl
 
-line_of-short : (line : List ℕ) → length line ≤ 530000 → line_of line ≡ request_of (words_of line)
+pub line_of-short : (line : List ℕ) → length line ≤ 530000 → line_of line ≡ request_of (words_of line)
 unfolding line_of
 line_of-short line h = rw (le-leb (length line) 530000 h) refl
 
-request_of-raw : (first : List ℕ) (words : List (List ℕ)) → bytes_eq first (codes "raw") ≡ true
-    → request_of (first ∷ words) ≡ raw_of words
-unfolding request_of
-request_of-raw first words e = rw e refl
+module _ (first : List ℕ) (words : List (List ℕ)) where
+  pub request_of-raw : bytes_eq first (codes "raw") ≡ true → request_of (first ∷ words) ≡ raw_of words
+  unfolding request_of
+  request_of-raw e = rw e refl
 
-request_of-other : (first : List ℕ) (words : List (List ℕ)) → bytes_eq first (codes "raw") ≡ false
-    → request_of (first ∷ words) ≡ Err BadLine
-unfolding request_of
-request_of-other first words e = rw e refl
+  module _ (raw : bytes_eq first (codes "raw") ≡ false) where
+    pub request_of-put : bytes_eq first (codes "put") ≡ true → request_of (first ∷ words) ≡ put_of words
+    unfolding request_of
+    request_of-put e = rw (raw, e) refl
 
-pub line_of-raw : (line first : List ℕ) (words : List (List ℕ)) → length line ≤ 530000
-    → words_of line ≡ first ∷ words → bytes_eq first (codes "raw") ≡ true → line_of line ≡ raw_of words
-line_of-raw line first words h e t = line_of-short line h ∙ ap request_of e ∙ request_of-raw first words t
+    module _ (put : bytes_eq first (codes "put") ≡ false) where
+      pub request_of-replace : bytes_eq first (codes "replace") ≡ true
+          → request_of (first ∷ words) ≡ replace_of words
+      unfolding request_of
+      request_of-replace e = rw (raw, put, e) refl
 
-pub line_of-other : (line first : List ℕ) (words : List (List ℕ)) → length line ≤ 530000
-    → words_of line ≡ first ∷ words → bytes_eq first (codes "raw") ≡ false → line_of line ≡ Err BadLine
-line_of-other line first words h e t = line_of-short line h ∙ ap request_of e ∙ request_of-other first words t
+      module _ (replace : bytes_eq first (codes "replace") ≡ false) where
+        pub request_of-withdraw : bytes_eq first (codes "withdraw") ≡ true
+            → request_of (first ∷ words) ≡ withdraw_of words
+        unfolding request_of
+        request_of-withdraw e = rw (raw, put, replace, e) refl
+
+        module _ (withdraw : bytes_eq first (codes "withdraw") ≡ false) where
+          pub request_of-period : bytes_eq first (codes "period") ≡ true
+              → request_of (first ∷ words) ≡ period_of words
+          unfolding request_of
+          request_of-period e = rw (raw, put, replace, withdraw, e) refl
+
+          module _ (period : bytes_eq first (codes "period") ≡ false) where
+            pub request_of-list : bytes_eq first (codes "list") ≡ true
+                → request_of (first ∷ words) ≡ list_of words
+            unfolding request_of
+            request_of-list e = rw (raw, put, replace, withdraw, period, e) refl
+
+            pub request_of-other : bytes_eq first (codes "list") ≡ false
+                → request_of (first ∷ words) ≡ Err BadLine
+            unfolding request_of
+            request_of-other e = rw (raw, put, replace, withdraw, period, e) refl

@@ -8,7 +8,8 @@ use Rattle.mot_base.specs.declared.group_kind.GroupKind.TheVariants.{Body}
 use Rattle.mot_base.specs.declared.refusal.Refusal.TheVariants.{BadLine, BadType, BadNumber, BadBody, EmptyBody}
 use Rattle.mot_server.specs.declared.line.Line.TheVariants.{Raw}
 use Rattle.mot_groups.specs.Group.{read_group, group_bytes}
-use Rattle.mot_server.specs.Line.{number_of_word, raw_of, request_of, line_of}
+use Rattle.mot_server.specs.declared.line.Line.TheVariants as asks
+use Rattle.mot_server.specs.Line.{number_of_word, raw_of, list_of, request_of, line_of}
 use Rattle.mot_server.specs.Lines.{whole_lines, rest_of, lines_of}
 use Rattle.mot_server.specs.Raw.{raw_group}
 use Rattle.mot_server.specs.Session.{refused, text_of}
@@ -57,3 +58,7 @@ last_line = refl
 no_last_line : lines_of (codes "a\n\n") ≡ codes "a" ∷ [] ∷ []
 unfolding lines_of whole_lines rest_of
 no_last_line = refl
+
+list_line : line_of (codes "list") ≡ Ok asks.List
+unfolding line_of request_of list_of
+list_line = refl

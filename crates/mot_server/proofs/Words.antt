@@ -1,10 +1,10 @@
 -- The words of a raw line.
 use Rattle.std.proofs.Common.{◌≡◌, ◌≢◌, ℕ, ◌<◌, Bool, true, false, cond, List, [], ◌∷◌, length, Err, Option, None, Some, refl, sym, ap, ◌∙◌, subst, arith}
-use Rattle.std.specs.Prelude.{nat_eq}
+use Rattle.std.specs.Prelude.{nat_eq, is_some}
 use Rattle.std.specs.Borrow.{Bor}
 use Rattle.std.specs.List.{onto_first}
 use Rattle.mot_base.specs.declared.refusal.Refusal.TheVariants.{BadLine}
-use Rattle.mot_server.specs.Line.{words_of, words_after, raw_of}
+use Rattle.mot_server.specs.Line.{words_of, words_after, raw_of, list_of, description_of}
 
 -- there is a word in every list of bytes
 some_cond : (b : Bool) (x : ℕ) (ps : List (List ℕ)) → 0 < length (cond b ([] ∷ ps) (onto_first x ps))
@@ -37,3 +37,27 @@ raw_of-others (a ∷ []) h = refl
 raw_of-others (a ∷ b ∷ []) h = refl
 raw_of-others (a ∷ b ∷ c ∷ []) h = absurd (h refl)
 raw_of-others (a ∷ b ∷ c ∷ d ∷ words) h = refl
+
+pub some_words : (o : Option (Bor (List ℕ))) → is_some o ≡ true → 0 < length (words_after o)
+some_words (Some x) e = some_word x.now
+some_words None e = absurd (cc)
+
+-- a list line has no words after its first
+list_of-words : (words : List (List ℕ)) → 0 < length words → list_of words ≡ Err BadLine
+list_of-words [] h = absurd (omega arith)
+list_of-words (word ∷ words) h = refl
+
+pub list_of-more : (o : Option (Bor (List ℕ))) (x : Bor (List ℕ)) → o ≡ Some x
+    → list_of (words_after o) ≡ Err BadLine
+list_of-more o x e = list_of-words (words_after o) (more_words o x e)
+
+-- a put or a replace line has five words after its first
+pub description_of-others : (words : List (List ℕ)) → length words ≢ 5 → description_of words ≡ Err BadLine
+unfolding description_of
+description_of-others [] h = refl
+description_of-others (a ∷ []) h = refl
+description_of-others (a ∷ b ∷ []) h = refl
+description_of-others (a ∷ b ∷ c ∷ []) h = refl
+description_of-others (a ∷ b ∷ c ∷ d ∷ []) h = refl
+description_of-others (a ∷ b ∷ c ∷ d ∷ e ∷ []) h = absurd (h refl)
+description_of-others (a ∷ b ∷ c ∷ d ∷ e ∷ f ∷ words) h = refl

@@ -2,6 +2,7 @@ pub mod Geometry
 pub mod Hand
 pub mod Line
 pub mod Lines
+pub mod Listing
 pub mod Program
 pub mod Progress
 pub mod Raw

@@ -1,17 +1,22 @@
 -- What a line asks for.
-use Rattle.std.specs.Prelude.{ℕ, ◌≡◌, ◌≢◌, ◌⊎◌, ◌+◌, ◌-◌, ◌*◌, ◌^◌, ◌&&◌, ◌==◌, nat_lt, nat_le, if◌then◌else◌, List, [], ◌∷◌, length, Option, Some, None, Result, Ok, Err, codes, bytes_eq}
+use Rattle.std.specs.Prelude.{ℕ, ◌≡◌, ◌≢◌, ◌⊎◌, ◌+◌, ◌-◌, ◌*◌, ◌^◌, Bool, ◌&&◌, ◌==◌, not, nat_lt, nat_le, if◌then◌else◌, List, [], ◌∷◌, length, Option, Some, None, Result, Ok, Err, codes, bytes_eq}
 use Rattle.std.specs.Char.{is_ascii_digit}
 use Rattle.std.specs.Borrow.{Bor}
 use Rattle.std.specs.List.{slice_split, list_all}
+use Rattle.std.specs.Str.{is_utf8}
 use Rattle.hex.specs.Hex.{decode_of}
 use Rattle.hex.specs.declared.error.FromHexError.{FromHexError}
 use Rattle.mot_base.specs.Reading.{is_empty}
 use Rattle.mot_base.specs.declared.group_kind.GroupKind.{GroupKind}
 use Rattle.mot_base.specs.declared.group_kind.GroupKind.TheVariants.{Body, Directory}
 use Rattle.mot_base.specs.declared.refusal.Refusal.{Refusal}
-use Rattle.mot_base.specs.declared.refusal.Refusal.TheVariants.{OutOfMemory, BadLine, BadType, BadNumber, BadBody, EmptyBody, BodyTooLong}
+use Rattle.mot_base.specs.declared.refusal.Refusal.TheVariants.{OutOfMemory, BadLine, BadName, BadType, BadMime, BadNumber, BadBody, EmptyBody, BodyTooLong}
+use Rattle.mot_carousel.specs.declared.command.Command.TheVariants.{Put, Replace, Withdraw, Period}
+use Rattle.mot_carousel.specs.Content.{ContentNumbers}
+use Rattle.mot_server.specs.declared.description.Description.{Description}
 use Rattle.mot_server.specs.declared.line.Line.{Line}
-use Rattle.mot_server.specs.declared.line.Line.TheVariants.{Raw}
+use Rattle.mot_server.specs.declared.line.Line.TheVariants.{Raw, Command}
+use Rattle.mot_server.specs.declared.line.Line.TheVariants as asks
 
 infixl 10 ◌>>=◌
 -- what f makes of the value, or the refusal
@@ -55,10 +60,94 @@ raw_of (kind ∷ tid ∷ hex ∷ []) = do
   Ok (Raw k t body)
 raw_of words = Err BadLine
 
+-- 1 to 255 bytes of UTF-8, with no byte up to 0x20 and no 0x7F
+abbrev pub is_name : List ℕ → Bool
+is_name bytes =
+    nat_lt 0 (length bytes) && nat_le (length bytes) 255 && is_utf8 bytes
+    && list_all (λ b. nat_lt 32 b && not (b == 127)) bytes
+
+-- NAME
+unfoldable pub name_in : List ℕ → Result (List ℕ) Refusal
+name_in word = if is_name word then Ok word else Err BadName
+
+-- TYPE and SUBTYPE of an object: 0 to 63, and 0 to 511
+abbrev pub content_in : Option ℕ → Option ℕ → Result ContentNumbers Refusal
+content_in None subtype = Err BadType
+content_in (Some t) None = Err BadType
+content_in (Some t) (Some s) =
+    if nat_le t 63 && nat_le s 511 then Ok (record { content_type = t; subtype = s }) else Err BadType
+
+-- 1 to 64 bytes 0x21 to 0x7E
+abbrev pub is_mime : List ℕ → Bool
+is_mime bytes =
+    nat_lt 0 (length bytes) && nat_le (length bytes) 64 && list_all (λ b. nat_lt 32 b && nat_lt b 127) bytes
+
+-- MIME: `-` is none
+unfoldable pub mime_in : List ℕ → Result (Option (List ℕ)) Refusal
+mime_in word =
+    if bytes_eq word (codes "-") then Ok None else (if is_mime word then Ok (Some word) else Err BadMime)
+
+-- HEX of an object, decoded: 1 to 262,144 bytes
+abbrev pub body_in : Result (List ℕ) FromHexError → Result (List ℕ) Refusal
+body_in (Err e) = Err BadBody
+body_in (Ok bytes) =
+    if is_empty bytes then Err EmptyBody else (if nat_le (length bytes) 262144 then Ok bytes else Err BodyTooLong)
+
+-- N of a period: 0 to 16,777,215
+abbrev pub period_in : Option ℕ → Result ℕ Refusal
+period_in None = Err BadNumber
+period_in (Some n) = if nat_le n 16777215 then Ok n else Err BadNumber
+
+-- the words of a `put` or `replace` line, after its first: NAME TYPE SUBTYPE MIME HEX
+unfoldable pub description_of : List (List ℕ) → Result Description Refusal
+description_of (name ∷ kind ∷ subtype ∷ mime ∷ hex ∷ []) = do
+  n ← name_in name
+  c ← content_in (number_of_word kind) (number_of_word subtype)
+  m ← mime_in mime
+  b ← body_in (decode_of hex)
+  Ok (record { name = n; content = c; mime = m; body = b })
+description_of words = Err BadLine
+
+abbrev pub put_of : List (List ℕ) → Result Line Refusal
+put_of words = do
+  d ← description_of words
+  Ok (Command (Put d.name d.content d.mime d.body))
+
+abbrev pub replace_of : List (List ℕ) → Result Line Refusal
+replace_of words = do
+  d ← description_of words
+  Ok (Command (Replace d.name d.content d.mime d.body))
+
+-- the words of a `withdraw` line, after its first: NAME
+abbrev pub withdraw_of : List (List ℕ) → Result Line Refusal
+withdraw_of (name ∷ []) = do
+  n ← name_in name
+  Ok (Command (Withdraw n))
+withdraw_of words = Err BadLine
+
+-- the words of a `period` line, after its first: N
+abbrev pub period_of : List (List ℕ) → Result Line Refusal
+period_of (number ∷ []) = do
+  n ← period_in (number_of_word number)
+  Ok (Command (Period n))
+period_of words = Err BadLine
+
+-- a `list` line has no words after its first
+abbrev pub list_of : List (List ℕ) → Result Line Refusal
+list_of [] = Ok asks.List
+list_of (word ∷ words) = Err BadLine
+
 -- words ask for what their first one says
 unfoldable pub request_of : List (List ℕ) → Result Line Refusal
 request_of [] = Err BadLine
-request_of (first ∷ words) = if bytes_eq first (codes "raw") then raw_of words else Err BadLine
+request_of (first ∷ words) =
+    if bytes_eq first (codes "raw") then raw_of words
+    else if bytes_eq first (codes "put") then put_of words
+    else if bytes_eq first (codes "replace") then replace_of words
+    else if bytes_eq first (codes "withdraw") then withdraw_of words
+    else if bytes_eq first (codes "period") then period_of words
+    else if bytes_eq first (codes "list") then list_of words
+    else Err BadLine
 
 -- words are what stands between single spaces
 abbrev pub words_of : List ℕ → List (List ℕ)
@@ -81,3 +170,15 @@ words_after (Some rest) = words_of rest.now
 abbrev pub AreThree : Option (Bor (List ℕ) × Bor (List ℕ) × Bor (List ℕ)) → List (List ℕ) → Type 0
 AreThree (Some found) words = words ≡ found.0.now ∷ found.1.now ∷ found.2.now ∷ []
 AreThree None words = length words ≢ 3
+
+-- these are the words, or there are not five
+abbrev pub AreFive : Option (Bor (List ℕ) × Bor (List ℕ) × Bor (List ℕ) × Bor (List ℕ) × Bor (List ℕ))
+    → List (List ℕ) → Type 0
+AreFive (Some found) words =
+    words ≡ found.0.now ∷ found.1.now ∷ found.2.now ∷ found.3.now ∷ found.4.now ∷ []
+AreFive None words = length words ≢ 5
+
+-- this is the word, or there is not one
+abbrev pub IsOne : Option (Bor (List ℕ)) → List (List ℕ) → Type 0
+IsOne (Some found) words = words ≡ found.now ∷ []
+IsOne None words = length words ≢ 1

@@ -5,7 +5,7 @@ use Rattle.mot_server.specs.declared.geometry.Geometry.{Geometry}
 use Rattle.mot_server.specs.Geometry.{IsValid}
 use Rattle.mot_server.specs.Lines.{lines_of}
 use Rattle.mot_server.specs.Served.{Served}
-use Rattle.mot_server.specs.State.{ServerState}
+use Rattle.mot_server.specs.State.{ServerState, new_server}
 
 -- All that the reader had was read, and each line of it was answered by a server of some geometry. What the
 -- reader had left was unread and is left; the writer's known bytes were old and are new.
@@ -16,4 +16,4 @@ pub record ServesInput (unread left old new : Option (List ℕ)) : Type 0 where
   pub consumed : Consumes unread left input
   pub at_end : IsAtEnd left
   pub after : ServerState
-  pub served : Served (record { geometry = geometry }) after (lines_of input) old new
+  pub served : Served (new_server geometry) after (lines_of input) old new

@@ -7,14 +7,21 @@ use Rattle.mot_base.specs.declared.group_kind.GroupKind.{GroupKind}
 use Rattle.mot_base.specs.declared.refusal.Refusal.{Refusal}
 use Rattle.mot_base.specs.declared.refusal.Refusal.TheVariants.{OutOfMemory}
 use Rattle.mot_base.specs.Refusal.{number_of, name_of}
+use Rattle.mot_carousel.specs.declared.command.Command.{Command}
+use Rattle.mot_carousel.specs.declared.command.Done.{Done}
+use Rattle.mot_carousel.specs.Carousel.{Carousel, change}
 use Rattle.mot_server.specs.declared.line.Line.TheVariants.{Raw}
+use Rattle.mot_server.specs.declared.line.Line.TheVariants as asks
 use Rattle.mot_server.specs.Line.{line_of}
+use Rattle.mot_server.specs.Listing.{done_line, listing_text}
 use Rattle.mot_server.specs.Raw.{IsRaw, IsRawInPart}
 use Rattle.mot_server.specs.State.{ServerState}
 
 pub data Reply : Type 0 where
   refused : Refusal → Reply
   packets : List (List ℕ) → Reply
+  accepted : Done → Reply
+  listing : Carousel → Reply
 
 -- a packet's line, in small hexadecimal digits
 abbrev pub packet_line : List ℕ → List ℕ
@@ -28,6 +35,8 @@ refusal_line r = codes "refused " ++ decimal (number_of r) ++ codes " " ++ name_
 unfoldable pub text_of : Reply → List ℕ
 text_of (refused r) = refusal_line r
 text_of (packets ps) = flat_map packet_line ps
+text_of (accepted d) = done_line d
+text_of (listing c) = listing_text c
 
 abbrev pub texts_of : List Reply → List ℕ
 texts_of replies = flat_map text_of replies
@@ -41,6 +50,17 @@ pub data Answers (before : ServerState) (line : List ℕ) (reply : Reply) (after
   raw : (kind : GroupKind) (tid : ℕ) (body : List ℕ) (ps : List (List ℕ))
       → line_of line ≡ Ok (Raw kind tid body) → IsRaw before.geometry kind tid body ps
       → reply ≡ packets ps → after ≡ before → Answers before line reply after
+  -- a command is answered as the carousel's rules do: it is accepted, and changes the carousel
+  command : (c : Command) (next : Carousel) (d : Done) → line_of line ≡ Ok (asks.Command c)
+      → change before.carousel before.geometry.objects c ≡ Ok (next, d) → reply ≡ accepted d
+      → after ≡ record { geometry = before.geometry; carousel = next } → Answers before line reply after
+  -- or refused
+  refused_command : (c : Command) (r : Refusal) → line_of line ≡ Ok (asks.Command c)
+      → change before.carousel before.geometry.objects c ≡ Err r → reply ≡ refused r → after ≡ before
+      → Answers before line reply after
+  -- a list line shows the carousel
+  list : line_of line ≡ Ok asks.List → reply ≡ listing before.carousel → after ≡ before
+      → Answers before line reply after
   -- a growth of memory that is refused may stand in any reply's place
   no_memory : reply ≡ refused OutOfMemory → after ≡ before → Answers before line reply after
 

@@ -1,10 +1,15 @@
 //! The carousel server: lines come in, replies go out.
 #![tactic(auto)]
 
+mod bodies;
+mod commanding;
+mod description;
+mod fields;
 mod geometry;
 mod group;
 mod hand;
 mod line;
+mod listing;
 mod program;
 mod raw;
 mod reply;
@@ -14,6 +19,7 @@ mod serving;
 mod text;
 mod writing;
 
+pub use description::Description;
 pub use geometry::Geometry;
 pub use line::{Line, parse_line};
 pub use program::run_program;

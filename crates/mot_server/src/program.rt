@@ -90,7 +90,7 @@ fn serve_memory<R: Read, W: Write>(
     let Some(geometry) = geometry_of(options) else {
         return Some(Refusal::BadGeometry);
     };
-    let mut server = match Server::new(geometry) {
+    let mut server = match Server::new(alloc, geometry) {
         Ok(server) => server,
         Err(refusal) => return Some(refusal),
     };

@@ -5,8 +5,10 @@ ghost use Rattle.mot_server.specs.Line.{line_of, OrOutOfMemory};
 ghost use Rattle.mot_server.specs.Served.{Replied, BrokenOff};
 
 use crate::Server;
+use crate::commanding::answer_command;
 use crate::hand::Hand;
 use crate::line::Line;
+use crate::listing::answer_list;
 use crate::raw::answer_raw;
 use crate::text::refusal_text;
 use crate::writing::write_whole;
@@ -64,6 +66,9 @@ fn answer_request<W: Write>(
     ensures err { OnErr result ((line : List ℕ) → line_of line ≡ Ok request.now
         → BrokenOff server.old line server.new (W.contents writer.old) (W.contents writer.new)) }
 {
-    let Line::Raw { kind, tid, body } = request;
-    answer_raw(alloc, *kind, *tid, body, writer, server)
+    match request {
+        Line::Command(command) => answer_command(alloc, command, writer, server),
+        Line::List => answer_list(writer, server),
+        Line::Raw { kind, tid, body } => answer_raw(alloc, *kind, *tid, body, writer, server),
+    }
 }

@@ -1,3 +1,4 @@
+mod commands;
 mod streams;
 
 use super::*;
@@ -18,16 +19,17 @@ const TWO_REPLIES: &[u8] =
     b"packet 0c011074008000120002000568656c6c6f34cf0000008561\nrefused 3 BadType\n";
 
 /// A server of the default geometry but for its packet length.
-fn server_of(packet_length: u16) -> Result<Server, Refusal> {
-    Server::new(Geometry {
+fn server_of(alloc: Global, packet_length: u16) -> Result<Server, Refusal> {
+    let geometry = Geometry {
         packet_length,
         ..Geometry::default()
-    })
+    };
+    Server::new(alloc, geometry)
 }
 
 /// What is answered to an input that ends.
 fn replies(alloc: Global, packet_length: u16, input: &[u8]) -> Result<Vec<u8>, Fail> {
-    let mut server = server_of(packet_length)?;
+    let mut server = server_of(alloc, packet_length)?;
     let mut reader = input;
     let mut written = Vec::new(alloc);
     match serve(alloc, &mut reader, &mut written, &mut server, 1_000).fault {
@@ -183,7 +185,7 @@ fn no_more_reads_than_are_given(rt: HostRuntime) -> Result<(), Fail> {
             longest: 0,
         };
         let mut written = Vec::new(alloc);
-        let mut server = server_of(24)?;
+        let mut server = server_of(alloc, 24)?;
         let end = serve(alloc, &mut reader, &mut written, &mut server, 3);
         assert_eq!(rt; end.fault, Some(Refusal::ReadFault));
         assert_eq!(rt; end.lines, lines);
@@ -205,7 +207,7 @@ fn failing_reads(rt: HostRuntime) -> Result<(), Fail> {
             fails_at,
         };
         let mut written = Vec::new(alloc);
-        let mut server = server_of(24)?;
+        let mut server = server_of(alloc, 24)?;
         let end = serve(alloc, &mut reader, &mut written, &mut server, 1_000);
         let (lines, output) = match fails_at {
             0..=18 => (0, b"".as_slice()),
@@ -231,7 +233,7 @@ fn failing_writes(rt: HostRuntime) -> Result<(), Fail> {
             flushes: 0,
             fails_at: 9,
         };
-        let mut server = server_of(24)?;
+        let mut server = server_of(alloc, 24)?;
         let mut reader = TWO_LINES;
         let end = serve(alloc, &mut reader, &mut writer, &mut server, 1_000);
         assert_eq!(rt; end.fault, Some(Refusal::WriteFault), "at {room}");
@@ -262,7 +264,7 @@ fn flushes(rt: HostRuntime) -> Result<(), Fail> {
             flushes: 0,
             fails_at,
         };
-        let mut server = server_of(24)?;
+        let mut server = server_of(alloc, 24)?;
         let mut reader = TWO_LINES;
         let end = serve(alloc, &mut reader, &mut writer, &mut server, 1_000);
         assert_eq!(rt; end, ServeEnd { lines, fault }, "at {fails_at}");
@@ -274,7 +276,9 @@ fn flushes(rt: HostRuntime) -> Result<(), Fail> {
 
 #[test]
 fn parsed_line(rt: HostRuntime) -> Result<(), Fail> {
-    let Line::Raw { kind, tid, body } = parse_line(rt.alloc(), b"raw 6 65535 00fF")?;
+    let Line::Raw { kind, tid, body } = parse_line(rt.alloc(), b"raw 6 65535 00fF")? else {
+        return Err(Fail::new("not a raw line"));
+    };
     assert_eq!(rt; kind, GroupKind::Directory);
     assert_eq!(rt; tid.get(), 65_535);
     assert_eq!(rt; body.as_slice(), [0x00, 0xFF].as_slice());
