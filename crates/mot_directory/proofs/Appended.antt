@@ -4,15 +4,15 @@ use Rattle.std.proofs.lemmas.Grind.{flat_map-append}
 use Rattle.std.specs.Prelude.{flat_map, option_to_list}
 use Rattle.mot_carousel.specs.Content.{ContentNumbers}
 use Rattle.mot_directory.specs.Parameter.{Parameter, OneByte, bytes_of_parameter}
-use Rattle.mot_directory.specs.Header.{bytes_of_header, core_bytes}
+use Rattle.mot_directory.specs.Header.{bytes_of_header, bytes_of_core}
 use Rattle.mot_directory.specs.Entries.{parameters_with, text_parameter}
-use Rattle.mot_directory.specs.Stands.{text_size, mime_size}
+use Rattle.mot_directory.specs.Sizes.{text_size, mime_size}
 use Rattle.mot_directory.proofs.Fits.{length-extension}
 
 pub header-appended : (out name : List ℕ) (mime : Option (List ℕ)) (body version : ℕ)
     (content : ContentNumbers) (size : ℕ) →
     size ≡ 7 + text_size (1 + length name) + mime_size mime + 2 →
-    out ++ core_bytes body size content ++ bytes_of_parameter (text_parameter 12 (240 ∷ name))
+    out ++ bytes_of_core body size content ++ bytes_of_parameter (text_parameter 12 (240 ∷ name))
     ++ flat_map bytes_of_parameter (map (text_parameter 16) (option_to_list mime)) ++ 70 ∷ version ∷ []
     ≡ out ++ bytes_of_header
     (record { body_size = body; content = content; parameters = parameters_with name mime version })

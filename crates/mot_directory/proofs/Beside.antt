@@ -9,9 +9,10 @@ use Rattle.mot_carousel.specs.declared.object.Object.{Object}
 use Rattle.mot_carousel.specs.declared.carousel.Carousel.{Carousel}
 use Rattle.mot_carousel.specs.Stands.{object_of, objects_of, carousel_of, AreBodiesOf}
 use Rattle.mot_directory.specs.Header.{HeaderFields}
-use Rattle.mot_directory.specs.Directory.{Entry, DirectoryFields, IsEntry, IsDirectory, bytes_of_directory, bytes_of_entry, directory_header_bytes, entries_bytes}
+use Rattle.mot_directory.specs.Directory.{Entry, DirectoryFields, IsEntry, IsDirectory, bytes_of_directory, bytes_of_entry, bytes_of_directory_header, bytes_of_entries}
 use Rattle.mot_directory.specs.Entries.{parameters_with, header_of, entry_of, directory_of}
-use Rattle.mot_directory.specs.Stands.{header_beside, entry_beside, directory_beside, directory_size, entry_size}
+use Rattle.mot_directory.specs.Inner.Beside.{header_beside, entry_beside, directory_beside}
+use Rattle.mot_directory.specs.Sizes.{directory_size, entry_size}
 use Rattle.mot_directory.proofs.Fits.{length-bytes_of_entry, length-extension}
 
 header_of_size : Object → ℕ → HeaderFields
@@ -59,26 +60,26 @@ entry_beside-size : (o : Object) → length (bytes_of_entry (entry_beside o)) �
 entry_beside-size o =
     length-bytes_of_entry (entry_beside o) ∙ ap (λ n. 2 + n) (length-extension o.name o.mime o.version)
 
-length-entries_bytes : (objects : List Object) →
-    length (entries_bytes (map entry_beside objects)) ≡ sum_by entry_size objects
-length-entries_bytes [] = refl
-length-entries_bytes (o ∷ objects) =
-    length-append (bytes_of_entry (entry_beside o)) (entries_bytes (map entry_beside objects))
-    ∙ ap (λ n. n + length (entries_bytes (map entry_beside objects))) (entry_beside-size o)
-    ∙ ap (λ n. entry_size o + n) (length-entries_bytes objects) ∙ sym (sum_by-cons entry_size o objects)
+length-bytes_of_entries : (objects : List Object) →
+    length (bytes_of_entries (map entry_beside objects)) ≡ sum_by entry_size objects
+length-bytes_of_entries [] = refl
+length-bytes_of_entries (o ∷ objects) =
+    length-append (bytes_of_entry (entry_beside o)) (bytes_of_entries (map entry_beside objects))
+    ∙ ap (λ n. n + length (bytes_of_entries (map entry_beside objects))) (entry_beside-size o)
+    ∙ ap (λ n. entry_size o + n) (length-bytes_of_entries objects) ∙ sym (sum_by-cons entry_size o objects)
 
 -- one more object of the list
 pub one_more : (objects : List Object) (i : ℕ) (o : Object) → i < length objects → o ≡ get_or objects i o →
     take (i + 1) objects ≡ take i objects ++ o ∷ []
 one_more objects i o l e = take_more objects i o l ∙ ap (λ x. take i objects ++ x ∷ []) (sym e)
 
-pub entries_bytes-push : (objects : List Object) (o : Object) →
-    entries_bytes (map entry_beside (objects ++ o ∷ []))
-    ≡ entries_bytes (map entry_beside objects) ++ bytes_of_entry (entry_beside o)
-entries_bytes-push objects o =
-    ap entries_bytes (map-append entry_beside objects (o ∷ []))
+pub bytes_of_entries-push : (objects : List Object) (o : Object) →
+    bytes_of_entries (map entry_beside (objects ++ o ∷ []))
+    ≡ bytes_of_entries (map entry_beside objects) ++ bytes_of_entry (entry_beside o)
+bytes_of_entries-push objects o =
+    ap bytes_of_entries (map-append entry_beside objects (o ∷ []))
     ∙ flat_map-append bytes_of_entry (map entry_beside objects) (entry_beside o ∷ [])
-    ∙ ap (λ rest. entries_bytes (map entry_beside objects) ++ rest)
+    ∙ ap (λ rest. bytes_of_entries (map entry_beside objects) ++ rest)
     (append-nil (bytes_of_entry (entry_beside o)))
 
 pub are_entries-push : (objects : List Object) (o : Object) → All IsEntry (map entry_beside objects) →
@@ -108,23 +109,23 @@ sum_by-push objects o =
 -- the header and the entries that are appended are the directory
 pub bytes_of_directory-beside : (c : Carousel) (segment_size size count : ℕ) → size ≡ directory_size c →
     count ≡ length c.objects.items →
-    directory_header_bytes size count c.period segment_size
-    ++ entries_bytes (map entry_beside c.objects.items)
+    bytes_of_directory_header size count c.period segment_size
+    ++ bytes_of_entries (map entry_beside c.objects.items)
     ≡ bytes_of_directory (directory_beside c segment_size)
 unfolding bytes_of_directory
 bytes_of_directory-beside c segment_size size count e f =
     let objects : List Object = c.objects.items in
-    let entries : List ℕ = entries_bytes (map entry_beside objects) in
-    let all : size ≡ 13 + length entries = e ∙ ap (λ n. 13 + n) (sym (length-entries_bytes objects)) in
+    let entries : List ℕ = bytes_of_entries (map entry_beside objects) in
+    let all : size ≡ 13 + length entries = e ∙ ap (λ n. 13 + n) (sym (length-bytes_of_entries objects)) in
     let each : count ≡ length (map entry_beside objects) = f ∙ sym (length-map objects entry_beside) in
-    ap (λ n. directory_header_bytes n count c.period segment_size ++ entries) all
-    ∙ ap (λ n. directory_header_bytes (13 + length entries) n c.period segment_size ++ entries) each
+    ap (λ n. bytes_of_directory_header n count c.period segment_size ++ entries) all
+    ∙ ap (λ n. bytes_of_directory_header (13 + length entries) n c.period segment_size ++ entries) each
 
 pub IsDirectory-beside : (c : Carousel) (segment_size : ℕ) → directory_size c ≤ 84013 →
     length c.objects.items ≤ 250 → c.period ≤ 16777215 → segment_size ≤ 8189 →
     All IsEntry (map entry_beside c.objects.items) → IsDirectory (directory_beside c segment_size)
 IsDirectory-beside c segment_size longest few period size entries = record {
-  directory_size = rw (length-entries_bytes c.objects.items) (omega arith);
+  directory_size = rw (length-bytes_of_entries c.objects.items) (omega arith);
   count = rw (length-map c.objects.items entry_beside) (omega arith);
   period = omega arith;
   segment_size = omega arith;

@@ -7,10 +7,10 @@ use Rattle.std.specs.Prelude.{if◌then◌else◌, nat_le}
 use Rattle.mot_carousel.specs.Carousel.{Object, Carousel}
 use Rattle.mot_carousel.specs.Content.{ContentNumbers}
 use Rattle.mot_directory.specs.Parameter.{OneByte, Short, Long, IsParameter, bytes_of_parameter}
-use Rattle.mot_directory.specs.Header.{IsHeader, bytes_of_header, extension_bytes}
-use Rattle.mot_directory.specs.Directory.{Entry, IsEntry, IsDirectory, bytes_of_entry, entries_bytes, bytes_of_directory, read_directory}
+use Rattle.mot_directory.specs.Header.{IsHeader, bytes_of_header, bytes_of_extension}
+use Rattle.mot_directory.specs.Directory.{Entry, IsEntry, IsDirectory, bytes_of_entry, bytes_of_entries, bytes_of_directory, read_directory}
 use Rattle.mot_directory.specs.Entries.{text_parameter, parameters_with, entry_of, directory_of, IsShortMime, IsWithinLimits, HasDirectory}
-use Rattle.mot_directory.specs.Stands.{text_size, mime_size}
+use Rattle.mot_directory.specs.Sizes.{text_size, mime_size}
 use Rattle.mot_directory.proofs.ReadBack.{read_directory-bytes_of_directory}
 
 length-by_form : (id : ℕ) (text : List ℕ) (b : Bool) →
@@ -31,7 +31,7 @@ length-name_parameter name =
 
 -- the length of a header, by its texts
 pub length-extension : (name : List ℕ) (mime : Option (List ℕ)) (version : ℕ) →
-    7 + length (extension_bytes (parameters_with name mime version))
+    7 + length (bytes_of_extension (parameters_with name mime version))
     ≡ 7 + text_size (1 + length name) + mime_size mime + 2
 length-extension name None version =
     let first : List ℕ = bytes_of_parameter (text_parameter 12 (240 ∷ name)) in
@@ -90,7 +90,7 @@ pub IsHeader-header : (name : List ℕ) (mime : Option (List ℕ)) (version : �
     IsHeader (record { body_size = body; content = content; parameters = parameters_with name mime version })
 IsHeader-header name mime version content body short short_mime content_type subtype few = record {
   body_size = omega arith;
-  header_size = lt_by (7 + length (extension_bytes (parameters_with name mime version)))
+  header_size = lt_by (7 + length (bytes_of_extension (parameters_with name mime version)))
       (7 + text_size (1 + length name) + mime_size mime + 2) (2 ^ 13) (length-extension name mime version)
       (omega (arith, text_size-le (1 + length name), mime_size-le mime short_mime));
   content_type = omega arith;
@@ -106,7 +106,7 @@ IsEntry-entry_of o l = record {
 }
 
 pub length-bytes_of_entry : (e : Entry) →
-    length (bytes_of_entry e) ≡ 2 + (7 + length (extension_bytes e.header.parameters))
+    length (bytes_of_entry e) ≡ 2 + (7 + length (bytes_of_extension e.header.parameters))
 unfolding bytes_of_header
 length-bytes_of_entry e = omega arith
 
@@ -118,12 +118,12 @@ entry_of-size o l =
     (omega (arith, text_size-le (1 + length o.name), mime_size-le o.mime l.mime, l.name))
 
 entries_of-size : (objects : List Object) → All IsWithinLimits objects →
-    length (entries_bytes (map entry_of objects)) ≤ 336 * length objects
+    length (bytes_of_entries (map entry_of objects)) ≤ 336 * length objects
 entries_of-size [] all = omega arith
 entries_of-size (o ∷ objects) all =
     omega (
       arith,
-      length-append (bytes_of_entry (entry_of o)) (entries_bytes (map entry_of objects)),
+      length-append (bytes_of_entry (entry_of o)) (bytes_of_entries (map entry_of objects)),
       entry_of-size o (All-head IsWithinLimits o objects all),
       entries_of-size objects (All-tail IsWithinLimits o objects all),
     )

@@ -2,5 +2,6 @@ pub mod Appended
 pub mod Beside
 pub mod Described
 pub mod Fits
+pub mod Laws
 pub mod ReadBack
 pub mod Rows

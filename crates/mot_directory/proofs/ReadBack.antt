@@ -7,8 +7,8 @@ use Rattle.std.specs.Int.{w16, to_be_bytes}
 use Rattle.mot_base.specs.Fields.{number_in}
 use Rattle.mot_carousel.specs.Content.{ContentNumbers}
 use Rattle.mot_directory.specs.Parameter.{Parameter, NoData, OneByte, FourBytes, Short, Long, IsParameter, bytes_of_parameter, read_parameter, parameter_with, parameters_within, read_parameters}
-use Rattle.mot_directory.specs.Header.{HeaderFields, IsHeader, bytes_of_header, core_bytes, core_of, extension_bytes, header_size_in, header_with, read_header}
-use Rattle.mot_directory.specs.Directory.{Entry, IsEntry, DirectoryFields, IsDirectory, bytes_of_entry, entries_bytes, entries_in, directory_header_bytes, directory_header_of, directory_with, bytes_of_directory, read_directory}
+use Rattle.mot_directory.specs.Header.{HeaderFields, IsHeader, bytes_of_header, bytes_of_core, core_of, bytes_of_extension, header_size_in, header_with, read_header}
+use Rattle.mot_directory.specs.Directory.{Entry, IsEntry, DirectoryFields, IsDirectory, bytes_of_entry, bytes_of_entries, entries_in, bytes_of_directory_header, directory_header_of, directory_with, bytes_of_directory, read_directory}
 
 cons_eq : {x y : ℕ} {xs ys : List ℕ} → x ≡ y → xs ≡ ys → x ∷ xs ≡ y ∷ ys
 cons_eq p q = cc
@@ -69,28 +69,28 @@ some_byte (FourBytes id four) = omega arith
 some_byte (Short id text) = omega arith
 some_byte (Long id text) = omega arith
 
-parameters_within-extension_bytes : (n : ℕ) (ps : List Parameter) → All IsParameter ps →
-    length (extension_bytes ps) ≤ n → parameters_within n (extension_bytes ps) ≡ Some ps
-parameters_within-extension_bytes n [] all l = refl
-parameters_within-extension_bytes zero (p ∷ ps) all l =
-    absurd (omega (arith, some_byte p, length-append (bytes_of_parameter p) (extension_bytes ps)))
-parameters_within-extension_bytes (suc n) (p ∷ ps) all l =
-    let fits : length (extension_bytes ps) ≤ n =
-    omega (arith, some_byte p, length-append (bytes_of_parameter p) (extension_bytes ps)) in
-    parameters_within-next n p ps (extension_bytes ps) (All-head IsParameter p ps all)
-    (parameters_within-extension_bytes n ps (All-tail IsParameter p ps all) fits)
+parameters_within-bytes_of_extension : (n : ℕ) (ps : List Parameter) → All IsParameter ps →
+    length (bytes_of_extension ps) ≤ n → parameters_within n (bytes_of_extension ps) ≡ Some ps
+parameters_within-bytes_of_extension n [] all l = refl
+parameters_within-bytes_of_extension zero (p ∷ ps) all l =
+    absurd (omega (arith, some_byte p, length-append (bytes_of_parameter p) (bytes_of_extension ps)))
+parameters_within-bytes_of_extension (suc n) (p ∷ ps) all l =
+    let fits : length (bytes_of_extension ps) ≤ n =
+    omega (arith, some_byte p, length-append (bytes_of_parameter p) (bytes_of_extension ps)) in
+    parameters_within-next n p ps (bytes_of_extension ps) (All-head IsParameter p ps all)
+    (parameters_within-bytes_of_extension n ps (All-tail IsParameter p ps all) fits)
 
-read_parameters-extension_bytes : (ps : List Parameter) → All IsParameter ps →
-    read_parameters (extension_bytes ps) ≡ Some ps
+read_parameters-bytes_of_extension : (ps : List Parameter) → All IsParameter ps →
+    read_parameters (bytes_of_extension ps) ≡ Some ps
 unfolding read_parameters
-read_parameters-extension_bytes ps all =
-    parameters_within-extension_bytes (length (extension_bytes ps)) ps all (omega arith)
+read_parameters-bytes_of_extension ps all =
+    parameters_within-bytes_of_extension (length (bytes_of_extension ps)) ps all (omega arith)
 
 -- the core's fields, whatever follows
-core_of-core_bytes : (body size : ℕ) (content : ContentNumbers) (rest : List ℕ) → body < 2 ^ 28 →
+core_of-bytes_of_core : (body size : ℕ) (content : ContentNumbers) (rest : List ℕ) → body < 2 ^ 28 →
     size < 2 ^ 13 → content.content_type < 2 ^ 6 → content.subtype < 2 ^ 9 →
-    core_of (core_bytes body size content ++ rest) ≡ body ∷ size ∷ content.content_type ∷ content.subtype ∷ []
-core_of-core_bytes body size content rest p q r s =
+    core_of (bytes_of_core body size content ++ rest) ≡ body ∷ size ∷ content.content_type ∷ content.subtype ∷ []
+core_of-bytes_of_core body size content rest p q r s =
     cons_eq (omega arith) (cons_eq (omega arith) (cons_eq (omega arith) (cons_eq (omega arith) refl)))
 
 header_with-written : (bytes : List ℕ) (body size : ℕ) (content : ContentNumbers) (ps : List Parameter) →
@@ -103,14 +103,14 @@ header_with-written bytes body size content ps e l m =
 pub read_header-bytes_of_header : (h : HeaderFields) → IsHeader h → read_header (bytes_of_header h) ≡ Some h
 unfolding read_header bytes_of_header
 read_header-bytes_of_header h is =
-    let extension : List ℕ = extension_bytes h.parameters in
+    let extension : List ℕ = bytes_of_extension h.parameters in
     let size : ℕ = 7 + length extension in
-    let core : List ℕ = core_bytes h.body_size size h.content in
+    let core : List ℕ = bytes_of_core h.body_size size h.content in
     ap (header_with (core ++ extension))
-    (core_of-core_bytes h.body_size size h.content extension is.body_size is.header_size is.content_type
+    (core_of-bytes_of_core h.body_size size h.content extension is.body_size is.header_size is.content_type
     is.subtype)
     ∙ header_with-written (core ++ extension) h.body_size size h.content h.parameters
-    (read_parameters-extension_bytes h.parameters is.parameters) (omega arith) (omega arith)
+    (read_parameters-bytes_of_extension h.parameters is.parameters) (omega arith) (omega arith)
 
 -- HeaderSize is the length of the header, whatever follows it
 header_size_in-append : (h : HeaderFields) (rest : List ℕ) → IsHeader h →
@@ -148,18 +148,18 @@ entries_in-next n e es rest is others =
       others,
     ) (ap Some (entry_again e es _ (two_bytes e.tid is.tid)))
 
-entries_in-entries_bytes : (es : List Entry) → All IsEntry es →
-    entries_in (length es) (entries_bytes es) ≡ Some es
-entries_in-entries_bytes [] all = refl
-entries_in-entries_bytes (e ∷ es) all =
-    entries_in-next (length es) e es (entries_bytes es) (All-head IsEntry e es all)
-    (entries_in-entries_bytes es (All-tail IsEntry e es all))
+entries_in-bytes_of_entries : (es : List Entry) → All IsEntry es →
+    entries_in (length es) (bytes_of_entries es) ≡ Some es
+entries_in-bytes_of_entries [] all = refl
+entries_in-bytes_of_entries (e ∷ es) all =
+    entries_in-next (length es) e es (bytes_of_entries es) (All-head IsEntry e es all)
+    (entries_in-bytes_of_entries es (All-tail IsEntry e es all))
 
-directory_header_of-directory_header_bytes : (size count period segment : ℕ) (rest : List ℕ) → size < 2 ^ 30 →
+directory_header_of-bytes_of_directory_header : (size count period segment : ℕ) (rest : List ℕ) → size < 2 ^ 30 →
     count < 2 ^ 16 → period < 2 ^ 24 → segment < 2 ^ 13 →
-    directory_header_of (directory_header_bytes size count period segment ++ rest)
+    directory_header_of (bytes_of_directory_header size count period segment ++ rest)
     ≡ 0 ∷ 0 ∷ size ∷ count ∷ period ∷ 0 ∷ 0 ∷ segment ∷ 0 ∷ []
-directory_header_of-directory_header_bytes size count period segment rest p q r s =
+directory_header_of-bytes_of_directory_header size count period segment rest p q r s =
     cons_eq (omega arith) (cons_eq (omega arith) (cons_eq (omega arith) (cons_eq (omega arith)
     (cons_eq (omega arith) (cons_eq (omega arith) (cons_eq (omega arith) (cons_eq (omega arith)
     (cons_eq (omega arith) refl))))))))
@@ -175,11 +175,11 @@ pub read_directory-bytes_of_directory : (d : DirectoryFields) → IsDirectory d 
     read_directory (bytes_of_directory d) ≡ Some d
 unfolding read_directory bytes_of_directory
 read_directory-bytes_of_directory d is =
-    let entries : List ℕ = entries_bytes d.entries in
+    let entries : List ℕ = bytes_of_entries d.entries in
     let size : ℕ = 13 + length entries in
-    let header : List ℕ = directory_header_bytes size (length d.entries) d.period d.segment_size in
+    let header : List ℕ = bytes_of_directory_header size (length d.entries) d.period d.segment_size in
     ap (directory_with (header ++ entries))
-    (directory_header_of-directory_header_bytes size (length d.entries) d.period d.segment_size entries
+    (directory_header_of-bytes_of_directory_header size (length d.entries) d.period d.segment_size entries
     is.directory_size is.count is.period is.segment_size)
     ∙ directory_with-written (header ++ entries) size (length d.entries) d.period d.segment_size d.entries
-    (entries_in-entries_bytes d.entries is.entries) (omega arith) (omega arith)
+    (entries_in-bytes_of_entries d.entries is.entries) (omega arith) (omega arith)

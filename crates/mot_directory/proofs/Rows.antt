@@ -6,6 +6,8 @@ use Rattle.mot_directory.specs.Parameter.{read_parameters}
 use Rattle.mot_directory.specs.Header.{read_header, bytes_of_header}
 use Rattle.mot_directory.specs.Directory.{read_directory, bytes_of_directory}
 use Rattle.mot_directory.specs.Entries.{header_of, directory_of}
+use Rattle.mot_directory.specs.declared.header.TheConstants.{MAX_HEADER}
+use Rattle.mot_directory.specs.declared.directory.TheConstants.{MAX_DIRECTORY}
 
 abbrev picture : Object
 picture = record {
@@ -64,3 +66,10 @@ compressed : read_directory
     (0x80 ∷ 0x00 ∷ 0x00 ∷ 0x0D ∷ 0x00 ∷ 0x00 ∷ 0x00 ∷ 0x00 ∷ 0x00 ∷ 0x04 ∷ 0x00 ∷ 0x00 ∷ 0x00 ∷ []) ≡ None
 unfolding read_directory
 compressed = refl
+
+-- the limits
+max_header : MAX_HEADER ≡ 334
+max_header = refl
+
+max_directory : MAX_DIRECTORY ≡ 84013
+max_directory = refl

@@ -1,7 +1,16 @@
 -- What stands in a carousel's directory (own profile of EN 301 234).
-use Rattle.std.specs.Prelude.{ℕ, ◌≤◌, ◌&&◌, ◌==◌, nat_lt, nat_le, if◌then◌else◌, List, [], ◌∷◌, ◌++◌, length, drop, map, All, Option, Some, None, option_to_list, slice_index}
+use Rattle.std.specs.Prelude.{ℕ, ◌≤◌, ◌&&◌, ◌==◌, nat_lt, nat_le, if◌then◌else◌, List, [], ◌∷◌}
+use Rattle.std.specs.Prelude.{◌++◌, length, drop, map, All, Option, Some, None, option_to_list}
+use Rattle.std.specs.Prelude.{slice_index}
 use Rattle.mot_base.specs.Reading.{◌>>=◌}
+use Rattle.mot_base.specs.declared.geometry.TheConstants.{MAX_OBJECTS}
+use Rattle.mot_base.specs.declared.numbers.TheConstants.{MAX_SEGMENT}
 use Rattle.mot_carousel.specs.Carousel.{Object, Carousel}
+use Rattle.mot_carousel.specs.declared.body.TheConstants.{MAX_BODY}
+use Rattle.mot_carousel.specs.declared.content.TheConstants.{MAX_SUBTYPE, MAX_TYPE}
+use Rattle.mot_carousel.specs.declared.mime.TheConstants.{MAX_MIME}
+use Rattle.mot_carousel.specs.declared.name.TheConstants.{MAX_NAME}
+use Rattle.mot_carousel.specs.declared.period.TheConstants.{MAX_PERIOD}
 use Rattle.mot_directory.specs.Parameter.{Parameter, OneByte, Short, Long}
 use Rattle.mot_directory.specs.Header.{HeaderFields}
 use Rattle.mot_directory.specs.Directory.{Entry, DirectoryFields}
@@ -10,11 +19,12 @@ use Rattle.mot_directory.specs.Directory.{Entry, DirectoryFields}
 abbrev pub text_parameter : ℕ → List ℕ → Parameter
 text_parameter id text = if nat_le (length text) 127 then Short id text else Long id text
 
--- of a name, a MIME type and a version, in this order: ContentName, whose data is 0xF0, for UTF-8, and the name;
--- MimeType if there is one; VersionNumber
+-- of a name, a MIME type and a version, in this order: ContentName, whose data is 0xF0, for UTF-8,
+-- and the name; MimeType if there is one; VersionNumber
 abbrev pub parameters_with : List ℕ → Option (List ℕ) → ℕ → List Parameter
 parameters_with name mime version =
-    text_parameter 12 (240 ∷ name) ∷ map (text_parameter 16) (option_to_list mime) ++ OneByte 6 version ∷ []
+    text_parameter 12 (240 ∷ name) ∷ map (text_parameter 16) (option_to_list mime)
+    ++ OneByte 6 version ∷ []
 
 abbrev pub header_of : Object → HeaderFields
 header_of o = record {
@@ -48,34 +58,34 @@ version_in (OneByte id version) = if id == 6 then Some version else None
 version_in _ = None
 
 -- the name, MIME type and version in parameters of that order
-abbrev pub described : List Parameter → Option (List ℕ × Option (List ℕ) × ℕ)
-described (p ∷ q ∷ []) = do
+abbrev pub description_in : List Parameter → Option (List ℕ × Option (List ℕ) × ℕ)
+description_in (p ∷ q ∷ []) = do
   name ← name_in p
   version ← version_in q
   Some (name, None, version)
-described (p ∷ q ∷ r ∷ []) = do
+description_in (p ∷ q ∷ r ∷ []) = do
   name ← name_in p
   mime ← text_in 16 q
   version ← version_in r
   Some (name, Some mime, version)
-described _ = None
+description_in _ = None
 
 abbrev pub IsShortMime : Option (List ℕ) → Type 0
 IsShortMime None = Unit {0}
-IsShortMime (Some text) = length text ≤ 64
+IsShortMime (Some text) = length text ≤ MAX_MIME
 
 -- an object within the limits of an object's numbers and texts
 pub record IsWithinLimits (o : Object) : Type 0 where
-  pub name : length o.name ≤ 255
+  pub name : length o.name ≤ MAX_NAME
   pub mime : IsShortMime o.mime
-  pub content_type : o.content.content_type ≤ 63
-  pub subtype : o.content.subtype ≤ 511
+  pub content_type : o.content.content_type ≤ MAX_TYPE
+  pub subtype : o.content.subtype ≤ MAX_SUBTYPE
   pub tid : o.tid ≤ 65535
-  pub body : length o.body ≤ 262144
+  pub body : length o.body ≤ MAX_BODY
 
 -- a carousel whose directory can be written with segments of this size
 pub record HasDirectory (c : Carousel) (segment_size : ℕ) : Type 0 where
-  pub period : c.period ≤ 16777215
-  pub size : segment_size ≤ 8189
-  pub few : length c.objects ≤ 250
+  pub period : c.period ≤ MAX_PERIOD
+  pub size : segment_size ≤ MAX_SEGMENT
+  pub few : length c.objects ≤ MAX_OBJECTS
   pub objects : All IsWithinLimits c.objects

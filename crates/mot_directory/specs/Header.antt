@@ -1,10 +1,13 @@
 -- Headers (EN 301 234), as a receiver reads them and as they are written.
-use Rattle.std.specs.Prelude.{ℕ, ◌+◌, ◌*◌, ◌^◌, ◌<◌, ◌&&◌, ◌==◌, nat_le, if◌then◌else◌, List, [], ◌∷◌, ◌++◌, length, drop, take, flat_map, All, Option, Some, None, slice_index}
+use Rattle.std.specs.Prelude.{ℕ, ◌+◌, ◌*◌, ◌^◌, ◌<◌, ◌&&◌, ◌==◌, nat_le, if◌then◌else◌, List, []}
+use Rattle.std.specs.Prelude.{◌∷◌, ◌++◌, length, drop, take, flat_map, All, Option, Some, None}
+use Rattle.std.specs.Prelude.{slice_index}
 use Rattle.std.specs.Int.{bytes_high_first}
 use Rattle.mot_base.specs.Reading.{◌>>=◌}
 use Rattle.mot_base.specs.Fields.{number_in, fields}
 use Rattle.mot_carousel.specs.Content.{ContentNumbers}
-use Rattle.mot_directory.specs.Parameter.{Parameter, read_parameters, bytes_of_parameter, IsParameter}
+use Rattle.mot_directory.specs.Parameter.{Parameter, read_parameters, bytes_of_parameter}
+use Rattle.mot_directory.specs.Parameter.{IsParameter}
 
 -- BodySize, ContentType with ContentSubType, and the parameters of the extension
 pub record HeaderFields : Type 0 where
@@ -37,23 +40,24 @@ unfoldable pub read_header : List ℕ → Option HeaderFields
 read_header bytes = header_with bytes (core_of bytes)
 
 -- the core's 7 bytes
-abbrev pub core_bytes : ℕ → ℕ → ContentNumbers → List ℕ
-core_bytes body size content =
-    bytes_high_first 7 (((body * 2 ^ 13 + size) * 2 ^ 6 + content.content_type) * 2 ^ 9 + content.subtype)
+abbrev pub bytes_of_core : ℕ → ℕ → ContentNumbers → List ℕ
+bytes_of_core body size content =
+    bytes_high_first 7
+    (((body * 2 ^ 13 + size) * 2 ^ 6 + content.content_type) * 2 ^ 9 + content.subtype)
 
-abbrev pub extension_bytes : List Parameter → List ℕ
-extension_bytes parameters = flat_map bytes_of_parameter parameters
+abbrev pub bytes_of_extension : List Parameter → List ℕ
+bytes_of_extension parameters = flat_map bytes_of_parameter parameters
 
 -- a header's bytes: the core, and the extension that HeaderSize counts with it
 unfoldable pub bytes_of_header : HeaderFields → List ℕ
 bytes_of_header h =
-    let extension = extension_bytes h.parameters in
-    core_bytes h.body_size (7 + length extension) h.content ++ extension
+    let extension = bytes_of_extension h.parameters in
+    bytes_of_core h.body_size (7 + length extension) h.content ++ extension
 
 -- each number and each length fits its field
 pub record IsHeader (h : HeaderFields) : Type 0 where
   pub body_size : h.body_size < 2 ^ 28
-  pub header_size : 7 + length (extension_bytes h.parameters) < 2 ^ 13
+  pub header_size : 7 + length (bytes_of_extension h.parameters) < 2 ^ 13
   pub content_type : h.content.content_type < 2 ^ 6
   pub subtype : h.content.subtype < 2 ^ 9
   pub parameters : All IsParameter h.parameters

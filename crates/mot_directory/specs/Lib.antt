@@ -1,5 +1,6 @@
 pub mod Directory
 pub mod Entries
 pub mod Header
+pub mod Inner
 pub mod Parameter
-pub mod Stands
+pub mod Sizes

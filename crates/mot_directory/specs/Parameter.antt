@@ -1,10 +1,13 @@
--- The parameters of a header extension (EN 301 234), as a receiver reads them and as they are written.
-use Rattle.std.specs.Prelude.{◌≡◌, ℕ, zero, suc, ◌+◌, ◌-◌, ◌*◌, ◌/◌, ◌%◌, ◌^◌, ◌<◌, ◌==◌, nat_lt, nat_le, if◌then◌else◌, List, [], ◌∷◌, ◌++◌, length, drop, take, Option, Some, None}
+-- The parameters of a header extension (EN 301 234), as a receiver reads them and as they are
+-- written.
+use Rattle.std.specs.Prelude.{◌≡◌, ℕ, zero, suc, ◌+◌, ◌-◌, ◌*◌, ◌/◌, ◌%◌, ◌^◌, ◌<◌, ◌==◌, nat_lt}
+use Rattle.std.specs.Prelude.{nat_le, if◌then◌else◌, List, [], ◌∷◌, ◌++◌, length, drop, take}
+use Rattle.std.specs.Prelude.{Option, Some, None}
 use Rattle.std.specs.Int.{w16, to_be_bytes}
 use Rattle.mot_base.specs.Reading.{◌>>=◌}
 
--- a parameter by its form: an id (ParamId) with no data, with one byte or four, or with data behind a length
--- of 7 bits or of 15
+-- a parameter by its form: an id (ParamId) with no data, with one byte or four, or with data behind
+-- a length of 7 bits or of 15
 pub data Parameter : Type 0 where
   NoData : ℕ → Parameter
   OneByte : ℕ → ℕ → Parameter

@@ -1,46 +1,61 @@
-ghost use Rattle.std.specs.Prelude.{◌≡◌, ℕ, ◌+◌, ◌^◌, ◌<◌, ◌≤◌, List, ◌++◌, length, map, vec_len, vec_capacity, All, Some, IfOk, IfErr, OnOk};
+ghost use Rattle.std.specs.Prelude.{◌≡◌, ℕ, ◌+◌, ◌^◌, ◌<◌, ◌≤◌, List, ◌++◌, length, map, vec_len};
+ghost use Rattle.std.specs.Prelude.{vec_capacity, All, Some, IfOk, IfErr, OnOk};
+ghost use Rattle.mot_base.specs.Bytes.{AreBytes};
 ghost use Rattle.mot_base.specs.declared.refusal.Refusal.TheVariants.{OutOfMemory};
 ghost use Rattle.mot_carousel.specs.Carousel as whole;
 ghost use Rattle.mot_carousel.specs.Stands.{AreBodiesOf, carousel_of};
-ghost use Rattle.mot_directory.specs.Directory.{DirectoryFields, IsDirectory, IsEntry, bytes_of_directory, bytes_of_entry, directory_header_bytes, read_directory};
-ghost use Rattle.mot_directory.specs.Entries.{HasDirectory, directory_of, entries_of};
-ghost use Rattle.mot_directory.specs.Stands.{directory_size, entry_beside, entry_size};
+ghost use Rattle.mot_directory.specs.Directory.{DirectoryFields, IsDirectory, IsEntry};
+ghost use Rattle.mot_directory.specs.Directory.{bytes_of_directory, bytes_of_entry};
+ghost use Rattle.mot_directory.specs.Directory.{bytes_of_directory_header, read_directory};
+ghost use Rattle.mot_directory.specs.Entries.{HasDirectory, description_in, directory_of};
+ghost use Rattle.mot_directory.specs.Entries.{entries_of, parameters_with};
+ghost use Rattle.mot_directory.specs.Inner.Beside.{entry_beside};
+ghost use Rattle.mot_directory.specs.Sizes.{directory_size, entry_size};
 
-use crate::appending::{append, append_number};
 use crate::header::{append_header, header_size};
 use byteorder::{BigEndian, ByteOrder};
-use mot_base::{Refusal, SegmentSize};
-use mot_carousel::{Carousel, Object};
+use mot_base::{MAX_SEGMENT, Refusal, SegmentSize, append, append_number};
+use mot_carousel::{Carousel, MAX_PERIOD, Object};
 use std::alloc::Global;
 
-/// The carousel's directory (EN 301 234), uncompressed and with no directory extension: the directory header,
-/// and each object's transport id and header, in the objects' order. Of the bodies it holds the lengths alone.
-/// It has 13 to 84,013 bytes, and its room is taken once. The only refusal is `OutOfMemory`.
+/// The most bytes of a directory: its header, and 250 entries of a transport id and the longest
+/// header.
+pub const MAX_DIRECTORY: usize = 84_013;
+
+/// The carousel's directory (EN 301 234), uncompressed and with no directory extension: the
+/// directory header, and each object's transport id and header, in the objects' order. Of the
+/// bodies it holds the lengths alone. It has 13 to 84,013 bytes, and its room is taken once. The
+/// only refusal is `OutOfMemory`.
 pub fn directory_bytes(
     alloc: Global,
     carousel: &Carousel,
     segment_size: SegmentSize,
 ) -> Result<Vec<u8>, Refusal>
-    // Whatever the bodies, it reads as the period, the segment size and the objects' entries, and each length
-    // fits its field.
+    // Whatever the bodies, it reads as the period, the segment size and the objects' entries, and
+    // each length fits its field.
     ensures reads { IfOk result (λ bytes. (bodies : List (List ℕ)) → AreBodiesOf carousel.now bodies
         → read_directory bytes.items ≡ Some (record {
           period = carousel.now.period;
           segment_size = segment_size;
           entries = entries_of (carousel_of carousel.now bodies);
         })) }
-    ensures written { IfOk result (λ bytes. (bodies : List (List ℕ)) → AreBodiesOf carousel.now bodies
-        → bytes.items ≡ bytes_of_directory (directory_of (carousel_of carousel.now bodies) segment_size)) }
+    ensures written { IfOk result (λ bytes. (bodies : List (List ℕ))
+        → AreBodiesOf carousel.now bodies → bytes.items
+        ≡ bytes_of_directory (directory_of (carousel_of carousel.now bodies) segment_size)) }
     ensures fits { OnOk result ((bodies : List (List ℕ)) → AreBodiesOf carousel.now bodies
         → IsDirectory (directory_of (carousel_of carousel.now bodies) segment_size)) }
-    ensures bytes { IfOk result (λ bytes. All (λ b. b < 256) bytes.items) }
+    ensures bytes { IfOk result (λ bytes. AreBytes bytes.items) }
     ensures size { IfOk result (λ bytes. vec_len bytes ≡ directory_size carousel.now) }
-    ensures longest { directory_size carousel.now ≤ 84013 }
+    ensures longest { directory_size carousel.now ≤ MAX_DIRECTORY }
     ensures refused { IfErr result (λ refusal. refusal ≡ OutOfMemory) }
 
-    // Each directory whose lengths fit reads back, and each carousel within the limits has one.
+    // Each directory whose lengths fit reads back, its parameters describe the objects, and each
+    // carousel within the limits has one.
     ensures reads_back { (d : DirectoryFields) → IsDirectory d
         → read_directory (bytes_of_directory d) ≡ Some d }
+    ensures described { (o : whole.Object)
+        → description_in (parameters_with o.name o.mime o.version)
+        ≡ Some (o.name, o.mime, o.version) }
     ensures carousels { (c : whole.Carousel) (size : ℕ) → HasDirectory c size
         → read_directory (bytes_of_directory (directory_of c size)) ≡ Some (directory_of c size) }
 {
@@ -56,7 +71,7 @@ pub fn directory_bytes(
 /// How many bytes the directory has.
 fn directory_size(carousel: &Carousel) -> usize
     ensures size { result ≡ directory_size carousel.now }
-    ensures longest { result ≤ 84013 }
+    ensures longest { result ≤ MAX_DIRECTORY }
 {
     let mut size = 13;
     for object in &carousel.objects {
@@ -74,13 +89,13 @@ fn append_directory_header(
 )
     requires size { size < 2 ^ 30 }
     requires room { vec_len out.old + 13 ≤ vec_capacity out.old }
-    ensures items { out.new.items ≡ out.old.items
-        ++ directory_header_bytes size (vec_len carousel.now.objects) carousel.now.period segment_size }
+    ensures items { let count = vec_len carousel.now.objects in out.new.items ≡ out.old.items
+        ++ bytes_of_directory_header size count carousel.now.period segment_size }
     ensures len { vec_len out.new ≡ vec_len out.old + 13 }
-    ensures capacity { vec_capacity out.old ≤ vec_capacity out.new }
-    ensures period { carousel.now.period ≤ 16777215 }
-    ensures segment_size { segment_size ≤ 8189 }
-    ensures bytes { All (λ b. b < 256) out.new.items }
+    ensures capacity { vec_capacity out.new ≡ vec_capacity out.old }
+    ensures period { carousel.now.period ≤ MAX_PERIOD }
+    ensures segment_size { segment_size ≤ MAX_SEGMENT }
+    ensures bytes { AreBytes out.new.items }
 {
     let mut header = [0; 13];
     BigEndian::write_u32(&mut header, size as u32);
@@ -95,9 +110,9 @@ fn append_entry(out: &mut Vec<u8>, object: &Object)
     requires { vec_len out.old + entry_size object.now ≤ vec_capacity out.old }
     ensures items { out.new.items ≡ out.old.items ++ bytes_of_entry (entry_beside object.now) }
     ensures len { vec_len out.new ≡ vec_len out.old + entry_size object.now }
-    ensures capacity { vec_capacity out.old ≤ vec_capacity out.new }
+    ensures capacity { vec_capacity out.new ≡ vec_capacity out.old }
     ensures fits { IsEntry (entry_beside object.now) }
-    ensures bytes { All (λ b. b < 256) out.new.items }
+    ensures bytes { AreBytes out.new.items }
 {
     append_number(out, object.tid.get());
     append_header(out, object);

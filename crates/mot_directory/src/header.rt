@@ -1,16 +1,21 @@
-ghost use Rattle.std.specs.Prelude.{◌≡◌, ℕ, ◌+◌, ◌^◌, ◌<◌, ◌≤◌, List, ◌∷◌, ◌++◌, length, take, map, flat_map, vec_len, vec_capacity, option_to_list, All, Some, IfOk, IfErr, OnOk};
+ghost use Rattle.std.specs.Prelude.{◌≡◌, ℕ, ◌+◌, ◌^◌, ◌<◌, ◌≤◌, List, ◌∷◌, ◌++◌, length, take, map};
+ghost use Rattle.std.specs.Prelude.{flat_map, vec_len, vec_capacity, option_to_list, All, Some};
+ghost use Rattle.std.specs.Prelude.{IfOk, IfErr, OnOk};
+ghost use Rattle.mot_base.specs.Bytes.{AreBytes};
 ghost use Rattle.mot_base.specs.declared.refusal.Refusal.TheVariants.{OutOfMemory};
 ghost use Rattle.mot_carousel.specs.Carousel as whole;
 ghost use Rattle.mot_carousel.specs.Stands.{object_of};
-ghost use Rattle.mot_directory.specs.Entries.{IsShortMime, described, header_of, parameters_with, text_parameter};
-ghost use Rattle.mot_directory.specs.Header.{HeaderFields, IsHeader, bytes_of_header, core_bytes, header_size_in, read_header};
+ghost use Rattle.mot_directory.specs.Entries.{IsShortMime, description_in, header_of};
+ghost use Rattle.mot_directory.specs.Entries.{parameters_with, text_parameter};
+ghost use Rattle.mot_directory.specs.Header.{HeaderFields, IsHeader, bytes_of_header};
+ghost use Rattle.mot_directory.specs.Header.{bytes_of_core, header_size_in, read_header};
 ghost use Rattle.mot_directory.specs.Parameter.{bytes_of_parameter};
-ghost use Rattle.mot_directory.specs.Stands.{header_beside, header_size, mime_size, text_size};
+ghost use Rattle.mot_directory.specs.Inner.Beside.{header_beside};
+ghost use Rattle.mot_directory.specs.Sizes.{header_size, mime_size, text_size};
 
-use crate::appending::{append, append_number};
 use byteorder::{BigEndian, ByteOrder};
-use mot_base::Refusal;
-use mot_carousel::{Mime, Name, Object};
+use mot_base::{Refusal, append, append_number};
+use mot_carousel::{MAX_BODY, MAX_NAME, MAX_SUBTYPE, MAX_TYPE, Mime, Name, Object};
 use std::alloc::Global;
 
 /// ContentName's id (EN 301 234).
@@ -37,9 +42,12 @@ const EXTENSION: u16 = 0x8000;
 /// The character set in ContentName's data: UTF-8.
 const UTF_8: u8 = 0xF0;
 
-/// The MOT header of an object (EN 301 234): the header core, and as its extension ContentName, MimeType where
-/// there is one, and VersionNumber. Of the body it holds the length alone. It has 13 to 334 bytes, and its room is
-/// taken once. The only refusal is `OutOfMemory`.
+/// The most bytes of a header.
+pub const MAX_HEADER: usize = 334;
+
+/// The MOT header of an object (EN 301 234): the header core, and as its extension ContentName,
+/// MimeType where there is one, and VersionNumber. Of the body it holds the length alone. It has 13
+/// to 334 bytes, and its room is taken once. The only refusal is `OutOfMemory`.
 pub fn header_bytes(alloc: Global, object: &Object) -> Result<Vec<u8>, Refusal>
     // Whatever the body, it reads as the object's header, and each length fits its field.
     ensures reads { IfOk result (λ bytes. (body : List ℕ) → length body ≡ object.now.length
@@ -48,18 +56,21 @@ pub fn header_bytes(alloc: Global, object: &Object) -> Result<Vec<u8>, Refusal>
         → bytes.items ≡ bytes_of_header (header_of (object_of object.now body))) }
     ensures fits { OnOk result ((body : List ℕ) → length body ≡ object.now.length
         → IsHeader (header_of (object_of object.now body))) }
-    ensures bytes { IfOk result (λ bytes. All (λ b. b < 256) bytes.items) }
+    ensures bytes { IfOk result (λ bytes. AreBytes bytes.items) }
     ensures size { IfOk result (λ bytes. vec_len bytes ≡ header_size object.now) }
     ensures refused { IfErr result (λ refusal. refusal ≡ OutOfMemory) }
 
     // Each header whose lengths fit reads back, and is cut off by its HeaderSize whatever follows.
-    ensures reads_back { (h : HeaderFields) → IsHeader h → read_header (bytes_of_header h) ≡ Some h }
-    ensures cut { (h : HeaderFields) (rest : List ℕ) → IsHeader h → let bytes = bytes_of_header h ++ rest in
+    ensures reads_back { (h : HeaderFields) → IsHeader h
+        → read_header (bytes_of_header h) ≡ Some h }
+    ensures cut { (h : HeaderFields) (rest : List ℕ) → IsHeader h
+        → let bytes = bytes_of_header h ++ rest in
         take (header_size_in bytes) bytes ≡ bytes_of_header h }
 
     // The parameters describe the object.
     ensures described { (o : whole.Object)
-        → described (parameters_with o.name o.mime o.version) ≡ Some (o.name, o.mime, o.version) }
+        → description_in (parameters_with o.name o.mime o.version)
+        ≡ Some (o.name, o.mime, o.version) }
 {
     let mut out = Vec::with_capacity(alloc, header_size(object))?;
     append_header(&mut out, object);
@@ -69,7 +80,7 @@ pub fn header_bytes(alloc: Global, object: &Object) -> Result<Vec<u8>, Refusal>
 /// How many bytes the header has.
 pub fn header_size(object: &Object) -> usize
     ensures size { result ≡ header_size object.now }
-    ensures longest { result ≤ 334 }
+    ensures longest { result ≤ MAX_HEADER }
 {
     let name = text_size(1 + object.name.as_bytes().len());
     let mime = match &object.mime {
@@ -84,9 +95,9 @@ pub fn append_header(out: &mut Vec<u8>, object: &Object)
     requires { vec_len out.old + header_size object.now ≤ vec_capacity out.old }
     ensures items { out.new.items ≡ out.old.items ++ bytes_of_header (header_beside object.now) }
     ensures len { vec_len out.new ≡ vec_len out.old + header_size object.now }
-    ensures capacity { vec_capacity out.old ≤ vec_capacity out.new }
+    ensures capacity { vec_capacity out.new ≡ vec_capacity out.old }
     ensures fits { IsHeader (header_beside object.now) }
-    ensures bytes { All (λ b. b < 256) out.new.items }
+    ensures bytes { AreBytes out.new.items }
 {
     append_core(out, object, header_size(object));
     append_name(out, &object.name);
@@ -98,12 +109,13 @@ pub fn append_header(out: &mut Vec<u8>, object: &Object)
 fn append_core(out: &mut Vec<u8>, object: &Object, size: usize)
     requires size { size < 2 ^ 13 }
     requires room { vec_len out.old + 7 ≤ vec_capacity out.old }
-    ensures items { out.new.items ≡ out.old.items ++ core_bytes object.now.length size object.now.content }
+    ensures items { out.new.items
+        ≡ out.old.items ++ bytes_of_core object.now.length size object.now.content }
     ensures len { vec_len out.new ≡ vec_len out.old + 7 }
-    ensures capacity { vec_capacity out.old ≤ vec_capacity out.new }
-    ensures body { object.now.length ≤ 262144 }
-    ensures content_type { object.now.content.content_type ≤ 63 }
-    ensures subtype { object.now.content.subtype ≤ 511 }
+    ensures capacity { vec_capacity out.new ≡ vec_capacity out.old }
+    ensures body { object.now.length ≤ MAX_BODY }
+    ensures content_type { object.now.content.content_type ≤ MAX_TYPE }
+    ensures subtype { object.now.content.subtype ≤ MAX_SUBTYPE }
 {
     let content = object.content;
     let sizes = u64::from(object.length.get()) << 13 | size as u64;
@@ -117,10 +129,11 @@ fn append_core(out: &mut Vec<u8>, object: &Object, size: usize)
 /// Adds ContentName.
 fn append_name(out: &mut Vec<u8>, name: &Name)
     requires { vec_len out.old + text_size (1 + length name.now) ≤ vec_capacity out.old }
-    ensures items { out.new.items ≡ out.old.items ++ bytes_of_parameter (text_parameter 12 (240 ∷ name.now)) }
+    ensures items { out.new.items
+        ≡ out.old.items ++ bytes_of_parameter (text_parameter 12 (240 ∷ name.now)) }
     ensures len { vec_len out.new ≡ vec_len out.old + text_size (1 + length name.now) }
-    ensures capacity { vec_capacity out.old ≤ vec_capacity out.new }
-    ensures short { length name.now ≤ 255 }
+    ensures capacity { vec_capacity out.new ≡ vec_capacity out.old }
+    ensures short { length name.now ≤ MAX_NAME }
 {
     let name = name.as_bytes();
     append_length(out, CONTENT_NAME, 1 + name.len());
@@ -131,10 +144,10 @@ fn append_name(out: &mut Vec<u8>, name: &Name)
 /// Adds MimeType, if there is one.
 fn append_mime(out: &mut Vec<u8>, mime: &Option<Mime>)
     requires { vec_len out.old + mime_size mime.now ≤ vec_capacity out.old }
-    ensures items { out.new.items
-        ≡ out.old.items ++ flat_map bytes_of_parameter (map (text_parameter 16) (option_to_list mime.now)) }
+    ensures items { let texts = map (text_parameter 16) (option_to_list mime.now) in
+        out.new.items ≡ out.old.items ++ flat_map bytes_of_parameter texts }
     ensures len { vec_len out.new ≡ vec_len out.old + mime_size mime.now }
-    ensures capacity { vec_capacity out.old ≤ vec_capacity out.new }
+    ensures capacity { vec_capacity out.new ≡ vec_capacity out.old }
     ensures short { IsShortMime mime.now }
 {
     if let Some(mime) = mime {
@@ -152,7 +165,7 @@ fn append_length(out: &mut Vec<u8>, id: u8, len: usize)
     ensures items { (text : List ℕ) → length text ≡ len
         → out.new.items ++ text ≡ out.old.items ++ bytes_of_parameter (text_parameter id text) }
     ensures len { vec_len out.new + len ≡ vec_len out.old + text_size len }
-    ensures capacity { vec_capacity out.old ≤ vec_capacity out.new }
+    ensures capacity { vec_capacity out.new ≡ vec_capacity out.old }
 {
     append(out, &[WITH_LENGTH | id]);
     if len <= LONGEST_SHORT {

@@ -1,12 +1,11 @@
 //! MOT headers and the carousel's directory as bytes (EN 301 234).
 #![tactic(auto)]
 
-mod appending;
 mod directory;
 mod header;
 
-pub use directory::directory_bytes;
-pub use header::header_bytes;
+pub use directory::{MAX_DIRECTORY, directory_bytes};
+pub use header::{MAX_HEADER, header_bytes};
 
 #[cfg(test)]
 mod tests;

@@ -1,5 +1,5 @@
 -- An entity that is cut into segments reads as itself.
-use Rattle.std.proofs.Common.{◌≡◌, ℕ, suc, zero, ◌+◌, ◌-◌, ◌*◌, ◌/◌, ◌%◌, ◌<◌, ◌≤◌, List, [], ◌∷◌, ◌++◌, true, false, refl, length, take, drop, min, arith, ap, ◌∙◌, length-take, length-drop, eq-eqb, Some}
+use Rattle.std.proofs.Common.{◌≡◌, ℕ, suc, zero, ◌+◌, ◌-◌, ◌*◌, ◌<◌, ◌≤◌, List, [], ◌∷◌, ◌++◌, true, false, refl, length, take, drop, arith, ap, ◌∙◌, length-take, length-drop, eq-eqb, Some}
 use Rattle.std.proofs.Math.Nat.{zero-div, zero-mod}
 use Rattle.std.proofs.lemmas.Bool.{le-leb}
 use Rattle.std.proofs.lemmas.List.{append-nil, take-append-drop, take_all}
@@ -7,27 +7,9 @@ use Rattle.std.proofs.lemmas.List.Elements.{All-cons, All-nil}
 use Rattle.std.specs.Int.{div_ceil}
 use Rattle.std.specs.Prelude.{◌==◌}
 use Rattle.mot_base.specs.Reading.{is_empty}
+use Rattle.mot_base.proofs.Laws.{FullPieces, full_pieces}
 use Rattle.mot_groups.specs.Group.{Segment}
-use Rattle.mot_groups.specs.Entity.{first_pieces, pieces, all_but_last, IsCut, joined, numbered, segments_of, own_segments, first_size, entity_of}
-
--- n pieces of a size hold the bytes, and n - 1 do not
-record FullPieces (n size bytes : ℕ) : Type 0 where
-  full : ℕ
-  one_more : n ≡ suc full
-  too_few : full * size < bytes
-  enough : bytes ≤ full * size + size
-
-full_pieces-parts : (quotient rest size bytes : ℕ) → quotient * size + rest ≡ bytes → rest < size →
-    0 < bytes → FullPieces (quotient + min 1 rest) size bytes
-full_pieces-parts zero zero size bytes e p b = absurd (omega arith)
-full_pieces-parts (suc q) zero size bytes e p b =
-    record { full = q; one_more = omega arith; too_few = omega arith; enough = omega arith }
-full_pieces-parts q (suc r) size bytes e p b =
-    record { full = q; one_more = omega arith; too_few = omega arith; enough = omega arith }
-
-full_pieces : (size bytes : ℕ) → 0 < size → 0 < bytes → FullPieces (div_ceil bytes size) size bytes
-full_pieces size bytes s b =
-    full_pieces-parts (bytes / size) (bytes % size) size bytes (omega arith) (omega arith) b
+use Rattle.mot_groups.specs.Entity.{first_pieces, pieces, all_but_last, IsCut, joined_bytes, numbered_segments, segments_of, own_segments, first_size, entity_of}
 
 pub length-first_pieces : (n size : ℕ) (bytes : List ℕ) → length (first_pieces n size bytes) ≡ n
 length-first_pieces zero size bytes = refl
@@ -77,30 +59,30 @@ IsCut-pieces size (b ∷ bytes) s =
     rw n.one_more (IsCut-first_pieces size n.full (b ∷ bytes) s n.too_few n.enough)
 
 -- what is read of the segments behind the first one
-joined-more : (number size : ℕ) (s t : Segment) (segments : List Segment) (rest : List ℕ) →
-    joined (number + 1) size (t ∷ segments) ≡ Some rest →
+joined_bytes-more : (number size : ℕ) (s t : Segment) (segments : List Segment) (rest : List ℕ) →
+    joined_bytes (number + 1) size (t ∷ segments) ≡ Some rest →
     (s.number == number) ≡ true → s.last ≡ false → (length s.bytes == size) ≡ true →
-    joined number size (s ∷ t ∷ segments) ≡ Some (s.bytes ++ rest)
-joined-more number size s t segments rest ih n l b = rw (ih, n, l, b) refl
+    joined_bytes number size (s ∷ t ∷ segments) ≡ Some (s.bytes ++ rest)
+joined_bytes-more number size s t segments rest ih n l b = rw (ih, n, l, b) refl
 
-joined-last : (number size : ℕ) (s : Segment) → (s.number == number) ≡ true → s.last ≡ true →
-    length s.bytes ≤ size → joined number size (s ∷ []) ≡ Some s.bytes
-joined-last number size s n l b = rw (n, l, le-leb (length s.bytes) size b) refl
+joined_bytes-last : (number size : ℕ) (s : Segment) → (s.number == number) ≡ true → s.last ≡ true →
+    length s.bytes ≤ size → joined_bytes number size (s ∷ []) ≡ Some s.bytes
+joined_bytes-last number size s n l b = rw (n, l, le-leb (length s.bytes) size b) refl
 
 -- n + 1 pieces, of which n are full, join as the bytes again
-joined-numbered : (kind tid number size n : ℕ) (bytes : List ℕ) → 0 < size → n * size < length bytes →
+joined_bytes-numbered_segments : (kind tid number size n : ℕ) (bytes : List ℕ) → 0 < size → n * size < length bytes →
     length bytes ≤ n * size + size →
-    joined number size (numbered kind tid number (first_pieces (suc n) size bytes)) ≡ Some bytes
-joined-numbered kind tid number size zero bytes s low high =
+    joined_bytes number size (numbered_segments kind tid number (first_pieces (suc n) size bytes)) ≡ Some bytes
+joined_bytes-numbered_segments kind tid number size zero bytes s low high =
     let e : take size bytes ≡ bytes = take_all size bytes (omega arith) in
-    joined-last number size
+    joined_bytes-last number size
     (record { kind = kind; tid = tid; number = number; last = true; bytes = take size bytes })
     (eq-eqb number number refl) refl (omega (arith, length-take size bytes)) ∙ ap Some e
-joined-numbered kind tid number size (suc n) bytes s low high =
+joined_bytes-numbered_segments kind tid number size (suc n) bytes s low high =
     let long : length (drop size bytes) ≡ length bytes - size = length-drop size bytes in
     let full : length (take size bytes) ≡ size = omega (arith, length-take size bytes) in
     let others : List (List ℕ) = first_pieces n size (drop size (drop size bytes)) in
-    joined-more number size
+    joined_bytes-more number size
     (record { kind = kind; tid = tid; number = number; last = false; bytes = take size bytes })
     (record {
       kind = kind;
@@ -109,24 +91,24 @@ joined-numbered kind tid number size (suc n) bytes s low high =
       last = is_empty others;
       bytes = take size (drop size bytes);
     })
-    (numbered kind tid (number + 1 + 1) others)
-    (drop size bytes) (joined-numbered kind tid (number + 1) size n (drop size bytes) s (omega arith)
+    (numbered_segments kind tid (number + 1 + 1) others)
+    (drop size bytes) (joined_bytes-numbered_segments kind tid (number + 1) size n (drop size bytes) s (omega arith)
     (omega arith))
     (eq-eqb number number refl) refl (eq-eqb (length (take size bytes)) size full)
     ∙ ap Some (take-append-drop size bytes)
 
-joined-own : (kind tid size n : ℕ) (bytes : List ℕ) → 0 < size → n * size < length bytes →
+joined_bytes-own : (kind tid size n : ℕ) (bytes : List ℕ) → 0 < size → n * size < length bytes →
     length bytes ≤ n * size + size →
-    joined 0 (length (take size bytes)) (numbered kind tid 0 (first_pieces (suc n) size bytes)) ≡ Some bytes
-joined-own kind tid size zero bytes s low high =
+    joined_bytes 0 (length (take size bytes)) (numbered_segments kind tid 0 (first_pieces (suc n) size bytes)) ≡ Some bytes
+joined_bytes-own kind tid size zero bytes s low high =
     let e : take size bytes ≡ bytes = take_all size bytes (omega arith) in
-    joined-last 0 (length (take size bytes))
+    joined_bytes-last 0 (length (take size bytes))
     (record { kind = kind; tid = tid; number = 0; last = true; bytes = take size bytes }) refl refl
     (omega arith) ∙ ap Some e
-joined-own kind tid size (suc n) bytes s low high =
+joined_bytes-own kind tid size (suc n) bytes s low high =
     let full : length (take size bytes) ≡ size = omega (arith, length-take size bytes) in
-    ap (λ k. joined 0 k (numbered kind tid 0 (first_pieces (suc (suc n)) size bytes))) full
-    ∙ joined-numbered kind tid 0 size (suc n) bytes s low high
+    ap (λ k. joined_bytes 0 k (numbered_segments kind tid 0 (first_pieces (suc (suc n)) size bytes))) full
+    ∙ joined_bytes-numbered_segments kind tid 0 size (suc n) bytes s low high
 
 -- an entity that is cut reads as itself, whatever segments of others stand among its own
 pub entity_of-own : (kind tid size : ℕ) (bytes : List ℕ) (segments : List Segment) → 0 < size →
@@ -136,7 +118,7 @@ unfolding entity_of
 entity_of-own kind tid size bytes segments s b own =
     let n : FullPieces (div_ceil (length bytes) size) size (length bytes) =
     full_pieces size (length bytes) s b in
-    ap (λ o. joined 0 (first_size o) o) own
-    ∙ ap (λ c. joined 0 (first_size (numbered kind tid 0 (first_pieces c size bytes)))
-    (numbered kind tid 0 (first_pieces c size bytes))) n.one_more
-    ∙ joined-own kind tid size n.full bytes s n.too_few n.enough
+    ap (λ o. joined_bytes 0 (first_size o) o) own
+    ∙ ap (λ c. joined_bytes 0 (first_size (numbered_segments kind tid 0 (first_pieces c size bytes)))
+    (numbered_segments kind tid 0 (first_pieces c size bytes))) n.one_more
+    ∙ joined_bytes-own kind tid size n.full bytes s n.too_few n.enough

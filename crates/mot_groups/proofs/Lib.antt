@@ -1,5 +1,6 @@
 pub mod Appended
 pub mod Cut
-pub mod OneToOne
+pub mod Laws
+pub mod Only
 pub mod ReadBack
 pub mod Rows

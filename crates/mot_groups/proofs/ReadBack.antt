@@ -1,35 +1,14 @@
 -- What is written as a group reads as that group.
-use Rattle.std.proofs.Common.{◌≡◌, ℕ, ◌+◌, ◌-◌, ◌*◌, ◌/◌, ◌%◌, ◌<◌, ◌≤◌, List, [], ◌∷◌, ◌++◌, Bool, true, false, eqb, refl, length, drop, arith, ap, ◌∙◌, length-append, eq-eqb, Some, All}
-use Rattle.std.proofs.lemmas.List.Elements.{All-append, All-cons, All-nil}
-use Rattle.std.proofs.Math.Seq.{take-append_seam, drop-append_seam}
+use Rattle.std.proofs.Common.{◌≡◌, ℕ, ◌+◌, ◌*◌, ◌/◌, ◌%◌, ◌<◌, ◌≤◌, List, [], ◌∷◌, ◌++◌, Bool, true, false, refl, length, drop, arith, ap, ◌∙◌, eq-eqb, Some}
 use Rattle.std.proofs.lemmas.Bool.{lt-ltb, le-leb}
-use Rattle.std.specs.Prelude.{bytes_eq, ◌==◌, if◌then◌else◌}
+use Rattle.std.specs.Prelude.{◌==◌, if◌then◌else◌}
 use Rattle.std.specs.Int.{w16, to_be_bytes}
+use Rattle.mot_base.specs.Bytes.{AreBytes}
 use Rattle.mot_base.specs.Checksum.{crc_of, without_crc, ends_in_crc}
 use Rattle.mot_base.specs.Fields.{number_in, fields}
 use Rattle.mot_base.specs.Reading.{is_empty}
-use Rattle.mot_groups.specs.Group.{Segment, GroupFields, IsGroup, group_with, header_widths, read_group, group_bytes, group_of, content_of, segment_content}
-
-cons_eq : {x y : ℕ} {xs ys : List ℕ} → x ≡ y → xs ≡ ys → x ∷ xs ≡ y ∷ ys
-cons_eq p q = cc
-
-eqb-same : (n : ℕ) → eqb n n ≡ true
-eqb-same n = eq-eqb n n refl
-
-bytes_eq-same : (xs : List ℕ) → bytes_eq xs xs ≡ true
-bytes_eq-same [] = refl
-bytes_eq-same (x ∷ xs) = rw (eqb-same x) (bytes_eq-same xs)
-
-without_crc-append : (xs : List ℕ) (a b : ℕ) → without_crc (xs ++ a ∷ b ∷ []) ≡ xs
-without_crc-append xs a b =
-    let e : length (xs ++ a ∷ b ∷ []) - 2 ≡ length xs = omega (arith, length-append xs (a ∷ b ∷ [])) in
-    rw e (take-append_seam xs (a ∷ b ∷ []))
-
-ends_in_crc-append : (xs : List ℕ) → ends_in_crc (xs ++ to_be_bytes w16 (crc_of xs)) ≡ true
-ends_in_crc-append xs =
-    let ys : List ℕ = to_be_bytes w16 (crc_of xs) in
-    let e : length (xs ++ ys) - 2 ≡ length xs = omega (arith, length-append xs ys) in
-    rw (e, take-append_seam xs ys, drop-append_seam xs ys) (bytes_eq-same ys)
+use Rattle.mot_base.proofs.Laws.{AreBytes-append, AreBytes-cons, AreBytes-to_be_bytes, cons_eq, is_empty-some, without_crc-append, ends_in_crc-append}
+use Rattle.mot_groups.specs.Group.{Segment, GroupFields, IsGroup, group_with, header_widths, read_group, bytes_of_group, group_of, content_of, segment_content}
 
 -- word stands for the last flag and the segment number
 header_fields : (kind index last number word tid size : ℕ) → word ≡ 32768 * last + number → kind < 16 →
@@ -50,7 +29,7 @@ group_with-written : (all bytes : List ℕ) (kind index last number tid : ℕ) �
     group_with all (0 ∷ 1 ∷ 1 ∷ 1 ∷ kind ∷ index ∷ 0 ∷ last ∷ number ∷ 0 ∷ 1 ∷ 2 ∷ tid ∷ 0 ∷ length bytes ∷ [])
     ≡ Some (group_of index kind tid number (last == 1) bytes)
 group_with-written all bytes kind index last number tid part crc t n m =
-    rw (part, crc, eqb-same (length bytes), lt-ltb 0 tid t, n, le-leb (length bytes + 2) 8191 m) refl
+    rw (part, crc, eq-eqb (length bytes) (length bytes) refl, lt-ltb 0 tid t, n, le-leb (length bytes + 2) 8191 m) refl
 
 read_group-covered : (index kind tid number word flag : ℕ) (bytes : List ℕ) →
     word ≡ 32768 * flag + number → flag < 2 →
@@ -70,15 +49,11 @@ read_group-covered index kind tid number word flag bytes e f k i t0 t n l0 l =
     ∙ group_with-written all bytes kind index flag number tid (ap (drop 9) (without_crc-append covered _ _))
     (ends_in_crc-append covered) t0 l0 l
 
-is_empty-some : (xs : List ℕ) → 0 < length xs → is_empty xs ≡ false
-is_empty-some [] h = absurd (omega arith)
-is_empty-some (x ∷ xs) h = refl
-
 read_group-by_last : (index kind tid number : ℕ) (last : Bool) (bytes : List ℕ) →
     IsGroup (group_of index kind tid number last bytes) →
-    read_group (group_bytes (group_of index kind tid number last bytes))
+    read_group (bytes_of_group (group_of index kind tid number last bytes))
     ≡ Some (group_of index kind tid number last bytes)
-unfolding group_bytes
+unfolding bytes_of_group
 read_group-by_last index kind tid number true bytes g =
     read_group-covered index kind tid number (32768 + number) 1 bytes refl (omega arith) g.kind g.index
     g.tid.0 g.tid.1 g.number (is_empty-some bytes g.some) g.fits
@@ -86,42 +61,35 @@ read_group-by_last index kind tid number false bytes g =
     read_group-covered index kind tid number number 0 bytes (omega arith) (omega arith) g.kind g.index
     g.tid.0 g.tid.1 g.number (is_empty-some bytes g.some) g.fits
 
-pub read_group-group_bytes : (g : GroupFields) → IsGroup g → read_group (group_bytes g) ≡ Some g
-read_group-group_bytes g is_group =
+pub read_group-bytes_of_group : (g : GroupFields) → IsGroup g → read_group (bytes_of_group g) ≡ Some g
+read_group-bytes_of_group g is_group =
     read_group-by_last g.index g.segment.kind g.segment.tid g.segment.number g.segment.last g.segment.bytes
     is_group
 
 -- the content is the segment's
-pub content_of-group_bytes : (g : GroupFields) → content_of (group_bytes g) ≡ segment_content g.segment
-unfolding group_bytes
-content_of-group_bytes g =
+pub content_of-bytes_of_group : (g : GroupFields) → content_of (bytes_of_group g) ≡ segment_content g.segment
+unfolding bytes_of_group
+content_of-bytes_of_group g =
     ap (drop 2) (without_crc-append ((112 + g.segment.kind) ∷ (16 * g.index) ∷ segment_content g.segment) _ _)
 
-abbrev pub IsByte : ℕ → Type 0
-IsByte b = b < 256
-
-two_bytes : (n : ℕ) → All IsByte (to_be_bytes w16 n)
-two_bytes n = All-cons IsByte (n / 256 % 256) (n % 256 ∷ []) (omega arith)
-    (All-cons IsByte (n % 256) [] (omega arith) (All-nil IsByte))
-
 -- a group's bytes are bytes
-pub AreBytes-group_bytes : (g : GroupFields) → IsGroup g → All IsByte g.segment.bytes →
-    All IsByte (group_bytes g)
-unfolding group_bytes
-AreBytes-group_bytes g is_group bytes =
+pub AreBytes-bytes_of_group : (g : GroupFields) → IsGroup g → AreBytes g.segment.bytes →
+    AreBytes (bytes_of_group g)
+unfolding bytes_of_group
+AreBytes-bytes_of_group g is_group bytes =
     let s : Segment = g.segment in
     let word : List ℕ = to_be_bytes w16 (if s.last then 32768 + s.number else s.number) in
     let tid : List ℕ = 18 ∷ to_be_bytes w16 s.tid in
     let size : List ℕ = to_be_bytes w16 (length s.bytes) in
-    let content : All IsByte (word ++ tid ++ size ++ s.bytes) =
-    All-append IsByte (word ++ tid ++ size) s.bytes
-    (All-append IsByte (word ++ tid) size
-    (All-append IsByte word tid (two_bytes (if s.last then 32768 + s.number else s.number))
-    (All-cons IsByte 18 (to_be_bytes w16 s.tid) (omega arith) (two_bytes s.tid)))
-    (two_bytes (length s.bytes))) bytes in
+    let content : AreBytes (word ++ tid ++ size ++ s.bytes) =
+    AreBytes-append (word ++ tid ++ size) s.bytes
+    (AreBytes-append (word ++ tid) size
+    (AreBytes-append word tid (AreBytes-to_be_bytes (if s.last then 32768 + s.number else s.number))
+    (AreBytes-cons 18 (to_be_bytes w16 s.tid) (omega arith) (AreBytes-to_be_bytes s.tid)))
+    (AreBytes-to_be_bytes (length s.bytes))) bytes in
     let kind : g.segment.kind < 16 = is_group.kind in
     let index : g.index < 16 = is_group.index in
     let covered : List ℕ = (112 + s.kind) ∷ (16 * g.index) ∷ segment_content s in
-    All-append IsByte covered (to_be_bytes w16 (crc_of covered))
-    (All-cons IsByte (112 + s.kind) (16 * g.index ∷ segment_content s) (omega arith)
-    (All-cons IsByte (16 * g.index) (segment_content s) (omega arith) content)) (two_bytes (crc_of covered))
+    AreBytes-append covered (to_be_bytes w16 (crc_of covered))
+    (AreBytes-cons (112 + s.kind) (16 * g.index ∷ segment_content s) (omega arith)
+    (AreBytes-cons (16 * g.index) (segment_content s) (omega arith) content)) (AreBytes-to_be_bytes (crc_of covered))

@@ -1,2 +1,4 @@
 pub mod Entity
 pub mod Group
+pub mod Laws
+pub mod SegmentBytes

@@ -2,8 +2,10 @@
 #![tactic(auto)]
 
 mod group;
+mod segment;
 
-pub use group::{segment_count, write_group};
+pub use group::{content_front, segment_count, write_group};
+pub use segment::SegmentBytes;
 
 #[cfg(test)]
 mod tests;

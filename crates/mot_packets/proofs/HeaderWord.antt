@@ -1,45 +1,69 @@
 -- The 16 bits of a packet's header before the useful data length.
-use Rattle.std.proofs.Common.{◌≡◌, ℕ, ◌+◌, ◌*◌, ◌%◌, ◌<◌, Bool, true, false, List, [], ◌∷◌, refl, arith}
-use Rattle.std.proofs.lemmas.Grind.{or_after_shift}
+use Rattle.std.proofs.Common.{◌≡◌, ℕ, zero, suc, ◌+◌, ◌*◌, ◌/◌, ◌%◌, ◌<◌, Bool, true, false, [], ◌∷◌, refl, arith, inl, inr}
 use Rattle.std.specs.Int.{from_bool}
-use Rattle.std.specs.Int.RustNames.{bit_or}
-use Rattle.mot_base.specs.Fields.{fields}
-use Rattle.mot_base.specs.PacketLength.{code_of}
+use Rattle.mot_base.specs.Fields.{number_in, fields}
+use Rattle.mot_base.specs.PacketLength.{IsLength, room_of, code_of}
 use Rattle.mot_base.specs.declared.packet_length.PacketLength.{PacketLength}
 use Rattle.mot_base.specs.declared.packet_length.PacketLength.TheVariants.{P24, P48, P72, P96}
-
-pub cons_eq : {x y : ℕ} {xs ys : List ℕ} → x ≡ y → xs ≡ ys → x ∷ xs ≡ y ∷ ys
-cons_eq p q = cc
-
-pub code_of_fits : (length : PacketLength) → code_of length < 4
-code_of_fits P24 = omega arith
-code_of_fits P48 = omega arith
-code_of_fits P72 = omega arith
-code_of_fits P96 = omega arith
+use Rattle.mot_base.proofs.Laws.{cons_eq}
+use Rattle.mot_packets.specs.Written.{header_word, code_of_room}
 
 pub from_bool_fits : (b : Bool) → from_bool b < 2
 from_bool_fits true = omega arith
 from_bool_fits false = omega arith
 
--- fields that are joined by shifts stand in the word
-pub fields-joined : (code index first last address : ℕ) → code < 4 → index < 4 → first < 2 → last < 2 →
-    address < 1024 →
-    let with_index = bit_or (code * 4 % 65536) index in
-    let with_first = bit_or (with_index * 2 % 65536) first in
-    let with_last = bit_or (with_first * 2 % 65536) last in
-    fields (2 ∷ 2 ∷ 1 ∷ 1 ∷ 10 ∷ []) (bit_or (with_last * 1024 % 65536) address)
-    ≡ code ∷ index ∷ first ∷ last ∷ address ∷ []
-fields-joined code index first last address c i f l a =
-    let with_index : bit_or (code * 4 % 65536) index ≡ code * 4 + index =
-    or_after_shift code 4 65536 index refl i (omega arith) in
-    let with_first : bit_or ((code * 4 + index) * 2 % 65536) first ≡ (code * 4 + index) * 2 + first =
-    or_after_shift (code * 4 + index) 2 65536 first refl f (omega arith) in
-    let with_last : bit_or (((code * 4 + index) * 2 + first) * 2 % 65536) last
-    ≡ ((code * 4 + index) * 2 + first) * 2 + last =
-    or_after_shift ((code * 4 + index) * 2 + first) 2 65536 last refl l (omega arith) in
-    let word : ℕ = ((code * 4 + index) * 2 + first) * 2 + last in
-    let whole : bit_or (word * 1024 % 65536) address ≡ word * 1024 + address =
-    or_after_shift word 1024 65536 address refl a (omega arith) in
-    rw (with_index, with_first, with_last, whole)
-    (cons_eq (omega arith) (cons_eq (omega arith) (cons_eq (omega arith) (cons_eq (omega arith)
-    (cons_eq (omega arith) refl)))))
+-- the fields of the header's three bytes
+fields-of_bytes : (code index first last address count word : ℕ) →
+    word ≡ 16384 * code + 4096 * index + 2048 * first + 1024 * last + address → code < 4 → index < 4 →
+    first < 2 → last < 2 → address < 1024 → count < 128 →
+    fields (2 ∷ 2 ∷ 1 ∷ 1 ∷ 10 ∷ 1 ∷ 7 ∷ []) (number_in ((word / 256 % 256) ∷ (word % 256) ∷ count ∷ []))
+    ≡ code ∷ index ∷ first ∷ last ∷ address ∷ 0 ∷ count ∷ []
+fields-of_bytes code index first last address count word e c i f l a n =
+    cons_eq (omega arith) (cons_eq (omega arith) (cons_eq (omega arith) (cons_eq (omega arith)
+    (cons_eq (omega arith) (cons_eq (omega arith) (cons_eq (omega arith) refl))))))
+
+pub fields-header_word : (code index address count : ℕ) (first last : Bool) → code < 4 → index < 4 →
+    address < 1024 → count < 128 →
+    let word = header_word code index first last address in
+    fields (2 ∷ 2 ∷ 1 ∷ 1 ∷ 10 ∷ 1 ∷ 7 ∷ []) (number_in ((word / 256 % 256) ∷ (word % 256) ∷ count ∷ []))
+    ≡ code ∷ index ∷ from_bool first ∷ from_bool last ∷ address ∷ 0 ∷ count ∷ []
+fields-header_word code index address count first last c i a n =
+    fields-of_bytes code index (from_bool first) (from_bool last) address count
+    (header_word code index first last address) refl c i (from_bool_fits first) (from_bool_fits last) a n
+
+pub code_of_room-room_of : (length : PacketLength) → code_of_room (room_of length) ≡ code_of length
+code_of_room-room_of P24 = refl
+code_of_room-room_of P48 = refl
+code_of_room-room_of P72 = refl
+code_of_room-room_of P96 = refl
+
+-- a packet's length by its code
+pub record HasCode (room : ℕ) : Type 0 where
+  pub fits : code_of_room room < 4
+  pub whole : room + 5 ≡ 24 * (code_of_room room + 1)
+
+pub HasCode-length : (room : ℕ) → IsLength (room + 5) → HasCode room
+HasCode-length room h = elim h [
+  | inl e ↦ record { fits = omega arith; whole = omega arith }
+  | inr h' ↦ elim h' [
+    | inl e ↦ record { fits = omega arith; whole = omega arith }
+    | inr h'' ↦ elim h'' [
+      | inl e ↦ record { fits = omega arith; whole = omega arith }
+      | inr e ↦ record { fits = omega arith; whole = omega arith }
+    ]
+  ]
+]
+
+-- the same of a length of so many times 24 bytes
+pub IsLength-code : (room code : ℕ) → room + 5 ≡ 24 * (code + 1) → code < 4 → IsLength (room + 5)
+IsLength-code room zero e h = inl (omega arith)
+IsLength-code room (suc zero) e h = inr (inl (omega arith))
+IsLength-code room (suc (suc zero)) e h = inr (inr (inl (omega arith)))
+IsLength-code room (suc (suc (suc zero))) e h = inr (inr (inr (omega arith)))
+IsLength-code room (suc (suc (suc (suc n)))) e h = absurd (omega arith)
+
+pub IsLength-room_of : (length : PacketLength) → IsLength (room_of length + 5)
+IsLength-room_of P24 = inl refl
+IsLength-room_of P48 = inr (inl refl)
+IsLength-room_of P72 = inr (inr (inl refl))
+IsLength-room_of P96 = inr (inr (inr refl))

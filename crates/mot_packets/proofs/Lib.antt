@@ -1,4 +1,7 @@
+pub mod Gathering
 pub mod HeaderWord
-pub mod Pieces
+pub mod Laws
+pub mod OfGroup
+pub mod Only
 pub mod ReadBack
 pub mod Rows

@@ -1,48 +1,22 @@
 -- What is written as a packet reads as one.
-use Rattle.std.proofs.Common.{◌≡◌, ℕ, suc, zero, ◌+◌, ◌-◌, ◌*◌, ◌/◌, ◌%◌, ◌<◌, ◌≤◌, Bool, List, [], ◌∷◌, ◌++◌, true, false, eqb, refl, length, take, drop, replicate, arith, ap, ◌∙◌, length-append, eq-eqb, Some}
+use Rattle.std.proofs.Common.{◌≡◌, ℕ, suc, zero, ◌+◌, ◌-◌, ◌*◌, ◌<◌, ◌≤◌, Bool, List, [], ◌∷◌, ◌++◌, true, false, refl, length, take, drop, replicate, arith, ap, ◌∙◌, length-append, eq-eqb, Some}
 use Rattle.std.proofs.Math.Seq.{take-append_seam, drop-append_seam}
 use Rattle.std.proofs.lemmas.Bool.{lt-ltb, le-leb}
 use Rattle.std.proofs.lemmas.List.{length-replicate}
-use Rattle.std.specs.Prelude.{bytes_eq, ◌==◌}
+use Rattle.std.proofs.lemmas.List.Elements.{All-replicate}
+use Rattle.std.specs.Prelude.{◌==◌}
 use Rattle.std.specs.List.{list_all}
 use Rattle.std.specs.Int.{w16, to_be_bytes, from_bool}
+use Rattle.mot_base.specs.Bytes.{IsByte, AreBytes}
 use Rattle.mot_base.specs.Checksum.{crc_of, without_crc, ends_in_crc}
-use Rattle.mot_base.specs.Fields.{number_in, fields}
-use Rattle.mot_base.specs.PacketLength.{room_of, code_of}
-use Rattle.mot_base.specs.declared.packet_length.PacketLength.{PacketLength}
-use Rattle.mot_base.specs.declared.packet_length.PacketLength.TheVariants.{P24, P48, P72, P96}
-use Rattle.mot_packets.specs.Packet.{packet_with, read_packet}
-use Rattle.mot_packets.proofs.HeaderWord.{cons_eq, code_of_fits}
-
-eqb-same : (n : ℕ) → eqb n n ≡ true
-eqb-same n = eq-eqb n n refl
-
-bytes_eq-same : (xs : List ℕ) → bytes_eq xs xs ≡ true
-bytes_eq-same [] = refl
-bytes_eq-same (x ∷ xs) = rw (eqb-same x) (bytes_eq-same xs)
-
-without_crc-append : (xs : List ℕ) (a b : ℕ) → without_crc (xs ++ a ∷ b ∷ []) ≡ xs
-without_crc-append xs a b =
-    let e : length (xs ++ a ∷ b ∷ []) - 2 ≡ length xs = omega (arith, length-append xs (a ∷ b ∷ [])) in
-    rw e (take-append_seam xs (a ∷ b ∷ []))
-
-ends_in_crc-append : (xs : List ℕ) → ends_in_crc (xs ++ to_be_bytes w16 (crc_of xs)) ≡ true
-ends_in_crc-append xs =
-    let ys : List ℕ = to_be_bytes w16 (crc_of xs) in
-    let e : length (xs ++ ys) - 2 ≡ length xs = omega (arith, length-append xs ys) in
-    rw (e, take-append_seam xs ys, drop-append_seam xs ys) (bytes_eq-same ys)
+use Rattle.mot_base.proofs.Laws.{AreBytes-append, AreBytes-cons, AreBytes-to_be_bytes, without_crc-append, ends_in_crc-append}
+use Rattle.mot_packets.specs.Packet.{PacketFields, packet_with, read_packet}
+use Rattle.mot_packets.specs.Written.{IsPacket, header_word, code_of_room, covered_bytes, bytes_of_packet}
+use Rattle.mot_packets.proofs.HeaderWord.{HasCode, HasCode-length, fields-header_word}
 
 zeros_are_zero : (n : ℕ) → list_all (λ b. b == 0) (replicate n 0) ≡ true
 zeros_are_zero zero = refl
 zeros_are_zero (suc n) = zeros_are_zero n
-
--- the word's fields, and the useful data length behind a command flag of 0
-header_fields : (word count : ℕ) → word < 65536 → count < 128 →
-    fields (2 ∷ 2 ∷ 1 ∷ 1 ∷ 10 ∷ 1 ∷ 7 ∷ []) (number_in ((word / 256 % 256) ∷ (word % 256) ∷ count ∷ []))
-    ≡ fields (2 ∷ 2 ∷ 1 ∷ 1 ∷ 10 ∷ []) word ++ 0 ∷ count ∷ []
-header_fields word count w n =
-    cons_eq (omega arith) (cons_eq (omega arith) (cons_eq (omega arith) (cons_eq (omega arith)
-    (cons_eq (omega arith) (cons_eq (omega arith) (cons_eq (omega arith) refl))))))
 
 packet_with-written : (all field useful : List ℕ) (code index first last address padding : ℕ) →
     drop 3 (without_crc all) ≡ field → field ≡ useful ++ replicate padding 0 → length all ≡ 24 * (code + 1) →
@@ -67,7 +41,7 @@ packet_with-written all field useful code index first last address padding f e l
       crc,
       f,
       l,
-      eqb-same (24 * (code + 1)),
+      eq-eqb (24 * (code + 1)) (24 * (code + 1)) refl,
       lt-ltb 0 address a,
       le-leb (length useful) (length field) fits,
       zeros,
@@ -75,72 +49,75 @@ packet_with-written all field useful code index first last address padding f e l
       front,
     ) refl
 
--- a header word, useful data and zeros, with the checksum word behind them, read as the word's fields and the data
-read_packet-covered : (word code index first last address padding : ℕ) (useful : List ℕ) → word < 65536 →
-    fields (2 ∷ 2 ∷ 1 ∷ 1 ∷ 10 ∷ []) word ≡ code ∷ index ∷ first ∷ last ∷ address ∷ [] → code < 4 →
-    0 < address → length useful + padding + 5 ≡ 24 * (code + 1) →
-    let covered = to_be_bytes w16 word ++ length useful ∷ (useful ++ replicate padding 0) in
-    read_packet (covered ++ to_be_bytes w16 (crc_of covered))
-    ≡ Some (record {
-      room = length (useful ++ replicate padding 0);
-      address = address;
-      index = index;
-      first = first == 1;
-      last = last == 1;
-      useful = useful;
-    })
-unfolding read_packet
-read_packet-covered word code index first last address padding useful w h c a e =
-    let covered : List ℕ = to_be_bytes w16 word ++ length useful ∷ (useful ++ replicate padding 0) in
-    let all : List ℕ = covered ++ to_be_bytes w16 (crc_of covered) in
-    let size : length all ≡ 24 * (code + 1) =
-    omega (
-      arith,
-      length-append covered (to_be_bytes w16 (crc_of covered)),
-      length-append useful (replicate padding 0),
-      length-replicate {A = ℕ} padding 0,
-    ) in
-    ap (packet_with all)
-    (header_fields word (length useful) w (omega arith) ∙ ap (λ f. f ++ 0 ∷ length useful ∷ []) h)
-    ∙ packet_with-written all (useful ++ replicate padding 0) useful code index first last address padding
-    (ap (drop 3) (without_crc-append covered _ _)) refl size (ends_in_crc-append covered) a
-
 from_bool-is_one : (b : Bool) → (from_bool b == 1) ≡ b
 from_bool-is_one true = refl
 from_bool-is_one false = refl
 
-pub room_and_code : (size : PacketLength) → room_of size + 5 ≡ 24 * (code_of size + 1)
-room_and_code P24 = refl
-room_and_code P48 = refl
-room_and_code P72 = refl
-room_and_code P96 = refl
-
--- the same at a packet's length, with zeros up to its room
-pub read_packet-written : (size : PacketLength) (word index address : ℕ) (first last : Bool)
-    (useful : List ℕ) → word < 65536 →
-    fields (2 ∷ 2 ∷ 1 ∷ 1 ∷ 10 ∷ []) word
-    ≡ code_of size ∷ index ∷ from_bool first ∷ from_bool last ∷ address ∷ [] → 0 < address →
-    length useful ≤ room_of size →
-    let covered = to_be_bytes w16 word
-    ++ length useful ∷ (useful ++ replicate (room_of size - length useful) 0) in
-    read_packet (covered ++ to_be_bytes w16 (crc_of covered))
-    ≡ Some (record {
-      room = room_of size;
-      address = address;
-      index = index;
-      first = first;
-      last = last;
-      useful = useful;
-    })
-read_packet-written size word index address first last useful w h a fits =
-    let code = code_of_fits size in
-    let rooms = room_and_code size in
-    let filled : length (useful ++ replicate (room_of size - length useful) 0) ≡ room_of size =
+-- the data field with its padding has the room
+length-field : (useful : List ℕ) (room : ℕ) → length useful ≤ room →
+    length (useful ++ replicate (room - length useful) 0) ≡ room
+length-field useful room h =
     omega (
       arith,
-      length-append useful (replicate (room_of size - length useful) 0),
-      length-replicate {A = ℕ} (room_of size - length useful) 0,
-    ) in
-    read_packet-covered word (code_of size) index (from_bool first) (from_bool last) address
-    (room_of size - length useful) useful w h code a (omega arith)
-    ∙ rw (filled, from_bool-is_one first, from_bool-is_one last) refl
+      length-append useful (replicate (room - length useful) 0),
+      length-replicate {A = ℕ} (room - length useful) 0,
+    )
+
+pub length-bytes_of_packet : (p : PacketFields) → length p.useful ≤ p.room →
+    length (bytes_of_packet p) ≡ p.room + 5
+unfolding bytes_of_packet
+length-bytes_of_packet p h =
+    omega (
+      arith,
+      length-append (covered_bytes p) (to_be_bytes w16 (crc_of (covered_bytes p))),
+      length-field p.useful p.room h,
+    )
+
+fields_again : (p : PacketFields) (room : ℕ) (first last : Bool) → room ≡ p.room → first ≡ p.first →
+    last ≡ p.last →
+    record {
+      room = room;
+      address = p.address;
+      index = p.index;
+      first = first;
+      last = last;
+      useful = p.useful;
+    } ≡ p
+fields_again p room first last r f l = rw (r, f, l) refl
+
+-- a packet that can be written reads back
+pub read_packet-bytes_of_packet : (p : PacketFields) → IsPacket p → read_packet (bytes_of_packet p) ≡ Some p
+unfolding read_packet bytes_of_packet
+read_packet-bytes_of_packet p h =
+    let code : ℕ = code_of_room p.room in
+    let covered : List ℕ = covered_bytes p in
+    let all : List ℕ = covered ++ to_be_bytes w16 (crc_of covered) in
+    let field : List ℕ = p.useful ++ replicate (p.room - length p.useful) 0 in
+    let is : HasCode p.room = HasCode-length p.room h.room in
+    let c : code < 4 = is.fits in
+    let whole : p.room + 5 ≡ 24 * (code + 1) = is.whole in
+    let useful : length p.useful ≤ p.room = h.useful in
+    let filled : length field ≡ p.room = length-field p.useful p.room h.useful in
+    let size : length all ≡ 24 * (code + 1) =
+    omega (arith, length-append covered (to_be_bytes w16 (crc_of covered))) in
+    ap (packet_with all)
+    (fields-header_word code p.index p.address (length p.useful) p.first p.last c h.index h.address.1 (omega arith))
+    ∙ packet_with-written all field p.useful code p.index (from_bool p.first) (from_bool p.last) p.address
+    (p.room - length p.useful) (ap (drop 3) (without_crc-append covered _ _)) refl size
+    (ends_in_crc-append covered) h.address.0
+    ∙ ap Some (fields_again p (length field) (from_bool p.first == 1) (from_bool p.last == 1) filled
+    (from_bool-is_one p.first) (from_bool-is_one p.last))
+
+-- a packet's bytes are bytes
+pub AreBytes-bytes_of_packet : (p : PacketFields) → length p.useful < 256 → AreBytes p.useful →
+    AreBytes (bytes_of_packet p)
+unfolding bytes_of_packet
+AreBytes-bytes_of_packet p h useful =
+    let word : ℕ = header_word (code_of_room p.room) p.index p.first p.last p.address in
+    let padding : List ℕ = replicate (p.room - length p.useful) 0 in
+    let field : AreBytes (p.useful ++ padding) =
+    AreBytes-append p.useful padding useful (All-replicate IsByte (p.room - length p.useful) 0 (omega arith)) in
+    AreBytes-append (covered_bytes p) (to_be_bytes w16 (crc_of (covered_bytes p)))
+    (AreBytes-append (to_be_bytes w16 word) (length p.useful ∷ (p.useful ++ padding)) (AreBytes-to_be_bytes word)
+    (AreBytes-cons (length p.useful) (p.useful ++ padding) h field))
+    (AreBytes-to_be_bytes (crc_of (covered_bytes p)))

@@ -1,7 +1,6 @@
-ghost use Rattle.std.specs.Prelude.{◌≡◌, ◌<◌, ◌≤◌, [], ◌∷◌};
-ghost use Rattle.std.specs.Int.{from_bool};
-ghost use Rattle.mot_base.specs.Fields.{fields};
+ghost use Rattle.std.specs.Prelude.{◌≡◌, ◌<◌, ◌≤◌};
 ghost use Rattle.mot_base.specs.PacketLength.{code_of};
+ghost use Rattle.mot_packets.specs.Written.{header_word};
 
 use mot_base::{Address, PacketLength};
 
@@ -17,12 +16,13 @@ pub struct Header {
 }
 
 impl Header {
+    ghost use Rattle.mot_base.specs.declared.numbers.TheConstants.{MAX_ADDRESS};
+
     /// Its 16 bits as a number.
     pub fn word(self) -> u16
-        ensures range { (1 ≤ self.address) × (self.address ≤ 1023) }
-        ensures fields { fields (2 ∷ 2 ∷ 1 ∷ 1 ∷ 10 ∷ []) result
-            ≡ code_of self.length ∷ self.index ∷ from_bool self.is_first ∷ from_bool self.is_last
-            ∷ self.address ∷ [] }
+        ensures range { (1 ≤ self.address) × (self.address ≤ MAX_ADDRESS) }
+        ensures word { result
+            ≡ header_word (code_of self.length) self.index self.is_first self.is_last self.address }
     {
         let with_index = u16::from(self.length.code()) << 2 | u16::from(self.index);
         let with_first = with_index << 1 | u16::from(self.is_first);

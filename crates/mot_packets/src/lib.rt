@@ -4,7 +4,7 @@
 mod header;
 mod packet;
 
-pub use packet::{Packet, cut_packet, packet_count};
+pub use packet::{MAX_PACKET, Packet, cut_packet, packet_count};
 
 #[cfg(test)]
 mod tests;

@@ -1,35 +1,53 @@
-ghost use Rattle.std.specs.Prelude.{◌≡◌, ℕ, ◌+◌, ◌<◌, ◌≤◌, List, [], ◌∷◌, ◌++◌, length, replicate, All, Some};
-ghost use Rattle.std.specs.Int.{div_ceil, to_be_bytes, w16};
+ghost use Rattle.std.specs.Prelude.{◌≡◌, ℕ, ◌+◌, ◌<◌, ◌≤◌, List, [], ◌∷◌, ◌++◌, length, replicate};
+ghost use Rattle.std.specs.Prelude.{Some, true};
+ghost use Rattle.std.specs.Int.{div_ceil};
 ghost use Rattle.arrayvec.specs.ArrayVec.{array_vec_len};
+ghost use Rattle.mot_base.specs.Bytes.{AreBytes};
 ghost use Rattle.mot_base.specs.PacketLength.{bytes_of, room_of};
 ghost use Rattle.mot_base.specs.Reading.{read_each};
 ghost use Rattle.mot_packets.specs.Cut.{piece_at, pieces_of};
-ghost use Rattle.mot_packets.specs.Gather.{gather};
-ghost use Rattle.mot_packets.specs.Packet.{read_packet};
+ghost use Rattle.mot_packets.specs.Inner.Header.{fields_of};
+ghost use Rattle.mot_packets.specs.Gather.{gather, have_address};
+ghost use Rattle.mot_packets.specs.Packet.{PacketFields, read_packet};
+ghost use Rattle.mot_packets.specs.Written.{IsPacket, bytes_of_packet, packets_of_group};
 
 use crate::header::Header;
 use arrayvec::ArrayVec;
-use byteorder::{BigEndian, ByteOrder};
-use mot_base::{Address, PacketLength, crc16};
+use mot_base::{Address, MAX_ADDRESS, PacketLength, array_append, array_append_number, crc16};
+
+/// The bytes of the longest packet.
+pub const MAX_PACKET: usize = 96;
 
 /// A packet's bytes: 24, 48, 72 or 96 of them (EN 300 401, clause 5.3.2).
-pub type Packet = ArrayVec<u8, 96>;
+pub type Packet = ArrayVec<u8, MAX_PACKET>;
 
 /// How many packets carry a group of `len` bytes: each but the last is full.
 pub fn packet_count(len: usize, full_length: PacketLength) -> usize
     ensures count { result ≡ div_ceil len (room_of full_length) }
 
-    // The packets that are cut from a group gather to it alone.
-    ensures gathers { (address index : ℕ) (group : List ℕ) (packets : List (List ℕ)) → length group ≡ len → 0 < len
+    // Packets that read as the pieces of a group gather to it alone, and behind them what they
+    // stand in front of at the same address.
+    ensures gathers { (address index : ℕ) (group : List ℕ) (packets : List (List ℕ))
+        → length group ≡ len → 0 < len
         → read_each read_packet packets ≡ Some (pieces_of (room_of full_length) address index group)
         → (length packets ≡ result) × (gather packets ≡ Some (group ∷ [])) }
+    ensures goes_on { (address index : ℕ) (group : List ℕ) (packets more : List (List ℕ))
+        (parts : List PacketFields) (groups : List (List ℕ)) → length group ≡ len → 0 < len
+        → read_each read_packet packets ≡ Some (pieces_of (room_of full_length) address index group)
+        → read_each read_packet more ≡ Some parts → have_address address parts ≡ true
+        → gather more ≡ Some groups → gather (packets ++ more) ≡ Some (group ∷ groups) }
+
+    // The packets of a group are such packets.
+    ensures packets { (address index : ℕ) (group : List ℕ) → 0 < address → address ≤ MAX_ADDRESS
+        → read_each read_packet (packets_of_group (room_of full_length) address index group)
+        ≡ Some (pieces_of (room_of full_length) address index group) }
 {
     len.div_ceil(full_length.room())
 }
 
-/// The packet that carries the bytes of a group from `at` on, as many as fit (EN 300 401, clause 5.3.2). It has the
-/// full length, but a group's last has the shortest length that holds the rest. `index` is its continuity index, 0
-/// to 3.
+/// The packet that carries the bytes of a group from `at` on, as many as fit (EN 300 401, clause
+/// 5.3.2). It has the full length, but a group's last has the shortest length that holds the rest.
+/// `index` is its continuity index, 0 to 3.
 pub fn cut_packet(
     group: &[u8],
     at: usize,
@@ -39,9 +57,19 @@ pub fn cut_packet(
 ) -> Packet
     requires inside { at < length group.now }
     requires index { index < 4 }
-    ensures reads { read_packet result.items ≡ Some (piece_at (room_of full_length) address index group.now at) }
-    ensures sized { array_vec_len result ≡ (piece_at (room_of full_length) address index group.now at).room + 5 }
-    ensures bytes { All (λ b. b < 256) result.items }
+    ensures written { result.items
+        ≡ bytes_of_packet (piece_at (room_of full_length) address index group.now at) }
+    ensures reads { read_packet result.items
+        ≡ Some (piece_at (room_of full_length) address index group.now at) }
+    ensures len { array_vec_len result
+        ≡ (piece_at (room_of full_length) address index group.now at).room + 5 }
+    ensures bytes { AreBytes result.items }
+
+    // Each packet that can be written reads back, and only its own bytes read as it.
+    ensures reads_back { (p : PacketFields) → IsPacket p
+        → read_packet (bytes_of_packet p) ≡ Some p }
+    ensures only { (bytes : List ℕ) (p : PacketFields) → AreBytes bytes
+        → read_packet bytes ≡ Some p → bytes ≡ bytes_of_packet p }
 {
     let rest = &group[at..];
     let room = full_length.room();
@@ -58,56 +86,33 @@ pub fn cut_packet(
         is_last,
         address,
     };
-    written(header, useful)
+    packet_of(header, useful)
 }
 
 /// The packet of this header and useful data; the rest of its data field is zeros.
-fn written(header: Header, useful: &[u8]) -> Packet
+fn packet_of(header: Header, useful: &[u8]) -> Packet
     requires { length useful.now ≤ room_of header.length }
-    ensures reads { read_packet result.items ≡ Some (record {
-      room = room_of header.length;
-      address = header.address;
-      index = header.index;
-      first = header.is_first;
-      last = header.is_last;
-      useful = useful.now;
-    }) }
-    ensures sized { array_vec_len result ≡ bytes_of header.length }
-    ensures bytes { All (λ b. b < 256) result.items }
+    ensures written { result.items ≡ bytes_of_packet (fields_of header useful.now) }
+    ensures reads { read_packet result.items ≡ Some (fields_of header useful.now) }
+    ensures len { array_vec_len result ≡ bytes_of header.length }
+    ensures bytes { AreBytes result.items }
 {
     let room = header.length.room();
     let mut packet = Packet::new();
-    append_number(&mut packet, header.word());
+    array_append_number(&mut packet, header.word());
     packet.push(useful.len() as u8);
-    append(&mut packet, useful);
+    array_append(&mut packet, useful);
     append_zeros(&mut packet, room - useful.len());
     let checksum = crc16(packet.as_slice());
-    append_number(&mut packet, checksum);
+    array_append_number(&mut packet, checksum);
     packet
-}
-
-/// Adds a number of 16 bits, for which there is room, its high byte first.
-fn append_number(packet: &mut Packet, number: u16)
-    requires { array_vec_len packet.old + 2 ≤ 96 }
-    ensures { packet.new.items ≡ packet.old.items ++ to_be_bytes w16 number }
-{
-    let mut bytes = [0; 2];
-    BigEndian::write_u16(&mut bytes, number);
-    append(packet, &bytes);
-}
-
-/// Adds bytes for which there is room.
-fn append(packet: &mut Packet, bytes: &[u8])
-    requires { array_vec_len packet.old + length bytes.now ≤ 96 }
-    ensures { packet.new.items ≡ packet.old.items ++ bytes.now }
-{
-    packet.try_extend_from_slice(bytes).unwrap();
 }
 
 /// Adds zeros for which there is room.
 fn append_zeros(packet: &mut Packet, count: usize)
-    requires { array_vec_len packet.old + count ≤ 96 }
-    ensures { packet.new.items ≡ packet.old.items ++ replicate count 0 }
+    requires { array_vec_len packet.old + count ≤ MAX_PACKET }
+    ensures items { packet.new.items ≡ packet.old.items ++ replicate count 0 }
+    ensures len { array_vec_len packet.new ≡ array_vec_len packet.old + count }
 {
     for _ in 0..count {
         packet.push(0);

@@ -1,16 +1,18 @@
 -- Some first bytes that were written.
-use Rattle.std.proofs.Common.{ℕ, List, [], ◌++◌, take, drop, Option, sym, ap, ◌∙◌, append_assoc, append-nil, take-append-drop}
-use Rattle.std.specs.Io.KnownBytes.{Appends}
-use Rattle.std.proofs.KnownBytes.{Appends-trans}
+use Rattle.std.proofs.Common.{ℕ, List, [], ◌++◌, take, drop, Option, Result, Ok, Err, sym, ap, ◌∙◌}
+use Rattle.std.proofs.Common.{append_assoc, append-nil, take-append-drop}
+use Rattle.std.specs.Io.KnownBytes.{Appends, Keeps}
+use Rattle.std.proofs.KnownBytes.{Appends-trans, Appends-kept}
+use Rattle.mot_server.specs.declared.serving.writing.WriteFault.{WriteFault}
+use Rattle.mot_server.specs.Inner.Writes.{Writes}
 use Rattle.mot_server.specs.Served.{WritesFront}
 
-pub WritesFront-take : (bytes : List ℕ) (at : ℕ) (old new : Option (List ℕ)) → Appends old new (take at bytes)
-    → WritesFront bytes old new
+pub WritesFront-take : (bytes : List ℕ) (at : ℕ) (old new : Option (List ℕ))
+    → Appends old new (take at bytes) → WritesFront bytes old new
 WritesFront-take bytes at old new h = record {
   written = take at bytes;
   unwritten = drop at bytes;
-  split =
-      sym (take-append-drop at bytes);
+  split = sym (take-append-drop at bytes);
   appended = h;
 }
 
@@ -43,3 +45,17 @@ WritesFront-before bytes rest old new w = record {
   split = ap (λ l. l ++ rest) w.split ∙ append_assoc w.written w.unwritten rest;
   appended = w.appended;
 }
+
+-- writing goes on after bytes that were written
+pub Writes-after : {T : Type 0} (result : Result T WriteFault) (front bytes : List ℕ)
+    (old mid new : Option (List ℕ)) → Appends old mid front → Writes result bytes mid new
+    → Writes result (front ++ bytes) old new
+Writes-after (Ok done) front bytes old mid new h w = Appends-trans old mid new front bytes h w
+Writes-after (Err fault) front bytes old mid new h w = WritesFront-after front bytes old mid new h w
+
+-- a flush keeps what was written, and may fail after all of it
+pub Writes-kept : {T : Type 0} (result : Result T WriteFault) (bytes : List ℕ)
+    (old mid new : Option (List ℕ)) → Appends old mid bytes → Keeps mid new → Writes result bytes old new
+Writes-kept (Ok done) bytes old mid new h k = Appends-kept old mid new bytes h k
+Writes-kept (Err fault) bytes old mid new h k =
+    WritesFront-all bytes old new (Appends-kept old mid new bytes h k)

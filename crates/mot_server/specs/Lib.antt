@@ -1,10 +1,7 @@
-pub mod Geometry
-pub mod Hand
-pub mod Line
-pub mod Lines
-pub mod Listing
-pub mod Program
-pub mod Progress
+pub mod Inner
+pub mod Laws
+pub mod Played
+pub mod Playing
 pub mod Raw
 pub mod Served
 pub mod Session

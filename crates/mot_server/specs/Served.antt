@@ -1,10 +1,22 @@
 -- What was read and written so far.
-use Rattle.std.specs.Prelude.{ℕ, ◌≡◌, ◌⊎◌, List, ◌∷◌, ◌++◌, length, Option, Some, None}
-use Rattle.std.specs.Io.KnownBytes.{Appends}
+use Rattle.std.specs.Prelude.{ℕ, ◌≡◌, ◌≤◌, ◌*◌, ◌⊎◌, List, ◌∷◌, ◌++◌, length, Option, Some, None}
+use Rattle.std.specs.Prelude.{Result, Ok}
+use Rattle.std.specs.Io.KnownBytes.{Appends, Consumes}
 use Rattle.mot_base.specs.declared.refusal.Refusal.{Refusal}
 use Rattle.mot_base.specs.declared.refusal.Refusal.TheVariants.{OutOfMemory, ReadFault, WriteFault}
-use Rattle.mot_server.specs.Session.{Reply, Answers, Begins, Session, text_of, texts_of}
+use Rattle.mot_lines.specs.Line.{line_of}
+use Rattle.mot_lines.specs.declared.line.Line.{Line}
+use Rattle.mot_lines.specs.declared.line.Line.TheVariants as asks
+use Rattle.mot_player.specs.Place.{Sent}
+use Rattle.mot_server.specs.declared.serving.TheConstants.{READ_SIZE}
+use Rattle.mot_server.specs.Played.{Sends, SendsWithinTurn}
+use Rattle.mot_server.specs.Session.{Reply, played, Answers, Session, text_of, texts_of}
 use Rattle.mot_server.specs.State.{ServerState}
+
+-- the reader gave these bytes, in at most so many reads
+pub record TakesInput (reads : ℕ) (unread left : Option (List ℕ)) (input : List ℕ) : Type 0 where
+  pub consumed : Consumes unread left input
+  pub bounded : length input ≤ READ_SIZE * reads
 
 -- In each of these the writer's known bytes were old and are new.
 
@@ -15,19 +27,23 @@ pub record WritesFront (bytes : List ℕ) (old new : Option (List ℕ)) : Type 0
   pub split : bytes ≡ written ++ unwritten
   pub appended : Appends old new written
 
--- the reply to a line was written
-pub record Replied (before : ServerState) (line : List ℕ) (after : ServerState)
-    (old new : Option (List ℕ)) : Type 0 where
-  pub reply : Reply
-  pub answers : Answers before line reply after
-  pub appended : Appends old new (text_of reply)
+-- What a request's answering had made when its reply was broken off: the whole reply; or some first
+-- packets of a `next` or a `turn` line's, and no more were asked for.
+pub data Begins (before : ServerState) (request : Result Line Refusal) (reply : Reply)
+    (after : ServerState) : Type 0 where
+  whole : Answers before request reply after → Begins before request reply after
+  next_begun : (count made : ℕ) (sents : List Sent) → request ≡ Ok (asks.Next count)
+      → made ≤ count → reply ≡ played sents → Sends before made sents after
+      → Begins before request reply after
+  turn_begun : (made : ℕ) (sents : List Sent) → request ≡ Ok asks.Turn → reply ≡ played sents
+      → SendsWithinTurn before made sents after → Begins before request reply after
 
--- some first bytes of the reply to a line were written
-pub record BrokenOff (before : ServerState) (line : List ℕ) (after : ServerState)
+-- the request was answered, or its answer was begun, and some first bytes of the reply were written
+pub record BrokenOff (before : ServerState) (request : Result Line Refusal) (after : ServerState)
     (old new : Option (List ℕ)) : Type 0 where
   pub reply : Reply
-  pub begins : Begins before line reply after
-  pub appended : WritesFront (text_of reply) old new
+  pub begins : Begins before request reply after
+  pub written : WritesFront (text_of reply) old new
 
 -- each of these lines was answered
 pub record Served (before after : ServerState) (lines : List (List ℕ))
@@ -47,7 +63,7 @@ pub record Stopped (before after : ServerState) (lines : List (List ℕ)) (count
   pub between : ServerState
   pub known : Option (List ℕ)
   pub served : Served before between answered old known
-  pub broken : BrokenOff between line after known new
+  pub broken : BrokenOff between (line_of line) after known new
 
 -- what ends serving: the end of the input, or one of three faults
 abbrev pub EndsServing : Option Refusal → Type 0

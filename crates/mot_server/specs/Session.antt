@@ -1,80 +1,93 @@
 -- What a server answers, line by line.
-use Rattle.std.specs.Prelude.{ℕ, ◌≡◌, List, [], ◌∷◌, ◌++◌, Ok, Err, codes}
+use Rattle.std.specs.Prelude.{ℕ, ◌≡◌, List, [], ◌∷◌, Result, Ok, Err}
 use Rattle.std.specs.List.{flat_map}
-use Rattle.std.specs.Fmt.{decimal}
-use Rattle.hex.specs.Hex.{encode_lower}
-use Rattle.mot_base.specs.declared.group_kind.GroupKind.{GroupKind}
 use Rattle.mot_base.specs.declared.refusal.Refusal.{Refusal}
 use Rattle.mot_base.specs.declared.refusal.Refusal.TheVariants.{OutOfMemory}
-use Rattle.mot_base.specs.Refusal.{number_of, name_of}
-use Rattle.mot_carousel.specs.declared.command.Command.{Command}
 use Rattle.mot_carousel.specs.declared.command.Done.{Done}
 use Rattle.mot_carousel.specs.Carousel.{Carousel, change}
-use Rattle.mot_server.specs.declared.line.Line.TheVariants.{Raw}
-use Rattle.mot_server.specs.declared.line.Line.TheVariants as asks
-use Rattle.mot_server.specs.Line.{line_of}
-use Rattle.mot_server.specs.Listing.{done_line, listing_text}
-use Rattle.mot_server.specs.Raw.{IsRaw, IsRawInPart}
+use Rattle.mot_lines.specs.declared.line.Line.{Line}
+use Rattle.mot_lines.specs.declared.line.Line.TheVariants.{Command, Raw, Next, Turn}
+use Rattle.mot_lines.specs.declared.line.Line.TheVariants as asks
+use Rattle.mot_lines.specs.Line.{line_of}
+use Rattle.mot_lines.specs.Listing.{listing_text}
+use Rattle.mot_lines.specs.Text.{done_line, packet_line, refusal_line}
+use Rattle.mot_player.specs.Place.{Sent, change_turn}
+use Rattle.mot_player.specs.Turn.{turn_of_carousel}
+use Rattle.mot_server.specs.Played.{Sends, SendsTurn, packets_sent, sent_lines}
+use Rattle.mot_server.specs.Raw.{raw_packets}
 use Rattle.mot_server.specs.State.{ServerState}
 
 pub data Reply : Type 0 where
   refused : Refusal → Reply
-  packets : List (List ℕ) → Reply
   accepted : Done → Reply
   listing : Carousel → Reply
-
--- a packet's line, in small hexadecimal digits
-abbrev pub packet_line : List ℕ → List ℕ
-packet_line packet = codes "packet " ++ encode_lower packet ++ 10 ∷ []
-
--- a refusal's line
-abbrev pub refusal_line : Refusal → List ℕ
-refusal_line r = codes "refused " ++ decimal (number_of r) ++ codes " " ++ name_of r ++ 10 ∷ []
+  packets : List (List ℕ) → Reply
+  played : List Sent → Reply
 
 -- a reply's bytes
 unfoldable pub text_of : Reply → List ℕ
 text_of (refused r) = refusal_line r
-text_of (packets ps) = flat_map packet_line ps
 text_of (accepted d) = done_line d
 text_of (listing c) = listing_text c
+text_of (packets ps) = flat_map packet_line ps
+text_of (played sents) = sent_lines sents
 
 abbrev pub texts_of : List Reply → List ℕ
 texts_of replies = flat_map text_of replies
 
--- the reply to a line, and the state after it
-pub data Answers (before : ServerState) (line : List ℕ) (reply : Reply) (after : ServerState) : Type 0 where
-  -- a refused line gets its refusal
-  refusal : (r : Refusal) → line_of line ≡ Err r → reply ≡ refused r → after ≡ before
-      → Answers before line reply after
-  -- a raw line gets the packets of its group
-  raw : (kind : GroupKind) (tid : ℕ) (body : List ℕ) (ps : List (List ℕ))
-      → line_of line ≡ Ok (Raw kind tid body) → IsRaw before.geometry kind tid body ps
-      → reply ≡ packets ps → after ≡ before → Answers before line reply after
-  -- a command is answered as the carousel's rules do: it is accepted, and changes the carousel
-  command : (c : Command) (next : Carousel) (d : Done) → line_of line ≡ Ok (asks.Command c)
-      → change before.carousel before.geometry.objects c ≡ Ok (next, d) → reply ≡ accepted d
-      → after ≡ record { geometry = before.geometry; carousel = next } → Answers before line reply after
-  -- or refused
-  refused_command : (c : Command) (r : Refusal) → line_of line ≡ Ok (asks.Command c)
-      → change before.carousel before.geometry.objects c ≡ Err r → reply ≡ refused r → after ≡ before
-      → Answers before line reply after
-  -- a list line shows the carousel
-  list : line_of line ≡ Ok asks.List → reply ≡ listing before.carousel → after ≡ before
-      → Answers before line reply after
-  -- a growth of memory that is refused may stand in any reply's place
-  no_memory : reply ≡ refused OutOfMemory → after ≡ before → Answers before line reply after
+-- a command is answered as the carousel's rules do: it is accepted and changes the carousel and with
+-- it the turn, or is refused and changes nothing
+abbrev pub reply_to_change : Result (Carousel × Done) Refusal → Reply
+reply_to_change (Ok (next, d)) = accepted d
+reply_to_change (Err r) = refused r
 
--- what may have been formed of the reply to a line, and the state then
-pub data Begins (before : ServerState) (line : List ℕ) (reply : Reply) (after : ServerState) : Type 0 where
-  whole : Answers before line reply after → Begins before line reply after
-  raw_in_part : (kind : GroupKind) (tid : ℕ) (body : List ℕ) (ps : List (List ℕ))
-      → line_of line ≡ Ok (Raw kind tid body) → IsRawInPart before.geometry kind tid body ps
-      → reply ≡ packets ps → after ≡ before → Begins before line reply after
+abbrev pub state_after_change : ServerState → Result (Carousel × Done) Refusal → ServerState
+state_after_change s (Ok (next, d)) = record {
+  geometry = s.geometry;
+  carousel = next;
+  place = change_turn (turn_of_carousel next s.geometry.segment_size) s.place;
+}
+state_after_change s (Err r) = s
+
+-- What answers a request, and the state after it. A refused line gets its refusal, a list line the
+-- carousel, a raw line the packets of its group, and none of them changes the state; a `next` line
+-- gets the packets of its requests, and a `turn` line those up to the first that ends a turn.
+unfoldable pub IsAnswer : ServerState → Result Line Refusal → Reply → ServerState → Type 0
+IsAnswer s (Err r) reply after = (reply ≡ refused r) × (after ≡ s)
+IsAnswer s (Ok (Command c)) reply after =
+    let changed = change s.carousel s.geometry.objects c in
+    (reply ≡ reply_to_change changed) × (after ≡ state_after_change s changed)
+IsAnswer s (Ok asks.List) reply after = (reply ≡ listing s.carousel) × (after ≡ s)
+IsAnswer s (Ok (Raw kind tid body)) reply after =
+    (reply ≡ packets (raw_packets s.geometry kind tid body)) × (after ≡ s)
+IsAnswer s (Ok (Next count)) reply after =
+    (sents : List Sent) × (reply ≡ played sents) × Sends s count sents after
+IsAnswer s (Ok Turn) reply after =
+    (others : ℕ) × (sents : List Sent) × (reply ≡ played sents) × SendsTurn s others sents after
+
+-- The reply to a request, and the state after it. A growth of memory that is refused may stand in
+-- any reply's place.
+pub data Answers (before : ServerState) (request : Result Line Refusal) (reply : Reply)
+    (after : ServerState) : Type 0 where
+  decided : IsAnswer before request reply after → Answers before request reply after
+  no_memory : reply ≡ refused OutOfMemory → after ≡ before → Answers before request reply after
 
 -- one reply a line, from a state to a state
 unfoldable pub Session : ServerState → List (List ℕ) → List Reply → ServerState → Type 0
 Session before [] [] after = after ≡ before
 Session before (line ∷ lines) (reply ∷ replies) after =
-    (next : ServerState) × Answers before line reply next × Session next lines replies after
+    (next : ServerState) × Answers before (line_of line) reply next
+    × Session next lines replies after
 Session before [] (reply ∷ replies) after = ⊥
 Session before (line ∷ lines) [] after = ⊥
+
+-- the packets of the replies to `next` and `turn` lines
+abbrev pub packets_in : Reply → List (List ℕ)
+packets_in (played sents) = packets_sent sents
+packets_in (refused r) = []
+packets_in (accepted d) = []
+packets_in (listing c) = []
+packets_in (packets ps) = []
+
+abbrev pub packets_played : List Reply → List (List ℕ)
+packets_played replies = flat_map packets_in replies

@@ -1,31 +1,14 @@
 //! The carousel server: lines come in, replies go out.
 #![tactic(auto)]
 
-mod bodies;
-mod commanding;
-mod description;
-mod fields;
-mod geometry;
-mod group;
-mod hand;
-mod line;
-mod listing;
-mod program;
-mod raw;
-mod reply;
-mod segment;
+mod answering;
 mod server;
 mod serving;
-mod text;
-mod writing;
 
-pub use description::Description;
-pub use geometry::Geometry;
-pub use line::{Line, parse_line};
-pub use program::run_program;
-pub use segment::SegmentBytes;
+pub use mot_base::Geometry;
+pub use mot_lines::{Description, Line, SegmentBytes, parse_line};
 pub use server::Server;
-pub use serving::{ServeEnd, serve};
+pub use serving::{MAX_READS, READ_SIZE, ServeEnd, serve};
 
 #[cfg(test)]
 mod tests;

@@ -1,13 +1,14 @@
 mod commands;
+mod playing;
 mod streams;
 
 use super::*;
-use mot_base::{GroupKind, Refusal};
+use mot_base::Refusal;
 use std::alloc::Global;
-use std::process::Abort;
-use std::rt::Files;
+use std::cell::Cell;
+use std::io::{Read, Write};
 use std::test::Fail;
-use streams::{EndlessReader, FailingReader, FailingWriter};
+use streams::{EndlessReader, FailingReader, FailingWriter, LineReader, NotingWriter};
 
 const HELLO: &[u8] = b"raw 4 2 68656c6c6f\n";
 
@@ -18,6 +19,11 @@ const TWO_LINES: &[u8] = b"raw 4 2 68656c6c6f\nraw 5 2 00\n";
 const TWO_REPLIES: &[u8] =
     b"packet 0c011074008000120002000568656c6c6f34cf0000008561\nrefused 3 BadType\n";
 
+const DIRECTORY: &[u8] = b"raw 6 1 0000000d000000000004000000\n";
+
+const DIRECTORY_PACKETS: &[u8] = b"packet 08011376008000120001000d0000000d0000000000049c3d\n\
+    packet 140105000000f10d000000000000000000000000000017ad\n";
+
 /// A server of the default geometry but for its packet length.
 fn server_of(alloc: Global, packet_length: u16) -> Result<Server, Refusal> {
     let geometry = Geometry {
@@ -27,15 +33,30 @@ fn server_of(alloc: Global, packet_length: u16) -> Result<Server, Refusal> {
     Server::new(alloc, geometry)
 }
 
-/// What is answered to an input that ends.
-fn replies(alloc: Global, packet_length: u16, input: &[u8]) -> Result<Vec<u8>, Fail> {
-    let mut server = server_of(alloc, packet_length)?;
+/// Serves; what is promised of it is not needed here.
+fn run<R: Read, W: Write>(
+    alloc: Global,
+    reader: &mut R,
+    writer: &mut W,
+    server: &mut Server,
+) -> ServeEnd {
+    serve(alloc, reader, writer, server, 100_000)
+}
+
+/// What the server answers to an input that ends.
+fn answers(alloc: Global, server: &mut Server, input: &[u8]) -> Result<Vec<u8>, Fail> {
     let mut reader = input;
     let mut written = Vec::new(alloc);
-    match serve(alloc, &mut reader, &mut written, &mut server, 1_000).fault {
+    match run(alloc, &mut reader, &mut written, server).fault {
         None => Ok(written),
         Some(fault) => Err(Fail::new(fault)),
     }
+}
+
+/// What a new server answers.
+fn replies(alloc: Global, packet_length: u16, input: &[u8]) -> Result<Vec<u8>, Fail> {
+    let mut server = server_of(alloc, packet_length)?;
+    answers(alloc, &mut server, input)
 }
 
 /// A raw line with so many digits.
@@ -48,16 +69,18 @@ fn raw_line(alloc: Global, digits: usize) -> Result<Vec<u8>, Fail> {
     Ok(line)
 }
 
+/// What a new server answers to a raw line with a body of so many bytes.
+fn raw_replies(alloc: Global, packet_length: u16, bytes: u16) -> Result<Vec<u8>, Fail> {
+    let line = raw_line(alloc, 2 * usize::from(bytes))?;
+    replies(alloc, packet_length, line.as_slice())
+}
+
 #[test]
 fn worked_rows(rt: HostRuntime) -> Result<(), Fail> {
-    let alloc = rt.alloc();
-    let directory = b"raw 6 1 0000000d000000000004000000\n".as_slice();
-    let directory_packets =
-        b"packet 08011376008000120001000d0000000d0000000000049c3d\npacket 140105000000f10d000000000000000000000000000017ad\n".as_slice();
     let rows = [
         (24, HELLO, HELLO_PACKET),
         (96, HELLO, HELLO_PACKET),
-        (24, directory, directory_packets),
+        (24, DIRECTORY, DIRECTORY_PACKETS),
         (24, TWO_LINES, TWO_REPLIES),
         (24, b"".as_slice(), b"".as_slice()),
         (24, b"raw 4 2 68656c6c6f".as_slice(), HELLO_PACKET),
@@ -65,41 +88,40 @@ fn worked_rows(rt: HostRuntime) -> Result<(), Fail> {
         (24, b"raw 04 0000000002 68656c6c6f".as_slice(), HELLO_PACKET),
     ];
     for (packet_length, input, output) in rows {
-        let written = replies(alloc, packet_length, input)?;
+        let written = replies(rt.alloc(), packet_length, input)?;
         assert_eq!(rt; written.as_slice(), output);
     }
     Ok(())
 }
 
-// The lengths and the first three bytes of the packets of bodies of so many bytes.
+/// Whether the text has this at the place.
+fn has_packet(written: &[u8], at: usize, packet: &str) -> bool {
+    match written.get(at..) {
+        Some(rest) => rest.starts_with(packet.as_bytes()),
+        None => false,
+    }
+}
+
+// Of bodies of so many bytes: where in the reply which packet begins, and the reply's length.
 #[test]
 fn lengths_and_headers(rt: HostRuntime) -> Result<(), Fail> {
-    let alloc = rt.alloc();
     let rows = [
-        (24, 27, [(24, "080113"), (24, "140113")].as_slice()),
-        (96, 80, [(96, "cc015b")].as_slice()),
-        (96, 8, [(24, "0c0113")].as_slice()),
-        (96, 9, [(48, "4c0114")].as_slice()),
-        (96, 32, [(48, "4c012b")].as_slice()),
-        (96, 33, [(72, "8c012c")].as_slice()),
-        (96, 56, [(72, "8c0143")].as_slice()),
-        (96, 57, [(96, "cc0144")].as_slice()),
-        (96, 81, [(96, "c8015b"), (24, "140101")].as_slice()),
+        (24, 27, 0, "packet 080113", 112),
+        (24, 27, 56, "packet 140113", 112),
+        (96, 80, 0, "packet cc015b", 200),
+        (96, 8, 0, "packet 0c0113", 56),
+        (96, 9, 0, "packet 4c0114", 104),
+        (96, 32, 0, "packet 4c012b", 104),
+        (96, 33, 0, "packet 8c012c", 152),
+        (96, 56, 0, "packet 8c0143", 152),
+        (96, 57, 0, "packet cc0144", 200),
+        (96, 81, 0, "packet c8015b", 256),
+        (96, 81, 200, "packet 140101", 256),
     ];
-    for (packet_length, bytes, packets) in rows {
-        let written = replies(alloc, packet_length, raw_line(alloc, 2 * bytes)?.as_slice())?;
-        let mut lines = written.as_slice().split(|byte| *byte == b'\n');
-        for (length, header) in packets {
-            let line = lines.next().ok_or("a packet is missing")?;
-            assert_eq!(rt; line.len(), 7 + 2 * *length, "body of {bytes} bytes");
-            assert_eq!(rt;
-                line.get(7..13),
-                Some(header.as_bytes()),
-                "body of {bytes} bytes"
-            );
-        }
-        assert_eq!(rt; lines.next(), Some(b"".as_slice()), "body of {bytes} bytes");
-        assert_eq!(rt; lines.next(), None, "body of {bytes} bytes");
+    for (packet_length, bytes, at, packet, total) in rows {
+        let written = raw_replies(rt.alloc(), packet_length, bytes)?;
+        assert!(rt; has_packet(&written, at, packet), "body of {bytes} bytes");
+        assert_eq!(rt; written.len(), total, "body of {bytes} bytes");
     }
     Ok(())
 }
@@ -107,44 +129,15 @@ fn lengths_and_headers(rt: HostRuntime) -> Result<(), Fail> {
 #[test]
 fn longest_segment(rt: HostRuntime) -> Result<(), Fail> {
     let alloc = rt.alloc();
-    let written = replies(alloc, 24, raw_line(alloc, 2 * 8_189)?.as_slice())?;
+    let written = raw_replies(alloc, 24, 8_189)?;
     assert_eq!(rt; written.len(), 432 * 56);
-    assert!(rt;
-        written
-            .as_slice()
-            .starts_with(b"packet 080113740080001200021ffd")
+    assert!(rt; written.starts_with(b"packet 080113740080001200021ffd"));
+    assert_eq!(rt;
+        written.get(431 * 56..431 * 56 + 13),
+        Some(b"packet 34010b".as_slice())
     );
-    assert!(rt; written.as_slice()[431 * 56..].starts_with(b"packet 34010b"));
-    let written = replies(alloc, 24, raw_line(alloc, 2 * 8_190)?.as_slice())?;
+    let written = raw_replies(alloc, 24, 8_190)?;
     assert_eq!(rt; written.as_slice(), b"refused 7 BodyTooLong\n".as_slice());
-    Ok(())
-}
-
-#[test]
-fn refused_lines(rt: HostRuntime) -> Result<(), Fail> {
-    let alloc = rt.alloc();
-    let rows = [
-        ("\n", "refused 1 BadLine\n"),
-        ("raw\n", "refused 1 BadLine\n"),
-        ("RAW 4 2 00\n", "refused 1 BadLine\n"),
-        ("raw 4 2\n", "refused 1 BadLine\n"),
-        ("raw 4 2 00 00\n", "refused 1 BadLine\n"),
-        ("raw 4 2  00\n", "refused 1 BadLine\n"),
-        ("raw 5 2 00\n", "refused 3 BadType\n"),
-        ("raw 00000000004 2 00\n", "refused 3 BadType\n"),
-        ("raw +4 2 00\n", "refused 3 BadType\n"),
-        ("raw 4 0 00\n", "refused 8 BadNumber\n"),
-        ("raw 4 65536 00\n", "refused 8 BadNumber\n"),
-        ("raw 4  00\n", "refused 8 BadNumber\n"),
-        ("raw 4 2 0\n", "refused 5 BadBody\n"),
-        ("raw 4 2 0g\n", "refused 5 BadBody\n"),
-        ("raw 4 2 00\r\n", "refused 5 BadBody\n"),
-        ("raw 4 2 \n", "refused 6 EmptyBody\n"),
-    ];
-    for (line, reply) in rows {
-        let written = replies(alloc, 24, line.as_bytes())?;
-        assert_eq!(rt; written.as_slice(), reply.as_bytes(), "{line}");
-    }
     Ok(())
 }
 
@@ -153,24 +146,17 @@ fn refused_lines(rt: HostRuntime) -> Result<(), Fail> {
 fn long_lines(rt: HostRuntime) -> Result<(), Fail> {
     let alloc = rt.alloc();
     let rows = [
-        (529_992, b"refused 7 BodyTooLong\n".as_slice()),
-        (529_993, b"refused 1 BadLine\n".as_slice()),
-        (1_100_000, b"refused 1 BadLine\n".as_slice()),
+        (529_992, "refused 7 BodyTooLong\n"),
+        (529_993, "refused 1 BadLine\n"),
+        (1_100_000, "refused 1 BadLine\n"),
     ];
     for (digits, refused) in rows {
         let mut input = raw_line(alloc, digits)?;
         input.extend_from_slice(HELLO)?;
+        let mut expected = Vec::from_slice(alloc, refused.as_bytes())?;
+        expected.extend_from_slice(HELLO_PACKET)?;
         let written = replies(alloc, 24, input.as_slice())?;
-        assert!(rt; written.as_slice().starts_with(refused), "{digits} digits");
-        assert!(rt;
-            written.as_slice().ends_with(HELLO_PACKET),
-            "{digits} digits"
-        );
-        assert_eq!(rt;
-            written.len(),
-            refused.len() + HELLO_PACKET.len(),
-            "{digits} digits"
-        );
+        assert_eq!(rt; written.as_slice(), expected.as_slice(), "{digits} digits");
     }
     Ok(())
 }
@@ -208,7 +194,7 @@ fn failing_reads(rt: HostRuntime) -> Result<(), Fail> {
         };
         let mut written = Vec::new(alloc);
         let mut server = server_of(alloc, 24)?;
-        let end = serve(alloc, &mut reader, &mut written, &mut server, 1_000);
+        let end = run(alloc, &mut reader, &mut written, &mut server);
         let (lines, output) = match fails_at {
             0..=18 => (0, b"".as_slice()),
             19..=29 => (1, HELLO_PACKET),
@@ -218,6 +204,47 @@ fn failing_reads(rt: HostRuntime) -> Result<(), Fail> {
         assert_eq!(rt; end.lines, lines, "at {fails_at}");
         assert_eq!(rt; written.as_slice(), output, "at {fails_at}");
     }
+    Ok(())
+}
+
+// Many reads of one byte are no fault.
+#[test]
+fn many_short_reads(rt: HostRuntime) -> Result<(), Fail> {
+    let alloc = rt.alloc();
+    let line = raw_line(alloc, 2 * 3_000)?;
+    let mut reader = FailingReader {
+        bytes: line.as_slice(),
+        most: 1,
+        reads: 0,
+        fails_at: 1_000_000,
+    };
+    let mut written = Vec::new(alloc);
+    let mut server = server_of(alloc, 24)?;
+    let end = run(alloc, &mut reader, &mut written, &mut server);
+    assert_eq!(rt; end.fault, None);
+    assert_eq!(rt; end.lines, 1);
+    Ok(())
+}
+
+// Each reply is written and flushed before the next line is read.
+#[test]
+fn replies_before_the_end(rt: HostRuntime) -> Result<(), Fail> {
+    let alloc = rt.alloc();
+    let flushes = Cell::new(0);
+    let mut reader = LineReader {
+        line: HELLO,
+        given: 0,
+        flushes: &flushes,
+    };
+    let mut writer = NotingWriter {
+        taken: Vec::new(alloc),
+        flushes: &flushes,
+    };
+    let mut server = server_of(alloc, 24)?;
+    let end = serve(alloc, &mut reader, &mut writer, &mut server, 5);
+    assert_eq!(rt; end.lines, 5);
+    assert_eq!(rt; reader.given, 5);
+    assert_eq!(rt; writer.taken.len(), 5 * HELLO_PACKET.len());
     Ok(())
 }
 
@@ -235,13 +262,10 @@ fn failing_writes(rt: HostRuntime) -> Result<(), Fail> {
         };
         let mut server = server_of(alloc, 24)?;
         let mut reader = TWO_LINES;
-        let end = serve(alloc, &mut reader, &mut writer, &mut server, 1_000);
+        let end = run(alloc, &mut reader, &mut writer, &mut server);
+        let lines = if room < HELLO_PACKET.len() { 0 } else { 1 };
         assert_eq!(rt; end.fault, Some(Refusal::WriteFault), "at {room}");
-        assert_eq!(rt;
-            end.lines,
-            if room < HELLO_PACKET.len() { 0 } else { 1 },
-            "at {room}"
-        );
+        assert_eq!(rt; end.lines, lines, "at {room}");
         assert_eq!(rt; writer.taken.as_slice(), &TWO_REPLIES[..room], "at {room}");
     }
     Ok(())
@@ -266,125 +290,10 @@ fn flushes(rt: HostRuntime) -> Result<(), Fail> {
         };
         let mut server = server_of(alloc, 24)?;
         let mut reader = TWO_LINES;
-        let end = serve(alloc, &mut reader, &mut writer, &mut server, 1_000);
+        let end = run(alloc, &mut reader, &mut writer, &mut server);
         assert_eq!(rt; end, ServeEnd { lines, fault }, "at {fails_at}");
         assert_eq!(rt; writer.flushes, fails_at, "at {fails_at}");
         assert_eq!(rt; writer.taken.as_slice(), output, "at {fails_at}");
     }
     Ok(())
-}
-
-#[test]
-fn parsed_line(rt: HostRuntime) -> Result<(), Fail> {
-    let Line::Raw { kind, tid, body } = parse_line(rt.alloc(), b"raw 6 65535 00fF")? else {
-        return Err(Fail::new("not a raw line"));
-    };
-    assert_eq!(rt; kind, GroupKind::Directory);
-    assert_eq!(rt; tid.get(), 65_535);
-    assert_eq!(rt; body.as_slice(), [0x00, 0xFF].as_slice());
-    Ok(())
-}
-
-/// Runs the program on the first row's line, and compares its status and what it wrote.
-fn expect_run(
-    rt: &(impl Abort + Files),
-    alloc: Global,
-    words: &[&str],
-    status: u8,
-    output: &[u8],
-    errors: &[u8],
-) {
-    let mut reader = HELLO;
-    let mut written = Vec::new(alloc);
-    let mut complaints = Vec::new(alloc);
-    let answer = run_program(rt, alloc, words, &mut reader, &mut written, &mut complaints);
-    assert_eq!(rt; answer, status, "{words:?}");
-    assert_eq!(rt; written.as_slice(), output, "{words:?}");
-    assert_eq!(rt; complaints.as_slice(), errors, "{words:?}");
-}
-
-#[test]
-fn served_geometries(rt: HostRuntime) {
-    let alloc = rt.alloc();
-    let far = b"packet 0fff1074008000120002000568656c6c6f34cf0000008ee5\n";
-    expect_run(&rt, alloc, &["memory"], 0, HELLO_PACKET, b"");
-    expect_run(
-        &rt,
-        alloc,
-        &["memory", "--packet=0048"],
-        0,
-        HELLO_PACKET,
-        b"",
-    );
-    expect_run(&rt, alloc, &["memory", "--address", "1023"], 0, far, b"");
-}
-
-#[test]
-fn refused_geometries(rt: HostRuntime) {
-    let alloc = rt.alloc();
-    let rows = [
-        ("--packet", "25"),
-        ("--objects", "70000"),
-        ("--objects", "0"),
-        ("--data", "0"),
-        ("--segment", "63"),
-        ("--address", "0"),
-    ];
-    for (option, number) in rows {
-        let words = ["memory", option, number];
-        expect_run(
-            &rt,
-            alloc,
-            words.as_slice(),
-            1,
-            b"",
-            b"motcar: 21 BadGeometry\n",
-        );
-    }
-}
-
-/// Runs the program, and looks whether it printed to the output or to the errors alone.
-fn expect_text(rt: &(impl Abort + Files), alloc: Global, words: &[&str], status: u8) {
-    let mut reader = HELLO;
-    let mut written = Vec::new(alloc);
-    let mut errors = Vec::new(alloc);
-    let answer = run_program(rt, alloc, words, &mut reader, &mut written, &mut errors);
-    assert_eq!(rt; answer, status, "{words:?}");
-    assert_eq!(rt; written.is_empty(), status == 2, "{words:?}");
-    assert_eq!(rt; errors.is_empty(), status == 0, "{words:?}");
-}
-
-#[test]
-fn wrong_words_and_help(rt: HostRuntime) {
-    let alloc = rt.alloc();
-    expect_text(&rt, alloc, &[], 2);
-    expect_text(&rt, alloc, &["play"], 2);
-    expect_text(&rt, alloc, &["memory", "--packet", "x"], 2);
-    expect_text(&rt, alloc, &["memory", "--packet", "4294967320"], 2);
-    expect_text(&rt, alloc, &["memory", "--packet=24", "--packet=24"], 2);
-    expect_text(&rt, alloc, &["--help"], 0);
-    expect_text(&rt, alloc, &["memory", "--help"], 0);
-}
-
-#[test]
-fn failing_output(rt: HostRuntime) {
-    let alloc = rt.alloc();
-    for word in ["memory", "--help"] {
-        let mut writer = FailingWriter {
-            taken: Vec::new(alloc),
-            room: 10,
-            most: 10,
-            flushes: 0,
-            fails_at: 0,
-        };
-        let mut reader = HELLO;
-        let mut errors = Vec::new(alloc);
-        let status = run_program(&rt, alloc, &[word], &mut reader, &mut writer, &mut errors);
-        assert_eq!(rt; status, 1, "{word}");
-        assert_eq!(rt;
-            errors.as_slice(),
-            b"motcar: 23 WriteFault\n".as_slice(),
-            "{word}"
-        );
-    }
 }

@@ -2,7 +2,7 @@
 #![tactic(auto)]
 
 use mot_base::Refusal;
-use mot_server::run_program;
+use mot_program::run_program;
 use std::io::{BufWriter, ErrorKind};
 use std::process::ExitCode;
 use std::{env, io};
@@ -34,12 +34,12 @@ fn run(rt: &HostRuntime) -> io::Result<u8> {
     ))
 }
 
-/// Prints why the program did not begin: there was no memory, or a word was no text.
+/// Prints why the program did not begin: there was no memory, or a word was no UTF-8.
 fn explain(rt: &impl Eprint, error: &io::Error) -> ExitCode {
     if error.kind() == ErrorKind::OutOfMemory {
         let _ = eprintln!(rt; "motcar: {}", Refusal::OutOfMemory);
         return ExitCode::from(1);
     }
-    let _ = eprintln!(rt; "motcar: {error}");
+    let _ = eprintln!(rt; "motcar: a word of the command line is no UTF-8 text");
     ExitCode::from(2)
 }

@@ -1,6 +1,7 @@
 //! Readers and writers that fail where they are told to.
 ghost use Rattle.std.specs.Prelude.{Some};
 
+use std::cell::Cell;
 use std::io;
 use std::io::{Read, Write};
 
@@ -43,7 +44,8 @@ impl Read for EndlessReader {
     }
 }
 
-/// Takes `room` bytes, at most `most` at a time, and then fails; a flush fails at `fails_at`, counted from 0.
+/// Takes `room` bytes, at most `most` at a time, and then fails; a flush fails at `fails_at`,
+/// counted from 0.
 #[derive(Drop)]
 pub struct FailingWriter {
     pub taken: Vec<u8>,
@@ -71,6 +73,47 @@ impl Write for FailingWriter {
             return Err(io::Error::from(io::ErrorKind::Other));
         }
         self.flushes = self.flushes.wrapping_add(1);
+        Ok(())
+    }
+}
+
+/// Gives a line at each read, if as many flushes were noted as lines were given before; else it
+/// fails.
+#[derive(Drop)]
+pub struct LineReader<'a> {
+    pub line: &'a [u8],
+    pub given: usize,
+    pub flushes: &'a Cell<usize>,
+}
+
+impl Read for LineReader<'_> {
+    fn read(&mut self, buf: &mut [u8]) -> io::Result<usize> {
+        if self.flushes.get() != self.given {
+            return Err(io::Error::from(io::ErrorKind::Other));
+        }
+        self.given = self.given.wrapping_add(1);
+        let mut line = self.line;
+        line.read(buf)
+    }
+}
+
+/// Takes all bytes, and notes each flush.
+#[derive(Drop)]
+pub struct NotingWriter<'a> {
+    pub taken: Vec<u8>,
+    pub flushes: &'a Cell<usize>,
+}
+
+impl Write for NotingWriter<'_> {
+    ghost contents = { λ writer. Some writer.taken.items };
+
+    fn write(&mut self, buf: &[u8]) -> io::Result<usize> {
+        self.taken.extend_from_slice(buf)?;
+        Ok(buf.len())
+    }
+
+    fn flush(&mut self) -> io::Result<()> {
+        self.flushes.set(self.flushes.get().wrapping_add(1));
         Ok(())
     }
 }

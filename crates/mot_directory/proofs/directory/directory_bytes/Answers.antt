@@ -2,9 +2,11 @@ use Rattle.std.proofs.Common.{◌≡◌, ℕ, ◌+◌, ◌<◌, ◌≤◌, List,
 use Rattle.std.proofs.lemmas.List.{take_all}
 use Rattle.mot_carousel.specs.declared.object.Object.{Object}
 use Rattle.mot_carousel.specs.declared.carousel.Carousel.{Carousel}
-use Rattle.mot_directory.specs.Directory.{DirectoryFields, IsDirectory, IsEntry, bytes_of_directory, bytes_of_entry, directory_header_bytes, entries_bytes, read_directory}
-use Rattle.mot_directory.specs.Stands.{directory_beside, directory_size, entry_beside}
-use Rattle.mot_directory.proofs.Beside.{are_entries-push, bytes_of_directory-beside, directory_of-carousel_of, entries_bytes-push, IsDirectory-beside, one_more, sum_by-next, sum_by-push}
+use Rattle.mot_directory.specs.Directory.{DirectoryFields, IsDirectory, IsEntry, bytes_of_directory, bytes_of_entry, bytes_of_directory_header, bytes_of_entries, read_directory}
+use Rattle.mot_directory.specs.Inner.Beside.{directory_beside, entry_beside}
+use Rattle.mot_directory.specs.Sizes.{directory_size}
+use Rattle.mot_directory.proofs.Beside.{are_entries-push, bytes_of_directory-beside, directory_of-carousel_of, bytes_of_entries-push, IsDirectory-beside, one_more, sum_by-next, sum_by-push}
+use Rattle.mot_directory.proofs.Described.{description_in-parameters_with}
 use Rattle.mot_directory.proofs.Fits.{read_directory-directory_of}
 use Rattle.mot_directory.proofs.ReadBack.{read_directory-bytes_of_directory}
 use Rattle.mot_directory.proofs.directory.directory_bytes.Goals as goal
@@ -34,13 +36,13 @@ loop-object-preserved c =
     let item : o ≡ get_or objects i o = rw c.deref-object-items.ensures.value at c.object-item.is in
     let next : take (i + 1) objects ≡ take i objects ++ o ∷ [] = one_more objects i o within item in
     let header : List ℕ =
-    directory_header_bytes c.directory_size-size.result (vec_len carousel.objects) carousel.period
+    bytes_of_directory_header c.directory_size-size.result (vec_len carousel.objects) carousel.period
     c.args.segment_size in
-    let entries : List ℕ = entries_bytes (map entry_beside (take i objects)) in
+    let entries : List ℕ = bytes_of_entries (map entry_beside (take i objects)) in
     record {
       items = rw (
         next,
-        entries_bytes-push (take i objects) o,
+        bytes_of_entries-push (take i objects) o,
         c.append_entry.ensures.items,
         c.loop-object.invariant.items,
       ) (append_assoc header entries (bytes_of_entry (entry_beside o)));
@@ -109,3 +111,9 @@ returns-clause-reads_back c = read_directory-bytes_of_directory
 
 pub returns-clause-carousels : goal.returns-clause-carousels
 returns-clause-carousels c = read_directory-directory_of
+
+pub returns-in_err-out-clause-described : goal.returns-in_err-out-clause-described
+returns-in_err-out-clause-described c = λ o. description_in-parameters_with o.name o.mime o.version
+
+pub returns-clause-described : goal.returns-clause-described
+returns-clause-described c = λ o. description_in-parameters_with o.name o.mime o.version

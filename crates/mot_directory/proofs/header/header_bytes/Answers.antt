@@ -1,7 +1,7 @@
 use Rattle.std.proofs.Common.{refl}
-use Rattle.mot_directory.specs.Stands.{header_beside}
+use Rattle.mot_directory.specs.Inner.Beside.{header_beside}
 use Rattle.mot_directory.proofs.Beside.{header_of-object_of}
-use Rattle.mot_directory.proofs.Described.{described-parameters_with}
+use Rattle.mot_directory.proofs.Described.{description_in-parameters_with}
 use Rattle.mot_directory.proofs.ReadBack.{read_header-bytes_of_header, take-header_size_in}
 use Rattle.mot_directory.proofs.header.header_bytes.Goals as goal
 
@@ -12,7 +12,7 @@ pub returns-in_err-out-clause-cut : goal.returns-in_err-out-clause-cut
 returns-in_err-out-clause-cut c = take-header_size_in
 
 pub returns-in_err-out-clause-described : goal.returns-in_err-out-clause-described
-returns-in_err-out-clause-described c = λ o. described-parameters_with o.name o.mime o.version
+returns-in_err-out-clause-described c = λ o. description_in-parameters_with o.name o.mime o.version
 
 pub returns-clause-reads : goal.returns-clause-reads
 returns-clause-reads c =
@@ -46,4 +46,4 @@ pub returns-clause-cut : goal.returns-clause-cut
 returns-clause-cut c = take-header_size_in
 
 pub returns-clause-described : goal.returns-clause-described
-returns-clause-described c = λ o. described-parameters_with o.name o.mime o.version
+returns-clause-described c = λ o. description_in-parameters_with o.name o.mime o.version

@@ -2,14 +2,14 @@ use Rattle.std.proofs.Common.{◌≡◌, ◌+◌, ◌*◌, ℕ, List, ◌∷◌,
 use Rattle.std.specs.Int.{to_be_bytes, w16}
 use Rattle.mot_base.specs.Checksum.{crc_of}
 use Rattle.mot_base.specs.GroupKind.{kind_number}
-use Rattle.mot_groups.specs.Group.{group_bytes, group_of, segment_content}
+use Rattle.mot_groups.specs.Group.{bytes_of_group, content_head, group_of, segment_content}
 use Rattle.mot_groups.proofs.Appended.{header-appended, kind_number_fits, rest_of-append}
-use Rattle.mot_groups.proofs.ReadBack.{read_group-group_bytes, content_of-group_bytes}
-use Rattle.mot_groups.proofs.OneToOne.{read_group-one_to_one, read_group-only}
+use Rattle.mot_groups.proofs.ReadBack.{read_group-bytes_of_group}
+use Rattle.mot_groups.proofs.Only.{read_group-only}
 use Rattle.mot_groups.proofs.group.write_group.Goals as goal
 
 pub returns-clause-written : goal.returns-clause-written
-unfolding group_bytes
+unfolding bytes_of_group
 returns-clause-written c =
     let kind : ℕ = kind_number c.args.kind in
     let segment : List ℕ = c.args.segment.now in
@@ -19,17 +19,14 @@ returns-clause-written c =
     let before : c.append-3.new.out.items ≡ c.args.out.now.items ++ covered =
     rw (
       c.append-3.ensures.items,
-      c.append_number-3.ensures.items,
-      c.append_number-2.ensures.items,
       c.append-2.ensures.items,
-      c.append_number.ensures.items,
       c.append.ensures.items,
+      c.content_front.ensures,
       c.number.ensures,
-      c.from.ensures,
-      c.get.ensures.value,
     )
-    (header-appended c.args.out.now.items segment kind c.args.index c.args.number c.args.tid
-    (length segment) c.args.last (kind_number_fits c.args.kind) (omega arith) (omega arith)) in
+    (header-appended c.args.out.now.items
+    (content_head c.args.number c.args.last c.args.tid (length segment)) segment kind c.args.index
+    (kind_number_fits c.args.kind) (omega arith)) in
     let checksum : c.crc16-checksum.result ≡ crc_of covered =
     rw (
       c.crc16-checksum.ensures,
@@ -37,12 +34,12 @@ returns-clause-written c =
       before,
       rest_of-append c.args.out.now.items covered c.len-start.result (omega arith),
     ) refl in
-    rw (c.append_number-4.ensures.items, checksum, before)
+    rw (c.append_number.ensures.items, checksum, before)
     (append_assoc c.args.out.now.items covered (to_be_bytes w16 (crc_of covered)))
 
 pub returns-clause-reads : goal.returns-clause-reads
 returns-clause-reads c =
-    read_group-group_bytes
+    read_group-bytes_of_group
     (group_of c.args.index (kind_number c.args.kind) c.args.tid c.args.number c.args.last
     c.args.segment.now)
     (record {
@@ -54,14 +51,5 @@ returns-clause-reads c =
       fits = omega arith;
     })
 
-pub returns-clause-reads_back : goal.returns-clause-reads_back
-returns-clause-reads_back c = read_group-group_bytes
-
-pub returns-clause-content : goal.returns-clause-content
-returns-clause-content c = content_of-group_bytes
-
 pub returns-clause-only : goal.returns-clause-only
 returns-clause-only c = read_group-only
-
-pub returns-clause-one_to_one : goal.returns-clause-one_to_one
-returns-clause-one_to_one c = read_group-one_to_one

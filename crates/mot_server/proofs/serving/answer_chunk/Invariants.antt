@@ -1,10 +1,10 @@
 use Rattle.std.proofs.Common.{◌≡◌, ℕ, ◌+◌, ◌≤◌, List, ◌++◌, length, Option}
 use Rattle.mot_server.specs.State.{ServerState}
-use Rattle.mot_server.specs.Progress.{Progress}
+use Rattle.mot_server.specs.Inner.Progress.{Progress}
 use Rattle.mot_server.proofs.serving.answer_chunk.Given as goal
 
-abbrev pub invariant-loop-end : goal.invariant-loop-end
-invariant-loop-end g l = record {
+abbrev pub invariant-loop-line : goal.invariant-loop-line
+invariant-loop-line g l = record {
   bound : l.lines + length l.rest ≤ l.initial.lines + length l.chunk;
   taken : (front : List ℕ) × (front ++ l.rest ≡ l.chunk)
       × ((before : ServerState) (old : Option (List ℕ)) (input : List ℕ)
@@ -13,5 +13,5 @@ invariant-loop-end g l = record {
       → Progress before old (input ++ front) l.hand l.lines l.server (g.W.Write.contents l.writer));
 }
 
-abbrev pub decreases-loop-end : goal.decreases-loop-end
-decreases-loop-end g l = length l.rest
+abbrev pub decreases-loop-line : goal.decreases-loop-line
+decreases-loop-line g l = length l.rest

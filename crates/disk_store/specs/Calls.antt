@@ -1,0 +1,84 @@
+-- The calls on a file and what they answered, and what the disk model makes of them.
+use Rattle.std.specs.Prelude.{◌≡◌, ℕ, zero, suc, ◌+◌, ◌<◌, List, [], ◌∷◌, ◌++◌, length, take}
+use Rattle.std.specs.Prelude.{replicate, All}
+use Rattle.std.specs.Prelude.{slice_index, slice_range}
+use Rattle.disk_store.specs.Content.{Content, at_start, after_write, after_touch, after_sync}
+use Rattle.disk_store.specs.Content.{replay}
+
+-- A call and its answer.
+pub data Call : Type 0 where
+  -- the lock was taken
+  Locked : Call
+  -- a file that was there was this long
+  Opened : (len : ℕ) → Call
+  -- a new file was made this long
+  Made : (len : ℕ) → Call
+  -- a read at this position gave these bytes
+  Gave : (at : ℕ) (bytes : List ℕ) → Call
+  -- these bytes were written
+  Wrote : (at : ℕ) (bytes : List ℕ) → Call
+  -- these bytes were to be written, and the call failed
+  FailedWrite : (at : ℕ) (bytes : List ℕ) → Call
+  -- a sync succeeded
+  Synced : Call
+
+-- A call by a number for its kind, a position or a length, and bytes: so it is noted, since nothing
+-- in memory is a call.
+abbrev pub call_of_kind : ℕ → ℕ → List ℕ → Call
+call_of_kind zero at bytes = Locked
+call_of_kind (suc zero) at bytes = Opened at
+call_of_kind (suc (suc zero)) at bytes = Made at
+call_of_kind (suc (suc (suc zero))) at bytes = Gave at bytes
+call_of_kind (suc (suc (suc (suc zero)))) at bytes = Wrote at bytes
+call_of_kind (suc (suc (suc (suc (suc zero))))) at bytes = FailedWrite at bytes
+call_of_kind (suc (suc (suc (suc (suc (suc more)))))) at bytes = Synced
+
+abbrev pub call_of : List ℕ → List ℕ → Call
+call_of numbers bytes = call_of_kind (slice_index numbers 0) (slice_index numbers 1) bytes
+
+-- the first of these bytes, with zeros behind them where there are fewer
+abbrev pub first_bytes : ℕ → List ℕ → List ℕ
+first_bytes len bytes = take len (bytes ++ replicate len 0)
+
+-- before the opening
+abbrev pub no_content : Content
+no_content = at_start []
+
+-- the answer is what a file of the model that holds this gives: of a read, its bytes
+abbrev pub IsRight : Call → Content → Type 0
+IsRight Locked s = Unit {0}
+IsRight (Opened len) s = Unit {0}
+IsRight (Made len) s = Unit {0}
+IsRight (Gave at bytes) s = bytes ≡ slice_range s.bytes at (at + length bytes)
+IsRight (Wrote at bytes) s = Unit {0}
+IsRight (FailedWrite at bytes) s = Unit {0}
+IsRight Synced s = Unit {0}
+
+-- a file that holds these bytes as it is opened
+module _ (first : List ℕ) where
+  -- What a file of the model holds after a call. One that was made has zeros. A write that failed
+  -- leaves the old bytes to be read.
+  abbrev pub after_call : Call → Content → Content
+  after_call Locked s = s
+  after_call (Opened len) s = at_start (first_bytes len first)
+  after_call (Made len) s = at_start (replicate len 0)
+  after_call (Gave at bytes) s = s
+  after_call (Wrote at bytes) s = after_write at bytes s
+  after_call (FailedWrite at bytes) s = after_touch at (length bytes) s
+  after_call Synced s = after_sync s
+
+  -- each answer is the one of a file of the model that held this before
+  abbrev pub AreRight : List Call → Content → Type 0
+  AreRight [] s = Unit {0}
+  AreRight (call ∷ calls) s = IsRight call s × AreRight calls (after_call call s)
+
+  -- what a file of the model holds after these calls
+  abbrev pub content_after : List Call → Content
+  content_after calls = replay after_call calls no_content
+
+  -- The file is this long, and nothing but its opening has happened.
+  pub record HasBegun (len : ℕ) (calls : List Call) : Type 0 where
+    pub firm : content_after calls ≡ at_start (content_after calls).bytes
+    pub len_is : length (content_after calls).bytes ≡ len
+    pub are_bytes : All (λ b. b < 256) (content_after calls).bytes
+    pub are_right : AreRight calls no_content

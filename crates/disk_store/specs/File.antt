@@ -1,0 +1,31 @@
+-- A file as a disk.
+use Rattle.std.specs.Prelude.{List, IsTrue, IsFalse}
+use Rattle.disk_store.specs.Disk.{State}
+use Rattle.disk_store.specs.Content.{Content, replayed_state}
+use Rattle.disk_store.specs.Calls.{Call, after_call, content_after, no_content, AreRight}
+use Rattle.disk_store.specs.declared.file.start.Start.{Ghosts}
+use Rattle.disk_store.specs.declared.file.FileDiskFrom.{FileDiskFrom}
+
+-- a file that held these bytes as it was opened
+module _ {S : Type 0} {start : Ghosts S} where
+  -- the calls so far, with their answers
+  abbrev pub calls_on : FileDiskFrom S start → List Call
+  calls_on disk = disk.history.calls
+
+  -- what a file of the model holds after the calls so far
+  abbrev pub file_content : FileDiskFrom S start → Content
+  file_content disk = content_after start.bytes (calls_on disk)
+
+  -- All that contracts know of it as a disk. It is honest as long as each answer is that of a file
+  -- of the model.
+  abbrev pub file_state : FileDiskFrom S start → State
+  file_state disk = replayed_state (after_call start.bytes) no_content (calls_on disk)
+      (file_content disk) (AreRight start.bytes (calls_on disk) no_content) disk.failures
+
+  -- no sync of it has failed
+  abbrev pub CanSync : FileDiskFrom S start → Type 0
+  CanSync disk = IsTrue disk.can_sync
+
+  -- a sync of it has failed, and each later one fails
+  abbrev pub HasFailedSync : FileDiskFrom S start → Type 0
+  HasFailedSync disk = IsFalse disk.can_sync

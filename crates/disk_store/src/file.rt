@@ -1,0 +1,38 @@
+//! A disk that is a file of the operating system. All that is assumed of files stands in this
+//! folder.
+ghost use Rattle.std.specs.Prelude.{◌≡◌, ◌<◌, length, All};
+ghost use Rattle.disk_store.specs.Calls.{content_after};
+
+mod calls;
+mod history;
+mod opening;
+mod start;
+
+use history::History;
+pub use start::{Start, Unknown};
+use std::fs::File;
+use std::marker::PhantomData;
+
+/// A regular file or a block device, as long as it was when it was opened. A lock that other
+/// programs may ignore keeps it from being opened so a second time.
+///
+/// No contract says what a file gives. The disk is honest as long as each of its reads gave what
+/// was written there last or, where nothing was, what the file held as it was opened. That is what
+/// `S` says, and the opening reads none of it. A file that was made held zeros.
+#[derive(Drop)]
+pub struct FileDiskFrom<S: Start> {
+    file: File,
+    len: u64,
+    failures: u64,
+    can_sync: bool,
+    history: History,
+    /// What the file held as it was opened. Only clauses read it.
+    start: PhantomData<S>,
+    ghost len_is: { length (content_after S.Start.bytes history.calls).bytes ≡ len },
+    ghost loose_len: { length (content_after S.Start.bytes history.calls).loose
+        ≡ length (content_after S.Start.bytes history.calls).bytes },
+    ghost are_bytes: { All (λ b. b < 256) (content_after S.Start.bytes history.calls).bytes },
+}
+
+/// A file whose first bytes are not spoken of.
+pub type FileDisk = FileDiskFrom<Unknown>;

@@ -1,0 +1,113 @@
+//! The calls on a file as a disk. Each makes the system's call that it notes, on the bytes that it
+//! notes: no contract can say so, and a reader of this file has to see it.
+ghost use Rattle.std.specs.Prelude.{◌≡◌, ◌⊎◌, ◌+◌, ◌≤◌, [], ◌∷◌, ◌++◌, length, slice_range};
+ghost use Rattle.std.specs.Prelude.{OnOk, OnErr, IsErr};
+ghost use Rattle.disk_store.specs.Calls.{Gave, Wrote, FailedWrite, Synced};
+ghost use Rattle.disk_store.specs.Disk.{Keeps, KeepsLength, HasCause, IsUnchanged, IsStill, Writes};
+ghost use Rattle.disk_store.specs.Disk.{IsMarked, IsFirm};
+
+use super::{FileDiskFrom, Start};
+use crate::{Disk, DiskFault};
+use std::os::unix::fs::FileExt;
+
+impl<S: Start> Disk for FileDiskFrom<S> {
+    ghost use Rattle.disk_store.specs.File.{file_state, calls_on, CanSync, HasFailedSync};
+    ghost use Rattle.disk_store.specs.Inner.FileSound.{file_sound};
+
+    ghost state = { file_state };
+
+    ghost sound = { λ disk honest. file_sound disk };
+
+    fn len(&self) -> u64 {
+        self.len
+    }
+
+    fn read(&mut self, at: u64, out: &mut [u8]) -> Result<(), DiskFault>
+        requires { at + length out.old ≤ (file_state self.old).len }
+        ensures keeps { KeepsLength (file_state self.old) (file_state self.new) }
+        ensures cause { HasCause (file_state self.old) (file_state self.new) result }
+        ensures unchanged { (file_state self.old).IsHonest
+            → IsUnchanged (file_state self.old) (file_state self.new) }
+        ensures bytes { (file_state self.new).IsHonest → OnOk result
+            (out.new ≡ slice_range (file_state self.old).bytes at (at + length out.old)) }
+        ensures honest { (file_state self.old).IsHonest → OnOk result
+            (out.new ≡ slice_range (file_state self.old).bytes at (at + length out.old))
+            → (file_state self.new).IsHonest }
+
+        ensures noted { OnOk result
+            (calls_on self.new ≡ calls_on self.old ++ Gave at out.new ∷ []) }
+        ensures failed { OnErr result (calls_on self.new ≡ calls_on self.old) }
+        ensures syncs { self.new.can_sync ≡ self.old.can_sync }
+    {
+        if self.failures == u64::MAX {
+            return Err(DiskFault);
+        }
+        let Ok(()) = self.file.read_exact_at(out, at) else {
+            self.failures += 1;
+            return Err(DiskFault);
+        };
+        self.history.gave(at, out);
+        Ok(())
+    }
+
+    fn write(&mut self, at: u64, bytes: &[u8]) -> Result<(), DiskFault>
+        requires { at + length bytes.now ≤ (file_state self.old).len }
+        ensures keeps { Keeps (file_state self.old) (file_state self.new) }
+        ensures cause { HasCause (file_state self.old) (file_state self.new) result }
+        ensures range { (file_state self.old).IsHonest
+            → Writes at (length bytes.now) (file_state self.old) (file_state self.new) }
+        ensures bytes { (file_state self.old).IsHonest → OnOk result
+            (slice_range (file_state self.new).bytes at (at + length bytes.now) ≡ bytes.now) }
+        ensures marked { (file_state self.old).IsHonest
+            → OnOk result (IsMarked at (length bytes.now) (file_state self.new)) }
+        ensures failed { (file_state self.old).IsHonest
+            → OnErr result (IsMarked at (length bytes.now) (file_state self.new)
+            ⊎ IsUnchanged (file_state self.old) (file_state self.new)) }
+
+        ensures noted { OnOk result
+            (calls_on self.new ≡ calls_on self.old ++ Wrote at bytes.now ∷ []) }
+
+        // What failed is not noted as done: the old bytes are what a read is to give.
+        ensures noted_failure { OnErr result
+            ((calls_on self.new ≡ calls_on self.old ++ FailedWrite at bytes.now ∷ [])
+            ⊎ (calls_on self.new ≡ calls_on self.old)) }
+        ensures syncs { self.new.can_sync ≡ self.old.can_sync }
+    {
+        if self.failures == u64::MAX {
+            return Err(DiskFault);
+        }
+        let Ok(()) = self.file.write_all_at(bytes, at) else {
+            self.failures += 1;
+            self.history.failed_write(at, bytes);
+            return Err(DiskFault);
+        };
+        self.history.wrote(at, bytes);
+        Ok(())
+    }
+
+    fn sync(&mut self) -> Result<(), DiskFault>
+        ensures keeps { Keeps (file_state self.old) (file_state self.new) }
+        ensures cause { HasCause (file_state self.old) (file_state self.new) result }
+        ensures still { (file_state self.old).IsHonest
+            → IsStill (file_state self.old) (file_state self.new) }
+        ensures firm { (file_state self.old).IsHonest → OnOk result (IsFirm (file_state self.new)) }
+        ensures failed { (file_state self.old).IsHonest
+            → OnErr result (IsUnchanged (file_state self.old) (file_state self.new)) }
+
+        ensures noted { OnOk result (calls_on self.new ≡ calls_on self.old ++ Synced ∷ []) }
+
+        // Once a sync has failed, each later one fails: the system may have dropped what it should
+        // have written, and report the next sync as a success.
+        ensures lasts { HasFailedSync self.old → IsErr result }
+        ensures remembered { OnErr result (HasFailedSync self.new) }
+        ensures goes_on { OnOk result (CanSync self.new) }
+    {
+        self.can_sync = self.can_sync && self.failures < u64::MAX && self.file.sync_data().is_ok();
+        if !self.can_sync {
+            self.failures = self.failures.saturating_add(1);
+            return Err(DiskFault);
+        }
+        self.history.synced();
+        Ok(())
+    }
+}

@@ -1,0 +1,151 @@
+//! Rows of real files. Each test makes a folder of its own where it runs, and takes it away again.
+use super::*;
+use std::os::unix;
+
+// A folder of this name with nothing in it.
+fn make_empty_folder(rt: &HostRuntime, name: &str) -> Result<(), Fail> {
+    let _ = fs::remove_dir_all(rt, name);
+    fs::create_dir(rt, name)?;
+    Ok(())
+}
+
+// What was written and synced is read from the file that a crash of another disk may have left.
+#[test]
+fn a_synced_write_is_read_after_a_crash(rt: HostRuntime) -> Result<(), Fail> {
+    make_empty_folder(&rt, "crash.test")?;
+    let path = "crash.test/disk";
+    let mut file: FileDisk = FileDisk::create(&rt, path, 8)?;
+    if file.len() == 8 {
+        file.write(2, &[1, 2, 3])?;
+    }
+    drop(file);
+    let mut disk = MemoryDisk::new(rt.alloc(), 8).ok_or("memory")?;
+    let mut back = [0; 3];
+    let next = read_after_crash(&mut disk, 2, &[1, 2, 3], &rt, path, Unknown, &mut back)?;
+    assert_eq!(rt; back, [1, 2, 3]);
+    drop(next);
+    fs::remove_dir_all(&rt, "crash.test")?;
+    Ok(())
+}
+
+// The bytes of a file come back when it is opened again, and no path is opened twice at a time.
+#[test]
+fn a_file_is_a_disk(rt: HostRuntime) -> Result<(), Fail> {
+    make_empty_folder(&rt, "again.test")?;
+    let path = "again.test/disk";
+    {
+        let mut disk = FileDisk::create(&rt, path, 8)?;
+        assert_eq!(rt; disk.len(), 8);
+        if disk.len() == 8 {
+            assert_eq!(rt; bytes_of(&mut disk)?, [0; 8]);
+            disk.write(2, &[1, 2, 3])?;
+            copy_byte(&mut disk, 3, 7)?;
+        }
+        assert!(rt; FileDisk::open(&rt, path).is_err());
+    }
+    let mut disk = FileDisk::open(&rt, path)?;
+    assert_eq!(rt; disk.len(), 8);
+    if disk.len() == 8 {
+        assert_eq!(rt; bytes_of(&mut disk)?, [0, 0, 1, 2, 3, 0, 0, 2]);
+        assert_eq!(rt; leading_zeros(&mut disk)?, 2);
+    }
+    drop(disk);
+    let (_disk, zeros) = zeros_of(&rt, path, Unknown)?;
+    assert_eq!(rt; zeros, 2);
+    fs::remove_dir_all(&rt, "again.test")?;
+    Ok(())
+}
+
+// What has the name already is left as it is, a link to nothing among it.
+#[test]
+fn only_a_new_name_is_made(rt: HostRuntime) -> Result<(), Fail> {
+    make_empty_folder(&rt, "made.test")?;
+    fs::write(&rt, "made.test/file", "abc")?;
+    fs::create_dir(&rt, "made.test/folder")?;
+    unix::fs::symlink(&rt, "nothing", "made.test/link")?;
+    assert!(rt; FileDisk::create(&rt, "made.test/file", 8).is_err());
+    assert!(rt; FileDisk::create(&rt, "made.test/folder", 8).is_err());
+    assert!(rt; FileDisk::create(&rt, "made.test/link", 8).is_err());
+    assert!(rt; FileDisk::create(&rt, "made.test/missing/disk", 8).is_err());
+    assert_eq!(rt; fs::metadata(&rt, "made.test/file")?.len(), 3);
+    assert!(rt; !fs::exists(&rt, "made.test/nothing")?);
+    fs::remove_dir_all(&rt, "made.test")?;
+    Ok(())
+}
+
+// A folder, nothing and a character device are no disks, nor is a file that may not be written: no
+// user may write a program while it runs, not even root. An empty file is a disk of no bytes.
+#[test]
+fn only_a_file_that_may_be_written_is_opened(rt: HostRuntime) -> Result<(), Fail> {
+    make_empty_folder(&rt, "opened.test")?;
+    assert!(rt; FileDisk::open(&rt, "opened.test").is_err());
+    assert!(rt; FileDisk::open(&rt, "opened.test/missing").is_err());
+    assert!(rt; FileDisk::open(&rt, "/dev/null").is_err());
+    assert!(rt; FileDisk::open(&rt, "/proc/self/exe").is_err());
+    fs::write(&rt, "opened.test/empty", "")?;
+    let mut disk = FileDisk::open(&rt, "opened.test/empty")?;
+    assert_eq!(rt; disk.len(), 0);
+    assert_eq!(rt; disk.sync(), Ok(()));
+    fs::remove_dir_all(&rt, "opened.test")?;
+    Ok(())
+}
+
+// Writes the last byte of a disk.
+fn write_end<D: Disk>(disk: &mut D, byte: u8) -> Result<(), DiskFault> {
+    let len = disk.len();
+    if len == 0 {
+        return Err(DiskFault);
+    }
+    disk.write(len - 1, &[byte])?;
+    disk.sync()
+}
+
+// How long a disk is, and its last byte.
+fn end_of<D: Disk>(disk: &mut D) -> Result<(u64, u8), DiskFault> {
+    let len = disk.len();
+    if len == 0 {
+        return Err(DiskFault);
+    }
+    let mut byte = [1];
+    disk.read(len - 1, &mut byte)?;
+    Ok((len, byte[0]))
+}
+
+// The same of a file that is made so long, written at its very end, and opened again.
+fn end_of_new(rt: &HostRuntime, path: &str, len: u64, byte: u8) -> Result<(u64, u8), DiskFault> {
+    let mut made = FileDisk::create(rt, path, len)?;
+    write_end(&mut made, byte)?;
+    drop(made);
+    end_of(&mut FileDisk::open(rt, path)?)
+}
+
+// A file that is longer than a memory is made and opened at once, since none of it is read.
+#[test]
+fn the_last_byte_of_a_long_file_is_written(rt: HostRuntime) -> Result<(), Fail> {
+    make_empty_folder(&rt, "long.test")?;
+    assert_eq!(rt;
+        end_of_new(&rt, "long.test/disk", 1 << 42, 7)?,
+        (1 << 42, 7)
+    );
+    fs::remove_dir_all(&rt, "long.test")?;
+    Ok(())
+}
+
+// A file that lost its end behind the disk's back gives a fault, and not other bytes.
+#[test]
+fn a_short_read_is_a_fault(rt: HostRuntime) -> Result<(), Fail> {
+    make_empty_folder(&rt, "short.test")?;
+    let path = "short.test/disk";
+    let mut disk = FileDisk::create(&rt, path, 8)?;
+    fs::File::options().write(true).open(&rt, path)?.set_len(4)?;
+    assert_eq!(rt; disk.len(), 8);
+    if disk.len() == 8 {
+        let mut bytes = [0; 2];
+        assert_eq!(rt; disk.read(2, &mut bytes), Ok(()));
+        assert_eq!(rt; disk.read(3, &mut bytes), Err(DiskFault));
+        assert_eq!(rt; disk.read(0, &mut bytes), Ok(()));
+    }
+    drop(disk);
+    fs::remove_dir_all(&rt, "short.test")?;
+    Ok(())
+}

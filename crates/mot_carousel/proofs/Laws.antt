@@ -1,0 +1,7 @@
+-- What holds of the definitions, for the crates above.
+
+-- the next free id is the nearest above the cursor
+pub use Rattle.mot_carousel.proofs.NextFree.{next_free_id-nearest}
+-- commands keep carousels sound, and one more goes on behind the others
+pub use Rattle.mot_carousel.proofs.Sound.{change-sound, commands-sound}
+pub use Rattle.mot_carousel.proofs.Runs.{goes_on}

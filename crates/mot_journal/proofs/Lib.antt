@@ -1,0 +1,24 @@
+mod Appending
+mod Decoded
+mod Encoded
+mod Fill
+mod Halves
+mod Heads
+mod Images
+pub mod Laws
+mod Loads
+mod Making
+mod NewDisk
+mod NextSlot
+mod OpenSlots
+mod Parts
+mod Publishing
+mod Records
+mod Rows
+mod Scan
+mod Setting
+mod SlotWrite
+mod Slots
+mod Turning
+mod Valid
+mod Written

@@ -1,0 +1,81 @@
+-- A new disk stands for the new carousel.
+use Rattle.std.proofs.Common.{◌≡◌, ℕ, ◌+◌, ◌-◌, ◌≤◌, true, false, ◌&&◌, ◌==◌, List, [], ◌∷◌, length, take, drop, get_or, Some, Ok, refl, sym, ◌∙◌, ap, subst, arith, if◌then◌else◌}
+use Rattle.std.specs.Prelude.{slice_index, nat_le, IsOk}
+use Rattle.std.proofs.lemmas.Bool.Decides.{nat_tests}
+use Rattle.std.proofs.lemmas.List.{get_or-take, get_or-drop}
+use Rattle.mot_base.specs.Fields.{number_in}
+use Rattle.mot_base.specs.declared.geometry.Geometry.{Geometry}
+use Rattle.mot_base.specs.Geometry.{IsValid, length_of}
+use Rattle.mot_journal.specs.declared.layout.Layout.TheVariants.{Two}
+use Rattle.mot_journal.specs.Geometry.{geometry_of, has_magic, is_valid}
+use Rattle.mot_journal.specs.Slot.{slot_count}
+use Rattle.mot_journal.specs.Catalogue.{new_catalogue, catalogue_of, fold_from}
+use Rattle.mot_journal.specs.Inner.Format.{first_record, behind_magic, IsMade, IsNewDisk}
+use Rattle.mot_journal.specs.Inner.Reading.{number_at}
+use Rattle.mot_journal.specs.Journal.{JournalView, with_records}
+use Rattle.mot_journal.proofs.Laws.{stands_by_parts}
+use Rattle.mot_journal.proofs.Halves.{filled_layout, filled_half, filled_reads}
+use Rattle.mot_journal.proofs.Heads.{geometry_if, by-places, all_three, same-geometry}
+use Rattle.mot_journal.proofs.NextSlot.{part_of_half}
+use Rattle.mot_journal.proofs.Parts.{HasParts, parts_have}
+use Rattle.mot_journal.proofs.Valid.{is_valid_of}
+use Rattle.mot_journal.proofs.Written.{number_2, number_4}
+
+-- the journal of a new disk
+abbrev pub new_view : Geometry → JournalView
+new_view g = record { geometry = g; half = 0; layout = Two; count = 1; spent = false }
+
+catalogue_new : (limit : ℕ) → catalogue_of limit (first_record ∷ []) ≡ Ok new_catalogue
+unfolding fold_from
+catalogue_new limit = refl
+
+le_true : (m n : ℕ) → m ≤ n → nat_le m n ≡ true
+le_true m n le = grind (arith, nat_tests)
+
+module _ (g : Geometry) (valid : IsValid g) (c : List ℕ) (long : length_of g ≤ length c) (named : has_magic c ≡ true)
+    (made : IsMade g c) where
+  -- a number of the head
+  number_is : (at width : ℕ) → 8 ≤ at → at + width ≤ 64 → number_at at width c ≡ number_in (take width (drop (at - 8) (behind_magic g)))
+  number_is at width low high =
+      let place : 8 + (at - 8) ≡ at = omega (arith, low) in
+      ap number_in (ap (λ k. take width (drop k c)) (sym place)
+      ∙ sym (part_of_half 8 56 (at - 8) width c (omega (arith, low, high)))
+      ∙ ap (λ l. take width (drop (at - 8) l)) made.head)
+
+  geometry_told : geometry_of c ≡ Some g
+  geometry_told =
+      let objects : number_at 16 2 c ≡ g.objects = number_is 16 2 (omega arith) (omega arith) ∙ number_2 g.objects (omega (arith, valid)) in
+      let segment : number_at 18 2 c ≡ g.segment_size = number_is 18 2 (omega arith) (omega arith) ∙ number_2 g.segment_size (omega (arith, valid)) in
+      let address : number_at 20 2 c ≡ g.address = number_is 20 2 (omega arith) (omega arith) ∙ number_2 g.address (omega (arith, valid)) in
+      let packet : number_at 22 2 c ≡ g.packet_length = number_is 22 2 (omega arith) (omega arith) ∙ number_2 g.packet_length (omega (arith, valid)) in
+      let area : number_at 24 4 c ≡ g.data_area = number_is 24 4 (omega arith) (omega arith) ∙ number_4 g.data_area (omega (arith, valid)) in
+      let same = same-geometry g (number_at 16 2 c) (number_at 24 4 c) (number_at 18 2 c) (number_at 20 2 c) (number_at 22 2 c)
+      (sym objects) (sym area) (sym segment) (sym address) (sym packet) in
+      by-places c
+      ∙ ap (λ (x : Geometry). geometry_if x (has_magic c && is_valid x && nat_le (length_of x) (length c))) same
+      ∙ all_three g (has_magic c) (is_valid g) (nat_le (length_of g) (length c)) named (is_valid_of g valid) (le_true (length_of g) (length c) long)
+
+  selector : slice_index c 8 ≡ 0
+  selector =
+      sym (get_or-drop 8 c 0 0) ∙ sym (get_or-take 56 (drop 8 c) 0 0 (omega arith)) ∙ ap (λ l. get_or l 0 0) made.head
+
+  few : 1 ≤ slot_count Two g
+  few = omega arith
+
+  parts : HasParts (new_view g) (first_record ∷ []) c
+  parts = record {
+    geometry = geometry_told;
+    half = ap (λ b. if b == 1 then 1 else 0) selector;
+    layout = filled_layout g 0 Two (first_record ∷ []) (omega arith) c made.slots;
+    read = filled_reads g 0 Two (first_record ∷ []) few c made.slots;
+    gates = (filled_half g 0 Two (first_record ∷ []) few c made.slots).1;
+    fold = subst IsOk (sym (catalogue_new g.objects)) refl;
+  }
+
+  pub is_new : IsNewDisk g c
+  is_new =
+      let has = parts_have (new_view g) (first_record ∷ []) c parts in
+      record {
+        stands = stands_by_parts g (with_records (new_view g) (first_record ∷ [])) new_catalogue c refl has.read (catalogue_new g.objects);
+        clean = has.clean;
+      }

@@ -1,0 +1,17 @@
+use Rattle.std.proofs.Common.{◌≡◌, ◌≤◌, drop, false}
+use Rattle.disk_store.specs.Disk.{KeepsLength, IsUnchanged}
+use Rattle.mot_journal.specs.Inner.Steps.{slots_in_half}
+use Rattle.mot_journal.proofs.Scan.{scan}
+use Rattle.mot_journal.proofs.gates.are_gates_clean.Given as goal
+
+abbrev pub invariant-loop-number : goal.invariant-loop-number
+invariant-loop-number g l =
+    let old = g.D.Disk.state l.initial.disk in
+    let now = g.D.Disk.state l.disk in
+    let slots = slots_in_half l.geometry l.half l.layout old.bytes in
+    record {
+      keeps : KeepsLength old now;
+      later : old.failures ≤ now.failures;
+      unchanged : now.IsHonest → IsUnchanged old now;
+      scanned : now.IsHonest → scan false slots ≡ scan l.is_shut (drop l.number slots);
+    }

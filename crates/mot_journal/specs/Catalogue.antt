@@ -1,0 +1,130 @@
+-- The records of a journal, folded over a new disk (own format).
+use Rattle.std.specs.Prelude.{ℕ, ◌+◌, Bool, true, ◌&&◌, ◌||◌, ◌==◌, nat_lt, nat_le, if◌then◌else◌}
+use Rattle.std.specs.Prelude.{List, [], ◌∷◌, ◌++◌, length, map, slice_range, Option, Some, None}
+use Rattle.std.specs.Prelude.{option_map, Result, Ok, Err, bytes_eq}
+use Rattle.std.specs.List.{list_all}
+use Rattle.mot_base.specs.Reading.{◌>>=◌}
+use Rattle.mot_base.specs.declared.refusal.Refusal.{Refusal}
+use Rattle.mot_base.specs.declared.refusal.Refusal.TheVariants.{Damaged}
+use Rattle.mot_carousel.specs.declared.object.Object.{Object}
+use Rattle.mot_carousel.specs.Ids.{is_distinct}
+use Rattle.mot_carousel.specs.Stands.{object_of}
+use Rattle.mot_carousel.specs.Carousel as whole
+use Rattle.mot_journal.specs.declared.record.Record.{Record}
+use Rattle.mot_journal.specs.declared.record.Action.{Action}
+use Rattle.mot_journal.specs.declared.record.Action.TheVariants.{Nothing, Set, Remove}
+
+-- an object, and where in the data area its body begins
+pub record Placed : Type 0 where
+  pub object : Object
+  pub start : ℕ
+
+-- what records stand for: a carousel whose bodies lie in the data area
+pub record Catalogue : Type 0 where
+  pub period : ℕ
+  pub directory : ℕ
+  pub cursor : ℕ
+  pub objects : List Placed
+
+abbrev pub new_catalogue : Catalogue
+new_catalogue = record { period = 0; directory = 1; cursor = 1; objects = [] }
+
+-- the objects with this one in the place of the one of its name; none if there is none
+abbrev pub put_in_place : Placed → List Placed → Option (List Placed)
+put_in_place p [] = None
+put_in_place p (q ∷ rest) =
+    if bytes_eq q.object.name p.object.name then Some (p ∷ rest)
+    else option_map (λ l. q ∷ l) (put_in_place p rest)
+
+-- the objects without the one of this id; none if there is none
+abbrev pub objects_without : ℕ → List Placed → Option (List Placed)
+objects_without tid [] = None
+objects_without tid (q ∷ rest) =
+    if q.object.tid == tid then Some rest else option_map (λ l. q ∷ l) (objects_without tid rest)
+
+abbrev pub in_place_or_appended : ℕ → Placed → List Placed → Option (List Placed)
+    → Option (List Placed)
+in_place_or_appended limit p objects (Some changed) = Some changed
+in_place_or_appended limit p objects None =
+    if nat_lt (length objects) limit then Some (objects ++ p ∷ []) else None
+
+-- the objects after this action; none where there are too many for a new one, or none of the id to
+-- be removed
+abbrev pub objects_after : ℕ → List Placed → Action → Option (List Placed)
+objects_after limit objects Nothing = Some objects
+objects_after limit objects (Remove tid) = objects_without tid objects
+objects_after limit objects (Set tid version content start size name mime) =
+    let o : Object =
+    record {
+      name = name;
+      content = content;
+      mime = mime;
+      version = version;
+      tid = tid;
+      length = size;
+    } in
+    let p : Placed = record { object = o; start = start } in
+    in_place_or_appended limit p objects (put_in_place p objects)
+
+abbrev pub are_apart : Placed → Placed → Bool
+are_apart p q =
+    nat_le (p.start + p.object.length) q.start || nat_le (q.start + q.object.length) p.start
+
+abbrev pub are_all_apart : List Placed → Bool
+are_all_apart [] = true
+are_all_apart (p ∷ rest) = list_all (are_apart p) rest && are_all_apart rest
+
+-- all ids differ, also from the directory's, and no two extents meet
+abbrev pub is_consistent : Catalogue → Bool
+is_consistent c =
+    is_distinct (c.directory ∷ map (λ (p : Placed). p.object.tid) c.objects)
+    && are_all_apart c.objects
+
+-- the catalogue after one record more; none for a fault of the list
+abbrev pub catalogue_after : ℕ → Catalogue → Record → Option Catalogue
+catalogue_after limit c r = do
+  objects ← objects_after limit c.objects r.action
+  next ← Some (record {
+    period = r.period;
+    directory = r.directory;
+    cursor = r.cursor;
+    objects = objects;
+  })
+  if is_consistent next then Some next else None
+
+abbrev pub or_damaged : {A : Type 0} → ℕ → Option A → Result A Refusal
+or_damaged number None = Err (Damaged number)
+or_damaged number (Some x) = Ok x
+
+abbrev pub result_then : {A B : Type 0} → Result A Refusal → (A → Result B Refusal)
+    → Result B Refusal
+result_then (Ok x) f = f x
+result_then (Err r) f = Err r
+
+-- the catalogue after these records, whose slots begin with this number, or the first slot with a
+-- fault of the list
+unfoldable pub fold_from : ℕ → ℕ → Catalogue → List Record → Result Catalogue Refusal
+fold_from limit number c [] = Ok c
+fold_from limit number c (r ∷ records) =
+    result_then (or_damaged number (catalogue_after limit c r))
+    (λ next. fold_from limit (number + 1) next records)
+
+-- what the records of a disk for so many objects stand for
+abbrev pub catalogue_of : ℕ → List Record → Result Catalogue Refusal
+catalogue_of limit records = fold_from limit 0 new_catalogue records
+
+abbrev pub body_in : List ℕ → Placed → List ℕ
+body_in area p = slice_range area p.start (p.start + p.object.length)
+
+-- the carousel, with its bodies out of the data area
+abbrev pub carousel_in : List ℕ → Catalogue → whole.Carousel
+carousel_in area c = record {
+  period = c.period;
+  directory = c.directory;
+  cursor = c.cursor;
+  objects = map (λ (p : Placed). object_of p.object (body_in area p)) c.objects;
+}
+
+-- where each body begins, and its length
+abbrev pub extents_of : Catalogue → List (ℕ × ℕ)
+extents_of c = map (λ (p : Placed). (p.start, p.object.length)) c.objects

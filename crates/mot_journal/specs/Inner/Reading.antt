@@ -1,0 +1,51 @@
+-- The parts of a slot's reading, as the code reads them.
+use Rattle.std.specs.Prelude.{ℕ, ◌-◌, true, if◌then◌else◌, List, take, drop, Option}
+use Rattle.std.specs.Prelude.{Some, None}
+use Rattle.std.specs.Option.{option_map_or}
+use Rattle.mot_base.specs.Fields.{number_in}
+use Rattle.mot_base.specs.Reading.{◌>>=◌}
+use Rattle.mot_carousel.specs.Content.{ContentNumbers}
+use Rattle.mot_base.specs.declared.geometry.Geometry.{Geometry}
+use Rattle.mot_journal.specs.declared.layout.Layout.{Layout}
+use Rattle.mot_journal.specs.declared.record.Action.{Action}
+use Rattle.mot_journal.specs.declared.record.Action.TheVariants.{Set}
+use Rattle.mot_journal.specs.Slot.{kind_base, action_in, mime_in, is_mime, is_name, is_sound_action}
+
+-- the number in so many bytes from a place on
+abbrev pub number_at : ℕ → ℕ → List ℕ → ℕ
+number_at at width bytes = number_in (take width (drop at bytes))
+
+abbrev pub content_at : List ℕ → ContentNumbers
+content_at slot = record { content_type = number_at 12 1 slot; subtype = number_at 13 2 slot }
+
+-- an action, if no field of it is out of its range
+abbrev pub if_sound : Geometry → Layout → Action → Option Action
+if_sound g layout a = if is_sound_action g layout a then Some a else None
+
+-- the action of a slot that sets an object
+abbrev pub set_of : List ℕ → Action
+set_of slot =
+    Set (number_at 9 2 slot) (number_at 11 1 slot) (content_at slot) (number_at 15 4 slot)
+    (number_at 19 4 slot) (take (number_at 23 1 slot) (drop 24 slot))
+    (mime_in (drop (number_at 23 1 slot) (drop 24 slot)))
+
+-- the action of a slot; none for another kind
+abbrev pub action_of : Layout → List ℕ → Option Action
+action_of layout slot =
+    action_in (number_at 1 1 slot - kind_base layout) (number_at 9 2 slot) (number_at 11 1 slot)
+    (content_at slot) (number_at 15 4 slot) (number_at 19 4 slot) (number_at 23 1 slot)
+    (drop 24 slot)
+
+-- the action of a slot; none for another kind, or where a field of it is out of its range
+unfoldable pub sound_action_of : Geometry → Layout → List ℕ → Option Action
+sound_action_of g layout slot = do
+  a ← action_of layout slot
+  if_sound g layout a
+
+-- a name, if it keeps its rule
+abbrev pub name_from : ℕ → List ℕ → Option (List ℕ)
+name_from longest bytes = if is_name longest bytes then Some bytes else None
+
+-- the MIME type at the head of these bytes, if it keeps its rule
+unfoldable pub mime_from : List ℕ → Option (Option (List ℕ))
+mime_from bytes = if option_map_or is_mime (mime_in bytes) true then Some (mime_in bytes) else None

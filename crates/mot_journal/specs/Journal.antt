@@ -1,0 +1,106 @@
+-- What a journal keeps in memory, and what images have of it.
+use Rattle.std.specs.Prelude.{◌≡◌, ◌⊎◌, ℕ, ◌+◌, ◌*◌, ◌-◌, Bool, false, List, [], ◌∷◌, ◌++◌, length}
+use Rattle.std.specs.Prelude.{Some, Ok, Err, IsOk, IsFalse}
+use Rattle.disk_store.specs.Disk.{State, Rises}
+use Rattle.mot_base.specs.declared.refusal.Refusal.{Refusal}
+use Rattle.mot_base.specs.declared.refusal.Refusal.TheVariants.{OutOfMemory, DeviceFault}
+use Rattle.mot_base.specs.declared.refusal.Refusal.TheVariants.{NotFormatted, Damaged}
+use Rattle.mot_carousel.specs.Carousel.{new_carousel}
+use Rattle.mot_base.specs.declared.geometry.Geometry.{Geometry}
+use Rattle.mot_journal.specs.declared.layout.Layout.{Layout}
+use Rattle.mot_journal.specs.declared.record.Record.{Record}
+use Rattle.mot_journal.specs.Geometry.{has_magic, geometry_of, selected_half}
+use Rattle.mot_base.specs.Geometry.{half_start}
+use Rattle.mot_journal.specs.Slot.{layout_of, slot_size}
+use Rattle.mot_journal.specs.Catalogue.{catalogue_of}
+use Rattle.mot_journal.specs.Image.{DiskRecords, Standing, records_of, stands_for, half_of, area_of}
+use Rattle.mot_journal.specs.Image.{IsClean}
+
+pub record JournalView : Type 0 where
+  pub geometry : Geometry
+  -- the half that is selected, its layout, and how many of its gates are open
+  pub half : ℕ
+  pub layout : Layout
+  pub count : ℕ
+  -- a device fault has come in a call that writes
+  pub spent : Bool
+
+abbrev pub with_records : JournalView → List Record → DiskRecords
+with_records j records =
+    record { geometry = j.geometry; half = j.half; layout = j.layout; records = records }
+
+-- where a slot of the journal's half lies
+abbrev pub place_of : JournalView → ℕ → ℕ
+place_of j slot = half_start j.geometry j.half + slot * slot_size j.layout
+
+-- the same, in the other half
+abbrev pub in_other_half : JournalView → Layout → List Record → JournalView
+in_other_half j layout records =
+    record j { half = 1 - j.half; layout = layout; count = length records }
+
+-- the image is clean, and has these records where the journal stands
+pub record HasRecords (j : JournalView) (records : List Record) (image : List ℕ) : Type 0 where
+  pub read : records_of image ≡ Ok (with_records j records)
+  pub clean : IsClean image
+
+-- the disk is honest, and each image now has these records
+pub record HoldsRecords (j : JournalView) (records : List Record) (state : State) : Type 0 where
+  pub going : IsFalse j.spent
+  pub count : j.count ≡ length records
+  pub honest : state.IsHonest
+  pub each : (image : List ℕ) → state.MayLeave image → HasRecords j records image
+
+-- the records make no fault of the list
+abbrev pub FoldOf : JournalView → List Record → Type 0
+FoldOf j records = IsOk (catalogue_of j.geometry.objects records)
+
+-- the data area is that of an image that a crash at the start may leave
+abbrev pub HasOldArea : JournalView → State → List ℕ → Type 0
+HasOldArea j start image = (d : List ℕ) × start.MayLeave d
+    × (area_of j.geometry image ≡ area_of j.geometry d)
+
+-- the data area is the one that the disk read at the start
+abbrev pub HasReadArea : JournalView → State → List ℕ → Type 0
+HasReadArea j start image = area_of j.geometry image ≡ area_of j.geometry start.bytes
+
+-- The records, and an old data area; or also the new one, and the data area that was read at the
+-- start.
+abbrev pub WithoutOrWith : JournalView → List Record → Record → State → List ℕ → Type 0
+WithoutOrWith j records r start image =
+    (HasRecords j records image × HasOldArea j start image)
+    ⊎ (HasRecords j (records ++ r ∷ []) image × HasReadArea j start image)
+
+-- The old records, or the given ones in the other half; the data area stays.
+abbrev pub OldOrGiven : JournalView → Layout → List Record → List Record → State → List ℕ → Type 0
+OldOrGiven j layout records given start image =
+    (HasRecords j records image ⊎ HasRecords (in_other_half j layout given) given image)
+    × HasOldArea j start image
+
+-- each image now has the data area that the disk read at the start
+abbrev pub OnlyReadArea : JournalView → State → State → Type 0
+OnlyReadArea j start now = (image : List ℕ) → now.MayLeave image → HasReadArea j start image
+
+-- the journal stands where these bytes have their records
+pub record StandsWhere (j : JournalView) (bytes : List ℕ) : Type 0 where
+  pub geometry : geometry_of bytes ≡ Some j.geometry
+  pub half : selected_half bytes ≡ j.half
+  pub layout : layout_of (half_of j.geometry bytes) ≡ j.layout
+
+-- a new disk of this geometry
+abbrev pub new_standing : Geometry → Standing
+new_standing g = record { geometry = g; carousel = new_carousel; extents = [] }
+
+-- no magic, or clean and a new disk of this geometry
+abbrev pub NoneOrNew : Geometry → List ℕ → Type 0
+NoneOrNew g image = (has_magic image ≡ false)
+    ⊎ ((stands_for image ≡ Ok (new_standing g)) × IsClean image)
+
+-- Of a disk that is honest afterwards `NotFormatted` and `Damaged` are told where its bytes have no
+-- records, with the slot.
+pub data IsLoadRefusal (old new : State) (refusal : Refusal) : Type 0 where
+  not_formatted : refusal ≡ NotFormatted → (new.IsHonest → records_of old.bytes ≡ Err refusal)
+      → IsLoadRefusal old new refusal
+  damaged : (slot : ℕ) → refusal ≡ Damaged slot
+      → (new.IsHonest → records_of old.bytes ≡ Err refusal) → IsLoadRefusal old new refusal
+  no_memory : refusal ≡ OutOfMemory → IsLoadRefusal old new refusal
+  device : refusal ≡ DeviceFault → Rises old.failures new.failures → IsLoadRefusal old new refusal

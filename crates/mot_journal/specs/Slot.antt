@@ -1,0 +1,136 @@
+-- A slot of the journal: a gate, and the record behind it (own format).
+use Rattle.std.specs.Prelude.{ℕ, ◌+◌, ◌*◌, ◌-◌, ◌^◌, ◌<◌, Bool, true, not, ◌&&◌, ◌==◌, nat_lt}
+use Rattle.std.specs.Prelude.{nat_le, if◌then◌else◌, List, [], ◌∷◌, ◌++◌, length, take, drop}
+use Rattle.std.specs.Prelude.{replicate, slice_index, Option, Some, None, bytes_eq, codes}
+use Rattle.std.specs.Int.{w16, w32, to_be_bytes, bytes_high_first}
+use Rattle.std.specs.List.{list_all}
+use Rattle.std.specs.Option.{option_map_or}
+use Rattle.std.specs.Str.{is_utf8}
+use Rattle.mot_base.specs.Reading.{◌>>=◌}
+use Rattle.mot_carousel.specs.Content.{ContentNumbers}
+use Rattle.mot_base.specs.declared.geometry.Geometry.{Geometry}
+use Rattle.mot_journal.specs.declared.layout.Layout.{Layout}
+use Rattle.mot_journal.specs.declared.layout.Layout.TheVariants.{One, Two}
+use Rattle.mot_journal.specs.declared.record.Record.{Record}
+use Rattle.mot_journal.specs.declared.record.Action.{Action}
+use Rattle.mot_journal.specs.declared.record.Action.TheVariants.{Nothing, Set, Remove}
+use Rattle.mot_journal.specs.Geometry.{columns, is_within}
+
+abbrev pub slot_size : Layout → ℕ
+slot_size One = 256
+slot_size Two = 512
+
+abbrev pub slot_count : Layout → Geometry → ℕ
+slot_count One g = 2 * g.objects + 4
+slot_count Two g = g.objects + 2
+
+-- kinds are 1 nothing, 2 set object, 3 remove; in layout 2 they are 17, 18 and 19
+abbrev pub kind_base : Layout → ℕ
+kind_base One = 0
+kind_base Two = 16
+
+abbrev pub longest_name : Layout → ℕ
+longest_name One = 100
+longest_name Two = 255
+
+-- the value of an open gate; any other is closed
+abbrev pub open_gate : ℕ
+open_gate = 0xA5
+
+abbrev pub is_open : List ℕ → Bool
+is_open slot = slice_index slot 0 == open_gate
+
+-- a half is of layout 2 where its slot 0 has an open gate and a kind of layout 2
+abbrev pub layout_of : List ℕ → Layout
+layout_of half = if is_open half && is_within 17 19 (slice_index half 1) then Two else One
+
+-- a length, 0 for none, and the text
+abbrev pub mime_in : List ℕ → Option (List ℕ)
+mime_in bytes = let size = slice_index bytes 0 in if size == 0 then None
+    else Some (take size (drop 1 bytes))
+
+abbrev pub action_in : ℕ → ℕ → ℕ → ContentNumbers → ℕ → ℕ → ℕ → List ℕ → Option Action
+action_in kind tid version content start size n texts =
+    if kind == 1 then Some Nothing
+    else if kind == 2
+    then Some (Set tid version content start size (take n texts) (mime_in (drop n texts)))
+    else if kind == 3 then Some (Remove tid)
+    else None
+
+-- gate; kind; period; directory id; cursor; tid; version; content type; subtype; start; length;
+-- name length. Then come the name, the MIME type's length and its text.
+abbrev pub record_in : Layout → List ℕ → List ℕ → Option Record
+record_in layout texts (gate ∷ kind ∷ period ∷ directory ∷ cursor ∷ tid ∷ version ∷ type ∷ subtype
+    ∷ start ∷ size ∷ n ∷ []) = do
+      content ← Some (record { content_type = type; subtype = subtype })
+      action ← action_in (kind - kind_base layout) tid version content start size n texts
+      Some (record { period = period; directory = directory; cursor = cursor; action = action })
+record_in layout texts _ = None
+
+abbrev pub is_name : ℕ → List ℕ → Bool
+is_name longest bytes =
+    is_within 1 longest (length bytes) && is_utf8 bytes && list_all
+    (λ b. nat_lt 32 b && not (b == 127)) bytes
+
+abbrev pub is_mime : List ℕ → Bool
+is_mime bytes =
+    is_within 1 64 (length bytes) && list_all (is_within 0x21 0x7E) bytes
+    && not (bytes_eq bytes (codes "-"))
+
+abbrev pub is_sound_action : Geometry → Layout → Action → Bool
+is_sound_action g layout Nothing = true
+is_sound_action g layout (Remove tid) = nat_lt 0 tid
+is_sound_action g layout (Set tid version content start size name mime) =
+    nat_lt 0 tid && nat_le content.content_type 63 && nat_le content.subtype 511
+    && is_within 1 262144 size && nat_le (start + size) g.data_area
+    && is_name (longest_name layout) name && option_map_or is_mime mime true
+
+-- no field of the record is out of its range
+abbrev pub is_sound : Geometry → Layout → Record → Bool
+is_sound g layout r = nat_lt 0 r.directory && nat_lt 0 r.cursor && is_sound_action g layout r.action
+
+abbrev pub slot_columns : List ℕ
+slot_columns = 1 ∷ 1 ∷ 3 ∷ 2 ∷ 2 ∷ 2 ∷ 1 ∷ 1 ∷ 2 ∷ 4 ∷ 4 ∷ 1 ∷ []
+
+-- the record of an open slot; none where a field has a fault
+unfoldable pub read_slot : Geometry → Layout → List ℕ → Option Record
+read_slot g layout slot = do
+  r ← record_in layout (drop 24 slot) (columns slot_columns slot)
+  if is_sound g layout r then Some r else None
+
+abbrev pub mime_bytes : Option (List ℕ) → List ℕ
+mime_bytes None = 0 ∷ []
+mime_bytes (Some text) = length text ∷ text
+
+abbrev pub kind_of : Action → ℕ
+kind_of Nothing = 1
+kind_of (Set tid version content start size name mime) = 2
+kind_of (Remove tid) = 3
+
+abbrev pub action_bytes : Action → List ℕ
+action_bytes Nothing = []
+action_bytes (Remove tid) = to_be_bytes w16 tid
+action_bytes (Set tid version content start size name mime) =
+    to_be_bytes w16 tid ++ version ∷ content.content_type ∷ to_be_bytes w16 content.subtype
+    ++ to_be_bytes w32 start ++ to_be_bytes w32 size ++ length name ∷ name ++ mime_bytes mime
+
+-- the slot of a record as it is written, with an open gate; the rest of it is 0
+unfoldable pub bytes_of_slot : Layout → Record → List ℕ
+bytes_of_slot layout r =
+    let used = open_gate ∷ (kind_base layout + kind_of r.action) ∷ bytes_high_first 3 r.period
+    ++ to_be_bytes w16 r.directory ++ to_be_bytes w16 r.cursor ++ action_bytes r.action in
+    used ++ replicate (slot_size layout - length used) 0
+
+-- the numbers of an action fit their columns
+abbrev pub FitsAction : Action → Type 0
+FitsAction Nothing = Unit {0}
+FitsAction (Remove tid) = tid < 2 ^ 16
+FitsAction (Set tid version content start size name mime) = (tid < 2 ^ 16) × (version < 256)
+    × (start < 2 ^ 32)
+
+-- The numbers of a record fit their columns. Those of each record of the program do.
+pub record FitsSlot (r : Record) : Type 0 where
+  pub period : r.period < 2 ^ 24
+  pub directory : r.directory < 2 ^ 16
+  pub cursor : r.cursor < 2 ^ 16
+  pub action : FitsAction r.action

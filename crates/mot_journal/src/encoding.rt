@@ -1,0 +1,129 @@
+// The slot of a record, as it is written.
+ghost use Rattle.std.specs.Prelude.{◌≡◌, ◌+◌, ◌-◌, ◌≤◌, ◌++◌, length, replicate, slice_get, true};
+ghost use Rattle.std.specs.Prelude.{Some};
+ghost use Rattle.arrayvec.specs.ArrayVec.{array_vec_len};
+ghost use Rattle.mot_base.specs.declared.geometry.Geometry.{Geometry as Sizes};
+ghost use Rattle.mot_journal.specs.Slot.{slot_size, bytes_of_slot, read_slot, is_sound, kind_of};
+ghost use Rattle.mot_journal.specs.Slot.{action_bytes, mime_bytes, FitsAction};
+ghost use Rattle.mot_journal.specs.Inner.Steps.{slot_from, IsReadable, AreSound};
+
+use crate::{Action, Layout, Record};
+use arrayvec::ArrayVec;
+use mot_carousel::Mime;
+
+/// The value of an open gate; any other is closed.
+pub const OPEN: u8 = 0xA5;
+
+/// The slot of a record in this layout, with an open gate. It takes no memory.
+pub fn slot_bytes(layout: Layout, entry: &Record) -> ArrayVec<u8, 512>
+    ensures written { result.items ≡ bytes_of_slot layout entry.now }
+    ensures reads { (g : Sizes) → is_sound g layout entry.now ≡ true
+        → read_slot g layout result.items ≡ Some entry.now }
+    ensures size { (g : Sizes) → is_sound g layout entry.now ≡ true
+        → length result.items ≡ slot_size layout }
+{
+    let mut slot = ArrayVec::new();
+    slot.push(OPEN);
+    slot.push(layout.kind_base() + kind(&entry.action));
+    put(&mut slot, &entry.period.get().to_be_bytes()[1..]);
+    put(&mut slot, &entry.directory.get().to_be_bytes());
+    put(&mut slot, &entry.cursor.get().to_be_bytes());
+    put_action(&mut slot, &entry.action);
+    fill(&mut slot, layout.slot_size());
+    slot
+}
+
+/// The slot of the record of this number; zeros where there is none. It takes no memory.
+pub fn slot_or_zeros(layout: Layout, given: &[Record], number: usize) -> ArrayVec<u8, 512>
+    ensures value { result.items ≡ slot_from layout (slice_get given.now number) }
+    ensures reads { (g : Sizes) → AreSound g layout given.now
+        → IsReadable g layout (slice_get given.now number) }
+    ensures size { (g : Sizes) → AreSound g layout given.now
+        → length result.items ≡ slot_size layout }
+{
+    match given.get(number) {
+        Some(entry) => slot_bytes(layout, entry),
+        None => {
+            let mut slot = ArrayVec::new();
+            fill(&mut slot, layout.slot_size());
+            slot
+        }
+    }
+}
+
+// The kind of an action in layout 1.
+fn kind(action: &Action) -> u8
+    ensures value { result ≡ kind_of action.now }
+    ensures few { result ≤ 3 }
+{
+    match action {
+        Action::Nothing => 1,
+        Action::Set { .. } => 2,
+        Action::Remove { .. } => 3,
+    }
+}
+
+// Appends these bytes.
+fn put(slot: &mut ArrayVec<u8, 512>, bytes: &[u8])
+    requires { array_vec_len slot.old + length bytes.now ≤ 512 }
+    ensures { slot.new.items ≡ slot.old.items ++ bytes.now }
+{
+    let whole = slot.try_extend_from_slice(bytes).is_ok();
+    prove!(whole);
+}
+
+// Appends the bytes of the action, which come after its kind and the numbers of the carousel.
+fn put_action(slot: &mut ArrayVec<u8, 512>, action: &Action)
+    requires { array_vec_len slot.old ≤ 100 }
+    ensures written { slot.new.items ≡ slot.old.items ++ action_bytes action.now }
+    ensures fits { FitsAction action.now }
+    ensures len { array_vec_len slot.new ≤ 512 }
+{
+    match action {
+        Action::Nothing => {}
+        Action::Remove { tid } => put(slot, &tid.get().to_be_bytes()),
+        Action::Set {
+            tid,
+            version,
+            content,
+            start,
+            length,
+            name,
+            mime,
+        } => {
+            put(slot, &tid.get().to_be_bytes());
+            put(slot, &[*version, content.content_type()]);
+            put(slot, &content.subtype().to_be_bytes());
+            put(slot, &start.to_be_bytes());
+            put(slot, &length.get().to_be_bytes());
+            put(slot, &[name.as_bytes().len() as u8]);
+            put(slot, name.as_bytes());
+            put_mime(slot, mime);
+        }
+    }
+}
+
+// Appends the length of the MIME type, 0 for none, and its text.
+fn put_mime(slot: &mut ArrayVec<u8, 512>, mime: &Option<Mime>)
+    requires { array_vec_len slot.old ≤ 400 }
+    ensures written { slot.new.items ≡ slot.old.items ++ mime_bytes mime.now }
+    ensures len { array_vec_len slot.new ≤ array_vec_len slot.old + 65 }
+{
+    match mime {
+        None => put(slot, &[0]),
+        Some(mime) => {
+            put(slot, &[mime.as_bytes().len() as u8]);
+            put(slot, mime.as_bytes());
+        }
+    }
+}
+
+// Appends zeros up to this length.
+fn fill(slot: &mut ArrayVec<u8, 512>, size: usize)
+    requires { size ≤ 512 }
+    ensures { slot.new.items ≡ slot.old.items ++ replicate (size - array_vec_len slot.old) 0 }
+{
+    for _place in slot.len()..size {
+        slot.push(0);
+    }
+}

@@ -1,0 +1,142 @@
+//! Making a new disk.
+ghost use Rattle.std.specs.Prelude.{◌≡◌, ◌⊎◌, ◌↔◌, ◌+◌, ◌-◌, ◌<◌, ◌≤◌, ℕ, List, [], ◌∷◌, length};
+ghost use Rattle.std.specs.Prelude.{drop};
+ghost use Rattle.std.specs.Prelude.{true, false, Ok, OnOk, IfOk, IfErr, IsErrOf};
+ghost use Rattle.disk_store.specs.Disk.{Keeps, KeepsLength, HasCause, Rises, IsUnchanged, IsStill};
+ghost use Rattle.disk_store.specs.Disk.{Throughout};
+ghost use Rattle.mot_base.specs.Geometry.{IsValid, area_start, length_of};
+ghost use Rattle.mot_base.specs.declared.refusal.Refusal.TheVariants.{DeviceFault, BadGeometry};
+ghost use Rattle.mot_base.specs.declared.refusal.Refusal.TheVariants.{DiskTooSmall};
+ghost use Rattle.mot_base.specs.declared.refusal.Refusal.TheVariants.{AlreadyFormatted};
+ghost use Rattle.mot_journal.specs.Geometry.{has_magic};
+ghost use Rattle.mot_journal.specs.Image.{stands_for, IsClean};
+ghost use Rattle.mot_journal.specs.Journal.{NoneOrNew, new_standing};
+ghost use Rattle.mot_journal.specs.Inner.Steps.{ChangesWithin, HasCauseOf};
+ghost use Rattle.mot_journal.specs.Inner.Format.{IsMade, IsNewDisk, behind_magic};
+
+use crate::writing::{fill_half, publish};
+use crate::{Action, Geometry, Layout, Record};
+use disk_store::{Disk, DiskFault};
+use mot_base::{Refusal, TransportId};
+use mot_carousel::Period;
+
+// What a formatted disk begins with.
+const MAGIC: [u8; 8] = *b"MOTCAR01";
+
+/// Makes a new disk of layout 2, with no object. It takes no memory, and a disk that has the magic
+/// keeps its bytes. The magic is written last, so that a crash leaves no magic or the new disk.
+pub fn format<D: Disk>(disk: &mut D, geometry: &Geometry) -> Result<(), Refusal>
+    ensures keeps { KeepsLength (D.state disk.old) (D.state disk.new) }
+    ensures later { (D.state disk.old).failures ≤ (D.state disk.new).failures }
+    ensures bad { IsErrOf result BadGeometry ↔ (IsValid geometry.now → ⊥) }
+    ensures small { IsErrOf result DiskTooSmall
+        ↔ (IsValid geometry.now × ((D.state disk.old).len < length_of geometry.now)) }
+    ensures refused { IfErr result (λ refusal. (refusal ≡ BadGeometry) ⊎ (refusal ≡ DiskTooSmall)
+        ⊎ (refusal ≡ AlreadyFormatted) ⊎ ((refusal ≡ DeviceFault)
+        × Rises (D.state disk.old).failures (D.state disk.new).failures)) }
+    ensures untouched { (IsValid geometry.now → ⊥)
+        ⊎ ((D.state disk.old).len < length_of geometry.now)
+        → IsUnchanged (D.state disk.old) (D.state disk.new) }
+
+    // Where the disk reads the magic, it is synced at most.
+    ensures already { (D.state disk.new).IsHonest → has_magic (D.state disk.old).bytes ≡ true
+        → IsStill (D.state disk.old) (D.state disk.new) }
+    ensures already_only { (D.state disk.new).IsHonest → IsErrOf result AlreadyFormatted
+        → has_magic (D.state disk.old).bytes ≡ true }
+    ensures not_over { (D.state disk.new).IsHonest
+        → OnOk result (has_magic (D.state disk.old).bytes ≡ false) }
+
+    // At each moment a crash leaves no magic, or the new disk.
+    ensures any_moment { (D.state disk.new).IsHonest
+        → ((image : List ℕ) → (D.state disk.old).MayLeave image → has_magic image ≡ false)
+        → Throughout (D.state disk.old) (D.state disk.new) (NoneOrNew geometry.now) }
+    ensures ok { (D.state disk.new).IsHonest → OnOk result ((image : List ℕ)
+        → (D.state disk.new).MayLeave image
+        → (stands_for image ≡ Ok (new_standing geometry.now)) × IsClean image) }
+{
+    if !geometry.is_valid() {
+        return Err(Refusal::BadGeometry);
+    }
+    if disk.len() < geometry.length() {
+        return Err(Refusal::DiskTooSmall);
+    }
+    let Ok(is_formatted) = reads_magic(disk) else {
+        return Err(Refusal::DeviceFault);
+    };
+    if is_formatted {
+        return Err(Refusal::AlreadyFormatted);
+    }
+    let Ok(()) = make(disk, geometry) else {
+        return Err(Refusal::DeviceFault);
+    };
+    Ok(())
+}
+
+// Syncs, and tells whether the disk has the magic.
+fn reads_magic<D: Disk>(disk: &mut D) -> Result<bool, DiskFault>
+    requires { 8 ≤ (D.state disk.old).len }
+    ensures keeps { KeepsLength (D.state disk.old) (D.state disk.new) }
+    ensures cause { HasCause (D.state disk.old) (D.state disk.new) result }
+    ensures still { (D.state disk.new).IsHonest → IsStill (D.state disk.old) (D.state disk.new) }
+    ensures exact { (D.state disk.new).IsHonest
+        → IfOk result (λ magic. magic ≡ has_magic (D.state disk.old).bytes) }
+{
+    disk.sync()?;
+    let mut head = [0; 8];
+    disk.read(0, &mut head)?;
+    Ok(head == MAGIC)
+}
+
+// Writes all but the magic, and then the magic between two syncs.
+fn make<D: Disk>(disk: &mut D, geometry: &Geometry) -> Result<(), DiskFault>
+    requires valid { IsValid geometry.now }
+    requires long_enough { length_of geometry.now ≤ (D.state disk.old).len }
+    ensures keeps { Keeps (D.state disk.old) (D.state disk.new) }
+    ensures cause { HasCause (D.state disk.old) (D.state disk.new) result }
+    ensures any_moment { (D.state disk.old).IsHonest
+        → ((image : List ℕ) → (D.state disk.old).MayLeave image → has_magic image ≡ false)
+        → Throughout (D.state disk.old) (D.state disk.new) (NoneOrNew geometry.now) }
+    ensures ok { (D.state disk.old).IsHonest → OnOk result ((image : List ℕ)
+        → (D.state disk.new).MayLeave image → IsNewDisk geometry.now image) }
+{
+    fill(disk, geometry)?;
+    publish(disk, 0, &MAGIC)?;
+    Ok(())
+}
+
+// Writes all from the byte behind the magic up to the data area.
+fn fill<D: Disk>(disk: &mut D, geometry: &Geometry) -> Result<(), DiskFault>
+    requires valid { IsValid geometry.now }
+    requires long_enough { length_of geometry.now ≤ (D.state disk.old).len }
+    ensures keeps { Keeps (D.state disk.old) (D.state disk.new) }
+    ensures cause { HasCauseOf (D.state disk.old) (D.state disk.new) result }
+    ensures range { (D.state disk.old).IsHonest → ChangesWithin 8 (area_start geometry.now - 8)
+        (D.state disk.old) (D.state disk.new) }
+    ensures made { (D.state disk.old).IsHonest
+        → OnOk result (IsMade geometry.now (D.state disk.new).bytes) }
+{
+    let first = Record {
+        period: Period::ZERO,
+        directory: TransportId::FIRST,
+        cursor: TransportId::FIRST,
+        action: Action::Nothing,
+    };
+    disk.write(8, &head_behind_magic(geometry))?;
+    fill_half(disk, geometry, 0, Layout::Two, &[first])?;
+    fill_half(disk, geometry, 1, Layout::Two, &[])?;
+    Ok(())
+}
+
+// The 56 bytes between the magic and the halves: half 0, and the geometry.
+fn head_behind_magic(geometry: &Geometry) -> [u8; 56]
+    ensures value { result ≡ behind_magic geometry.now }
+    ensures len { length result ≡ 56 }
+{
+    let mut head = [0; 56];
+    head[8..10].copy_from_slice(&geometry.objects.to_be_bytes());
+    head[10..12].copy_from_slice(&geometry.segment_size.to_be_bytes());
+    head[12..14].copy_from_slice(&geometry.address.to_be_bytes());
+    head[14..16].copy_from_slice(&geometry.packet_length.to_be_bytes());
+    head[16..20].copy_from_slice(&geometry.data_area.to_be_bytes());
+    head
+}

@@ -1,0 +1,304 @@
+ghost use Rattle.std.specs.Prelude.{◌≡◌, ◌≤◌, ◌<◌, ◌+◌, ◌^◌, ◌++◌, ℕ, List, [], ◌∷◌, length, true};
+ghost use Rattle.std.specs.Prelude.{Ok, OnOk, OnErr};
+ghost use Rattle.std.specs.Prelude.{◌↔◌, IfOk, IfErr, IsErr, IsTrue, IsFalse, All};
+ghost use Rattle.disk_store.specs.Disk.{Keeps, KeepsLength, HasCause, IsUnchanged, Rises};
+ghost use Rattle.disk_store.specs.Disk.{Throughout};
+ghost use Rattle.mot_base.specs.Geometry.{length_of};
+ghost use Rattle.mot_journal.specs.Geometry.{is_valid, geometry_of};
+ghost use Rattle.mot_journal.specs.Slot.{is_sound, slot_count, slot_size};
+ghost use Rattle.mot_journal.specs.Image.{records_of, has_clean_gates};
+ghost use Rattle.mot_journal.specs.Journal.{JournalView, with_records, IsLoadRefusal, place_of};
+ghost use Rattle.mot_journal.specs.Journal.{HoldsRecords, FoldOf, WithoutOrWith, OnlyReadArea};
+ghost use Rattle.mot_journal.specs.Journal.{OldOrGiven, StandsWhere, in_other_half};
+ghost use Rattle.mot_journal.specs.Inner.Steps.{AreSound};
+ghost use Rattle.mot_journal.specs.declared.layout.Layout.TheVariants.{One, Two};
+ghost use Rattle.mot_journal.specs.declared.record.Record.{Record};
+
+use crate::encoding::slot_bytes;
+use crate::gates::are_gates_clean;
+use crate::loading::{geometry_of_head, layout_of_half, records_of_half};
+use crate::writing::{fill_half, place_of_slot, publish, write_slot};
+use crate::{Geometry, Layout, Record};
+use disk_store::{Disk, DiskFault};
+use mot_base::Refusal;
+use std::alloc::Global;
+use std::marker::Model;
+
+// Where the byte is that selects a half.
+const SELECTOR: u64 = 8;
+
+/// Where the records of a disk stand: in this half, in its first slots.
+#[derive(Drop)]
+pub struct Journal {
+    geometry: Geometry,
+    half: u8,
+    layout: Layout,
+    count: usize,
+    spent: bool,
+    ghost two_halves: { half ≤ 1 },
+}
+
+impl Model for Journal {
+    ghost Value = { JournalView };
+
+    ghost view = { λ j. record {
+      geometry = j.geometry;
+      half = j.half;
+      layout = j.layout;
+      count = j.count;
+      spent = j.spent;
+    } };
+}
+
+/// A journal and its records, in the order of their slots.
+#[derive(Drop)]
+pub struct Loaded {
+    pub journal: Journal,
+    pub records: Vec<Record>,
+}
+
+/// Reads the records of the half that is selected. It only reads.
+pub fn load<D: Disk>(alloc: Global, disk: &mut D) -> Result<Loaded, Refusal>
+    ensures keeps { KeepsLength (D.state disk.old) (D.state disk.new) }
+    ensures later { (D.state disk.old).failures ≤ (D.state disk.new).failures }
+    ensures unchanged { (D.state disk.new).IsHonest
+        → IsUnchanged (D.state disk.old) (D.state disk.new) }
+    ensures loaded { (D.state disk.new).IsHonest → IfOk result (λ l.
+        records_of (D.state disk.old).bytes ≡ Ok (with_records l.journal l.records.items)) }
+    ensures count { IfOk result (λ l. l.journal.count ≡ length l.records.items) }
+    ensures going { IfOk result (λ l. IsFalse l.journal.spent) }
+    ensures long_enough { IfOk result (λ l. length_of l.journal.geometry ≤ (D.state disk.old).len) }
+    ensures valid { IfOk result (λ l. is_valid l.journal.geometry ≡ true) }
+    ensures sound { IfOk result
+        (λ l. All (λ r. is_sound l.journal.geometry l.journal.layout r ≡ true) l.records.items) }
+    ensures refused { IfErr result
+        (λ refusal. IsLoadRefusal (D.state disk.old) (D.state disk.new) refusal) }
+{
+    let len = disk.len();
+    if len < 64 {
+        return Err(Refusal::NotFormatted);
+    }
+    let mut head = [0; 64];
+    if disk.read(0, &mut head).is_err() {
+        return Err(Refusal::DeviceFault);
+    }
+    let Some(geometry) = geometry_of_head(&head, len) else {
+        return Err(Refusal::NotFormatted);
+    };
+    let half: u8 = if head[8] == 1 { 1 } else { 0 };
+    let size = 512 * usize::from(geometry.objects) + 1024;
+    let Ok(mut bytes) = vec![in alloc; 0; size] else {
+        return Err(Refusal::OutOfMemory);
+    };
+    let start = 64 + u64::from(half) * size as u64;
+    if disk.read(start, &mut bytes).is_err() {
+        return Err(Refusal::DeviceFault);
+    }
+    let layout = layout_of_half(&bytes);
+    match records_of_half(alloc, &geometry, layout, &bytes) {
+        Ok(records) => {
+            let count = records.len();
+            Ok(Loaded {
+                journal: Journal {
+                    geometry,
+                    half,
+                    layout,
+                    count,
+                    spent: false,
+                },
+                records,
+            })
+        }
+        Err(refusal) => Err(refusal),
+    }
+}
+
+impl Journal {
+    /// The sizes that the disk was formatted with.
+    pub fn geometry(&self) -> Geometry
+        ensures { result ≡ self.now.geometry }
+    {
+        self.geometry
+    }
+
+    /// The layout of the half that is selected.
+    pub fn layout(&self) -> Layout
+        ensures { result ≡ self.now.layout }
+    {
+        self.layout
+    }
+
+    /// Whether no slot of the half is closed, so that a record can only come by a rewrite.
+    pub fn is_full(&self) -> bool
+        ensures { IsTrue result ↔ (slot_count self.now.layout self.now.geometry ≤ self.now.count) }
+    {
+        self.count >= self.layout.slot_count(&self.geometry)
+    }
+
+    /// Whether a device fault has come in a call that writes. Nothing can be written then.
+    pub fn is_spent(&self) -> bool
+        ensures { result ≡ self.now.spent }
+    {
+        self.spent
+    }
+
+    /// Whether every gate of the half after the first closed one is closed. It reads one byte of
+    /// each slot, and only reads.
+    pub fn is_clean<D: Disk>(&self, disk: &mut D) -> Result<bool, DiskFault>
+        requires long_enough { length_of self.now.geometry ≤ (D.state disk.old).len }
+        ensures keeps { KeepsLength (D.state disk.old) (D.state disk.new) }
+        ensures later { (D.state disk.old).failures ≤ (D.state disk.new).failures }
+        ensures cause { IsErr result
+            → Rises (D.state disk.old).failures (D.state disk.new).failures }
+        ensures unchanged { (D.state disk.new).IsHonest
+            → IsUnchanged (D.state disk.old) (D.state disk.new) }
+        ensures exact { (D.state disk.new).IsHonest → StandsWhere self.now (D.state disk.old).bytes
+            → IfOk result (λ clean. clean ≡ has_clean_gates
+            (geometry_of (D.state disk.old).bytes) (D.state disk.old).bytes) }
+    {
+        are_gates_clean(disk, &self.geometry, self.half, self.layout)
+    }
+
+    // Where the first closed slot lies.
+    fn next_place(&self) -> u64
+        requires { self.now.count < slot_count self.now.layout self.now.geometry }
+        ensures value { result ≡ place_of self.now self.now.count }
+        ensures low { result < 2 ^ 62 }
+    {
+        place_of_slot(&self.geometry, self.half, self.layout, self.count)
+    }
+
+    /// Adds a record in the first closed slot: the slot without its gate, a sync, the gate, a sync.
+    /// After an error the journal is spent.
+    pub fn append<D: Disk>(&mut self, disk: &mut D, entry: &Record) -> Result<(), DiskFault>
+        requires not_full { self.old.count < slot_count self.old.layout self.old.geometry }
+        requires going { IsFalse self.old.spent }
+        requires long_enough { length_of self.old.geometry ≤ (D.state disk.old).len }
+        requires sound { is_sound self.old.geometry self.old.layout entry.now ≡ true }
+
+        ensures keeps { Keeps (D.state disk.old) (D.state disk.new) }
+        ensures cause { HasCause (D.state disk.old) (D.state disk.new) result }
+        ensures spent { OnErr result (self.new ≡ record self.old { spent = true }) }
+        ensures added { OnOk result (self.new ≡ record self.old { count = self.old.count + 1 }) }
+
+        // At each moment a crash leaves the records from before the call, with the new one or
+        // without.
+        ensures any_moment { (records : List Record)
+            → HoldsRecords self.old records (D.state disk.old)
+            → FoldOf self.old (records ++ entry.now ∷ [])
+            → Throughout (D.state disk.old) (D.state disk.new)
+            (WithoutOrWith self.old records entry.now (D.state disk.old)) }
+        ensures ok { (records : List Record) → HoldsRecords self.old records (D.state disk.old)
+            → FoldOf self.old (records ++ entry.now ∷ [])
+            → OnOk result (HoldsRecords self.new (records ++ entry.now ∷ []) (D.state disk.new)) }
+        ensures area { (records : List Record) → HoldsRecords self.old records (D.state disk.old)
+            → FoldOf self.old (records ++ entry.now ∷ [])
+            → OnOk result (OnlyReadArea self.old (D.state disk.old) (D.state disk.new)) }
+    {
+        let place = self.next_place();
+        let slot = slot_bytes(self.layout, entry);
+        self.spent = true;
+        write_slot(disk, place, &slot)?;
+        self.count += 1;
+        self.spent = false;
+        Ok(())
+    }
+
+    /// Writes these records into the other half, in the journal's layout, slot by slot; then a
+    /// sync, the selector, a sync. After an error the journal is spent.
+    pub fn rewrite<D: Disk>(&mut self, disk: &mut D, given: &[Record]) -> Result<(), DiskFault>
+        requires some { 0 < length given.now }
+        requires few { length given.now ≤ slot_count self.old.layout self.old.geometry }
+        requires going { IsFalse self.old.spent }
+        requires long_enough { length_of self.old.geometry ≤ (D.state disk.old).len }
+        requires sound { AreSound self.old.geometry self.old.layout given.now }
+
+        ensures keeps { Keeps (D.state disk.old) (D.state disk.new) }
+        ensures cause { HasCause (D.state disk.old) (D.state disk.new) result }
+        ensures spent { OnErr result (self.new ≡ record self.old { spent = true }) }
+        ensures moves { OnOk result
+            (self.new ≡ in_other_half self.old self.old.layout given.now) }
+        ensures any_moment { (records : List Record)
+            → HoldsRecords self.old records (D.state disk.old)
+            → FoldOf self.old given.now
+            → Throughout (D.state disk.old) (D.state disk.new)
+            (OldOrGiven self.old self.old.layout records given.now (D.state disk.old)) }
+        ensures ok { (records : List Record) → HoldsRecords self.old records (D.state disk.old)
+            → FoldOf self.old given.now
+            → OnOk result (HoldsRecords self.new given.now (D.state disk.new)) }
+        ensures area { (records : List Record) → HoldsRecords self.old records (D.state disk.old)
+            → FoldOf self.old given.now
+            → OnOk result (OnlyReadArea self.old (D.state disk.old) (D.state disk.new)) }
+    {
+        let layout = self.layout;
+        self.turn(disk, layout, given)
+    }
+
+    /// The same from layout 1 into layout 2.
+    pub fn migrate<D: Disk>(&mut self, disk: &mut D, given: &[Record]) -> Result<(), DiskFault>
+        requires first_layout { self.old.layout ≡ One }
+        requires some { 0 < length given.now }
+        requires few { length given.now ≤ slot_count Two self.old.geometry }
+        requires going { IsFalse self.old.spent }
+        requires long_enough { length_of self.old.geometry ≤ (D.state disk.old).len }
+        requires sound { AreSound self.old.geometry Two given.now }
+
+        ensures keeps { Keeps (D.state disk.old) (D.state disk.new) }
+        ensures cause { HasCause (D.state disk.old) (D.state disk.new) result }
+        ensures spent { OnErr result (self.new ≡ record self.old { spent = true }) }
+        ensures moves { OnOk result (self.new ≡ in_other_half self.old Two given.now) }
+        ensures any_moment { (records : List Record)
+            → HoldsRecords self.old records (D.state disk.old)
+            → FoldOf self.old given.now
+            → Throughout (D.state disk.old) (D.state disk.new)
+            (OldOrGiven self.old Two records given.now (D.state disk.old)) }
+        ensures ok { (records : List Record) → HoldsRecords self.old records (D.state disk.old)
+            → FoldOf self.old given.now
+            → OnOk result (HoldsRecords self.new given.now (D.state disk.new)) }
+        ensures area { (records : List Record) → HoldsRecords self.old records (D.state disk.old)
+            → FoldOf self.old given.now
+            → OnOk result (OnlyReadArea self.old (D.state disk.old) (D.state disk.new)) }
+    {
+        self.turn(disk, Layout::Two, given)
+    }
+
+    // Writes these records into the other half, in this layout, and selects it.
+    fn turn<D: Disk>(
+        &mut self,
+        disk: &mut D,
+        layout: Layout,
+        given: &[Record],
+    ) -> Result<(), DiskFault>
+        requires some { 0 < length given.now }
+        requires few { length given.now ≤ slot_count layout self.old.geometry }
+        requires going { IsFalse self.old.spent }
+        requires long_enough { length_of self.old.geometry ≤ (D.state disk.old).len }
+        requires sound { AreSound self.old.geometry layout given.now }
+
+        ensures keeps { Keeps (D.state disk.old) (D.state disk.new) }
+        ensures cause { HasCause (D.state disk.old) (D.state disk.new) result }
+        ensures spent { OnErr result (self.new ≡ record self.old { spent = true }) }
+        ensures moves { OnOk result (self.new ≡ in_other_half self.old layout given.now) }
+        ensures any_moment { (records : List Record)
+            → HoldsRecords self.old records (D.state disk.old)
+            → FoldOf self.old given.now
+            → Throughout (D.state disk.old) (D.state disk.new)
+            (OldOrGiven self.old layout records given.now (D.state disk.old)) }
+        ensures ok { (records : List Record) → HoldsRecords self.old records (D.state disk.old)
+            → FoldOf self.old given.now
+            → OnOk result (HoldsRecords self.new given.now (D.state disk.new)) }
+        ensures area { (records : List Record) → HoldsRecords self.old records (D.state disk.old)
+            → FoldOf self.old given.now
+            → OnOk result (OnlyReadArea self.old (D.state disk.old) (D.state disk.new)) }
+    {
+        let other = 1 - self.half;
+        self.spent = true;
+        fill_half(disk, &self.geometry, other, layout, given)?;
+        publish(disk, SELECTOR, &[other])?;
+        self.half = other;
+        self.layout = layout;
+        self.count = given.len();
+        self.spent = false;
+        Ok(())
+    }
+}

@@ -1,0 +1,25 @@
+//! The journal of a disk: its geometry, and records in the slots of two halves, each behind a gate
+//! that is opened last.
+#![tactic(auto)]
+
+mod decoding;
+mod encoding;
+mod formatting;
+mod gates;
+mod journal;
+mod layout;
+mod loading;
+mod record;
+mod writing;
+
+pub use decoding::read_record;
+pub use encoding::slot_bytes;
+pub use formatting::format;
+pub use journal::{Journal, Loaded, load};
+pub use layout::Layout;
+pub use loading::{layout_of_half, records_of_half};
+pub use mot_base::Geometry;
+pub use record::{Action, Record};
+
+#[cfg(test)]
+mod tests;

@@ -1,0 +1,152 @@
+//! Rows on disks in memory: what no clause says is that the calls succeed where nothing fails.
+ghost use Rattle.std.specs.Prelude.{◌≡◌, ◌≤◌, IfOk};
+ghost use Rattle.mot_journal.specs.declared.record.Action.TheVariants.{Nothing};
+
+use super::*;
+use disk_store::{Disk, DiskFault, MemoryDisk};
+use mot_base::{Refusal, TransportId};
+use mot_carousel::Period;
+use std::alloc::Global;
+use std::test::Fail;
+
+// Sizes for one object and a body of 8 bytes: 3 slots in a half of layout 2, 6 of layout 1.
+const SMALL: Geometry = Geometry {
+    objects: 1,
+    data_area: 8,
+    segment_size: 64,
+    address: 1,
+    packet_length: 24,
+};
+
+// A disk of these sizes that was just made.
+fn new_disk(alloc: Global, geometry: &Geometry) -> Result<MemoryDisk, Fail> {
+    let mut disk = MemoryDisk::new(alloc, geometry.length()).ok_or("memory")?;
+    format(&mut disk, geometry)?;
+    Ok(disk)
+}
+
+// A record that does nothing to the objects, with this period.
+fn record_of(period: u32) -> Result<Record, Refusal>
+    ensures { IfOk result (λ r. r.action ≡ Nothing) }
+{
+    Ok(Record {
+        period: Period::new(period)?,
+        directory: TransportId::FIRST,
+        cursor: TransportId::FIRST,
+        action: Action::Nothing,
+    })
+}
+
+// Adds a record that does nothing to the objects, where the journal takes one.
+fn add<D: Disk>(journal: &mut Journal, disk: &mut D, period: u32) -> Result<(), DiskFault> {
+    let full = journal.is_full();
+    let spent = journal.is_spent();
+    let long = disk.len() >= journal.geometry().length();
+    if full || spent || !long {
+        return Err(DiskFault);
+    }
+    let Ok(entry) = record_of(period) else {
+        return Err(DiskFault);
+    };
+    journal.append(disk, &entry)
+}
+
+// The period of a disk's last record, and how many there are.
+fn last_of<D: Disk>(alloc: Global, disk: &mut D) -> Result<(usize, u32), Refusal> {
+    let loaded = load(alloc, disk)?;
+    let last = loaded.records.last().map_or(0, |entry| entry.period.get());
+    Ok((loaded.records.len(), last))
+}
+
+#[test]
+fn a_new_disk_has_its_head_and_one_record(rt: HostRuntime) -> Result<(), Fail> {
+    let mut disk = new_disk(rt.alloc(), &Geometry::default())?;
+    assert_eq!(rt; disk.len(), 84_032);
+    let loaded = load(rt.alloc(), &mut disk)?;
+    assert_eq!(rt; loaded.journal.geometry(), Geometry::default());
+    assert_eq!(rt; loaded.journal.layout(), Layout::Two);
+    assert_eq!(rt; loaded.records.len(), 1);
+    assert!(rt; !loaded.journal.is_full());
+    Ok(())
+}
+
+// The head of the default sizes, and the first slot, byte by byte.
+const NEW_DISK: [u8; 80] = [
+    0x4D, 0x4F, 0x54, 0x43, 0x41, 0x52, 0x30, 0x31, 0, 0, 0, 0, 0, 0, 0, 0, 0, 16, 4, 0, 0, 1, 0,
+    96, 0, 1, 0, 0, 0, 0, 0, 0, 0, 0, 0, 0, 0, 0, 0, 0, 0, 0, 0, 0, 0, 0, 0, 0, 0, 0, 0, 0, 0, 0,
+    0, 0, 0, 0, 0, 0, 0, 0, 0, 0, 0xA5, 17, 0, 0, 0, 0, 1, 0, 1, 0, 0, 0, 0, 0, 0, 0,
+];
+
+#[test]
+fn a_new_disk_begins_so(rt: HostRuntime) -> Result<(), Fail> {
+    let mut disk = new_disk(rt.alloc(), &Geometry::default())?;
+    if disk.len() >= 80 {
+        let mut begin = [0; 80];
+        disk.read(0, &mut begin)?;
+        assert_eq!(rt; begin, NEW_DISK);
+    }
+    Ok(())
+}
+
+#[test]
+fn a_disk_is_made_once_and_only_where_it_fits(rt: HostRuntime) -> Result<(), Fail> {
+    let alloc = rt.alloc();
+    let mut disk = new_disk(alloc, &SMALL)?;
+    assert_eq!(rt; format(&mut disk, &SMALL), Err(Refusal::AlreadyFormatted));
+    let mut short = MemoryDisk::new(alloc, 3_143).ok_or("memory")?;
+    assert_eq!(rt; SMALL.length(), 3_144);
+    assert_eq!(rt; format(&mut short, &SMALL), Err(Refusal::DiskTooSmall));
+    let wrong = Geometry {
+        objects: 251,
+        ..SMALL
+    };
+    assert_eq!(rt; format(&mut short, &wrong), Err(Refusal::BadGeometry));
+    assert!(rt; load(alloc, &mut short).is_err());
+    Ok(())
+}
+
+#[test]
+fn two_records_fill_a_half_of_three_slots(rt: HostRuntime) -> Result<(), Fail> {
+    let alloc = rt.alloc();
+    let mut disk = new_disk(alloc, &SMALL)?;
+    let mut journal = load(alloc, &mut disk)?.journal;
+    let before = disk.calls();
+    add(&mut journal, &mut disk, 7)?;
+    assert_eq!(rt; Some(disk.calls()), before.checked_add(4));
+    assert_eq!(rt; last_of(alloc, &mut disk)?, (2, 7));
+    add(&mut journal, &mut disk, 8)?;
+    assert!(rt; journal.is_full());
+    assert_eq!(rt; last_of(alloc, &mut disk)?, (3, 8));
+    Ok(())
+}
+
+// How many records a disk has that stopped in the course of an `append`, after a crash.
+fn after_stop(alloc: Global, call: u64, choices: &[u8]) -> Result<usize, Fail>
+    requires { 1 ≤ call }
+{
+    let mut disk = new_disk(alloc, &SMALL)?;
+    let mut journal = load(alloc, &mut disk)?.journal;
+    disk.stop_at(call);
+    let added = add(&mut journal, &mut disk, 7).is_ok();
+    let mut left = disk.crash(alloc, choices).ok_or("memory")?;
+    let (count, _last) = last_of(alloc, &mut left)?;
+    if added && count != 2 {
+        return Err("lost".into());
+    }
+    Ok(count)
+}
+
+#[test]
+fn a_stop_leaves_the_records_before_or_after(rt: HostRuntime) -> Result<(), Fail> {
+    let alloc = rt.alloc();
+    for call in 1..6 {
+        let rows: [&[u8]; 6] = [&[], &[0x00], &[0xFF], &[0xA5], &[0x01], &[0x77]];
+        for choices in rows {
+            let count = after_stop(alloc, call, choices)?;
+            assert!(rt; count == 1 || count == 2, "stop at {call}");
+        }
+    }
+    assert_eq!(rt; after_stop(alloc, 3, &[0xA5])?, 2);
+    assert_eq!(rt; after_stop(alloc, 3, &[0x00])?, 1);
+    Ok(())
+}

@@ -1,0 +1,164 @@
+-- The fields of a line, and the steps by which they are read.
+use Rattle.std.proofs.Common.{◌≡◌, ℕ, true, false, ◌&&◌, List, [], ◌∷◌, length, Option, Some, None}
+use Rattle.std.proofs.Common.{Result, Ok, Err, refl, ap, ◌∙◌, inl, inr}
+use Rattle.std.specs.Prelude.{nat_lt, nat_le, not, codes, bytes_eq, is_ok, IsOk, IfOk, IfErr, ◌==◌}
+use Rattle.std.specs.Prelude.{◌↔◌}
+use Rattle.std.specs.List.{list_all}
+use Rattle.std.specs.Str.{is_utf8}
+use Rattle.std.proofs.lemmas.Bool.{and_parts, lt-ltb, le-leb, ltb-true, leb-true}
+use Rattle.std.proofs.lemmas.Bool.{false_from_ne_true}
+use Rattle.std.proofs.lemmas.List.Sums.{AllPass-from_list_all, list_all-from_AllPass}
+use Rattle.std.proofs.lemmas.Str.{IsUtf8-from_is_utf8, is_utf8-from_IsUtf8}
+use Rattle.hex.specs.Hex.{decode_of}
+use Rattle.mot_base.specs.declared.refusal.Refusal.{Refusal}
+use Rattle.mot_base.specs.declared.refusal.Refusal.TheVariants.{OutOfMemory, BadName, BadMime}
+use Rattle.mot_carousel.specs.Content.{ContentNumbers}
+use Rattle.mot_carousel.specs.Name.{IsName}
+use Rattle.mot_carousel.specs.Mime.{IsMime}
+use Rattle.mot_lines.specs.declared.line.description.Description.{Description}
+use Rattle.mot_lines.specs.Fields.{is_name, name_in, content_in, is_mime, mime_in, body_in}
+use Rattle.mot_lines.specs.Words.{number_of_word}
+use Rattle.mot_lines.specs.Line.{◌>>=◌, description_of, OrOutOfMemory}
+
+-- a refusal ends the reading
+pub bound_err : {A B : Type 0} (x : Result A Refusal) (f : A → Result B Refusal) (r : Refusal)
+    → OrOutOfMemory {T = A} (Err r) x → OrOutOfMemory {T = B} (Err r) (x >>= f)
+bound_err x f r (inl h) = inl (ap (λ y. y >>= f) h)
+bound_err x f r (inr h) = inr (let e : r ≡ OutOfMemory = cc in ap (λ q. Err q) e)
+
+-- a field is read, and the reading goes on
+pub bound_ok : {A B : Type 0} (x : Result A Refusal) (f : A → Result B Refusal) (v : A) (r : Result B Refusal)
+    → OrOutOfMemory {T = A} (Ok v) x → OrOutOfMemory r (f v) → OrOutOfMemory r (x >>= f)
+bound_ok x f v r (inl h) (inl k) = inl (k ∙ ap (λ y. y >>= f) h)
+bound_ok x f v r (inl h) (inr k) = inr k
+bound_ok x f v r (inr h) k = absurd (cc)
+
+-- ---- names
+
+name_given : (bytes : List ℕ) → IsName bytes → is_name bytes ≡ true
+name_given bytes n = rw (
+  lt-ltb 0 (length bytes) n.some,
+  le-leb (length bytes) 255 n.short,
+  is_utf8-from_IsUtf8 bytes n.text,
+  list_all-from_AllPass (λ b. nat_lt 32 b && not (b == 127)) bytes n.printed,
+) refl
+
+name_from : (bytes : List ℕ) → is_name bytes ≡ true → IsName bytes
+name_from bytes h =
+    let p = and_parts (nat_lt 0 (length bytes) && nat_le (length bytes) 255 && is_utf8 bytes)
+    (list_all (λ b. nat_lt 32 b && not (b == 127)) bytes) h in
+    let q = and_parts (nat_lt 0 (length bytes) && nat_le (length bytes) 255) (is_utf8 bytes) p.0 in
+    let r = and_parts (nat_lt 0 (length bytes)) (nat_le (length bytes) 255) q.0 in
+    record {
+      some = ltb-true 0 (length bytes) r.0;
+      short = leb-true (length bytes) 255 r.1;
+      text = IsUtf8-from_is_utf8 bytes q.1;
+      printed = AllPass-from_list_all (λ b. nat_lt 32 b && not (b == 127)) bytes p.1;
+    }
+
+pub name_answer : (bytes : List ℕ) (r : Result (List ℕ) Refusal) → (IsOk r ↔ IsName bytes)
+    → IfOk r (λ n. n ≡ bytes) → IfErr r (λ e. e ≡ BadName) → r ≡ name_in bytes
+unfolding name_in
+name_answer bytes (Ok n) v i e = rw (name_given bytes (v.0 refl)) (ap (λ x. Ok x) i)
+name_answer bytes (Err r) v i e =
+    let other : is_name bytes ≡ false = false_from_ne_true (is_name bytes)
+    (λ t. let k : is_ok {T = List ℕ} (Err r) ≡ true = v.1 (name_from bytes t) in absurd (cc)) in
+    rw other (ap (λ x. Err x) e)
+
+-- ---- MIME types
+
+mime_given : (bytes : List ℕ) → IsMime bytes → is_mime bytes ≡ true
+mime_given bytes m = rw (
+  lt-ltb 0 (length bytes) m.some,
+  le-leb (length bytes) 64 m.short,
+  list_all-from_AllPass (λ b. nat_lt 32 b && nat_lt b 127) bytes m.printed,
+) refl
+
+mime_from : (bytes : List ℕ) → bytes_eq bytes (codes "-") ≡ false → is_mime bytes ≡ true → IsMime bytes
+mime_from bytes named h =
+    let p = and_parts (nat_lt 0 (length bytes) && nat_le (length bytes) 64)
+    (list_all (λ b. nat_lt 32 b && nat_lt b 127) bytes) h in
+    let q = and_parts (nat_lt 0 (length bytes)) (nat_le (length bytes) 64) p.0 in
+    record {
+      some = ltb-true 0 (length bytes) q.0;
+      short = leb-true (length bytes) 64 q.1;
+      printed = AllPass-from_list_all (λ b. nat_lt 32 b && nat_lt b 127) bytes p.1;
+      named = λ e. let t : bytes_eq bytes (codes "-") ≡ true = rw e refl in absurd (cc);
+    }
+
+pub mime_none : (bytes : List ℕ) → bytes_eq bytes (codes "-") ≡ true → mime_in bytes ≡ Ok None
+unfolding mime_in
+mime_none bytes e = rw e refl
+
+module _ (bytes : List ℕ) (named : bytes_eq bytes (codes "-") ≡ false) (r : Result (List ℕ) Refusal)
+    (v : IsOk r ↔ IsMime bytes) where
+  pub mime_some : (m : List ℕ) → r ≡ Ok m → m ≡ bytes → Ok (Some m) ≡ mime_in bytes
+  unfolding mime_in
+  mime_some m w i = rw (named, mime_given bytes (v.0 (ap is_ok w))) (ap (λ x. Ok (Some x)) i)
+
+  pub mime_refused : (e : Refusal) → r ≡ Err e → e ≡ BadMime → Err e ≡ mime_in bytes
+  unfolding mime_in
+  mime_refused e w i =
+      let other : is_mime bytes ≡ false = false_from_ne_true (is_mime bytes)
+      (λ t. let k : is_ok r ≡ true = v.1 (mime_from bytes named t) in let n : is_ok r ≡ false = ap is_ok w in
+      absurd (cc)) in
+      rw (named, other) (ap (λ x. Err x) i)
+
+-- ---- the words of a put or a replace
+
+abbrev described : List ℕ → ContentNumbers → Option (List ℕ) → List ℕ → Result Description Refusal
+described n c m b = Ok (record { name = n; content = c; mime = m; body = b })
+
+abbrev from_body : List ℕ → List ℕ → ContentNumbers → Option (List ℕ) → Result Description Refusal
+from_body hex n c m = body_in (decode_of hex) >>= described n c m
+
+abbrev from_mime : List ℕ → List ℕ → List ℕ → ContentNumbers → Result Description Refusal
+from_mime mime hex n c = mime_in mime >>= from_body hex n c
+
+abbrev from_content : List ℕ → List ℕ → List ℕ → List ℕ → List ℕ → Result Description Refusal
+from_content kind subtype mime hex n =
+    content_in (number_of_word kind) (number_of_word subtype) >>= from_mime mime hex n
+
+module _ (words : List (List ℕ)) (name kind subtype mime hex : List ℕ)
+    (five : words ≡ name ∷ kind ∷ subtype ∷ mime ∷ hex ∷ []) where
+  steps : description_of words ≡ (name_in name >>= from_content kind subtype mime hex)
+  unfolding description_of
+  steps = rw five refl
+
+  pub describe_name : (r : Refusal) → OrOutOfMemory (Err r) (name_in name)
+      → OrOutOfMemory (Err r) (description_of words)
+  describe_name r h = rw steps (bound_err (name_in name) (from_content kind subtype mime hex) r h)
+
+  module _ (n : List ℕ) (named : OrOutOfMemory (Ok n) (name_in name)) where
+    after_name : (r : Result Description Refusal) → OrOutOfMemory r (from_content kind subtype mime hex n)
+        → OrOutOfMemory r (description_of words)
+    after_name r h = rw steps (bound_ok (name_in name) (from_content kind subtype mime hex) n r named h)
+
+    pub describe_content : (r : Refusal) → Err r ≡ content_in (number_of_word kind) (number_of_word subtype)
+        → OrOutOfMemory (Err r) (description_of words)
+    describe_content r h = after_name (Err r) (bound_err
+        (content_in (number_of_word kind) (number_of_word subtype)) (from_mime mime hex n) r (inl h))
+
+    module _ (c : ContentNumbers) (content : Ok c ≡ content_in (number_of_word kind) (number_of_word subtype)) where
+      after_content : (r : Result Description Refusal) → OrOutOfMemory r (from_mime mime hex n c)
+          → OrOutOfMemory r (description_of words)
+      after_content r h = after_name r (bound_ok
+          (content_in (number_of_word kind) (number_of_word subtype)) (from_mime mime hex n) c r (inl content) h)
+
+      pub describe_mime : (r : Refusal) → OrOutOfMemory (Err r) (mime_in mime)
+          → OrOutOfMemory (Err r) (description_of words)
+      describe_mime r h = after_content (Err r) (bound_err (mime_in mime) (from_body hex n c) r h)
+
+      module _ (m : Option (List ℕ)) (typed : OrOutOfMemory (Ok m) (mime_in mime)) where
+        after_mime : (r : Result Description Refusal) → OrOutOfMemory r (from_body hex n c m)
+            → OrOutOfMemory r (description_of words)
+        after_mime r h = after_content r (bound_ok (mime_in mime) (from_body hex n c) m r typed h)
+
+        pub describe_body : (r : Refusal) → OrOutOfMemory (Err r) (body_in (decode_of hex))
+            → OrOutOfMemory (Err r) (description_of words)
+        describe_body r h = after_mime (Err r) (bound_err (body_in (decode_of hex)) (described n c m) r h)
+
+        pub describe_all : (b : List ℕ) → OrOutOfMemory (Ok b) (body_in (decode_of hex))
+            → OrOutOfMemory (Ok (record { name = n; content = c; mime = m; body = b })) (description_of words)
+        describe_all b h = after_mime (described n c m b)
+            (bound_ok (body_in (decode_of hex)) (described n c m) b (described n c m b) h (inl refl))

@@ -1,0 +1,48 @@
+-- What crates above may cite: the lines of an input that grows, and what a list shows.
+use Rattle.std.proofs.Common.{◌≡◌, ℕ, List, [], ◌∷◌, ◌++◌}
+use Rattle.mot_carousel.specs.declared.carousel.Carousel.{Carousel}
+use Rattle.mot_carousel.specs.Stands.{carousel_of, AreBodiesOf}
+use Rattle.mot_lines.specs.Inner.LineEnd.{HasNoLineEnd}
+use Rattle.mot_lines.specs.Inner.Listing.{listing_text_beside}
+use Rattle.mot_lines.specs.Lines.{whole_lines, rest_of, lines_of}
+use Rattle.mot_lines.specs.Listing.{listing_text}
+use Rattle.mot_lines.proofs.Input as input
+use Rattle.mot_lines.proofs.Listed as listed
+
+-- an input of no bytes has no lines, and no line has begun
+pub whole_lines-none : whole_lines [] ≡ []
+whole_lines-none = input.no_lines
+
+pub rest_of-none : rest_of [] ≡ []
+rest_of-none = input.no_rest
+
+-- a line end ends the line that has begun
+pub whole_lines-end : (xs : List ℕ) → whole_lines (xs ++ 10 ∷ []) ≡ whole_lines xs ++ rest_of xs ∷ []
+whole_lines-end xs = input.whole_end xs
+
+pub rest_of-end : (xs : List ℕ) → rest_of (xs ++ 10 ∷ []) ≡ []
+rest_of-end xs = input.rest_end xs
+
+-- other bytes go on with it
+pub whole_lines-within : (xs ys : List ℕ) → HasNoLineEnd ys → whole_lines (xs ++ ys) ≡ whole_lines xs
+whole_lines-within xs ys none = input.whole_within xs ys none
+
+pub rest_of-within : (xs ys : List ℕ) → HasNoLineEnd ys → rest_of (xs ++ ys) ≡ rest_of xs ++ ys
+rest_of-within xs ys none = input.rest_within xs ys none
+
+-- the whole lines of a front are a front of the whole lines
+pub whole_lines-front : (xs ys : List ℕ)
+    → (more : List (List ℕ)) × (whole_lines (xs ++ ys) ≡ whole_lines xs ++ more)
+whole_lines-front xs ys = input.whole_front xs ys
+
+-- at an input's end what has begun is a line, unless it is empty
+pub lines_of-ended : (xs : List ℕ) → rest_of xs ≡ [] → lines_of xs ≡ whole_lines xs
+lines_of-ended xs none = input.lines_empty xs none
+
+pub lines_of-begun : (xs : List ℕ) → (rest_of xs ≡ [] → ⊥) → lines_of xs ≡ whole_lines xs ++ rest_of xs ∷ []
+lines_of-begun xs some = input.lines_last xs some
+
+-- what a list shows of a carousel, made of the objects and their bodies' lengths alone
+pub listing_text-beside : (c : Carousel) (bodies : List (List ℕ)) → AreBodiesOf c bodies
+    → listing_text_beside c ≡ listing_text (carousel_of c bodies)
+listing_text-beside c bodies b = listed.listing_text_beside-whole c bodies b

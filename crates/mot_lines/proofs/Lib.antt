@@ -1,0 +1,9 @@
+pub mod Asked
+pub mod Input
+pub mod Laws
+pub mod Listed
+pub mod Numbers
+pub mod Pieces
+pub mod Requests
+pub mod Rows
+pub mod Words

@@ -1,0 +1,105 @@
+-- What lines ask for.
+use Rattle.std.proofs.Common.{◌≡◌, ℕ, ◌<◌, ◌≤◌, Bool, true, false, cond, List, [], ◌∷◌, length}
+use Rattle.std.proofs.Common.{Some, None, Ok, Err, refl}
+use Rattle.std.specs.Prelude.{bytes_eq, codes, nat_le}
+use Rattle.std.proofs.lemmas.Bool.{lt-leb, le-leb, leb-false}
+use Rattle.mot_lines.specs.declared.line.TheConstants.{MAX_LINE}
+use Rattle.mot_lines.specs.Inner.Hand.{bytes_in_hand}
+use Rattle.hex.specs.Hex.{decode_of}
+use Rattle.mot_base.specs.declared.group_kind.GroupKind.{GroupKind}
+use Rattle.mot_base.specs.declared.refusal.Refusal.{Refusal}
+use Rattle.mot_base.specs.declared.refusal.Refusal.TheVariants.{BadLine}
+use Rattle.mot_lines.specs.declared.line.Line.TheVariants.{Raw}
+use Rattle.mot_lines.specs.Fields.{kind_in, tid_in, segment_in}
+use Rattle.mot_lines.specs.Words.{number_of_word, words_of}
+use Rattle.mot_lines.specs.Line.{raw_of, put_of, replace_of, withdraw_of, period_of, list_of}
+use Rattle.mot_lines.specs.Line.{next_of, turn_of, request_of, line_of}
+
+module _ (words : List (List ℕ)) (kind tid hex : List ℕ) (three : words ≡ kind ∷ tid ∷ hex ∷ []) where
+  pub raw_of-kind : (r : Refusal) → Err r ≡ kind_in (number_of_word kind) → Err r ≡ raw_of words
+  unfolding raw_of
+  raw_of-kind r e = rw (three, ← e) refl
+
+  pub raw_of-tid : (k : GroupKind) (r : Refusal) → Ok k ≡ kind_in (number_of_word kind)
+      → Err r ≡ tid_in (number_of_word tid) → Err r ≡ raw_of words
+  unfolding raw_of
+  raw_of-tid k r e f = rw (three, ← e, ← f) refl
+
+  pub raw_of-hex : (k : GroupKind) (t : ℕ) (r : Refusal) → Ok k ≡ kind_in (number_of_word kind)
+      → Ok t ≡ tid_in (number_of_word tid) → Err r ≡ segment_in (decode_of hex) → Err r ≡ raw_of words
+  unfolding raw_of
+  raw_of-hex k t r e f g = rw (three, ← e, ← f, ← g) refl
+
+  pub raw_of-all : (k : GroupKind) (t : ℕ) (body : List ℕ) → Ok k ≡ kind_in (number_of_word kind)
+      → Ok t ≡ tid_in (number_of_word tid) → Ok body ≡ segment_in (decode_of hex)
+      → Ok (Raw k t body) ≡ raw_of words
+  unfolding raw_of
+  raw_of-all k t body e f g = rw (three, ← e, ← f, ← g) refl
+
+pub line_of-long : (line : List ℕ) → MAX_LINE < length line → line_of line ≡ Err BadLine
+unfolding line_of
+line_of-long line h = rw (lt-leb (length line) MAX_LINE h) refl
+
+pub line_of-short : (line : List ℕ) → length line ≤ MAX_LINE → line_of line ≡ request_of (words_of line)
+unfolding line_of
+line_of-short line h = rw (le-leb (length line) MAX_LINE h) refl
+
+long-cases : (line : List ℕ) (b : Bool) → nat_le (length line) MAX_LINE ≡ b → cond b (Some line) None ≡ None
+    → line_of line ≡ Err BadLine
+long-cases line true e h = absurd (cc)
+long-cases line false e h = line_of-long line (leb-false (length line) MAX_LINE e)
+
+-- a line of which nothing is kept is refused
+pub line_of-forgotten : (line : List ℕ) → bytes_in_hand line ≡ None → line_of line ≡ Err BadLine
+line_of-forgotten line h = long-cases line (nat_le (length line) MAX_LINE) refl h
+
+module _ (first : List ℕ) (words : List (List ℕ)) where
+  pub request_of-raw : bytes_eq first (codes "raw") ≡ true → request_of (first ∷ words) ≡ raw_of words
+  unfolding request_of
+  request_of-raw e = rw e refl
+
+  module _ (raw : bytes_eq first (codes "raw") ≡ false) where
+    pub request_of-put : bytes_eq first (codes "put") ≡ true → request_of (first ∷ words) ≡ put_of words
+    unfolding request_of
+    request_of-put e = rw (raw, e) refl
+
+    module _ (put : bytes_eq first (codes "put") ≡ false) where
+      pub request_of-replace : bytes_eq first (codes "replace") ≡ true
+          → request_of (first ∷ words) ≡ replace_of words
+      unfolding request_of
+      request_of-replace e = rw (raw, put, e) refl
+
+      module _ (replace : bytes_eq first (codes "replace") ≡ false) where
+        pub request_of-withdraw : bytes_eq first (codes "withdraw") ≡ true
+            → request_of (first ∷ words) ≡ withdraw_of words
+        unfolding request_of
+        request_of-withdraw e = rw (raw, put, replace, e) refl
+
+        module _ (withdraw : bytes_eq first (codes "withdraw") ≡ false) where
+          pub request_of-period : bytes_eq first (codes "period") ≡ true
+              → request_of (first ∷ words) ≡ period_of words
+          unfolding request_of
+          request_of-period e = rw (raw, put, replace, withdraw, e) refl
+
+          module _ (period : bytes_eq first (codes "period") ≡ false) where
+            pub request_of-list : bytes_eq first (codes "list") ≡ true
+                → request_of (first ∷ words) ≡ list_of words
+            unfolding request_of
+            request_of-list e = rw (raw, put, replace, withdraw, period, e) refl
+
+            module _ (list : bytes_eq first (codes "list") ≡ false) where
+              pub request_of-next : bytes_eq first (codes "next") ≡ true
+                  → request_of (first ∷ words) ≡ next_of words
+              unfolding request_of
+              request_of-next e = rw (raw, put, replace, withdraw, period, list, e) refl
+
+              module _ (next : bytes_eq first (codes "next") ≡ false) where
+                pub request_of-turn : bytes_eq first (codes "turn") ≡ true
+                    → request_of (first ∷ words) ≡ turn_of words
+                unfolding request_of
+                request_of-turn e = rw (raw, put, replace, withdraw, period, list, next, e) refl
+
+                pub request_of-other : bytes_eq first (codes "turn") ≡ false
+                    → request_of (first ∷ words) ≡ Err BadLine
+                unfolding request_of
+                request_of-other e = rw (raw, put, replace, withdraw, period, list, next, e) refl

@@ -1,0 +1,62 @@
+-- The definitions, computed on the worked rows.
+use Rattle.std.proofs.Common.{◌≡◌, [], ◌∷◌, Ok, Err, refl}
+use Rattle.std.specs.Prelude.{codes}
+use Rattle.std.specs.Fmt.{digits}
+use Rattle.hex.proofs.OnLiterals.{hex_on_literals}
+use Rattle.mot_base.specs.declared.group_kind.GroupKind.TheVariants.{Body}
+use Rattle.mot_base.specs.declared.refusal.Refusal.TheVariants.{BadLine, BadType, BadNumber}
+use Rattle.mot_base.specs.declared.refusal.Refusal.TheVariants.{BadBody, EmptyBody}
+use Rattle.mot_lines.specs.declared.line.Line.TheVariants.{Raw}
+use Rattle.mot_lines.specs.declared.line.Line.TheVariants as asks
+use Rattle.mot_lines.specs.declared.line.TheConstants.{MAX_LINE}
+use Rattle.mot_lines.specs.Line.{raw_of, request_of, line_of}
+use Rattle.mot_lines.specs.Lines.{whole_lines, rest_of, lines_of}
+use Rattle.mot_lines.specs.Text.{refusal_line}
+use Rattle.mot_lines.specs.Words.{number_of_word}
+
+hello_line : line_of (codes "raw 4 2 68656c6c6f") ≡ Ok (Raw Body 2 (codes "hello"))
+unfolding line_of request_of raw_of number_of_word hex_on_literals
+hello_line = refl
+
+no_words : line_of [] ≡ Err BadLine
+unfolding line_of request_of
+no_words = refl
+
+two_spaces : line_of (codes "raw 4 2  00") ≡ Err BadLine
+unfolding line_of request_of raw_of
+two_spaces = refl
+
+empty_number : line_of (codes "raw 4  00") ≡ Err BadNumber
+unfolding line_of request_of raw_of number_of_word hex_on_literals
+empty_number = refl
+
+long_number : line_of (codes "raw 00000000004 2 00") ≡ Err BadType
+unfolding line_of request_of raw_of number_of_word hex_on_literals
+long_number = refl
+
+odd_digits : line_of (codes "raw 4 2 0") ≡ Err BadBody
+unfolding line_of request_of raw_of number_of_word hex_on_literals
+odd_digits = refl
+
+no_digits : line_of (codes "raw 4 2 ") ≡ Err EmptyBody
+unfolding line_of request_of raw_of number_of_word hex_on_literals
+no_digits = refl
+
+refused_line : refusal_line BadType ≡ codes "refused 3 BadType\n"
+unfolding digits
+refused_line = refl
+
+last_line : lines_of (codes "a\nb") ≡ codes "a" ∷ codes "b" ∷ []
+unfolding lines_of whole_lines rest_of
+last_line = refl
+
+no_last_line : lines_of (codes "a\n\n") ≡ codes "a" ∷ [] ∷ []
+unfolding lines_of whole_lines rest_of
+no_last_line = refl
+
+list_line : line_of (codes "list") ≡ Ok asks.List
+unfolding line_of request_of
+list_line = refl
+
+max_line : MAX_LINE ≡ 530000
+max_line = refl

@@ -1,0 +1,6 @@
+use Rattle.std.proofs.Common.{sym}
+use Rattle.mot_lines.proofs.Words.{list_of-more}
+use Rattle.mot_lines.proofs.line.parse_list.Goals as goal
+
+pub returns-in-Some : goal.returns-in-Some
+returns-in-Some c = sym (list_of-more c.args.words c.in-Some.field-0 c.in-Some.is)

@@ -1,0 +1,83 @@
+-- The fields of lines, each by its word.
+use Rattle.std.specs.Prelude.{ℕ, Bool, ◌&&◌, ◌==◌, not, nat_lt, nat_le, if◌then◌else◌, List, length}
+use Rattle.std.specs.Prelude.{Option, Some, None, Result, Ok, Err, codes, bytes_eq}
+use Rattle.std.specs.List.{list_all}
+use Rattle.std.specs.Str.{is_utf8}
+use Rattle.hex.specs.declared.error.FromHexError.{FromHexError}
+use Rattle.mot_base.specs.Reading.{is_empty}
+use Rattle.mot_base.specs.declared.group_kind.GroupKind.{GroupKind}
+use Rattle.mot_base.specs.declared.group_kind.GroupKind.TheVariants.{Body, Directory}
+use Rattle.mot_base.specs.declared.refusal.Refusal.{Refusal}
+use Rattle.mot_base.specs.declared.refusal.Refusal.TheVariants.{BadName, BadType, BadMime}
+use Rattle.mot_base.specs.declared.refusal.Refusal.TheVariants.{BadNumber, BadBody, EmptyBody}
+use Rattle.mot_base.specs.declared.refusal.Refusal.TheVariants.{BodyTooLong}
+use Rattle.mot_carousel.specs.Content.{ContentNumbers}
+use Rattle.mot_carousel.specs.declared.body.TheConstants.{MAX_BODY}
+use Rattle.mot_carousel.specs.declared.content.TheConstants.{MAX_TYPE, MAX_SUBTYPE}
+use Rattle.mot_carousel.specs.declared.mime.TheConstants.{MAX_MIME}
+use Rattle.mot_carousel.specs.declared.name.TheConstants.{MAX_NAME}
+use Rattle.mot_carousel.specs.declared.period.TheConstants.{MAX_PERIOD}
+use Rattle.mot_groups.specs.SegmentBytes.{segment_of_bytes}
+use Rattle.mot_lines.specs.declared.line.TheConstants.{MAX_PACKETS}
+
+-- TYPE of a `raw` line: 4 is a body, 6 a directory
+abbrev pub kind_in : Option ℕ → Result GroupKind Refusal
+kind_in None = Err BadType
+kind_in (Some n) = if n == 4 then Ok Body else (if n == 6 then Ok Directory else Err BadType)
+
+-- TID: 1 to 65,535
+abbrev pub tid_in : Option ℕ → Result ℕ Refusal
+tid_in None = Err BadNumber
+tid_in (Some n) = if nat_lt 0 n && nat_le n 65535 then Ok n else Err BadNumber
+
+-- HEX of a `raw` line, decoded: 1 to 8,189 bytes
+abbrev pub segment_in : Result (List ℕ) FromHexError → Result (List ℕ) Refusal
+segment_in (Err e) = Err BadBody
+segment_in (Ok bytes) = segment_of_bytes bytes
+
+-- 1 to 255 bytes of UTF-8, with no byte up to 0x20 and no 0x7F
+abbrev pub is_name : List ℕ → Bool
+is_name bytes =
+    nat_lt 0 (length bytes) && nat_le (length bytes) MAX_NAME && is_utf8 bytes
+    && list_all (λ b. nat_lt 32 b && not (b == 127)) bytes
+
+-- NAME
+unfoldable pub name_in : List ℕ → Result (List ℕ) Refusal
+name_in word = if is_name word then Ok word else Err BadName
+
+-- TYPE and SUBTYPE of an object: 0 to 63, and 0 to 511
+abbrev pub content_in : Option ℕ → Option ℕ → Result ContentNumbers Refusal
+content_in None subtype = Err BadType
+content_in (Some t) None = Err BadType
+content_in (Some t) (Some s) =
+    if nat_le t MAX_TYPE && nat_le s MAX_SUBTYPE then Ok (record { content_type = t; subtype = s })
+    else Err BadType
+
+-- 1 to 64 bytes 0x21 to 0x7E
+abbrev pub is_mime : List ℕ → Bool
+is_mime bytes =
+    nat_lt 0 (length bytes) && nat_le (length bytes) MAX_MIME
+    && list_all (λ b. nat_lt 32 b && nat_lt b 127) bytes
+
+-- MIME: `-` is none
+unfoldable pub mime_in : List ℕ → Result (Option (List ℕ)) Refusal
+mime_in word =
+    if bytes_eq word (codes "-") then Ok None
+    else (if is_mime word then Ok (Some word) else Err BadMime)
+
+-- HEX of an object, decoded: 1 to 262,144 bytes
+abbrev pub body_in : Result (List ℕ) FromHexError → Result (List ℕ) Refusal
+body_in (Err e) = Err BadBody
+body_in (Ok bytes) =
+    if is_empty bytes then Err EmptyBody
+    else (if nat_le (length bytes) MAX_BODY then Ok bytes else Err BodyTooLong)
+
+-- N of a period: 0 to 16,777,215
+abbrev pub period_in : Option ℕ → Result ℕ Refusal
+period_in None = Err BadNumber
+period_in (Some n) = if nat_le n MAX_PERIOD then Ok n else Err BadNumber
+
+-- N of a `next` line, which says how many packets: 1 to 100,000
+abbrev pub count_in : Option ℕ → Result ℕ Refusal
+count_in None = Err BadNumber
+count_in (Some n) = if nat_lt 0 n && nat_le n MAX_PACKETS then Ok n else Err BadNumber

@@ -1,0 +1,4 @@
+pub mod Hand
+pub mod LineEnd
+pub mod Listing
+pub mod Words

@@ -1,0 +1,27 @@
+-- What helps to cut a line into words.
+use Rattle.std.specs.Prelude.{ℕ, ◌≡◌, ◌≢◌, List, [], ◌∷◌, length, Option, Some, None}
+use Rattle.std.specs.Borrow.{Bor}
+use Rattle.mot_lines.specs.Words.{words_of}
+
+-- the words of what follows a word, if something does
+abbrev pub words_after : Option (Bor (List ℕ)) → List (List ℕ)
+words_after None = []
+words_after (Some rest) = words_of rest.now
+
+-- these are the words, or there are not three
+abbrev pub AreThree : Option (Bor (List ℕ) × Bor (List ℕ) × Bor (List ℕ)) → List (List ℕ) → Type 0
+AreThree (Some found) words = words ≡ found.0.now ∷ found.1.now ∷ found.2.now ∷ []
+AreThree None words = length words ≢ 3
+
+-- these are the words, or there are not five
+abbrev pub AreFive :
+    Option (Bor (List ℕ) × Bor (List ℕ) × Bor (List ℕ) × Bor (List ℕ) × Bor (List ℕ))
+    → List (List ℕ) → Type 0
+AreFive (Some found) words =
+    words ≡ found.0.now ∷ found.1.now ∷ found.2.now ∷ found.3.now ∷ found.4.now ∷ []
+AreFive None words = length words ≢ 5
+
+-- this is the word, or there is not one
+abbrev pub IsOne : Option (Bor (List ℕ)) → List (List ℕ) → Type 0
+IsOne (Some found) words = words ≡ found.now ∷ []
+IsOne None words = length words ≢ 1

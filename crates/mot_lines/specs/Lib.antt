@@ -1,0 +1,7 @@
+pub mod Fields
+pub mod Inner
+pub mod Line
+pub mod Lines
+pub mod Listing
+pub mod Text
+pub mod Words

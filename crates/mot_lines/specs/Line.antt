@@ -1,0 +1,103 @@
+-- What a line asks for.
+use Rattle.std.specs.Prelude.{ℕ, ◌≡◌, ◌⊎◌, nat_le, if◌then◌else◌, List, [], ◌∷◌, length, Result, Ok}
+use Rattle.std.specs.Prelude.{Err, codes, bytes_eq}
+use Rattle.hex.specs.Hex.{decode_of}
+use Rattle.mot_base.specs.declared.refusal.Refusal.{Refusal}
+use Rattle.mot_base.specs.declared.refusal.Refusal.TheVariants.{OutOfMemory, BadLine}
+use Rattle.mot_carousel.specs.declared.command.Command.TheVariants.{Put, Replace, Withdraw, Period}
+use Rattle.mot_lines.specs.Fields.{kind_in, tid_in, segment_in, name_in, content_in, mime_in}
+use Rattle.mot_lines.specs.Fields.{body_in, period_in, count_in}
+use Rattle.mot_lines.specs.Words.{words_of, number_of_word}
+use Rattle.mot_lines.specs.declared.line.TheConstants.{MAX_LINE}
+use Rattle.mot_lines.specs.declared.line.description.Description.{Description}
+use Rattle.mot_lines.specs.declared.line.Line.{Line}
+use Rattle.mot_lines.specs.declared.line.Line.TheVariants.{Raw, Command}
+use Rattle.mot_lines.specs.declared.line.Line.TheVariants as asks
+
+infixl 10 ◌>>=◌
+-- what f makes of the value, or the refusal
+abbrev pub ◌>>=◌ : {A B : Type 0} → Result A Refusal → (A → Result B Refusal) → Result B Refusal
+(Ok x) >>= f = f x
+(Err r) >>= f = Err r
+
+-- the words of a `raw` line, after its first: TYPE TID HEX
+unfoldable pub raw_of : List (List ℕ) → Result Line Refusal
+raw_of (kind ∷ tid ∷ hex ∷ []) = do
+  k ← kind_in (number_of_word kind)
+  t ← tid_in (number_of_word tid)
+  body ← segment_in (decode_of hex)
+  Ok (Raw k t body)
+raw_of words = Err BadLine
+
+-- the words of a `put` or `replace` line, after its first: NAME TYPE SUBTYPE MIME HEX
+unfoldable pub description_of : List (List ℕ) → Result Description Refusal
+description_of (name ∷ kind ∷ subtype ∷ mime ∷ hex ∷ []) = do
+  n ← name_in name
+  c ← content_in (number_of_word kind) (number_of_word subtype)
+  m ← mime_in mime
+  b ← body_in (decode_of hex)
+  Ok (record { name = n; content = c; mime = m; body = b })
+description_of words = Err BadLine
+
+abbrev pub put_of : List (List ℕ) → Result Line Refusal
+put_of words = do
+  d ← description_of words
+  Ok (Command (Put d.name d.content d.mime d.body))
+
+abbrev pub replace_of : List (List ℕ) → Result Line Refusal
+replace_of words = do
+  d ← description_of words
+  Ok (Command (Replace d.name d.content d.mime d.body))
+
+-- the words of a `withdraw` line, after its first: NAME
+abbrev pub withdraw_of : List (List ℕ) → Result Line Refusal
+withdraw_of (name ∷ []) = do
+  n ← name_in name
+  Ok (Command (Withdraw n))
+withdraw_of words = Err BadLine
+
+-- the words of a `period` line, after its first: N
+abbrev pub period_of : List (List ℕ) → Result Line Refusal
+period_of (number ∷ []) = do
+  n ← period_in (number_of_word number)
+  Ok (Command (Period n))
+period_of words = Err BadLine
+
+-- a `list` line has no words after its first
+abbrev pub list_of : List (List ℕ) → Result Line Refusal
+list_of [] = Ok asks.List
+list_of (word ∷ words) = Err BadLine
+
+-- the words of a `next` line, after its first: N
+abbrev pub next_of : List (List ℕ) → Result Line Refusal
+next_of (number ∷ []) = do
+  n ← count_in (number_of_word number)
+  Ok (asks.Next n)
+next_of words = Err BadLine
+
+-- a `turn` line has no words after its first
+abbrev pub turn_of : List (List ℕ) → Result Line Refusal
+turn_of [] = Ok asks.Turn
+turn_of (word ∷ words) = Err BadLine
+
+-- words ask for what their first one says
+unfoldable pub request_of : List (List ℕ) → Result Line Refusal
+request_of [] = Err BadLine
+request_of (first ∷ words) =
+    if bytes_eq first (codes "raw") then raw_of words
+    else if bytes_eq first (codes "put") then put_of words
+    else if bytes_eq first (codes "replace") then replace_of words
+    else if bytes_eq first (codes "withdraw") then withdraw_of words
+    else if bytes_eq first (codes "period") then period_of words
+    else if bytes_eq first (codes "list") then list_of words
+    else if bytes_eq first (codes "next") then next_of words
+    else if bytes_eq first (codes "turn") then turn_of words
+    else Err BadLine
+
+-- what a line of at most 530,000 bytes asks for, or why it is refused
+unfoldable pub line_of : List ℕ → Result Line Refusal
+line_of bytes = if nat_le (length bytes) MAX_LINE then request_of (words_of bytes) else Err BadLine
+
+-- this answer, but a growth of memory that is refused may stand in its place
+abbrev pub OrOutOfMemory : {T : Type 0} → Result T Refusal → Result T Refusal → Type 0
+OrOutOfMemory result answer = (result ≡ answer) ⊎ (result ≡ Err OutOfMemory)

@@ -1,0 +1,36 @@
+-- The lines of an input: each ends with 0x0A, and what follows the last 0x0A is one, too, unless it
+-- is empty.
+use Rattle.std.specs.Prelude.{ℕ, ◌==◌, List, [], ◌∷◌, ◌++◌}
+use Rattle.std.specs.List.{slice_split}
+
+-- what stands between line ends; an input with none is one piece
+abbrev pub pieces_between : List ℕ → List (List ℕ)
+pieces_between input = slice_split (λ b. b == 10) input
+
+-- all but the last
+abbrev pub all_but_last : List (List ℕ) → List (List ℕ)
+all_but_last [] = []
+all_but_last (x ∷ []) = []
+all_but_last (x ∷ y ∷ zs) = x ∷ all_but_last (y ∷ zs)
+
+-- the last
+abbrev pub last_of : List (List ℕ) → List ℕ
+last_of [] = []
+last_of (x ∷ []) = x
+last_of (x ∷ y ∷ zs) = last_of (y ∷ zs)
+
+-- the lines whose end has come
+unfoldable pub whole_lines : List ℕ → List (List ℕ)
+whole_lines input = all_but_last (pieces_between input)
+
+-- what has come of the next line
+unfoldable pub rest_of : List ℕ → List ℕ
+rest_of input = last_of (pieces_between input)
+
+abbrev pub unless_empty : List ℕ → List (List ℕ)
+unless_empty [] = []
+unless_empty (b ∷ bs) = (b ∷ bs) ∷ []
+
+-- all lines
+unfoldable pub lines_of : List ℕ → List (List ℕ)
+lines_of input = whole_lines input ++ unless_empty (rest_of input)

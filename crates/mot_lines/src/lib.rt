@@ -1,0 +1,19 @@
+//! The lines of an input, what each asks for, and the lines of replies.
+#![tactic(auto)]
+
+mod hand;
+mod line;
+mod line_end;
+mod text;
+
+pub use hand::Hand;
+pub use line::{Description, Line, MAX_LINE, MAX_PACKETS, parse_line};
+pub use line_end::cut_at_line_end;
+pub use mot_groups::SegmentBytes;
+pub use text::{
+    LINE_ROOM, TextLine, carousel_text, done_text, object_text, packet_text, played_text,
+    refusal_text,
+};
+
+#[cfg(test)]
+mod tests;

@@ -1,0 +1,188 @@
+ghost use Rattle.std.specs.Prelude.{◌≡◌, ◌∷◌};
+ghost use Rattle.mot_lines.specs.Line.{raw_of, put_of, replace_of, withdraw_of, period_of, list_of};
+ghost use Rattle.mot_lines.specs.Line.{next_of, turn_of, request_of, line_of, OrOutOfMemory};
+ghost use Rattle.mot_lines.specs.Inner.Words.{words_after};
+
+mod description;
+mod fields;
+mod words;
+
+use crate::SegmentBytes;
+pub use description::Description;
+use description::parse_description;
+use fields::{parse_count, parse_kind, parse_name, parse_period, parse_segment, parse_tid};
+use mot_base::{GroupKind, Refusal, TransportId};
+use mot_carousel::Command;
+use std::alloc::Global;
+use words::{cut_word, is_word, one_word, three_words};
+
+/// The longest line, in bytes without its end.
+pub const MAX_LINE: usize = 530_000;
+
+/// The most packets that one `next` line asks for.
+pub const MAX_PACKETS: u32 = 100_000;
+
+/// What a line asks for.
+#[derive(Debug, Drop)]
+pub enum Line {
+    /// A command: `put NAME TYPE SUBTYPE MIME HEX`, `replace` with the same words, `withdraw NAME`
+    /// or `period N`.
+    Command(Command),
+    /// What the carousel has: `list`.
+    List,
+    /// One data group of one segment, and the packets that carry it: `raw TYPE TID HEX`.
+    Raw {
+        /// TYPE: 4 for a body, 6 for a directory.
+        kind: GroupKind,
+        /// TID: the transport id of the segment's object, 1 to 65,535.
+        tid: TransportId,
+        /// HEX: the bytes of the one segment.
+        body: SegmentBytes,
+    },
+    /// So many packets of the carousel's turns, 1 to 100,000: `next N`.
+    Next(u32),
+    /// The packets up to the first that ends a turn: `turn`.
+    Turn,
+}
+
+/// What a line asks for, given without its end. `BadLine`: an unknown first word, a wrong count of
+/// words, or more than 530,000 bytes. Then the words are looked at in their order, and the first
+/// that is wrong gives the refusal: `BadName`, `BadType`, `BadMime`, `BadNumber`, or for the body
+/// `BadBody`, `EmptyBody` or `BodyTooLong`. `OutOfMemory` where there is no room for a name, a MIME
+/// type or the body.
+pub fn parse_line(alloc: Global, line: &[u8]) -> Result<Line, Refusal>
+    ensures { OrOutOfMemory result (line_of line.now) }
+{
+    if line.len() > MAX_LINE {
+        return Err(Refusal::BadLine);
+    }
+    let (first, rest) = cut_word(line);
+    parse_request(alloc, first, rest)
+}
+
+/// What a line asks for, by its first word and those after it.
+fn parse_request(alloc: Global, first: &[u8], words: Option<&[u8]>) -> Result<Line, Refusal>
+    ensures { OrOutOfMemory result (request_of (first.now ∷ words_after words.entry)) }
+{
+    if is_word(first, b"raw") {
+        parse_raw(alloc, words)
+    } else if is_word(first, b"put") {
+        parse_put(alloc, words)
+    } else if is_word(first, b"replace") {
+        parse_replace(alloc, words)
+    } else if is_word(first, b"withdraw") {
+        parse_withdraw(alloc, words)
+    } else if is_word(first, b"period") {
+        parse_set_period(words)
+    } else if is_word(first, b"list") {
+        parse_list(words)
+    } else if is_word(first, b"next") {
+        parse_next(words)
+    } else if is_word(first, b"turn") {
+        parse_turn(words)
+    } else {
+        Err(Refusal::BadLine)
+    }
+}
+
+/// What a `put` line asks for, by its words after the first.
+fn parse_put(alloc: Global, words: Option<&[u8]>) -> Result<Line, Refusal>
+    ensures { OrOutOfMemory result (put_of (words_after words.entry)) }
+{
+    let Description {
+        name,
+        content,
+        mime,
+        body,
+    } = parse_description(alloc, words)?;
+    Ok(Line::Command(Command::Put {
+        name,
+        content,
+        mime,
+        body,
+    }))
+}
+
+/// What a `replace` line asks for, by its words after the first.
+fn parse_replace(alloc: Global, words: Option<&[u8]>) -> Result<Line, Refusal>
+    ensures { OrOutOfMemory result (replace_of (words_after words.entry)) }
+{
+    let Description {
+        name,
+        content,
+        mime,
+        body,
+    } = parse_description(alloc, words)?;
+    Ok(Line::Command(Command::Replace {
+        name,
+        content,
+        mime,
+        body,
+    }))
+}
+
+/// What a `withdraw` line asks for, by its words after the first.
+fn parse_withdraw(alloc: Global, words: Option<&[u8]>) -> Result<Line, Refusal>
+    ensures { OrOutOfMemory result (withdraw_of (words_after words.entry)) }
+{
+    let Some(name) = one_word(words) else {
+        return Err(Refusal::BadLine);
+    };
+    let name = parse_name(alloc, name)?;
+    Ok(Line::Command(Command::Withdraw { name }))
+}
+
+/// What a `period` line asks for, by its words after the first.
+fn parse_set_period(words: Option<&[u8]>) -> Result<Line, Refusal>
+    ensures { result ≡ period_of (words_after words.entry) }
+{
+    let Some(number) = one_word(words) else {
+        return Err(Refusal::BadLine);
+    };
+    let period = parse_period(number)?;
+    Ok(Line::Command(Command::Period(period)))
+}
+
+/// What a `list` line asks for, by its words after the first.
+fn parse_list(words: Option<&[u8]>) -> Result<Line, Refusal>
+    ensures { result ≡ list_of (words_after words.entry) }
+{
+    match words {
+        None => Ok(Line::List),
+        Some(_) => Err(Refusal::BadLine),
+    }
+}
+
+/// What a `next` line asks for, by its words after the first.
+fn parse_next(words: Option<&[u8]>) -> Result<Line, Refusal>
+    ensures { result ≡ next_of (words_after words.entry) }
+{
+    let Some(number) = one_word(words) else {
+        return Err(Refusal::BadLine);
+    };
+    let count = parse_count(number)?;
+    Ok(Line::Next(count))
+}
+
+/// What a `turn` line asks for, by its words after the first.
+fn parse_turn(words: Option<&[u8]>) -> Result<Line, Refusal>
+    ensures { result ≡ turn_of (words_after words.entry) }
+{
+    match words {
+        None => Ok(Line::Turn),
+        Some(_) => Err(Refusal::BadLine),
+    }
+}
+
+/// What a `raw` line asks for, by its words after the first.
+fn parse_raw(alloc: Global, words: Option<&[u8]>) -> Result<Line, Refusal>
+    ensures { OrOutOfMemory result (raw_of (words_after words.entry)) }
+{
+    let Some((kind, tid, hex)) = three_words(words) else {
+        return Err(Refusal::BadLine);
+    };
+    let kind = parse_kind(kind)?;
+    let tid = parse_tid(tid)?;
+    let body = parse_segment(alloc, hex)?;
+    Ok(Line::Raw { kind, tid, body })
+}

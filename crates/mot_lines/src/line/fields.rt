@@ -1,0 +1,125 @@
+ghost use Rattle.std.specs.Prelude.{◌≡◌};
+ghost use Rattle.hex.specs.Hex.{decode_of};
+ghost use Rattle.mot_lines.specs.Fields.{kind_in, tid_in, segment_in, name_in, content_in, mime_in};
+ghost use Rattle.mot_lines.specs.Fields.{body_in, period_in, count_in};
+ghost use Rattle.mot_lines.specs.Line.{OrOutOfMemory};
+ghost use Rattle.mot_lines.specs.Words.{number_of_word};
+
+use super::MAX_PACKETS;
+use super::words::{is_word, parse_number};
+use crate::SegmentBytes;
+use hex::FromHexError;
+use mot_base::{GroupKind, Refusal, TransportId};
+use mot_carousel::{Body, Content, Mime, Name, Period};
+use std::alloc::Global;
+
+/// TYPE, or `BadType`.
+pub(super) fn parse_kind(word: &[u8]) -> Result<GroupKind, Refusal>
+    ensures { result ≡ kind_in (number_of_word word.now) }
+{
+    match parse_number(word) {
+        Some(4) => Ok(GroupKind::Body),
+        Some(6) => Ok(GroupKind::Directory),
+        _ => Err(Refusal::BadType),
+    }
+}
+
+/// TID, or `BadNumber`.
+pub(super) fn parse_tid(word: &[u8]) -> Result<TransportId, Refusal>
+    ensures { result ≡ tid_in (number_of_word word.now) }
+{
+    let Some(number) = parse_number(word) else {
+        return Err(Refusal::BadNumber);
+    };
+    let Ok(number) = u16::try_from(number) else {
+        return Err(Refusal::BadNumber);
+    };
+    match TransportId::new(number) {
+        Some(tid) => Ok(tid),
+        None => Err(Refusal::BadNumber),
+    }
+}
+
+/// HEX, or `BadBody`, `EmptyBody` or `BodyTooLong`; or `OutOfMemory`.
+pub(super) fn parse_segment(alloc: Global, word: &[u8]) -> Result<SegmentBytes, Refusal>
+    ensures { OrOutOfMemory result (segment_in (decode_of word.now)) }
+{
+    match hex::decode(alloc, word) {
+        Ok(bytes) => SegmentBytes::new(bytes),
+        Err(FromHexError::OutOfMemory) => Err(Refusal::OutOfMemory),
+        Err(_) => Err(Refusal::BadBody),
+    }
+}
+
+/// NAME, or `BadName`; or `OutOfMemory`.
+pub(super) fn parse_name(alloc: Global, word: &[u8]) -> Result<Name, Refusal>
+    ensures { OrOutOfMemory result (name_in word.now) }
+{
+    let bytes = Vec::from_slice(alloc, word)?;
+    Name::new(bytes)
+}
+
+/// TYPE and SUBTYPE, or `BadType`.
+pub(super) fn parse_content(kind: &[u8], subtype: &[u8]) -> Result<Content, Refusal>
+    ensures { result ≡ content_in (number_of_word kind.now) (number_of_word subtype.now) }
+{
+    let Some(kind) = parse_number(kind) else {
+        return Err(Refusal::BadType);
+    };
+    let Some(subtype) = parse_number(subtype) else {
+        return Err(Refusal::BadType);
+    };
+    let (Ok(kind), Ok(subtype)) = (u8::try_from(kind), u16::try_from(subtype)) else {
+        return Err(Refusal::BadType);
+    };
+    Content::new(kind, subtype)
+}
+
+/// MIME, or `BadMime`; or `OutOfMemory`. `-` is none.
+pub(super) fn parse_mime(alloc: Global, word: &[u8]) -> Result<Option<Mime>, Refusal>
+    ensures { OrOutOfMemory result (mime_in word.now) }
+{
+    if is_word(word, b"-") {
+        return Ok(None);
+    }
+    let bytes = Vec::from_slice(alloc, word)?;
+    let mime = Mime::new(bytes)?;
+    Ok(Some(mime))
+}
+
+/// HEX, or `BadBody`, `EmptyBody` or `BodyTooLong`; or `OutOfMemory`.
+pub(super) fn parse_body(alloc: Global, word: &[u8]) -> Result<Body, Refusal>
+    ensures { OrOutOfMemory result (body_in (decode_of word.now)) }
+{
+    match hex::decode(alloc, word) {
+        Ok(bytes) => Body::new(bytes),
+        Err(FromHexError::OutOfMemory) => Err(Refusal::OutOfMemory),
+        Err(_) => Err(Refusal::BadBody),
+    }
+}
+
+/// N of a period, or `BadNumber`.
+pub(super) fn parse_period(word: &[u8]) -> Result<Period, Refusal>
+    ensures { result ≡ period_in (number_of_word word.now) }
+{
+    let Some(number) = parse_number(word) else {
+        return Err(Refusal::BadNumber);
+    };
+    let Ok(number) = u32::try_from(number) else {
+        return Err(Refusal::BadNumber);
+    };
+    Period::new(number)
+}
+
+/// N of a `next` line, or `BadNumber`.
+pub(super) fn parse_count(word: &[u8]) -> Result<u32, Refusal>
+    ensures { result ≡ count_in (number_of_word word.now) }
+{
+    let Some(number) = parse_number(word) else {
+        return Err(Refusal::BadNumber);
+    };
+    if number == 0 || number > u64::from(MAX_PACKETS) {
+        return Err(Refusal::BadNumber);
+    }
+    Ok(number as u32)
+}

@@ -1,0 +1,146 @@
+ghost use Rattle.std.specs.Prelude.{◌≡◌, ℕ, ◌+◌, ◌≤◌, List, Option, ◌++◌, length};
+ghost use Rattle.arrayvec.specs.ArrayVec.{array_vec_len};
+ghost use Rattle.mot_lines.specs.Listing.{numbers_line, mime_word};
+ghost use Rattle.mot_lines.specs.Inner.Listing.{object_line_beside};
+ghost use Rattle.mot_lines.specs.Text.{field, taken_words, done_line, packet_line, played_line};
+ghost use Rattle.mot_lines.specs.Text.{refusal_line};
+
+use arrayvec::ArrayVec;
+use itoa::Buffer;
+use mot_base::{Refusal, TransportId, array_append};
+use mot_carousel::{Carousel, Done, Mime, Object};
+use mot_packets::Packet;
+
+/// Room for a line of a reply.
+pub const LINE_ROOM: usize = 400;
+
+/// One line of a reply, with its end: the longest shows an object.
+pub type TextLine = ArrayVec<u8, LINE_ROOM>;
+
+/// A packet's line.
+pub fn packet_text(packet: &Packet) -> TextLine
+    ensures { result.items ≡ packet_line packet.now.items }
+{
+    let mut digits = [0u8; 192];
+    let digits = &mut digits[..2 * packet.len()];
+    hex::encode_to_slice(packet.as_slice(), digits).unwrap();
+    let mut text = TextLine::new();
+    array_append(&mut text, b"packet ");
+    array_append(&mut text, digits);
+    array_append(&mut text, b"\n");
+    text
+}
+
+/// The line of a packet that was played, with ` end` behind one that ends a turn.
+pub fn played_text(packet: &Packet, ends_turn: bool) -> TextLine
+    ensures { result.items ≡ played_line packet.now.items ends_turn }
+{
+    let mut digits = [0u8; 192];
+    let digits = &mut digits[..2 * packet.len()];
+    hex::encode_to_slice(packet.as_slice(), digits).unwrap();
+    let mut text = TextLine::new();
+    array_append(&mut text, b"packet ");
+    array_append(&mut text, digits);
+    if ends_turn {
+        array_append(&mut text, b" end");
+    }
+    array_append(&mut text, b"\n");
+    text
+}
+
+/// A refusal's line.
+pub fn refusal_text(refusal: Refusal) -> TextLine
+    ensures { result.items ≡ refusal_line refusal }
+{
+    let mut buffer = Buffer::new();
+    let mut text = TextLine::new();
+    array_append(&mut text, b"refused ");
+    array_append(&mut text, buffer.format(refusal.number()).as_bytes());
+    array_append(&mut text, b" ");
+    array_append(&mut text, refusal.name().as_bytes());
+    array_append(&mut text, b"\n");
+    text
+}
+
+/// The line of an accepted command.
+pub fn done_text(done: Done) -> TextLine
+    ensures { result.items ≡ done_line done }
+{
+    let mut buffer = Buffer::new();
+    let mut text = TextLine::new();
+    array_append(&mut text, b"done ");
+    append_taken(&mut text, done.object);
+    array_append(&mut text, b"directory ");
+    array_append(&mut text, buffer.format(done.directory.get()).as_bytes());
+    array_append(&mut text, b"\n");
+    text
+}
+
+/// The first line of a list.
+pub fn carousel_text(carousel: &Carousel) -> TextLine
+    ensures { result.items ≡ numbers_line carousel.now.period carousel.now.directory
+        carousel.now.cursor (length carousel.now.objects.items) }
+{
+    let mut buffer = Buffer::new();
+    let mut text = TextLine::new();
+    array_append(&mut text, b"carousel ");
+    append_field(&mut text, carousel.period.get());
+    append_field(&mut text, u32::from(carousel.directory.get()));
+    append_field(&mut text, u32::from(carousel.cursor.get()));
+    array_append(&mut text, buffer.format(carousel.objects.len()).as_bytes());
+    array_append(&mut text, b"\n");
+    text
+}
+
+/// An object's line.
+pub fn object_text(object: &Object) -> TextLine
+    ensures { result.items ≡ object_line_beside object.now }
+{
+    let mut text = TextLine::new();
+    array_append(&mut text, b"object ");
+    append_field(&mut text, u32::from(object.tid.get()));
+    append_field(&mut text, u32::from(object.version));
+    append_field(&mut text, u32::from(object.content.content_type()));
+    append_field(&mut text, u32::from(object.content.subtype()));
+    append_field(&mut text, object.length.get());
+    array_append(&mut text, object.name.as_bytes());
+    array_append(&mut text, b" ");
+    append_mime(&mut text, &object.mime);
+    array_append(&mut text, b"\n");
+    text
+}
+
+/// The id that an object took, if one did.
+fn append_taken(text: &mut TextLine, object: Option<TransportId>)
+    requires { array_vec_len text.old + 18 ≤ LINE_ROOM }
+    ensures items { text.new.items ≡ text.old.items ++ taken_words object }
+    ensures len { array_vec_len text.new ≤ array_vec_len text.old + 18 }
+{
+    if let Some(object) = object {
+        array_append(text, b"object ");
+        append_field(text, u32::from(object.get()));
+    }
+}
+
+/// A number, and the space after it.
+fn append_field(text: &mut TextLine, number: u32)
+    requires { array_vec_len text.old + 11 ≤ LINE_ROOM }
+    ensures items { text.new.items ≡ text.old.items ++ field number }
+    ensures len { array_vec_len text.new ≤ array_vec_len text.old + 11 }
+{
+    let mut buffer = Buffer::new();
+    array_append(text, buffer.format(number).as_bytes());
+    array_append(text, b" ");
+}
+
+/// The MIME type, or `-` for none.
+fn append_mime(text: &mut TextLine, mime: &Option<Mime>)
+    requires { array_vec_len text.old + 64 ≤ LINE_ROOM }
+    ensures items { text.new.items ≡ text.old.items ++ mime_word mime.now }
+    ensures len { array_vec_len text.new ≤ array_vec_len text.old + 64 }
+{
+    match mime {
+        Some(mime) => array_append(text, mime.as_bytes()),
+        None => array_append(text, b"-"),
+    }
+}

@@ -1,0 +1,12 @@
+-- What holds of the definitions, for the crates above.
+
+-- the packets of a whole turn of a carousel read as exactly the carousel
+pub use Rattle.mot_player.proofs.WholeTurn.{turns_read_as_their_carousels}
+-- packets and groups have their continuity indexes, whatever comes between the requests
+pub use Rattle.mot_player.proofs.Continuous.{steps-are-continuous}
+-- one more request, and one more change, go on where the steps before left off
+pub use Rattle.mot_player.proofs.GoesOn.{requests-go_on, changes-go_on}
+-- and so do further steps
+pub use Rattle.mot_player.proofs.GoesOn.{steps-go_on}
+-- each request brings the end of the turn nearer
+pub use Rattle.mot_player.proofs.Ending.{turns-end}

@@ -1,0 +1,15 @@
+pub mod Addresses
+pub mod Answered
+pub mod Continuous
+pub mod Ending
+pub mod GoesOn
+pub mod Indexes
+pub mod Kept
+pub mod Laws
+pub mod NextSegment
+pub mod Plans
+pub mod Requests
+pub mod Rows
+pub mod Segments
+pub mod TurnReads
+pub mod WholeTurn

@@ -1,0 +1,55 @@
+use Rattle.std.proofs.Common.{◌≡◌, ℕ, List, Some, ap, sym, subst}
+use Rattle.mot_packets.specs.Packet.{read_packet}
+use Rattle.mot_packets.specs.Written.{bytes_of_packet}
+use Rattle.mot_player.specs.Laws.{IsPlace, IsStep}
+use Rattle.mot_player.specs.Inner.Ready.{IsReady, place_with, standing_of}
+use Rattle.mot_player.specs.Standing.{AreBodiesFor, Standing, TurnPlan, place_of}
+use Rattle.mot_player.specs.declared.player.Player.TheInside.{Inside}
+use Rattle.mot_player.specs.declared.state.State.{State}
+use Rattle.mot_player.proofs.Answered.{place_is, answers-under_way, answers-begun, sent_from}
+use Rattle.mot_player.proofs.player.Player.next_packet.Goals as goal
+use Rattle.mot_player.proofs.player.Player.next_packet.Goals.{then-self-eq0+in_ok-begin, else-self-eq0}
+
+pub returns-clause-sent : goal.returns-clause-sent
+returns-clause-sent g c = λ honest.
+    let bodies : List (List ℕ) = g.B.Bodies.bodies c.args.bodies.now in
+    let own : AreBodiesFor c.self.inside.state.turn bodies =
+    subst (λ (t : TurnPlan). AreBodiesFor t bodies) (sym (ap (λ (s : Standing). s.turn) c.self.view_is)) c.requires in
+    let answered : Standing → Type 0 = λ s. IsStep (place_of s bodies) c.send.result.packet.items c.send.result.ends_turn
+    (place_with c.send.new.self bodies) in
+    elim c.if-self-eq0.branch [
+      | then-self-eq0+in_ok-begin w ↦ (
+          let later : AreBodiesFor w.begin.new.self.turn bodies =
+          subst (λ (t : TurnPlan). AreBodiesFor t bodies) (sym w.in_ok-begin.ensures.turn) own in
+          let same : c.if-self-eq0.self-inside.state ≡ w.begin.new.self = ap (λ (i : Inside). i.state) w.self-inside-is in
+          let bytes = subst (λ (s : State). c.send.result.packet.items ≡ bytes_of_packet (sent_from s bodies).packet) same
+          (c.send.ensures.bytes bodies) in
+          let packet = subst (λ (s : State). read_packet c.send.result.packet.items ≡ Some (sent_from s bodies).packet) same
+          (c.send.ensures.packet bodies) in
+          let ends = subst (λ (s : State). c.send.result.ends_turn ≡ (sent_from s bodies).ends_turn) same
+          (c.send.ensures.ends_turn bodies (subst (λ (s : State). AreBodiesFor s.turn bodies) (sym same) later)) in
+          let place = subst (λ (s : State). place_with c.send.new.self bodies ≡ (sent_from s bodies).place) same
+          (c.send.ensures.place bodies) in
+          subst answered c.self.view_is (answers-begun c.self.inside.state w.begin.new.self bodies c.send.result.packet.items
+          c.send.result.ends_turn (place_with c.send.new.self bodies) w.if-self-eq0.true w.in_ok-begin.ensures.sent
+          (w.in_ok-begin.ensures.begun (subst g.B.Bodies.IsHonest w.bodies-is honest)) bytes packet ends place))
+      | else-self-eq0 w ↦ (
+          let same : c.if-self-eq0.self-inside.state ≡ c.self.inside.state = ap (λ (i : Inside). i.state) w.self-inside-is in
+          let bytes = subst (λ (s : State). c.send.result.packet.items ≡ bytes_of_packet (sent_from s bodies).packet) same
+          (c.send.ensures.bytes bodies) in
+          let packet = subst (λ (s : State). read_packet c.send.result.packet.items ≡ Some (sent_from s bodies).packet) same
+          (c.send.ensures.packet bodies) in
+          let ends = subst (λ (s : State). c.send.result.ends_turn ≡ (sent_from s bodies).ends_turn) same
+          (c.send.ensures.ends_turn bodies (subst (λ (s : State). AreBodiesFor s.turn bodies) (sym same) own)) in
+          let place = subst (λ (s : State). place_with c.send.new.self bodies ≡ (sent_from s bodies).place) same
+          (c.send.ensures.place bodies) in
+          subst answered c.self.view_is (answers-under_way c.self.inside.state bodies c.send.result.packet.items
+          c.send.result.ends_turn (place_with c.send.new.self bodies) w.if-self-eq0.false
+          bytes packet ends place))
+    ]
+
+pub returns-clause-place : goal.returns-clause-place
+returns-clause-place g c = place_is c.args.self.now c.self.inside.state c.self.view_is c.self.invariant
+
+pub returns-in_err-begin-clause-place : goal.returns-in_err-begin-clause-place
+returns-in_err-begin-clause-place g c = place_is c.args.self.now c.self.inside.state c.self.view_is c.self.invariant

@@ -1,0 +1,10 @@
+use Rattle.std.proofs.Common.{◌≡◌, ℕ, List, ap, sym, subst}
+use Rattle.mot_player.specs.Inner.Ready.{IsReady, standing_of}
+use Rattle.mot_player.specs.Laws.{IsPlace}
+use Rattle.mot_player.specs.Standing.{AreBodiesFor, Standing, TurnPlan, place_of}
+use Rattle.mot_player.specs.declared.state.State.{State}
+use Rattle.mot_player.proofs.Answered.{place_is}
+use Rattle.mot_player.proofs.player.Player.segment_size.Goals as goal
+
+pub returns-clause-place : goal.returns-clause-place
+returns-clause-place c = place_is c.args.self.now c.self.inside.state c.self.view_is c.self.invariant

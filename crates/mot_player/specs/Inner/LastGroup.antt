@@ -1,0 +1,11 @@
+-- What the program keeps of the group of a type that was begun last.
+use Rattle.std.specs.Prelude.{if◌then◌else◌, ◌++◌, Option, Some, None}
+use Rattle.mot_base.specs.Reading.{is_empty}
+use Rattle.mot_player.specs.declared.last_group.LastGroup.{LastGroup}
+use Rattle.mot_player.specs.Place.{Last}
+
+-- none where there is no segment
+abbrev pub last_of : LastGroup → Option Last
+last_of kept =
+    if is_empty kept.segment.items then None
+    else Some (record { index = kept.index; content = kept.front ++ kept.segment.items })

@@ -1,0 +1,96 @@
+-- Laws of whole turns and of whole streams.
+use Rattle.std.specs.Prelude.{◌≡◌, ◌⊎◌, ℕ, ◌+◌, ◌-◌, length, Option, Bool, ◌≤◌, ◌<◌, true, false}
+use Rattle.std.specs.Prelude.{List, [], ◌∷◌, ◌++◌, map}
+use Rattle.std.specs.Prelude.{replicate}
+use Rattle.std.specs.Prelude.{Some, None, IfSome}
+use Rattle.mot_base.specs.Reading.{read_each}
+use Rattle.mot_base.specs.declared.numbers.TheConstants.{MAX_SEGMENT}
+use Rattle.mot_packets.specs.Packet.{read_packet}
+use Rattle.mot_packets.specs.Written.{bytes_of_packet}
+use Rattle.mot_carousel.specs.Carousel.{Carousel, IsSound}
+use Rattle.mot_groups.specs.Group.{Segment}
+use Rattle.mot_player.specs.Continuity.{IsContinuous}
+use Rattle.mot_player.specs.Place.{Last, UnderWay, to_send, Place, Sent, Step, Request, NewTurn}
+use Rattle.mot_player.specs.Place.{change_turn}
+use Rattle.mot_player.specs.Place.{opened_place, request, sent_by}
+use Rattle.mot_player.specs.Reading.{ReadsAs}
+use Rattle.mot_player.specs.Turn.{Turn, IsTurnOf, IsPlayable, segments_of_turn}
+
+-- a request was answered by a packet, which ends the turn or not, and the player stands elsewhere
+pub record IsStep (old : Place) (packet : List ℕ) (ends_turn : Bool) (new : Place) : Type 0 where
+  pub sent : Sent
+  pub asked : request old ≡ Some sent
+  pub bytes : packet ≡ bytes_of_packet sent.packet
+  pub reads : read_packet packet ≡ Some sent.packet
+  pub ends : ends_turn ≡ sent.ends_turn
+  pub place : new ≡ sent.place
+
+-- a place from which every group can be sent: the kept indexes fit a group's header, and so does
+-- each segment number
+pub record IsPlace (place : Place) : Type 0 where
+  pub room : 0 < place.room
+  pub size : (0 < place.segment_size) × (place.segment_size ≤ MAX_SEGMENT)
+  pub directory : IfSome place.last_directory (λ (last : Last). last.index < 16)
+  pub body : IfSome place.last_body (λ (last : Last). last.index < 16)
+  pub playable : IsPlayable place.turn place.segment_size
+  pub under_way : IfSome place.under_way (λ (u : UnderWay). u.sent < length u.group)
+
+-- no packet of the turn was sent yet: nothing waits, or the whole turn does
+pub record IsAtTurnsBeginning (place : Place) : Type 0 where
+  pub under_way : place.under_way ≡ None
+  pub waiting : (place.waiting ≡ [])
+      ⊎ (place.waiting ≡ segments_of_turn place.turn place.segment_size)
+
+-- how many bytes of groups come until the end of the turn
+abbrev pub group_bytes_of : List Segment → ℕ
+group_bytes_of [] = 0
+group_bytes_of (s ∷ segments) = length s.bytes + 11 + group_bytes_of segments
+
+abbrev pub bytes_due_with : Place → Option UnderWay → ℕ
+bytes_due_with place None = group_bytes_of (to_send place)
+bytes_due_with place (Some u) = length u.group - u.sent + group_bytes_of place.waiting
+
+abbrev pub bytes_due : Place → ℕ
+bytes_due place = bytes_due_with place place.under_way
+
+-- each request brings the end of the turn nearer
+abbrev pub TurnsEnd : Type 0
+TurnsEnd =
+    (place : Place) (s : Sent) → IsPlace place → request place ≡ Some s → s.ends_turn ≡ false →
+    bytes_due s.place < bytes_due place
+
+-- the packets that were sent
+abbrev pub AreSent : List Sent → List (List ℕ) → Type 0
+AreSent sents packets = read_each read_packet packets ≡ Some (map (λ (s : Sent). s.packet) sents)
+
+-- From the beginning of a turn of a carousel, the packets of requests up to the first that ends the
+-- turn read as exactly the carousel.
+abbrev pub TurnsReadAsTheirCarousels : Type 0
+TurnsReadAsTheirCarousels =
+    (old new : Place) (c : Carousel) (n : ℕ) (sents : List Sent) (packets : List (List ℕ)) →
+    IsPlace old → IsTurnOf old.turn c old.segment_size → IsSound c → IsAtTurnsBeginning old →
+    sent_by old (Request ∷ replicate n Request) ≡ Some (sents, new) →
+    map (λ (s : Sent). s.ends_turn) sents ≡ replicate n false ++ true ∷ [] →
+    AreSent sents packets → ReadsAs packets c old.segment_size
+
+-- Whatever turns come between the requests, the packets of an opened player have their continuity
+-- indexes.
+abbrev pub StepsAreContinuous : Type 0
+StepsAreContinuous =
+    (address room size : ℕ) (turn : Turn) (steps : List Step) (sents : List Sent) (new : Place)
+    (packets : List (List ℕ)) → 0 < room →
+    sent_by (opened_place address room size turn) steps ≡ Some (sents, new) →
+    AreSent sents packets → IsContinuous packets
+
+-- One more request, and one more change, go on where the steps before left off.
+abbrev pub RequestsGoOn : Type 0
+RequestsGoOn =
+    (place mid : Place) (steps : List Step) (sents : List Sent) (s : Sent) →
+    sent_by place steps ≡ Some (sents, mid) →
+    request mid ≡ Some s → sent_by place (steps ++ Request ∷ []) ≡ Some (sents ++ s ∷ [], s.place)
+
+abbrev pub ChangesGoOn : Type 0
+ChangesGoOn =
+    (place mid : Place) (steps : List Step) (sents : List Sent) (turn : Turn) →
+    sent_by place steps ≡ Some (sents, mid) →
+    sent_by place (steps ++ NewTurn turn ∷ []) ≡ Some (sents, change_turn turn mid)

@@ -1,0 +1,77 @@
+ghost use Rattle.std.specs.Prelude.{◌≡◌, ℕ, ◌+◌, ◌*◌, ◌^◌, ◌<◌, ◌≤◌, ◌==◌, List, length};
+ghost use Rattle.std.specs.Prelude.{if◌then◌else◌};
+ghost use Rattle.mot_player.specs.Inner.Next.{IsNext};
+ghost use Rattle.mot_player.specs.Standing.{IsPlannable, IsWithinTurn, entity_length};
+
+use crate::Turn;
+use mot_base::SegmentSize;
+use mot_groups::segment_count;
+
+/// A segment of an entity of a turn, and which comes behind it.
+#[derive(Clone, Copy, Debug)]
+pub(crate) struct Part {
+    pub entity: usize,
+    /// Where in the entity its bytes begin, and how many there are.
+    pub from: usize,
+    pub len: usize,
+    pub number: u16,
+    pub is_last: bool,
+    pub next_entity: usize,
+    pub next_segment: usize,
+}
+
+/// The segment of an entity; past the last entity the first of the turn.
+pub(crate) fn part_at(turn: &Turn, size: SegmentSize, entity: usize, segment: usize) -> Part
+    requires { IsWithinTurn turn.now size entity segment }
+    ensures entity { result.entity < length turn.now.bodies + 1 }
+    ensures range { result.from + result.len ≤ entity_length turn.now result.entity }
+    ensures len { (0 < result.len) × (result.len ≤ size) }
+    ensures number { result.number < 2 ^ 15 }
+    ensures within { IsWithinTurn turn.now size result.next_entity result.next_segment }
+    ensures next { IsNext turn.now size entity segment result }
+{
+    if entity == turn.entity_count() {
+        segment_at(turn, size, 0, 0)
+    } else {
+        segment_at(turn, size, entity, segment)
+    }
+}
+
+/// That segment of that entity.
+fn segment_at(turn: &Turn, segment_size: SegmentSize, entity: usize, segment: usize) -> Part
+    requires entity { entity < length turn.now.bodies + 1 }
+    requires segment { segment * segment_size < entity_length turn.now entity }
+    ensures entity { result.entity ≡ entity }
+    ensures number { (result.number ≡ segment) × (result.number < 2 ^ 15) }
+    ensures from { result.from ≡ segment * segment_size }
+    ensures range { result.from + result.len ≤ entity_length turn.now entity }
+    ensures len { (0 < result.len) × (result.len ≤ segment_size) }
+    ensures full { result.from + result.len < entity_length turn.now entity
+        → result.len ≡ segment_size }
+    ensures is_last { result.is_last ≡ (result.from + result.len == entity_length turn.now entity) }
+    ensures next_entity { result.next_entity ≡ (if result.is_last then entity + 1 else entity) }
+    ensures next_segment { result.next_segment ≡ (if result.is_last then 0 else segment + 1) }
+    ensures plannable { IsPlannable turn.now }
+    ensures size { (64 ≤ segment_size) × (segment_size ≤ 8189) }
+{
+    let _ = turn.entity_count();
+    let size = usize::from(segment_size.get());
+    let entity_len = turn.entity_length(entity);
+    let from = segment * size;
+    let len = (entity_len - from).min(size);
+    let is_last = segment + 1 == segment_count(entity_len, segment_size);
+    let (next_entity, next_segment) = if is_last {
+        (entity + 1, 0)
+    } else {
+        (entity, segment + 1)
+    };
+    Part {
+        entity,
+        from,
+        len,
+        number: segment as u16,
+        is_last,
+        next_entity,
+        next_segment,
+    }
+}

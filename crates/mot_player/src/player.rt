@@ -1,0 +1,136 @@
+ghost use Rattle.std.specs.Prelude.{◌≡◌, ℕ, List, length, map, Some, None, IfOk, IfErr, OnOk};
+ghost use Rattle.std.specs.Prelude.{OnErr};
+ghost use Rattle.mot_base.specs.PacketLength.{room_of};
+ghost use Rattle.mot_base.specs.declared.refusal.Refusal.TheVariants.{OutOfMemory, DeviceFault};
+ghost use Rattle.mot_packets.specs.Packet.{read_packet};
+ghost use Rattle.mot_player.specs.Bodies.{Rises};
+ghost use Rattle.mot_player.specs.Standing.{AreBodiesFor, place_of, turn_of};
+ghost use Rattle.mot_player.specs.Laws.{ChangesGoOn, IsPlace, IsStep, RequestsGoOn};
+ghost use Rattle.mot_player.specs.Laws.{StepsAreContinuous};
+ghost use Rattle.mot_player.specs.Laws.{TurnsEnd, TurnsReadAsTheirCarousels};
+ghost use Rattle.mot_player.specs.Place.{Sent, change_turn, opened_place, request};
+
+use crate::last_group::LastGroup;
+use crate::state::State;
+use crate::{Bodies, Played, Turn};
+use mot_base::{Address, PacketLength, Refusal, SegmentSize};
+use std::alloc::Global;
+use std::marker::Model;
+
+/// A player of a carousel, which keeps what comes next of a turn, and the group under way.
+#[derive(Drop)]
+pub struct Player {
+    state: State,
+}
+
+impl Model for Player {
+    ghost use Rattle.mot_player.specs.Standing.{Standing};
+
+    ghost Value = { Standing };
+
+    ghost use Rattle.mot_player.specs.Inner.Ready.{IsReady, standing_of};
+
+    ghost view = { λ player. standing_of player.state };
+
+    ghost invariant = { λ player. IsReady player.state };
+}
+
+impl Player {
+    /// A player of a turn, with nothing begun. It takes room for the largest group, and is refused
+    /// for want of it alone.
+    pub fn new(
+        alloc: Global,
+        address: Address,
+        full_length: PacketLength,
+        segment_size: SegmentSize,
+        turn: Turn,
+    ) -> Result<Player, Refusal>
+        ensures opened { IfOk result (λ player. (bodies : List (List ℕ)) → AreBodiesFor turn bodies
+            → place_of player bodies
+            ≡ opened_place address (room_of full_length) segment_size (turn_of turn bodies)) }
+        ensures turn { IfOk result (λ player. player.turn ≡ turn) }
+        ensures size { IfOk result (λ player. player.segment_size ≡ segment_size) }
+        ensures refused { IfErr result (λ refusal. refusal ≡ OutOfMemory) }
+
+        // Whatever turns come between the requests, the packets of an opened player have their
+        // continuity indexes.
+        ensures continuous { OnOk result StepsAreContinuous }
+
+        // The packets of a whole turn of a carousel read as exactly the carousel.
+        ensures turns { OnOk result TurnsReadAsTheirCarousels }
+        ensures turns_end { OnOk result TurnsEnd }
+        ensures requests { OnOk result RequestsGoOn }
+        ensures changes { OnOk result ChangesGoOn }
+    {
+        let size = usize::from(segment_size.get());
+        let entity = turn.entity_count();
+        let group = Vec::with_capacity(alloc, size + 11)?;
+        let last_directory = LastGroup::none(alloc, size)?;
+        let last_body = LastGroup::none(alloc, size)?;
+        let buffer = vec![in alloc; 0; size]?;
+        let state = State {
+            address,
+            full_length,
+            segment_size,
+            turn,
+            entity,
+            segment: 0,
+            group,
+            sent: 0,
+            index: 0,
+            last_directory,
+            last_body,
+            buffer,
+        };
+        Ok(Player { state })
+    }
+
+    /// The group under way stays; then the new turn begins.
+    pub fn changed(&mut self, turn: Turn)
+        ensures place { (bodies changed : List (List ℕ)) → place_of self.new changed
+            ≡ change_turn (turn_of turn changed) (place_of self.old bodies) }
+        ensures turn { self.new.turn ≡ turn }
+        ensures size { self.new.segment_size ≡ self.old.segment_size }
+    {
+        let _ = turn.entity_count();
+        self.state.turn = turn;
+        self.state.entity = 0;
+        self.state.segment = 0;
+    }
+
+    /// The size of its segments.
+    pub fn segment_size(&self) -> SegmentSize
+        ensures value { result ≡ self.now.segment_size }
+        ensures place { (bodies : List (List ℕ)) → AreBodiesFor self.now.turn bodies
+            → IsPlace (place_of self.now bodies) }
+    {
+        self.state.segment_size
+    }
+
+    /// The next packet. It takes no memory; `DeviceFault` where a read of the bodies failed, and
+    /// then the player is as before. The bodies are those of the last turn handed in.
+    pub fn next_packet<B: Bodies>(&mut self, bodies: &mut B) -> Result<Played, Refusal>
+        requires { AreBodiesFor self.old.turn (B.bodies bodies.old) }
+        ensures sent { B.IsHonest bodies.new → IfOk result (λ played.
+            IsStep (place_of self.old (B.bodies bodies.old)) played.packet.items played.ends_turn
+            (place_of self.new (B.bodies bodies.old))) }
+        ensures turn { self.new.turn ≡ self.old.turn }
+        ensures size { self.new.segment_size ≡ self.old.segment_size }
+        ensures stays { OnErr result (self.new ≡ self.old) }
+        ensures lengths { map length (B.bodies bodies.new) ≡ map length (B.bodies bodies.old) }
+        ensures unchanged { B.IsHonest bodies.old → B.bodies bodies.new ≡ B.bodies bodies.old }
+        ensures was_honest { B.IsHonest bodies.new → B.IsHonest bodies.old }
+        ensures failed { OnErr result (Rises (B.failures bodies.old) (B.failures bodies.new)) }
+        ensures no_fault { OnOk result (B.failures bodies.new ≡ B.failures bodies.old) }
+        ensures refused { IfErr result (λ refusal. refusal ≡ DeviceFault) }
+
+        // From each of its places every group can be sent.
+        ensures place { (bodies : List (List ℕ)) → AreBodiesFor self.old.turn bodies
+            → IsPlace (place_of self.old bodies) }
+    {
+        if self.state.sent == 0 {
+            self.state.begin(bodies)?;
+        }
+        Ok(self.state.send())
+    }
+}

@@ -1,0 +1,66 @@
+ghost use Rattle.std.specs.Prelude.{◌≡◌, ◌+◌, ◌<◌, ◌≤◌, length, map, take, drop, vec_len};
+ghost use Rattle.std.specs.Prelude.{slice_range, OnOk, OnErr, IfErr};
+ghost use Rattle.mot_base.specs.declared.refusal.Refusal.TheVariants.{DeviceFault};
+ghost use Rattle.mot_player.specs.Bodies.{Rises};
+ghost use Rattle.mot_player.specs.Standing.{AreBodiesFor, entity_bytes, entity_length};
+
+use crate::{Bodies, Turn};
+use mot_base::Refusal;
+
+/// Reads bytes of an entity of a turn, from a place in it on, into the front of the buffer. The
+/// only refusal is `DeviceFault`.
+pub(crate) fn read_front<B: Bodies>(
+    turn: &Turn,
+    bodies: &mut B,
+    entity: usize,
+    from: usize,
+    len: usize,
+    buffer: &mut Vec<u8>,
+) -> Result<(), Refusal>
+    requires bodies { AreBodiesFor turn.now (B.bodies bodies.old) }
+    requires entity { entity < length turn.now.bodies + 1 }
+    requires range { from + len ≤ entity_length turn.now entity }
+    requires room { len ≤ vec_len buffer.old }
+    ensures len { vec_len buffer.new ≡ vec_len buffer.old }
+    ensures lengths { map length (B.bodies bodies.new) ≡ map length (B.bodies bodies.old) }
+    ensures unchanged { B.IsHonest bodies.old → B.bodies bodies.new ≡ B.bodies bodies.old }
+    ensures was_honest { B.IsHonest bodies.new → B.IsHonest bodies.old }
+    ensures failed { OnErr result (Rises (B.failures bodies.old) (B.failures bodies.new)) }
+    ensures no_fault { OnOk result (B.failures bodies.new ≡ B.failures bodies.old) }
+    ensures refused { IfErr result (λ refusal. refusal ≡ DeviceFault) }
+    ensures bytes { B.IsHonest bodies.new → OnOk result
+        (take len buffer.new.items
+        ≡ take len (drop from (entity_bytes turn.now (B.bodies bodies.old) entity))) }
+{
+    let (front, _) = buffer.as_mut_slice().split_at_mut(len);
+    read_entity(turn, bodies, entity, from, front)
+}
+
+/// Reads the bytes of an entity of a turn from a place in it on. The only refusal is `DeviceFault`.
+fn read_entity<B: Bodies>(
+    turn: &Turn,
+    bodies: &mut B,
+    entity: usize,
+    from: usize,
+    out: &mut [u8],
+) -> Result<(), Refusal>
+    requires bodies { AreBodiesFor turn.now (B.bodies bodies.old) }
+    requires entity { entity < length turn.now.bodies + 1 }
+    requires range { from + length out.old ≤ entity_length turn.now entity }
+    ensures lengths { map length (B.bodies bodies.new) ≡ map length (B.bodies bodies.old) }
+    ensures unchanged { B.IsHonest bodies.old → B.bodies bodies.new ≡ B.bodies bodies.old }
+    ensures was_honest { B.IsHonest bodies.new → B.IsHonest bodies.old }
+    ensures failed { OnErr result (Rises (B.failures bodies.old) (B.failures bodies.new)) }
+    ensures no_fault { OnOk result (B.failures bodies.new ≡ B.failures bodies.old) }
+    ensures refused { IfErr result (λ refusal. refusal ≡ DeviceFault) }
+    ensures bytes { B.IsHonest bodies.new → OnOk result
+        (out.new ≡ slice_range (entity_bytes turn.now (B.bodies bodies.old) entity) from
+        (from + length out.old)) }
+{
+    if entity == 0 {
+        out.copy_from_slice(&turn.directory()[from..from + out.len()]);
+        Ok(())
+    } else {
+        bodies.read(entity - 1, from, out)
+    }
+}

@@ -1,0 +1,142 @@
+ghost use Rattle.std.specs.Prelude.{◌≡◌, ℕ, ◌+◌, ◌<◌, ◌≤◌, List, length, map, vec_len, Some, IfErr};
+ghost use Rattle.std.specs.Prelude.{OnOk, OnErr};
+ghost use Rattle.mot_base.specs.declared.refusal.Refusal.TheVariants.{DeviceFault};
+
+use crate::last::begin_group;
+use crate::last_group::LastGroup;
+use crate::part::part_at;
+use crate::reading::read_front;
+use crate::{Bodies, Turn};
+use mot_base::{Address, GroupKind, PacketLength, Refusal, SegmentSize};
+use mot_packets::{Packet, cut_packet};
+
+/// What comes next of a turn, and the group under way.
+#[derive(Drop)]
+pub(crate) struct State {
+    pub address: Address,
+    pub full_length: PacketLength,
+    pub segment_size: SegmentSize,
+    pub turn: Turn,
+    /// The next segment that begins: of which entity, and which of its segments.
+    pub entity: usize,
+    pub segment: usize,
+    /// The group under way, and how many of its bytes were sent; 0 where none is under way.
+    pub group: Vec<u8>,
+    pub sent: usize,
+    /// The next packet's continuity index.
+    pub index: u8,
+    pub last_directory: LastGroup,
+    pub last_body: LastGroup,
+    /// Room for a segment's bytes.
+    pub buffer: Vec<u8>,
+}
+
+/// A packet, and whether it ends the turn: nothing of the turn is left behind it, and no changed
+/// turn waits.
+#[derive(Debug, Drop)]
+pub struct Played {
+    pub packet: Packet,
+    pub ends_turn: bool,
+}
+
+impl State {
+    ghost use Rattle.mot_packets.specs.Packet.{read_packet};
+    ghost use Rattle.mot_packets.specs.Written.{bytes_of_packet};
+    ghost use Rattle.mot_player.specs.Bodies.{Rises};
+    ghost use Rattle.mot_player.specs.Place.{packet_sent};
+    ghost use Rattle.mot_player.specs.Inner.Ready.{HasBegun, IsFitted, place_with, standing_of};
+    ghost use Rattle.mot_player.specs.Standing.{AreBodiesFor};
+
+    /// Begins the group of the next segment, of which no packet is sent yet. Where a read of the
+    /// bodies fails, all stays as it was.
+    pub fn begin<B: Bodies>(&mut self, bodies: &mut B) -> Result<(), Refusal>
+        requires fitted { IsFitted self.old }
+        requires sent { self.old.sent ≡ 0 }
+        requires bodies { AreBodiesFor self.old.turn (B.bodies bodies.old) }
+        ensures fitted { IsFitted self.new }
+        ensures begun { B.IsHonest bodies.new
+            → OnOk result (HasBegun self.old self.new (B.bodies bodies.old)) }
+        ensures sent { self.new.sent ≡ 0 }
+        ensures some { OnOk result (0 < vec_len self.new.group) }
+        ensures turn { self.new.turn ≡ self.old.turn }
+        ensures size { self.new.segment_size ≡ self.old.segment_size }
+        ensures stays { OnErr result (standing_of self.new ≡ standing_of self.old) }
+        ensures lengths { map length (B.bodies bodies.new) ≡ map length (B.bodies bodies.old) }
+        ensures unchanged { B.IsHonest bodies.old → B.bodies bodies.new ≡ B.bodies bodies.old }
+        ensures was_honest { B.IsHonest bodies.new → B.IsHonest bodies.old }
+        ensures failed { OnErr result (Rises (B.failures bodies.old) (B.failures bodies.new)) }
+        ensures no_fault { OnOk result (B.failures bodies.new ≡ B.failures bodies.old) }
+        ensures refused { IfErr result (λ refusal. refusal ≡ DeviceFault) }
+    {
+        let part = part_at(&self.turn, self.segment_size, self.entity, self.segment);
+        read_front(
+            &self.turn,
+            bodies,
+            part.entity,
+            part.from,
+            part.len,
+            &mut self.buffer,
+        )?;
+        let tid = self.turn.entity_tid(part.entity);
+        let bytes = &self.buffer.as_slice()[..part.len];
+        if part.entity == 0 {
+            begin_group(
+                &mut self.group,
+                &mut self.last_directory,
+                GroupKind::Directory,
+                tid,
+                part.number,
+                part.is_last,
+                bytes,
+            );
+        } else {
+            begin_group(
+                &mut self.group,
+                &mut self.last_body,
+                GroupKind::Body,
+                tid,
+                part.number,
+                part.is_last,
+                bytes,
+            );
+        }
+        self.entity = part.next_entity;
+        self.segment = part.next_segment;
+        Ok(())
+    }
+
+    /// Sends the next packet of the group that was begun.
+    pub fn send(&mut self) -> Played
+        requires fitted { IsFitted self.old }
+        requires left { self.old.sent < vec_len self.old.group }
+        ensures fitted { IsFitted self.new }
+        ensures turn { self.new.turn ≡ self.old.turn }
+        ensures size { self.new.segment_size ≡ self.old.segment_size }
+        ensures left { 0 < self.new.sent → self.new.sent < vec_len self.new.group }
+        ensures bytes { (bodies : List (List ℕ)) → result.packet.items ≡ bytes_of_packet
+            (packet_sent (place_with self.old bodies) self.old.group.items self.old.sent).packet }
+        ensures packet { (bodies : List (List ℕ)) → read_packet result.packet.items
+            ≡ Some (packet_sent (place_with self.old bodies) self.old.group.items
+            self.old.sent).packet }
+        ensures place { (bodies : List (List ℕ)) → place_with self.new bodies
+            ≡ (packet_sent (place_with self.old bodies) self.old.group.items self.old.sent).place }
+        ensures ends_turn { (bodies : List (List ℕ)) → AreBodiesFor self.old.turn bodies
+            → result.ends_turn
+            ≡ (packet_sent (place_with self.old bodies) self.old.group.items
+            self.old.sent).ends_turn }
+    {
+        let packet = cut_packet(
+            self.group.as_slice(),
+            self.sent,
+            self.full_length,
+            self.address,
+            self.index,
+        );
+        let room = self.full_length.room();
+        let is_last = self.group.len() - self.sent <= room;
+        self.sent = if is_last { 0 } else { self.sent + room };
+        self.index = (self.index + 1) % 4;
+        let ends_turn = is_last && self.entity == self.turn.entity_count();
+        Played { packet, ends_turn }
+    }
+}

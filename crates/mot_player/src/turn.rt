@@ -1,0 +1,122 @@
+ghost use Rattle.std.specs.Prelude.{◌≡◌, ℕ, ◌+◌, ◌<◌, ◌≤◌, List, length, map, vec_len, IfOk, IfErr};
+ghost use Rattle.mot_base.specs.declared.refusal.Refusal.TheVariants.{OutOfMemory};
+ghost use Rattle.mot_carousel.specs.Stands.{AreBodiesOf, carousel_of};
+ghost use Rattle.mot_carousel.specs.declared.object.Object.{Object};
+ghost use Rattle.mot_player.specs.declared.planned_body.PlannedBody.{PlannedBody};
+
+use crate::planned_body::PlannedBody;
+use mot_base::{Refusal, SegmentSize, TransportId};
+use mot_carousel::{Carousel, Object};
+use mot_directory::directory_bytes;
+use std::alloc::{AllocError, Global};
+use std::marker::Model;
+
+/// One playing of a carousel: the directory's transport id and bytes, and each body's transport id
+/// and length.
+#[derive(Debug, Drop)]
+pub struct Turn {
+    tid: TransportId,
+    directory: Vec<u8>,
+    bodies: Vec<PlannedBody>,
+}
+
+impl Model for Turn {
+    ghost use Rattle.mot_player.specs.Standing.{TurnPlan};
+
+    ghost Value = { TurnPlan };
+
+    ghost use Rattle.mot_player.specs.Inner.Planned.{plan_of};
+
+    ghost view = { plan_of };
+
+    ghost use Rattle.mot_player.specs.Standing.{IsPlannable};
+
+    ghost invariant = { λ turn. IsPlannable (plan_of turn) };
+}
+
+impl Turn {
+    ghost use Rattle.mot_player.specs.Standing.{AreBodiesFor, IsPlannable, entity_length};
+    ghost use Rattle.mot_player.specs.Standing.{entity_tid, turn_of};
+    ghost use Rattle.mot_player.specs.Turn.{IsTurnOf, turn_of_carousel};
+
+    /// The turn of a carousel, in segments of this size. The only refusal is `OutOfMemory`.
+    pub fn of(
+        alloc: Global,
+        carousel: &Carousel,
+        segment_size: SegmentSize,
+    ) -> Result<Turn, Refusal>
+        // Whatever the bodies, it is the carousel's turn with them.
+        ensures bodies { IfOk result (λ turn. (bodies : List (List ℕ))
+            → AreBodiesOf carousel.now bodies → AreBodiesFor turn bodies) }
+        ensures turn { IfOk result (λ turn. (bodies : List (List ℕ))
+            → AreBodiesOf carousel.now bodies
+            → IsTurnOf (turn_of turn bodies) (carousel_of carousel.now bodies) segment_size) }
+        ensures exact { IfOk result (λ turn. (bodies : List (List ℕ))
+            → AreBodiesOf carousel.now bodies → turn_of turn bodies
+            ≡ turn_of_carousel (carousel_of carousel.now bodies) segment_size) }
+        ensures refused { IfErr result (λ refusal. refusal ≡ OutOfMemory) }
+    {
+        let directory = directory_bytes(alloc, carousel, segment_size)?;
+        let bodies = planned_bodies(alloc, &carousel.objects)?;
+        Ok(Turn {
+            tid: carousel.directory,
+            directory,
+            bodies,
+        })
+    }
+
+    /// How many entities it has: the directory and the bodies.
+    pub(crate) fn entity_count(&self) -> usize
+        ensures count { result ≡ length self.now.bodies + 1 }
+        ensures plannable { IsPlannable self.now }
+    {
+        self.bodies.len() + 1
+    }
+
+    /// The transport id of an entity.
+    pub(crate) fn entity_tid(&self, entity: usize) -> TransportId
+        requires { entity < length self.now.bodies + 1 }
+        ensures { result ≡ entity_tid self.now entity }
+    {
+        if entity == 0 {
+            self.tid
+        } else {
+            self.bodies[entity - 1].tid
+        }
+    }
+
+    /// How many bytes an entity has.
+    pub(crate) fn entity_length(&self, entity: usize) -> usize
+        requires { entity < length self.now.bodies + 1 }
+        ensures value { result ≡ entity_length self.now entity }
+        ensures range { (1 ≤ result) × (result ≤ 262144) }
+    {
+        if entity == 0 {
+            self.directory.len()
+        } else {
+            self.bodies[entity - 1].length
+        }
+    }
+
+    /// The directory's bytes.
+    pub(crate) fn directory(&self) -> &[u8]
+        ensures { result.now ≡ self.now.directory }
+    {
+        self.directory.as_slice()
+    }
+}
+
+/// What is planned of each object's body, in the objects' order.
+fn planned_bodies(alloc: Global, objects: &[Object]) -> Result<Vec<PlannedBody>, AllocError>
+    ensures tids { IfOk result (λ bodies. map (λ (b : PlannedBody). b.tid) bodies.items
+        ≡ map (λ (o : Object). o.tid) objects.now) }
+    ensures lengths { IfOk result (λ bodies. map (λ (b : PlannedBody). b.length) bodies.items
+        ≡ map (λ (o : Object). o.length) objects.now) }
+    ensures count { IfOk result (λ bodies. vec_len bodies ≡ length objects.now) }
+{
+    let mut bodies = Vec::with_capacity(alloc, objects.len())?;
+    for object in objects {
+        bodies.push(PlannedBody::of(object))?;
+    }
+    Ok(bodies)
+}

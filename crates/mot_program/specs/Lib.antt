@@ -1,0 +1,4 @@
+pub mod Command
+pub mod Inner
+pub mod Options
+pub mod Program

@@ -1,0 +1,41 @@
+-- The numbers of the command line, and the geometry that they make.
+use Rattle.std.specs.Prelude.{ℕ, ◌≡◌, nat_le, if◌then◌else◌, List, Option, Some, None, unwrap_or}
+use Rattle.std.specs.Str.Parse.{digits_value, without_leading_plus}
+use Rattle.mot_base.specs.Reading.{◌>>=◌}
+use Rattle.mot_base.specs.declared.geometry.Geometry.{Geometry}
+use Rattle.mot_program.specs.declared.options.Options.{Options}
+
+-- the number that the text of an option writes, where the option was given
+abbrev pub IsGiven : Option (List ℕ) → Option ℕ → Type 0
+IsGiven None number = number ≡ None
+IsGiven (Some text) number = number ≡ Some (digits_value 10 (without_leading_plus text))
+
+-- the numbers of no option
+abbrev pub default_geometry : Geometry
+default_geometry = record {
+  objects = 16;
+  data_area = 65536;
+  segment_size = 1024;
+  address = 1;
+  packet_length = 96;
+}
+
+-- a number of 16 bits, where the number fits; the default, where none is given
+abbrev pub field_in : Option ℕ → ℕ → Option ℕ
+field_in None default = Some default
+field_in (Some n) default = if nat_le n 65535 then Some n else None
+
+-- whether its numbers are in their ranges is the geometry's concern
+unfoldable pub geometry_of : Options → Option Geometry
+geometry_of o = do
+  objects ← field_in o.objects default_geometry.objects
+  segment_size ← field_in o.segment default_geometry.segment_size
+  address ← field_in o.address default_geometry.address
+  packet_length ← field_in o.packet default_geometry.packet_length
+  Some (record {
+    objects = objects;
+    data_area = unwrap_or o.data_area default_geometry.data_area;
+    segment_size = segment_size;
+    address = address;
+    packet_length = packet_length;
+  })

@@ -1,0 +1,77 @@
+ghost use Rattle.std.specs.Prelude.{◌≡◌, ℕ, IfSome};
+ghost use Rattle.clap.specs.Words.{first_value, found_of};
+ghost use Rattle.mot_program.specs.Inner.Given.{AreGiven};
+ghost use Rattle.mot_program.specs.Options.{IsGiven, field_in};
+
+use clap::ArgMatches;
+use mot_base::Geometry;
+
+/// The numbers that the words of the command line give.
+#[derive(Clone, Copy, Debug, PartialEq, Eq)]
+pub struct Options {
+    /// `--objects`.
+    pub objects: Option<u32>,
+    /// `--data`.
+    pub data_area: Option<u32>,
+    /// `--segment`.
+    pub segment: Option<u32>,
+    /// `--address`.
+    pub address: Option<u32>,
+    /// `--packet`.
+    pub packet: Option<u32>,
+}
+
+impl Options {
+    ghost use Rattle.mot_program.specs.Options.{geometry_of};
+
+    /// The geometry of these numbers, and of the default ones where none is given; `None` where one
+    /// does not fit its field.
+    pub fn geometry(self) -> Option<Geometry>
+        ensures { result ≡ geometry_of self }
+    {
+        let default = Geometry::default();
+        Some(Geometry {
+            objects: field(self.objects, default.objects)?,
+            data_area: self.data_area.unwrap_or(default.data_area),
+            segment_size: field(self.segment, default.segment_size)?,
+            address: field(self.address, default.address)?,
+            packet_length: field(self.packet, default.packet_length)?,
+        })
+    }
+}
+
+/// The number, where it fits; where none is given, the default.
+fn field(number: Option<u32>, default: u16) -> Option<u16>
+    ensures { result ≡ field_in number default }
+{
+    match number {
+        Some(number) => u16::try_from(number).ok(),
+        None => Some(default),
+    }
+}
+
+/// The numbers of the options that were given; `None` where one is no number.
+pub(crate) fn options_of(matches: &ArgMatches<'_>) -> Option<Options>
+    ensures { IfSome result (AreGiven (found_of matches.now)) }
+{
+    Some(Options {
+        objects: number_of(matches, "objects")?,
+        data_area: number_of(matches, "data")?,
+        segment: number_of(matches, "segment")?,
+        address: number_of(matches, "address")?,
+        packet: number_of(matches, "packet")?,
+    })
+}
+
+/// The number of an option, if it was given; `None` where it is no number.
+fn number_of(matches: &ArgMatches<'_>, name: &str) -> Option<Option<u32>>
+    ensures { IfSome result (IsGiven (first_value (found_of matches.now) name.now)) }
+{
+    match matches.get_str(name) {
+        Some(text) => match text.parse::<u32>() {
+            Ok(number) => Some(Some(number)),
+            Err(_) => None,
+        },
+        None => Some(None),
+    }
+}
