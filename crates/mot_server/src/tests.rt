@@ -1,5 +1,6 @@
 mod commands;
 mod playing;
+mod receiving;
 mod streams;
 
 use super::*;
