@@ -1,7 +1,6 @@
 -- The definitions, computed on worked rows.
 use Rattle.std.proofs.Common.{◌≡◌, Some, None, refl}
 use Rattle.mot_base.specs.Geometry.{IsDefault}
-use Rattle.mot_program.specs.declared.program.TheConstants.{READS}
 use Rattle.mot_program.specs.Options.{default_geometry, geometry_of}
 use Rattle.mot_program.specs.declared.program.TheConstants.{READS}
 
@@ -20,7 +19,3 @@ too_great : geometry_of
     (record { objects = None; data_area = None; segment = None; address = None; packet = Some 65560 }) ≡ None
 unfolding geometry_of
 too_great = refl
-
--- the limits
-reads : READS ≡ 4294967296
-reads = refl

@@ -1,6 +1,7 @@
 -- Replies that were written, whole or in part.
 use Rattle.std.proofs.Common.{◌≡◌, ℕ, ◌+◌, ◌≤◌, true, false, Bool, List, [], ◌∷◌, ◌++◌, map, Option, Some}
-use Rattle.std.proofs.Common.{Result, Ok, Err, refl, sym, ap, ◌∙◌, subst, append-nil}
+use Rattle.std.proofs.Common.{Result, Ok, Err, refl, sym, ap, ◌∙◌, subst, arith, append_assoc, append-nil}
+use Rattle.std.proofs.Common.{length, length-append}
 use Rattle.std.specs.Prelude.{replicate, IsOkAnd}
 use Rattle.std.specs.Io.KnownBytes.{Appends, Keeps}
 use Rattle.std.proofs.KnownBytes.{Appends-trans, Appends-kept}
@@ -21,19 +22,76 @@ use Rattle.mot_server.specs.declared.serving.writing.WriteFault.{WriteFault}
 use Rattle.mot_server.specs.Inner.Writes.{Writes, Answered, AnswersRequest, SendsOne}
 use Rattle.mot_server.specs.Played.{Sends, SendsTurn, SendsWithinTurn, packets_sent, sent_line, sent_lines}
 use Rattle.mot_server.specs.Served.{Begins, whole, next_begun, turn_begun, BrokenOff, WritesFront}
-use Rattle.mot_server.specs.Session.{Reply, Answers, IsAnswer, decided, played, text_of}
+use Rattle.mot_server.specs.Session.{Reply, Answers, IsAnswer, decided, accepted, listing, packets, played, refused}
+use Rattle.mot_server.specs.Session.{text_of}
 use Rattle.mot_server.specs.State.{ServerState}
-use Rattle.mot_server.proofs.Fronts.{WritesFront-all, WritesFront-after}
+
+pub sent_lines-more : (sents : List Sent) (s : Sent)
+    → sent_lines (sents ++ s ∷ []) ≡ sent_lines sents ++ sent_line s
+sent_lines-more sents s = flat_map-append sent_line sents (s ∷ [])
+    ∙ ap (λ l. sent_lines sents ++ l) (append-nil (sent_line s))
+
+-- the packets that a reply played
+abbrev pub sents_of : Reply → List Sent
+sents_of (refused r) = []
+sents_of (accepted d) = []
+sents_of (listing c) = []
+sents_of (packets ps) = []
+sents_of (played sents) = sents
+
+unfoldable all_but_last : List Sent → List Sent
+all_but_last [] = []
+all_but_last (s ∷ []) = []
+all_but_last (s ∷ t ∷ sents) = s ∷ all_but_last (t ∷ sents)
+
+all_but_last-more : (sents : List Sent) (s : Sent) → all_but_last (sents ++ s ∷ []) ≡ sents
+unfolding all_but_last
+all_but_last-more [] s = refl
+all_but_last-more (t ∷ []) s = refl
+all_but_last-more (t ∷ u ∷ sents) s = ap (λ l. t ∷ l) (all_but_last-more (u ∷ sents) s)
+
+-- the lines before the last packet's were written: no packet was played
+in_order-none : (reply : Reply) (first : List Sent) (last : Sent) (count : ℕ) → sents_of reply ≡ []
+    → reply ≡ played (first ++ last ∷ []) → length (sent_lines first) ≤ count
+in_order-none reply first last count none e =
+    let counted : length (sents_of reply) ≡ length (first ++ last ∷ []) = ap (λ r. length (sents_of r)) e in
+    let nothing : length (sents_of reply) ≡ 0 = ap length none in
+    let grown : length (first ++ last ∷ []) ≡ length first + 1 = length-append first (last ∷ []) in
+    omega (arith, counted, nothing, grown)
+
+-- or all of the reply was written
+in_order-whole : (reply : Reply) (first : List Sent) (last : Sent) → reply ≡ played (first ++ last ∷ [])
+    → length (sent_lines first) ≤ length (text_of reply)
+unfolding text_of
+in_order-whole reply first last e =
+    let all : length (text_of reply) ≡ length (sent_lines (first ++ last ∷ [])) = ap (λ r. length (text_of r)) e in
+    let more : length (sent_lines (first ++ last ∷ [])) ≡ length (sent_lines first ++ sent_line last) =
+    ap length (sent_lines-more first last) in
+    omega (arith, all, more, length-append (sent_lines first) (sent_line last))
+
+-- or the line of the last packet was begun
+in_order-begun : (sents : List Sent) (s : Sent) (front : List ℕ) (first : List Sent) (last : Sent)
+    → played (sents ++ s ∷ []) ≡ played (first ++ last ∷ [])
+    → length (sent_lines first) ≤ length (sent_lines sents ++ front)
+in_order-begun sents s front first last e =
+    let same : sents ≡ first = sym (all_but_last-more sents s)
+    ∙ ap (λ r. all_but_last (sents_of r)) e ∙ all_but_last-more first last in
+    let long : length (sent_lines sents) ≡ length (sent_lines first) = ap (λ l. length (sent_lines l)) same in
+    omega (arith, long, length-append (sent_lines sents) front)
 
 -- a reply that was decided at once was written
 pub AnswersRequest-written : {T : Type 0} (result : Result T WriteFault) (before after : ServerState)
     (request : Result Line Refusal) (reply : Reply) (old new : Option (List ℕ))
-    → Answers before request reply after → Writes result (text_of reply) old new
+    → sents_of reply ≡ [] → Answers before request reply after → Writes result (text_of reply) old new
     → AnswersRequest result before request after old new
-AnswersRequest-written (Ok done) before after request reply old new a w =
+AnswersRequest-written (Ok done) before after request reply old new none a w =
     record { reply = reply; answers = a; written = w }
-AnswersRequest-written (Err fault) before after request reply old new a w =
-    record { reply = reply; begins = whole a; written = w }
+AnswersRequest-written (Err fault) before after request reply old new none a w = record {
+  reply = reply;
+  begins = whole a;
+  written = w;
+  in_order = λ first last e. in_order-none reply first last (length w.written) none e;
+}
 
 -- a reply that was played was written
 pub AnswersRequest-played : {T : Type 0} (result : Result T WriteFault) (before now after : ServerState)
@@ -57,19 +115,19 @@ AnswersRequest-kept (Ok done) before after request old mid new a k = record {
 AnswersRequest-kept (Err fault) before after request old mid new a k = record {
   reply = a.reply;
   begins = whole a.answers;
-  written = WritesFront-all (text_of a.reply) old new
-      (Appends-kept old mid new (text_of a.reply) a.written k);
+  written = record {
+    written = text_of a.reply;
+    unwritten = [];
+    split = sym (append-nil (text_of a.reply));
+    appended = Appends-kept old mid new (text_of a.reply) a.written k;
+  };
+  in_order = λ first last e. in_order-whole a.reply first last e;
 }
 
 -- nothing was asked for yet
 pub Sends-none : (state : ServerState) → Sends state 0 [] state
 unfolding sent_by
 Sends-none state = record { steps = refl; read = refl; geometry = refl; carousel = refl }
-
-pub sent_lines-more : (sents : List Sent) (s : Sent)
-    → sent_lines (sents ++ s ∷ []) ≡ sent_lines sents ++ sent_line s
-sent_lines-more sents s = flat_map-append sent_line sents (s ∷ [])
-    ∙ ap (λ l. sent_lines sents ++ l) (append-nil (sent_line s))
 
 map-more : {A B : Type 0} (f : A → B) (xs : List A) (x : A) → map f (xs ++ x ∷ []) ≡ map f xs ++ f x ∷ []
 map-more f [] x = refl
@@ -136,12 +194,16 @@ appended-more sents s old now new a w = subst (Appends old new) (sym (sent_lines
     (Appends-trans old now new (sent_lines sents) (sent_line s) a w)
 
 -- or some first bytes of it
-front-more : (sents : List Sent) (s : Sent) (old now new : Option (List ℕ))
+abbrev front-more : (sents : List Sent) (s : Sent) (old now new : Option (List ℕ))
     → Appends old now (sent_lines sents) → WritesFront (sent_line s) now new
     → WritesFront (sent_lines (sents ++ s ∷ [])) old new
-front-more sents s old now new a w =
-    subst (λ l. WritesFront l old new) (sym (sent_lines-more sents s))
-    (WritesFront-after (sent_lines sents) (sent_line s) old now new a w)
+front-more sents s old now new a w = record {
+  written = sent_lines sents ++ w.written;
+  unwritten = w.unwritten;
+  split = sent_lines-more sents s ∙ ap (λ l. sent_lines sents ++ l) w.split
+      ∙ sym (append_assoc (sent_lines sents) w.written w.unwritten);
+  appended = Appends-trans old now new (sent_lines sents) w.written a w.appended;
+}
 
 module _ {T : Type 0} (fault : WriteFault) (before mid after : ServerState) (old now new : Option (List ℕ))
     (one : SendsOne {T = T} (Err fault) mid after now new) (made : ℕ) (sents : List Sent)
@@ -155,6 +217,7 @@ module _ {T : Type 0} (fault : WriteFault) (before mid after : ServerState) (old
     begins = next_begun count (made + 1) (sents ++ one.sent ∷ []) refl few refl
         (Sends-more (Err fault) before mid after now new one made sents s);
     written = front-more sents one.sent old now new so_far one.written;
+    in_order = λ first last e. in_order-begun sents one.sent one.written.written first last e;
   }
 
   begun-turn : (ends : Bool) → one.sent.ends_turn ≡ ends → SendsWithinTurn before made sents mid
@@ -177,6 +240,7 @@ module _ {T : Type 0} (fault : WriteFault) (before mid after : ServerState) (old
     reply = played (sents ++ one.sent ∷ []);
     begins = begun-turn one.sent.ends_turn refl s;
     written = front-more sents one.sent old now new so_far one.written;
+    in_order = λ first last e. in_order-begun sents one.sent one.written.written first last e;
   }
 
 -- a packet was played, and its line written

@@ -1,5 +1,5 @@
 -- What was read and written so far.
-use Rattle.std.specs.Prelude.{ℕ, ◌≡◌, ◌≤◌, ◌*◌, ◌⊎◌, List, ◌∷◌, ◌++◌, length, Option, Some, None}
+use Rattle.std.specs.Prelude.{ℕ, ◌≡◌, ◌≤◌, ◌*◌, ◌⊎◌, List, [], ◌∷◌, ◌++◌, length, Option, Some, None}
 use Rattle.std.specs.Prelude.{Result, Ok}
 use Rattle.std.specs.Io.KnownBytes.{Appends, Consumes}
 use Rattle.mot_base.specs.declared.refusal.Refusal.{Refusal}
@@ -9,7 +9,7 @@ use Rattle.mot_lines.specs.declared.line.Line.{Line}
 use Rattle.mot_lines.specs.declared.line.Line.TheVariants as asks
 use Rattle.mot_player.specs.Place.{Sent}
 use Rattle.mot_server.specs.declared.serving.TheConstants.{READ_SIZE}
-use Rattle.mot_server.specs.Played.{Sends, SendsWithinTurn}
+use Rattle.mot_server.specs.Played.{Sends, SendsWithinTurn, sent_lines}
 use Rattle.mot_server.specs.Session.{Reply, played, Answers, Session, text_of, texts_of}
 use Rattle.mot_server.specs.State.{ServerState}
 
@@ -38,12 +38,15 @@ pub data Begins (before : ServerState) (request : Result Line Refusal) (reply : 
   turn_begun : (made : ℕ) (sents : List Sent) → request ≡ Ok asks.Turn → reply ≡ played sents
       → SendsWithinTurn before made sents after → Begins before request reply after
 
--- the request was answered, or its answer was begun, and some first bytes of the reply were written
+-- the request was answered, or its answer was begun, and some first bytes of the reply were written;
+-- a packet was asked for only where the lines of those before it were
 pub record BrokenOff (before : ServerState) (request : Result Line Refusal) (after : ServerState)
     (old new : Option (List ℕ)) : Type 0 where
   pub reply : Reply
   pub begins : Begins before request reply after
   pub written : WritesFront (text_of reply) old new
+  pub in_order : (first : List Sent) (last : Sent) → reply ≡ played (first ++ last ∷ [])
+      → length (sent_lines first) ≤ length written.written
 
 -- each of these lines was answered
 pub record Served (before after : ServerState) (lines : List (List ℕ))
