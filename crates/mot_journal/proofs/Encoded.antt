@@ -1,7 +1,12 @@
 -- The bytes of a slot, put together piece by piece.
-use Rattle.std.proofs.Common.{◌≡◌, ℕ, ◌+◌, ◌-◌, ◌*◌, ◌^◌, ◌<◌, List, [], ◌∷◌, ◌++◌, length, take, drop, get_or, replicate, Option, refl, sym, ◌∙◌, ap, arith, append_assoc, pow-suc, mul_assoc, suc, add-one, Fits, w8, inl, inr}
+use Rattle.std.proofs.Common.{◌≡◌, ℕ, ◌+◌, ◌-◌, ◌*◌, ◌^◌, ◌<◌, List, [], ◌∷◌, ◌++◌, length, take, drop, get_or, replicate, Option, refl, sym, ◌∙◌, ap, arith, append_assoc, zero, suc, Fits, w8, inl, inr}
 use Rattle.std.specs.Int.{w16, w32, to_be_bytes, bytes_high_first}
-use Rattle.std.proofs.lemmas.List.{take_more, length-append, length-take, get_or-take, get_or-drop, get_or_past}
+use Rattle.std.proofs.Math.Seq.{drop-cons}
+use Rattle.std.proofs.lemmas.List.{length-take, length-drop, drop_all, get_or-take, get_or-drop, get_or_past}
+use Rattle.std.proofs.lemmas.List.Elements.{All-from_get_or}
+use Rattle.byteorder.specs.Endian.{big_from, big_number}
+use Rattle.mot_base.specs.Bytes.{IsByte}
+use Rattle.mot_base.proofs.Laws.{number_in-fits}
 use Rattle.std.proofs.lemmas.Bool.{cases_lt}
 use Rattle.mot_base.specs.Fields.{number_in}
 use Rattle.mot_carousel.specs.Content.{ContentNumbers}
@@ -46,20 +51,20 @@ slot_pieces layout r kb k size p d c x0 x1 x2 x3 x4 x5 x6 x7 ekb ek es ep ed ec 
     rw (e6, e5, e4, e3, e2, e1, e0, ekb, ek, ep, ed, ec) refl in
     e7 ∙ ap (λ s. x6 ++ replicate (s - length x6) 0) es ∙ ap (λ (u : List ℕ). u ++ replicate (slot_size layout - length u) 0) used
 
--- one digit more of a number in bytes
-digit : (x u t b : ℕ) → (x * u + t) * 256 + b ≡ x * (u * 256) + (t * 256 + b)
-digit x u t b = let e : x * u * 256 ≡ x * (u * 256) = mul_assoc x u 256 in omega (arith, e)
+-- the bytes from a place on, as they are read
+number-from : (n i : ℕ) (xs : List ℕ) → i + n ≡ length xs → big_from i n xs ≡ number_in (drop i xs)
+number-from zero i xs e = sym (ap number_in (drop_all i xs (omega (arith, e))))
+number-from (suc n) i xs e =
+    let rest : length (drop (suc i) xs) ≡ n = omega (arith, e, length-drop (suc i) xs) in
+    ap (λ t. get_or xs i 0 * 256 ^ n + t) (number-from n (suc i) xs (omega (arith, e)))
+    ∙ ap (λ k. get_or xs i 0 * 256 ^ k + number_in (drop (suc i) xs)) (sym rest)
+    ∙ sym (ap number_in (drop-cons xs i 0 (omega (arith, e))))
 
-pub number_push : (xs : List ℕ) (b : ℕ) → number_in (xs ++ b ∷ []) ≡ number_in xs * 256 + b
-number_push [] b = omega arith
-number_push (x ∷ xs) b =
-    let n : length (xs ++ b ∷ []) ≡ suc (length xs) = length-append xs (b ∷ []) ∙ add-one (length xs) in
-    let power : 256 ^ length (xs ++ b ∷ []) ≡ 256 ^ length xs * 256 = ap (λ k. 256 ^ k) n ∙ pow-suc 256 (length xs) in
-    ap (λ u. x * u + number_in (xs ++ b ∷ [])) power ∙ ap (λ t. x * (256 ^ length xs * 256) + t) (number_push xs b)
-    ∙ sym (digit x (256 ^ length xs) (number_in xs) b)
+pub number_read : (n : ℕ) (xs : List ℕ) → length xs ≡ n → big_number n xs ≡ number_in xs
+number_read n xs e = number-from n 0 xs (omega (arith, e))
 
-pub number_more : (xs : List ℕ) (i : ℕ) → i < length xs → number_in (take (i + 1) xs) ≡ number_in (take i xs) * 256 + get_or xs i 0
-number_more xs i lt = ap number_in (take_more xs i 0 lt) ∙ number_push (take i xs) (get_or xs i 0)
+pub number_below : (xs : List ℕ) → ((i : ℕ) → get_or xs i 0 < 256) → number_in xs < 256 ^ length xs
+number_below xs bytes = number_in-fits xs (All-from_get_or IsByte xs 0 (λ i lt. bytes i))
 
 -- a byte of a part of a list of bytes
 pub All-get_or-below : (xs : List ℕ) (at n i : ℕ) → ((k : ℕ) → Fits w8 (get_or xs k 0)) → get_or (take n (drop at xs)) i 0 < 256

@@ -8,6 +8,10 @@ use Rattle.std.specs.Option.{option_map_or}
 use Rattle.std.specs.Str.{is_utf8}
 use Rattle.mot_base.specs.Reading.{◌>>=◌}
 use Rattle.mot_carousel.specs.Content.{ContentNumbers}
+use Rattle.mot_carousel.specs.declared.body.TheConstants.{MAX_BODY}
+use Rattle.mot_carousel.specs.declared.content.TheConstants.{MAX_SUBTYPE, MAX_TYPE}
+use Rattle.mot_carousel.specs.declared.mime.TheConstants.{MAX_MIME}
+use Rattle.mot_carousel.specs.declared.name.TheConstants.{MAX_NAME}
 use Rattle.mot_base.specs.declared.geometry.Geometry.{Geometry}
 use Rattle.mot_journal.specs.declared.layout.Layout.{Layout}
 use Rattle.mot_journal.specs.declared.layout.Layout.TheVariants.{One, Two}
@@ -31,7 +35,7 @@ kind_base Two = 16
 
 abbrev pub longest_name : Layout → ℕ
 longest_name One = 100
-longest_name Two = 255
+longest_name Two = MAX_NAME
 
 -- the value of an open gate; any other is closed
 abbrev pub open_gate : ℕ
@@ -74,15 +78,15 @@ is_name longest bytes =
 
 abbrev pub is_mime : List ℕ → Bool
 is_mime bytes =
-    is_within 1 64 (length bytes) && list_all (is_within 0x21 0x7E) bytes
+    is_within 1 MAX_MIME (length bytes) && list_all (is_within 0x21 0x7E) bytes
     && not (bytes_eq bytes (codes "-"))
 
 abbrev pub is_sound_action : Geometry → Layout → Action → Bool
 is_sound_action g layout Nothing = true
 is_sound_action g layout (Remove tid) = nat_lt 0 tid
 is_sound_action g layout (Set tid version content start size name mime) =
-    nat_lt 0 tid && nat_le content.content_type 63 && nat_le content.subtype 511
-    && is_within 1 262144 size && nat_le (start + size) g.data_area
+    nat_lt 0 tid && nat_le content.content_type MAX_TYPE && nat_le content.subtype MAX_SUBTYPE
+    && is_within 1 MAX_BODY size && nat_le (start + size) g.data_area
     && is_name (longest_name layout) name && option_map_or is_mime mime true
 
 -- no field of the record is out of its range

@@ -1,12 +1,14 @@
 // The record of a slot, as it is read.
 ghost use Rattle.std.specs.Prelude.{◌≡◌, ◌+◌, ◌-◌, ◌^◌, ◌<◌, ◌≤◌, length, drop, Some, IfOk};
+ghost use Rattle.mot_carousel.specs.declared.mime.TheConstants.{MAX_MIME};
 ghost use Rattle.mot_journal.specs.Slot.{slot_size, read_slot, longest_name};
 ghost use Rattle.mot_journal.specs.Inner.Reading.{number_at, sound_action_of, if_sound, set_of};
 ghost use Rattle.mot_journal.specs.Inner.Reading.{name_from, mime_from};
 
 use crate::{Action, Geometry, Layout, Record};
+use byteorder::{BigEndian, ByteOrder};
 use mot_base::TransportId;
-use mot_carousel::{BodyLength, Content, Mime, Name, Period};
+use mot_carousel::{BodyLength, Content, MAX_MIME, Mime, Name, Period};
 use std::alloc::{AllocError, Global};
 
 /// The record of an open slot; none where a field has a fault.
@@ -42,15 +44,12 @@ pub fn read_record(
 // The number in so many bytes from a place on, the highest first.
 pub fn number(bytes: &[u8], at: usize, width: usize) -> u32
     requires within { at + width ≤ length bytes.now }
+    requires some { 1 ≤ width }
     requires narrow { width ≤ 4 }
     ensures value { result ≡ number_at at width bytes.now }
     ensures fits { result < 256 ^ width }
 {
-    let mut sum = 0;
-    for byte in &bytes[at..at + width] {
-        sum = sum * 256 + u32::from(*byte);
-    }
-    sum
+    BigEndian::read_uint(&bytes[at..at + width], width) as u32
 }
 
 // The action of a slot; none where a field of it has a fault.
@@ -136,14 +135,14 @@ fn read_name(alloc: Global, layout: Layout, bytes: &[u8]) -> Result<Option<Name>
 // The MIME type whose length is the first byte, or that there is none; none where it breaks its
 // rule.
 fn read_mime(alloc: Global, bytes: &[u8]) -> Result<Option<Option<Mime>>, AllocError>
-    requires { 66 ≤ length bytes.now }
+    requires { 1 + MAX_MIME < length bytes.now }
     ensures { IfOk result (λ mime. mime ≡ mime_from bytes.now) }
 {
     let size = bytes[0] as usize;
     if size == 0 {
         return Ok(Some(None));
     }
-    if size > 64 {
+    if size > MAX_MIME {
         return Ok(None);
     }
     match Mime::new(bytes[1..1 + size].to_vec(alloc)?) {

@@ -1,5 +1,7 @@
 // The slot of a record, as it is written.
-ghost use Rattle.std.specs.Prelude.{◌≡◌, ◌+◌, ◌-◌, ◌≤◌, ◌++◌, length, replicate, slice_get, true};
+ghost use Rattle.std.specs.Prelude.{◌≡◌, ◌+◌, ◌-◌, ◌^◌, ◌<◌, ◌≤◌, ◌++◌, length, replicate, true};
+ghost use Rattle.std.specs.Prelude.{slice_get};
+ghost use Rattle.std.specs.Int.{bytes_high_first};
 ghost use Rattle.std.specs.Prelude.{Some};
 ghost use Rattle.arrayvec.specs.ArrayVec.{array_vec_len};
 ghost use Rattle.mot_base.specs.declared.geometry.Geometry.{Geometry as Sizes};
@@ -9,6 +11,8 @@ ghost use Rattle.mot_journal.specs.Inner.Steps.{slot_from, IsReadable, AreSound}
 
 use crate::{Action, Layout, Record};
 use arrayvec::ArrayVec;
+use byteorder::{BigEndian, ByteOrder};
+use mot_base::{array_append, array_append_number};
 use mot_carousel::Mime;
 
 /// The value of an open gate; any other is closed.
@@ -25,9 +29,9 @@ pub fn slot_bytes(layout: Layout, entry: &Record) -> ArrayVec<u8, 512>
     let mut slot = ArrayVec::new();
     slot.push(OPEN);
     slot.push(layout.kind_base() + kind(&entry.action));
-    put(&mut slot, &entry.period.get().to_be_bytes()[1..]);
-    put(&mut slot, &entry.directory.get().to_be_bytes());
-    put(&mut slot, &entry.cursor.get().to_be_bytes());
+    put_number(&mut slot, entry.period.get(), 3);
+    array_append_number(&mut slot, entry.directory.get());
+    array_append_number(&mut slot, entry.cursor.get());
     put_action(&mut slot, &entry.action);
     fill(&mut slot, layout.slot_size());
     slot
@@ -63,13 +67,17 @@ fn kind(action: &Action) -> u8
     }
 }
 
-// Appends these bytes.
-fn put(slot: &mut ArrayVec<u8, 512>, bytes: &[u8])
-    requires { array_vec_len slot.old + length bytes.now ≤ 512 }
-    ensures { slot.new.items ≡ slot.old.items ++ bytes.now }
+// Appends a number in so many bytes, the highest first.
+fn put_number(slot: &mut ArrayVec<u8, 512>, number: u32, width: usize)
+    requires some { 1 ≤ width }
+    requires narrow { width ≤ 4 }
+    requires fits { number < 256 ^ width }
+    requires room { array_vec_len slot.old + width ≤ 512 }
+    ensures { slot.new.items ≡ slot.old.items ++ bytes_high_first width number }
 {
-    let whole = slot.try_extend_from_slice(bytes).is_ok();
-    prove!(whole);
+    let mut bytes = [0; 4];
+    BigEndian::write_uint(&mut bytes, u64::from(number), width);
+    array_append(slot, &bytes[..width]);
 }
 
 // Appends the bytes of the action, which come after its kind and the numbers of the carousel.
@@ -81,7 +89,7 @@ fn put_action(slot: &mut ArrayVec<u8, 512>, action: &Action)
 {
     match action {
         Action::Nothing => {}
-        Action::Remove { tid } => put(slot, &tid.get().to_be_bytes()),
+        Action::Remove { tid } => array_append_number(slot, tid.get()),
         Action::Set {
             tid,
             version,
@@ -91,13 +99,13 @@ fn put_action(slot: &mut ArrayVec<u8, 512>, action: &Action)
             name,
             mime,
         } => {
-            put(slot, &tid.get().to_be_bytes());
-            put(slot, &[*version, content.content_type()]);
-            put(slot, &content.subtype().to_be_bytes());
-            put(slot, &start.to_be_bytes());
-            put(slot, &length.get().to_be_bytes());
-            put(slot, &[name.as_bytes().len() as u8]);
-            put(slot, name.as_bytes());
+            array_append_number(slot, tid.get());
+            array_append(slot, &[*version, content.content_type()]);
+            array_append_number(slot, content.subtype());
+            put_number(slot, *start, 4);
+            put_number(slot, length.get(), 4);
+            slot.push(name.as_bytes().len() as u8);
+            array_append(slot, name.as_bytes());
             put_mime(slot, mime);
         }
     }
@@ -110,10 +118,10 @@ fn put_mime(slot: &mut ArrayVec<u8, 512>, mime: &Option<Mime>)
     ensures len { array_vec_len slot.new ≤ array_vec_len slot.old + 65 }
 {
     match mime {
-        None => put(slot, &[0]),
+        None => slot.push(0),
         Some(mime) => {
-            put(slot, &[mime.as_bytes().len() as u8]);
-            put(slot, mime.as_bytes());
+            slot.push(mime.as_bytes().len() as u8);
+            array_append(slot, mime.as_bytes());
         }
     }
 }

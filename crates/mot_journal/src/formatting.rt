@@ -20,8 +20,8 @@ use disk_store::{Disk, DiskFault};
 use mot_base::{Refusal, TransportId};
 use mot_carousel::Period;
 
-// What a formatted disk begins with.
-const MAGIC: [u8; 8] = *b"MOTCAR01";
+/// What a formatted disk begins with.
+pub const MAGIC: [u8; 8] = *b"MOTCAR01";
 
 /// Makes a new disk of layout 2, with no object. It takes no memory, and a disk that has the magic
 /// keeps its bytes. The magic is written last, so that a crash leaves no magic or the new disk.

@@ -17,6 +17,7 @@ ghost use Rattle.mot_journal.specs.declared.record.Record.{Record};
 use crate::encoding::slot_bytes;
 use crate::gates::are_gates_clean;
 use crate::loading::{geometry_of_head, layout_of_half, records_of_half};
+use crate::places::{HEAD_SIZE, half_size, half_start};
 use crate::writing::{fill_half, place_of_slot, publish, write_slot};
 use crate::{Geometry, Layout, Record};
 use disk_store::{Disk, DiskFault};
@@ -66,6 +67,8 @@ pub fn load<D: Disk>(alloc: Global, disk: &mut D) -> Result<Loaded, Refusal>
     ensures loaded { (D.state disk.new).IsHonest → IfOk result (λ l.
         records_of (D.state disk.old).bytes ≡ Ok (with_records l.journal l.records.items)) }
     ensures count { IfOk result (λ l. l.journal.count ≡ length l.records.items) }
+    ensures few { IfOk result (λ l.
+        length l.records.items ≤ slot_count l.journal.layout l.journal.geometry) }
     ensures going { IfOk result (λ l. IsFalse l.journal.spent) }
     ensures long_enough { IfOk result (λ l. length_of l.journal.geometry ≤ (D.state disk.old).len) }
     ensures valid { IfOk result (λ l. is_valid l.journal.geometry ≡ true) }
@@ -75,10 +78,10 @@ pub fn load<D: Disk>(alloc: Global, disk: &mut D) -> Result<Loaded, Refusal>
         (λ refusal. IsLoadRefusal (D.state disk.old) (D.state disk.new) refusal) }
 {
     let len = disk.len();
-    if len < 64 {
+    if len < HEAD_SIZE as u64 {
         return Err(Refusal::NotFormatted);
     }
-    let mut head = [0; 64];
+    let mut head = [0; HEAD_SIZE];
     if disk.read(0, &mut head).is_err() {
         return Err(Refusal::DeviceFault);
     }
@@ -86,12 +89,10 @@ pub fn load<D: Disk>(alloc: Global, disk: &mut D) -> Result<Loaded, Refusal>
         return Err(Refusal::NotFormatted);
     };
     let half: u8 = if head[8] == 1 { 1 } else { 0 };
-    let size = 512 * usize::from(geometry.objects) + 1024;
-    let Ok(mut bytes) = vec![in alloc; 0; size] else {
+    let Ok(mut bytes) = vec![in alloc; 0; half_size(&geometry)] else {
         return Err(Refusal::OutOfMemory);
     };
-    let start = 64 + u64::from(half) * size as u64;
-    if disk.read(start, &mut bytes).is_err() {
+    if disk.read(half_start(&geometry, half), &mut bytes).is_err() {
         return Err(Refusal::DeviceFault);
     }
     let layout = layout_of_half(&bytes);

@@ -9,6 +9,7 @@ mod gates;
 mod journal;
 mod layout;
 mod loading;
+mod places;
 mod record;
 mod writing;
 
@@ -19,6 +20,7 @@ pub use journal::{Journal, Loaded, load};
 pub use layout::Layout;
 pub use loading::{layout_of_half, records_of_half};
 pub use mot_base::Geometry;
+pub use places::area_start;
 pub use record::{Action, Record};
 
 #[cfg(test)]

@@ -2,6 +2,7 @@
 ghost use Rattle.std.specs.Prelude.{◌≡◌, ◌<◌, ◌≤◌, ◌+◌, ◌*◌, ◌++◌, ℕ, List, length, take, drop};
 ghost use Rattle.std.specs.Prelude.{true, IfOk, IfErr, All};
 ghost use Rattle.mot_base.specs.Geometry.{half_size};
+ghost use Rattle.mot_base.specs.declared.geometry.TheConstants.{MAX_OBJECTS};
 ghost use Rattle.mot_journal.specs.Geometry.{is_valid as valid};
 ghost use Rattle.mot_journal.specs.Geometry.{geometry_of};
 ghost use Rattle.mot_journal.specs.Slot.{is_sound, slot_size, slot_count, layout_of};
@@ -9,6 +10,7 @@ ghost use Rattle.mot_journal.specs.Inner.Loading.{HalfHas, IsHalfRefusal};
 
 use crate::decoding::{number, read_record};
 use crate::encoding::OPEN;
+use crate::formatting::MAGIC;
 use crate::{Geometry, Layout, Record};
 use mot_base::Refusal;
 use std::alloc::Global;
@@ -25,7 +27,7 @@ pub fn geometry_of_head(head: &[u8], len: u64) -> Option<Geometry>
         address: number(head, 20, 2) as u16,
         packet_length: number(head, 22, 2) as u16,
     };
-    if head[..8] != b"MOTCAR01"[..] {
+    if head[..8] != MAGIC[..] {
         return None;
     }
     if !is_valid(&geometry) {
@@ -77,12 +79,14 @@ pub fn records_of_half(
     layout: Layout,
     half: &[u8],
 ) -> Result<Vec<Record>, Refusal>
-    requires few { geometry.now.objects ≤ 250 }
+    requires few { geometry.now.objects ≤ MAX_OBJECTS }
     requires whole { length half.now ≡ half_size geometry.now }
     requires layout { layout ≡ layout_of half.now }
     ensures ok { IfOk result (λ records. HalfHas geometry.now layout half.now records.items) }
     ensures sound { IfOk result
         (λ records. All (λ r. is_sound geometry.now layout r ≡ true) records.items) }
+    ensures few { IfOk result
+        (λ records. length records.items ≤ slot_count layout geometry.now) }
     ensures refused { IfErr result (λ refusal. IsHalfRefusal geometry.now half.now refusal) }
 {
     let mut records = Vec::new(alloc);

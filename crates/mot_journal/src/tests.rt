@@ -9,6 +9,9 @@ use mot_carousel::Period;
 use std::alloc::Global;
 use std::test::Fail;
 
+mod layouts;
+mod stops;
+
 // Sizes for one object and a body of 8 bytes: 3 slots in a half of layout 2, 6 of layout 1.
 const SMALL: Geometry = Geometry {
     objects: 1,
@@ -51,9 +54,12 @@ fn add<D: Disk>(journal: &mut Journal, disk: &mut D, period: u32) -> Result<(), 
     journal.append(disk, &entry)
 }
 
-// The period of a disk's last record, and how many there are.
+// How many records a disk has, and the period of the last one. Its gates have to be clean.
 fn last_of<D: Disk>(alloc: Global, disk: &mut D) -> Result<(usize, u32), Refusal> {
     let loaded = load(alloc, disk)?;
+    let Ok(true) = loaded.journal.is_clean(disk) else {
+        return Err(Refusal::BadLine);
+    };
     let last = loaded.records.last().map_or(0, |entry| entry.period.get());
     Ok((loaded.records.len(), last))
 }
@@ -117,36 +123,6 @@ fn two_records_fill_a_half_of_three_slots(rt: HostRuntime) -> Result<(), Fail> {
     add(&mut journal, &mut disk, 8)?;
     assert!(rt; journal.is_full());
     assert_eq!(rt; last_of(alloc, &mut disk)?, (3, 8));
-    Ok(())
-}
-
-// How many records a disk has that stopped in the course of an `append`, after a crash.
-fn after_stop(alloc: Global, call: u64, choices: &[u8]) -> Result<usize, Fail>
-    requires { 1 ≤ call }
-{
-    let mut disk = new_disk(alloc, &SMALL)?;
-    let mut journal = load(alloc, &mut disk)?.journal;
-    disk.stop_at(call);
-    let added = add(&mut journal, &mut disk, 7).is_ok();
-    let mut left = disk.crash(alloc, choices).ok_or("memory")?;
-    let (count, _last) = last_of(alloc, &mut left)?;
-    if added && count != 2 {
-        return Err("lost".into());
-    }
-    Ok(count)
-}
-
-#[test]
-fn a_stop_leaves_the_records_before_or_after(rt: HostRuntime) -> Result<(), Fail> {
-    let alloc = rt.alloc();
-    for call in 1..6 {
-        let rows: [&[u8]; 6] = [&[], &[0x00], &[0xFF], &[0xA5], &[0x01], &[0x77]];
-        for choices in rows {
-            let count = after_stop(alloc, call, choices)?;
-            assert!(rt; count == 1 || count == 2, "stop at {call}");
-        }
-    }
-    assert_eq!(rt; after_stop(alloc, 3, &[0xA5])?, 2);
-    assert_eq!(rt; after_stop(alloc, 3, &[0x00])?, 1);
+    assert_eq!(rt; add(&mut journal, &mut disk, 9), Err(DiskFault));
     Ok(())
 }

@@ -1,12 +1,13 @@
 //! The writes of the journal, as runs of calls of the disk.
 ghost use Rattle.std.specs.Prelude.{◌≡◌, ◌+◌, ◌*◌, ◌^◌, ◌<◌, ◌≤◌, ℕ, length, OnOk};
 ghost use Rattle.disk_store.specs.Disk.{Keeps, HasCause, Throughout};
-ghost use Rattle.mot_base.specs.Geometry.{half_size, half_start, length_of};
+ghost use Rattle.mot_base.specs.Geometry.{half_size, half_start as start_of_half, length_of};
 ghost use Rattle.mot_journal.specs.Slot.{slot_count, slot_size};
 ghost use Rattle.mot_journal.specs.Inner.Steps.{IsGated, LeavesWritten, HasCauseOf, ChangesWithin};
 ghost use Rattle.mot_journal.specs.Inner.Steps.{HasSlots, AreSound, Publishes};
 
 use crate::encoding::slot_or_zeros;
+use crate::places::half_start;
 use crate::{Geometry, Layout, Record};
 use disk_store::{Disk, DiskFault};
 
@@ -34,10 +35,10 @@ pub fn write_slot<D: Disk>(disk: &mut D, place: u64, slot: &[u8]) -> Result<(), 
 pub fn place_of_slot(geometry: &Geometry, half: u8, layout: Layout, number: usize) -> u64
     requires two_halves { half ≤ 1 }
     requires within { number < slot_count layout geometry.now }
-    ensures value { result ≡ half_start geometry.now half + number * slot_size layout }
+    ensures value { result ≡ start_of_half geometry.now half + number * slot_size layout }
     ensures low { result < 2 ^ 62 }
 {
-    let start = 64 + u64::from(half) * (512 * u64::from(geometry.objects) + 1024);
+    let start = half_start(geometry, half);
     match layout {
         Layout::One => start + number as u64 * 256,
         Layout::Two => start + number as u64 * 512,
@@ -58,7 +59,7 @@ pub fn fill_half<D: Disk>(
     ensures keeps { Keeps (D.state disk.old) (D.state disk.new) }
     ensures cause { HasCauseOf (D.state disk.old) (D.state disk.new) result }
     ensures range { (D.state disk.old).IsHonest
-        → ChangesWithin (half_start geometry.now half) (half_size geometry.now)
+        → ChangesWithin (start_of_half geometry.now half) (half_size geometry.now)
         (D.state disk.old) (D.state disk.new) }
     ensures slots { (D.state disk.old).IsHonest → OnOk result
         (HasSlots geometry.now half layout given.now (slot_count layout geometry.now)

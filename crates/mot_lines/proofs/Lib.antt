@@ -2,6 +2,7 @@ pub mod Asked
 pub mod Input
 pub mod Laws
 pub mod Listed
+pub mod Memory
 pub mod Numbers
 pub mod Pieces
 pub mod Requests

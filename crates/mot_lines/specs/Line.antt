@@ -1,6 +1,6 @@
 -- What a line asks for.
-use Rattle.std.specs.Prelude.{ℕ, ◌≡◌, ◌⊎◌, nat_le, if◌then◌else◌, List, [], ◌∷◌, length, Result, Ok}
-use Rattle.std.specs.Prelude.{Err, codes, bytes_eq}
+use Rattle.std.specs.Prelude.{⊤, ℕ, ◌≡◌, ◌⊎◌, nat_le, if◌then◌else◌, List, [], ◌∷◌, length, Result}
+use Rattle.std.specs.Prelude.{Ok, Err, codes, bytes_eq}
 use Rattle.hex.specs.Hex.{decode_of}
 use Rattle.mot_base.specs.declared.refusal.Refusal.{Refusal}
 use Rattle.mot_base.specs.declared.refusal.Refusal.TheVariants.{OutOfMemory, BadLine}
@@ -97,6 +97,21 @@ request_of (first ∷ words) =
 -- what a line of at most 530,000 bytes asks for, or why it is refused
 unfoldable pub line_of : List ℕ → Result Line Refusal
 line_of bytes = if nat_le (length bytes) MAX_LINE then request_of (words_of bytes) else Err BadLine
+
+-- What a line asks for takes memory where it is a command or a raw line's packets; and a line that
+-- is refused may have taken some for the words before the one that is wrong. A list, a `next` and a
+-- `turn` line take none.
+abbrev pub NeedsMemory : Result Line Refusal → Type 0
+NeedsMemory (Err r) = ⊤
+NeedsMemory (Ok (Command c)) = ⊤
+NeedsMemory (Ok (Raw kind tid body)) = ⊤
+NeedsMemory (Ok asks.List) = ⊥
+NeedsMemory (Ok (asks.Next count)) = ⊥
+NeedsMemory (Ok asks.Turn) = ⊥
+
+-- what a line asks for, but where that takes memory a growth that is refused may stand in its place
+abbrev pub IsParsed : Result Line Refusal → Result Line Refusal → Type 0
+IsParsed result request = (result ≡ request) ⊎ ((result ≡ Err OutOfMemory) × NeedsMemory request)
 
 -- this answer, but a growth of memory that is refused may stand in its place
 abbrev pub OrOutOfMemory : {T : Type 0} → Result T Refusal → Result T Refusal → Type 0

@@ -27,7 +27,7 @@ impl Model for Hand {
 
 impl Hand {
     ghost use Rattle.mot_lines.specs.Inner.Hand.{bytes_in_hand};
-    ghost use Rattle.mot_lines.specs.Line.{line_of, OrOutOfMemory};
+    ghost use Rattle.mot_lines.specs.Line.{line_of, IsParsed};
 
     /// An empty line.
     pub fn new(alloc: Global) -> Result<Self, AllocError>
@@ -74,7 +74,7 @@ impl Hand {
     /// What the line asks for.
     pub fn parse(&self, alloc: Global) -> Result<Line, Refusal>
         ensures { (line : List ℕ) → self.now ≡ bytes_in_hand line
-            → OrOutOfMemory result (line_of line) }
+            → IsParsed result (line_of line) }
     {
         if self.is_too_long {
             return Err(Refusal::BadLine);

@@ -11,8 +11,8 @@ pub use line::{Description, Line, MAX_LINE, MAX_PACKETS, parse_line};
 pub use line_end::cut_at_line_end;
 pub use mot_groups::SegmentBytes;
 pub use text::{
-    LINE_ROOM, TextLine, carousel_text, done_text, object_text, packet_text, played_text,
-    refusal_text,
+    LINE_ROOM, PACKET_LINE_ROOM, PacketLine, TextLine, carousel_text, done_text, object_text,
+    packet_text, played_text, refusal_text,
 };
 
 #[cfg(test)]

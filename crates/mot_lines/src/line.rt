@@ -1,6 +1,7 @@
 ghost use Rattle.std.specs.Prelude.{◌≡◌, ◌∷◌};
 ghost use Rattle.mot_lines.specs.Line.{raw_of, put_of, replace_of, withdraw_of, period_of, list_of};
-ghost use Rattle.mot_lines.specs.Line.{next_of, turn_of, request_of, line_of, OrOutOfMemory};
+ghost use Rattle.mot_lines.specs.Line.{next_of, turn_of, request_of, line_of};
+ghost use Rattle.mot_lines.specs.Line.{IsParsed, OrOutOfMemory};
 ghost use Rattle.mot_lines.specs.Inner.Words.{words_after};
 
 mod description;
@@ -49,9 +50,9 @@ pub enum Line {
 /// words, or more than 530,000 bytes. Then the words are looked at in their order, and the first
 /// that is wrong gives the refusal: `BadName`, `BadType`, `BadMime`, `BadNumber`, or for the body
 /// `BadBody`, `EmptyBody` or `BodyTooLong`. `OutOfMemory` where there is no room for a name, a MIME
-/// type or the body.
+/// type or the body; a list, a `next` and a `turn` line are never refused for want of memory.
 pub fn parse_line(alloc: Global, line: &[u8]) -> Result<Line, Refusal>
-    ensures { OrOutOfMemory result (line_of line.now) }
+    ensures { IsParsed result (line_of line.now) }
 {
     if line.len() > MAX_LINE {
         return Err(Refusal::BadLine);
@@ -62,7 +63,7 @@ pub fn parse_line(alloc: Global, line: &[u8]) -> Result<Line, Refusal>
 
 /// What a line asks for, by its first word and those after it.
 fn parse_request(alloc: Global, first: &[u8], words: Option<&[u8]>) -> Result<Line, Refusal>
-    ensures { OrOutOfMemory result (request_of (first.now ∷ words_after words.entry)) }
+    ensures { IsParsed result (request_of (first.now ∷ words_after words.entry)) }
 {
     if is_word(first, b"raw") {
         parse_raw(alloc, words)

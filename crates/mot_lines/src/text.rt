@@ -1,5 +1,7 @@
-ghost use Rattle.std.specs.Prelude.{◌≡◌, ℕ, ◌+◌, ◌≤◌, List, Option, ◌++◌, length};
+ghost use Rattle.std.specs.Prelude.{◌≡◌, ℕ, ◌+◌, ◌*◌, ◌<◌, ◌≤◌, List, Option, ◌++◌, length};
+ghost use Rattle.std.specs.Prelude.{slice_index};
 ghost use Rattle.arrayvec.specs.ArrayVec.{array_vec_len};
+ghost use Rattle.hex.specs.Hex.{encode_lower, lower_digits};
 ghost use Rattle.mot_lines.specs.Listing.{numbers_line, mime_word};
 ghost use Rattle.mot_lines.specs.Inner.Listing.{object_line_beside};
 ghost use Rattle.mot_lines.specs.Text.{field, taken_words, done_line, packet_line, played_line};
@@ -17,14 +19,20 @@ pub const LINE_ROOM: usize = 400;
 /// One line of a reply, with its end: the longest shows an object.
 pub type TextLine = ArrayVec<u8, LINE_ROOM>;
 
+/// Room for the line of a packet: two words and its end, and two digits for each byte.
+pub const PACKET_LINE_ROOM: usize = 204;
+
+/// The line of a packet, with its end.
+pub type PacketLine = ArrayVec<u8, PACKET_LINE_ROOM>;
+
 /// A packet's line.
-pub fn packet_text(packet: &Packet) -> TextLine
+pub fn packet_text(packet: &Packet) -> PacketLine
     ensures { result.items ≡ packet_line packet.now.items }
 {
     let mut digits = [0u8; 192];
     let digits = &mut digits[..2 * packet.len()];
-    hex::encode_to_slice(packet.as_slice(), digits).unwrap();
-    let mut text = TextLine::new();
+    write_digits(packet.as_slice(), digits);
+    let mut text = PacketLine::new();
     array_append(&mut text, b"packet ");
     array_append(&mut text, digits);
     array_append(&mut text, b"\n");
@@ -32,13 +40,13 @@ pub fn packet_text(packet: &Packet) -> TextLine
 }
 
 /// The line of a packet that was played, with ` end` behind one that ends a turn.
-pub fn played_text(packet: &Packet, ends_turn: bool) -> TextLine
+pub fn played_text(packet: &Packet, ends_turn: bool) -> PacketLine
     ensures { result.items ≡ played_line packet.now.items ends_turn }
 {
     let mut digits = [0u8; 192];
     let digits = &mut digits[..2 * packet.len()];
-    hex::encode_to_slice(packet.as_slice(), digits).unwrap();
-    let mut text = TextLine::new();
+    write_digits(packet.as_slice(), digits);
+    let mut text = PacketLine::new();
     array_append(&mut text, b"packet ");
     array_append(&mut text, digits);
     if ends_turn {
@@ -46,6 +54,31 @@ pub fn played_text(packet: &Packet, ends_turn: bool) -> TextLine
     }
     array_append(&mut text, b"\n");
     text
+}
+
+/// Writes two small digits for each byte. They are sums, not looked up, so that a processor makes
+/// those of many bytes at once.
+fn write_digits(bytes: &[u8], digits: &mut [u8])
+    requires { length digits.old ≡ 2 * length bytes.now }
+    ensures { digits.new ≡ encode_lower bytes.now }
+{
+    for number in 0..bytes.len() {
+        let byte = bytes[number];
+        digits[2 * number] = digit(byte >> 4);
+        digits[2 * number + 1] = digit(byte & 0x0F);
+    }
+}
+
+/// The digit of a number below 16.
+fn digit(number: u8) -> u8
+    requires { number < 16 }
+    ensures { result ≡ slice_index lower_digits number }
+{
+    if number < 10 {
+        b'0' + number
+    } else {
+        b'a' - 10 + number
+    }
 }
 
 /// A refusal's line.

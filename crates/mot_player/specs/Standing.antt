@@ -3,6 +3,9 @@
 use Rattle.std.specs.Prelude.{◌≡◌, ◌⊎◌, ℕ, zero, suc, ◌+◌, ◌*◌, ◌<◌, ◌≤◌, ◌==◌, if◌then◌else◌, List}
 use Rattle.std.specs.Prelude.{[], ◌∷◌, ◌++◌, length, drop, map, flat_map, ◌-◌, slice_index, Option}
 use Rattle.std.specs.List.{AllByRecursion}
+use Rattle.mot_base.specs.declared.geometry.TheConstants.{MAX_OBJECTS}
+use Rattle.mot_carousel.specs.declared.body.TheConstants.{MAX_BODY}
+use Rattle.mot_directory.specs.declared.directory.TheConstants.{MAX_DIRECTORY}
 use Rattle.mot_groups.specs.Entity.{segments_of}
 use Rattle.mot_groups.specs.Group.{Segment}
 use Rattle.mot_player.specs.Bodies.{body_at}
@@ -23,9 +26,9 @@ pub record TurnPlan : Type 0 where
 -- a turn of a carousel within its limits: how long its entities are, and how many
 pub record IsPlannable (plan : TurnPlan) : Type 0 where
   pub some : 0 < length plan.directory
-  pub directory : length plan.directory ≤ 84013
-  pub bodies : AllByRecursion (λ (b : BodyPlan). (1 ≤ b.length) × (b.length ≤ 262144)) plan.bodies
-  pub few : length plan.bodies ≤ 250
+  pub directory : length plan.directory ≤ MAX_DIRECTORY
+  pub bodies : AllByRecursion (λ (b : BodyPlan). (1 ≤ b.length) × (b.length ≤ MAX_BODY)) plan.bodies
+  pub few : length plan.bodies ≤ MAX_OBJECTS
 
 -- there is a body for each, of the length that it gives
 abbrev pub AreBodiesFor : TurnPlan → List (List ℕ) → Type 0

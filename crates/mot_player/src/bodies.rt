@@ -1,4 +1,4 @@
-ghost use Rattle.std.specs.Prelude.{◌≡◌, ◌+◌, ◌<◌, ◌≤◌, List, ℕ, length, map, slice_range};
+ghost use Rattle.std.specs.Prelude.{◌≡◌, ◌+◌, ◌<◌, ◌≤◌, List, ℕ, length, map, refl, slice_range};
 ghost use Rattle.std.specs.Prelude.{OnOk, IfErr};
 ghost use Rattle.mot_base.specs.declared.refusal.Refusal.TheVariants.{DeviceFault};
 ghost use Rattle.mot_player.specs.Bodies.{body_at, HasCause};
@@ -23,6 +23,12 @@ pub trait Bodies {
     /// How often a read has failed.
     ghost failures: { Self → ℕ };
 
+    /// What stays, where only reads have come between the first and the second.
+    ghost HasOnlyRead: { Self → Self → Type 0 };
+
+    /// It stays where no read has come.
+    ghost unread: { (kept : Self) → HasOnlyRead kept kept };
+
     /// How many bodies there are.
     fn count(&self) -> usize
         ensures { result ≡ length (bodies self.now) };
@@ -39,6 +45,7 @@ pub trait Bodies {
         ensures lengths { map length (bodies self.new) ≡ map length (bodies self.old) }
         ensures unchanged { IsHonest self.old → bodies self.new ≡ bodies self.old }
         ensures was_honest { IsHonest self.new → IsHonest self.old }
+        ensures only_read { HasOnlyRead self.old self.new }
         ensures cause { HasCause (failures self.old) (failures self.new) result }
         ensures refused { IfErr result (λ refusal. refusal ≡ DeviceFault) }
         ensures bytes { IsHonest self.new → OnOk result
@@ -58,6 +65,10 @@ impl Bodies for Vec<Body> {
     ghost IsHonest = { λ kept. Unit {0} };
 
     ghost failures = { λ kept. 0 };
+
+    ghost HasOnlyRead = { λ old new. new ≡ old };
+
+    ghost unread = { λ kept. refl };
 
     fn count(&self) -> usize {
         self.len()

@@ -1,6 +1,7 @@
 ghost use Rattle.std.specs.Prelude.{◌≡◌, ◌+◌, ◌^◌, ◌<◌, ◌≤◌, [], ◌++◌, length, vec_len};
 ghost use Rattle.std.specs.Prelude.{vec_capacity, Some};
 ghost use Rattle.mot_base.specs.GroupKind.{kind_number};
+ghost use Rattle.mot_base.specs.declared.numbers.TheConstants.{MAX_SEGMENT};
 ghost use Rattle.mot_groups.specs.Group.{GroupFields, IsGroup, content_of, bytes_of_group};
 ghost use Rattle.mot_groups.specs.Group.{group_of};
 ghost use Rattle.mot_groups.specs.Group.{read_group, segment_content};
@@ -25,7 +26,7 @@ pub(crate) fn begin_group(
     requires room { length segment.now + 11 ≤ vec_capacity group.old }
     requires last { length segment.now ≤ vec_capacity last.old.segment }
     requires number { number < 2 ^ 15 }
-    requires segment { (0 < length segment.now) × (length segment.now ≤ 8189) }
+    requires segment { (0 < length segment.now) × (length segment.now ≤ MAX_SEGMENT) }
     ensures written { let s = (group_of 0 (kind_number kind) tid number is_last
         segment.now).segment in
         let index = next_index (last_of last.old) (segment_content s) in

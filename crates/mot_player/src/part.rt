@@ -1,5 +1,6 @@
 ghost use Rattle.std.specs.Prelude.{◌≡◌, ℕ, ◌+◌, ◌*◌, ◌^◌, ◌<◌, ◌≤◌, ◌==◌, List, length};
 ghost use Rattle.std.specs.Prelude.{if◌then◌else◌};
+ghost use Rattle.mot_base.specs.declared.numbers.TheConstants.{MAX_SEGMENT};
 ghost use Rattle.mot_player.specs.Inner.Next.{IsNext};
 ghost use Rattle.mot_player.specs.Standing.{IsPlannable, IsWithinTurn, entity_length};
 
@@ -52,7 +53,7 @@ fn segment_at(turn: &Turn, segment_size: SegmentSize, entity: usize, segment: us
     ensures next_entity { result.next_entity ≡ (if result.is_last then entity + 1 else entity) }
     ensures next_segment { result.next_segment ≡ (if result.is_last then 0 else segment + 1) }
     ensures plannable { IsPlannable turn.now }
-    ensures size { (64 ≤ segment_size) × (segment_size ≤ 8189) }
+    ensures size { (64 ≤ segment_size) × (segment_size ≤ MAX_SEGMENT) }
 {
     let _ = turn.entity_count();
     let size = usize::from(segment_size.get());

@@ -120,6 +120,7 @@ impl Player {
         ensures lengths { map length (B.bodies bodies.new) ≡ map length (B.bodies bodies.old) }
         ensures unchanged { B.IsHonest bodies.old → B.bodies bodies.new ≡ B.bodies bodies.old }
         ensures was_honest { B.IsHonest bodies.new → B.IsHonest bodies.old }
+        ensures only_read { B.HasOnlyRead bodies.old bodies.new }
         ensures failed { OnErr result (Rises (B.failures bodies.old) (B.failures bodies.new)) }
         ensures no_fault { OnOk result (B.failures bodies.new ≡ B.failures bodies.old) }
         ensures refused { IfErr result (λ refusal. refusal ≡ DeviceFault) }

@@ -1,5 +1,6 @@
 ghost use Rattle.std.specs.Prelude.{◌≡◌, ℕ, ◌+◌, ◌<◌, ◌≤◌, List, length, map, vec_len, IfOk, IfErr};
 ghost use Rattle.mot_base.specs.declared.refusal.Refusal.TheVariants.{OutOfMemory};
+ghost use Rattle.mot_carousel.specs.declared.body.TheConstants.{MAX_BODY};
 ghost use Rattle.mot_carousel.specs.Stands.{AreBodiesOf, carousel_of};
 ghost use Rattle.mot_carousel.specs.declared.object.Object.{Object};
 ghost use Rattle.mot_player.specs.declared.planned_body.PlannedBody.{PlannedBody};
@@ -89,7 +90,7 @@ impl Turn {
     pub(crate) fn entity_length(&self, entity: usize) -> usize
         requires { entity < length self.now.bodies + 1 }
         ensures value { result ≡ entity_length self.now entity }
-        ensures range { (1 ≤ result) × (result ≤ 262144) }
+        ensures range { (1 ≤ result) × (result ≤ MAX_BODY) }
     {
         if entity == 0 {
             self.directory.len()

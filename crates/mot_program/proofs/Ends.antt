@@ -3,7 +3,7 @@ use Rattle.std.proofs.Common.{◌≡◌, Option, Some, None, inl, inr, ◌⊎◌
 use Rattle.std.specs.Option.{IfSome}
 use Rattle.mot_base.specs.declared.refusal.Refusal.{Refusal}
 use Rattle.mot_base.specs.declared.refusal.Refusal.TheVariants.{OutOfMemory, ReadFault, WriteFault}
-use Rattle.mot_server.specs.Served.{EndsServing}
+use Rattle.mot_session.specs.Served.{EndsServing}
 
 pub IfSome-fault : (P : Type 0) (fault : Option Refusal) → EndsServing fault
     → (fault ≡ Some OutOfMemory → P) → (fault ≡ Some ReadFault → P) → (fault ≡ Some WriteFault → P)

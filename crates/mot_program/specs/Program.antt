@@ -11,8 +11,8 @@ use Rattle.mot_program.specs.declared.options.Options.{Options}
 use Rattle.mot_program.specs.declared.program.TheConstants.{READS}
 use Rattle.mot_program.specs.Command.{program_app}
 use Rattle.mot_program.specs.Options.{IsGiven, geometry_of}
-use Rattle.mot_server.specs.Served.{TakesInput, Served, Stopped}
-use Rattle.mot_server.specs.State.{ServerState, new_server}
+use Rattle.mot_session.specs.Served.{TakesInput, Served, Stopped}
+use Rattle.mot_session.specs.State.{ServerState, new_server}
 
 -- the words ask to serve from memory, at the geometry of the numbers that they give
 pub record AskToServe (words : List Text) (geometry : Geometry) : Type 0 where

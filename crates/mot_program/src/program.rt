@@ -11,7 +11,7 @@ use crate::options::options_of;
 use clap::Error;
 use clap::error::ErrorKind;
 use mot_base::{Geometry, Refusal};
-use mot_server::{Server, serve};
+use mot_session::{Server, serve};
 use std::alloc::{AllocError, Global};
 use std::convert::AsStr;
 use std::io::{Read, Write};

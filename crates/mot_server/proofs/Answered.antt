@@ -1,95 +1,205 @@
--- What answers a request.
-use Rattle.std.proofs.Common.{◌≡◌, ℕ, List, Ok, Err, Result, refl, sym, ap, ◌∙◌, subst, inl, inr}
-use Rattle.std.proofs.Common.{◌⊎◌}
-use Rattle.mot_base.specs.declared.group_kind.GroupKind.{GroupKind}
+-- What an answer to one command makes of a run.
+use Rattle.std.proofs.Common.{◌≡◌, ℕ, ◌≤◌, Bool, true, false, List, [], ◌∷◌, ◌++◌, length, map, replicate, Option, Some, None, Result, Ok, Err, refl, sym, ◌∙◌, ap, subst, arith}
+use Rattle.std.proofs.lemmas.List.{length-replicate}
+use Rattle.std.specs.Prelude.{slice_get, IsTrue, IsFalse, if◌then◌else◌}
+use Rattle.disk_store.specs.Disk.{State, Throughout, Keeps, IsHonestDisk, IsUnchanged}
 use Rattle.mot_base.specs.declared.refusal.Refusal.{Refusal}
-use Rattle.mot_base.specs.declared.refusal.Refusal.TheVariants.{OutOfMemory}
+use Rattle.mot_base.specs.declared.refusal.Refusal.TheVariants.{NameTaken, NoSuchName, TooManyObjects, DeviceFault, Halted}
 use Rattle.mot_carousel.specs.declared.command.Command.{Command}
+use Rattle.mot_carousel.specs.declared.command.Command.TheVariants.{Put, Replace, Withdraw, Period}
 use Rattle.mot_carousel.specs.declared.command.Done.{Done}
-use Rattle.mot_carousel.specs.Carousel.{change}
-use Rattle.mot_groups.specs.Group.{bytes_of_group}
-use Rattle.mot_lines.specs.declared.line.Line.{Line}
-use Rattle.mot_lines.specs.declared.line.Line.TheVariants as asks
-use Rattle.mot_lines.specs.Line.{OrOutOfMemory}
-use Rattle.mot_server.specs.Raw.{raw_group, packets_at}
-use Rattle.mot_server.specs.Inner.Decision.{Decides}
-use Rattle.mot_server.specs.Session.{Reply, refused, accepted, listing, packets, reply_to_change}
-use Rattle.mot_server.specs.Session.{state_after_change, IsAnswer, Answers, decided, no_memory}
-use Rattle.mot_server.specs.declared.answering.Decision.{Decision}
-use Rattle.mot_server.specs.declared.answering.Decision.TheVariants.{Refused, Accepted, Listing}
-use Rattle.mot_server.specs.declared.answering.Decision.TheVariants.{Packets, Next, Turn}
+use Rattle.mot_carousel.specs.declared.object.Object as declared
+use Rattle.mot_carousel.specs.Carousel.{Carousel, Object, change, change_if_named, free_object_id}
+use Rattle.mot_carousel.specs.Stands.{carousel_of}
 use Rattle.mot_base.specs.declared.geometry.Geometry.{Geometry}
-use Rattle.mot_player.specs.Place.{Place, change_turn}
-use Rattle.mot_player.specs.Turn.{turn_of_carousel}
-use Rattle.mot_server.specs.State.{ServerState}
+use Rattle.mot_journal.specs.declared.layout.Layout.{Layout}
+use Rattle.mot_journal.specs.Image.{Standing}
+use Rattle.mot_repository.specs.Repository.{RepositoryView, Holds, IsNext, IsBeforeOrAfter}
+use Rattle.mot_repository.specs.Answers.{IsRefusal, IsAnswered, IsChanged, halted, long_name, by_rules, no_room, no_memory, accepted, refused, failed}
+use Rattle.mot_server.specs.Marks.{IsRefusedAt, HasNoGapFor}
+use Rattle.mot_server.specs.Marks as marks_of
+use Rattle.mot_server.specs.RunEnds.{IsRunFault, RunLeaves, is_run_ending}
+use Rattle.mot_server.specs.RunEnds as run_ends
+use Rattle.mot_server.proofs.Acceptance.{is_accepted, no_gap}
+use Rattle.mot_server.proofs.Read.{rises_on, holds_still}
+use Rattle.mot_server.proofs.Runs.{Reached, accepts, refuses, fails, rests, idles}
 
-module _ (before after : ServerState) (c : Command) where
-  -- a command that was accepted
-  pub Answers-accepted : (d : Done)
-      → change before.carousel before.geometry.objects c ≡ Ok (after.carousel, d)
-      → after.geometry ≡ before.geometry
-      → after.place ≡ change_turn (turn_of_carousel after.carousel before.geometry.segment_size) before.place
-      → Answers before (Ok (asks.Command c)) (accepted d) after
-  unfolding IsAnswer
-  Answers-accepted d changed same place = decided (
-    sym (ap reply_to_change changed),
-    ap (λ (g : Geometry). record { geometry = g; carousel = after.carousel; place = after.place }) same
-        ∙ ap (λ (p : Place). record { geometry = before.geometry; carousel = after.carousel; place = p }) place
-        ∙ sym (ap (state_after_change before) changed),
-  )
+abbrev IsFailure : Result Done Refusal → Type 0
+IsFailure (Ok done) = ⊥
+IsFailure (Err refusal) = Unit {0}
 
-  -- and one that was refused
-  pub Answers-refused_command : (r : Refusal)
-      → (r ≡ OutOfMemory) ⊎ (change before.carousel before.geometry.objects c ≡ Err r)
-      → after ≡ before → Answers before (Ok (asks.Command c)) (refused r) after
-  unfolding IsAnswer
-  Answers-refused_command r (inl h) same = no_memory (ap refused h) same
-  Answers-refused_command r (inr h) same =
-      decided (sym (ap reply_to_change h), same ∙ sym (ap (state_after_change before) h))
+not_ok : (done : Done) (refusal : Refusal) → Err refusal ≡ Ok done → ⊥
+not_ok done refusal e = subst IsFailure e tt
 
-module _ (state : ServerState) where
-  pub Answers-refused : (r : Refusal) → Answers state (Err r) (refused r) state
-  unfolding IsAnswer
-  Answers-refused r = decided (refl, refl)
+abbrev failure : Refusal → Result Done Refusal
+failure refusal = Err refusal
 
-  pub Answers-list : Answers state (Ok asks.List) (listing state.carousel) state
-  unfolding IsAnswer
-  Answers-list = decided (refl, refl)
+error_is : (refusal : Refusal) → failure refusal ≡ failure DeviceFault → refusal ≡ DeviceFault
+error_is refusal e = cc
 
-  pub Answers-raw : (kind : GroupKind) (tid : ℕ) (body group : List ℕ)
-      → group ≡ bytes_of_group (raw_group kind tid body)
-      → Answers state (Ok (asks.Raw kind tid body)) (packets (packets_at state.geometry group)) state
-  unfolding IsAnswer
-  Answers-raw kind tid body group e = decided (ap (λ g. packets (packets_at state.geometry g)) e, refl)
+abbrev Yes : Bool → Type 0
+Yes true = Unit {0}
+Yes false = ⊥
 
-module _ (before after : ServerState) where
-  answers-no_memory : (reply : Reply) (asked : Result Line Refusal) → Answers before (Err OutOfMemory) reply after
-      → Answers before asked reply after
-  unfolding IsAnswer
-  answers-no_memory reply asked (decided d) = no_memory d.0 d.1
-  answers-no_memory reply asked (no_memory e f) = no_memory e f
+-- the refusals of the rules end no run
+put-refuses : (taken full : Bool) (x : Carousel × Done) (refusal : Refusal)
+    → (if taken then Err NameTaken else (if full then Err TooManyObjects else Ok x)) ≡ Err refusal → is_run_ending refusal ≡ false
+put-refuses true full x refusal e = let same : NameTaken ≡ refusal = cc in ap is_run_ending (sym same)
+put-refuses false true x refusal e = let same : TooManyObjects ≡ refusal = cc in ap is_run_ending (sym same)
+put-refuses false false x refusal e = cc
 
-  -- the line was parsed, or there was no memory for it
-  answers-parsed : (reply : Reply) (request asked : Result Line Refusal) → OrOutOfMemory request asked
-      → Answers before request reply after → Answers before asked reply after
-  answers-parsed reply request asked (inl e) a = subst (λ r. Answers before r reply after) e a
-  answers-parsed reply request asked (inr e) a =
-      answers-no_memory reply asked (subst (λ r. Answers before r reply after) e a)
+named-refuses : (c : Carousel) (taken : Option ℕ) (objects : Option (List Object)) (refusal : Refusal)
+    → change_if_named c taken objects ≡ Err refusal → is_run_ending refusal ≡ false
+named-refuses c taken None refusal e = let same : NoSuchName ≡ refusal = cc in ap is_run_ending (sym same)
+named-refuses c taken (Some objects) refusal e = cc
 
-  -- a line that asks for packets was parsed
-  plays-parsed : (line : Line) (request asked : Result Line Refusal) → OrOutOfMemory request asked
-      → request ≡ Ok line → asked ≡ Ok line
-  plays-parsed line request asked (inl e) h = sym e ∙ h
-  plays-parsed line request asked (inr e) h = absurd (cc)
+rules-refuse : (c : Carousel) (limit : ℕ) (command : Command) (refusal : Refusal)
+    → change c limit command ≡ Err refusal → is_run_ending refusal ≡ false
+unfolding change
+rules-refuse c limit (Put name content mime body) refusal e = put-refuses _ _ _ refusal e
+rules-refuse c limit (Replace name content mime body) refusal e = named-refuses c (Some (free_object_id c)) _ refusal e
+rules-refuse c limit (Withdraw name) refusal e = named-refuses c None _ refusal e
+rules-refuse c limit (Period period) refusal e = cc
 
-  pub Decides-parsed : (decision : Decision) (request asked : Result Line Refusal)
-      → OrOutOfMemory request asked → Decides before request decision after
-      → Decides before asked decision after
-  Decides-parsed (Refused r) request asked o d = answers-parsed (refused r) request asked o d
-  Decides-parsed (Accepted a) request asked o d = answers-parsed (accepted a) request asked o d
-  Decides-parsed Listing request asked o d = answers-parsed (listing after.carousel) request asked o d
-  Decides-parsed (Packets group) request asked o d =
-      answers-parsed (packets (packets_at after.geometry group.items)) request asked o d
-  Decides-parsed (Next count) request asked o d =
-      (plays-parsed (asks.Next count) request asked o d.0, d.1)
-  Decides-parsed Turn request asked o d = (plays-parsed asks.Turn request asked o d.0, d.1)
+-- why a mark is false
+refused_at : (view : RepositoryView) (s : Standing) (state : State) (command : Command) (refusal : Refusal)
+    → Holds view s state → IsRefusal view command refusal → is_run_ending refusal ≡ false → IsRefusedAt view.journal.layout s command
+refused_at view s state command refusal holds (halted is e) goes_on =
+    absurd (subst Yes (sym (ap is_run_ending e) ∙ goes_on) tt)
+refused_at view s state command refusal holds (long_name going one long e) goes_on = marks_of.long_name one long
+refused_at view s state command refusal holds (by_rules going room rules) goes_on =
+    let agrees = holds.agrees in
+    marks_of.by_rules refusal (subst (λ (c : Carousel). change c s.geometry.objects command ≡ Err refusal) (sym agrees.carousel)
+    (subst (λ (g : Geometry). change (carousel_of view.carousel agrees.bodies) g.objects command ≡ Err refusal) agrees.geometry (rules agrees.bodies agrees.are_bodies)))
+refused_at view s state command refusal holds (no_room going room next done changes none e) goes_on =
+    marks_of.no_room (no_gap view s holds.agrees command none)
+refused_at view s state command refusal holds (no_memory going room e) goes_on =
+    absurd (subst Yes (sym (ap is_run_ending e) ∙ goes_on) tt)
+
+-- there are bodies of each length
+abbrev zeros_for : List declared.Object → List (List ℕ)
+zeros_for [] = []
+zeros_for (o ∷ objects) = replicate o.length 0 ∷ zeros_for objects
+
+zeros-fit : (objects : List declared.Object) → map length (zeros_for objects) ≡ map (λ (o : declared.Object). o.length) objects
+zeros-fit [] = refl
+zeros-fit (o ∷ objects) = ap (λ n. n ∷ map length (zeros_for objects)) (length-replicate {A = ℕ} o.length 0) ∙ ap (λ l. o.length ∷ l) (zeros-fit objects)
+
+-- what ended a run
+pub run_fault : (first view view' : RepositoryView) (start mid now : State) (command : Command) (refusal : Refusal)
+    → start.failures ≤ mid.failures → mid.failures ≤ now.failures → view.halted ≡ first.halted
+    → is_run_ending refusal ≡ true → IsAnswered view view' mid now command (Err refusal) → IsRunFault first view' start now refusal
+run_fault first view view' start mid now command refusal le later same ends (accepted done e changed) = absurd (not_ok done refusal e)
+run_fault first view view' start mid now command refusal le later same ends (failed e going rises halts) =
+    let is : refusal ≡ DeviceFault = cc in
+    run_ends.device is (rises_on start.failures mid.failures now.failures le later rises) halts.halted
+run_fault first view view' start mid now command refusal le later same ends (refused r e (halted is is_halted) same_view still) =
+    let same_refusal : refusal ≡ r = cc in
+    run_ends.halted (same_refusal ∙ is_halted) (subst IsTrue same is)
+run_fault first view view' start mid now command refusal le later same ends (refused r e (long_name going one long is) same_view still) =
+    let same_refusal : refusal ≡ r = cc in
+    absurd (subst Yes (sym ends ∙ ap is_run_ending (same_refusal ∙ is)) tt)
+run_fault first view view' start mid now command refusal le later same ends (refused r e (by_rules going room rules) same_view still) =
+    let same_refusal : refusal ≡ r = cc in
+    let bodies = zeros_for view.carousel.objects.items in
+    let no = rules-refuse (carousel_of view.carousel bodies) view.journal.geometry.objects command r (rules bodies (zeros-fit view.carousel.objects.items)) in
+    absurd (subst Yes (sym ends ∙ ap is_run_ending same_refusal ∙ no) tt)
+run_fault first view view' start mid now command refusal le later same ends (refused r e (no_room going room next done changes none is) same_view still) =
+    let same_refusal : refusal ≡ r = cc in
+    absurd (subst Yes (sym ends ∙ ap is_run_ending (same_refusal ∙ is)) tt)
+run_fault first view view' start mid now command refusal le later same ends (refused r e (no_memory going room is) same_view still) =
+    let same_refusal : refusal ≡ r = cc in
+    run_ends.no_memory (same_refusal ∙ is)
+
+-- a command that is answered without a device fault leaves it as halted as it was
+pub as_halted : (view view' : RepositoryView) (mid now : State) (command : Command) (r : Result Done Refusal)
+    → (r ≡ Err DeviceFault → ⊥) → IsAnswered view view' mid now command r → view'.halted ≡ view.halted
+as_halted view view' mid now command r fine (accepted done e changed) = changed.halted
+as_halted view view' mid now command r fine (refused refusal e why same still) = ap (λ (v : RepositoryView). v.halted) same
+as_halted view view' mid now command r fine (failed e going rises halts) = absurd (fine e)
+
+pub no_fault_in : (done : Done) → Ok done ≡ Err DeviceFault → ⊥
+no_fault_in done e = not_ok done DeviceFault (sym e)
+
+pub no_fault_of : (refusal : Refusal) → is_run_ending refusal ≡ false → failure refusal ≡ failure DeviceFault → ⊥
+no_fault_of refusal goes e =
+    let is : refusal ≡ DeviceFault = error_is refusal e in
+    subst Yes (sym (ap is_run_ending is) ∙ goes) tt
+
+abbrev Clash : Bool → Type 0
+Clash true = ⊥
+Clash false = Unit {0}
+
+-- halted and not halted
+pub not_halted : (b : Bool) → IsTrue b → IsFalse b → ⊥
+not_halted b is isnt = subst Clash (sym isnt ∙ is) tt
+
+-- a halted server refuses, and nothing changes
+pub stays_halted : (view view' : RepositoryView) (mid now : State) (command : Command) (refusal : Refusal) → IsTrue view.halted
+    → IsAnswered view view' mid now command (Err refusal) → (view' ≡ view) × IsUnchanged mid now
+stays_halted view view' mid now command refusal is (accepted done e changed) = absurd (not_ok done refusal e)
+stays_halted view view' mid now command refusal is (refused r e why same still) = (same, still)
+stays_halted view view' mid now command refusal is (failed e going rises halts) = absurd (not_halted view.halted is going)
+
+why-halted : (view : RepositoryView) (command : Command) (refusal : Refusal) → IsTrue view.halted → IsRefusal view command refusal
+    → refusal ≡ Halted
+why-halted view command refusal is (halted h e) = e
+why-halted view command refusal is (long_name going one long e) = absurd (not_halted view.halted is going)
+why-halted view command refusal is (by_rules going room rules) = absurd (not_halted view.halted is going)
+why-halted view command refusal is (no_room going room next done changes none e) = absurd (not_halted view.halted is going)
+why-halted view command refusal is (no_memory going room e) = absurd (not_halted view.halted is going)
+
+-- so a run ends there
+pub ends_halted : (view view' : RepositoryView) (mid now : State) (command : Command) (refusal : Refusal) → IsTrue view.halted
+    → IsAnswered view view' mid now command (Err refusal) → is_run_ending refusal ≡ false → ⊥
+ends_halted view view' mid now command refusal is (accepted done e changed) goes_on = not_ok done refusal e
+ends_halted view view' mid now command refusal is (refused r e why same still) goes_on =
+    let same_refusal : refusal ≡ r = cc in
+    subst Yes (sym (ap is_run_ending (same_refusal ∙ why-halted view command r is why)) ∙ goes_on) tt
+ends_halted view view' mid now command refusal is (failed e going rises halts) goes_on = not_halted view.halted is going
+
+pub empty : (marks : List Bool) → length marks ≡ 0 → marks ≡ []
+empty [] e = refl
+empty (mark ∷ marks) e = absurd (omega (arith, e))
+
+module _ (layout : Layout) (view view' : RepositoryView) (start mid now : State) (s : Standing) (commands : List Command)
+    (marks : List Bool) (command : Command) (at : slice_get commands (length marks) ≡ Some command)
+    (so_far : Reached layout view start mid s commands marks) (keeps : Keeps mid now)
+    (time : Throughout mid now (IsBeforeOrAfter so_far.last command)) where
+  -- a true mark more
+  pub goes_on_true : (done : Done) → IsAnswered view view' mid now command (Ok done)
+      → ((next : Standing) × IsNext so_far.last command done next × Holds view' next now)
+      → Reached layout view' start now s commands (marks ++ true ∷ [])
+  goes_on_true done (accepted d e changed) step =
+      let same : d ≡ done = cc in
+      accepts layout view start mid now s commands marks command at so_far view' done step.0 changed.layout
+      (is_accepted view so_far.last so_far.holds.agrees view' step.0 command done step.2.agrees (subst (λ x. IsChanged view command x view') same changed) step.1) step.2 time
+  goes_on_true done (refused refusal e why same still) step = absurd (not_ok done refusal (sym e))
+  goes_on_true done (failed e going rises halts) step = absurd (not_ok done DeviceFault (sym e))
+
+  -- a false mark more
+  pub goes_on_false : (refusal : Refusal) → is_run_ending refusal ≡ false → IsAnswered view view' mid now command (Err refusal)
+      → Reached layout view' start now s commands (marks ++ false ∷ [])
+  goes_on_false refusal goes_on (accepted done e changed) = absurd (not_ok done refusal e)
+  goes_on_false refusal goes_on (refused r e why same still) =
+      let is : refusal ≡ r = cc in
+      let why' = refused_at view so_far.last mid command r so_far.holds why (subst (λ x. is_run_ending x ≡ false) is goes_on) in
+      subst (λ v. Reached layout v start now s commands (marks ++ false ∷ [])) (sym same)
+      (refuses layout view start mid now s commands marks command at so_far (subst (λ l. IsRefusedAt l so_far.last command) so_far.layout_is why')
+      (holds_still view view so_far.last mid now so_far.holds (keeps.honest so_far.holds.journal.honest) still refl) still)
+  goes_on_false refusal goes_on (failed e going rises halts) =
+      let is : refusal ≡ DeviceFault = cc in
+      absurd (subst Yes (sym (ap is_run_ending is) ∙ goes_on) tt)
+
+  -- the end of the run
+  pub ends_here : (first : RepositoryView) → first.journal.layout ≡ layout → (now.IsHonest → IsHonestDisk now) → (refusal : Refusal)
+      → IsAnswered view view' mid now command (Err refusal)
+      → RunLeaves first view' start now s commands marks (Some refusal)
+  ends_here first same_layout sound refusal (accepted done e changed) = absurd (not_ok done refusal e)
+  ends_here first same_layout sound refusal (refused r e why same still) =
+      subst (λ v. RunLeaves first v start now s commands marks (Some refusal)) (sym same)
+      (rests layout first view start now s commands marks (Some refusal) same_layout (idles layout view start mid now s commands marks so_far keeps still))
+  ends_here first same_layout sound refusal (failed e going rises halts) =
+      let is : refusal ≡ DeviceFault = cc in
+      subst (λ r. RunLeaves first view' start now s commands marks (Some r)) (sym is)
+      (fails layout view start mid now s commands marks command at so_far view' first same_layout (sound (keeps.honest so_far.holds.journal.honest)) halts time)

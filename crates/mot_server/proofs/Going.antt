@@ -8,14 +8,11 @@ use Rattle.mot_base.specs.Reading.{read_each}
 use Rattle.mot_base.proofs.Laws.{read_each-append}
 use Rattle.mot_packets.specs.Packet.{PacketFields, read_packet}
 use Rattle.mot_packets.specs.Written.{bytes_of_packet}
-use Rattle.mot_player.specs.Laws.{AreSent, IsAtTurnsBeginning, IsStep}
+use Rattle.mot_player.specs.Laws.{AreSent, IsStep}
 use Rattle.mot_player.specs.Place.{Place, Sent, Request, sent_by}
-use Rattle.mot_player.specs.Reading.{ReadsAs}
-use Rattle.mot_player.specs.Turn.{IsTurnOf}
-use Rattle.mot_player.proofs.Laws.{requests-go_on, turns_read_as_their_carousels}
+use Rattle.mot_player.proofs.Laws.{requests-go_on}
 use Rattle.mot_server.specs.Inner.Going.{IsGoing}
-use Rattle.mot_server.specs.Playing.{HasPlayed, HasPlayedTurn, IsPlaying, bytes_of_packets}
-use Rattle.mot_server.specs.State.{ServerState}
+use Rattle.mot_server.specs.Playing.{HasPlayed, HasPlayedTurn, bytes_of_packets}
 
 -- one more at the end is one more at the beginning
 replicate-more : {A : Type 0} (n : ℕ) (x : A) → replicate n x ++ x ∷ [] ≡ x ∷ replicate n x
@@ -107,15 +104,6 @@ HasPlayedTurn-ended old mid new packets g packet ends step last = record {
   bytes = bytes-more old mid new (length packets) packets g.played packet ends step;
   read = read-more old mid new (length packets) packets g.played packet ends step;
 }
-
--- a whole turn that was played reads as the carousel
-pub HasPlayedTurn-reads : (s : ServerState) (packets : List (List ℕ)) (new : Place) → IsPlaying s →
-    HasPlayedTurn s.place packets new → IsAtTurnsBeginning s.place → ReadsAs packets s.carousel s.geometry.segment_size
-HasPlayedTurn-reads s packets new playing turn begins =
-    subst (ReadsAs packets s.carousel) playing.size
-    (turns_read_as_their_carousels s.place new s.carousel turn.before turn.sents packets playing.place
-    (subst (IsTurnOf s.place.turn s.carousel) (sym playing.size) playing.is_turn) playing.sound begins
-    turn.steps turn.ends turn.read)
 
 -- the bytes of one packet more
 pub bytes_of_packets-more : (packets : List (ArrayVec ℕ)) (packet : ArrayVec ℕ) →

@@ -1,98 +1,313 @@
--- A session that goes on.
-use Rattle.std.proofs.Common.{◌≡◌, ℕ, ◌+◌, List, [], ◌∷◌, ◌++◌, length, Option}
-use Rattle.std.proofs.Common.{refl, sym, ap, ◌∙◌, subst, arith, append-nil, length-append}
-use Rattle.std.specs.Io.KnownBytes.{Appends}
-use Rattle.std.proofs.KnownBytes.{Appends-trans, Appends-nil}
-use Rattle.std.proofs.lemmas.List.Concat.{flat_map-append}
-use Rattle.mot_lines.specs.Inner.Hand.{bytes_in_hand}
-use Rattle.mot_lines.specs.Inner.LineEnd.{HasNoLineEnd}
-use Rattle.mot_lines.specs.Line.{line_of}
-use Rattle.mot_lines.specs.Lines.{whole_lines, rest_of}
-use Rattle.mot_lines.proofs.Laws.{whole_lines-none, rest_of-none, whole_lines-end, rest_of-end}
-use Rattle.mot_lines.proofs.Laws.{whole_lines-within, rest_of-within}
-use Rattle.mot_server.specs.Inner.Progress.{Progress}
-use Rattle.mot_server.specs.Inner.Writes.{Answered}
-use Rattle.mot_server.specs.Served.{BrokenOff, Served, Stopped}
-use Rattle.mot_server.specs.Session.{Reply, Answers, Session, text_of, texts_of}
-use Rattle.mot_server.specs.State.{ServerState}
+-- How a run of commands goes on by one more.
+use Rattle.std.proofs.Common.{◌≡◌, ⊎_elim, ℕ, ◌+◌, Bool, true, false, List, [], ◌∷◌, ◌++◌, length, take, drop, Option, Some, None, Result, Ok, refl, sym, ◌∙◌, ap, subst, arith}
+use Rattle.std.proofs.lemmas.List.{take-append-le, length-append, append-nil}
+use Rattle.std.proofs.Math.Seq.{take-append-add}
+use Rattle.std.specs.Prelude.{slice_get}
+use Rattle.disk_store.specs.Disk.{State, Throughout, Keeps, IsHonestDisk, IsUnchanged}
+use Rattle.disk_store.proofs.Laws.{begins as begins_moments, stays, joins, weakens, at_end}
+use Rattle.mot_base.specs.Reading.{◌>>=◌}
+use Rattle.mot_base.specs.declared.refusal.Refusal.{Refusal}
+use Rattle.mot_base.specs.declared.refusal.Refusal.TheVariants.{DeviceFault}
+use Rattle.mot_carousel.specs.declared.command.Command.{Command}
+use Rattle.mot_carousel.specs.declared.command.Done.{Done}
+use Rattle.mot_carousel.specs.Carousel.{Carousel, change, carousel_after, carousel_if_accepted}
+use Rattle.mot_carousel.proofs.Laws.{goes_on}
+use Rattle.mot_base.specs.declared.geometry.Geometry.{Geometry}
+use Rattle.mot_journal.specs.declared.layout.Layout.{Layout}
+use Rattle.mot_journal.specs.Image.{Standing}
+use Rattle.mot_carousel.specs.declared.carousel.Carousel as kept
+use Rattle.mot_carousel.specs.Stands.{carousel_of, AreBodiesOf}
+use Rattle.mot_repository.specs.Answers.{IsHalted}
+use Rattle.mot_repository.specs.Repository.{RepositoryView, IsOf, Agrees, Holds, IsNext, IsBeforeOrAfter}
+use Rattle.mot_server.specs.Runs.{accepted_commands, commands_in_flight, IsAfter, StandsAfterSome}
+use Rattle.mot_server.specs.Marks.{IsAcceptedAt, IsRefusedAt, AreMarks}
+use Rattle.mot_server.specs.RunEnds.{RunLeaves}
+use Rattle.mot_server.proofs.Read.{holds_still}
 
-Session-push : (before mid after : ServerState) (lines : List (List ℕ)) (replies : List Reply)
-    (line : List ℕ) (reply : Reply)
-    → Session before lines replies mid → Answers mid (line_of line) reply after
-    → Session before (lines ++ line ∷ []) (replies ++ reply ∷ []) after
-unfolding Session
-Session-push before mid after [] [] line reply s a =
-    (after, subst (λ m. Answers m (line_of line) reply after) s a, refl)
-Session-push before mid after (l ∷ lines) (r ∷ replies) line reply s a =
-    (s.0, s.1, Session-push s.0 mid after lines replies line reply s.2 a)
-Session-push before mid after [] (r ∷ replies) line reply s a = absurd s
-Session-push before mid after (l ∷ lines) [] line reply s a = absurd s
+abbrev Missing : Option Command → Type 0
+Missing None = Unit {0}
+Missing (Some command) = ⊥
 
-texts-push : (replies : List Reply) (reply : Reply)
-    → texts_of (replies ++ reply ∷ []) ≡ texts_of replies ++ text_of reply
-texts-push replies reply = flat_map-append text_of replies (reply ∷ [])
-    ∙ ap (λ l. texts_of replies ++ l) (append-nil (text_of reply))
+not_there : (command : Command) → None ≡ Some command → ⊥
+not_there command e = subst Missing e tt
 
-Served-none : (state : ServerState) (known : Option (List ℕ)) → Served state state [] known known
-unfolding Session
-Served-none state known = record { replies = []; session = refl; appended = Appends-nil known }
+abbrev Yes : Bool → Type 0
+Yes true = Unit {0}
+Yes false = ⊥
 
--- one more line was answered
-pub Served-push : (before mid after : ServerState) (lines : List (List ℕ))
-    (line : List ℕ) (old now new : Option (List ℕ))
-    → Served before mid lines old now → Answered mid (line_of line) after now new
-    → Served before after (lines ++ line ∷ []) old new
-Served-push before mid after lines line old now new s r = record {
-  replies = s.replies ++ r.reply ∷ [];
-  session = Session-push before mid after lines s.replies line r.reply s.session r.answers;
-  appended = subst (Appends old new) (sym (texts-push s.replies r.reply))
-      (Appends-trans old now new _ _ s.appended r.written);
+not_both : true ≡ false → ⊥
+not_both e = subst Yes e tt
+
+same : (c command : Command) → Some c ≡ Some command → c ≡ command
+same c command e = cc
+
+-- one mark more, where the command was accepted
+pub one_true : (layout : Layout) (s : Standing) (commands : List Command) (marks : List Bool) (last next : Standing)
+    (command : Command) (done : Done) → slice_get commands (length marks) ≡ Some command
+    → AreMarks layout s commands marks last → IsAcceptedAt last command done next
+    → AreMarks layout s commands (marks ++ true ∷ []) next
+one_true layout s [] marks last next command done at so_far step = absurd (not_there command at)
+one_true layout s (c ∷ commands) [] last next command done at so_far step =
+    let here = subst (λ d. IsAcceptedAt last d done next) (sym (same c command at)) step in
+    (done, next, subst (λ d. IsAcceptedAt d c done next) so_far here, refl)
+one_true layout s (c ∷ commands) (true ∷ marks) last next command done at so_far step =
+    (so_far.0, so_far.1, so_far.2, one_true layout so_far.1 commands marks last next command done at so_far.3 step)
+one_true layout s (c ∷ commands) (false ∷ marks) last next command done at so_far step =
+    (so_far.0, one_true layout s commands marks last next command done at so_far.1 step)
+
+-- and where it was refused
+pub one_false : (layout : Layout) (s : Standing) (commands : List Command) (marks : List Bool) (last : Standing)
+    (command : Command) → slice_get commands (length marks) ≡ Some command
+    → AreMarks layout s commands marks last → IsRefusedAt layout last command
+    → AreMarks layout s commands (marks ++ false ∷ []) last
+one_false layout s [] marks last command at so_far refused = absurd (not_there command at)
+one_false layout s (c ∷ commands) [] last command at so_far refused =
+    let here = subst (λ d. IsRefusedAt layout last d) (sym (same c command at)) refused in
+    (subst (λ d. IsRefusedAt layout d c) so_far here, so_far)
+one_false layout s (c ∷ commands) (true ∷ marks) last command at so_far refused =
+    (so_far.0, so_far.1, so_far.2, one_false layout so_far.1 commands marks last command at so_far.3 refused)
+one_false layout s (c ∷ commands) (false ∷ marks) last command at so_far refused =
+    (so_far.0, one_false layout s commands marks last command at so_far.1 refused)
+
+pub accepted-true : (commands : List Command) (marks : List Bool) (command : Command)
+    → slice_get commands (length marks) ≡ Some command
+    → accepted_commands commands (marks ++ true ∷ []) ≡ accepted_commands commands marks ++ command ∷ []
+accepted-true [] marks command at = absurd (not_there command at)
+accepted-true (c ∷ commands) [] command at = ap (λ d. d ∷ []) (same c command at)
+accepted-true (c ∷ commands) (true ∷ marks) command at = ap (λ l. c ∷ l) (accepted-true commands marks command at)
+accepted-true (c ∷ commands) (false ∷ marks) command at = accepted-true commands marks command at
+
+pub accepted-false : (commands : List Command) (marks : List Bool) (command : Command)
+    → slice_get commands (length marks) ≡ Some command
+    → accepted_commands commands (marks ++ false ∷ []) ≡ accepted_commands commands marks
+accepted-false [] marks command at = absurd (not_there command at)
+accepted-false (c ∷ commands) [] command at = refl
+accepted-false (c ∷ commands) (true ∷ marks) command at = ap (λ l. c ∷ l) (accepted-false commands marks command at)
+accepted-false (c ∷ commands) (false ∷ marks) command at = accepted-false commands marks command at
+
+pub flight : (commands : List Command) (marks : List Bool) (command : Command)
+    → slice_get commands (length marks) ≡ Some command → take 1 (drop (length marks) commands) ≡ command ∷ []
+flight [] marks command at = absurd (not_there command at)
+flight (c ∷ commands) [] command at = ap (λ d. d ∷ []) (same c command at)
+flight (c ∷ commands) (mark ∷ marks) command at = flight commands marks command at
+
+-- one accepted command more
+pub after_one : (s : Standing) (commands : List Command) (last next : Standing) (command : Command) (done : Done)
+    → IsAfter s commands last → IsNext last command done next → IsAfter s (commands ++ command ∷ []) next
+after_one s commands last next command done so_far step =
+    let limit : ℕ = s.geometry.objects in
+    let here = subst (λ (g : Geometry). change last.carousel g.objects command ≡ Ok (next.carousel, done)) so_far.geometry step.change_is in
+    record {
+      geometry = step.geometry ∙ so_far.geometry;
+      carousel = goes_on s.carousel limit commands command
+          ∙ ap (λ (o : Option Carousel). o >>= λ l. carousel_if_accepted (change l limit command)) so_far.carousel
+          ∙ ap carousel_if_accepted here;
+    }
+
+pub after_none : (s : Standing) → IsAfter s [] s
+unfolding carousel_after
+after_none s = record { geometry = refl; carousel = refl }
+
+in_parts-step : (limit : ℕ) (commands others : List Command) (o : Option Carousel)
+    → ((c : Carousel) → carousel_after c limit (commands ++ others) ≡ (carousel_after c limit commands >>= λ d. carousel_after d limit others))
+    → (o >>= λ next. carousel_after next limit (commands ++ others)) ≡ ((o >>= λ next. carousel_after next limit commands) >>= λ d. carousel_after d limit others)
+in_parts-step limit commands others None h = refl
+in_parts-step limit commands others (Some c) h = h c
+
+pub in_parts : (c : Carousel) (limit : ℕ) (commands others : List Command)
+    → carousel_after c limit (commands ++ others) ≡ (carousel_after c limit commands >>= λ d. carousel_after d limit others)
+unfolding carousel_after
+in_parts c limit [] others = refl
+in_parts c limit (first ∷ commands) others = in_parts-step limit commands others (carousel_if_accepted (change c limit first)) (λ d. in_parts d limit commands others)
+
+-- what the marks leave is what the accepted commands make
+pub marks_after : (layout : Layout) (s : Standing) (commands : List Command) (marks : List Bool) (last : Standing)
+    → AreMarks layout s commands marks last → IsAfter s (accepted_commands commands marks) last
+unfolding carousel_after
+marks_after layout s commands [] last so_far =
+    record { geometry = ap (λ (d : Standing). d.geometry) so_far; carousel = ap (λ (d : Standing). Some d.carousel) (sym so_far) }
+marks_after layout s [] (mark ∷ marks) last so_far = absurd so_far
+marks_after layout s (c ∷ commands) (true ∷ marks) last so_far =
+    let rest = marks_after layout so_far.1 commands marks last so_far.3 in
+    let step = so_far.2.by_rules in
+    let here = subst (λ (g : Geometry). carousel_after so_far.1.carousel g.objects (accepted_commands commands marks) ≡ Some last.carousel) step.geometry rest.carousel in
+    record {
+      geometry = rest.geometry ∙ step.geometry;
+      carousel = ap (λ (r : Result (Carousel × Done) Refusal). carousel_if_accepted r >>= λ next. carousel_after next s.geometry.objects (accepted_commands commands marks)) step.change_is ∙ here;
+    }
+marks_after layout s (c ∷ commands) (false ∷ marks) last so_far = marks_after layout s commands marks last so_far.1
+
+-- one list of commands, and then another
+pub after_both : (s : Standing) (commands others : List Command) (mid last : Standing)
+    → IsAfter s commands mid → IsAfter mid others last → IsAfter s (commands ++ others) last
+after_both s commands others mid last first second = record {
+  geometry = second.geometry ∙ first.geometry;
+  carousel = in_parts s.carousel s.geometry.objects commands others
+      ∙ ap (λ (o : Option Carousel). o >>= λ next. carousel_after next s.geometry.objects others) first.carousel
+      ∙ subst (λ (g : Geometry). carousel_after mid.carousel g.objects others ≡ Some last.carousel) first.geometry second.carousel;
 }
 
--- nothing was read
-pub Progress-none : (state : ServerState) (known hand : Option (List ℕ)) → hand ≡ bytes_in_hand []
-    → Progress state known [] hand 0 state known
-Progress-none state known hand h = record {
-  in_hand = h ∙ ap bytes_in_hand (sym rest_of-none);
-  counted = ap length (sym whole_lines-none);
-  served = subst (λ l. Served state state l known known) (sym whole_lines-none)
-      (Served-none state known);
+-- more commands that may have been done
+pub more : (s : Standing) (sure others rest : List Command) (image : List ℕ)
+    → StandsAfterSome s sure others image → StandsAfterSome s sure (others ++ rest) image
+more s sure others rest image is = record {
+  last = is.last;
+  after = record {
+    count = is.after.count;
+    few = omega (arith, is.after.few, length-append others rest);
+    after = subst (λ l. IsAfter s (sure ++ l) is.last) (sym (take-append-le is.after.count others rest is.after.few)) is.after.after;
+  };
+  image_is = is.image_is;
 }
 
-module _ (before mid : ServerState) (old now : Option (List ℕ)) (xs : List ℕ)
-    (hand : Option (List ℕ)) (count : ℕ) (p : Progress before old xs hand count mid now) where
-  -- more bytes of a line came
-  pub Progress-within : (ys : List ℕ) (next : Option (List ℕ)) → HasNoLineEnd ys
-      → next ≡ bytes_in_hand (rest_of xs ++ ys) → Progress before old (xs ++ ys) next count mid now
-  Progress-within ys next none h = record {
-    in_hand = h ∙ ap bytes_in_hand (sym (rest_of-within xs ys none));
-    counted = p.counted ∙ ap length (sym (whole_lines-within xs ys none));
-    served = subst (λ l. Served before mid l old now) (sym (whole_lines-within xs ys none)) p.served;
+-- what is sure may be told as what may be
+pub less_sure : (s : Standing) (sure others : List Command) (image : List ℕ)
+    → StandsAfterSome s sure others image → StandsAfterSome s [] (sure ++ others) image
+less_sure s sure others image is = record {
+  last = is.last;
+  after = record {
+    count = length sure + is.after.count;
+    few = omega (arith, is.after.few, length-append sure others);
+    after = subst (λ l. IsAfter s l is.last) (sym (take-append-add sure others is.after.count)) is.after.after;
+  };
+  image_is = is.image_is;
+}
+
+-- none of the others
+pub none_of : (s : Standing) (sure others : List Command) (last : Standing) (image : List ℕ)
+    → IsAfter s sure last → IsOf last image → StandsAfterSome s sure others image
+none_of s sure others last image after image_is = record {
+  last = last;
+  after = record { count = 0; few = omega arith; after = subst (λ l. IsAfter s l last) (sym (append-nil sure)) after };
+  image_is = image_is;
+}
+
+-- before or after one command more
+pub before_or_after : (s : Standing) (commands : List Command) (last : Standing) (command : Command) (image : List ℕ)
+    → IsAfter s commands last → IsBeforeOrAfter last command image → StandsAfterSome s commands (command ∷ []) image
+before_or_after s commands last command image after outcome = ⊎_elim
+    (λ before. none_of s commands (command ∷ []) last image after before)
+    (λ next. record {
+      last = next.1;
+      after = record { count = 1; few = omega arith; after = after_one s commands last next.1 command next.0 after next.2 };
+      image_is = next.3;
+    })
+    outcome
+
+-- a device fault leaves the carousel in memory as it was
+pub still_agrees : (view view' : RepositoryView) (s : Standing) → IsHalted view view' → Agrees view s → Agrees view' s
+still_agrees view view' s halts agrees = record {
+  geometry = halts.geometry ∙ agrees.geometry;
+  extents = halts.extents ∙ agrees.extents;
+  bodies = agrees.bodies;
+  are_bodies = subst (λ (c : kept.Carousel). AreBodiesOf c agrees.bodies) (sym halts.carousel) agrees.are_bodies;
+  carousel = agrees.carousel ∙ ap (λ (c : kept.Carousel). carousel_of c agrees.bodies) (sym halts.carousel);
+}
+
+-- So far: the marks, what the repository and each image now stand for, and what a crash since the start leaves.
+pub record Reached (layout : Layout) (view : RepositoryView) (start now : State) (s : Standing) (commands : List Command) (marks : List Bool) : Type 0 where
+  pub last : Standing
+  pub layout_is : view.journal.layout ≡ layout
+  pub marked : AreMarks layout s commands marks last
+  pub holds : Holds view last now
+  pub time : Throughout start now (StandsAfterSome s [] (accepted_commands commands marks))
+
+pub begins : (view : RepositoryView) (start : State) (s : Standing) (commands : List Command)
+    → IsHonestDisk start → Holds view s start → Reached view.journal.layout view start start s commands []
+begins view start s commands sound holds = record {
+  last = s;
+  layout_is = refl;
+  marked = refl;
+  holds = holds;
+  time = begins_moments start (StandsAfterSome s [] []) sound (λ image left. none_of s [] [] s image (after_none s) (holds.each image left));
+}
+
+module _ (layout : Layout) (view : RepositoryView) (start mid now : State) (s : Standing) (commands : List Command)
+    (marks : List Bool) (command : Command) (at : slice_get commands (length marks) ≡ Some command)
+    (so_far : Reached layout view start mid s commands marks) where
+  after : IsAfter s (accepted_commands commands marks) so_far.last
+  after = marks_after layout s commands marks so_far.last so_far.marked
+
+  -- whatever the command comes to
+  pub tried : Throughout mid now (IsBeforeOrAfter so_far.last command)
+      → Throughout start now (StandsAfterSome s [] (accepted_commands commands marks ++ command ∷ []))
+  tried time =
+      let done : List Command = accepted_commands commands marks in
+      let old = weakens start mid (StandsAfterSome s [] done) (StandsAfterSome s [] (done ++ command ∷ [])) so_far.time (λ image is. more s [] done (command ∷ []) image is) in
+      joins start mid now (StandsAfterSome s [] (done ++ command ∷ [])) (IsBeforeOrAfter so_far.last command) old time
+      (λ image outcome. less_sure s done (command ∷ []) image (before_or_after s done so_far.last command image after outcome))
+
+  pub accepts : (view' : RepositoryView) (done : Done) (next : Standing) → view'.journal.layout ≡ view.journal.layout
+      → IsAcceptedAt so_far.last command done next → Holds view' next now
+      → Throughout mid now (IsBeforeOrAfter so_far.last command)
+      → Reached layout view' start now s commands (marks ++ true ∷ [])
+  accepts view' done next same_layout step holds time = record {
+    last = next;
+    layout_is = same_layout ∙ so_far.layout_is;
+    marked = one_true layout s commands marks so_far.last next command done at so_far.marked step;
+    holds = holds;
+    time = subst (λ l. Throughout start now (StandsAfterSome s [] l)) (sym (accepted-true commands marks command at)) (tried time);
   }
 
-  -- a line ended, and was answered
-  pub Progress-end : (after : ServerState) (new next : Option (List ℕ))
-      → Answered mid (line_of (rest_of xs)) after now new → next ≡ bytes_in_hand []
-      → Progress before old (xs ++ 10 ∷ []) next (count + 1) after new
-  Progress-end after new next r h = record {
-    in_hand = h ∙ ap bytes_in_hand (sym (rest_of-end xs));
-    counted = let c = p.counted in rw (whole_lines-end, length-append) (omega arith);
-    served = subst (λ l. Served before after l old new) (sym (whole_lines-end xs))
-        (Served-push before mid after (whole_lines xs) (rest_of xs) old now new p.served r);
+  pub refuses : IsRefusedAt layout so_far.last command → Holds view so_far.last now → IsUnchanged mid now
+      → Reached layout view start now s commands (marks ++ false ∷ [])
+  refuses refused holds same = record {
+    last = so_far.last;
+    layout_is = so_far.layout_is;
+    marked = one_false layout s commands marks so_far.last command at so_far.marked refused;
+    holds = holds;
+    time = subst (λ l. Throughout start now (StandsAfterSome s [] l)) (sym (accepted-false commands marks command at))
+        (stays start mid now (StandsAfterSome s [] (accepted_commands commands marks)) so_far.time same.time);
   }
 
-  -- the reply to the line in hand was broken off
-  pub Stopped-here : (after : ServerState) (new : Option (List ℕ)) (lines more : List (List ℕ))
-      → BrokenOff mid (line_of (rest_of xs)) after now new
-      → lines ≡ whole_lines xs ++ rest_of xs ∷ more → Stopped before after lines count old new
-  Stopped-here after new lines more b e = record {
-    answered = whole_lines xs;
-    line = rest_of xs;
-    unanswered = more;
-    split = e;
-    counted = p.counted;
-    between = mid;
-    known = now;
-    served = p.served;
-    broken = b;
-  }
+  -- it ended in a device fault
+  pub fails : (view' : RepositoryView) (first : RepositoryView) → first.journal.layout ≡ layout → IsHonestDisk now
+      → IsHalted view view' → Throughout mid now (IsBeforeOrAfter so_far.last command)
+      → RunLeaves first view' start now s commands marks (Some DeviceFault)
+  fails view' first same_layout sound halts time =
+      let done : List Command = accepted_commands commands marks in
+      let one = sym (flight commands marks command at) in
+      record {
+        last = so_far.last;
+        after = after;
+        marked = subst (λ l. AreMarks l s commands marks so_far.last) (sym same_layout) so_far.marked;
+        agrees = still_agrees view view' so_far.last halts so_far.holds.agrees;
+        going = λ e. absurd (not_both e);
+        any_moment = subst (λ l. Throughout start now (StandsAfterSome s [] (done ++ l))) one (tried time);
+        at_end = λ image left. subst (λ l. StandsAfterSome s done l image) one
+            (before_or_after s done so_far.last command image after (at_end mid now (IsBeforeOrAfter so_far.last command) sound time image left));
+      }
+
+-- no command is in the air
+pub rests : (layout : Layout) (first view : RepositoryView) (start now : State) (s : Standing) (commands : List Command)
+    (marks : List Bool) (fault : Option Refusal) → first.journal.layout ≡ layout → Reached layout view start now s commands marks
+    → RunLeaves first view start now s commands marks fault
+rests layout first view start now s commands marks fault same_layout so_far =
+    let done : List Command = accepted_commands commands marks in
+    let others : List Command = commands_in_flight commands marks fault in
+    let after = marks_after layout s commands marks so_far.last so_far.marked in
+    record {
+      last = so_far.last;
+      after = after;
+      marked = subst (λ l. AreMarks l s commands marks so_far.last) (sym same_layout) so_far.marked;
+      agrees = so_far.holds.agrees;
+      going = λ e. so_far.holds;
+      any_moment = weakens start now (StandsAfterSome s [] done) (StandsAfterSome s [] (done ++ others)) so_far.time (λ image is. more s [] done others image is);
+      at_end = λ image left. none_of s done others so_far.last image after (so_far.holds.each image left);
+    }
+
+pub idles : (layout : Layout) (view : RepositoryView) (start mid now : State) (s : Standing) (commands : List Command)
+    (marks : List Bool) → Reached layout view start mid s commands marks → Keeps mid now → IsUnchanged mid now
+    → Reached layout view start now s commands marks
+idles layout view start mid now s commands marks so_far keeps same = record {
+  last = so_far.last;
+  layout_is = so_far.layout_is;
+  marked = so_far.marked;
+  holds = holds_still view view so_far.last mid now so_far.holds (keeps.honest so_far.holds.journal.honest) same refl;
+  time = stays start mid now (StandsAfterSome s [] (accepted_commands commands marks)) so_far.time same.time;
+}
+
+pub one_longer : (marks marks' : List Bool) (mark : Bool) (index : ℕ) → marks' ≡ marks ++ mark ∷ [] → length marks ≡ index
+    → length marks' ≡ index + 1
+one_longer marks marks' mark index e len =
+    omega (arith, ap length e, length-append marks (mark ∷ []), len)

@@ -1,66 +1,110 @@
--- A server plays its own carousel.
-use Rattle.std.proofs.Common.{◌≡◌, ℕ, ◌≤◌, List, [], Ok, sym, ap, ◌∙◌, subst}
-use Rattle.mot_base.specs.Geometry.{packet_room}
+-- A server's player plays what its repository keeps.
+use Rattle.std.proofs.Common.{◌≡◌, ℕ, true, List, [], ◌∷◌, length, map, refl, sym, ap, ◌∙◌, subst, arith}
+use Rattle.std.proofs.lemmas.Bool.Decides.{nat_tests}
+use Rattle.std.specs.Prelude.{Result, Ok, Err, IfOk, IsErrAnd}
+use Rattle.mot_base.specs.Geometry.{IsValid, packet_room}
 use Rattle.mot_base.specs.declared.geometry.Geometry.{Geometry}
-use Rattle.mot_base.specs.declared.geometry.TheConstants.{MAX_OBJECTS}
-use Rattle.mot_carousel.specs.Carousel.{change, new_carousel}
 use Rattle.mot_carousel.specs.Carousel as whole
-use Rattle.mot_carousel.specs.Stands.{carousel_of}
+use Rattle.mot_carousel.specs.Stands.{AreBodiesOf, carousel_of, objects_of}
 use Rattle.mot_carousel.specs.declared.carousel.Carousel.{Carousel}
-use Rattle.mot_carousel.specs.declared.command.Command.{Command}
-use Rattle.mot_carousel.specs.declared.command.Done.{Done}
-use Rattle.mot_carousel.proofs.Laws.{change-sound}
-use Rattle.mot_player.specs.Place.{Place, change_turn, opened_place}
+use Rattle.mot_carousel.specs.declared.object.Object.{Object}
+use Rattle.mot_journal.specs.Geometry.{is_valid}
+use Rattle.mot_journal.specs.Image as journal
+use Rattle.mot_player.specs.Place.{change_turn, opened_place}
 use Rattle.mot_player.specs.Standing.{AreBodiesFor, Standing, TurnPlan, place_of, turn_of}
 use Rattle.mot_player.specs.Turn.{IsTurnOf, Turn, turn_of_carousel}
-use Rattle.mot_server.specs.Inner.Playing.{Plays}
-use Rattle.mot_server.specs.State.{ServerState, new_server}
+use Rattle.mot_repository.specs.Repository.{Agrees, RepositoryView}
+use Rattle.mot_server.specs.Inner.Plays.{Plays}
+use Rattle.mot_server.specs.Server.{bodies_of}
 
--- a server that was made has a player of the new carousel's turn
-pub server-made : (g : Geometry) (carousel : Carousel) (bodies : List (List ℕ)) (player : Standing)
-    (plan : TurnPlan) (address room size : ℕ) → bodies ≡ [] → carousel_of carousel [] ≡ new_carousel →
-    place_of player [] ≡ opened_place address room size (turn_of plan []) →
-    turn_of plan [] ≡ turn_of_carousel (carousel_of carousel []) size →
-    address ≡ g.address → room ≡ packet_room g → size ≡ g.segment_size →
-    (let made : ServerState = record {
-      geometry = g;
-      carousel = carousel_of carousel bodies;
-      place = place_of player bodies;
-    } in made ≡ new_server g)
-server-made g carousel bodies player plan address room size none new opened turn a r s =
-    let with_place : Place → ServerState = λ place. record { geometry = g; carousel = new_carousel; place = place } in
-    let with_turn : Turn → ServerState = λ t. with_place (opened_place address room size t) in
-    let with_carousel : whole.Carousel → ServerState = λ c. record { geometry = g; carousel = c; place = place_of player [] } in
-    ap (λ (bs : List (List ℕ)). record { geometry = g; carousel = carousel_of carousel bs; place = place_of player bs }) none
-    ∙ ap with_carousel new
-    ∙ ap with_place opened
-    ∙ ap with_turn (turn ∙ ap (λ (c : whole.Carousel). turn_of_carousel c size) new)
-    ∙ ap (λ (n : ℕ). with_place (opened_place n room size (turn_of_carousel new_carousel size))) a
-    ∙ ap (λ (n : ℕ). with_place (opened_place g.address n size (turn_of_carousel new_carousel size))) r
-    ∙ ap (λ (n : ℕ). with_place (opened_place g.address (packet_room g) n (turn_of_carousel new_carousel n))) s
+pub valid_is : (g : Geometry) → is_valid g ≡ true → IsValid g
+valid_is g is = grind (arith, nat_tests)
 
--- a command that is done leaves one of the carousel then
-pub plays-after : (g : Geometry) (old next : Carousel) (limit size : ℕ) (command : Command) (done : Done)
-    (player new : Standing) (plan : TurnPlan) (bodies after : List (List ℕ)) → limit ≤ MAX_OBJECTS →
-    Plays g old player bodies →
-    change (carousel_of old bodies) limit command ≡ Ok (carousel_of next after, done) →
-    AreBodiesFor plan after → turn_of plan after ≡ turn_of_carousel (carousel_of next after) size →
-    IsTurnOf (turn_of plan after) (carousel_of next after) size →
-    size ≡ g.segment_size → new.turn ≡ plan → new.segment_size ≡ player.segment_size → Plays g next new after
-plays-after g old next limit size command done player new plan bodies after few plays changed sized turn is_turn s same kept =
-    record {
-      sized = subst (λ (t : TurnPlan). AreBodiesFor t after) (sym same) sized;
-      turn = ap (λ (t : TurnPlan). turn_of t after) same ∙ turn ∙ ap (turn_of_carousel (carousel_of next after)) s;
-      is_turn = subst (λ (t : TurnPlan). IsTurnOf (turn_of t after) (carousel_of next after) g.segment_size) (sym same)
-          (subst (IsTurnOf (turn_of plan after) (carousel_of next after)) s is_turn);
-      size = kept ∙ plays.size;
-      sound = change-sound (carousel_of old bodies) (carousel_of next after) limit command done few plays.sound changed;
-    }
+-- from two facts of an Ok a third
+pub if_ok_both : {A E : Type 0} (r : Result A E) (P Q R : A → Type 0) → ((a : A) → P a → Q a → R a)
+    → IfOk r P → IfOk r Q → IfOk r R
+if_ok_both (Ok a) P Q R both p q = both a p q
+if_ok_both (Err e) P Q R both p q = tt
 
--- and the new turn follows in its place
-pub place-after : (next : Carousel) (size : ℕ) (geometry_size : ℕ) (new : Standing) (plan : TurnPlan) (old : Place)
-    (after : List (List ℕ)) → place_of new after ≡ change_turn (turn_of plan after) old →
-    turn_of plan after ≡ turn_of_carousel (carousel_of next after) size → size ≡ geometry_size →
-    place_of new after ≡ change_turn (turn_of_carousel (carousel_of next after) geometry_size) old
-place-after next size geometry_size new plan old after place turn s =
-    place ∙ ap (λ (t : Turn). change_turn t old) (turn ∙ ap (turn_of_carousel (carousel_of next after)) s)
+pub same_error : {A E : Type 0} (r : Result A E) (e : E) → IsErrAnd r (λ x. x ≡ e) → r ≡ Err e
+same_error (Ok a) e is = absurd is
+same_error (Err x) e is = ap Err is
+
+-- a carousel's bodies are those beside it
+bodies_of-objects : (objects : List Object) (bodies : List (List ℕ)) → map length bodies ≡ map (λ (o : Object). o.length) objects
+    → map (λ (o : whole.Object). o.body) (objects_of objects bodies) ≡ bodies
+bodies_of-objects [] [] e = refl
+bodies_of-objects [] (body ∷ bodies) e = cc
+bodies_of-objects (o ∷ objects) [] e = refl
+bodies_of-objects (o ∷ objects) (body ∷ bodies) e =
+    let rest : map length bodies ≡ map (λ (x : Object). x.length) objects = cc in
+    ap (λ (l : List (List ℕ)). body ∷ l) (bodies_of-objects objects bodies rest)
+
+-- the bodies of what is kept on the disk
+pub bodies_kept : (view : RepositoryView) (s : journal.Standing) → Agrees view s
+    → AreBodiesOf view.carousel (bodies_of s.carousel) × (s.carousel ≡ carousel_of view.carousel (bodies_of s.carousel))
+bodies_kept view s agrees =
+    let same : bodies_of s.carousel ≡ agrees.bodies =
+    ap bodies_of agrees.carousel ∙ bodies_of-objects view.carousel.objects.items agrees.bodies agrees.are_bodies in (
+      subst (AreBodiesOf view.carousel) (sym same) agrees.are_bodies,
+      agrees.carousel ∙ ap (carousel_of view.carousel) (sym same),
+    )
+
+-- a player that was given a turn of the carousel plays it
+pub plays_of : (carousel : Carousel) (size : ℕ) (plan : TurnPlan) (player : Standing) → player.turn ≡ plan → player.segment_size ≡ size
+    → ((bodies : List (List ℕ)) → AreBodiesOf carousel bodies → AreBodiesFor plan bodies)
+    → ((bodies : List (List ℕ)) → AreBodiesOf carousel bodies → turn_of plan bodies ≡ turn_of_carousel (carousel_of carousel bodies) size)
+    → ((bodies : List (List ℕ)) → AreBodiesOf carousel bodies → IsTurnOf (turn_of plan bodies) (carousel_of carousel bodies) size)
+    → Plays carousel size player
+plays_of carousel size plan player same size_is sized exact is = record {
+  size_is = size_is;
+  sized = λ bodies are. subst (λ (t : TurnPlan). AreBodiesFor t bodies) (sym same) (sized bodies are);
+  turn_is = λ bodies are. ap (λ (t : TurnPlan). turn_of t bodies) same ∙ exact bodies are;
+  is_turn = λ bodies are. subst (λ (t : TurnPlan). IsTurnOf (turn_of t bodies) (carousel_of carousel bodies) size) (sym same) (is bodies are);
+}
+
+pub plays_same : (carousel kept : Carousel) (size other : ℕ) (player : Standing) → carousel ≡ kept → size ≡ other
+    → Plays carousel size player → Plays kept other player
+plays_same carousel kept size other player c s plays = subst (λ (k : Carousel). Plays k other player) c (subst (λ (n : ℕ). Plays carousel n player) s plays)
+
+-- an opened player stands at the beginning of the carousel's turn
+pub opened_at : (g h : Geometry) (carousel kept : Carousel) (plan : TurnPlan) (player : Standing) (bodies : List (List ℕ)) (address room size : ℕ)
+    → g ≡ h → carousel ≡ kept → address ≡ g.address → room ≡ packet_room g → size ≡ g.segment_size
+    → place_of player bodies ≡ opened_place address room size (turn_of plan bodies)
+    → turn_of plan bodies ≡ turn_of_carousel (carousel_of carousel bodies) size
+    → place_of player bodies ≡ opened_place h.address (packet_room h) h.segment_size (turn_of_carousel (carousel_of kept bodies) h.segment_size)
+opened_at g h carousel kept plan player bodies address room size same c a r s opened turn =
+    opened ∙ ap (opened_place address room size) (turn ∙ ap (λ (k : Carousel). turn_of_carousel (carousel_of k bodies) size) c)
+    ∙ ap (λ (n : ℕ). opened_place n room size (turn_of_carousel (carousel_of kept bodies) size)) a
+    ∙ ap (λ (n : ℕ). opened_place g.address n size (turn_of_carousel (carousel_of kept bodies) size)) r
+    ∙ ap (λ (n : ℕ). opened_place g.address (packet_room g) n (turn_of_carousel (carousel_of kept bodies) n)) s
+    ∙ ap (λ (k : Geometry). opened_place k.address (packet_room k) k.segment_size (turn_of_carousel (carousel_of kept bodies) k.segment_size)) same
+
+-- where it stands in playing what the disk stands for
+pub start_in : (view : RepositoryView) (s : journal.Standing) (player : Standing) → Agrees view s
+    → ((bodies : List (List ℕ)) → AreBodiesOf view.carousel bodies → place_of player bodies
+    ≡ opened_place view.journal.geometry.address (packet_room view.journal.geometry) view.journal.geometry.segment_size
+    (turn_of_carousel (carousel_of view.carousel bodies) view.journal.geometry.segment_size))
+    → place_of player (bodies_of s.carousel)
+    ≡ opened_place s.geometry.address (packet_room s.geometry) s.geometry.segment_size (turn_of_carousel s.carousel s.geometry.segment_size)
+start_in view s player agrees opened =
+    let kept = bodies_kept view s agrees in
+    opened (bodies_of s.carousel) kept.0
+    ∙ ap (λ (k : whole.Carousel). opened_place view.journal.geometry.address (packet_room view.journal.geometry) view.journal.geometry.segment_size
+    (turn_of_carousel k view.journal.geometry.segment_size)) (sym kept.1)
+    ∙ ap (λ (g : Geometry). opened_place g.address (packet_room g) g.segment_size (turn_of_carousel s.carousel g.segment_size)) agrees.geometry
+
+-- after a change the turn of what is kept then comes next
+pub place_after : (view' : RepositoryView) (s next : journal.Standing) (old new : Standing) (plan : TurnPlan)
+    → Agrees view' next → new.turn ≡ plan → Plays view'.carousel view'.journal.geometry.segment_size new
+    → ((bodies changed : List (List ℕ)) → place_of new changed ≡ change_turn (turn_of plan changed) (place_of old bodies))
+    → place_of new (bodies_of next.carousel)
+    ≡ change_turn (turn_of_carousel next.carousel next.geometry.segment_size) (place_of old (bodies_of s.carousel))
+place_after view' s next old new plan agrees same plays place =
+    let kept = bodies_kept view' next agrees in
+    let bodies : List (List ℕ) = bodies_of next.carousel in
+    let turn : turn_of plan bodies ≡ turn_of_carousel next.carousel next.geometry.segment_size =
+    ap (λ (t : TurnPlan). turn_of t bodies) (sym same) ∙ plays.turn_is bodies kept.0
+    ∙ ap (λ (k : whole.Carousel). turn_of_carousel k view'.journal.geometry.segment_size) (sym kept.1)
+    ∙ ap (λ (g : Geometry). turn_of_carousel next.carousel g.segment_size) agrees.geometry in
+    place (bodies_of s.carousel) bodies ∙ ap (λ (t : Turn). change_turn t (place_of old (bodies_of s.carousel))) turn

@@ -1,5 +1,3 @@
-pub mod Decision
 pub mod Going
-pub mod Playing
-pub mod Progress
-pub mod Writes
+pub mod Plays
+pub mod Unread

@@ -1,27 +1,22 @@
 -- What a server plays.
 use Rattle.std.specs.Prelude.{ℕ, ◌≡◌, true, false, List, [], ◌∷◌, ◌++◌, map, replicate, Some}
-use Rattle.mot_carousel.specs.Carousel.{IsSound}
+use Rattle.std.specs.Prelude.{IsTrue, IsFalse}
 use Rattle.mot_packets.specs.Written.{bytes_of_packet}
 use Rattle.arrayvec.specs.ArrayVec.{ArrayVec}
-use Rattle.mot_player.specs.Laws.{AreSent, IsPlace}
+use Rattle.disk_store.specs.Disk.{Rises}
+use Rattle.mot_base.specs.declared.refusal.Refusal.{Refusal}
+use Rattle.mot_base.specs.declared.refusal.Refusal.TheVariants.{OutOfMemory, DeviceFault, Halted}
+use Rattle.mot_player.specs.Laws.{AreSent}
 use Rattle.mot_player.specs.Place.{Place, Sent, Request, sent_by}
-use Rattle.mot_player.specs.Turn.{IsTurnOf, turn_of_carousel}
-use Rattle.mot_server.specs.State.{ServerState}
-
--- what holds of each server: it plays its own carousel
-pub record IsPlaying (s : ServerState) : Type 0 where
-  pub place : IsPlace s.place
-  pub turn : s.place.turn ≡ turn_of_carousel s.carousel s.geometry.segment_size
-  pub is_turn : IsTurnOf s.place.turn s.carousel s.geometry.segment_size
-  pub size : s.place.segment_size ≡ s.geometry.segment_size
-  pub sound : IsSound s.carousel
+use Rattle.mot_server.specs.Server.{ServerView}
 
 -- the bytes of packets of the program
 abbrev pub bytes_of_packets : List (ArrayVec ℕ) → List (List ℕ)
 bytes_of_packets packets = map (λ (p : ArrayVec ℕ). p.items) packets
 
 -- the packets of so many requests
-pub record HasPlayed (old : Place) (count : ℕ) (packets : List (List ℕ)) (new : Place) : Type 0 where
+pub record HasPlayed (old : Place) (count : ℕ) (packets : List (List ℕ))
+    (new : Place) : Type 0 where
   pub sents : List Sent
   pub steps : sent_by old (replicate count Request) ≡ Some (sents, new)
   pub bytes : packets ≡ map (λ (s : Sent). bytes_of_packet s.packet) sents
@@ -35,3 +30,21 @@ pub record HasPlayedTurn (old : Place) (packets : List (List ℕ)) (new : Place)
   pub ends : map (λ (s : Sent). s.ends_turn) sents ≡ replicate before false ++ true ∷ []
   pub bytes : packets ≡ map (λ (s : Sent). bytes_of_packet s.packet) sents
   pub read : AreSent sents packets
+
+-- why a call that only reads the disk is refused; the counts of failures are those before and after
+pub data IsReadRefusal {D : Type 0} (old new : ServerView D) (before now : ℕ)
+    (refusal : Refusal) : Type 0 where
+  halted : IsTrue old.view.halted → refusal ≡ Halted → new ≡ old
+      → IsReadRefusal old new before now refusal
+  failed : IsFalse old.view.halted → refusal ≡ DeviceFault → Rises before now
+      → IsReadRefusal old new before now refusal
+
+-- why no whole turn is played
+pub data IsTurnRefusal {D : Type 0} (old new : ServerView D) (before now : ℕ)
+    (refusal : Refusal) : Type 0 where
+  halted : IsTrue old.view.halted → refusal ≡ Halted → new ≡ old
+      → IsTurnRefusal old new before now refusal
+  no_memory : IsFalse old.view.halted → refusal ≡ OutOfMemory
+      → IsTurnRefusal old new before now refusal
+  failed : IsFalse old.view.halted → refusal ≡ DeviceFault → Rises before now
+      → IsTurnRefusal old new before now refusal

@@ -1,14 +1,17 @@
-//! The carousel server: lines come in, replies go out.
+//! A server that keeps a carousel on a disk, and plays it.
 #![tactic(auto)]
 
-mod answering;
+mod beginning;
+mod bodies;
+mod headline;
+mod playing;
+mod restarting;
+mod running;
 mod server;
-mod serving;
 
-pub use mot_base::Geometry;
-pub use mot_lines::{Description, Line, SegmentBytes, parse_line};
+pub use beginning::{Beginning, format_and_restart};
+pub use headline::{Aftermath, run_and_restart};
+pub use mot_repository::Refused;
+pub use restarting::{Restarted, restart};
+pub use running::RunEnd;
 pub use server::Server;
-pub use serving::{MAX_READS, READ_SIZE, ServeEnd, serve};
-
-#[cfg(test)]
-mod tests;

@@ -1,146 +1,259 @@
-ghost use Rattle.std.specs.Prelude.{◌≡◌, ℕ, ◌⊎◌, ◌↔◌, List, Ok, Err, IfOk, IfErr, IsOk, IsOkAnd, OnOk, OnErr};
+//! The server: a repository, and a player of what it keeps.
+ghost use Rattle.std.specs.Prelude.{◌≡◌, ◌≤◌, ◌↔◌, ℕ, List, true, false, Ok, OnOk, OnErr, IfOk};
+ghost use Rattle.std.specs.Prelude.{IfErr, IsTrue, IsFalse};
+ghost use Rattle.disk_store.specs.Disk.{Keeps, KeepsLength, IsStill, IsUnchanged, Throughout};
+ghost use Rattle.mot_base.specs.Geometry.{packet_room};
+ghost use Rattle.mot_journal.specs.Image as journal;
+ghost use Rattle.mot_player.specs.Place.{change_turn, opened_place};
+ghost use Rattle.mot_player.specs.Turn.{turn_of_carousel};
+ghost use Rattle.mot_repository.specs.Repository.{Agrees, Holds, IsNext, IsBeforeOrAfter};
+ghost use Rattle.mot_repository.specs.Repository.{IsOf};
 
-mod bodies;
-
-use bodies::change_bodies;
+use crate::bodies::DiskBodies;
+use crate::playing::player_of;
+use disk_store::Disk;
 use mot_base::{Geometry, Refusal, SegmentSize};
-use mot_carousel::{Body, Carousel, Command, Done, plan};
+use mot_carousel::{Carousel, Command, Done};
+use mot_journal::Layout;
 use mot_packets::Packet;
 use mot_player::{Played, Player, Turn};
+use mot_repository::{Refused, Repository};
 use std::alloc::Global;
 use std::marker::Model;
 
-/// A server of packets, which keeps a carousel and its bodies in memory, and plays them.
+/// A server of packets, which keeps a carousel on a disk, and plays it. It holds no body in memory.
+///
+/// A device fault in a command halts it: it is then to be opened again from its disk.
 #[derive(Drop)]
-pub struct Server {
-    geometry: Geometry,
-    carousel: Carousel,
-    bodies: Vec<Body>,
+pub struct Server<D: Disk> {
+    bodies: DiskBodies<D>,
     player: Player,
 }
 
-impl Model for Server {
-    ghost use Rattle.mot_base.specs.Geometry.{IsValid};
-    ghost use Rattle.mot_carousel.specs.Stands.{carousel_of, AreBodiesOf};
-    ghost use Rattle.mot_player.specs.Standing.{place_of};
-    ghost use Rattle.mot_server.specs.Inner.Playing.{Plays};
-    ghost use Rattle.mot_server.specs.State.{ServerState};
+impl<D: Disk> Model for Server<D> {
+    ghost use Rattle.mot_server.specs.Inner.Plays.{Plays};
+    ghost use Rattle.mot_server.specs.Server.{ServerView};
 
-    ghost Value = { ServerState };
+    ghost Value = { ServerView D };
 
     ghost view = { λ server. record {
-      geometry = server.geometry;
-      carousel = carousel_of server.carousel server.bodies.items;
-      place = place_of server.player server.bodies.items;
+      view = server.bodies.repository.view;
+      disk = server.bodies.repository.disk;
+      player = server.player;
     } };
 
-    ghost invariant = { λ server. IsValid server.geometry
-        × AreBodiesOf server.carousel server.bodies.items
-        × Plays server.geometry server.carousel server.player server.bodies.items };
+    ghost invariant = { λ server. Plays server.bodies.repository.view.carousel
+        server.bodies.repository.view.journal.geometry.segment_size server.player };
 }
 
-impl Server {
-    ghost use Rattle.mot_base.specs.Geometry.{IsValid};
-    ghost use Rattle.mot_base.specs.declared.refusal.Refusal.TheVariants.{BadGeometry, OutOfMemory};
-    ghost use Rattle.mot_carousel.specs.Carousel.{change};
-    ghost use Rattle.mot_carousel.specs.Stands.{carousel_of, AreBodiesOf};
-    ghost use Rattle.mot_player.specs.Laws.{IsAtTurnsBeginning, IsStep};
-    ghost use Rattle.mot_player.specs.Place.{change_turn};
+impl<D: Disk> Server<D> {
+    ghost use Rattle.mot_journal.specs.Geometry.{is_valid};
+    ghost use Rattle.mot_journal.specs.Image.{stands_for, IsClean};
+    ghost use Rattle.mot_journal.specs.Journal.{StandsWhere};
+    ghost use Rattle.mot_journal.specs.declared.layout.Layout.TheVariants.{One, Two};
+    ghost use Rattle.mot_player.specs.Laws.{ChangesGoOn, IsStep, RequestsGoOn};
+    ghost use Rattle.mot_player.specs.Laws.{StepsAreContinuous};
+    ghost use Rattle.mot_player.specs.Laws.{TurnsEnd, TurnsReadAsTheirCarousels};
+    ghost use Rattle.mot_player.specs.Laws.{IsAtTurnsBeginning, IsPlace};
     ghost use Rattle.mot_player.specs.Reading.{ReadsAs};
-    ghost use Rattle.mot_player.specs.Turn.{turn_of_carousel};
-    ghost use Rattle.mot_server.specs.Laws.{RawRepliesRead, SessionsAreContinuous};
-    ghost use Rattle.mot_server.specs.Laws.{StoppedSessionsAreContinuous};
-    ghost use Rattle.mot_server.specs.Playing.{HasPlayed, HasPlayedTurn, IsPlaying, bytes_of_packets};
-    ghost use Rattle.mot_server.specs.State.{new_server};
+    ghost use Rattle.mot_player.specs.Standing.{AreBodiesFor, place_of};
+    ghost use Rattle.mot_repository.specs.Answers.{IsAnswered, IsMigrationRefusal};
+    ghost use Rattle.mot_repository.specs.Opening.{IsOpened, IsOpeningRefusal};
+    ghost use Rattle.mot_server.specs.Inner.Plays.{Plays};
+    ghost use Rattle.mot_server.specs.Playing.{HasPlayed, HasPlayedTurn, bytes_of_packets};
+    ghost use Rattle.mot_server.specs.Playing.{IsReadRefusal, IsTurnRefusal};
+    ghost use Rattle.mot_server.specs.Server.{place_in};
 
-    /// A server of this geometry, with the new carousel, of which nothing was played; `BadGeometry`
-    /// where one of its numbers is out of range, `OutOfMemory` where there is no room for the player.
-    pub fn new(alloc: Global, geometry: Geometry) -> Result<Self, Refusal>
-        ensures made { IfOk result (λ server. server ≡ new_server geometry) }
-        ensures valid { IsOk result → IsValid geometry }
-        ensures refused { IfErr result (λ refusal.
-            ((refusal ≡ BadGeometry) × (IsValid geometry → ⊥))
-            ⊎ ((refusal ≡ OutOfMemory) × IsValid geometry)) }
+    /// Opens a disk, to play its carousel from the beginning. It syncs the disk first, and changes
+    /// nothing on it but that. It takes memory for the records of one half, the objects and one
+    /// turn's directory, and none for bodies.
+    ///
+    /// The refusals are `DeviceFault` where the disk failed, `OutOfMemory`, `NotFormatted` for a
+    /// disk with no magic, a geometry out of range or too few bytes, and `Damaged` with the number
+    /// of the first slot that breaks the format, or else of the first whose record makes a fault of
+    /// the list: too many objects, none of the id that is to go, two of one id, extents that meet.
+    pub fn open(alloc: Global, disk: D) -> Result<Self, Refused<D>>
+        ensures keeps { IfOk result
+            (λ server. KeepsLength (D.state disk) (D.state server.disk)) }
+        ensures later { IfOk result
+            (λ server. (D.state disk).failures ≤ (D.state server.disk).failures) }
+        ensures still { IfOk result (λ server. (D.state server.disk).IsHonest
+            → IsStill (D.state disk) (D.state server.disk)) }
+        ensures going { IfOk result (λ server. IsFalse server.view.halted) }
 
-        // What the packets of its raw replies are to a receiver.
-        ensures raw { RawRepliesRead }
+        // What is kept is what the disk stands for, and no position of it is loose.
+        ensures opened { IfOk result (λ server. (D.state server.disk).IsHonest
+            → IsOpened (D.state disk) (D.state server.disk) server.view) }
 
-        // All packets that it plays in a session have their continuity indexes.
-        ensures continuous { SessionsAreContinuous }
-        ensures stopped { StoppedSessionsAreContinuous }
+        // Nothing was played of it.
+        ensures at_start { IfOk result (λ server. (s : journal.Standing) → Agrees server.view s
+            → place_in server s
+            ≡ opened_place s.geometry.address (packet_room s.geometry) s.geometry.segment_size
+            (turn_of_carousel s.carousel s.geometry.segment_size)) }
+        ensures refused { IfErr result
+            (λ e. IsOpeningRefusal (D.state disk) (D.state e.disk) e.refusal) }
+        ensures keeps_refused { IfErr result (λ e. KeepsLength (D.state disk) (D.state e.disk)) }
+        ensures later_refused { IfErr result
+            (λ e. (D.state disk).failures ≤ (D.state e.disk).failures) }
+        ensures still_refused { IfErr result (λ e. (D.state e.disk).IsHonest
+            → IsStill (D.state disk) (D.state e.disk)) }
+
+        // Whatever commands come between the requests, all packets that it plays have their
+        // continuity indexes.
+        ensures continuous { OnOk result StepsAreContinuous }
+
+        // The packets of a whole turn of a carousel read as exactly the carousel.
+        ensures turns { OnOk result TurnsReadAsTheirCarousels }
+        ensures turns_end { OnOk result TurnsEnd }
+        ensures requests { OnOk result RequestsGoOn }
+        ensures changes { OnOk result ChangesGoOn }
     {
-        if !geometry.is_valid() {
-            return Err(Refusal::BadGeometry);
+        let repository = Repository::open(alloc, disk)?;
+        match player_of(alloc, &repository) {
+            Ok(player) => Ok(Server {
+                bodies: DiskBodies { repository },
+                player,
+            }),
+            Err(refusal) => Err(Refused {
+                refusal,
+                disk: repository.into_disk(),
+            }),
         }
-        let size = geometry.size_of_segments();
-        let carousel = Carousel::new(alloc);
-        let turn = Turn::of(alloc, &carousel, size)?;
-        let length = geometry.length_of_packets();
-        let player = Player::new(alloc, geometry.address_of_packets(), length, size, turn)?;
-        Ok(Server {
-            geometry,
-            carousel,
-            bodies: Vec::new(alloc),
-            player,
-        })
     }
 
-    /// The carousel, whose bodies the server keeps beside it.
+    /// The disk, as it stands.
+    pub fn into_disk(self) -> D
+        ensures { result ≡ self.disk }
+    {
+        let Server { bodies, player: _ } = self;
+        bodies.repository.into_disk()
+    }
+
+    /// The carousel, whose bodies lie on the disk.
     pub fn carousel(&self) -> &Carousel
-        ensures { (bodies : List (List ℕ)) × AreBodiesOf result.now bodies
-            × (self.now.carousel ≡ carousel_of result.now bodies) }
+        ensures value { result.now ≡ self.now.view.carousel }
     {
-        &self.carousel
+        self.bodies.repository.carousel()
     }
 
-    /// Does what the command asks, and gives the transport ids that it took. `NameTaken`,
-    /// `NoSuchName` and `TooManyObjects` as the carousel's rules give them, and `OutOfMemory` where
-    /// there is no room for the carousel or its bodies; after a refusal the server is as before.
+    /// The sizes that the disk was formatted with.
+    pub fn geometry(&self) -> Geometry
+        ensures value { result ≡ self.now.view.journal.geometry }
+        ensures valid { is_valid self.now.view.journal.geometry ≡ true }
+    {
+        self.bodies.repository.geometry()
+    }
+
+    /// The layout of the half that is selected.
+    pub fn layout(&self) -> Layout
+        ensures value { result ≡ self.now.view.journal.layout }
+    {
+        self.bodies.repository.layout()
+    }
+
+    /// Whether a command ended in a device fault.
+    pub fn halted(&self) -> bool
+        ensures value { result ≡ self.now.view.halted }
+    {
+        self.bodies.repository.halted()
+    }
+
+    /// Does what the command asks, and gives the transport ids that it took. The refusals are those
+    /// of the rules, `NoRoom` where no gap holds the body, `OutOfMemory`, `BadName` on layout 1 for
+    /// a name above 100 bytes, `DeviceFault` and `Halted`.
+    ///
+    /// At `DeviceFault` the server is halted, with the carousel from before; after every other
+    /// refusal it is as it was, and so is the disk. All memory is taken before anything is written.
     pub fn execute(&mut self, alloc: Global, command: &Command) -> Result<Done, Refusal>
-        ensures done { IfOk result (λ done.
-            change self.old.carousel self.old.geometry.objects command.now
-            ≡ Ok (self.new.carousel, done)) }
-        ensures geometry { self.new.geometry ≡ self.old.geometry }
-        ensures place { OnOk result (self.new.place ≡ change_turn
-            (turn_of_carousel self.new.carousel self.old.geometry.segment_size) self.old.place) }
-        ensures refused { IfErr result (λ refusal. (refusal ≡ OutOfMemory)
-            ⊎ (change self.old.carousel self.old.geometry.objects command.now ≡ Err refusal)) }
-        ensures unchanged { IfErr result (λ _. self.new ≡ self.old) }
+        ensures keeps { Keeps (D.state self.old.disk) (D.state self.new.disk) }
+        ensures later { (D.state self.old.disk).failures ≤ (D.state self.new.disk).failures }
+        ensures going { OnOk result (IsFalse self.old.view.halted) }
+        ensures answered { IsAnswered self.old.view self.new.view
+            (D.state self.old.disk) (D.state self.new.disk) command.now result }
+
+        // At each moment a crash leaves what the disk stood for before the command, or what it
+        // stands for after it.
+        ensures any_moment { (s : journal.Standing)
+            → Holds self.old.view s (D.state self.old.disk)
+            → Throughout (D.state self.old.disk) (D.state self.new.disk)
+            (IsBeforeOrAfter s command.now) }
+
+        // Once it is Ok, each crash leaves what it stands for after the command.
+        ensures ok { (s : journal.Standing) → Holds self.old.view s (D.state self.old.disk)
+            → IfOk result (λ done. (next : journal.Standing) × IsNext s command.now done next
+            × Holds self.new.view next (D.state self.new.disk)) }
+
+        // The group under way stays; then the turn of the carousel after it begins.
+        ensures place { (s next : journal.Standing) → Agrees self.old.view s
+            → Agrees self.new.view next → OnOk result (place_in self.new next
+            ≡ change_turn (turn_of_carousel next.carousel next.geometry.segment_size)
+            (place_in self.old s)) }
+        ensures stays { OnErr result (self.new.player ≡ self.old.player) }
     {
-        let planned = plan(alloc, &self.carousel, self.geometry.objects, command)?;
-        let turn = Turn::of(alloc, &planned.next, self.geometry.size_of_segments())?;
-        change_bodies(&self.carousel, &mut self.bodies, command)?;
-        self.carousel = planned.next;
+        let prepared = self.bodies.repository.prepare(alloc, command)?;
+        let turn = Turn::of(alloc, prepared.next(), self.player.segment_size())?;
+        let done = self.bodies.repository.commit(prepared)?;
         self.player.changed(turn);
-        Ok(planned.done)
+        Ok(done)
     }
 
-    /// The next packet by the order of sending. It never fails: the bodies are in memory.
+    /// The next packet by the order of sending. It takes no memory. Its refusals are `DeviceFault`
+    /// where a body can't be read, after which the server goes on from where it was, and `Halted`.
     pub fn next_packet(&mut self) -> Result<Played, Refusal>
-        ensures played { IsOkAnd result (λ played. IsStep self.old.place played.packet.items
-            played.ends_turn self.new.place) }
-        ensures geometry { self.new.geometry ≡ self.old.geometry }
-        ensures carousel { self.new.carousel ≡ self.old.carousel }
-        ensures playing { IsPlaying self.old }
+        ensures keeps { KeepsLength (D.state self.old.disk) (D.state self.new.disk) }
+        ensures later { (D.state self.old.disk).failures ≤ (D.state self.new.disk).failures }
+        ensures view { self.new.view ≡ self.old.view }
+        ensures unchanged { (D.state self.new.disk).IsHonest
+            → IsUnchanged (D.state self.old.disk) (D.state self.new.disk) }
+
+        // It is the next packet of what the disk stands for.
+        ensures sent { (s : journal.Standing) → Holds self.old.view s (D.state self.old.disk)
+            → (D.state self.new.disk).IsHonest → IfOk result (λ played. IsStep
+            (place_in self.old s) played.packet.items played.ends_turn (place_in self.new s)) }
+        ensures stays { OnErr result (self.new.player ≡ self.old.player) }
+        ensures going { OnOk result (IsFalse self.old.view.halted) }
+        ensures no_fault { OnOk result
+            ((D.state self.new.disk).failures ≡ (D.state self.old.disk).failures) }
+        ensures refused { IfErr result (λ refusal. IsReadRefusal self.old self.new
+            (D.state self.old.disk).failures (D.state self.new.disk).failures refusal) }
     {
+        if self.bodies.repository.halted() {
+            return Err(Refusal::Halted);
+        }
+        // There is a body for each object.
+        let _ = self.bodies.repository.body_count();
         self.player.next_packet(&mut self.bodies)
     }
 
     /// The packets up to the first that ends a turn: from the beginning of a turn on they read as
-    /// exactly the carousel. `OutOfMemory` where there is no room for them; the player then stands
-    /// after those that were played.
+    /// exactly the carousel. Its refusals are those of `next_packet`, and `OutOfMemory`; the server
+    /// then goes on behind the packets that were played.
     pub fn play_turn(&mut self, alloc: Global) -> Result<Vec<Packet>, Refusal>
-        ensures turn { IfOk result (λ packets.
-            HasPlayedTurn self.old.place (bytes_of_packets packets.items) self.new.place) }
-        ensures reads { IfOk result (λ packets. IsAtTurnsBeginning self.old.place
-            → ReadsAs (bytes_of_packets packets.items) self.old.carousel
-            self.old.geometry.segment_size) }
-        ensures refused { IfErr result (λ refusal. refusal ≡ OutOfMemory) }
-        ensures stands { OnErr result ((count : ℕ) × (packets : List (List ℕ))
-            × HasPlayed self.old.place count packets self.new.place) }
-        ensures geometry { self.new.geometry ≡ self.old.geometry }
-        ensures carousel { self.new.carousel ≡ self.old.carousel }
+        ensures keeps { KeepsLength (D.state self.old.disk) (D.state self.new.disk) }
+        ensures later { (D.state self.old.disk).failures ≤ (D.state self.new.disk).failures }
+        ensures view { self.new.view ≡ self.old.view }
+        ensures unchanged { (D.state self.new.disk).IsHonest
+            → IsUnchanged (D.state self.old.disk) (D.state self.new.disk) }
+        ensures turn { (s : journal.Standing) → Holds self.old.view s (D.state self.old.disk)
+            → (D.state self.new.disk).IsHonest → IfOk result (λ packets. HasPlayedTurn
+            (place_in self.old s) (bytes_of_packets packets.items) (place_in self.new s)) }
+
+        // They read as what the disk stands for.
+        ensures reads { (s : journal.Standing) → Holds self.old.view s (D.state self.old.disk)
+            → (D.state self.new.disk).IsHonest → IsAtTurnsBeginning (place_in self.old s)
+            → IfOk result (λ packets. ReadsAs (bytes_of_packets packets.items) s.carousel
+            s.geometry.segment_size) }
+        ensures stands { (s : journal.Standing) → Holds self.old.view s (D.state self.old.disk)
+            → (D.state self.new.disk).IsHonest → OnErr result ((count : ℕ)
+            × (packets : List (List ℕ)) × HasPlayed (place_in self.old s) count packets
+            (place_in self.new s)) }
+        ensures going { OnOk result (IsFalse self.old.view.halted) }
+        ensures refused { IfErr result (λ refusal. IsTurnRefusal self.old self.new
+            (D.state self.old.disk).failures (D.state self.new.disk).failures refusal) }
     {
+        if self.halted() {
+            return Err(Refusal::Halted);
+        }
         // What holds of each server holds of this one at the beginning.
         let _ = self.segment_size();
         let mut packets = Vec::new(alloc);
@@ -153,18 +266,65 @@ impl Server {
         }
     }
 
-    /// The sizes that it was made with.
-    pub(crate) fn geometry(&self) -> &Geometry
-        ensures value { result.now ≡ self.now.geometry }
-        ensures valid { IsValid self.now.geometry }
+    /// Whether no gate of the selected half is open behind a closed one. It only reads. Its
+    /// refusals are `DeviceFault`, which does not halt the server, and `Halted`.
+    pub fn is_clean(&mut self) -> Result<bool, Refusal>
+        ensures keeps { KeepsLength (D.state self.old.disk) (D.state self.new.disk) }
+        ensures later { (D.state self.old.disk).failures ≤ (D.state self.new.disk).failures }
+        ensures view { self.new.view ≡ self.old.view }
+        ensures player { self.new.player ≡ self.old.player }
+        ensures unchanged { (D.state self.new.disk).IsHonest
+            → IsUnchanged (D.state self.old.disk) (D.state self.new.disk) }
+        ensures going { OnOk result (IsFalse self.old.view.halted) }
+        ensures refused { IfErr result (λ refusal. IsReadRefusal self.old self.new
+            (D.state self.old.disk).failures (D.state self.new.disk).failures refusal) }
+
+        // Where the disk stands for something, and the journal stands where it has its records, the
+        // answer is whether what is read is clean.
+        ensures exact { (s : journal.Standing) → (D.state self.new.disk).IsHonest
+            → stands_for (D.state self.old.disk).bytes ≡ Ok s
+            → StandsWhere self.old.view.journal (D.state self.old.disk).bytes
+            → IfOk result (λ clean. IsTrue clean ↔ IsClean (D.state self.old.disk).bytes) }
     {
-        &self.geometry
+        self.bodies.repository.is_clean()
+    }
+
+    /// Rewrites the journal into layout 2; false, with no device call, where it is of layout 2
+    /// already. It plays on as before. At `DeviceFault` the server is halted; `OutOfMemory` and
+    /// `Halted` come before anything is written.
+    pub fn migrate(&mut self, alloc: Global) -> Result<bool, Refusal>
+        ensures keeps { Keeps (D.state self.old.disk) (D.state self.new.disk) }
+        ensures later { (D.state self.old.disk).failures ≤ (D.state self.new.disk).failures }
+        ensures player { self.new.player ≡ self.old.player }
+        ensures geometry { self.new.view.journal.geometry ≡ self.old.view.journal.geometry }
+        ensures carousel { self.new.view.carousel ≡ self.old.view.carousel }
+        ensures extents { self.new.view.extents ≡ self.old.view.extents }
+        ensures going { OnOk result (IsFalse self.new.view.halted) }
+        ensures rewritten { IfOk result (λ done.
+            (IsTrue done ↔ (self.old.view.journal.layout ≡ One))
+            × (self.new.view.journal.layout ≡ Two)) }
+        ensures still { self.old.view.journal.layout ≡ Two → (self.new ≡ self.old)
+            × (IsFalse self.old.view.halted → result ≡ Ok false) }
+        ensures refused { IfErr result (λ refusal. IsMigrationRefusal self.old.view self.new.view
+            (D.state self.old.disk) (D.state self.new.disk) refusal) }
+
+        // At each moment a crash leaves the same carousel, clean.
+        ensures any_moment { (s : journal.Standing)
+            → Holds self.old.view s (D.state self.old.disk)
+            → Throughout (D.state self.old.disk) (D.state self.new.disk) (IsOf s) }
+        ensures ok { (s : journal.Standing) → Holds self.old.view s (D.state self.old.disk)
+            → OnOk result (Holds self.new.view s (D.state self.new.disk)) }
+    {
+        self.bodies.repository.migrate(alloc)
     }
 
     /// The size of the segments that it plays.
     fn segment_size(&self) -> SegmentSize
-        ensures value { result ≡ self.now.geometry.segment_size }
-        ensures playing { IsPlaying self.now }
+        ensures value { result ≡ self.now.player.segment_size }
+        ensures plays { Plays self.now.view.carousel self.now.view.journal.geometry.segment_size
+            self.now.player }
+        ensures place { (bodies : List (List ℕ)) → AreBodiesFor self.now.player.turn bodies
+            → IsPlace (place_of self.now.player bodies) }
     {
         self.player.segment_size()
     }

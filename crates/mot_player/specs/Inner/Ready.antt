@@ -2,6 +2,7 @@
 use Rattle.std.specs.Prelude.{◌≡◌, ℕ, ◌+◌, ◌<◌, ◌≤◌, ◌==◌, if◌then◌else◌, List, ◌∷◌, Some, None}
 use Rattle.std.specs.Prelude.{vec_len, vec_capacity}
 use Rattle.mot_base.specs.PacketLength.{room_of}
+use Rattle.mot_base.specs.declared.numbers.TheConstants.{MAX_SEGMENT}
 use Rattle.mot_groups.specs.Group.{Segment, bytes_of_group}
 use Rattle.mot_player.specs.declared.state.State.{State}
 use Rattle.mot_player.specs.Inner.LastGroup.{last_of}
@@ -31,7 +32,7 @@ pub record IsFitted (p : State) : Type 0 where
   pub index : p.index < 4
   pub within : IsWithinTurn p.turn p.segment_size p.entity p.segment
   pub plannable : IsPlannable p.turn
-  pub size : (64 ≤ p.segment_size) × (p.segment_size ≤ 8189)
+  pub size : (64 ≤ p.segment_size) × (p.segment_size ≤ MAX_SEGMENT)
   pub group : p.segment_size + 11 ≤ vec_capacity p.group
   pub directory : p.segment_size ≤ vec_capacity p.last_directory.segment
   pub body : p.segment_size ≤ vec_capacity p.last_body.segment

@@ -7,8 +7,8 @@ use Rattle.mot_journal.proofs.decoding.read_mime.Goals as goal
 pub returns-then-size-eq0 : goal.returns-then-size-eq0
 returns-then-size-eq0 c = sym (mime_none c.args.bytes.now c.if-size-eq0.true)
 
-pub returns-then-size-gt64 : goal.returns-then-size-gt64
-returns-then-size-gt64 c = sym (mime_long c.args.bytes.now c.requires c.if-size-gt64.true)
+pub returns-then-size-gt-MAX_MIME : goal.returns-then-size-gt-MAX_MIME
+returns-then-size-gt-MAX_MIME c = sym (mime_long c.args.bytes.now c.requires c.if-size-gt-MAX_MIME.true)
 
 pub returns-in-Ok : goal.returns-in-Ok
 returns-in-Ok c =

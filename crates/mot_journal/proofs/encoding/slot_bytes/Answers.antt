@@ -1,5 +1,5 @@
-use Rattle.std.proofs.Common.{◌∙◌, ap, length, take, drop, arith}
-use Rattle.std.specs.Int.{w16, w32, to_be_bytes}
+use Rattle.std.proofs.Common.{◌∙◌, ap, length, arith}
+use Rattle.std.specs.Int.{w16, to_be_bytes, bytes_high_first}
 use Rattle.mot_journal.specs.Slot.{read_slot}
 use Rattle.mot_journal.proofs.Encoded.{slot_pieces}
 use Rattle.mot_journal.proofs.Written.{slot_reads_back, written_length}
@@ -9,10 +9,9 @@ pub returns-clause-written : goal.returns-clause-written
 returns-clause-written c =
     slot_pieces c.args.layout c.args.entry.now _ _ _ _ _ _ _ _ _ _ _ _ _ _
     c.kind_base.ensures c.kind.ensures.value c.slot_size.ensures
-    (ap (λ l. take 3 (drop 1 l)) (c.to_be_bytes.ensures ∙ ap (λ n. to_be_bytes w32 n) c.get.ensures.value))
-    (c.to_be_bytes-2.ensures ∙ ap (λ n. to_be_bytes w16 n) c.get-2.ensures.value)
-    (c.to_be_bytes-3.ensures ∙ ap (λ n. to_be_bytes w16 n) c.get-3.ensures.value)
-    c.new-slot.ensures c.push.ensures.items c.push-2.ensures.items c.put.ensures c.put-2.ensures c.put-3.ensures
+    (ap (bytes_high_first 3) c.get.ensures.value) (ap (λ n. to_be_bytes w16 n) c.get-2.ensures.value) (ap (λ n. to_be_bytes w16 n) c.get-3.ensures.value)
+    c.new-slot.ensures c.push.ensures.items c.push-2.ensures.items c.put_number.ensures c.array_append_number.ensures.items
+    c.array_append_number-2.ensures.items
     c.put_action.ensures.written c.fill.ensures
 
 pub returns-clause-reads : goal.returns-clause-reads

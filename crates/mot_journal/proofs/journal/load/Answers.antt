@@ -9,12 +9,12 @@ use Rattle.mot_journal.proofs.Loads.{unchanged_joins, told_good, geometry_told, 
 use Rattle.mot_journal.proofs.journal.load.Goals.{then-head-eq1, else-head-eq1}
 use Rattle.mot_journal.proofs.journal.load.Goals as goal
 
-pub returns-then-len-lt64-clause-refused : goal.returns-then-len-lt64-clause-refused
-returns-then-len-lt64-clause-refused g c =
+pub returns-then-len-clause-refused : goal.returns-then-len-clause-refused
+returns-then-len-clause-refused g c =
     not_formatted refl (λ honest.
     let sound = g.met.D.Disk.sound c.args.disk.now honest in
     none_formatted (g.D.Disk.state c.args.disk.now).bytes
-    (short_has_none (g.D.Disk.state c.args.disk.now).bytes (omega (arith, (sound.images _ sound.bytes).len_is, c.len-len.ensures, c.if-len-lt64.true))))
+    (short_has_none (g.D.Disk.state c.args.disk.now).bytes (omega (arith, (sound.images _ sound.bytes).len_is, c.len-len.ensures, c.if-len.true))))
 
 pub returns-in_default-clause-refused : goal.returns-in_default-clause-refused
 returns-in_default-clause-refused g c =
@@ -30,11 +30,10 @@ read-requires-2 g c =
     let whole : length c.read.new.out ≡ 64 = search rules in
     let good = told_good c.read.new.out c.len-len.result c.in-Some.geometry whole (omega arith) (λ rest long. c.in-Some.ensures rest long) in
     let few : c.if-head-eq1.half ≤ 1 = elim c.if-head-eq1.branch [ then-head-eq1 w ↦ omega arith | else-head-eq1 w ↦ omega arith ] in
-    let one : c.from-2.result ≤ 1 = omega (arith, few, c.from-2.ensures) in
-    let size : ℕ = 512 * c.from.result + 1024 in
-    let most : size * c.from-2.result ≤ size * 1 = mul-le-mul_left size one in
-    let in_other_half : c.from-2.result * size ≡ size * c.from-2.result = mul_comm c.from-2.result size in
-    omega (arith, most, in_other_half, good.1, c.from.ensures, c.deref_mut.ensures.len, c.in-Ok.ensures.len, c.read.ensures.keeps.len, c.len-len.ensures)
+    let size : ℕ = half_size c.in-Some.geometry in
+    let most : size * c.if-head-eq1.half ≤ size * 1 = mul-le-mul_left size few in
+    let here : c.if-head-eq1.half * size ≡ size * c.if-head-eq1.half = mul_comm c.if-head-eq1.half size in
+    omega (arith, most, here, good.1, c.half_start.ensures.value, c.half_size.ensures.value, c.deref_mut.ensures.len, c.in-Ok.ensures.len, c.read.ensures.keeps.len, c.len-len.ensures)
 
 pub returns-then-is_err-2-clause-unchanged : goal.returns-then-is_err-2-clause-unchanged
 returns-then-is_err-2-clause-unchanged g c = λ honest.
@@ -71,11 +70,10 @@ returns-in-Ok-records_of_half-clause-loaded g c = λ honest.
     let head = on_ok c.read.result c.is_err.result c.is_err.ensures.value c.if-is_err.false (c.read.ensures.bytes mid) in
     let told : Some geometry ≡ geometry_of B =
     geometry_told B c.read.new.out c.len-len.result (Some geometry) (omega (arith, (sound.images _ sound.bytes).len_is, c.len-len.ensures)) (omega arith) head (λ rest long. c.in-Some.ensures rest long) in
-    let at = 64 + c.from-2.result * (512 * c.from.result + 1024) in
+    let at = c.half_start.result in
     let n = length c.deref_mut.result.now in
-    let place : at ≡ half_start geometry half =
-    ap (λ h. 64 + h * (512 * c.from.result + 1024)) c.from-2.ensures ∙ ap (λ o. 64 + half * (512 * o + 1024)) c.from.ensures in
-    let size : n ≡ half_size geometry = omega (arith, c.deref_mut.ensures.len, c.in-Ok.ensures.len, c.from.ensures) in
+    let place : at ≡ half_start geometry half = c.half_start.ensures.value in
+    let size : n ≡ half_size geometry = c.deref_mut.ensures.len ∙ c.in-Ok.ensures.len ∙ c.half_size.ensures.value in
     let width : at + n - at ≡ half_size geometry = sub-same at n ∙ size in
     let read = on_ok c.read-2.result c.is_err-2.result c.is_err-2.ensures.value c.if-is_err-2.false (c.read-2.ensures.bytes honest) in
     let bytes : c.read-2.new.out ≡ take (half_size geometry) (drop (half_start geometry half) B) =
@@ -100,11 +98,10 @@ returns-clause-refused g c =
     let head = on_ok c.read.result c.is_err.result c.is_err.ensures.value c.if-is_err.false (c.read.ensures.bytes mid) in
     let told : Some geometry ≡ geometry_of B =
     geometry_told B c.read.new.out c.len-len.result (Some geometry) (omega (arith, (sound.images _ sound.bytes).len_is, c.len-len.ensures)) (omega arith) head (λ rest long. c.in-Some.ensures rest long) in
-    let at = 64 + c.from-2.result * (512 * c.from.result + 1024) in
+    let at = c.half_start.result in
     let n = length c.deref_mut.result.now in
-    let place : at ≡ half_start geometry half =
-    ap (λ h. 64 + h * (512 * c.from.result + 1024)) c.from-2.ensures ∙ ap (λ o. 64 + half * (512 * o + 1024)) c.from.ensures in
-    let size : n ≡ half_size geometry = omega (arith, c.deref_mut.ensures.len, c.in-Ok.ensures.len, c.from.ensures) in
+    let place : at ≡ half_start geometry half = c.half_start.ensures.value in
+    let size : n ≡ half_size geometry = c.deref_mut.ensures.len ∙ c.in-Ok.ensures.len ∙ c.half_size.ensures.value in
     let width : at + n - at ≡ half_size geometry = sub-same at n ∙ size in
     let read = on_ok c.read-2.result c.is_err-2.result c.is_err-2.ensures.value c.if-is_err-2.false (c.read-2.ensures.bytes honest) in
     let bytes : c.read-2.new.out ≡ take (half_size geometry) (drop (half_start geometry half) B) =

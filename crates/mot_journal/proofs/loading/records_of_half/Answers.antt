@@ -1,4 +1,4 @@
-use Rattle.std.proofs.Common.{◌≡◌, ◌<◌, ◌++◌, [], ◌∷◌, true, Some, refl, sym, ◌∙◌, subst, arith}
+use Rattle.std.proofs.Common.{◌≡◌, ◌<◌, ◌≤◌, ◌++◌, [], ◌∷◌, true, Some, refl, sym, ◌∙◌, ap, subst, arith, length, length-append}
 use Rattle.std.specs.List.{All}
 use Rattle.std.proofs.lemmas.List.Elements.{All-nil, All-cons, All-append}
 use Rattle.mot_journal.specs.declared.record.Record.{Record}
@@ -35,6 +35,8 @@ loop-place-preserved c =
     record {
       reads = reads ∙ ok-same _ _ (sym pushed);
       are_open = open_more g layout c.args.half.now c.loop-place.place lt slot c.slot_at-slot.ensures.value c.loop-place.invariant.are_open (open_is slot c.if-slot.false);
+      count = let more = length-append c.loop-place.records.items (c.in-Ok-Some.entry ∷ []) in let before = c.loop-place.invariant.count in
+          omega (arith, more, before, ap length pushed);
       sound = subst (λ l. All (λ (r : Record). is_sound g layout r ≡ true) l) (sym pushed)
           (All-append (λ (r : Record). is_sound g layout r ≡ true) c.loop-place.records.items (c.in-Ok-Some.entry ∷ []) c.loop-place.invariant.sound one);
     }

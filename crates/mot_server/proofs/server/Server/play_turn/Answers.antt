@@ -1,64 +1,99 @@
-use Rattle.std.proofs.Common.{ℕ, suc, List, [], ◌∷◌, ◌++◌, ◌<◌, length, refl, sym, ap, ◌∙◌, subst}
-use Rattle.mot_player.proofs.Laws.{turns-end}
-use Rattle.mot_player.specs.Place.{Place}
-use Rattle.mot_player.specs.Laws.{bytes_due}
+use Rattle.std.proofs.Common.{ℕ, suc, List, [], ◌∷◌, ◌++◌, length, refl, sym, ap, ◌∙◌, subst, arith}
+use Rattle.mot_player.specs.Standing as player
 use Rattle.mot_server.specs.Inner.Going.{IsGoing}
-use Rattle.mot_server.specs.Playing.{HasPlayedTurn, bytes_of_packets}
-use Rattle.mot_server.proofs.Going.{HasPlayed-more, HasPlayedTurn-ended, HasPlayedTurn-reads, IsGoing-more, IsGoing-none, OnErr-always, bytes_of_packets-more}
+use Rattle.mot_server.specs.Inner.Unread.{is_unchanged}
+use Rattle.mot_server.specs.Playing.{HasPlayed, HasPlayedTurn, bytes_of_packets}
+use Rattle.mot_server.specs.Server.{bodies_of, place_in}
+use Rattle.mot_server.proofs.Going.{HasPlayed-more, HasPlayedTurn-ended, IsGoing-more, IsGoing-none, OnErr-always, bytes_of_packets-more}
+use Rattle.mot_server.proofs.Read.{holds_still, keeps_on, unchanged_on}
+use Rattle.mot_server.proofs.Whole.{turn_reads}
 use Rattle.mot_server.proofs.server.Server.play_turn.Goals as goal
 
 pub loop-packets-init : goal.loop-packets-init
-loop-packets-init c = record {
-  going = subst (λ (xs : List (List ℕ)). IsGoing c.args.self.now.place xs c.args.self.now.place)
-      (sym (ap bytes_of_packets c.new-packets.ensures.items)) (IsGoing-none c.args.self.now.place);
-  geometry = refl;
-  carousel = refl;
+loop-packets-init g c = record {
+  view = refl;
+  keeps = record { len = refl; was_honest = λ honest. honest };
+  later = omega arith;
+  unchanged = λ honest. is_unchanged (g.D.Disk.state c.args.self.now.disk);
+  going = λ s holds honest. subst (λ (xs : List (List ℕ)). IsGoing (place_in c.args.self.now s) xs (place_in c.args.self.now s))
+      (sym (ap bytes_of_packets c.new-packets.ensures.items)) (IsGoing-none (place_in c.args.self.now s));
 }
 
-pub returns-in_err-push-clause-stands : goal.returns-in_err-push-clause-stands
-returns-in_err-push-clause-stands c =
+pub returns-in_err-packet-clause-stands : goal.returns-in_err-packet-clause-stands
+returns-in_err-packet-clause-stands g c = λ s holds honest.
+    let start = c.args.self.now in
     let packets : List (List ℕ) = bytes_of_packets c.loop-packets.packets.items in
+    let going = c.loop-packets.invariant.going s holds (c.next_packet.ensures.keeps.was_honest honest) in
+    OnErr-always c.from_residual.result _ (
+      length packets,
+      packets,
+      subst (λ (p : player.Standing). HasPlayed (place_in start s) (length packets) packets (player.place_of p (bodies_of s.carousel)))
+          (sym c.in_err-packet.ensures.stays) going.played,
+    )
+
+pub returns-in_err-push-clause-stands : goal.returns-in_err-push-clause-stands
+returns-in_err-push-clause-stands g c = λ s holds honest.
+    let start = c.args.self.now in
+    let mid = c.loop-packets.self in
+    let now = c.next_packet.new.self in
+    let state = g.D.Disk.state in
+    let was = c.next_packet.ensures.keeps.was_honest honest in
+    let held = holds_still start.view mid.view s (state start.disk) (state mid.disk) holds was (c.loop-packets.invariant.unchanged was)
+    c.loop-packets.invariant.view in
+    let packets : List (List ℕ) = bytes_of_packets c.loop-packets.packets.items in
+    let going = c.loop-packets.invariant.going s holds was in
     OnErr-always c.from_residual-in_err-push.result _ (
       suc (length packets),
       packets ++ c.in_ok-packet.field-0.packet.items ∷ [],
-      HasPlayed-more c.args.self.now.place c.loop-packets.self.place c.next_packet.new.self.place (length packets)
-          packets c.loop-packets.invariant.going.played c.in_ok-packet.field-0.packet.items
-          c.in_ok-packet.field-0.ends_turn c.in_ok-packet.ensures.played,
+      HasPlayed-more (place_in start s) (place_in mid s) (place_in now s) (length packets) packets going.played
+          c.in_ok-packet.field-0.packet.items c.in_ok-packet.field-0.ends_turn (c.in_ok-packet.ensures.sent s held honest),
     )
 
-turn : (c : goal.Then-ends_turn) →
-    HasPlayedTurn c.args.self.now.place (bytes_of_packets c.push.new.self.items) c.next_packet.new.self.place
-turn c =
+pub returns-then-ends_turn-clause-turn : goal.returns-then-ends_turn-clause-turn
+returns-then-ends_turn-clause-turn g c = λ s holds honest.
+    let start = c.args.self.now in
+    let mid = c.loop-packets.self in
+    let now = c.next_packet.new.self in
+    let state = g.D.Disk.state in
+    let was = c.next_packet.ensures.keeps.was_honest honest in
+    let held = holds_still start.view mid.view s (state start.disk) (state mid.disk) holds was (c.loop-packets.invariant.unchanged was)
+    c.loop-packets.invariant.view in
     let items = ap bytes_of_packets c.in_ok-push.ensures.items
     ∙ bytes_of_packets-more c.loop-packets.packets.items c.in_ok-packet.field-0.packet in
-    subst (λ (xs : List (List ℕ)). HasPlayedTurn c.args.self.now.place xs c.next_packet.new.self.place) (sym items)
-    (HasPlayedTurn-ended c.args.self.now.place c.loop-packets.self.place c.next_packet.new.self.place
-    (bytes_of_packets c.loop-packets.packets.items) c.loop-packets.invariant.going c.in_ok-packet.field-0.packet.items
-    c.in_ok-packet.field-0.ends_turn c.in_ok-packet.ensures.played c.if-ends_turn.true)
-
-pub returns-then-ends_turn-clause-turn : goal.returns-then-ends_turn-clause-turn
-returns-then-ends_turn-clause-turn c = turn c
+    subst (λ (xs : List (List ℕ)). HasPlayedTurn (place_in start s) xs (place_in now s)) (sym items)
+    (HasPlayedTurn-ended (place_in start s) (place_in mid s) (place_in now s)
+    (bytes_of_packets c.loop-packets.packets.items) (c.loop-packets.invariant.going s holds was) c.in_ok-packet.field-0.packet.items
+    c.in_ok-packet.field-0.ends_turn (c.in_ok-packet.ensures.sent s held honest) c.if-ends_turn.true)
 
 pub returns-then-ends_turn-clause-reads : goal.returns-then-ends_turn-clause-reads
-returns-then-ends_turn-clause-reads c = HasPlayedTurn-reads c.args.self.now
-    (bytes_of_packets c.push.new.self.items) c.next_packet.new.self.place c.segment_size.ensures.playing (turn c)
-
-pub loop-packets-smaller : goal.loop-packets-smaller
-loop-packets-smaller c =
-    let step = c.in_ok-packet.ensures.played in
-    subst (λ (p : Place). bytes_due p < bytes_due c.loop-packets.self.place) (sym step.place)
-    (turns-end c.loop-packets.self.place step.sent c.next_packet.ensures.playing.place step.asked
-    (sym step.ends ∙ c.if-ends_turn.false))
+returns-then-ends_turn-clause-reads g c = λ s holds honest begins.
+    let start = c.args.self.now in
+    turn_reads start.view s (g.D.Disk.state start.disk) start.player (bytes_of_packets c.push.new.self.items)
+    (place_in c.next_packet.new.self s) (g.met.D.Disk.sound start.disk holds.journal.honest) holds c.segment_size.ensures.plays
+    c.segment_size.ensures.place (returns-then-ends_turn-clause-turn g c s holds honest) begins
 
 pub loop-packets-preserved : goal.loop-packets-preserved
-loop-packets-preserved c =
+loop-packets-preserved g c =
+    let start = c.args.self.now in
+    let mid = c.loop-packets.self in
+    let now = c.next_packet.new.self in
+    let state = g.D.Disk.state in
+    let is = c.loop-packets.invariant in
+    let later = is.later in
+    let further = c.next_packet.ensures.later in
     let items = ap bytes_of_packets c.in_ok-push.ensures.items
     ∙ bytes_of_packets-more c.loop-packets.packets.items c.in_ok-packet.field-0.packet in
     record {
-      going = subst (λ (xs : List (List ℕ)). IsGoing c.args.self.now.place xs c.next_packet.new.self.place) (sym items)
-          (IsGoing-more c.args.self.now.place c.loop-packets.self.place c.next_packet.new.self.place
-          (bytes_of_packets c.loop-packets.packets.items) c.loop-packets.invariant.going c.in_ok-packet.field-0.packet.items
-          c.in_ok-packet.field-0.ends_turn c.in_ok-packet.ensures.played c.if-ends_turn.false);
-      geometry = c.next_packet.ensures.geometry ∙ c.loop-packets.invariant.geometry;
-      carousel = c.next_packet.ensures.carousel ∙ c.loop-packets.invariant.carousel;
+      view = c.next_packet.ensures.view ∙ is.view;
+      keeps = keeps_on (state start.disk) (state mid.disk) (state now.disk) is.keeps c.next_packet.ensures.keeps;
+      later = omega (arith, later, further);
+      unchanged = λ honest. unchanged_on (state start.disk) (state mid.disk) (state now.disk)
+          (is.unchanged (c.next_packet.ensures.keeps.was_honest honest)) (c.next_packet.ensures.unchanged honest);
+      going = λ s holds honest.
+          let was = c.next_packet.ensures.keeps.was_honest honest in
+          let held = holds_still start.view mid.view s (state start.disk) (state mid.disk) holds was (is.unchanged was) is.view in
+          subst (λ (xs : List (List ℕ)). IsGoing (place_in start s) xs (place_in now s)) (sym items)
+          (IsGoing-more (place_in start s) (place_in mid s) (place_in now s) (bytes_of_packets c.loop-packets.packets.items)
+          (is.going s holds was) c.in_ok-packet.field-0.packet.items c.in_ok-packet.field-0.ends_turn
+          (c.in_ok-packet.ensures.sent s held honest) c.if-ends_turn.false);
     }

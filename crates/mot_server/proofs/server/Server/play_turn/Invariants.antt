@@ -1,15 +1,21 @@
-use Rattle.std.proofs.Common.{◌≡◌}
-use Rattle.mot_player.specs.Laws.{bytes_due}
+use Rattle.std.proofs.Common.{◌≡◌, ◌≤◌, ◌-◌, ◌^◌, length}
+use Rattle.disk_store.specs.Disk.{KeepsLength, IsUnchanged}
+use Rattle.mot_journal.specs.Image.{Standing}
+use Rattle.mot_repository.specs.Repository.{Holds}
 use Rattle.mot_server.specs.Inner.Going.{IsGoing}
 use Rattle.mot_server.specs.Playing.{bytes_of_packets}
+use Rattle.mot_server.specs.Server.{place_in}
 use Rattle.mot_server.proofs.server.Server.play_turn.Given as goal
 
 abbrev pub invariant-loop-packets : goal.invariant-loop-packets
-invariant-loop-packets l = record {
-  going : IsGoing l.fn.self.place (bytes_of_packets l.packets.items) l.self.place;
-  geometry : l.self.geometry ≡ l.fn.self.geometry;
-  carousel : l.self.carousel ≡ l.fn.self.carousel;
+invariant-loop-packets g l = record {
+  view : l.self.view ≡ l.fn.self.view;
+  keeps : KeepsLength (g.D.Disk.state l.fn.self.disk) (g.D.Disk.state l.self.disk);
+  later : (g.D.Disk.state l.fn.self.disk).failures ≤ (g.D.Disk.state l.self.disk).failures;
+  unchanged : (g.D.Disk.state l.self.disk).IsHonest → IsUnchanged (g.D.Disk.state l.fn.self.disk) (g.D.Disk.state l.self.disk);
+  going : (s : Standing) → Holds l.fn.self.view s (g.D.Disk.state l.fn.self.disk) → (g.D.Disk.state l.self.disk).IsHonest
+      → IsGoing (place_in l.fn.self s) (bytes_of_packets l.packets.items) (place_in l.self s);
 }
 
 abbrev pub decreases-loop-packets : goal.decreases-loop-packets
-decreases-loop-packets l = bytes_due l.self.place
+decreases-loop-packets g l = 2 ^ 64 - length l.packets.items

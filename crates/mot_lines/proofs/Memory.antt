@@ -1,0 +1,41 @@
+-- Which lines take memory.
+use Rattle.std.proofs.Common.{ℕ, List, [], ◌∷◌, Result, Ok, Err, inl, inr}
+use Rattle.hex.specs.Hex.{decode_of}
+use Rattle.mot_base.specs.declared.refusal.Refusal.{Refusal}
+use Rattle.mot_lines.specs.Fields.{kind_in, tid_in, segment_in, name_in}
+use Rattle.mot_lines.specs.Line.{◌>>=◌, raw_of, put_of, replace_of, withdraw_of, description_of}
+use Rattle.mot_lines.specs.Line.{NeedsMemory, IsParsed, OrOutOfMemory}
+use Rattle.mot_lines.specs.Words.{number_of_word}
+use Rattle.mot_lines.specs.declared.line.Line.{Line}
+
+-- words of which the last take memory
+needs-after : {A : Type 0} (x : Result A Refusal) (f : A → Result Line Refusal)
+    → ((a : A) → NeedsMemory (f a)) → NeedsMemory (x >>= f)
+needs-after (Ok a) f h = h a
+needs-after (Err r) f h = tt
+
+pub raw-needs : (words : List (List ℕ)) → NeedsMemory (raw_of words)
+unfolding raw_of
+raw-needs [] = tt
+raw-needs (a ∷ []) = tt
+raw-needs (a ∷ b ∷ []) = tt
+raw-needs (a ∷ b ∷ c ∷ []) = needs-after (kind_in (number_of_word a)) _ (λ k.
+    needs-after (tid_in (number_of_word b)) _ (λ t. needs-after (segment_in (decode_of c)) _ (λ body. tt)))
+raw-needs (a ∷ b ∷ c ∷ d ∷ words) = tt
+
+pub put-needs : (words : List (List ℕ)) → NeedsMemory (put_of words)
+put-needs words = needs-after (description_of words) _ (λ d. tt)
+
+pub replace-needs : (words : List (List ℕ)) → NeedsMemory (replace_of words)
+replace-needs words = needs-after (description_of words) _ (λ d. tt)
+
+pub withdraw-needs : (words : List (List ℕ)) → NeedsMemory (withdraw_of words)
+withdraw-needs [] = tt
+withdraw-needs (name ∷ []) = needs-after (name_in name) _ (λ n. tt)
+withdraw-needs (name ∷ other ∷ words) = tt
+
+-- so a growth that is refused may stand in the place of what they ask for
+pub parsed : (result request : Result Line Refusal) → NeedsMemory request → OrOutOfMemory result request
+    → IsParsed result request
+parsed result request needs (inl e) = inl e
+parsed result request needs (inr e) = inr (e, needs)

@@ -1,0 +1,9 @@
+-- What holds of the definitions, for the crates above.
+use Rattle.mot_repository.specs.Laws.{StandingsAreSound}
+use Rattle.mot_repository.proofs.Soundness.{keeps}
+-- an object's body lies where its extent says
+pub use Rattle.mot_repository.proofs.Bodies.{body_held}
+
+-- what an image of bytes stands for is sound
+pub standings-are_sound : StandingsAreSound
+standings-are_sound = keeps

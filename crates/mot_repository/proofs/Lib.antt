@@ -1,0 +1,23 @@
+pub mod Answering
+mod Bodies
+pub mod Committing
+pub mod Extents
+pub mod FirstFit
+mod FoldRows
+pub mod FoldSteps
+mod Folding
+mod Following
+pub mod Gaps
+pub mod Laws
+mod Layouts
+pub mod Listing
+mod Moved
+pub mod OpenDisk
+mod Places
+pub mod Planned
+pub mod Preparing
+mod Reading
+mod Rewriting
+mod Room
+mod Rows
+pub mod Soundness

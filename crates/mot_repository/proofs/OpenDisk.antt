@@ -1,0 +1,164 @@
+-- What was loaded and folded is in order, and why a disk is not opened.
+use Rattle.std.proofs.Common.{◌≡◌, inl, inr, ⊎_elim, ℕ, ◌≤◌, true, false, List, [], ◌∷◌, map, Ok, Err, All, refl, sym, ap, ◌∙◌, subst, arith}
+use Rattle.std.specs.Prelude.{IsFalse, Result, IsErr, OnOk, is_err}
+use Rattle.std.proofs.Math.Nat.{eq-or-lt_of_le}
+use Rattle.std.specs.List.{AllByRecursion}
+use Rattle.disk_store.specs.Disk.{State, Rises, HasCause, IsStill, IsUnchanged, IsFirm, IsHonestDisk}
+use Rattle.mot_base.specs.Geometry.{length_of}
+use Rattle.mot_base.specs.declared.geometry.Geometry.{Geometry}
+use Rattle.mot_base.specs.declared.refusal.Refusal.{Refusal}
+use Rattle.mot_carousel.specs.declared.carousel.Carousel.{Carousel}
+use Rattle.mot_carousel.specs.declared.object.Object.{Object}
+use Rattle.mot_journal.specs.declared.layout.Layout.{Layout}
+use Rattle.mot_journal.specs.declared.record.Record.{Record}
+use Rattle.mot_journal.specs.declared.record.Action.{Action}
+use Rattle.mot_journal.specs.declared.record.Action.TheVariants.{Nothing, Set, Remove}
+use Rattle.mot_journal.specs.Geometry.{is_valid}
+use Rattle.mot_journal.specs.Slot.{is_sound}
+use Rattle.mot_journal.specs.Catalogue.{Placed, catalogue_of, carousel_in, extents_of, result_then}
+use Rattle.mot_journal.specs.Image.{DiskRecords, records_of, stands_for, area_of}
+use Rattle.mot_journal.specs.Journal.{JournalView, with_records, IsLoadRefusal}
+use Rattle.mot_journal.specs.Journal.IsLoadRefusal.{not_formatted as no_format, damaged as no_record, no_memory as no_room, device as fault}
+use Rattle.mot_repository.specs.Extents.{ArePaired, catalogue_with, objects_in}
+use Rattle.mot_repository.specs.Inner.Fold.{HaveLengths, IsFoldRefusal, HasShortId, HasShortIds}
+use Rattle.mot_repository.specs.Inner.InOrder.{IsInOrder}
+use Rattle.mot_repository.specs.Inner.Loaded.{IsLoaded}
+use Rattle.mot_repository.specs.Opening.{IsOpened, IsOpeningRefusal}
+use Rattle.mot_repository.specs.Opening.IsOpeningRefusal.{not_formatted, damaged, no_memory, device}
+use Rattle.mot_repository.specs.Prepared.{view_with}
+use Rattle.mot_repository.specs.Repository.{RepositoryView}
+use Rattle.mot_repository.proofs.Preparing.{opened}
+use Rattle.mot_repository.proofs.Reading.{by_recursion, IsRead, HasShortId as HasId}
+use Rattle.mot_repository.proofs.Soundness.{whole_fold}
+
+-- ---- refusals
+
+no-records : (image : List ℕ) (refusal : Refusal) → records_of image ≡ Err refusal → stands_for image ≡ Err refusal
+unfolding stands_for
+no-records image refusal e =
+    ap (λ o. result_then o (λ (j : DiskRecords). result_then (catalogue_of j.geometry.objects j.records) (λ c.
+    Ok (record { geometry = j.geometry; carousel = carousel_in (area_of j.geometry image) c; extents = extents_of c })))) e
+
+no-catalogue : (image : List ℕ) (j : JournalView) (records : List Record) (refusal : Refusal) → records_of image ≡ Ok (with_records j records)
+    → catalogue_of j.geometry.objects records ≡ Err refusal → stands_for image ≡ Err refusal
+unfolding stands_for
+no-catalogue image j records refusal read e =
+    ap (λ o. result_then o (λ (k : DiskRecords). result_then (catalogue_of k.geometry.objects k.records) (λ c.
+    Ok (record { geometry = k.geometry; carousel = carousel_in (area_of k.geometry image) c; extents = extents_of c })))) read
+    ∙ ap (λ o. result_then o (λ c. Ok (record { geometry = j.geometry; carousel = carousel_in (area_of j.geometry image) c; extents = extents_of c }))) e
+
+pub load_refused : (old new : State) (refusal : Refusal) → IsLoadRefusal old new refusal → IsOpeningRefusal old new refusal
+load_refused old new refusal (no_format is told) = not_formatted is (λ honest. no-records old.bytes refusal (told honest))
+load_refused old new refusal (no_record slot is told) = damaged slot is (λ honest. no-records old.bytes refusal (told honest))
+load_refused old new refusal (no_room is) = no_memory is
+load_refused old new refusal (fault is rises) = device is rises
+
+pub fold_refused : (old new : State) (j : JournalView) (records : List Record) (refusal : Refusal)
+    → (new.IsHonest → records_of old.bytes ≡ Ok (with_records j records)) → IsFoldRefusal j.geometry.objects records refusal
+    → IsOpeningRefusal old new refusal
+fold_refused old new j records refusal read (inl is) = no_memory is
+fold_refused old new j records refusal read (inr is) =
+    damaged is.0 is.1 (λ honest. no-catalogue old.bytes j records refusal (read honest) is.2)
+
+-- ---- in order
+
+same-id : (a : Action) → HasShortId a → HasId a
+same-id Nothing h = h
+same-id (Remove tid) h = h
+same-id (Set tid version content start size name mime) h = h
+
+are-read : (g : Geometry) (layout : Layout) (records : List Record) → AllByRecursion (λ r. is_sound g layout r ≡ true) records
+    → AllByRecursion HasShortIds records → AllByRecursion (IsRead g layout) records
+are-read g layout [] sound short = tt
+are-read g layout (r ∷ records) sound short = (
+  record { sound = sound.0; directory = short.0.directory; cursor = short.0.cursor; object = same-id r.action short.0.object },
+  are-read g layout records sound.1 short.1,
+)
+
+pub is_in_order : (j : JournalView) (carousel : Carousel) (extents : List (ℕ × ℕ)) (records : List Record) (len : ℕ)
+    → is_valid j.geometry ≡ true → length_of j.geometry ≤ len → All (λ r. is_sound j.geometry j.layout r ≡ true) records
+    → All HasShortIds records → catalogue_of j.geometry.objects records ≡ Ok (catalogue_with carousel extents)
+    → ArePaired carousel extents → IsFalse j.spent → IsInOrder (view_with j carousel extents false) len
+is_in_order j carousel extents records len valid long sound short fold paired going = record {
+  valid = valid;
+  long_enough = long;
+  whole = whole_fold j.geometry j.layout records (catalogue_with carousel extents)
+      (are-read j.geometry j.layout records (by_recursion (λ r. is_sound j.geometry j.layout r ≡ true) records sound) (by_recursion HasShortIds records short)) fold;
+  paired = paired;
+  going = λ goes_on. going;
+}
+
+pub with_geometry : (g h : Geometry) (records : List Record) (refusal : Refusal) → g ≡ h → IsFoldRefusal g.objects records refusal
+    → IsFoldRefusal h.objects records refusal
+with_geometry g h records refusal same is = subst (λ (x : Geometry). IsFoldRefusal x.objects records refusal) same is
+
+-- ---- an open repository
+
+tail : {x y : ℕ} {xs ys : List ℕ} → x ∷ xs ≡ y ∷ ys → xs ≡ ys
+tail e = cc
+
+head : {x y : ℕ} {xs ys : List ℕ} → x ∷ xs ≡ y ∷ ys → x ≡ y
+head e = cc
+
+objects-are : (os : List Object) (es : List (ℕ × ℕ)) → HaveLengths os es → os ≡ map (λ (p : Placed). p.object) (objects_in os es)
+objects-are [] es l = refl
+objects-are (o ∷ os) [] l = cc
+objects-are (o ∷ os) (e ∷ es) l =
+    let sized : ℕ → Object = λ n.
+    record { name = o.name; content = o.content; mime = o.mime; version = o.version; tid = o.tid; length = n } in
+    ap (λ n. sized n ∷ os) (sym (head l)) ∙ ap (λ r. sized e.1 ∷ r) (objects-are os es (tail l))
+
+extents-are : (os : List Object) (es : List (ℕ × ℕ)) → HaveLengths os es → es ≡ map (λ (p : Placed). (p.start, p.object.length)) (objects_in os es)
+extents-are [] [] l = refl
+extents-are [] (e ∷ es) l = cc
+extents-are (o ∷ os) [] l = cc
+extents-are (o ∷ os) (e ∷ es) l = ap (λ r. e ∷ r) (extents-are os es (tail l))
+
+is-opened : (old mid new : State) (j : JournalView) (carousel : Carousel) (extents : List (ℕ × ℕ)) → IsHonestDisk old → IsStill old mid → IsFirm mid
+    → IsUnchanged mid new → IsLoaded mid.bytes j carousel extents → ArePaired carousel extents → IsFalse j.spent
+    → IsOpened old new (view_with j carousel extents false)
+is-opened old mid new j carousel extents sound still firm unchanged loaded paired going =
+    opened (view_with j carousel extents false) old new loaded.records (catalogue_with carousel extents) sound
+    (ap records_of (sym still.bytes) ∙ loaded.read) loaded.fold
+    (record {
+      period = refl;
+      directory = refl;
+      cursor = refl;
+      objects = objects-are carousel.objects.items extents paired;
+      extents = extents-are carousel.objects.items extents paired;
+    })
+    loaded.count going (λ k loose. firm k ((unchanged.loose k).0 loose))
+
+pub is_opened : (old mid new : State) (view : RepositoryView) (j : JournalView) (carousel : Carousel) (extents : List (ℕ × ℕ))
+    → view ≡ view_with j carousel extents false → IsHonestDisk old → IsStill old mid → IsFirm mid
+    → IsUnchanged mid new → IsLoaded mid.bytes j carousel extents → ArePaired carousel extents → IsFalse j.spent
+    → IsOpened old new view
+is_opened old mid new view j carousel extents same sound still firm unchanged loaded paired going =
+    subst (IsOpened old new) (sym same) (is-opened old mid new j carousel extents sound still firm unchanged loaded paired going)
+
+-- ---- a refusal after the sync
+
+rises-on : (old mid new : ℕ) → old ≤ mid → (Rises old mid → ⊥) → Rises mid new → Rises old new
+rises-on old mid new later none (inl lt) = inl (omega (arith, later, lt))
+rises-on old mid new later none (inr is) = ⊎_elim
+    (λ same. inr (same ∙ is))
+    (λ lt. absurd (none (inl lt)))
+    (eq-or-lt_of_le later)
+
+no-err : {T E : Type 0} (r : Result T E) → is_err r ≡ false → IsErr r → ⊥
+no-err (Ok x) e h = cc
+no-err (Err x) e h = cc
+
+pub refused_later : {T E : Type 0} (old mid new : State) (r : Result T E) (refusal : Refusal) → HasCause old mid r → is_err r ≡ false
+    → (new.IsHonest → mid.bytes ≡ old.bytes) → IsOpeningRefusal mid new refusal → IsOpeningRefusal old new refusal
+refused_later old mid new r refusal cause ok same (not_formatted is told) =
+    not_formatted is (λ honest. ap stands_for (sym (same honest)) ∙ told honest)
+refused_later old mid new r refusal cause ok same (damaged slot is told) =
+    damaged slot is (λ honest. ap stands_for (sym (same honest)) ∙ told honest)
+refused_later old mid new r refusal cause ok same (no_memory is) = no_memory is
+refused_later old mid new r refusal cause ok same (device is rises) =
+    device is (rises-on old.failures mid.failures new.failures cause.later (λ risen. no-err r ok (cause.shown risen)) rises)
+
+pub where_ok : {T E : Type 0} {P : Type 0} (r : Result T E) → is_err r ≡ false → OnOk r P → P
+where_ok (Ok x) e p = p
+where_ok (Err x) e p = cc

@@ -1,0 +1,323 @@
+-- What is prepared for a command in memory is that of the command, can be written, and leaves an inventory without faults.
+use Rattle.std.proofs.Common.{◌≡◌, ◌⊎◌, inl, inr, ⊎_elim, Bool, ℕ, ◌+◌, ◌<◌, ◌≤◌, true, false, List, [], ◌∷◌, length, map, Option, Some, None, Err, refl, sym, ap, ◌∙◌, subst, arith}
+use Rattle.std.proofs.lemmas.Bool.{and_parts, false≢true, and_from, le-leb, lt-ltb, ltb-true, false_from_ne_true}
+use Rattle.std.proofs.lemmas.List.Elements.{All-nil, All-cons, All-weaker}
+use Rattle.std.proofs.lemmas.List.Sums.{list_all-from_AllPass}
+use Rattle.std.proofs.lemmas.Slice.Eq.{bytes_eq-Decides}
+use Rattle.std.proofs.lemmas.Str.{is_utf8-from_IsUtf8}
+use Rattle.std.specs.Prelude.{All, IsFalse, IsTrue, ◌↔◌, MatchOption, ◌&&◌, ◌==◌, not, nat_lt, bytes_eq}
+use Rattle.std.specs.List.{AllByRecursion, list_all}
+use Rattle.std.specs.Option.{option_map_or}
+use Rattle.mot_base.specs.Geometry.{area_start}
+use Rattle.mot_base.specs.declared.geometry.Geometry.{Geometry}
+use Rattle.mot_base.specs.declared.refusal.Refusal.{Refusal}
+use Rattle.mot_base.specs.declared.refusal.Refusal.TheVariants.{OutOfMemory}
+use Rattle.mot_carousel.specs.Carousel.{change}
+use Rattle.mot_carousel.specs.Carousel as whole
+use Rattle.mot_carousel.specs.Mime.{IsMime}
+use Rattle.mot_carousel.specs.Name.{IsName}
+use Rattle.mot_carousel.specs.Stands.{object_of, objects_of, carousel_of, bodies_after, IsPlan}
+use Rattle.mot_carousel.specs.declared.carousel.Carousel.{Carousel}
+use Rattle.mot_carousel.specs.declared.command.Command.{Command}
+use Rattle.mot_carousel.specs.declared.command.Command.TheVariants.{Put, Replace, Withdraw, Period}
+use Rattle.mot_carousel.specs.declared.command.Done.{Done}
+use Rattle.mot_carousel.specs.declared.object.Object.{Object}
+use Rattle.mot_journal.specs.Catalogue.{Placed, Catalogue, body_in, carousel_in}
+use Rattle.mot_journal.specs.Geometry.{is_valid, is_within}
+use Rattle.mot_journal.specs.Slot.{is_sound, is_sound_action, is_name, is_mime, longest_name, slot_count}
+use Rattle.mot_journal.specs.declared.layout.Layout.{Layout}
+use Rattle.mot_journal.specs.declared.layout.Layout.TheVariants.{One, Two}
+use Rattle.mot_journal.specs.declared.record.Action.{Action}
+use Rattle.mot_journal.specs.declared.record.Action.TheVariants.{Nothing, Set, Remove}
+use Rattle.mot_journal.specs.declared.record.Record.{Record}
+use Rattle.mot_repository.specs.Answers.{ChangesTo, HasLongName, HasRoomForName, HasNoGap, IsRefusal}
+use Rattle.mot_repository.specs.Extents.{body_of, LiesAtLeastGap, objects_in, catalogue_in, catalogue_with, ArePaired}
+use Rattle.mot_repository.specs.Inner.Planned.{start_of, HasFields, IsTyped}
+use Rattle.mot_repository.specs.Inner.Whole.{IsWhole}
+use Rattle.mot_repository.specs.Laws.{extents_after, records_of_catalogue}
+use Rattle.mot_repository.specs.Prepared.{IsPreparedFor, kept_object_named, kept_set, kept_remove, kept_action, kept_record}
+use Rattle.mot_repository.specs.Ready.{IsPrepared}
+use Rattle.mot_repository.specs.Repository.{RepositoryView}
+use Rattle.mot_repository.specs.declared.prepared.Prepared.{Prepared}
+use Rattle.mot_repository.proofs.Extents.{AreBeside, extents-objects_in, kept_object_named-name}
+use Rattle.mot_repository.proofs.Preparing.{IsMatched, matched, IsKept, all-within, body-length, same-catalogue, same-change, made, Made, some-area, some-slice, some-length, gap-fits}
+use Rattle.mot_repository.proofs.Reading.{IsRead, HasShortId}
+use Rattle.mot_repository.proofs.Rewriting.{fold-all}
+use Rattle.mot_repository.proofs.Soundness.{whole-step, is_rewriting}
+
+-- ---- what is kept in memory, as the catalogue of records
+
+head : {x y : ℕ} {xs ys : List ℕ} → x ∷ xs ≡ y ∷ ys → x ≡ y
+head e = cc
+
+tail : {x y : ℕ} {xs ys : List ℕ} → x ∷ xs ≡ y ∷ ys → xs ≡ ys
+tail e = cc
+
+abbrev placed : Object → ℕ × ℕ → Placed
+placed o e = record {
+  object = record { name = o.name; content = o.content; mime = o.mime; version = o.version; tid = o.tid; length = e.1 };
+  start = e.0;
+}
+
+objects-whole : (area : List ℕ) (os : List Object) (es : List (ℕ × ℕ))
+    → map (λ (p : Placed). object_of p.object (body_in area p)) (objects_in os es)
+    ≡ objects_of os (map (λ (p : Placed). body_in area p) (objects_in os es))
+objects-whole area [] es = refl
+objects-whole area (o ∷ os) [] = refl
+objects-whole area (o ∷ os) (e ∷ es) =
+    ap (λ l. object_of o (body_in area (placed o e)) ∷ l) (objects-whole area os es)
+
+lengths-whole : (g : Geometry) (area : List ℕ) → g.data_area ≤ length area → (os : List Object) (es : List (ℕ × ℕ)) → AreBeside os es
+    → AllByRecursion (λ (p : Placed). p.start + p.object.length ≤ g.data_area) (objects_in os es)
+    → map length (map (λ (p : Placed). body_in area p) (objects_in os es)) ≡ map (λ (o : Object). o.length) os
+lengths-whole g area long [] es b within = refl
+lengths-whole g area long (o ∷ os) [] b within = cc
+lengths-whole g area long (o ∷ os) (e ∷ es) b within =
+    ap (λ n. n ∷ map length (map (λ (p : Placed). body_in area p) (objects_in os es)))
+    (body-length g area (placed o e) within.0 long ∙ head b)
+    ∙ ap (λ l. o.length ∷ l) (lengths-whole g area long os es (tail b) within.1)
+
+pub in_memory : (view : RepositoryView) → is_valid view.journal.geometry ≡ true → IsWhole view.journal.geometry view.journal.layout (catalogue_in view)
+    → ArePaired view.carousel view.extents → IsKept view (records_of_catalogue (catalogue_in view)) (catalogue_in view)
+in_memory view valid is paired =
+    let g : Geometry = view.journal.geometry in
+    let c : Catalogue = catalogue_in view in
+    let os : List Object = view.carousel.objects.items in
+    let es : List (ℕ × ℕ) = view.extents in
+    record {
+      fold = fold-all g.objects c.period c.directory c.cursor c.objects is.good;
+      valid = valid;
+      whole = is;
+      is = refl;
+      extents = sym (extents-objects_in os es paired);
+      carousel = λ area long. ap (λ (l : List whole.Object). let k : whole.Carousel =
+          record { period = c.period; directory = c.directory; cursor = c.cursor; objects = l } in k) (objects-whole area os es);
+      bodies = λ area long. lengths-whole g area long os es paired (all-within g view c.objects is.each);
+    }
+
+-- ---- what is kept after a command
+
+pub record IsAfter (g : Geometry) (layout : Layout) (next : Carousel) (extents : List (ℕ × ℕ)) : Type 0 where
+  pub whole : IsWhole g layout (catalogue_with next extents)
+  pub paired : ArePaired next extents
+
+sizes-of : (g : Geometry) (area : List ℕ) → g.data_area ≤ length area → (ps : List Placed)
+    → AllByRecursion (λ (p : Placed). p.start + p.object.length ≤ g.data_area) ps
+    → map (λ (e : ℕ × ℕ). e.1) (map (λ (p : Placed). (p.start, p.object.length)) ps) ≡ map length (map (λ (p : Placed). body_in area p) ps)
+sizes-of g area long [] within = refl
+sizes-of g area long (p ∷ ps) within =
+    ap (λ n. n ∷ map (λ (e : ℕ × ℕ). e.1) (map (λ (q : Placed). (q.start, q.object.length)) ps)) (sym (body-length g area p within.0 long))
+    ∙ ap (λ l. length (body_in area p) ∷ l) (sizes-of g area long ps within.1)
+
+pub is_after : (view : RepositoryView) (command : Command) (done : Done) (next : Carousel) (from : ℕ) (r : Record) (given : List Record)
+    → IsPreparedFor view command done next from r given → is_valid view.journal.geometry ≡ true
+    → IsWhole view.journal.geometry view.journal.layout (catalogue_in view) → ArePaired view.carousel view.extents
+    → IsRead view.journal.geometry view.journal.layout r
+    → IsAfter view.journal.geometry view.journal.layout next (extents_after (catalogue_in view).objects command from)
+is_after view command done next from r given prepared valid is paired read =
+    let g : Geometry = view.journal.geometry in
+    let c : Catalogue = catalogue_in view in
+    let kept = in_memory view valid is paired in
+    let body : List ℕ = body_of command in
+    let area : List ℕ = some-area from body g.data_area in
+    let long = some-length from body g.data_area in
+    let m : Made view command done next from r given (records_of_catalogue c) c prepared kept area =
+    made view command done next from r given (records_of_catalogue c) c prepared kept area long (some-slice from body g.data_area) in
+    let after : Catalogue = m.0 in
+    let after_whole : IsWhole g view.journal.layout after = whole-step g view.journal.layout c after r read m.1 is in
+    let within = all-within g view after.objects after_whole.each in
+    let bodies : List (List ℕ) = map (λ (p : Placed). body_in area p) c.objects in
+    let change_is = prepared.changes bodies (kept.bodies area long) in
+    let same : carousel_in area after ≡ carousel_of next (bodies_after view.carousel command bodies) =
+    same-change (carousel_in area after) (carousel_of next (bodies_after view.carousel command bodies)) done
+    (sym m.2 ∙ ap (λ k. change k g.objects command) (kept.carousel area long) ∙ change_is.0) in
+    let ms : IsMatched g next.objects.items after.objects = matched g area long next.objects.items (bodies_after view.carousel command bodies) after.objects
+    (sym (ap (λ (k : whole.Carousel). k.objects) same)) change_is.1 within in
+    let extents : List (ℕ × ℕ) = extents_after c.objects command from in
+    let catalogue : catalogue_with next extents ≡ after =
+    same-catalogue next.period after.period next.directory after.directory next.cursor after.cursor (objects_in next.objects.items extents) after.objects
+    (sym (ap (λ (k : whole.Carousel). k.period) same)) (sym (ap (λ (k : whole.Carousel). k.directory) same))
+    (sym (ap (λ (k : whole.Carousel). k.cursor) same)) (ap (objects_in next.objects.items) (sym m.3) ∙ ms.placed) in
+    record {
+      whole = subst (IsWhole g view.journal.layout) (sym catalogue) after_whole;
+      paired = ap (map (λ (e : ℕ × ℕ). e.1)) (sym m.3) ∙ sizes-of g area long after.objects within ∙ ms.sizes area long;
+    }
+
+-- ---- the record of a command has no fault of fields
+
+letter : (b : ℕ) → (nat_lt 32 b && nat_lt b 127) ≡ true → is_within 0x21 0x7E b ≡ true
+letter b e =
+    let h = and_parts (nat_lt 32 b) (nat_lt b 127) e in
+    let low : 32 < b = ltb-true 32 b h.0 in
+    let high : b < 127 = ltb-true b 127 h.1 in
+    and_from _ _ (le-leb 0x21 b (omega arith)) (le-leb b 0x7E (omega arith))
+
+mime-is : (mime : Option (List ℕ)) → MatchOption mime (Unit {0}) IsMime → option_map_or is_mime mime true ≡ true
+mime-is None is = refl
+mime-is (Some bytes) is =
+    let letters : list_all (is_within 0x21 0x7E) bytes ≡ true = list_all-from_AllPass (is_within 0x21 0x7E) bytes
+    (All-weaker (λ b. (nat_lt 32 b && nat_lt b 127) ≡ true) (λ b. is_within 0x21 0x7E b ≡ true) letter bytes is.printed) in
+    let other : bytes_eq bytes (45 ∷ []) ≡ false =
+    false_from_ne_true (bytes_eq bytes (45 ∷ [])) (λ e. is.named ((bytes_eq-Decides bytes (45 ∷ [])).0 e)) in
+    and_from _ _ (and_from _ _ (and_from _ _ (le-leb 1 (length bytes) is.some) (le-leb (length bytes) 64 is.short)) letters) (ap not other)
+
+name-is : (longest : ℕ) (bytes : List ℕ) → IsName bytes → length bytes ≤ longest → is_name longest bytes ≡ true
+name-is longest bytes is short =
+    and_from _ _ (and_from _ _ (and_from _ _ (le-leb 1 (length bytes) is.some) (le-leb (length bytes) longest short)) (is_utf8-from_IsUtf8 bytes is.text))
+    (list_all-from_AllPass (λ b. nat_lt 32 b && not (b == 127)) bytes is.printed)
+
+-- what an object that is set needs beside what its types keep
+abbrev Fits : Geometry → Layout → Action → Type 0
+Fits g layout Nothing = Unit {0}
+Fits g layout (Remove tid) = Unit {0}
+Fits g layout (Set tid version content start size name mime) = (start + size ≤ g.data_area) × (layout ≡ One → 100 < length name → ⊥)
+
+short-name : (layout : Layout) (name : List ℕ) → IsName name → (layout ≡ One → 100 < length name → ⊥) → length name ≤ longest_name layout
+short-name One name is short = let no : 100 < length name → ⊥ = short refl in omega (arith, no)
+short-name Two name is short = is.short
+
+sound-action : (g : Geometry) (layout : Layout) (a : Action) → HasFields a → Fits g layout a → is_sound_action g layout a ≡ true
+sound-action g layout Nothing is fits = refl
+sound-action g layout (Remove tid) is fits = lt-ltb 0 tid is.0
+sound-action g layout (Set tid version content start size name mime) is fits =
+    and_from _ _ (and_from _ _ (and_from _ _ (and_from _ _ (and_from _ _ (and_from _ _ (lt-ltb 0 tid is.id.0)
+    (le-leb content.content_type 63 is.kind)) (le-leb content.subtype 511 is.subkind))
+    (and_from _ _ (le-leb 1 size is.some) (le-leb size 262144 is.short))) (le-leb (start + size) g.data_area fits.0))
+    (name-is (longest_name layout) name is.is_name (short-name layout name is.is_name fits.1))) (mime-is mime is.is_mime)
+
+-- a command's object is set under its name
+set-fits : (g : Geometry) (layout : Layout) (name : List ℕ) (from size : ℕ) (items : List Object) (o : Option Object) → kept_object_named name items ≡ o
+    → from + size ≤ g.data_area → (layout ≡ One → 100 < length name → ⊥) → Fits g layout (kept_set from size o)
+set-fits g layout name from size items None is le short = tt
+set-fits g layout name from size items (Some o) is le short =
+    (le, subst (λ (n : List ℕ). layout ≡ One → 100 < length n → ⊥) (sym (kept_object_named-name name items o is)) short)
+
+remove-fits : (g : Geometry) (layout : Layout) (o : Option Object) → Fits g layout (kept_remove o)
+remove-fits g layout None = tt
+remove-fits g layout (Some o) = tt
+
+action-fits : (g : Geometry) (layout : Layout) (extents : List (ℕ × ℕ)) (old next : Carousel) (command : Command) (from : ℕ)
+    → start_of extents g.data_area command ≡ Some from → (layout ≡ One → HasLongName command → ⊥)
+    → Fits g layout (kept_action old next command from)
+action-fits g layout extents old next (Put name content mime body) from lies short =
+    set-fits g layout name from (length body) next.objects.items (kept_object_named name next.objects.items) refl
+    (gap-fits extents (length body) g.data_area from lies).0 short
+action-fits g layout extents old next (Replace name content mime body) from lies short =
+    set-fits g layout name from (length body) next.objects.items (kept_object_named name next.objects.items) refl
+    (gap-fits extents (length body) g.data_area from lies).0 short
+action-fits g layout extents old next (Withdraw name) from lies short = remove-fits g layout (kept_object_named name old.objects.items)
+action-fits g layout extents old next (Period period) from lies short = tt
+
+short-id : (a : Action) → HasFields a → HasShortId a
+short-id Nothing is = tt
+short-id (Remove tid) is = is.1
+short-id (Set tid version content start size name mime) is = is.id.1
+
+is_read : (g : Geometry) (layout : Layout) (r : Record) → IsTyped r → Fits g layout r.action → IsRead g layout r
+is_read g layout r typed fits = record {
+  sound = and_from _ _ (and_from _ _ (lt-ltb 0 r.directory typed.directory.0) (lt-ltb 0 r.cursor typed.cursor.0))
+      (sound-action g layout r.action typed.action fits);
+  directory = typed.directory.1;
+  cursor = typed.cursor.1;
+  object = short-id r.action typed.action;
+}
+
+-- ---- what is prepared
+
+lies-at : (view : RepositoryView) (command : Command) (from : ℕ) → start_of view.extents view.journal.geometry.data_area command ≡ Some from
+    → LiesAtLeastGap view command from
+lies-at view (Put name content mime body) from e = e
+lies-at view (Replace name content mime body) from e = e
+lies-at view (Withdraw name) from e = cc
+lies-at view (Period period) from e = cc
+
+body-within : (g : Geometry) (extents : List (ℕ × ℕ)) (command : Command) (from : ℕ) → start_of extents g.data_area command ≡ Some from
+    → from + length (body_of command) ≤ g.data_area
+body-within g extents (Put name content mime body) from e = (gap-fits extents (length body) g.data_area from e).0
+body-within g extents (Replace name content mime body) from e = (gap-fits extents (length body) g.data_area from e).0
+body-within g extents (Withdraw name) from e = let zero_is : from ≡ 0 = cc in omega arith
+body-within g extents (Period period) from e = let zero_is : from ≡ 0 = cc in omega arith
+
+pub no-gap : (view : RepositoryView) (command : Command) → start_of view.extents view.journal.geometry.data_area command ≡ None → HasNoGap view command
+no-gap view (Put name content mime body) e = e
+no-gap view (Replace name content mime body) e = e
+no-gap view (Withdraw name) e = cc
+no-gap view (Period period) e = cc
+
+all-of : {X : Type 0} (P : X → Type 0) (xs : List X) → AllByRecursion P xs → All P xs
+all-of P [] a = All-nil P
+all-of P (x ∷ xs) a = All-cons P x xs a.0 (all-of P xs a.1)
+
+few-slots : (g : Geometry) (layout : Layout) (n : ℕ) → n ≤ g.objects + 1 → n < slot_count layout g
+few-slots g One n le = omega arith
+few-slots g Two n le = omega arith
+
+-- what was worked out for a command
+pub record IsWorkedOut (view : RepositoryView) (command : Command) (next : Carousel) (done : Done) (from : ℕ) (r : Record) : Type 0 where
+  pub valid : is_valid view.journal.geometry ≡ true
+  pub whole : IsWhole view.journal.geometry view.journal.layout (catalogue_in view)
+  pub paired : ArePaired view.carousel view.extents
+  pub room : HasRoomForName view command
+  pub changes : ChangesTo view.carousel view.journal.geometry.objects command next done
+  pub lies : start_of view.extents view.journal.geometry.data_area command ≡ Some from
+  pub record_is : r ≡ kept_record view.carousel next command from
+  pub typed : IsTyped r
+
+module _ (view : RepositoryView) (command : Command) (next : Carousel) (done : Done) (from : ℕ) (r : Record)
+    (is : IsWorkedOut view command next done from r) where
+  prepared : IsPreparedFor view command done next from r (records_of_catalogue (catalogue_in view))
+  prepared = record { changes = is.changes; lies = lies-at view command from is.lies; record_is = is.record_is; given_is = refl }
+
+  read : IsRead view.journal.geometry view.journal.layout r
+  read = is_read view.journal.geometry view.journal.layout r is.typed
+      (subst (λ (q : Record). Fits view.journal.geometry view.journal.layout q.action) (sym is.record_is)
+      (action-fits view.journal.geometry view.journal.layout view.extents view.carousel next command from is.lies is.room))
+
+  pub kept_after : IsAfter view.journal.geometry view.journal.layout next (extents_after (catalogue_in view).objects command from)
+  kept_after = is_after view command done next from r (records_of_catalogue (catalogue_in view)) prepared is.valid is.whole is.paired read
+
+pub prepared_is : (view : RepositoryView) (command : Command) (p : Prepared) (from : ℕ)
+    → IsWorkedOut view command p.inventory.carousel p.done from p.record → p.given.items ≡ records_of_catalogue (catalogue_in view)
+    → p.at ≡ area_start view.journal.geometry + from → p.body.items ≡ body_of command
+    → p.inventory.extents.items ≡ extents_after (catalogue_in view).objects command from → IsPrepared view command p
+prepared_is view command p from is given at body extents =
+    let g : Geometry = view.journal.geometry in
+    let layout : Layout = view.journal.layout in
+    let rewriting = is_rewriting g layout (catalogue_in view) is.whole in
+    let within = body-within g view.extents command from is.lies in
+    let size : length p.body.items ≡ length (body_of command) = ap length body in
+    record {
+      change = record {
+        from = from;
+        at_is = at;
+        body_is = body;
+        prepared = record { changes = is.changes; lies = lies-at view command from is.lies; record_is = is.record_is; given_is = given };
+        extents_are = extents;
+      };
+      some = subst (λ (l : List Record). 0 < length l) (sym given) rewriting.some;
+      few = subst (λ (l : List Record). length l < slot_count layout g) (sym given)
+          (few-slots g layout (length (records_of_catalogue (catalogue_in view))) rewriting.few);
+      sound_given = subst (λ (l : List Record). All (λ q. is_sound g layout q ≡ true) l) (sym given)
+          (all-of (λ q. is_sound g layout q ≡ true) (records_of_catalogue (catalogue_in view)) rewriting.sound);
+      sound = (read view command p.inventory.carousel p.done from p.record is).sound;
+      within = omega (arith, at, within, size);
+      whole = subst (λ (l : List (ℕ × ℕ)). IsWhole g layout (catalogue_with p.inventory.carousel l)) (sym extents)
+          (kept_after view command p.inventory.carousel p.done from p.record is).whole;
+    }
+
+-- ---- refusals
+
+is-memory : (r : Refusal) → (r ≡ OutOfMemory) ⊎ (r ≡ OutOfMemory → ⊥)
+is-memory OutOfMemory = inl refl
+is-memory _ = inr (λ e. cc)
+
+pub plan_refused : (view : RepositoryView) (command : Command) (refusal : Refusal) → IsFalse view.halted → HasRoomForName view command
+    → IsPlan view.carousel view.journal.geometry.objects command (Err refusal) → IsRefusal view command refusal
+plan_refused view command refusal going room plan = ⊎_elim
+    (λ memory. IsRefusal.no_memory going room memory)
+    (λ other. IsRefusal.by_rules going room (λ bodies b. ⊎_elim (λ memory. absurd (other memory)) (λ e. e) (plan bodies b)))
+    (is-memory refusal)
+
+pub has_room : (view : RepositoryView) (layout : Layout) (command : Command) (b : Bool) → (IsTrue b ↔ ((layout ≡ One) × HasLongName command))
+    → b ≡ false → view.journal.layout ≡ layout → HasRoomForName view command
+has_room view layout command b iff isnt same = λ e long. false≢true (sym isnt ∙ iff.1 (sym same ∙ e, long))

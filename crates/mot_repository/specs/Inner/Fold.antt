@@ -1,0 +1,47 @@
+-- What the code that folds records says of its lists.
+use Rattle.std.specs.Prelude.{◌≡◌, ◌≤◌, ◌⊎◌, ℕ, Bool, true, false, ◌&&◌, List, [], ◌∷◌, map}
+use Rattle.std.specs.Prelude.{Option, Some, None, Err}
+use Rattle.mot_base.specs.declared.refusal.Refusal.{Refusal}
+use Rattle.mot_base.specs.declared.refusal.Refusal.TheVariants.{OutOfMemory, Damaged}
+use Rattle.mot_carousel.specs.declared.object.Object.{Object}
+use Rattle.mot_journal.specs.declared.record.Record.{Record}
+use Rattle.mot_journal.specs.declared.record.Action.{Action}
+use Rattle.mot_journal.specs.declared.record.Action.TheVariants.{Nothing, Set, Remove}
+use Rattle.mot_journal.specs.Catalogue.{Placed, catalogue_of, put_in_place, in_place_or_appended}
+use Rattle.mot_repository.specs.Gap.{is_free}
+
+-- there is an extent for each of these objects, of the length that it gives
+abbrev pub HaveLengths : List Object → List (ℕ × ℕ) → Type 0
+HaveLengths objects extents =
+    map (λ (e : ℕ × ℕ). e.1) extents ≡ map (λ (o : Object). o.length) objects
+
+-- no two extents meet
+abbrev pub are_extents_apart : List (ℕ × ℕ) → Bool
+are_extents_apart [] = true
+are_extents_apart (e ∷ rest) = is_free rest e.1 e.0 && are_extents_apart rest
+
+-- these objects, if an action was done
+abbrev pub if_done : Bool → List Placed → Option (List Placed)
+if_done true objects = Some objects
+if_done false objects = None
+
+-- the objects with this one in the place of the one of its name, or behind the others
+abbrev pub objects_set : ℕ → Placed → List Placed → Option (List Placed)
+objects_set limit p objects = in_place_or_appended limit p objects (put_in_place p objects)
+
+-- want of memory, or the first record that makes a fault of the list
+abbrev pub IsFoldRefusal : ℕ → List Record → Refusal → Type 0
+IsFoldRefusal limit records refusal = (refusal ≡ OutOfMemory)
+    ⊎ ((slot : ℕ) × (refusal ≡ Damaged slot) × (catalogue_of limit records ≡ Err refusal))
+
+-- the object's id of an action, if it has one, is a number of two bytes
+abbrev pub HasShortId : Action → Type 0
+HasShortId Nothing = Unit {0}
+HasShortId (Remove tid) = tid ≤ 65535
+HasShortId (Set tid version content start size name mime) = tid ≤ 65535
+
+-- the ids of a record are numbers of two bytes
+pub record HasShortIds (r : Record) : Type 0 where
+  pub directory : r.directory ≤ 65535
+  pub cursor : r.cursor ≤ 65535
+  pub object : HasShortId r.action

@@ -1,0 +1,43 @@
+-- What is worked out for a command, in memory alone.
+use Rattle.std.specs.Prelude.{ℕ, ◌≤◌, List, length, Option, Some, MatchOption}
+use Rattle.mot_carousel.specs.declared.command.Command.{Command}
+use Rattle.mot_carousel.specs.declared.command.Command.TheVariants.{Put, Replace, Withdraw, Period}
+use Rattle.mot_carousel.specs.Content.{ContentNumbers}
+use Rattle.mot_carousel.specs.Name.{IsName}
+use Rattle.mot_carousel.specs.Mime.{IsMime}
+use Rattle.mot_journal.specs.declared.record.Record.{Record}
+use Rattle.mot_journal.specs.declared.record.Action.{Action}
+use Rattle.mot_journal.specs.declared.record.Action.TheVariants.{Nothing, Set, Remove}
+use Rattle.mot_repository.specs.Gap.{least_gap}
+
+-- where the body of a command goes, 0 where it brings none; none where no gap holds it
+abbrev pub start_of : List (ℕ × ℕ) → ℕ → Command → Option ℕ
+start_of extents size (Put name content mime body) = least_gap extents (length body) size
+start_of extents size (Replace name content mime body) = least_gap extents (length body) size
+start_of extents size (Withdraw name) = Some 0
+start_of extents size (Period period) = Some 0
+
+abbrev pub IsId : ℕ → Type 0
+IsId id = (1 ≤ id) × (id ≤ 65535)
+
+-- what the types of the fields keep of an object that is set
+pub record AreFields (tid : ℕ) (content : ContentNumbers) (size : ℕ) (name : List ℕ)
+    (mime : Option (List ℕ)) : Type 0 where
+  pub id : IsId tid
+  pub kind : content.content_type ≤ 63
+  pub subkind : content.subtype ≤ 511
+  pub some : 1 ≤ size
+  pub short : size ≤ 262144
+  pub is_name : IsName name
+  pub is_mime : MatchOption mime (Unit {0}) IsMime
+
+abbrev pub HasFields : Action → Type 0
+HasFields Nothing = Unit {0}
+HasFields (Remove tid) = IsId tid
+HasFields (Set tid version content start size name mime) = AreFields tid content size name mime
+
+-- what the types of its fields keep of a record
+pub record IsTyped (r : Record) : Type 0 where
+  pub directory : IsId r.directory
+  pub cursor : IsId r.cursor
+  pub action : HasFields r.action

@@ -1,0 +1,10 @@
+pub mod Answers
+pub mod Extents
+pub mod Gap
+pub mod Inner
+pub mod Laws
+pub mod OnDisk
+pub mod Opening
+pub mod Prepared
+pub mod Ready
+pub mod Repository

@@ -1,0 +1,47 @@
+-- What an opening gives, and why a disk is not opened.
+use Rattle.std.specs.Prelude.{◌≡◌, ◌⊎◌, ℕ, List, length, map, Ok, Err, IsFalse}
+use Rattle.disk_store.specs.Disk.{State, Rises, IsFirm}
+use Rattle.mot_base.specs.declared.refusal.Refusal.{Refusal}
+use Rattle.mot_base.specs.declared.refusal.Refusal.TheVariants.{OutOfMemory, DeviceFault}
+use Rattle.mot_base.specs.declared.refusal.Refusal.TheVariants.{NotFormatted, Damaged}
+use Rattle.mot_journal.specs.declared.record.Record.{Record}
+use Rattle.mot_journal.specs.Catalogue.{Placed, Catalogue, extents_of}
+use Rattle.mot_journal.specs.Image.{Standing, records_of, stands_for}
+use Rattle.mot_journal.specs.Journal.{with_records}
+use Rattle.mot_repository.specs.Repository.{RepositoryView, Agrees}
+
+-- what is kept in memory is this catalogue
+pub record KeepsCatalogue (view : RepositoryView) (c : Catalogue) : Type 0 where
+  pub period : view.carousel.period ≡ c.period
+  pub directory : view.carousel.directory ≡ c.directory
+  pub cursor : view.carousel.cursor ≡ c.cursor
+  pub objects : view.carousel.objects.items ≡ map (λ (p : Placed). p.object) c.objects
+  pub extents : view.extents ≡ extents_of c
+
+-- An open repository keeps what the bytes stand for, and no position of the disk is loose.
+pub record IsOpened (old new : State) (view : RepositoryView) : Type 0 where
+  pub standing : Standing
+  pub stands : stands_for old.bytes ≡ Ok standing
+  pub agrees : Agrees view standing
+  pub firm : IsFirm new
+  -- its journal stands where the bytes have their records
+  pub records : List Record
+  pub read : records_of old.bytes ≡ Ok (with_records view.journal records)
+  pub count : view.journal.count ≡ length records
+  pub unspent : IsFalse view.journal.spent
+
+-- Of a disk that is honest afterwards `NotFormatted` and `Damaged` are told where its bytes stand
+-- for nothing, with the slot.
+pub data IsOpeningRefusal (old new : State) (refusal : Refusal) : Type 0 where
+  not_formatted : refusal ≡ NotFormatted
+      → (new.IsHonest → stands_for old.bytes ≡ Err refusal) → IsOpeningRefusal old new refusal
+  damaged : (slot : ℕ) → refusal ≡ Damaged slot
+      → (new.IsHonest → stands_for old.bytes ≡ Err refusal) → IsOpeningRefusal old new refusal
+  no_memory : refusal ≡ OutOfMemory → IsOpeningRefusal old new refusal
+  device : refusal ≡ DeviceFault → Rises old.failures new.failures
+      → IsOpeningRefusal old new refusal
+
+-- want of memory, or a failure of the device
+abbrev pub IsPassing : State → State → Refusal → Type 0
+IsPassing old new refusal = (refusal ≡ OutOfMemory)
+    ⊎ ((refusal ≡ DeviceFault) × Rises old.failures new.failures)

@@ -1,0 +1,63 @@
+-- A repository, its disk, and what both stand for.
+use Rattle.std.specs.Prelude.{◌≡◌, ◌⊎◌, ℕ, zero, suc, Bool, List, [], ◌∷◌, Ok, IsFalse}
+use Rattle.disk_store.specs.Disk.{State}
+use Rattle.mot_carousel.specs.declared.carousel.Carousel.{Carousel}
+use Rattle.mot_carousel.specs.declared.command.Command.{Command}
+use Rattle.mot_carousel.specs.declared.command.Done.{Done}
+use Rattle.mot_carousel.specs.Carousel.{Object, change}
+use Rattle.mot_carousel.specs.Stands.{carousel_of, AreBodiesOf}
+use Rattle.mot_journal.specs.declared.record.Record.{Record}
+use Rattle.mot_journal.specs.Journal.{JournalView, HoldsRecords}
+use Rattle.mot_journal.specs.Image.{Standing, stands_for, IsClean}
+
+-- what a repository keeps in memory
+pub record RepositoryView : Type 0 where
+  -- where its journal stands: the geometry, the selected half, its layout, and how many of its
+  -- gates are open
+  pub journal : JournalView
+  -- the carousel without its bodies, which lie on the disk
+  pub carousel : Carousel
+  -- for each object, where in the data area its body begins, and its length
+  pub extents : List (ℕ × ℕ)
+  -- a device fault has come in a change, and the disk was not opened again
+  pub halted : Bool
+
+-- the body of the object at this place
+abbrev pub body_at : List Object → ℕ → List ℕ
+body_at [] place = []
+body_at (o ∷ objects) zero = o.body
+body_at (o ∷ objects) (suc place) = body_at objects place
+
+-- the image is clean and stands for this
+pub record IsOf (s : Standing) (image : List ℕ) : Type 0 where
+  pub stands : stands_for image ≡ Ok s
+  pub clean : IsClean image
+
+-- the bodies that stand beside the carousel in memory make it the one on the disk
+pub record Agrees (view : RepositoryView) (s : Standing) : Type 0 where
+  pub geometry : view.journal.geometry ≡ s.geometry
+  pub extents : view.extents ≡ s.extents
+  pub bodies : List (List ℕ)
+  pub are_bodies : AreBodiesOf view.carousel bodies
+  pub carousel : s.carousel ≡ carousel_of view.carousel bodies
+
+-- The one fact that every call of an open repository or server starts from and leaves: it is not
+-- halted, the disk is honest, and each image that a crash now may leave is clean, has the same
+-- records where the journal stands, and stands for what the repository keeps.
+pub record Holds (view : RepositoryView) (s : Standing) (state : State) : Type 0 where
+  pub going : IsFalse view.halted
+  pub agrees : Agrees view s
+  pub records : List Record
+  pub journal : HoldsRecords view.journal records state
+  pub each : (image : List ℕ) → state.MayLeave image → IsOf s image
+
+-- one stands for what the command makes of the other, and these are the ids that it took
+pub record IsNext (s : Standing) (command : Command) (done : Done) (next : Standing) : Type 0 where
+  pub geometry : next.geometry ≡ s.geometry
+  pub change_is : change s.carousel s.geometry.objects command ≡ Ok (next.carousel, done)
+
+-- it stands for what was there before the command, or for what the command makes of it
+abbrev pub IsBeforeOrAfter : Standing → Command → List ℕ → Type 0
+IsBeforeOrAfter s command image =
+    IsOf s image
+    ⊎ ((done : Done) × (next : Standing) × IsNext s command done next × IsOf next image)

@@ -1,0 +1,120 @@
+//! A commit as a whole: room in the half, the body, and the record.
+ghost use Rattle.std.specs.Prelude.{◌≡◌, ◌+◌, ◌≤◌, ◌<◌, ℕ, List, true, length, Ok, OnOk, OnErr};
+ghost use Rattle.std.specs.Prelude.{All, IfErr, IsFalse};
+ghost use Rattle.disk_store.specs.Disk.{Keeps, HasCause, Throughout};
+ghost use Rattle.mot_base.specs.declared.refusal.Refusal.TheVariants.{DeviceFault};
+ghost use Rattle.mot_base.specs.Geometry.{area_start, length_of};
+ghost use Rattle.mot_carousel.specs.declared.carousel.Carousel.{Carousel};
+ghost use Rattle.mot_carousel.specs.declared.command.Command.{Command};
+ghost use Rattle.mot_carousel.specs.declared.command.Done.{Done};
+ghost use Rattle.mot_journal.specs.Slot.{is_sound, slot_count};
+ghost use Rattle.mot_journal.specs.Catalogue.{Catalogue, catalogue_of};
+ghost use Rattle.mot_journal.specs.Image.{Standing};
+ghost use Rattle.mot_repository.specs.Laws.{extents_after, RecordsFollowCommands};
+ghost use Rattle.mot_repository.specs.Laws.{RewritingKeepsTheCatalogue, StandingsAreSound};
+ghost use Rattle.mot_repository.specs.Extents.{body_of, catalogue_in};
+ghost use Rattle.mot_repository.specs.Prepared.{IsPreparedFor, HasRoom};
+ghost use Rattle.mot_repository.specs.Repository.{RepositoryView, IsOf, Holds, IsNext};
+ghost use Rattle.mot_repository.specs.Repository.{IsBeforeOrAfter};
+
+use crate::writing::write_change;
+use disk_store::Disk;
+use mot_base::Refusal;
+use mot_journal::{Journal, Record};
+
+// Where the half is full, writes the given records into the other one, and selects it.
+fn make_room<D: Disk>(journal: &mut Journal, disk: &mut D, given: &[Record]) -> Result<(), Refusal>
+    requires going { IsFalse journal.old.spent }
+    requires long_enough { length_of journal.old.geometry ≤ (D.state disk.old).len }
+    requires some { 0 < length given.now }
+    requires few { length given.now < slot_count journal.old.layout journal.old.geometry }
+    requires sound { All (λ r. is_sound journal.old.geometry journal.old.layout r ≡ true)
+        given.now }
+
+    ensures keeps { Keeps (D.state disk.old) (D.state disk.new) }
+    ensures cause { OnErr result (HasCause (D.state disk.old) (D.state disk.new) result) }
+    ensures calm { OnOk result ((D.state disk.new).failures ≡ (D.state disk.old).failures) }
+    ensures fault { IfErr result (λ refusal. refusal ≡ DeviceFault) }
+    ensures geometry { journal.new.geometry ≡ journal.old.geometry }
+    ensures layout { journal.new.layout ≡ journal.old.layout }
+    ensures going { OnOk result (IsFalse journal.new.spent) }
+    ensures not_full { OnOk result
+        (journal.new.count < slot_count journal.new.layout journal.new.geometry) }
+    ensures any_moment { (view : RepositoryView) (s : Standing) (c : Catalogue)
+        → view.journal ≡ journal.old → (holds : Holds view s (D.state disk.old))
+        → catalogue_of view.journal.geometry.objects holds.records ≡ Ok c
+        → catalogue_of view.journal.geometry.objects given.now ≡ Ok c
+        → Throughout (D.state disk.old) (D.state disk.new) (IsOf s) }
+    ensures room { (view : RepositoryView) (s : Standing) (c : Catalogue)
+        → view.journal ≡ journal.old → (holds : Holds view s (D.state disk.old))
+        → catalogue_of view.journal.geometry.objects holds.records ≡ Ok c
+        → catalogue_of view.journal.geometry.objects given.now ≡ Ok c
+        → OnOk result (HasRoom s holds.records given.now journal.new (D.state disk.new)) }
+{
+    if !journal.is_full() {
+        return Ok(());
+    }
+    let Ok(()) = journal.rewrite(disk, given) else {
+        return Err(Refusal::DeviceFault);
+    };
+    Ok(())
+}
+
+/// Writes what is prepared for a command: where the half is full, the given records into the other
+/// one; then the body into its gap, and the record.
+pub fn commit_change<D: Disk>(
+    journal: &mut Journal,
+    disk: &mut D,
+    given: &[Record],
+    at: u64,
+    body: &[u8],
+    entry: &Record,
+) -> Result<(), Refusal>
+    requires going { IsFalse journal.old.spent }
+    requires long_enough { length_of journal.old.geometry ≤ (D.state disk.old).len }
+    requires some { 0 < length given.now }
+    requires few { length given.now < slot_count journal.old.layout journal.old.geometry }
+    requires sound_given { All (λ r. is_sound journal.old.geometry journal.old.layout r ≡ true)
+        given.now }
+    requires sound { is_sound journal.old.geometry journal.old.layout entry.now ≡ true }
+    requires within { at + length body.now ≤ (D.state disk.old).len }
+
+    ensures keeps { Keeps (D.state disk.old) (D.state disk.new) }
+    ensures cause { HasCause (D.state disk.old) (D.state disk.new) result }
+    ensures fault { IfErr result (λ refusal. refusal ≡ DeviceFault) }
+    ensures geometry { journal.new.geometry ≡ journal.old.geometry }
+    ensures layout { journal.new.layout ≡ journal.old.layout }
+    ensures going { OnOk result (IsFalse journal.new.spent) }
+
+    // What this rests on: records follow commands, a rewrite keeps the catalogue, and no fault of
+    // fields or of the list leaves a sound carousel.
+    ensures follows { RecordsFollowCommands }
+    ensures rewriting { RewritingKeepsTheCatalogue }
+    ensures standings { StandingsAreSound }
+
+    // At each moment a crash leaves what was there before the command, or what it makes of that.
+    ensures any_moment { (view : RepositoryView) (s : Standing) (command : Command) (done : Done)
+        (next : Carousel) (from : ℕ)
+        → view.journal ≡ journal.old → at ≡ area_start view.journal.geometry + from
+        → body.now ≡ body_of command
+        → IsPreparedFor view command done next from entry.now given.now
+        → Holds view s (D.state disk.old)
+        → Throughout (D.state disk.old) (D.state disk.new) (IsBeforeOrAfter s command) }
+
+    // Once it is Ok, what the command makes of it holds: in memory the carousel that was prepared,
+    // and its extents.
+    ensures ok { (view : RepositoryView) (s : Standing) (command : Command) (done : Done)
+        (next : Carousel) (from : ℕ)
+        → view.journal ≡ journal.old → at ≡ area_start view.journal.geometry + from
+        → body.now ≡ body_of command
+        → IsPreparedFor view command done next from entry.now given.now
+        → Holds view s (D.state disk.old)
+        → OnOk result ((last : Standing) × IsNext s command done last
+        × ((view' : RepositoryView) → view'.journal ≡ journal.new → IsFalse view'.halted
+        → view'.carousel ≡ next
+        → view'.extents ≡ extents_after (catalogue_in view).objects command from
+        → Holds view' last (D.state disk.new))) }
+{
+    make_room(journal, disk, given)?;
+    write_change(journal, disk, at, body, entry)
+}

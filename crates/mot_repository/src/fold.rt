@@ -1,0 +1,302 @@
+// The records of a journal, folded into the carousel that is kept in memory.
+ghost use Rattle.mot_base.specs.declared.geometry.TheConstants.{MAX_OBJECTS};
+ghost use Rattle.std.specs.Prelude.{◌≡◌, ◌≤◌, ◌<◌, ◌∷◌, map, length, vec_len, vec_capacity};
+ghost use Rattle.std.specs.Prelude.{All, Ok, Some, None, IfOk, IfErr, IfSome, MatchOption};
+ghost use Rattle.std.specs.Prelude.{nat_eq, position};
+ghost use Rattle.std.specs.List.{list_any};
+ghost use Rattle.mot_carousel.specs.Ids.{is_distinct};
+ghost use Rattle.mot_carousel.specs.Stands.{place_of};
+ghost use Rattle.mot_carousel.specs.declared.object.Object.{Object};
+ghost use Rattle.mot_journal.specs.Catalogue.{new_catalogue, catalogue_after, catalogue_of};
+ghost use Rattle.mot_journal.specs.Catalogue.{objects_after, objects_without, is_consistent};
+ghost use Rattle.mot_repository.specs.Extents.{catalogue_with, objects_in};
+ghost use Rattle.mot_repository.specs.Inner.Fold.{HaveLengths, are_extents_apart};
+ghost use Rattle.mot_repository.specs.Inner.Fold.{if_done, objects_set};
+ghost use Rattle.mot_repository.specs.Inner.Fold.{IsFoldRefusal, HasShortId, HasShortIds};
+
+use crate::gap::end_of_met;
+use crate::inventory::Inventory;
+use mot_base::{Geometry, Refusal, TransportId};
+use mot_carousel::{Carousel, Name, Object, Period};
+use mot_journal::{Action, Record};
+use std::alloc::{AllocError, Global};
+
+/// The carousel that these records of a disk of this geometry stand for; `Damaged` with the number
+/// of the first that makes a fault of the list, and `OutOfMemory`.
+pub(crate) fn inventory_of(
+    alloc: Global,
+    geometry: &Geometry,
+    records: Vec<Record>,
+) -> Result<Inventory, Refusal>
+    requires few { geometry.now.objects ≤ MAX_OBJECTS }
+    requires numbered { vec_len records ≤ 65536 }
+    ensures folded { IfOk result (λ i. catalogue_of geometry.now.objects records.items
+        ≡ Ok (catalogue_with i.carousel i.extents.items)) }
+    ensures short { IfOk result (λ _. All HasShortIds records.items) }
+    ensures refused { IfErr result
+        (λ refusal. IsFoldRefusal geometry.now.objects records.items refusal) }
+{
+    let limit = geometry.objects;
+    let mut inventory = new_inventory(alloc, limit)?;
+    let mut slot: usize = 0;
+    for entry in records {
+        know_ids(&entry);
+        match inventory_after(inventory, limit, entry) {
+            Some(next) => inventory = next,
+            None => return Err(Refusal::Damaged(slot as u16)),
+        }
+        slot += 1;
+    }
+    Ok(inventory)
+}
+
+/// What the types of a record's ids say: they are numbers of two bytes.
+fn know_ids(entry: &Record)
+    ensures { HasShortIds entry.now }
+{
+    entry.directory.get();
+    entry.cursor.get();
+    know_object_id(&entry.action);
+}
+
+fn know_object_id(action: &Action)
+    ensures { HasShortId action.now }
+{
+    match action {
+        Action::Nothing => {}
+        Action::Set { tid, .. } | Action::Remove { tid } => {
+            tid.get();
+        }
+    }
+}
+
+/// No objects, with room for so many.
+fn new_inventory(alloc: Global, limit: u16) -> Result<Inventory, AllocError>
+    ensures new { IfOk result (λ i. catalogue_with i.carousel i.extents.items ≡ new_catalogue) }
+    ensures room { IfOk result (λ i. limit ≤ vec_capacity i.carousel.objects) }
+    ensures room_of_extents { IfOk result (λ i. limit ≤ vec_capacity i.extents) }
+{
+    let objects = Vec::with_capacity(alloc, usize::from(limit))?;
+    let extents = Vec::with_capacity(alloc, usize::from(limit))?;
+    Ok(Inventory {
+        carousel: Carousel {
+            period: Period::ZERO,
+            directory: TransportId::FIRST,
+            cursor: TransportId::FIRST,
+            objects,
+        },
+        extents,
+    })
+}
+
+/// What it is after one record more; `None` for a fault of the list.
+fn inventory_after(inventory: Inventory, limit: u16, entry: Record) -> Option<Inventory>
+    requires few { limit ≤ MAX_OBJECTS }
+    requires room { limit ≤ vec_capacity inventory.carousel.objects }
+    requires room_of_extents { limit ≤ vec_capacity inventory.extents }
+    ensures after { let after = catalogue_after limit
+        (catalogue_with inventory.carousel inventory.extents.items) entry in
+        MatchOption result (after ≡ None)
+        (λ next. after ≡ Some (catalogue_with next.carousel next.extents.items)) }
+    ensures room { IfSome result (λ next. limit ≤ vec_capacity next.carousel.objects) }
+    ensures room_of_extents { IfSome result (λ next. limit ≤ vec_capacity next.extents) }
+{
+    let Inventory {
+        carousel,
+        mut extents,
+    } = inventory;
+    let Carousel {
+        period: _,
+        directory: _,
+        cursor: _,
+        mut objects,
+    } = carousel;
+    let Record {
+        period,
+        directory,
+        cursor,
+        action,
+    } = entry;
+    if !apply(&mut objects, &mut extents, limit, action) {
+        return None;
+    }
+    let next = Inventory {
+        carousel: Carousel {
+            period,
+            directory,
+            cursor,
+            objects,
+        },
+        extents,
+    };
+    if is_consistent(&next) {
+        Some(next)
+    } else {
+        None
+    }
+}
+
+/// Does an action to the objects and their extents; false where there are too many for a new one,
+/// or none of the id that is to go.
+fn apply(
+    objects: &mut Vec<Object>,
+    extents: &mut Vec<(u32, u32)>,
+    limit: u16,
+    action: Action,
+) -> bool
+    requires few { limit ≤ MAX_OBJECTS }
+    requires paired { HaveLengths objects.old.items extents.old.items }
+    requires listed { vec_len objects.old ≤ MAX_OBJECTS }
+    requires room { limit ≤ vec_capacity objects.old }
+    requires room_of_extents { limit ≤ vec_capacity extents.old }
+    ensures applied { if_done result (objects_in objects.new.items extents.new.items)
+        ≡ objects_after limit (objects_in objects.old.items extents.old.items) action }
+    ensures paired { HaveLengths objects.new.items extents.new.items }
+    ensures listed { vec_len objects.new ≤ MAX_OBJECTS }
+    ensures room { vec_capacity objects.new ≡ vec_capacity objects.old }
+    ensures room_of_extents { vec_capacity extents.new ≡ vec_capacity extents.old }
+{
+    match action {
+        Action::Nothing => true,
+        Action::Set {
+            tid,
+            version,
+            content,
+            start,
+            length,
+            name,
+            mime,
+        } => {
+            let object = Object {
+                name,
+                content,
+                mime,
+                version,
+                tid,
+                length,
+            };
+            set_object(objects, extents, limit, object, start)
+        }
+        Action::Remove { tid } => remove_object(objects, extents, tid),
+    }
+}
+
+/// Puts an object in the place of the one of its name, or behind the others; false where there are
+/// as many as may be.
+fn set_object(
+    objects: &mut Vec<Object>,
+    extents: &mut Vec<(u32, u32)>,
+    limit: u16,
+    object: Object,
+    start: u32,
+) -> bool
+    requires few { limit ≤ MAX_OBJECTS }
+    requires paired { HaveLengths objects.old.items extents.old.items }
+    requires listed { vec_len objects.old ≤ MAX_OBJECTS }
+    requires room { limit ≤ vec_capacity objects.old }
+    requires room_of_extents { limit ≤ vec_capacity extents.old }
+    ensures done { if_done result (objects_in objects.new.items extents.new.items)
+        ≡ objects_set limit (record { object = object; start = start })
+        (objects_in objects.old.items extents.old.items) }
+    ensures paired { HaveLengths objects.new.items extents.new.items }
+    ensures listed { vec_len objects.new ≤ MAX_OBJECTS }
+    ensures room { vec_capacity objects.new ≡ vec_capacity objects.old }
+    ensures room_of_extents { vec_capacity extents.new ≡ vec_capacity extents.old }
+{
+    let extent = (start, object.length.get());
+    if let Some(place) = place_of_name(objects, &object.name) {
+        objects[place] = object;
+        extents[place] = extent;
+        return true;
+    }
+    if objects.len() >= usize::from(limit) {
+        return false;
+    }
+    objects.push_reserved(object);
+    extents.push_reserved(extent);
+    true
+}
+
+/// Takes away the object of this id; false where there is none.
+fn remove_object(objects: &mut Vec<Object>, extents: &mut Vec<(u32, u32)>, tid: TransportId) -> bool
+    requires paired { HaveLengths objects.old.items extents.old.items }
+    requires listed { vec_len objects.old ≤ MAX_OBJECTS }
+    ensures done { if_done result (objects_in objects.new.items extents.new.items)
+        ≡ objects_without tid (objects_in objects.old.items extents.old.items) }
+    ensures paired { HaveLengths objects.new.items extents.new.items }
+    ensures listed { vec_len objects.new ≤ MAX_OBJECTS }
+    ensures room { vec_capacity objects.new ≡ vec_capacity objects.old }
+    ensures room_of_extents { vec_capacity extents.new ≡ vec_capacity extents.old }
+{
+    let Some(place) = place_of_id(objects, tid) else {
+        return false;
+    };
+    objects.remove(place);
+    extents.remove(place);
+    true
+}
+
+/// Where the object of this name stands.
+fn place_of_name(objects: &[Object], name: &Name) -> Option<usize>
+    ensures place { result ≡ place_of name.now objects.now }
+    ensures within { IfSome result (λ place. place < length objects.now) }
+{
+    let name = name.as_bytes();
+    objects
+        .iter()
+        .position(|object| object.name.as_bytes() == name)
+}
+
+/// Where the object of this id stands.
+fn place_of_id(objects: &[Object], tid: TransportId) -> Option<usize>
+    ensures place { result ≡ position (λ (o : Object). nat_eq o.tid tid) objects.now }
+    ensures within { IfSome result (λ place. place < length objects.now) }
+{
+    objects.iter().position(|object| object.tid == tid)
+}
+
+/// Whether all ids differ, also from the directory's, and no two bodies meet.
+fn is_consistent(inventory: &Inventory) -> bool
+    ensures { result ≡ is_consistent
+        (catalogue_with inventory.now.carousel inventory.now.extents.items) }
+{
+    let carousel = &inventory.carousel;
+    !has_id(&carousel.objects, carousel.directory)
+        && are_ids_distinct(&carousel.objects)
+        && are_apart(&inventory.extents)
+}
+
+/// Whether one of these objects has this id.
+fn has_id(objects: &[Object], tid: TransportId) -> bool
+    ensures { result ≡ list_any (λ (o : Object). nat_eq tid o.tid) objects.now }
+{
+    objects.iter().any(|object| tid == object.tid)
+}
+
+/// Whether the ids of these objects differ.
+fn are_ids_distinct(objects: &[Object]) -> bool
+    ensures { result ≡ is_distinct (map (λ (o : Object). o.tid) objects.now) }
+{
+    let mut rest = objects;
+    while let [first, others @ ..] = rest {
+        if has_id(others, first.tid) {
+            return false;
+        }
+        rest = others;
+    }
+    true
+}
+
+/// Whether no two of these extents meet.
+fn are_apart(extents: &[(u32, u32)]) -> bool
+    ensures { result ≡ are_extents_apart extents.now }
+{
+    let mut rest = extents;
+    while let [first, others @ ..] = rest {
+        if end_of_met(others, u64::from(first.0), first.1).is_some() {
+            return false;
+        }
+        rest = others;
+    }
+    true
+}

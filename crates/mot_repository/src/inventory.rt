@@ -1,0 +1,13 @@
+// The carousel that is kept in memory, and where its bodies lie.
+ghost use Rattle.mot_repository.specs.Extents.{ArePaired};
+
+use mot_carousel::Carousel;
+
+/// A carousel without its bodies, and where in the data area these lie.
+#[derive(Drop)]
+pub(crate) struct Inventory {
+    pub carousel: Carousel,
+    /// For each object, where its body begins, and its length.
+    pub extents: Vec<(u32, u32)>,
+    ghost paired: { ArePaired carousel extents.items },
+}

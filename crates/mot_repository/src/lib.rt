@@ -1,0 +1,21 @@
+//! A carousel kept on a disk: commands that survive a crash.
+#![tactic(auto)]
+
+mod changing;
+mod fold;
+mod gap;
+mod inventory;
+mod opening;
+mod placing;
+mod prepared;
+mod records;
+mod repository;
+mod writing;
+
+pub use gap::first_fit;
+pub use opening::Refused;
+pub use prepared::Prepared;
+pub use repository::Repository;
+
+#[cfg(test)]
+mod tests;

@@ -1,0 +1,84 @@
+// A disk opened: its records folded into a carousel, whose bodies stay where they lie.
+ghost use Rattle.std.specs.Prelude.{◌≡◌, ◌≤◌, false, IfOk, IfErr, IsFalse};
+ghost use Rattle.disk_store.specs.Disk.{KeepsLength, IsStill, IsUnchanged};
+ghost use Rattle.mot_repository.specs.Inner.InOrder.{IsInOrder};
+ghost use Rattle.mot_repository.specs.Inner.Loaded.{IsLoaded};
+ghost use Rattle.mot_repository.specs.Opening.{IsOpened, IsOpeningRefusal};
+ghost use Rattle.mot_repository.specs.Prepared.{view_with};
+
+use crate::Repository;
+use crate::fold::inventory_of;
+use crate::inventory::Inventory;
+use disk_store::Disk;
+use mot_base::Refusal;
+use mot_journal::{Journal, load};
+use std::alloc::Global;
+
+/// Why a disk was not opened, and the disk.
+#[derive(Drop)]
+pub struct Refused<D: Disk> {
+    /// `OutOfMemory`, `DeviceFault`, `NotFormatted` or `Damaged`.
+    pub refusal: Refusal,
+    /// The disk, as it stands.
+    pub disk: D,
+}
+
+impl<D: Disk> Repository<D> {
+    /// Opens a disk. It syncs it first, and changes nothing on it but that. It takes memory for the
+    /// records of one half and for the objects, and none for bodies.
+    ///
+    /// The refusals are `DeviceFault` where the disk failed, `OutOfMemory`, `NotFormatted` for a
+    /// disk with no magic, a geometry out of range or too few bytes, and `Damaged` with the number
+    /// of the first slot that breaks the format, or else of the first whose record makes a fault of
+    /// the list: too many objects, none of the id that is to go, two of one id, extents that meet.
+    pub fn open(alloc: Global, disk: D) -> Result<Self, Refused<D>>
+        ensures keeps { IfOk result (λ r. KeepsLength (D.state disk) (D.state r.disk)) }
+        ensures later { IfOk result (λ r. (D.state disk).failures ≤ (D.state r.disk).failures) }
+        ensures still { IfOk result (λ r. (D.state r.disk).IsHonest
+            → IsStill (D.state disk) (D.state r.disk)) }
+        ensures going { IfOk result (λ r. IsFalse r.view.halted) }
+
+        // What is kept is what the disk stands for, and no position of it is loose.
+        ensures opened { IfOk result (λ r. (D.state r.disk).IsHonest
+            → IsOpened (D.state disk) (D.state r.disk) r.view) }
+        ensures refused { IfErr result
+            (λ e. IsOpeningRefusal (D.state disk) (D.state e.disk) e.refusal) }
+        ensures keeps_refused { IfErr result (λ e. KeepsLength (D.state disk) (D.state e.disk)) }
+        ensures later_refused { IfErr result
+            (λ e. (D.state disk).failures ≤ (D.state e.disk).failures) }
+        ensures still_refused { IfErr result (λ e. (D.state e.disk).IsHonest
+            → IsStill (D.state disk) (D.state e.disk)) }
+    {
+        let mut disk = disk;
+        if disk.sync().is_err() {
+            return Err(Refused {
+                refusal: Refusal::DeviceFault,
+                disk,
+            });
+        }
+        match load_inventory(alloc, &mut disk) {
+            Ok((journal, inventory)) => Ok(Repository::of(disk, journal, inventory)),
+            Err(refusal) => Err(Refused { refusal, disk }),
+        }
+    }
+}
+
+/// The journal of a disk, and the carousel that its records stand for. It only reads.
+fn load_inventory<D: Disk>(alloc: Global, disk: &mut D) -> Result<(Journal, Inventory), Refusal>
+    ensures keeps { KeepsLength (D.state disk.old) (D.state disk.new) }
+    ensures later { (D.state disk.old).failures ≤ (D.state disk.new).failures }
+    ensures unchanged { (D.state disk.new).IsHonest
+        → IsUnchanged (D.state disk.old) (D.state disk.new) }
+    ensures going { IfOk result (λ l. IsFalse l.0.spent) }
+    ensures in_order { IfOk result (λ l. IsInOrder
+        (view_with l.0 l.1.carousel l.1.extents.items false) (D.state disk.old).len) }
+    ensures loaded { (D.state disk.new).IsHonest → IfOk result
+        (λ l. IsLoaded (D.state disk.old).bytes l.0 l.1.carousel l.1.extents.items) }
+    ensures refused { IfErr result
+        (λ refusal. IsOpeningRefusal (D.state disk.old) (D.state disk.new) refusal) }
+{
+    let loaded = load(alloc, disk)?;
+    let geometry = loaded.journal.geometry();
+    let inventory = inventory_of(alloc, &geometry, loaded.records)?;
+    Ok((loaded.journal, inventory))
+}

@@ -1,0 +1,53 @@
+// Where the bodies lie after a command.
+ghost use Rattle.std.specs.Prelude.{◌≡◌, IfOk};
+ghost use Rattle.mot_repository.specs.Extents.{catalogue_with};
+ghost use Rattle.mot_repository.specs.Inner.Planned.{start_of};
+ghost use Rattle.mot_repository.specs.Laws.{extents_after};
+
+use crate::gap::first_fit;
+use crate::inventory::Inventory;
+use mot_carousel::Command;
+use std::alloc::{AllocError, Global};
+
+/// Where in the data area the body of a command goes, 0 where it brings none; `None` where no gap
+/// holds it.
+pub(crate) fn body_start(extents: &[(u32, u32)], command: &Command, data_area: u32) -> Option<u32>
+    ensures { result ≡ start_of extents.now data_area command.now }
+{
+    match command {
+        Command::Put { body, .. } => first_fit(extents, body.length().get(), data_area),
+        Command::Replace { body, .. } => first_fit(extents, body.length().get(), data_area),
+        Command::Withdraw { .. } => Some(0),
+        Command::Period(_) => Some(0),
+    }
+}
+
+/// The extents after a command whose body, if it brings one, begins at `start`.
+pub(crate) fn extents_after(
+    alloc: Global,
+    inventory: &Inventory,
+    command: &Command,
+    start: u32,
+) -> Result<Vec<(u32, u32)>, AllocError>
+    ensures { let kept = catalogue_with inventory.now.carousel inventory.now.extents.items in
+        IfOk result (λ extents. extents.items ≡ extents_after kept.objects command.now start) }
+{
+    let mut extents = Vec::from_slice(alloc, &inventory.extents)?;
+    match command {
+        Command::Put { body, .. } => {
+            extents.push((start, body.length().get()))?;
+        }
+        Command::Replace { name, body, .. } => {
+            if let Some(place) = inventory.carousel.place_of(name) {
+                extents[place] = (start, body.length().get());
+            }
+        }
+        Command::Withdraw { name } => {
+            if let Some(place) = inventory.carousel.place_of(name) {
+                extents.remove(place);
+            }
+        }
+        Command::Period(_) => {}
+    }
+    Ok(extents)
+}

@@ -1,0 +1,130 @@
+ghost use Rattle.std.specs.Prelude.{◌≡◌, ◌≤◌, ◌+◌, ◌↔◌, true, IsTrue, IsFalse, IfOk, IfErr};
+ghost use Rattle.std.specs.Prelude.{OnOk};
+ghost use Rattle.mot_base.specs.Geometry.{area_start};
+ghost use Rattle.mot_journal.specs.Geometry.{is_valid};
+ghost use Rattle.mot_journal.specs.declared.layout.Layout.TheVariants.{One};
+ghost use Rattle.mot_repository.specs.Answers.{HasLongName, HasRoomForName, IsRefusal};
+ghost use Rattle.mot_repository.specs.Extents.{body_of, catalogue_with};
+ghost use Rattle.mot_repository.specs.Inner.Whole.{IsWhole};
+ghost use Rattle.mot_repository.specs.Ready.{KeepsInventory, IsPrepared};
+ghost use Rattle.mot_repository.specs.Repository.{RepositoryView};
+
+use crate::inventory::Inventory;
+use crate::placing::{body_start, extents_after};
+use crate::records::{record_of_change, records_of};
+use mot_base::{Geometry, Refusal};
+use mot_carousel::{Carousel, Command, Done, plan};
+use mot_journal::{Layout, Record};
+use std::alloc::{AllocError, Global};
+
+/// A change that was worked out, with all memory that doing it takes.
+#[derive(Drop)]
+pub struct Prepared {
+    /// What is kept after it.
+    pub(crate) inventory: Inventory,
+    /// The transport ids that it takes.
+    pub(crate) done: Done,
+    /// Where on the disk its body goes.
+    pub(crate) at: u64,
+    /// Its body, or no bytes.
+    pub(crate) body: Vec<u8>,
+    /// Its record.
+    pub(crate) record: Record,
+    /// The records that a full half is rewritten to first.
+    pub(crate) given: Vec<Record>,
+}
+
+impl Prepared {
+    /// The carousel after the change.
+    pub fn next(&self) -> &Carousel
+        ensures { result.now ≡ self.now.inventory.carousel }
+    {
+        &self.inventory.carousel
+    }
+}
+
+/// Works out what the command does, and takes all memory that doing it takes. In this order:
+/// `BadName` where the layout has no room for the name, what the rules of the carousel refuse, and
+/// `NoRoom` where no gap holds the body. `OutOfMemory` may come at any point after the name.
+pub(crate) fn prepare_change(
+    alloc: Global,
+    geometry: &Geometry,
+    layout: Layout,
+    inventory: &Inventory,
+    command: &Command,
+) -> Result<Prepared, Refusal>
+    requires valid { is_valid geometry.now ≡ true }
+    requires whole { let kept = catalogue_with inventory.now.carousel inventory.now.extents.items in
+        IsWhole geometry.now layout kept }
+    ensures prepared { (view : RepositoryView)
+        → KeepsInventory geometry.now layout inventory.now view
+        → IfOk result (λ p. IsPrepared view command.now p) }
+    ensures room { (view : RepositoryView)
+        → KeepsInventory geometry.now layout inventory.now view
+        → OnOk result (HasRoomForName view command.now) }
+    ensures refused { (view : RepositoryView)
+        → KeepsInventory geometry.now layout inventory.now view → IsFalse view.halted
+        → IfErr result (λ refusal. IsRefusal view command.now refusal) }
+{
+    if is_name_too_long(layout, command) {
+        return Err(Refusal::BadName);
+    }
+    let change = plan(alloc, &inventory.carousel, geometry.objects, command)?;
+    let Some(start) = body_start(&inventory.extents, command, geometry.data_area) else {
+        return Err(Refusal::NoRoom);
+    };
+    let given = records_of(alloc, inventory)?;
+    let body = body_copy(alloc, command)?;
+    let record = record_of_change(&inventory.carousel, &change.next, command, start)?;
+    let extents = extents_after(alloc, inventory, command, start)?;
+    Ok(Prepared {
+        inventory: Inventory {
+            carousel: change.next,
+            extents,
+        },
+        done: change.done,
+        at: place_in_area(geometry, start),
+        body,
+        record,
+        given,
+    })
+}
+
+/// Whether the slots of this layout have no room for the name that the command speaks of.
+fn is_name_too_long(layout: Layout, command: &Command) -> bool
+    ensures { IsTrue result ↔ ((layout ≡ One) × HasLongName command.now) }
+{
+    layout == Layout::One && has_long_name(command)
+}
+
+/// Whether the name that the command speaks of has more bytes than a slot of layout 1 holds.
+fn has_long_name(command: &Command) -> bool
+    ensures { IsTrue result ↔ HasLongName command.now }
+{
+    match command {
+        Command::Put { name, .. } => name.as_bytes().len() > Layout::One.longest_name(),
+        Command::Replace { name, .. } => name.as_bytes().len() > Layout::One.longest_name(),
+        Command::Withdraw { name } => name.as_bytes().len() > Layout::One.longest_name(),
+        Command::Period(_) => false,
+    }
+}
+
+/// The bytes that the command brings.
+fn body_copy(alloc: Global, command: &Command) -> Result<Vec<u8>, AllocError>
+    ensures { IfOk result (λ body. body.items ≡ body_of command.now) }
+{
+    match command {
+        Command::Put { body, .. } => Vec::from_slice(alloc, body.as_bytes()),
+        Command::Replace { body, .. } => Vec::from_slice(alloc, body.as_bytes()),
+        Command::Withdraw { .. } => Ok(Vec::new(alloc)),
+        Command::Period(_) => Ok(Vec::new(alloc)),
+    }
+}
+
+/// Where on a disk of this geometry a part of the data area begins.
+fn place_in_area(geometry: &Geometry, start: u32) -> u64
+    requires { is_valid geometry.now ≡ true }
+    ensures { result ≡ area_start geometry.now + start }
+{
+    geometry.length() - u64::from(geometry.data_area) + u64::from(start)
+}

@@ -1,5 +1,0 @@
-use Rattle.mot_server.proofs.Answered.{Answers-refused}
-use Rattle.mot_server.proofs.answering.answer.Goals as goal
-
-pub returns-in-Err : goal.returns-in-Err
-returns-in-Err c = rw c.in-Err.is (Answers-refused c.args.server.now c.in-Err.refusal)

@@ -1,0 +1,28 @@
+use Rattle.std.proofs.Common.{◌≡◌, ◌≤◌, length}
+use Rattle.std.specs.Prelude.{vec_capacity, IsTrue}
+use Rattle.disk_store.specs.Disk.{Keeps, IsUnchanged}
+use Rattle.mot_journal.specs.Image.{Standing}
+use Rattle.mot_repository.specs.Repository.{Holds}
+use Rattle.mot_server.specs.RunEnds.{place_behind}
+use Rattle.mot_server.specs.Runs.{accepted_commands, IsAfter}
+use Rattle.mot_server.specs.Server.{place_in}
+use Rattle.mot_server.proofs.Runs.{Reached}
+use Rattle.mot_server.proofs.server.Server.run.Given as goal
+
+abbrev pub invariant-loop-command : goal.invariant-loop-command
+invariant-loop-command g l =
+    let state = g.D.Disk.state in
+    record {
+      keeps : Keeps (state l.fn.self.disk) (state l.self.disk);
+      later : (state l.fn.self.disk).failures ≤ (state l.self.disk).failures;
+      halted : l.self.view.halted ≡ l.fn.self.view.halted;
+      index : length l.done.items ≡ l.command-index;
+      room : length l.commands ≤ vec_capacity l.done;
+      -- a server that is halted comes to no second command
+      none : IsTrue l.fn.self.view.halted → (l.self.view ≡ l.fn.self.view)
+          × IsUnchanged (state l.fn.self.disk) (state l.self.disk) × (l.command-index ≡ 0);
+      plays : (s last : Standing) → Holds l.fn.self.view s (state l.fn.self.disk) → IsAfter s (accepted_commands l.commands l.done.items) last
+          → place_in l.self last ≡ place_behind (accepted_commands l.commands l.done.items) last (place_in l.fn.self s);
+      reached : (s : Standing) → Holds l.fn.self.view s (state l.fn.self.disk)
+          → Reached l.fn.self.view.journal.layout l.self.view (state l.fn.self.disk) (state l.self.disk) s l.commands l.done.items;
+    }

@@ -1,0 +1,26 @@
+-- Where no read has come, all stays.
+use Rattle.std.specs.Prelude.{refl}
+use Rattle.std.proofs.Common.{inl, arith}
+use Rattle.disk_store.specs.Disk.{State, IsUnchanged}
+use Rattle.mot_repository.specs.Repository.{RepositoryView}
+use Rattle.mot_server.specs.Bodies.{HasRead}
+
+pub is_unchanged : (state : State) → IsUnchanged state state
+is_unchanged state = record {
+  bytes = refl;
+  time = record {
+    later = omega arith;
+    nothing_else = λ t c le left. inl left;
+    keeps = λ t c le left. left;
+  };
+  images = λ c. (λ left. left, λ left. left);
+  loose = λ k. (λ is. is, λ is. is);
+}
+
+pub unread : (view : RepositoryView) (state : State) → HasRead view view state state
+unread view state = record {
+  view = refl;
+  keeps = record { len = refl; was_honest = λ honest. honest };
+  later = omega arith;
+  unchanged = λ honest. is_unchanged state;
+}

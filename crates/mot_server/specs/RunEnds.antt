@@ -1,0 +1,55 @@
+-- How a run of commands ends, and what it leaves.
+use Rattle.std.specs.Prelude.{◌≡◌, ℕ, Bool, true, false, List, [], ◌∷◌, ◌++◌, Option, IsTrue}
+use Rattle.disk_store.specs.Disk.{State, Rises, Throughout}
+use Rattle.mot_base.specs.declared.refusal.Refusal.{Refusal}
+use Rattle.mot_base.specs.declared.refusal.Refusal.TheVariants.{OutOfMemory, DeviceFault, Halted}
+use Rattle.mot_carousel.specs.declared.command.Command.{Command}
+use Rattle.mot_journal.specs.Image.{Standing}
+use Rattle.mot_player.specs.Place.{Place, change_turn}
+use Rattle.mot_player.specs.Turn.{turn_of_carousel}
+use Rattle.mot_repository.specs.Repository.{RepositoryView, Agrees, Holds}
+use Rattle.mot_server.specs.Marks.{AreMarks}
+use Rattle.mot_server.specs.Runs.{accepted_commands, is_device_fault, commands_in_flight}
+use Rattle.mot_server.specs.Runs.{IsAfter, StandsAfterSome}
+
+-- the refusals that end a run; every other one marks its command false
+abbrev pub is_run_ending : Refusal → Bool
+is_run_ending OutOfMemory = true
+is_run_ending DeviceFault = true
+is_run_ending Halted = true
+is_run_ending refusal = false
+
+-- what may end a run before its last command
+pub data IsRunFault (old new : RepositoryView) (start now : State)
+    (refusal : Refusal) : Type 0 where
+  no_memory : refusal ≡ OutOfMemory → IsRunFault old new start now refusal
+  device : refusal ≡ DeviceFault → Rises start.failures now.failures → IsTrue new.halted
+      → IsRunFault old new start now refusal
+  halted : refusal ≡ Halted → IsTrue old.halted → IsRunFault old new start now refusal
+
+-- What a run of commands leaves that began where the disk and the repository stood for s.
+pub record RunLeaves (old new : RepositoryView) (start now : State) (s : Standing)
+    (commands : List Command) (marks : List Bool) (fault : Option Refusal) : Type 0 where
+  -- what the accepted commands make of s
+  pub last : Standing
+  pub after : IsAfter s (accepted_commands commands marks) last
+  pub marked : AreMarks old.journal.layout s commands marks last
+  -- that is the carousel at the end
+  pub agrees : Agrees new last
+  -- where no device fault ended the run, the disk stands for it too
+  pub going : is_device_fault fault ≡ false → Holds new last now
+  -- At each moment since the start a crash leaves the carousel after a beginning of the accepted
+  -- commands, or after all of them and the one in flight.
+  pub any_moment : Throughout start now (StandsAfterSome s []
+      (accepted_commands commands marks ++ commands_in_flight commands marks fault))
+  -- Now it leaves one that holds each accepted command, and at most the one in flight besides.
+  pub at_end : (image : List ℕ) → now.MayLeave image
+      → StandsAfterSome s (accepted_commands commands marks)
+      (commands_in_flight commands marks fault) image
+
+-- where the player stands behind accepted commands: the group under way stays, and then the turn of
+-- the last carousel begins
+abbrev pub place_behind : List Command → Standing → Place → Place
+place_behind [] last place = place
+place_behind (command ∷ commands) last place =
+    change_turn (turn_of_carousel last.carousel last.geometry.segment_size) place

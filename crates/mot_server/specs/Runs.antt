@@ -1,0 +1,46 @@
+-- The words of the headline: which commands of a run were accepted, which one was in flight, and
+-- what a carousel is after commands.
+use Rattle.std.specs.Prelude.{◌≡◌, ℕ, ◌≤◌, Bool, true, false, List, [], ◌∷◌, ◌++◌, length}
+use Rattle.std.specs.Prelude.{take, drop, Option, Some, None, if◌then◌else◌}
+use Rattle.mot_base.specs.declared.refusal.Refusal.{Refusal}
+use Rattle.mot_base.specs.declared.refusal.Refusal.TheVariants.{DeviceFault}
+use Rattle.mot_carousel.specs.declared.command.Command.{Command}
+use Rattle.mot_carousel.specs.Carousel.{carousel_after}
+use Rattle.mot_journal.specs.Image.{Standing}
+use Rattle.mot_repository.specs.Repository.{IsOf}
+
+-- the commands that were marked true
+abbrev pub accepted_commands : List Command → List Bool → List Command
+accepted_commands commands [] = []
+accepted_commands [] (mark ∷ marks) = []
+accepted_commands (command ∷ commands) (true ∷ marks) = command ∷ accepted_commands commands marks
+accepted_commands (command ∷ commands) (false ∷ marks) = accepted_commands commands marks
+
+abbrev pub is_device_fault : Option Refusal → Bool
+is_device_fault (Some DeviceFault) = true
+is_device_fault (Some refusal) = false
+is_device_fault None = false
+
+-- where the run ended in a device fault, the one command after those that were marked
+abbrev pub commands_in_flight : List Command → List Bool → Option Refusal → List Command
+commands_in_flight commands marks fault =
+    if is_device_fault fault then take 1 (drop (length marks) commands) else []
+
+-- these commands, each accepted where it stands, make the one of the other
+pub record IsAfter (s : Standing) (commands : List Command) (last : Standing) : Type 0 where
+  pub geometry : last.geometry ≡ s.geometry
+  pub carousel : carousel_after s.carousel s.geometry.objects commands ≡ Some last.carousel
+
+-- all of the sure commands and a beginning of the others make the one of the other
+pub record IsAfterSome (s : Standing) (sure others : List Command) (last : Standing) : Type 0 where
+  pub count : ℕ
+  pub few : count ≤ length others
+  pub after : IsAfter s (sure ++ take count others) last
+
+-- the image is clean, and stands for what all of the sure commands and a beginning of the others
+-- make
+pub record StandsAfterSome (s : Standing) (sure others : List Command)
+    (image : List ℕ) : Type 0 where
+  pub last : Standing
+  pub after : IsAfterSome s sure others last
+  pub image_is : IsOf last image

@@ -1,0 +1,60 @@
+//! The beginning of every history: a disk formatted here.
+ghost use Rattle.std.specs.Prelude.{◌≡◌, ℕ, List, false, IfOk, IfErr, OnOk};
+ghost use Rattle.mot_journal.specs.Geometry.{has_magic};
+ghost use Rattle.mot_journal.specs.Journal.{new_standing};
+ghost use Rattle.mot_player.specs.Reading.{ReadsAs};
+ghost use Rattle.mot_repository.specs.Opening.{IsPassing};
+ghost use Rattle.mot_repository.specs.Repository.{Holds};
+ghost use Rattle.mot_carousel.specs.Carousel.{new_carousel};
+ghost use Rattle.mot_server.specs.History.{HistoriesAreCommands};
+ghost use Rattle.mot_server.specs.Playing.{bytes_of_packets};
+
+use crate::{Refused, Restarted, restart};
+use disk_store::Disk;
+use mot_base::Refusal;
+use mot_journal::{Geometry, format};
+use std::alloc::Global;
+
+/// What formatting came to, and what was opened of the disk that a crash left of it.
+#[derive(Drop)]
+pub struct Beginning<E: Disk> {
+    /// How formatting ended: the crash came before, at some moment of it, or behind it.
+    pub formatted: Result<(), Refusal>,
+    /// The server on what the crash left, and the first turn that it played.
+    pub restarted: Result<Restarted<E>, Refused<E>>,
+}
+
+/// Formatting a disk that has no magic, and a crash at any moment of it or behind it: what was left
+/// is no disk of this format, or opens as the new carousel, and is played as it. A history of runs,
+/// crashes and restarts, each on what the last one left, begins here.
+pub fn format_and_restart<D: Disk, E: Disk>(
+    disk: &mut D,
+    alloc: Global,
+    geometry: &Geometry,
+    left: E,
+) -> Beginning<E>
+    // where it opens, it is the new carousel
+    ensures begins { (D.state disk.new).IsHonest
+        → ((image : List ℕ) → (D.state disk.old).MayLeave image → has_magic image ≡ false)
+        → (D.state disk.new).LeftSince (D.state disk.old).moment (E.state left).bytes
+        → IfOk result.restarted (λ r. (E.state r.server.disk).IsHonest
+        → Holds r.server.view (new_standing geometry.now) (E.state r.server.disk)
+        × ReadsAs (bytes_of_packets r.packets.items) new_carousel geometry.now.segment_size) }
+
+    // behind a formatting that is Ok it opens, but for want of memory or a failure of the disk
+    ensures opens { (D.state disk.new).IsHonest
+        → (D.state disk.new).MayLeave (E.state left).bytes
+        → OnOk result.formatted (IfErr result.restarted (λ e. (E.state e.disk).IsHonest
+        → IsPassing (E.state left) (E.state e.disk) e.refusal)) }
+
+    // However many runs, crashes and restarts follow, it stands for what the commands that are done
+    // make of the new carousel.
+    ensures histories { HistoriesAreCommands }
+{
+    let formatted = format(disk, geometry);
+    let restarted = restart(alloc, left);
+    Beginning {
+        formatted,
+        restarted,
+    }
+}

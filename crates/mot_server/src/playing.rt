@@ -1,0 +1,46 @@
+// The player of what a repository keeps.
+ghost use Rattle.std.specs.Prelude.{◌≡◌, List, ℕ, OnOk, IfOk, IfErr};
+ghost use Rattle.mot_base.specs.Geometry.{packet_room};
+ghost use Rattle.mot_base.specs.declared.refusal.Refusal.TheVariants.{OutOfMemory};
+ghost use Rattle.mot_carousel.specs.Stands.{AreBodiesOf, carousel_of};
+ghost use Rattle.mot_player.specs.Laws.{ChangesGoOn, RequestsGoOn, StepsAreContinuous};
+ghost use Rattle.mot_player.specs.Laws.{TurnsEnd, TurnsReadAsTheirCarousels};
+ghost use Rattle.mot_player.specs.Place.{opened_place};
+ghost use Rattle.mot_player.specs.Standing.{place_of};
+ghost use Rattle.mot_player.specs.Turn.{turn_of_carousel};
+ghost use Rattle.mot_server.specs.Inner.Plays.{Plays};
+
+use disk_store::Disk;
+use mot_base::Refusal;
+use mot_player::{Player, Turn};
+use mot_repository::Repository;
+use std::alloc::Global;
+
+/// A player of the repository's carousel, with nothing begun. The only refusal is `OutOfMemory`.
+pub(crate) fn player_of<D: Disk>(
+    alloc: Global,
+    repository: &Repository<D>,
+) -> Result<Player, Refusal>
+    ensures plays { IfOk result (λ player. Plays repository.now.view.carousel
+        repository.now.view.journal.geometry.segment_size player) }
+    ensures opened { IfOk result (λ player. (bodies : List (List ℕ))
+        → AreBodiesOf repository.now.view.carousel bodies → place_of player bodies
+        ≡ opened_place repository.now.view.journal.geometry.address
+        (packet_room repository.now.view.journal.geometry)
+        repository.now.view.journal.geometry.segment_size
+        (turn_of_carousel (carousel_of repository.now.view.carousel bodies)
+        repository.now.view.journal.geometry.segment_size)) }
+    ensures refused { IfErr result (λ refusal. refusal ≡ OutOfMemory) }
+    ensures continuous { OnOk result StepsAreContinuous }
+    ensures turns { OnOk result TurnsReadAsTheirCarousels }
+    ensures turns_end { OnOk result TurnsEnd }
+    ensures requests { OnOk result RequestsGoOn }
+    ensures changes { OnOk result ChangesGoOn }
+{
+    let geometry = repository.geometry();
+    let size = geometry.size_of_segments();
+    let turn = Turn::of(alloc, repository.carousel(), size)?;
+    let address = geometry.address_of_packets();
+    let length = geometry.length_of_packets();
+    Player::new(alloc, address, length, size, turn)
+}

@@ -1,0 +1,87 @@
+//! Commands in a row, up to the first that can't be answered.
+ghost use Rattle.std.specs.Prelude.{◌≡◌, ◌≤◌, [], length, vec_len, IfSome, IfNone, IsTrue};
+ghost use Rattle.mot_server.specs.RunEnds.{is_run_ending};
+
+use crate::Server;
+use disk_store::Disk;
+use mot_base::Refusal;
+use mot_carousel::Command;
+use std::alloc::Global;
+
+/// What a run of commands came to.
+#[derive(Debug, Drop)]
+pub struct RunEnd {
+    /// For each command that was answered, in order, whether it was accepted.
+    pub done: Vec<bool>,
+    /// What ended the run before its last command: `OutOfMemory`, `DeviceFault` or `Halted`.
+    pub fault: Option<Refusal>,
+}
+
+impl<D: Disk> Server<D> {
+    ghost use Rattle.disk_store.specs.Disk.{Keeps, IsUnchanged};
+    ghost use Rattle.mot_journal.specs.Image.{Standing};
+    ghost use Rattle.mot_repository.specs.Repository.{Holds};
+    ghost use Rattle.mot_server.specs.RunEnds.{IsRunFault, RunLeaves, place_behind};
+    ghost use Rattle.mot_server.specs.Runs.{accepted_commands, IsAfter};
+    ghost use Rattle.mot_server.specs.Server.{place_in};
+
+    /// Does the commands in order. A command that the carousel's rules refuse is marked false, as
+    /// is one whose body finds no room, or whose name is too long for layout 1, and the run goes
+    /// on; every other refusal ends it.
+    pub fn run(&mut self, alloc: Global, commands: &[Command]) -> RunEnd
+        ensures keeps { Keeps (D.state self.old.disk) (D.state self.new.disk) }
+        ensures later { (D.state self.old.disk).failures ≤ (D.state self.new.disk).failures }
+        ensures whole { IfNone result.fault (vec_len result.done ≡ length commands.now) }
+        ensures fault { IfSome result.fault (λ refusal. IsRunFault self.old.view self.new.view
+            (D.state self.old.disk) (D.state self.new.disk) refusal) }
+
+        // A server that is halted does nothing.
+        ensures halted { IsTrue self.old.view.halted → (self.new.view ≡ self.old.view)
+            × IsUnchanged (D.state self.old.disk) (D.state self.new.disk)
+            × (result.done.items ≡ []) }
+
+        // The marks, the carousel, and what a crash leaves at each moment and at the end.
+        ensures leaves { (s : Standing) → Holds self.old.view s (D.state self.old.disk)
+            → RunLeaves self.old.view self.new.view (D.state self.old.disk)
+            (D.state self.new.disk) s commands.now result.done.items result.fault }
+
+        // Only accepted commands change what is played.
+        ensures place { (s last : Standing) → Holds self.old.view s (D.state self.old.disk)
+            → IsAfter s (accepted_commands commands.now result.done.items) last
+            → place_in self.new last
+            ≡ place_behind (accepted_commands commands.now result.done.items) last
+            (place_in self.old s) }
+    {
+        let Ok(mut done) = Vec::with_capacity(alloc, commands.len()) else {
+            return RunEnd {
+                done: Vec::new(alloc),
+                fault: Some(Refusal::OutOfMemory),
+            };
+        };
+        for command in commands {
+            match self.execute(alloc, command) {
+                Ok(_) => done.push_reserved(true),
+                Err(refusal) => {
+                    if ends_run(refusal) {
+                        return RunEnd {
+                            done,
+                            fault: Some(refusal),
+                        };
+                    }
+                    done.push_reserved(false);
+                }
+            }
+        }
+        RunEnd { done, fault: None }
+    }
+}
+
+/// Whether the refusal ends a run.
+fn ends_run(refusal: Refusal) -> bool
+    ensures { result ≡ is_run_ending refusal }
+{
+    matches!(
+        refusal,
+        Refusal::OutOfMemory | Refusal::DeviceFault | Refusal::Halted
+    )
+}

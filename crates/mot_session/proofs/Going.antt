@@ -1,0 +1,127 @@
+-- Playing, request by request.
+use Rattle.std.proofs.Common.{◌≡◌, ℕ, suc, zero, Bool, true, false, List, [], ◌∷◌, ◌++◌, length, map, replicate, Option, Some}
+use Rattle.std.proofs.Common.{refl, sym, ap, ◌∙◌, subst}
+use Rattle.std.proofs.lemmas.List.{map-append}
+use Rattle.std.specs.Prelude.{Result, Ok, Err, OnErr}
+use Rattle.arrayvec.specs.ArrayVec.{ArrayVec}
+use Rattle.mot_base.specs.Reading.{read_each}
+use Rattle.mot_base.proofs.Laws.{read_each-append}
+use Rattle.mot_packets.specs.Packet.{PacketFields, read_packet}
+use Rattle.mot_packets.specs.Written.{bytes_of_packet}
+use Rattle.mot_player.specs.Laws.{AreSent, IsAtTurnsBeginning, IsStep}
+use Rattle.mot_player.specs.Place.{Place, Sent, Request, sent_by}
+use Rattle.mot_player.specs.Reading.{ReadsAs}
+use Rattle.mot_player.specs.Turn.{IsTurnOf}
+use Rattle.mot_player.proofs.Laws.{requests-go_on, turns_read_as_their_carousels}
+use Rattle.mot_session.specs.Inner.Going.{IsGoing}
+use Rattle.mot_session.specs.Playing.{HasPlayed, HasPlayedTurn, IsPlaying, bytes_of_packets}
+use Rattle.mot_session.specs.State.{ServerState}
+
+-- one more at the end is one more at the beginning
+replicate-more : {A : Type 0} (n : ℕ) (x : A) → replicate n x ++ x ∷ [] ≡ x ∷ replicate n x
+replicate-more zero x = refl
+replicate-more (suc n) x = ap (λ xs. x ∷ xs) (replicate-more n x)
+
+length-more : {A : Type 0} (xs : List A) (x : A) → length (xs ++ x ∷ []) ≡ suc (length xs)
+length-more [] x = refl
+length-more (y ∷ xs) x = ap suc (length-more xs x)
+
+abbrev sends : List Sent → Place → Option (List Sent × Place)
+sends sents place = Some (sents, place)
+
+-- after these packets one more was sent
+module _ (old mid new : Place) (n : ℕ) (packets : List (List ℕ)) (played : HasPlayed old n packets mid)
+    (packet : List ℕ) (ends : Bool) (step : IsStep mid packet ends new) where
+  steps-more : sent_by old (Request ∷ replicate n Request) ≡ sends (played.sents ++ step.sent ∷ []) new
+  steps-more =
+      ap (sent_by old) (sym (replicate-more n Request))
+      ∙ requests-go_on old mid (replicate n Request) played.sents step.sent played.steps step.asked
+      ∙ ap (sends (played.sents ++ step.sent ∷ [])) (sym step.place)
+
+  bytes-more : packets ++ packet ∷ [] ≡ map (λ (s : Sent). bytes_of_packet s.packet) (played.sents ++ step.sent ∷ [])
+  bytes-more =
+      ap (λ (ps : List (List ℕ)). ps ++ packet ∷ []) played.bytes
+      ∙ ap (λ (p : List ℕ). map (λ (s : Sent). bytes_of_packet s.packet) played.sents ++ p ∷ []) step.bytes
+      ∙ sym (map-append (λ (s : Sent). bytes_of_packet s.packet) played.sents (step.sent ∷ []))
+
+  one-read : read_each read_packet (packet ∷ []) ≡ Some (step.sent.packet ∷ [])
+  one-read = rw step.reads refl
+
+  read-more : AreSent (played.sents ++ step.sent ∷ []) (packets ++ packet ∷ [])
+  read-more =
+      read_each-append read_packet packets (packet ∷ []) (map (λ (s : Sent). s.packet) played.sents)
+      (step.sent.packet ∷ []) played.read one-read
+      ∙ ap (λ (ps : List PacketFields). Some ps) (sym (map-append (λ (s : Sent). s.packet) played.sents (step.sent ∷ [])))
+
+  ends-more : (before : List Bool) → map (λ (s : Sent). s.ends_turn) played.sents ≡ before →
+      map (λ (s : Sent). s.ends_turn) (played.sents ++ step.sent ∷ []) ≡ before ++ ends ∷ []
+  ends-more before e =
+      map-append (λ (s : Sent). s.ends_turn) played.sents (step.sent ∷ [])
+      ∙ ap (λ (bs : List Bool). bs ++ step.sent.ends_turn ∷ []) e
+      ∙ ap (λ (b : Bool). before ++ b ∷ []) (sym step.ends)
+
+pub HasPlayed-none : (place : Place) → HasPlayed place 0 [] place
+unfolding sent_by
+HasPlayed-none place = record { sents = []; steps = refl; bytes = refl; read = refl }
+
+pub HasPlayed-more : (old mid new : Place) (n : ℕ) (packets : List (List ℕ)) → HasPlayed old n packets mid →
+    (packet : List ℕ) (ends : Bool) → IsStep mid packet ends new → HasPlayed old (suc n) (packets ++ packet ∷ []) new
+HasPlayed-more old mid new n packets played packet ends step = record {
+  sents = played.sents ++ step.sent ∷ [];
+  steps = steps-more old mid new n packets played packet ends step;
+  bytes = bytes-more old mid new n packets played packet ends step;
+  read = read-more old mid new n packets played packet ends step;
+}
+
+pub IsGoing-none : (place : Place) → IsGoing place [] place
+unfolding HasPlayed-none
+IsGoing-none place = record { played = HasPlayed-none place; going = refl }
+
+going-more : (old mid new : Place) (packets : List (List ℕ)) (packet : List ℕ) (n : ℕ) → length (packets ++ packet ∷ []) ≡ n →
+    (played : HasPlayed old n (packets ++ packet ∷ []) new) →
+    map (λ (s : Sent). s.ends_turn) played.sents ≡ replicate n false → IsGoing old (packets ++ packet ∷ []) new
+going-more old mid new packets packet n e played going =
+    let P : ℕ → Type 0 = λ k. (p : HasPlayed old k (packets ++ packet ∷ []) new)
+    × (map (λ (s : Sent). s.ends_turn) p.sents ≡ replicate k false) in
+    let q : P (length (packets ++ packet ∷ [])) = subst P (sym e) (played, going) in
+    record { played = q.0; going = q.1 }
+
+pub IsGoing-more : (old mid new : Place) (packets : List (List ℕ)) → IsGoing old packets mid → (packet : List ℕ)
+    (ends : Bool) → IsStep mid packet ends new → ends ≡ false → IsGoing old (packets ++ packet ∷ []) new
+unfolding HasPlayed-more
+IsGoing-more old mid new packets g packet ends step more =
+    going-more old mid new packets packet (suc (length packets)) (length-more packets packet)
+    (HasPlayed-more old mid new (length packets) packets g.played packet ends step)
+    (ends-more old mid new (length packets) packets g.played packet ends step (replicate (length packets) false) g.going
+    ∙ ap (λ (b : Bool). replicate (length packets) false ++ b ∷ []) more
+    ∙ replicate-more (length packets) false)
+
+pub HasPlayedTurn-ended : (old mid new : Place) (packets : List (List ℕ)) → IsGoing old packets mid → (packet : List ℕ)
+    (ends : Bool) → IsStep mid packet ends new → ends ≡ true → HasPlayedTurn old (packets ++ packet ∷ []) new
+HasPlayedTurn-ended old mid new packets g packet ends step last = record {
+  before = length packets;
+  sents = g.played.sents ++ step.sent ∷ [];
+  steps = steps-more old mid new (length packets) packets g.played packet ends step;
+  ends = ends-more old mid new (length packets) packets g.played packet ends step (replicate (length packets) false) g.going
+      ∙ ap (λ (b : Bool). replicate (length packets) false ++ b ∷ []) last;
+  bytes = bytes-more old mid new (length packets) packets g.played packet ends step;
+  read = read-more old mid new (length packets) packets g.played packet ends step;
+}
+
+-- a whole turn that was played reads as the carousel
+pub HasPlayedTurn-reads : (s : ServerState) (packets : List (List ℕ)) (new : Place) → IsPlaying s →
+    HasPlayedTurn s.place packets new → IsAtTurnsBeginning s.place → ReadsAs packets s.carousel s.geometry.segment_size
+HasPlayedTurn-reads s packets new playing turn begins =
+    subst (ReadsAs packets s.carousel) playing.size
+    (turns_read_as_their_carousels s.place new s.carousel turn.before turn.sents packets playing.place
+    (subst (IsTurnOf s.place.turn s.carousel) (sym playing.size) playing.is_turn) playing.sound begins
+    turn.steps turn.ends turn.read)
+
+-- the bytes of one packet more
+pub bytes_of_packets-more : (packets : List (ArrayVec ℕ)) (packet : ArrayVec ℕ) →
+    bytes_of_packets (packets ++ packet ∷ []) ≡ bytes_of_packets packets ++ packet.items ∷ []
+bytes_of_packets-more packets packet = map-append (λ (p : ArrayVec ℕ). p.items) packets (packet ∷ [])
+
+pub OnErr-always : {A E : Type 0} (r : Result A E) (P : Type 0) → P → OnErr r P
+OnErr-always (Ok x) P p = tt
+OnErr-always (Err e) P p = p

@@ -1,0 +1,11 @@
+pub mod Answered
+pub mod Continued
+pub mod Fronts
+pub mod Going
+pub mod Joined
+pub mod Laws
+pub mod Packets
+pub mod Rows
+pub mod Runs
+pub mod Turns
+pub mod Written

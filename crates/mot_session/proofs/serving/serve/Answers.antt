@@ -1,0 +1,108 @@
+use Rattle.std.proofs.Common.{◌≡◌, ℕ, ◌+◌, ◌*◌, ◌≤◌, List, [], ◌++◌, take, length, Option, subst}
+use Rattle.std.proofs.Common.{arith, append-nil, length-append, length-take, inl, inr}
+use Rattle.std.specs.Io.KnownBytes.{Consumes}
+use Rattle.std.proofs.KnownBytes.{Consumes-nil, Consumes-trans}
+use Rattle.mot_session.specs.declared.serving.TheConstants.{READ_SIZE}
+use Rattle.mot_session.specs.Served.{TakesInput}
+use Rattle.mot_session.proofs.Runs.{Progress-none}
+use Rattle.mot_session.proofs.serving.serve.Goals as goal
+
+-- a read of nothing
+none_read : (a b d : Option (List ℕ)) (input buf : List ℕ) (count : ℕ) → Consumes a b input
+    → Consumes b d (take count buf) → count ≡ 0 → Consumes a d input
+none_read a b d input buf count p q e =
+    subst (Consumes a d) (append-nil input) (Consumes-trans a b d input [] p
+    (subst (λ n. Consumes b d (take n buf)) e q))
+
+-- more reads may have been allowed
+allowed : (few many : ℕ) (a b d : Option (List ℕ)) (input : List ℕ) → few ≤ many
+    → TakesInput few a b input → Consumes a d input → TakesInput many a d input
+allowed few many a b d input l t q = record {
+  consumed = q;
+  bounded = let some = t.bounded in omega (arith, some);
+}
+
+-- one more read
+read_more : (few many : ℕ) (a b d : Option (List ℕ)) (input bytes : List ℕ) → few + 1 ≤ many
+    → length bytes ≤ READ_SIZE → TakesInput few a b input → Consumes b d bytes
+    → TakesInput many a d (input ++ bytes)
+read_more few many a b d input bytes l short t q = record {
+  consumed = Consumes-trans a b d input bytes t.consumed q;
+  bounded = let some = t.bounded in omega (arith, some, length-append input bytes);
+}
+
+pub loop-init : goal.loop-init
+loop-init g c = record {
+  bound = omega arith;
+  taken = (
+    [],
+    record { consumed = Consumes-nil _; bounded = omega arith },
+    Progress-none c.args.server.now (g.W.Write.contents c.args.writer.now) _ c.in-Ok.ensures,
+  );
+}
+
+pub returns-then-count-eq0-clause-ended : goal.returns-then-count-eq0-clause-ended
+returns-then-count-eq0-clause-ended g c = λ none.
+    let t = c.loop.invariant.taken in
+    let r = c.in-Ok-read.ensures.bytes in
+    let more = c.loop-test.true in
+    let s = c.answer_last.ensures.ended none c.args.server.now
+    (g.W.Write.contents c.args.writer.now) t.0 t.2 in (
+      t.0,
+      allowed c.loop.counter c.args.reads _ _ _ t.0 (omega (arith, more)) t.1
+          (none_read _ _ _ t.0 c.read.new.buf c.in-Ok-read.count t.1.consumed r.0
+          c.if-count-eq0.true),
+      r.1 c.if-count-eq0.true (omega arith),
+      s.1,
+      s.0,
+    )
+
+pub returns-then-count-eq0-clause-unwritten : goal.returns-then-count-eq0-clause-unwritten
+returns-then-count-eq0-clause-unwritten g c = λ fault.
+    let t = c.loop.invariant.taken in
+    let r = c.in-Ok-read.ensures.bytes in
+    let more = c.loop-test.true in
+    let s = c.answer_last.ensures.unwritten fault c.args.server.now
+    (g.W.Write.contents c.args.writer.now) t.0 t.2 in (
+      t.0,
+      allowed c.loop.counter c.args.reads _ _ _ t.0 (omega (arith, more)) t.1
+          (none_read _ _ _ t.0 c.read.new.buf c.in-Ok-read.count t.1.consumed r.0
+          c.if-count-eq0.true),
+      inr (r.1 c.if-count-eq0.true (omega arith), s),
+    )
+
+pub returns-in_default-answer_chunk-clause-unwritten : goal.returns-in_default-answer_chunk-clause-unwritten
+returns-in_default-answer_chunk-clause-unwritten g c = λ fault.
+    let t = c.loop.invariant.taken in
+    let r = c.in-Ok-read.ensures.bytes in
+    let m = c.in-Ok-read.ensures.bound in
+    let more = c.loop-test.true in
+    let s = c.in_default-answer_chunk.ensures.err c.args.server.now
+    (g.W.Write.contents c.args.writer.now) t.0 t.2 in
+    rw c.ended-in_default-answer_chunk.ensures (
+      t.0 ++ take c.in-Ok-read.count c.read.new.buf,
+      read_more c.loop.counter c.args.reads _ _ _ t.0 (take c.in-Ok-read.count c.read.new.buf)
+          (omega (arith, more))
+          (omega (arith, length-take c.in-Ok-read.count c.read.new.buf, m.0, m.1)) t.1 r.0,
+      inl s,
+    )
+
+pub loop-preserved : goal.loop-preserved
+loop-preserved g c =
+    let t = c.loop.invariant.taken in
+    let r = c.in-Ok-read.ensures.bytes in
+    let s = c.in-Ok-answer_chunk.ensures.ok c.args.server.now
+    (g.W.Write.contents c.args.writer.now) t.0 t.2 in
+    let b = c.in-Ok-answer_chunk.ensures.bound in
+    let m = c.in-Ok-read.ensures.bound in
+    record {
+      bound = let l : c.loop.lines ≤ READ_SIZE * c.loop.counter = c.loop.invariant.bound in
+          omega (arith, b, m.0, m.1);
+      taken = (
+        t.0 ++ take c.in-Ok-read.count c.read.new.buf,
+        read_more c.loop.counter (c.loop.counter + 1) _ _ _ t.0
+            (take c.in-Ok-read.count c.read.new.buf) (omega arith)
+            (omega (arith, length-take c.in-Ok-read.count c.read.new.buf, m.0, m.1)) t.1 r.0,
+        s,
+      );
+    }

@@ -1,0 +1,5 @@
+pub mod Decision
+pub mod Going
+pub mod Playing
+pub mod Progress
+pub mod Writes

@@ -1,0 +1,22 @@
+-- What the server decides, before it is written.
+use Rattle.std.specs.Prelude.{◌≡◌, Result, Ok}
+use Rattle.mot_base.specs.declared.refusal.Refusal.{Refusal}
+use Rattle.mot_lines.specs.declared.line.Line.{Line}
+use Rattle.mot_lines.specs.declared.line.Line.TheVariants as asks
+use Rattle.mot_session.specs.declared.answering.Decision.{Decision}
+use Rattle.mot_session.specs.declared.answering.Decision.TheVariants.{Refused, Accepted, Listing}
+use Rattle.mot_session.specs.declared.answering.Decision.TheVariants.{Packets, Next, Turn}
+use Rattle.mot_session.specs.Raw.{packets_at}
+use Rattle.mot_session.specs.Session.{refused, accepted, listing, packets, Answers}
+use Rattle.mot_session.specs.State.{ServerState}
+
+-- a decision answers the request, with the reply that it stands for on the server then; or it is to
+-- play packets, and nothing was done yet
+abbrev pub Decides : ServerState → Result Line Refusal → Decision → ServerState → Type 0
+Decides before request (Refused r) after = Answers before request (refused r) after
+Decides before request (Accepted d) after = Answers before request (accepted d) after
+Decides before request Listing after = Answers before request (listing after.carousel) after
+Decides before request (Packets group) after =
+    Answers before request (packets (packets_at after.geometry group.items)) after
+Decides before request (Next count) after = (request ≡ Ok (asks.Next count)) × (after ≡ before)
+Decides before request Turn after = (request ≡ Ok asks.Turn) × (after ≡ before)

@@ -1,0 +1,41 @@
+-- What requests of packets give.
+use Rattle.std.specs.Prelude.{ℕ, ◌≡◌, ◌+◌, true, false, List, [], ◌∷◌, ◌++◌, map, replicate}
+use Rattle.std.specs.Prelude.{Some}
+use Rattle.std.specs.List.{flat_map}
+use Rattle.mot_lines.specs.Text.{played_line}
+use Rattle.mot_packets.specs.Written.{bytes_of_packet}
+use Rattle.mot_player.specs.Laws.{AreSent}
+use Rattle.mot_player.specs.Place.{Sent, Request, sent_by}
+use Rattle.mot_session.specs.State.{ServerState}
+
+-- the packets that were sent
+abbrev pub packets_sent : List Sent → List (List ℕ)
+packets_sent sents = map (λ (s : Sent). bytes_of_packet s.packet) sents
+
+-- a line for each
+abbrev pub sent_line : Sent → List ℕ
+sent_line s = played_line (bytes_of_packet s.packet) s.ends_turn
+
+abbrev pub sent_lines : List Sent → List ℕ
+sent_lines sents = flat_map sent_line sents
+
+-- so many requests sent these packets, each of which reads as what was sent; carousel and geometry
+-- stay
+pub record Sends (before : ServerState) (count : ℕ) (sents : List Sent) (after : ServerState) :
+    Type 0 where
+  pub steps : sent_by before.place (replicate count Request) ≡ Some (sents, after.place)
+  pub read : AreSent sents (packets_sent sents)
+  pub geometry : after.geometry ≡ before.geometry
+  pub carousel : after.carousel ≡ before.carousel
+
+-- so many requests sent packets of which none ends a turn
+pub record SendsWithinTurn (before : ServerState) (count : ℕ) (sents : List Sent)
+    (after : ServerState) : Type 0 where
+  pub sends : Sends before count sents after
+  pub ends : map (λ (s : Sent). s.ends_turn) sents ≡ replicate count false
+
+-- the requests up to the first that ends a turn, behind so many others, sent these packets
+pub record SendsTurn (before : ServerState) (others : ℕ) (sents : List Sent)
+    (after : ServerState) : Type 0 where
+  pub sends : Sends before (others + 1) sents after
+  pub ends : map (λ (s : Sent). s.ends_turn) sents ≡ replicate others false ++ true ∷ []

@@ -1,0 +1,74 @@
+-- What was read and written so far.
+use Rattle.std.specs.Prelude.{ℕ, ◌≡◌, ◌≤◌, ◌*◌, ◌⊎◌, List, [], ◌∷◌, ◌++◌, length, Option, Some}
+use Rattle.std.specs.Prelude.{None, Result, Ok}
+use Rattle.std.specs.Io.KnownBytes.{Appends, Consumes}
+use Rattle.mot_base.specs.declared.refusal.Refusal.{Refusal}
+use Rattle.mot_base.specs.declared.refusal.Refusal.TheVariants.{OutOfMemory, ReadFault, WriteFault}
+use Rattle.mot_lines.specs.Line.{line_of}
+use Rattle.mot_lines.specs.declared.line.Line.{Line}
+use Rattle.mot_lines.specs.declared.line.Line.TheVariants as asks
+use Rattle.mot_player.specs.Place.{Sent}
+use Rattle.mot_session.specs.declared.serving.TheConstants.{READ_SIZE}
+use Rattle.mot_session.specs.Played.{Sends, SendsWithinTurn, sent_lines}
+use Rattle.mot_session.specs.Session.{Reply, played, Answers, Session, text_of, texts_of}
+use Rattle.mot_session.specs.State.{ServerState}
+
+-- the reader gave these bytes, in at most so many reads
+pub record TakesInput (reads : ℕ) (unread left : Option (List ℕ)) (input : List ℕ) : Type 0 where
+  pub consumed : Consumes unread left input
+  pub bounded : length input ≤ READ_SIZE * reads
+
+-- In each of these the writer's known bytes were old and are new.
+
+-- some first bytes of these were written
+pub record WritesFront (bytes : List ℕ) (old new : Option (List ℕ)) : Type 0 where
+  pub written : List ℕ
+  pub unwritten : List ℕ
+  pub split : bytes ≡ written ++ unwritten
+  pub appended : Appends old new written
+
+-- What a request's answering had made when its reply was broken off: the whole reply; or some first
+-- packets of a `next` or a `turn` line's, and no more were asked for.
+pub data Begins (before : ServerState) (request : Result Line Refusal) (reply : Reply)
+    (after : ServerState) : Type 0 where
+  whole : Answers before request reply after → Begins before request reply after
+  next_begun : (count made : ℕ) (sents : List Sent) → request ≡ Ok (asks.Next count)
+      → made ≤ count → reply ≡ played sents → Sends before made sents after
+      → Begins before request reply after
+  turn_begun : (made : ℕ) (sents : List Sent) → request ≡ Ok asks.Turn → reply ≡ played sents
+      → SendsWithinTurn before made sents after → Begins before request reply after
+
+-- the request was answered, or its answer was begun, and some first bytes of the reply were
+-- written; a packet was asked for only where the lines of those before it were
+pub record BrokenOff (before : ServerState) (request : Result Line Refusal) (after : ServerState)
+    (old new : Option (List ℕ)) : Type 0 where
+  pub reply : Reply
+  pub begins : Begins before request reply after
+  pub written : WritesFront (text_of reply) old new
+  pub in_order : (first : List Sent) (last : Sent) → reply ≡ played (first ++ last ∷ [])
+      → length (sent_lines first) ≤ length written.written
+
+-- each of these lines was answered
+pub record Served (before after : ServerState) (lines : List (List ℕ))
+    (old new : Option (List ℕ)) : Type 0 where
+  pub replies : List Reply
+  pub session : Session before lines replies after
+  pub appended : Appends old new (texts_of replies)
+
+-- of these lines the first count were answered, and the reply to the one after them was broken off
+pub record Stopped (before after : ServerState) (lines : List (List ℕ)) (count : ℕ)
+    (old new : Option (List ℕ)) : Type 0 where
+  pub answered : List (List ℕ)
+  pub line : List ℕ
+  pub unanswered : List (List ℕ)
+  pub split : lines ≡ answered ++ line ∷ unanswered
+  pub counted : count ≡ length answered
+  pub between : ServerState
+  pub known : Option (List ℕ)
+  pub served : Served before between answered old known
+  pub broken : BrokenOff between (line_of line) after known new
+
+-- what ends serving: the end of the input, or one of three faults
+abbrev pub EndsServing : Option Refusal → Type 0
+EndsServing fault = (fault ≡ None) ⊎ (fault ≡ Some OutOfMemory) ⊎ (fault ≡ Some ReadFault)
+    ⊎ (fault ≡ Some WriteFault)

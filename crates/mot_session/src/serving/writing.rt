@@ -1,0 +1,22 @@
+ghost use Rattle.mot_session.specs.Inner.Writes.{Writes};
+
+use std::io::Write;
+
+/// A write or a flush failed.
+#[derive(Clone, Copy)]
+pub(super) struct WriteFault;
+
+/// Writes all of the bytes; after a fault some first of them were written.
+pub(super) fn write_whole<W: Write>(writer: &mut W, bytes: &[u8]) -> Result<(), WriteFault>
+    ensures { Writes result bytes.now (W.contents writer.old) (W.contents writer.new) }
+{
+    let mut at = 0;
+    while at < bytes.len() {
+        match writer.write(&bytes[at..]) {
+            Ok(0) => return Err(WriteFault),
+            Ok(count) => at += count,
+            Err(_) => return Err(WriteFault),
+        }
+    }
+    Ok(())
+}
