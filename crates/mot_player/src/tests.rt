@@ -1,4 +1,4 @@
-ghost use Rattle.std.specs.Prelude.{◌≡◌, ◌<◌, ℕ, List, [], vec_len, IfOk, map, length};
+ghost use Rattle.std.specs.Prelude.{◌≡◌, ◌<◌, ℕ, List, [], vec_len, IfOk, map, length, ⊤};
 ghost use Rattle.mot_player.specs.Standing.{AreBodiesFor};
 
 use super::*;
@@ -22,6 +22,10 @@ impl Bodies for FailingOnce {
     ghost IsHonest = { λ failing. Unit {0} };
 
     ghost failures = { λ failing. failing.failures };
+
+    ghost HasOnlyRead = { λ old new. ⊤ };
+
+    ghost unread = { λ kept. tt };
 
     fn count(&self) -> usize {
         self.bodies.count()
