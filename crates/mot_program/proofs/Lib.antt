@@ -1,3 +1,5 @@
 pub mod Asked
 pub mod Ends
+pub mod Opened
 pub mod Rows
+pub mod Values

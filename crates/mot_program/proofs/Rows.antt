@@ -2,7 +2,7 @@
 use Rattle.std.proofs.Common.{◌≡◌, Some, None, refl}
 use Rattle.mot_base.specs.Geometry.{IsDefault}
 use Rattle.mot_program.specs.Options.{default_geometry, geometry_of}
-use Rattle.mot_program.specs.declared.program.TheConstants.{READS}
+use Rattle.mot_program.specs.declared.serving.TheConstants.{READS}
 
 reads : READS ≡ 4294967296
 reads = refl

@@ -13,12 +13,27 @@ option_rule name = record (new_rule name) {
   parser = Some (Signed (pos 0) (pos 4294967295));
 }
 
--- `memory`, with its five options
-abbrev pub memory_app : App
-memory_app =
-    with_rule (with_rule (with_rule (with_rule (with_rule (new_app (codes "memory"))
+-- the five options of a geometry, behind what a command has
+abbrev pub with_options : App → App
+with_options a =
+    with_rule (with_rule (with_rule (with_rule (with_rule a
     (option_rule (codes "objects"))) (option_rule (codes "data"))) (option_rule (codes "segment")))
     (option_rule (codes "address"))) (option_rule (codes "packet"))
+
+-- the word that names a disk's file, which has to be there
+abbrev pub disk_rule : Rule
+disk_rule = record (new_rule (codes "DISK")) { action = Some Set; required = true }
+
+-- a command on the file of a disk
+abbrev pub disk_app : Text → App
+disk_app name = with_rule (new_app name) disk_rule
+
+-- `memory` and `format`, with their options
+abbrev pub memory_app : App
+memory_app = with_options (new_app (codes "memory"))
+
+abbrev pub format_app : App
+format_app = with_options (disk_app (codes "format"))
 
 -- the program's words are those after its name, and the first of them is a command
 abbrev pub program_top : Shape
@@ -28,4 +43,10 @@ program_top = record (new_app (codes "motcar")).top {
 }
 
 abbrev pub program_app : App
-program_app = with_subcommand (record { top = program_top; subs = [] }) memory_app.top
+program_app =
+    with_subcommand (with_subcommand (with_subcommand (with_subcommand
+    (with_subcommand (record { top = program_top; subs = [] })
+    memory_app.top) format_app.top)
+    (disk_app (codes "serve")).top)
+    (disk_app (codes "check")).top)
+    (disk_app (codes "migrate")).top

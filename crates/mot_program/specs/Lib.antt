@@ -1,4 +1,6 @@
 pub mod Command
-pub mod Inner
+pub mod Files
 pub mod Options
 pub mod Program
+pub mod Report
+pub mod Task

@@ -1,6 +1,8 @@
 -- The numbers of the command line, and the geometry that they make.
 use Rattle.std.specs.Prelude.{ℕ, ◌≡◌, nat_le, if◌then◌else◌, List, Option, Some, None, unwrap_or}
+use Rattle.std.specs.Prelude.{codes}
 use Rattle.std.specs.Str.Parse.{digits_value, without_leading_plus}
+use Rattle.clap.specs.Words.{Row, first_of}
 use Rattle.mot_base.specs.Reading.{◌>>=◌}
 use Rattle.mot_base.specs.declared.geometry.Geometry.{Geometry}
 use Rattle.mot_program.specs.declared.options.Options.{Options}
@@ -9,6 +11,14 @@ use Rattle.mot_program.specs.declared.options.Options.{Options}
 abbrev pub IsGiven : Option (List ℕ) → Option ℕ → Type 0
 IsGiven None number = number ≡ None
 IsGiven (Some text) number = number ≡ Some (digits_value 10 (without_leading_plus text))
+
+-- these are the numbers that the words give
+pub record AreGiven (rows : List Row) (o : Options) : Type 0 where
+  pub objects : IsGiven (first_of (codes "objects") rows) o.objects
+  pub data_area : IsGiven (first_of (codes "data") rows) o.data_area
+  pub segment : IsGiven (first_of (codes "segment") rows) o.segment
+  pub address : IsGiven (first_of (codes "address") rows) o.address
+  pub packet : IsGiven (first_of (codes "packet") rows) o.packet
 
 -- the numbers of no option
 abbrev pub default_geometry : Geometry
@@ -39,3 +49,8 @@ geometry_of o = do
     address = address;
     packet_length = packet_length;
   })
+
+-- the words give this geometry
+abbrev pub GiveGeometry : List Row → Geometry → Type 0
+GiveGeometry rows geometry =
+    (options : Options) × AreGiven rows options × (geometry_of options ≡ Some geometry)

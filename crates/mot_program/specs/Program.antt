@@ -1,42 +1,23 @@
 -- What the program does.
-use Rattle.std.specs.Prelude.{ℕ, ◌≡◌, ◌≢◌, ◌⊎◌, List, Option, Some, None, option_map, codes}
-use Rattle.std.specs.Io.KnownBytes.{IsAtEnd}
-use Rattle.clap.specs.Words.{IsAmong, Row, Text, fault_of, first_of, subcommand_of}
-use Rattle.clap.specs.declared.error.ErrorKind.{ErrorKind}
-use Rattle.clap.specs.declared.error.ErrorKind.TheVariants.{DisplayHelp}
-use Rattle.mot_base.specs.Geometry.{IsValid}
+use Rattle.std.specs.Prelude.{ℕ, ◌⊎◌, Bool, List, Option}
+use Rattle.std.specs.Io.KnownBytes.{Appends, IsAtEnd}
+use Rattle.disk_store.specs.Disk.{IsStill}
+use Rattle.disk_store.specs.File.{file_state}
+use Rattle.disk_store.specs.declared.file.start.Start.{Ghosts}
+use Rattle.disk_store.specs.declared.file.FileDiskFrom.{FileDiskFrom}
+use Rattle.mot_base.specs.Geometry.{IsValid, length_of}
 use Rattle.mot_base.specs.declared.geometry.Geometry.{Geometry}
 use Rattle.mot_lines.specs.Lines.{whole_lines, lines_of}
-use Rattle.mot_program.specs.declared.options.Options.{Options}
-use Rattle.mot_program.specs.declared.program.TheConstants.{READS}
-use Rattle.mot_program.specs.Command.{program_app}
-use Rattle.mot_program.specs.Options.{IsGiven, geometry_of}
+use Rattle.mot_program.specs.declared.serving.TheConstants.{READS}
+use Rattle.mot_program.specs.declared.task.Task.{Task}
+use Rattle.mot_program.specs.declared.task.Task.TheVariants.{Memory, Format, Check, Migrate}
+use Rattle.mot_program.specs.Files.{IsMadeFile, IsOpenedFile}
+use Rattle.mot_program.specs.Report.{IsFormatted, IsMigrated, IsReport, IsUnderFormat}
+use Rattle.mot_program.specs.Report.{IsUnderMigration, formatted_line, migrated_line}
 use Rattle.mot_session.specs.Served.{TakesInput, Served, Stopped}
 use Rattle.mot_session.specs.State.{ServerState, new_server}
 
--- the words ask to serve from memory, at the geometry of the numbers that they give
-pub record AskToServe (words : List Text) (geometry : Geometry) : Type 0 where
-  pub rows : List Row
-  pub matched : option_map (λ found. found.1) (subcommand_of program_app words) ≡ Some rows
-  pub options : Options
-  pub objects : IsGiven (first_of (codes "objects") rows) options.objects
-  pub data_area : IsGiven (first_of (codes "data") rows) options.data_area
-  pub segment : IsGiven (first_of (codes "segment") rows) options.segment
-  pub address : IsGiven (first_of (codes "address") rows) options.address
-  pub packet : IsGiven (first_of (codes "packet") rows) options.packet
-  pub made : geometry_of options ≡ Some geometry
-
--- the words ask for help
-abbrev pub AskForHelp : List Text → Type 0
-AskForHelp words = IsAmong DisplayHelp (fault_of program_app words)
-
--- a word is wrong, or none names a command
-abbrev pub AreWrong : List Text → Type 0
-AreWrong words =
-    ((kind : ErrorKind) × (kind ≢ DisplayHelp) × IsAmong kind (fault_of program_app words))
-    ⊎ (option_map (λ found. found.1) (subcommand_of program_app words) ≡ None)
-
--- In both of these what the reader had left was unread and is left, and the writer's known bytes
+-- In all of these what the reader had left was unread and is left, and the writer's known bytes
 -- were old and are new.
 
 -- the input was served whole, by a server of this geometry
@@ -58,3 +39,68 @@ pub record ServesInPart (geometry : Geometry) (unread left old new : Option (Lis
   pub ended : Served (new_server geometry) after (whole_lines input) old new
       ⊎ ((count : ℕ) × (Stopped (new_server geometry) after (whole_lines input) count old new
       ⊎ (IsAtEnd left × Stopped (new_server geometry) after (lines_of input) count old new)))
+
+-- On a disk of a file that held the bytes of `start` as it was opened. These are words of contracts
+-- alone: what holds for each `start` holds for what the file really held.
+module _ {S : Type 0} (start : Ghosts S) where
+  -- a file was opened or made, it is formatted now, and that was told
+  pub record Formats (geometry : Geometry) (old new : Option (List ℕ)) : Type 0 where
+    pub before : FileDiskFrom S start
+    pub after : FileDiskFrom S start
+    pub valid : IsValid geometry
+    pub begun : IsOpenedFile before ⊎ IsMadeFile (length_of geometry) before
+    pub formatted : IsFormatted geometry (file_state before) (file_state after)
+    pub printed : Appends old new (formatted_line geometry)
+
+  -- a file was opened or made, and formatting it came to nothing or could not be told
+  pub record FormatsInPart (geometry : Geometry) : Type 0 where
+    pub before : FileDiskFrom S start
+    pub after : FileDiskFrom S start
+    pub valid : IsValid geometry
+    pub begun : IsOpenedFile before ⊎ IsMadeFile (length_of geometry) before
+    pub under : IsUnderFormat geometry (file_state before) (file_state after)
+
+  -- a file was opened, and was only synced
+  pub record OnlyOpens (before after : FileDiskFrom S start) : Type 0 where
+    pub begun : IsOpenedFile before
+    pub still : (file_state after).IsHonest → IsStill (file_state before) (file_state after)
+
+  -- what a file's disk stands for was told
+  pub record Checks (old new : Option (List ℕ)) : Type 0 where
+    pub before : FileDiskFrom S start
+    pub after : FileDiskFrom S start
+    pub opens : OnlyOpens before after
+    pub text : List ℕ
+    pub told : (file_state after).IsHonest → IsReport (file_state before).bytes text
+    pub printed : Appends old new text
+
+  -- a file's disk was brought to layout 2, and that was told
+  pub record Migrates (old new : Option (List ℕ)) : Type 0 where
+    pub before : FileDiskFrom S start
+    pub after : FileDiskFrom S start
+    pub begun : IsOpenedFile before
+    pub done : Bool
+    pub migrated : IsMigrated (file_state before) (file_state after) done
+    pub printed : Appends old new (migrated_line done)
+
+  -- a file was opened, and migrating it came to nothing or could not be told
+  pub record MigratesInPart : Type 0 where
+    pub before : FileDiskFrom S start
+    pub after : FileDiskFrom S start
+    pub begun : IsOpenedFile before
+    pub under : IsUnderMigration (file_state before) (file_state after)
+
+  -- the task was done
+  abbrev pub Does : Task → (unread left old new : Option (List ℕ)) → Type 0
+  Does (Memory geometry) unread left old new = ServesInput geometry unread left old new
+  Does (Format path geometry) unread left old new = Formats geometry old new
+  Does (Check path) unread left old new = Checks old new
+  Does (Migrate path) unread left old new = Migrates old new
+
+  -- the task was begun, and a refusal ended it
+  abbrev pub DoesInPart : Task → (unread left old new : Option (List ℕ)) → Type 0
+  DoesInPart (Memory geometry) unread left old new = ServesInPart geometry unread left old new
+  DoesInPart (Format path geometry) unread left old new = FormatsInPart geometry
+  DoesInPart (Check path) unread left old new =
+      (before : FileDiskFrom S start) × (after : FileDiskFrom S start) × OnlyOpens before after
+  DoesInPart (Migrate path) unread left old new = MigratesInPart

@@ -1,17 +1,19 @@
 ghost use Rattle.std.specs.Prelude.{◌≡◌, false, IfOk};
 ghost use Rattle.clap.specs.Words.{app_of, rule_of};
 ghost use Rattle.clap.specs.declared.builder.Command.TheViews.{out-Command};
-ghost use Rattle.mot_program.specs.Command.{memory_app, option_rule, program_app};
+ghost use Rattle.mot_program.specs.Command.{disk_app, disk_rule, format_app, memory_app};
+ghost use Rattle.mot_program.specs.Command.{option_rule, program_app, with_options};
 
 use clap::{Arg, ArgAction, Command, value_parser};
 use std::alloc::{AllocError, Global};
 
 /// What the top help says below the list of commands.
 const NOTES: &str = "\
-Options of memory: --objects N, --data N, --segment N, --address N, --packet N
+Options of memory and format: --objects N, --data N, --segment N, --address N, --packet N
 
-The lines that motcar reads and its replies are told in docs/FORMATS.md.
-Exit status: 0 where the input ended or help was asked for, 1 after a refusal that is printed to
+The lines that motcar reads and its replies are told in docs/FORMATS.md, how to run it in
+docs/OPERATING.md.
+Exit status: 0 where all was done that was asked for, 1 after a refusal that is printed to
 standard error, 2 where a word is wrong.";
 
 /// The program's command line.
@@ -19,13 +21,29 @@ pub(crate) fn command<'a>(alloc: Global) -> Result<Command<'a>, AllocError>
     ensures { IfOk result (λ command. app_of command ≡ program_app) }
 {
     let memory = memory(alloc)?;
+    let format = format(alloc)?;
+    let serve = on_disk(
+        alloc,
+        "serve",
+        "Serve standard input to standard output from a disk",
+    )?;
+    let check = on_disk(
+        alloc,
+        "check",
+        "Print what a disk keeps, whether it is clean, and its layout",
+    )?;
+    let migrate = on_disk(alloc, "migrate", "Rewrite a disk of layout 1 into layout 2")?;
     Command::new(alloc, "motcar")
         .bin_name("motcar")?
         .about("A data-service server for DAB digital radio")
         .after_help(NOTES)
         .no_binary_name(true)
         .subcommand_required(true)
-        .subcommand(memory)
+        .subcommand(memory)?
+        .subcommand(format)?
+        .subcommand(serve)?
+        .subcommand(check)?
+        .subcommand(migrate)
 }
 
 /// The command `memory`.
@@ -33,12 +51,38 @@ fn memory<'a>(alloc: Global) -> Result<Command<'a>, AllocError>
     ensures app { IfOk result (λ command. app_of command ≡ memory_app) }
     ensures local { IfOk result (λ command. (out-Command command).has_globals ≡ false) }
 {
+    let about = "Serve standard input to standard output from memory";
+    add_options(alloc, Command::new(alloc, "memory").about(about))
+}
+
+/// The command `format`.
+fn format<'a>(alloc: Global) -> Result<Command<'a>, AllocError>
+    ensures app { IfOk result (λ command. app_of command ≡ format_app) }
+    ensures local { IfOk result (λ command. (out-Command command).has_globals ≡ false) }
+{
+    let about = "Make a disk, and its file where there is none";
+    add_options(alloc, on_disk(alloc, "format", about)?)
+}
+
+/// A command on the file of a disk.
+fn on_disk<'a>(alloc: Global, name: &'a str, about: &'a str) -> Result<Command<'a>, AllocError>
+    ensures app { IfOk result (λ command. app_of command ≡ disk_app name.entry.now) }
+    ensures local { IfOk result (λ command. (out-Command command).has_globals ≡ false) }
+{
+    Command::new(alloc, name).about(about).arg(disk(alloc))
+}
+
+/// The command with the five options of a geometry.
+fn add_options<'a>(alloc: Global, command: Command<'a>) -> Result<Command<'a>, AllocError>
+    requires { (out-Command command).has_globals ≡ false }
+    ensures app { IfOk result (λ new. app_of new ≡ with_options (app_of command.entry)) }
+    ensures local { IfOk result (λ new. (out-Command new).has_globals ≡ false) }
+{
     let objects = option(alloc, "objects", "Objects at most, 1 to 250 [default: 16]");
     let data = option(
         alloc,
         "data",
-        "Bytes for all bodies on a disk, 1 to 268435456 [default: 65536]; \
-limits nothing in memory, where each body has at most 262144",
+        "Bytes for all bodies, 1 to 268435456 [default: 65536]",
     );
     let segment = option(
         alloc,
@@ -55,8 +99,7 @@ limits nothing in memory, where each body has at most 262144",
         "packet",
         "Bytes of a packet: 24, 48, 72 or 96 [default: 96]",
     );
-    Command::new(alloc, "memory")
-        .about("Serve standard input to standard output from memory")
+    command
         .arg(objects)?
         .arg(data)?
         .arg(segment)?
@@ -75,4 +118,15 @@ fn option<'a>(alloc: Global, name: &'a str, help: &'a str) -> Arg<'a>
         .help(help)
         .action(ArgAction::Set)
         .value_parser(value_parser!(u32))
+}
+
+/// The word that names a disk's file.
+fn disk<'a>(alloc: Global) -> Arg<'a>
+    ensures rule { rule_of result ≡ disk_rule }
+    ensures local { result.global ≡ false }
+{
+    Arg::new(alloc, "DISK")
+        .help("The file of the disk, or a block device")
+        .action(ArgAction::Set)
+        .required(true)
 }

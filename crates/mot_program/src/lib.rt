@@ -1,12 +1,21 @@
-//! The program's command line, and the program itself over any streams.
+//! The program's command line, and the program itself over any streams and files.
 #![tactic(auto)]
 
+mod checking;
 mod command;
+mod ended;
+mod file;
+mod formatting;
+mod migrating;
 mod options;
+mod printing;
 mod program;
+mod serving;
+mod task;
 
 pub use options::Options;
 pub use program::run_program;
+pub use task::Task;
 
 #[cfg(test)]
 mod tests;

@@ -1,7 +1,6 @@
 ghost use Rattle.std.specs.Prelude.{◌≡◌, ℕ, IfSome};
-ghost use Rattle.clap.specs.Words.{first_value, found_of};
-ghost use Rattle.mot_program.specs.Inner.Given.{AreGiven};
-ghost use Rattle.mot_program.specs.Options.{IsGiven, field_in};
+ghost use Rattle.clap.specs.Words.{first_of, found_of, rows_of};
+ghost use Rattle.mot_program.specs.Options.{AreGiven, GiveGeometry, IsGiven, field_in};
 
 use clap::ArgMatches;
 use mot_base::Geometry;
@@ -50,9 +49,16 @@ fn field(number: Option<u32>, default: u16) -> Option<u16>
     }
 }
 
+/// The geometry that the words give; `None` where a number does not fit its field.
+pub(crate) fn geometry_of(matches: &ArgMatches<'_>) -> Option<Geometry>
+    ensures { IfSome result (GiveGeometry (rows_of (found_of matches.now))) }
+{
+    options_of(matches)?.geometry()
+}
+
 /// The numbers of the options that were given; `None` where one is no number.
-pub(crate) fn options_of(matches: &ArgMatches<'_>) -> Option<Options>
-    ensures { IfSome result (AreGiven (found_of matches.now)) }
+fn options_of(matches: &ArgMatches<'_>) -> Option<Options>
+    ensures { IfSome result (AreGiven (rows_of (found_of matches.now))) }
 {
     Some(Options {
         objects: number_of(matches, "objects")?,
@@ -64,8 +70,9 @@ pub(crate) fn options_of(matches: &ArgMatches<'_>) -> Option<Options>
 }
 
 /// The number of an option, if it was given; `None` where it is no number.
+#[tactic(auto, using(crate::proofs::Values::first_found))]
 fn number_of(matches: &ArgMatches<'_>, name: &str) -> Option<Option<u32>>
-    ensures { IfSome result (IsGiven (first_value (found_of matches.now) name.now)) }
+    ensures { IfSome result (IsGiven (first_of name.now (rows_of (found_of matches.now)))) }
 {
     match matches.get_str(name) {
         Some(text) => match text.parse::<u32>() {

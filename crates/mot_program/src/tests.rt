@@ -1,7 +1,11 @@
 ghost use Rattle.std.specs.Prelude.{Some};
 
+mod files;
+
 use super::*;
+use disk_store::Unknown;
 use std::alloc::Global;
+use std::fs::File;
 use std::io;
 use std::io::Write;
 use std::process::Abort;
@@ -12,22 +16,43 @@ const HELLO: &[u8] = b"raw 4 2 68656c6c6f\n";
 
 const HELLO_PACKET: &[u8] = b"packet 0c011074008000120002000568656c6c6f34cf0000008561\n";
 
-/// Runs the program, and compares its status and what it wrote.
+/// Runs the program on an input, and compares its status and what it wrote.
+fn expect_served(
+    rt: &(impl Abort + Files<File = File>),
+    alloc: Global,
+    words: &[&str],
+    input: &[u8],
+    status: u8,
+    output: &[u8],
+    errors: &[u8],
+) {
+    let mut reader = input;
+    let mut written = Vec::new(alloc);
+    let mut complaints = Vec::new(alloc);
+    let answer = run_program(
+        rt,
+        alloc,
+        words,
+        Unknown,
+        &mut reader,
+        &mut written,
+        &mut complaints,
+    );
+    assert_eq!(rt; answer, status, "{words:?}");
+    assert_eq!(rt; written.as_slice(), output, "{words:?}");
+    assert_eq!(rt; complaints.as_slice(), errors, "{words:?}");
+}
+
+/// The same, on the line `HELLO`.
 fn expect_run(
-    rt: &(impl Abort + Files),
+    rt: &(impl Abort + Files<File = File>),
     alloc: Global,
     words: &[&str],
     status: u8,
     output: &[u8],
     errors: &[u8],
 ) {
-    let mut reader = HELLO;
-    let mut written = Vec::new(alloc);
-    let mut complaints = Vec::new(alloc);
-    let answer = run_program(rt, alloc, words, &mut reader, &mut written, &mut complaints);
-    assert_eq!(rt; answer, status, "{words:?}");
-    assert_eq!(rt; written.as_slice(), output, "{words:?}");
-    assert_eq!(rt; complaints.as_slice(), errors, "{words:?}");
+    expect_served(rt, alloc, words, HELLO, status, output, errors);
 }
 
 #[test]
@@ -70,11 +95,19 @@ fn refused_geometries(rt: HostRuntime) {
 }
 
 /// Runs the program, and looks whether it printed to the output or to the errors alone.
-fn expect_text(rt: &(impl Abort + Files), alloc: Global, words: &[&str], status: u8) {
+fn expect_text(rt: &(impl Abort + Files<File = File>), alloc: Global, words: &[&str], status: u8) {
     let mut reader = HELLO;
     let mut written = Vec::new(alloc);
     let mut errors = Vec::new(alloc);
-    let answer = run_program(rt, alloc, words, &mut reader, &mut written, &mut errors);
+    let answer = run_program(
+        rt,
+        alloc,
+        words,
+        Unknown,
+        &mut reader,
+        &mut written,
+        &mut errors,
+    );
     assert_eq!(rt; answer, status, "{words:?}");
     assert_eq!(rt; written.is_empty(), status == 2, "{words:?}");
     assert_eq!(rt; errors.is_empty(), status == 0, "{words:?}");
@@ -94,16 +127,24 @@ fn wrong_words_and_help(rt: HostRuntime) {
 }
 
 /// What the program writes to its output, run on these words and this input.
-fn output(rt: &impl Files, alloc: Global, words: &[&str], input: &[u8]) -> Vec<u8> {
+fn output(rt: &impl Files<File = File>, alloc: Global, words: &[&str], input: &[u8]) -> Vec<u8> {
     let mut reader = input;
     let mut written = Vec::new(alloc);
     let mut errors = Vec::new(alloc);
-    run_program(rt, alloc, words, &mut reader, &mut written, &mut errors);
+    run_program(
+        rt,
+        alloc,
+        words,
+        Unknown,
+        &mut reader,
+        &mut written,
+        &mut errors,
+    );
     written
 }
 
 /// Looks whether the help of these words has this line.
-fn expect_line(rt: &(impl Abort + Files), alloc: Global, words: &[&str], line: &str) {
+fn expect_line(rt: &(impl Abort + Files<File = File>), alloc: Global, words: &[&str], line: &str) {
     let text = output(rt, alloc, words, b"");
     let has_line = text
         .split(|byte| *byte == b'\n')
@@ -114,8 +155,10 @@ fn expect_line(rt: &(impl Abort + Files), alloc: Global, words: &[&str], line: &
 #[test]
 fn help_texts(rt: HostRuntime) {
     let alloc = rt.alloc();
-    let options = "Options of memory: --objects N, --data N, --segment N, --address N, --packet N";
-    let formats = "The lines that motcar reads and its replies are told in docs/FORMATS.md.";
+    let options =
+        "Options of memory and format: --objects N, --data N, --segment N, --address N, --packet N";
+    let formats =
+        "The lines that motcar reads and its replies are told in docs/FORMATS.md, how to run it in";
     expect_line(&rt, alloc, &["help"], "Usage: motcar <COMMAND>");
     expect_line(&rt, alloc, &["--help"], options);
     expect_line(&rt, alloc, &["--help"], formats);
@@ -185,7 +228,15 @@ fn failing_output(rt: HostRuntime) {
             };
             let mut reader = HELLO;
             let mut errors = Vec::new(alloc);
-            let status = run_program(&rt, alloc, &[word], &mut reader, &mut writer, &mut errors);
+            let status = run_program(
+                &rt,
+                alloc,
+                &[word],
+                Unknown,
+                &mut reader,
+                &mut writer,
+                &mut errors,
+            );
             let fault = b"motcar: 23 WriteFault\n".as_slice();
             assert_eq!(rt; status, 1, "{word} {room}");
             assert_eq!(rt; errors.as_slice(), fault, "{word} {room}");

@@ -3,6 +3,8 @@ use Rattle.mot_repository.specs.Laws.{StandingsAreSound}
 use Rattle.mot_repository.proofs.Soundness.{keeps}
 -- an object's body lies where its extent says
 pub use Rattle.mot_repository.proofs.Bodies.{body_held}
+-- a journal stands where an image has its records
+pub use Rattle.mot_repository.proofs.Places.{stands_where}
 
 -- what an image of bytes stands for is sound
 pub standings-are_sound : StandingsAreSound

@@ -1,6 +1,7 @@
 //! The carousel server's program.
 #![tactic(auto)]
 
+use disk_store::Unknown;
 use mot_base::Refusal;
 use mot_program::run_program;
 use std::io::{BufWriter, ErrorKind};
@@ -28,6 +29,7 @@ fn run(rt: &HostRuntime) -> io::Result<u8> {
         rt,
         alloc,
         words.as_slice(),
+        Unknown,
         &mut reader,
         &mut writer,
         &mut errors,

@@ -1,36 +1,11 @@
-use Rattle.std.proofs.Common.{◌≡◌, ◌∙◌, ap₂, rules, codes, false, Bool}
+use Rattle.std.proofs.Common.{◌≡◌, ◌∙◌, ap, rules, codes}
 use Rattle.std.proofs.lemmas.Result.{IfOk-weaker}
-use Rattle.clap.specs.Words.{app_of, new_app, with_rule}
-use Rattle.clap.specs.declared.builder.Command.TheViews.{out-Command}
-use Rattle.std.specs.Prelude.{◌||◌}
+use Rattle.clap.specs.Words.{app_of, new_app}
+use Rattle.mot_program.specs.Command.{with_options}
 use Rattle.mot_program.proofs.command.memory.Goals as goal
-
--- neither has arguments for all levels
-none : (a b c : Bool) → c ≡ (a || b) → a ≡ false → b ≡ false → c ≡ false
-none a b c e f g = rw (f, g) at e
 
 pub returns-clause-app : goal.returns-clause-app
 returns-clause-app c =
     let begun : app_of c.about.result ≡ new_app (codes "memory") = search rules in
-    IfOk-weaker c.arg-5.result _ _ (λ command h.
-    h.shape c.option-packet.ensures.local ∙ ap₂ with_rule
-    (c.in_ok-arg-4.ensures.shape c.option-address.ensures.local ∙ ap₂ with_rule
-    (c.in_ok-arg-3.ensures.shape c.option-segment.ensures.local ∙ ap₂ with_rule
-    (c.in_ok-arg-2.ensures.shape c.option-data.ensures.local ∙ ap₂ with_rule
-    (c.in_ok-arg.ensures.shape c.option-objects.ensures.local ∙ ap₂ with_rule
-    begun c.option-objects.ensures.rule) c.option-data.ensures.rule)
-    c.option-segment.ensures.rule) c.option-address.ensures.rule) c.option-packet.ensures.rule)
-    c.arg-5.ensures
-
-pub returns-clause-local : goal.returns-clause-local
-returns-clause-local c =
-    let begun : (out-Command c.about.result).has_globals ≡ false = search rules in
-    IfOk-weaker c.arg-5.result _ _ (λ command h.
-    none _ _ _ h.globals
-    (none _ _ _ c.in_ok-arg-4.ensures.globals
-    (none _ _ _ c.in_ok-arg-3.ensures.globals
-    (none _ _ _ c.in_ok-arg-2.ensures.globals
-    (none _ _ _ c.in_ok-arg.ensures.globals begun
-    c.option-objects.ensures.local) c.option-data.ensures.local) c.option-segment.ensures.local)
-    c.option-address.ensures.local) c.option-packet.ensures.local)
-    c.arg-5.ensures
+    IfOk-weaker c.add_options.result _ _ (λ command h. h ∙ ap with_options begun)
+    c.add_options.ensures.app

@@ -1,0 +1,102 @@
+//! What `check` does.
+ghost use Rattle.std.specs.Prelude.{◌≡◌, ◌↔◌, ◌++◌, ℕ, Bool, List, IsTrue, Ok, OnErr, OnOk, ◌⊎◌};
+ghost use Rattle.std.specs.Io.KnownBytes.{Appends, Keeps};
+ghost use Rattle.disk_store.specs.declared.file.FileDiskFrom.{FileDiskFrom};
+ghost use Rattle.disk_store.specs.Disk.{KeepsLength, IsStill, IsUnchanged};
+ghost use Rattle.mot_journal.specs.Image.{Standing, stands_for, IsClean};
+ghost use Rattle.mot_journal.specs.Journal.{StandsWhere};
+ghost use Rattle.mot_lines.specs.Inner.Listing.{listing_text_beside};
+ghost use Rattle.mot_program.specs.Program.{Checks, OnlyOpens};
+ghost use Rattle.mot_program.specs.Report.{IsReport, clean_line, layout_line};
+
+use crate::ended::Ended;
+use crate::file::open_file;
+use crate::printing::{write_bytes, write_carousel, write_last};
+use disk_store::{Disk, Start};
+use mot_base::Refusal;
+use mot_journal::Layout;
+use mot_server::{Refused, Server};
+use std::alloc::Global;
+use std::fs::File;
+use std::io::Write;
+use std::rt::Files;
+
+/// Prints what the disk of the file at the path keeps, whether it is clean, and its layout.
+pub(crate) fn check_file<T: Files<File = File>, S: Start, W: Write>(
+    rt: &T,
+    alloc: Global,
+    path: &str,
+    start: S,
+    writer: &mut W,
+) -> Result<(), Refusal>
+    ensures done { OnOk result (Checks S.Start (W.contents writer.old) (W.contents writer.new)) }
+    ensures part { OnErr result (Keeps (W.contents writer.old) (W.contents writer.new)
+        ⊎ ((before : FileDiskFrom S S.Start) × (after : FileDiskFrom S S.Start)
+        × OnlyOpens S.Start before after)) }
+{
+    let disk = open_file(rt, path, start)?;
+    check_disk(alloc, disk, writer).result
+}
+
+/// Prints what a disk keeps, whether it is clean, and its layout. Nothing on it changes, but that
+/// it is synced.
+pub(crate) fn check_disk<D: Disk, W: Write>(alloc: Global, disk: D, writer: &mut W) -> Ended<D>
+    ensures keeps { KeepsLength (D.state disk) (D.state result.disk) }
+    ensures still { (D.state result.disk).IsHonest
+        → IsStill (D.state disk) (D.state result.disk) }
+    ensures told { OnOk result.result ((text : List ℕ)
+        × Appends (W.contents writer.old) (W.contents writer.new) text
+        × ((D.state result.disk).IsHonest → IsReport (D.state disk).bytes text)) }
+{
+    let mut server = match Server::open(alloc, disk) {
+        Ok(server) => server,
+        Err(Refused { refusal, disk }) => {
+            return Ended {
+                disk,
+                result: Err(refusal),
+            };
+        }
+    };
+    let result = report(&mut server, writer);
+    Ended {
+        disk: server.into_disk(),
+        result,
+    }
+}
+
+/// Prints what an open server keeps, whether its disk is clean, and its layout.
+fn report<D: Disk, W: Write>(server: &mut Server<D>, writer: &mut W) -> Result<(), Refusal>
+    ensures keeps { KeepsLength (D.state server.old.disk) (D.state server.new.disk) }
+    ensures unchanged { (D.state server.new.disk).IsHonest
+        → IsUnchanged (D.state server.old.disk) (D.state server.new.disk) }
+    ensures told { OnOk result ((clean : Bool)
+        × Appends (W.contents writer.old) (W.contents writer.new)
+        (listing_text_beside server.old.view.carousel
+        ++ clean_line clean ++ layout_line server.old.view.journal.layout)
+        × ((s : Standing) → (D.state server.new.disk).IsHonest
+        → stands_for (D.state server.old.disk).bytes ≡ Ok s
+        → StandsWhere server.old.view.journal (D.state server.old.disk).bytes
+        → IsTrue clean ↔ IsClean (D.state server.old.disk).bytes)) }
+{
+    let is_clean = server.is_clean()?;
+    write_carousel(writer, server.carousel())?;
+    write_bytes(writer, clean_text(is_clean))?;
+    write_last(writer, layout_text(server.layout()))
+}
+
+/// Whether a disk is clean, as a line.
+fn clean_text(is_clean: bool) -> &'static [u8]
+    ensures { result.now ≡ clean_line is_clean }
+{
+    if is_clean { b"clean\n" } else { b"not clean\n" }
+}
+
+/// A layout, as a line.
+fn layout_text(layout: Layout) -> &'static [u8]
+    ensures { result.now ≡ layout_line layout }
+{
+    match layout {
+        Layout::One => b"layout 1\n",
+        Layout::Two => b"layout 2\n",
+    }
+}

@@ -1,0 +1,50 @@
+//! What the words of the command line ask for.
+ghost use Rattle.std.specs.Prelude.{IfSome};
+ghost use Rattle.clap.specs.Words.{found_of, rows_of};
+ghost use Rattle.mot_program.specs.Task.{IsTask, NameDisk};
+
+use crate::options::geometry_of;
+use clap::ArgMatches;
+use mot_base::Geometry;
+
+/// What the program is to do.
+#[derive(Clone, Copy, Debug)]
+pub enum Task<'a> {
+    /// Serve a carousel in memory.
+    Memory(Geometry),
+    /// Make a disk of the file at this path.
+    Format {
+        /// The file's path.
+        path: &'a str,
+        /// The sizes of the disk.
+        geometry: Geometry,
+    },
+    /// Tell what the disk of the file at this path keeps.
+    Check(&'a str),
+    /// Rewrite the disk of the file at this path into layout 2.
+    Migrate(&'a str),
+}
+
+/// The task of a command and the words behind it; `None` where a number does not fit its field.
+pub(crate) fn task_of<'a>(name: &str, words: &ArgMatches<'a>) -> Option<Task<'a>>
+    ensures { IfSome result (IsTask name.now (rows_of (found_of words.now))) }
+{
+    match name {
+        "memory" => Some(Task::Memory(geometry_of(words)?)),
+        "format" => Some(Task::Format {
+            path: disk_of(words)?,
+            geometry: geometry_of(words)?,
+        }),
+        "check" => Some(Task::Check(disk_of(words)?)),
+        "migrate" => Some(Task::Migrate(disk_of(words)?)),
+        _ => None,
+    }
+}
+
+/// The path that names the disk.
+#[tactic(auto, using(crate::proofs::Values::first_found))]
+fn disk_of<'a>(words: &ArgMatches<'a>) -> Option<&'a str>
+    ensures { IfSome result (λ path. NameDisk (rows_of (found_of words.now)) path.now) }
+{
+    words.get_str("DISK")
+}
