@@ -10,5 +10,7 @@ pub use Rattle.mot_server.proofs.Survival.{after_history_none}
 pub use Rattle.mot_server.proofs.Read.{holds_still, keeps_on, unchanged_on}
 -- a device fault leaves the carousel in memory as it was
 pub use Rattle.mot_server.proofs.Runs.{still_agrees}
+-- a geometry that is valid
+pub use Rattle.mot_server.proofs.Turns.{valid_is}
 -- a halted server refuses, and nothing changes
 pub use Rattle.mot_server.proofs.Answered.{not_halted, stays_halted}

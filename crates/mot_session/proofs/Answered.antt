@@ -66,7 +66,8 @@ not_ok done refusal e = subst IsFailure e tt
 -- ---- a command
 
 module _ {D : Type 0} (old new : ServerView D) (s : Standing) (start now : State) (c : Command)
-    (stands : StandsFor old.view s start) (time : IsLater (state_of old s start) (state_of new s now)) where
+    (stands : StandsFor old.view s start) (later : start.failures ≤ now.failures)
+    (any_moment : Holds old.view s start → Throughout start now (IsBeforeOrAfter s c)) where
   -- it was accepted
   changed_of : (done : Done) → IsAnswered old.view new.view start now c (Ok done)
       → IsChanged old.view c done new.view
@@ -90,18 +91,19 @@ module _ {D : Type 0} (old new : ServerView D) (s : Standing) (start now : State
           layout = changed.layout;
           halted = changed.halted;
           place = place;
-          later = record { moment = time.moment; failures = time.failures };
+          later = record { moment = (any_moment (stands.holds going)).later; failures = later };
         })),
       )
 
   -- it was refused, and nothing changed
-  stays-refused : new.view ≡ old.view → new.player ≡ old.player → Stays (state_of old s start) (state_of new s now)
-  stays-refused same player_same = record {
+  stays-refused : start.moment ≤ now.moment → new.view ≡ old.view → new.player ≡ old.player
+      → Stays (state_of old s start) (state_of new s now)
+  stays-refused time same player_same = record {
     keeps = record {
       standing = refl;
       layout = ap (λ (v : RepositoryView). v.journal.layout) same;
       halted = ap (λ (v : RepositoryView). v.halted) same;
-      later = time;
+      later = record { moment = time; failures = later };
     };
     place = ap (λ (p : player.Standing). player.place_of p (bodies_of s.carousel)) player_same;
   }
@@ -119,8 +121,8 @@ module _ {D : Type 0} (old new : ServerView D) (s : Standing) (start now : State
       → Answers (state_of old s start) (Ok (asks.Command c)) (session.refused r) (state_of new s now)
   unfolding IsAnswer
   why-refused r (repository.halted is e) same = session.halted is tt (ap session.refused e) same
-  why-refused r (repository.long_name going one long e) same =
-      decided (λ needs. going) (refuses r refl (session.long_name one long e) same)
+  why-refused r (repository.long_name going layout long e) same =
+      decided (λ needs. going) (refuses r refl (session.long_name layout long e) same)
   why-refused r (repository.by_rules going room rules) same =
       decided (λ needs. going) (refuses r refl (session.by_rules room (rules-on r rules)) same)
   why-refused r (repository.no_room going room next done changes none e) same =
@@ -149,7 +151,7 @@ module _ {D : Type 0} (old new : ServerView D) (s : Standing) (start now : State
           (stands.holds (subst (λ (v : RepositoryView). IsFalse v.halted) same is)) honest still same;
     },
     why-refused r (subst (λ y. IsRefusal old.view c y) (sym (same_refusal r x e)) why)
-        (stays-refused same still_player),
+        (stays-refused still.time.later same still_player),
   )
   Answers-refused_command r (failed e going rises halts) still_player honest = (
     s,
@@ -163,7 +165,7 @@ module _ {D : Type 0} (old new : ServerView D) (s : Standing) (start now : State
       layout = halts.layout;
       place = ap (λ (p : player.Standing). player.place_of p (bodies_of s.carousel)) still_player;
       halted = halts.halted;
-      later = time;
+      later = record { moment = (any_moment (stands.holds going)).later; failures = later };
     })),
   )
 
@@ -177,6 +179,13 @@ crosses-unchanged view s start now commands sound holds still =
     stays start start now (StandsAfterSome s [] commands)
     (begins start (StandsAfterSome s [] commands) sound
     (λ image left. none_of s [] commands s image (after_none s) (holds.each image left))) still.time
+
+-- nothing was asked of the disk
+pub crosses-none : (view : RepositoryView) (s : Standing) (start : State) (commands : List Command)
+    → IsHonestDisk start → Holds view s start → Throughout start start (StandsAfterSome s [] commands)
+crosses-none view s start commands sound holds =
+    begins start (StandsAfterSome s [] commands) sound
+    (λ image left. none_of s [] commands s image (after_none s) (holds.each image left))
 
 tried : (s : Standing) (start now : State) (c : Command) → Throughout start now (IsBeforeOrAfter s c)
     → Throughout start now (StandsAfterSome s [] (c ∷ []))
@@ -274,6 +283,9 @@ module _ (before after : ServerState) where
       (plays-parsed (asks.Next count) request asked o d.0, d.1, d.2)
   Decides-parsed Turn request asked o d = (plays-parsed asks.Turn request asked o d.0, d.1, d.2)
 
+abbrev empty : Bool → List Command
+empty b = if b then [] else []
+
 -- and what was written is of that command
 pub written_by-parsed : (decision : Decision) (request asked : Result Line Refusal) (s : Standing) (start now : State)
     → IsParsed request asked → Throughout start now (StandsAfterSome s [] (written_by decision request))
@@ -286,6 +298,6 @@ written_by-parsed decision request asked s start now (inr e) time =
     (subst (λ r. Throughout start now (StandsAfterSome s [] (written_by decision r))) e.0 time))
     (λ image is. more s [] [] (written_by decision asked) image is)
     where
-  nothing : (b : Bool) → (if b then ([] : List Command) else []) ≡ []
+  nothing : (b : Bool) → empty b ≡ []
   nothing true = refl
   nothing false = refl

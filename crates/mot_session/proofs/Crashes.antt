@@ -210,7 +210,7 @@ module _ (start now : State) (between : ServerState) (x : Exchange) (sound_start
   unfolding Session
   stored-more before [] s stored =
       let since : LeavesSince start between failed = subst (λ b. LeavesSince start b failed) (sym s) stored in
-      let mine : LeavesSince now between ((([] : List Command) ++ accepted_in x) ++ (failed ++ failed_in x)) =
+      let mine : LeavesSince now between (accepted_in x ++ (failed ++ failed_in x)) =
       leaves_more between [] (omega (arith, at_start)) (after_none between.standing) since in (
         subst (λ b. LeavesSince now b (accepted_by (x ∷ []) ++ (failed ++ failed_in x))) s
             (subst (λ l. LeavesSince now between (l ++ (failed ++ failed_in x))) (sym (append-nil (accepted_in x))) mine),
@@ -239,3 +239,10 @@ stored-push start now before between xs x sound_start sound at_start at_now late
     (sym (flat_map-append failed_in xs (x ∷ []) ∙ ap (λ l. failed_by xs ++ l) (append-nil (failed_in x))))
     (stored-more start now between x sound_start sound at_start at_now later what crosses each
     (failed_by xs) (session-fine before xs between s) before xs s stored)
+
+-- before the first line
+pub stored-none : (now : State) (before : ServerState) → IsHonestDisk now → before.moment ≡ now.moment
+    → ((image : List ℕ) → now.MayLeave image → IsOf before.standing image) → IsStored now [] before []
+stored-none now before sound at_now each = λ image left.
+    none_of before.standing [] [] before.standing image (after_none before.standing)
+    (each image (sound.only_now image (subst (λ t. now.LeftSince t image) at_now left)))

@@ -1,11 +1,10 @@
 pub mod Answered
-pub mod Continued
+pub mod Crashes
 pub mod Fronts
-pub mod Going
 pub mod Joined
-pub mod Laws
+pub mod Outcomes
 pub mod Packets
 pub mod Rows
-pub mod Runs
-pub mod Turns
 pub mod Written
+pub mod Runs
+pub mod Requests

@@ -40,7 +40,10 @@ done_by reply request = if is_accepting reply then command_in request else []
 abbrev pub failed_by_reply : Reply → Result Line Refusal → List command.Command
 failed_by_reply reply request = if is_failing reply then command_in request else []
 
-no_command : (b : Bool) → (if b then ([] : List command.Command) else []) ≡ []
+abbrev empty : Bool → List command.Command
+empty b = if b then [] else []
+
+no_command : (b : Bool) → empty b ≡ []
 no_command true = refl
 no_command false = refl
 
@@ -49,15 +52,15 @@ module _ (before after : ServerState) (request : Result Line Refusal) where
   unchanged : (reply : Reply) → is_accepting reply ≡ false → is_failing reply ≡ false
       → after.standing ≡ before.standing → after.halted ≡ before.halted
       → Outcome before after (done_by reply request) (failed_by_reply reply request)
-  unchanged reply no fine standing same = nothing
-      (ap (λ b. if b then command_in request else []) no)
+  unchanged reply isnt fine standing same = nothing
+      (ap (λ b. if b then command_in request else []) isnt)
       (ap (λ b. if b then command_in request else []) fine) standing same
 
   unchanged_so : (reply is : Reply) → reply ≡ is → is_accepting is ≡ false → is_failing is ≡ false
       → after.standing ≡ before.standing → after.halted ≡ before.halted
       → Outcome before after (done_by reply request) (failed_by_reply reply request)
-  unchanged_so reply is e no fine standing same =
-      unchanged reply (ap is_accepting e ∙ no) (ap is_failing e ∙ fine) standing same
+  unchanged_so reply is e isnt fine standing same =
+      unchanged reply (ap is_accepting e ∙ isnt) (ap is_failing e ∙ fine) standing same
 
 -- the rules refuse with none of the disk's refusals
 put-refuses : (taken full : Bool) (x : Carousel × Done) (refusal : Refusal)
@@ -86,7 +89,7 @@ rules-refuse c limit (orders.Period period) refusal e = cc
 
 refused-fine : (s : ServerState) (c : command.Command) (refusal : Refusal) → IsRefused s c refusal
     → is_device_fault refusal ≡ false
-refused-fine s c refusal (long_name one long e) = ap is_device_fault e
+refused-fine s c refusal (long_name layout long e) = ap is_device_fault e
 refused-fine s c refusal (by_rules room rules) =
     rules-refuse s.standing.carousel s.standing.geometry.objects c refusal rules
 refused-fine s c refusal (no_room room next is none e) = ap is_device_fault e
