@@ -7,10 +7,10 @@ pub use Rattle.mot_server.proofs.Runs.{after_none, after_one, after_both}
 pub use Rattle.mot_server.proofs.Runs.{more, less_sure, none_of, before_or_after}
 pub use Rattle.mot_server.proofs.Survival.{after_history_none}
 -- calls that change nothing, one after the other
-pub use Rattle.mot_server.proofs.Read.{holds_still, keeps_on, unchanged_on}
+pub use Rattle.mot_server.proofs.Read.{holds_still, keeps_on, rises_on, unchanged_on}
 -- a device fault leaves the carousel in memory as it was
 pub use Rattle.mot_server.proofs.Runs.{still_agrees}
 -- a geometry that is valid
 pub use Rattle.mot_server.proofs.Turns.{valid_is}
 -- a halted server refuses, and nothing changes
-pub use Rattle.mot_server.proofs.Answered.{not_halted, stays_halted}
+pub use Rattle.mot_server.proofs.Answered.{not_halted}

@@ -1,6 +1,6 @@
 -- What answers a request.
 use Rattle.std.proofs.Common.{◌≡◌, ℕ, ◌≤◌, ◌⊎◌, inl, inr, ⊎_elim, Bool, true, false, List, [], ◌∷◌, ◌++◌}
-use Rattle.std.proofs.Common.{Ok, Err, Result, refl, sym, ap, ◌∙◌, subst, arith}
+use Rattle.std.proofs.Common.{Ok, Err, Result, refl, sym, ap, ◌∙◌, subst, arith, append-nil}
 use Rattle.std.specs.Prelude.{IsTrue, IsFalse, if◌then◌else◌}
 use Rattle.disk_store.specs.Disk.{State, IsHonestDisk, IsUnchanged, Throughout}
 use Rattle.disk_store.proofs.Laws.{begins, stays, weakens}
@@ -16,7 +16,7 @@ use Rattle.mot_groups.specs.Group.{bytes_of_group}
 use Rattle.mot_journal.specs.Image.{Standing}
 use Rattle.mot_lines.specs.declared.line.Line.{Line}
 use Rattle.mot_lines.specs.declared.line.Line.TheVariants as asks
-use Rattle.mot_lines.specs.Line.{IsParsed, NeedsMemory}
+use Rattle.mot_lines.specs.Line.{IsParsed, NeedsMemory, line_of}
 use Rattle.mot_player.specs.Place.{change_turn}
 use Rattle.mot_player.specs.Standing as player
 use Rattle.mot_player.specs.Turn.{turn_of_carousel}
@@ -26,7 +26,7 @@ use Rattle.mot_repository.specs.Repository.{RepositoryView, Agrees, Holds, IsBef
 use Rattle.mot_server.specs.Runs.{StandsAfterSome}
 use Rattle.mot_server.specs.Server.{ServerView, place_in, bodies_of}
 use Rattle.mot_server.proofs.Laws.{after_none, before_or_after, holds_still, is_accepted, more, no_gap}
-use Rattle.mot_server.proofs.Laws.{none_of, not_halted, still_agrees}
+use Rattle.mot_server.proofs.Laws.{none_of, not_halted, still_agrees, unchanged_on}
 use Rattle.mot_session.specs.Raw.{raw_group, packets_at}
 use Rattle.mot_session.specs.Inner.Decision.{Decides, may_be_done, written_by}
 use Rattle.mot_session.specs.Session as session
@@ -37,6 +37,8 @@ use Rattle.mot_session.specs.declared.answering.Decision.TheVariants.{Refused, A
 use Rattle.mot_session.specs.declared.answering.Decision.TheVariants.{Packets, Next, Turn}
 use Rattle.mot_session.specs.State.{ServerState, IsLater, KeepsCarousel, StandsFor, Stays, state_of}
 use Rattle.mot_session.specs.Stored.{command_in, is_device_fault}
+use Rattle.mot_session.specs.Inner.Writes.{Crosses, OnlyReads, may_have_done}
+use Rattle.mot_session.proofs.Outcomes.{done_by, failed_by_reply}
 
 pub stays-none : (state : ServerState) → Stays state state
 stays-none state = record {
@@ -208,6 +210,15 @@ crosses-refused view view' s start now c r sound holds (failed e going rises hal
     subst (λ x. Throughout start now (StandsAfterSome s [] (written_by (Refused x) (Ok (asks.Command c)))))
     (sym (same_refusal r DeviceFault e)) (tried s start now c time)
 
+-- a halted server refuses, and nothing changes
+pub stays_halted : (view view' : RepositoryView) (start now : State) (c : Command) (r : Refusal)
+    → IsTrue view.halted → IsAnswered view view' start now c (Err r)
+    → (view' ≡ view) × IsUnchanged start now
+stays_halted view view' start now c r is (accepted d e changed) = absurd (not_ok d r e)
+stays_halted view view' start now c r is (refused x e why same still) = (same, still)
+stays_halted view view' start now c r is (failed e going rises halts) =
+    absurd (not_halted view.halted is going)
+
 -- ---- other lines
 
 module _ (state : ServerState) where
@@ -301,3 +312,33 @@ written_by-parsed decision request asked s start now (inr e) time =
   nothing : (b : Bool) → empty b ≡ []
   nothing true = refl
   nothing false = refl
+
+-- ---- a line
+
+-- what a line may have done, by its reply
+line_did : (reply : Reply) (request : Result Line Refusal)
+    → (if may_have_done reply then command_in request else [])
+    ≡ done_by reply request ++ failed_by_reply reply request
+line_did (session.refused r) request = refl
+line_did (session.accepted d) request = sym (append-nil (command_in request))
+line_did (session.listing c) request = refl
+line_did (session.packets ps) request = refl
+line_did (session.played sents) request = refl
+line_did (session.cut_short sents) request = refl
+
+-- what a crash leaves of a line, from what it leaves of its command and of the reply
+pub Crosses-line : {D : Type 0} (old mid new : ServerView D) (s : Standing) (start between now : State)
+    (line : List ℕ) (reply : Reply) (after : ServerState) (decision : Decision) (request : Result Line Refusal)
+    → StandsFor old.view s start → now.IsHonest → OnlyReads mid new between now
+    → IsParsed request (line_of line) → may_have_done reply ≡ may_be_done decision
+    → (Holds old.view s start → Throughout start between (StandsAfterSome s [] (written_by decision request)))
+    → (IsTrue old.view.halted → IsUnchanged start between)
+    → Crosses start now (state_of old s start) (record { line = line; reply = reply; after = after })
+Crosses-line old mid new s start between now line reply after decision request stands honest reads parsed same crossed kept = record {
+  going = λ going.
+      let first = written_by-parsed decision request (line_of line) s start between parsed (crossed (stands.holds going)) in
+      let all = stays start between now (StandsAfterSome s [] (written_by decision (line_of line))) first (reads.unchanged honest).time in
+      subst (λ l. Throughout start now (StandsAfterSome s [] l))
+      (ap (λ b. if b then command_in (line_of line) else []) (sym same) ∙ line_did reply (line_of line)) all;
+  halted = λ is. unchanged_on start between now (kept is) (reads.unchanged honest);
+}

@@ -87,7 +87,7 @@ rules-refuse c limit (orders.Replace name content mime body) refusal e =
 rules-refuse c limit (orders.Withdraw name) refusal e = named-refuses c None _ refusal e
 rules-refuse c limit (orders.Period period) refusal e = cc
 
-refused-fine : (s : ServerState) (c : command.Command) (refusal : Refusal) → IsRefused s c refusal
+pub refused-fine : (s : ServerState) (c : command.Command) (refusal : Refusal) → IsRefused s c refusal
     → is_device_fault refusal ≡ false
 refused-fine s c refusal (long_name layout long e) = ap is_device_fault e
 refused-fine s c refusal (by_rules room rules) =

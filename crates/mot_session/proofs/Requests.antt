@@ -1,8 +1,8 @@
 -- Requests of packets on a disk that is only read.
 use Rattle.std.proofs.Common.{◌≡◌, ℕ, ◌≤◌, Bool, List, Option, Some, None, Result, Ok, Err, refl, sym, ap, ◌∙◌}
-use Rattle.std.proofs.Common.{subst, arith}
-use Rattle.std.specs.Prelude.{IfOk}
-use Rattle.disk_store.specs.Disk.{State}
+use Rattle.std.proofs.Common.{subst, arith, inl}
+use Rattle.std.specs.Prelude.{IfOk, IsFalse}
+use Rattle.disk_store.specs.Disk.{State, IsUnchanged}
 use Rattle.mot_journal.specs.Image.{Standing}
 use Rattle.mot_lines.specs.Text.{played_line}
 use Rattle.mot_packets.specs.Packet.{read_packet}
@@ -11,7 +11,6 @@ use Rattle.mot_player.specs.Laws.{IsStep}
 use Rattle.mot_repository.specs.Repository.{RepositoryView, Agrees, Holds}
 use Rattle.mot_server.specs.Server.{ServerView, place_in}
 use Rattle.mot_server.proofs.Laws.{holds_still, keeps_on, unchanged_on}
-use Rattle.mot_server.proofs.Laws.{is_unchanged}
 use Rattle.mot_session.specs.declared.serving.writing.WriteFault.{WriteFault}
 use Rattle.mot_session.specs.Inner.Writes.{AnswersOne, OnlyReads, SendsOne, Writes, sends}
 use Rattle.mot_session.specs.Played.{sent_line}
@@ -57,6 +56,19 @@ module _ {D : Type 0} (old new : ServerView D) (start now : State) (reads : Only
       (is ∙ ap (λ (b : List ℕ). played_line b ends) step.bytes
       ∙ ap (played_line (bytes_of_packet step.sent.packet)) step.ends) w)
 
+-- where no call has come, nothing changed
+pub is_unchanged : (state : State) → IsUnchanged state state
+is_unchanged state = record {
+  bytes = refl;
+  time = record {
+    later = omega arith;
+    nothing_else = λ t c le left. inl left;
+    keeps = λ t c le left. left;
+  };
+  images = λ c. (λ left. left, λ left. left);
+  loose = λ k. (λ is. is, λ is. is);
+}
+
 -- nothing was read yet
 pub reads-none : {D : Type 0} (server : ServerView D) (state : State) → OnlyReads server server state state
 reads-none server state = record {
@@ -75,3 +87,8 @@ reads-more old mid new start between now a b = record {
   unchanged = λ honest.
       unchanged_on start between now (a.unchanged (b.keeps.was_honest honest)) (b.unchanged honest);
 }
+
+-- a server of that state is halted where the state is
+pub going-of : {D : Type 0} (server : ServerView D) (s : Standing) (state : State) (before : ServerState)
+    → state_of server s state ≡ before → IsFalse before.halted → IsFalse server.view.halted
+going-of server s state before same going = ap (λ (b : ServerState). b.halted) same ∙ going

@@ -19,6 +19,7 @@ use Rattle.mot_player.specs.Place.{Place, Sent, Step, Request, sent_by}
 use Rattle.mot_player.proofs.Laws.{requests-go_on}
 use Rattle.mot_session.specs.declared.serving.writing.WriteFault.{WriteFault}
 use Rattle.mot_session.specs.Inner.Writes.{Writes, Answered, AnswersWith, AnswersRequest, SendsOne}
+use Rattle.mot_session.specs.Inner.Writes.{may_have_done}
 use Rattle.mot_session.specs.Played.{FailsToSend, Sends, SendsTurn, SendsWithinTurn, packets_sent}
 use Rattle.mot_session.specs.Played.{sent_line, sent_lines}
 use Rattle.mot_session.specs.Served.{Begins, whole, next_begun, turn_begun, BrokenOff, WritesFront}
@@ -121,11 +122,12 @@ not_played sents others e = subst (λ r. Yes (is_cut_short r)) e tt
 pub AnswersRequest-written : {T : Type 0} (result : Result T WriteFault) (before after : ServerState)
     (request : Result Line Refusal) (reply : Reply) (old new : Option (List ℕ))
     → sents_of reply ≡ [] → Answers before request reply after → Writes result (text_of reply) old new
-    → AnswersRequest result before request after old new
+    → AnswersRequest result (may_have_done reply) before request after old new
 AnswersRequest-written (Ok done) before after request reply old new none a w =
-    (reply, record { answers = a; written = w })
+    (reply, refl, record { answers = a; written = w })
 AnswersRequest-written (Err fault) before after request reply old new none a w = (
   reply,
+  refl,
   record {
     begins = whole a;
     written = w;
@@ -137,11 +139,11 @@ AnswersRequest-written (Err fault) before after request reply old new none a w =
 -- a reply that was played was written
 pub AnswersRequest-played : {T : Type 0} (result : Result T WriteFault) (before now after : ServerState)
     (line : Line) (request : Result Line Refusal) (old new : Option (List ℕ))
-    → request ≡ Ok line → now ≡ before → AnswersRequest result now (Ok line) after old new
-    → AnswersRequest result before request after old new
+    → request ≡ Ok line → now ≡ before → AnswersRequest result false now (Ok line) after old new
+    → AnswersRequest result false before request after old new
 AnswersRequest-played result before now after line request old new e s a =
-    subst (λ (r : Result Line Refusal). AnswersRequest result before r after old new) (sym e)
-    (subst (λ (state : ServerState). AnswersRequest result state (Ok line) after old new) s a)
+    subst (λ (r : Result Line Refusal). AnswersRequest result false before r after old new) (sym e)
+    (subst (λ (state : ServerState). AnswersRequest result false state (Ok line) after old new) s a)
 
 -- a flush keeps what was written, and may fail after all of it
 pub AnswersWith-kept : {T : Type 0} (result : Result T WriteFault) (before after : ServerState)
@@ -255,18 +257,18 @@ module _ (before after : ServerState) (going : IsFalse before.halted) (old new :
   -- a `next` line was answered
   pub Answered-next : (count : ℕ) (sents : List Sent) → Sends before count sents after
       → Appends old new (sent_lines sents)
-      → AnswersRequest {T = Unit {0}} (Ok tt) before (Ok (asks.Next count)) after old new
+      → AnswersRequest {T = Unit {0}} (Ok tt) false before (Ok (asks.Next count)) after old new
   unfolding IsAnswer text_of
   Answered-next count sents s w =
-      (played sents, record { answers = decided (λ needs. going) (all sents refl s); written = w })
+      (played sents, refl, record { answers = decided (λ needs. going) (all sents refl s); written = w })
 
   -- a `turn` line was answered
   pub Answered-turn : (others : ℕ) (sents : List Sent) → SendsTurn before others sents after
       → Appends old new (sent_lines sents)
-      → AnswersRequest {T = Unit {0}} (Ok tt) before (Ok asks.Turn) after old new
+      → AnswersRequest {T = Unit {0}} (Ok tt) false before (Ok asks.Turn) after old new
   unfolding IsAnswer text_of
   Answered-turn others sents s w =
-      (played sents, record { answers = decided (λ needs. going) (all others sents refl s); written = w })
+      (played sents, refl, record { answers = decided (λ needs. going) (all others sents refl s); written = w })
 
 -- the refusal's line ends the reply
 module _ {T : Type 0} (result : Result T WriteFault) (before mid after : ServerState)
@@ -274,9 +276,9 @@ module _ {T : Type 0} (result : Result T WriteFault) (before mid after : ServerS
     (so_far : Appends old now (sent_lines sents)) (failing : FailsToSend mid after)
     (written : Writes result (refusal_line DeviceFault) now new) where
   answers-cut : (request : Result Line Refusal) → IsAnswer before request (cut_short sents) after
-      → AnswersRequest result before request after old new
+      → AnswersRequest result false before request after old new
   unfolding text_of
-  answers-cut request a = (cut_short sents, with result written)
+  answers-cut request a = (cut_short sents, refl, with result written)
       where
     with : (r : Result T WriteFault) → Writes r (refusal_line DeviceFault) now new
         → AnswersWith r before request (cut_short sents) after old new
@@ -301,26 +303,27 @@ module _ {T : Type 0} (result : Result T WriteFault) (before mid after : ServerS
     }
 
   pub AnswersRequest-next_cut : (count : ℕ) → made < count → Sends before made sents mid
-      → AnswersRequest result before (Ok (asks.Next count)) after old new
+      → AnswersRequest result false before (Ok (asks.Next count)) after old new
   unfolding IsAnswer
   AnswersRequest-next_cut count few s =
       answers-cut (Ok (asks.Next count)) (cut made sents mid few refl s failing)
 
   pub AnswersRequest-turn_cut : SendsWithinTurn before made sents mid
-      → AnswersRequest result before (Ok asks.Turn) after old new
+      → AnswersRequest result false before (Ok asks.Turn) after old new
   unfolding IsAnswer
   AnswersRequest-turn_cut s = answers-cut (Ok asks.Turn) (cut made sents mid refl s failing)
 
 -- the line of a packet was broken off
-module _ {T : Type 0} (fault : WriteFault) (before mid after : ServerState) (going : IsFalse before.halted)
+module _ (fault : WriteFault) (before mid after : ServerState) (going : IsFalse before.halted)
     (old now new : Option (List ℕ)) (s : Sent) (one : SendsOne mid s after)
     (written : WritesFront (sent_line s) now new) (made : ℕ) (sents : List Sent)
     (so_far : Appends old now (sent_lines sents)) where
   broken : (request : Result Line Refusal) → Begins before request (played (sents ++ s ∷ [])) after
-      → AnswersRequest {T = T} (Err fault) before request after old new
+      → AnswersRequest {T = Unit {0}} (Err fault) false before request after old new
   unfolding text_of
   broken request b = (
     played (sents ++ s ∷ []),
+    refl,
     record {
       begins = b;
       written = front-more sents s old now new so_far written;
@@ -331,7 +334,7 @@ module _ {T : Type 0} (fault : WriteFault) (before mid after : ServerState) (goi
 
   -- of a `next` line
   pub BrokenOff-next : (count : ℕ) → made + 1 ≤ count → Sends before made sents mid
-      → AnswersRequest {T = T} (Err fault) before (Ok (asks.Next count)) after old new
+      → AnswersRequest {T = Unit {0}} (Err fault) false before (Ok (asks.Next count)) after old new
   BrokenOff-next count few so = broken (Ok (asks.Next count))
       (next_begun count (made + 1) (sents ++ s ∷ []) refl going few refl
       (Sends-more before mid after s one made sents so))
@@ -346,5 +349,5 @@ module _ {T : Type 0} (fault : WriteFault) (before mid after : ServerState) (goi
 
   -- and of a `turn` line
   pub BrokenOff-turn : SendsWithinTurn before made sents mid
-      → AnswersRequest {T = T} (Err fault) before (Ok asks.Turn) after old new
+      → AnswersRequest {T = Unit {0}} (Err fault) false before (Ok asks.Turn) after old new
   BrokenOff-turn so = broken (Ok asks.Turn) (begun-turn s.ends_turn refl so)

@@ -5,8 +5,7 @@ ghost use Rattle.disk_store.specs.Disk.{IsUnchanged, KeepsLength};
 ghost use Rattle.mot_base.specs.declared.refusal.Refusal.TheVariants.{OutOfMemory, ReadFault};
 ghost use Rattle.mot_lines.specs.Lines.{whole_lines, lines_of};
 ghost use Rattle.mot_session.specs.Inner.InHand.{InHand};
-ghost use Rattle.mot_session.specs.Laws.{FaultsAreTheDisks, RawRepliesRead};
-ghost use Rattle.mot_session.specs.Laws.{SessionsAreContinuous, StoppedSessionsAreContinuous};
+ghost use Rattle.mot_session.specs.Laws.{SessionLaws};
 ghost use Rattle.mot_session.specs.Served.{TakesInput, Served, Stopped, EndsServing};
 ghost use Rattle.mot_session.specs.State.{Leads, ServerState};
 
@@ -96,15 +95,9 @@ pub fn serve<R: Read, W: Write, D: Disk>(
         × ((D.state server.new.disk).IsHonest
         → IsUnchanged (D.state server.old.disk) (D.state server.new.disk)) }
 
-    // What the packets of raw replies are to a receiver.
-    ensures raw { RawRepliesRead }
-
-    // All packets that it plays in a session have their continuity indexes.
-    ensures continuous { SessionsAreContinuous }
-    ensures stopped { StoppedSessionsAreContinuous }
-
-    // It answers no more device faults than the disk has.
-    ensures device_faults { FaultsAreTheDisks }
+    // The packets of raw replies read as what was asked for, those of a session have their
+    // continuity indexes, and no more device faults are answered than the disk has.
+    ensures laws { SessionLaws }
 {
     let Ok(mut hand) = Hand::new(alloc) else {
         return ended(0, Refusal::OutOfMemory);
@@ -145,10 +138,11 @@ fn answer_last<W: Write, D: Disk>(
     server: &mut Server<D>,
 ) -> ServeEnd
     requires { lines < 2 ^ 64 - 1 }
+    ensures lines { result.fault ≡ None → (input : List ℕ) → InHand input hand.now lines
+        → result.lines ≡ length (lines_of input) }
     ensures ended { result.fault ≡ None
         → (before : ServerState) (old : Option (List ℕ)) (input : List ℕ)
-        → InHand input hand.now lines → (result.lines ≡ length (lines_of input))
-        × Leads D.state server.old server.new (λ between after.
+        → InHand input hand.now lines → Leads D.state server.old server.new (λ between after.
         Served (D.state server.old.disk) before between (whole_lines input) old
         (W.contents writer.old)
         → Served (D.state server.new.disk) before after (lines_of input) old

@@ -1,5 +1,6 @@
 -- What a call that writes did. The writer's known bytes were old and are new.
-use Rattle.std.specs.Prelude.{ℕ, ◌≡◌, ◌≤◌, Bool, List, [], ◌++◌, Option, Some, None, Result, Ok, Err}
+use Rattle.std.specs.Prelude.{ℕ, ◌≡◌, ◌≤◌, Bool, ◌||◌, List, [], ◌++◌, Option, Some, None, Result, Ok}
+use Rattle.std.specs.Prelude.{Err}
 use Rattle.std.specs.Prelude.{IfOk, IsTrue, IsFalse}
 use Rattle.std.specs.Io.KnownBytes.{Appends}
 use Rattle.disk_store.specs.Disk.{State, KeepsLength, IsUnchanged, Throughout}
@@ -18,7 +19,7 @@ use Rattle.mot_session.specs.Played.{FailsToSend, sent_line}
 use Rattle.mot_session.specs.Served.{BrokenOff, WritesFront}
 use Rattle.mot_session.specs.Session.{Reply, Answers, Exchange, text_of}
 use Rattle.mot_session.specs.State.{KeepsCarousel, ServerState}
-use Rattle.mot_session.specs.Stored.{accepted_in, failed_in}
+use Rattle.mot_session.specs.Stored.{accepted_in, failed_in, is_accepting, is_failing}
 
 -- it wrote these bytes, or, after a fault, some first of them
 abbrev pub Writes : {T : Type 0} → Result T WriteFault → List ℕ
@@ -40,10 +41,16 @@ AnswersWith (Ok done) before request reply after old new =
 AnswersWith (Err fault) before request reply after old new =
     BrokenOff before request reply after old new
 
-abbrev pub AnswersRequest : {T : Type 0} → Result T WriteFault → ServerState → Result Line Refusal
-    → ServerState → Option (List ℕ) → Option (List ℕ) → Type 0
-AnswersRequest result before request after old new =
-    (reply : Reply) × AnswersWith result before request reply after old new
+-- a reply behind which a command may be done
+abbrev pub may_have_done : Reply → Bool
+may_have_done reply = is_accepting reply || is_failing reply
+
+-- so, with a reply behind which a command may be done, or with one behind which none is
+abbrev pub AnswersRequest : {T : Type 0} → Result T WriteFault → Bool → ServerState
+    → Result Line Refusal → ServerState → Option (List ℕ) → Option (List ℕ) → Type 0
+AnswersRequest result does before request after old new =
+    (reply : Reply) × (may_have_done reply ≡ does)
+    × AnswersWith result before request reply after old new
 
 -- What a crash leaves of one line, whose answering began on the disk as it was at start: on a
 -- halted server nothing comes, and else the carousel from before, or after the line's command.

@@ -10,7 +10,7 @@ ghost use Rattle.mot_lines.specs.Inner.Hand.{bytes_in_hand};
 ghost use Rattle.mot_lines.specs.declared.line.Line.TheVariants as asks;
 ghost use Rattle.mot_player.specs.Laws.{bytes_left};
 ghost use Rattle.mot_repository.specs.Repository.{Holds};
-ghost use Rattle.mot_session.specs.Inner.Decision.{Decides};
+ghost use Rattle.mot_session.specs.Inner.Decision.{Decides, may_be_done};
 ghost use Rattle.mot_session.specs.Inner.Writes.{Writes, AnswersLine, AnswersOne, AnswersRequest};
 ghost use Rattle.mot_session.specs.Inner.Writes.{OnlyReads};
 ghost use Rattle.mot_session.specs.Raw.{packets_at};
@@ -65,7 +65,8 @@ fn write_reply<W: Write, D: Disk>(
         → StandsFor server.old.view s (D.state server.old.disk)
         → (D.state server.new.disk).IsHonest
         → Decides before request decision.now (state_of server.old s (D.state server.old.disk))
-        → AnswersRequest result before request (state_of server.new s (D.state server.new.disk))
+        → AnswersRequest result (may_be_done decision.now) before request
+        (state_of server.new s (D.state server.new.disk))
         (W.contents writer.old) (W.contents writer.new) }
 {
     match decision {
@@ -88,15 +89,15 @@ fn write_next<W: Write, D: Disk>(
     ensures reads { OnlyReads server.old server.new
         (D.state server.old.disk) (D.state server.new.disk) }
     ensures answers { (s : Standing) → Holds server.old.view s (D.state server.old.disk)
-        → (D.state server.new.disk).IsHonest → AnswersRequest result
+        → (D.state server.new.disk).IsHonest → AnswersRequest result false
         (state_of server.old s (D.state server.old.disk)) (Ok (asks.Next count))
         (state_of server.new s (D.state server.new.disk))
         (W.contents writer.old) (W.contents writer.new) }
 {
     for _ in 0..count {
-        if write_next_packet(writer, server)?.is_none() {
+        let Some(_) = write_next_packet(writer, server)? else {
             return Ok(());
-        }
+        };
     }
     Ok(())
 }
@@ -110,13 +111,19 @@ fn write_turn<W: Write, D: Disk>(
     ensures reads { OnlyReads server.old server.new
         (D.state server.old.disk) (D.state server.new.disk) }
     ensures answers { (s : Standing) → Holds server.old.view s (D.state server.old.disk)
-        → (D.state server.new.disk).IsHonest → AnswersRequest result
+        → (D.state server.new.disk).IsHonest → AnswersRequest result false
         (state_of server.old s (D.state server.old.disk)) (Ok asks.Turn)
         (state_of server.new s (D.state server.new.disk))
         (W.contents writer.old) (W.contents writer.new) }
 {
-    while write_next_packet(writer, server)? == Some(false) {}
-    Ok(())
+    loop {
+        let Some(ends_turn) = write_next_packet(writer, server)? else {
+            return Ok(());
+        };
+        if ends_turn {
+            return Ok(());
+        }
+    }
 }
 
 /// Plays a packet and writes its line; answers whether it ends a turn. Where it is refused, the

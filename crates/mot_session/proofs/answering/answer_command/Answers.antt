@@ -1,6 +1,6 @@
 use Rattle.mot_session.proofs.Answered.{Answers-accepted, Answers-refused_command}
-use Rattle.mot_session.proofs.Answered.{crosses-accepted, crosses-refused}
-use Rattle.mot_server.proofs.Laws.{not_halted, stays_halted}
+use Rattle.mot_session.proofs.Answered.{crosses-accepted, crosses-refused, stays_halted}
+use Rattle.mot_server.proofs.Laws.{not_halted}
 use Rattle.mot_session.proofs.answering.answer_command.Goals as goal
 
 pub returns-in-Ok-clause-decides : goal.returns-in-Ok-clause-decides

@@ -1,0 +1,163 @@
+-- The packets of a session, in order.
+use Rattle.std.proofs.Common.{◌≡◌, ℕ, ◌+◌, ◌-◌, ◌<◌, List, [], ◌∷◌, ◌++◌, Some, Result, Ok, Err, refl, sym, ap}
+use Rattle.std.proofs.Common.{◌∙◌, subst, inl, inr, arith, map}
+use Rattle.std.proofs.lemmas.List.{map-append}
+use Rattle.mot_base.proofs.Laws.{read_each-append}
+use Rattle.mot_base.specs.PacketLength.{IsLength}
+use Rattle.mot_base.specs.Geometry.{IsValid, packet_room}
+use Rattle.mot_base.specs.declared.geometry.Geometry.{Geometry}
+use Rattle.mot_base.specs.declared.refusal.Refusal.{Refusal}
+use Rattle.mot_base.specs.declared.refusal.Refusal.TheVariants.{DeviceFault}
+use Rattle.mot_carousel.specs.Carousel.{Carousel}
+use Rattle.mot_carousel.specs.declared.command.Command.{Command}
+use Rattle.mot_lines.specs.Line.{line_of}
+use Rattle.mot_lines.specs.declared.line.Line.{Line}
+use Rattle.mot_lines.specs.declared.line.Line.TheVariants as asks
+use Rattle.mot_packets.specs.Packet.{PacketFields, read_packet}
+use Rattle.mot_player.specs.Continuity.{IsContinuous}
+use Rattle.mot_player.specs.Laws.{AreSent}
+use Rattle.mot_player.specs.Place.{Place, Sent, Step, Request, NewTurn, change_turn, sent_by}
+use Rattle.mot_player.specs.Turn.{turn_of_carousel}
+use Rattle.mot_player.proofs.Laws.{steps-are-continuous, steps-go_on}
+use Rattle.std.specs.Prelude.{replicate}
+use Rattle.mot_session.specs.Laws.{SessionsAreContinuous, StoppedSessionsAreContinuous}
+use Rattle.mot_session.specs.Played.{FailsToSend, Sends, packets_sent}
+use Rattle.mot_session.specs.Served.{Begins, whole, next_begun, turn_begun}
+use Rattle.mot_session.specs.Session.{Exchange, Reply, refused, listing, IsCommandAnswer, accepts, refuses}
+use Rattle.mot_session.specs.Session.{fails, IsNextAnswer, IsTurnAnswer, all, cut, IsAnswer, Answers}
+use Rattle.mot_session.specs.Session.{decided, halted, no_memory, Session, packets_in, packets_played}
+use Rattle.mot_session.specs.State.{HasJustOpened, ServerState}
+
+-- steps that led from a place to another, and the packets that they sent
+record Leads (before after : Place) (sent : List (List ℕ)) : Type 0 where
+  pub steps : List Step
+  pub sents : List Sent
+  pub taken : sent_by before steps ≡ Some (sents, after)
+  pub read : AreSent sents sent
+
+Leads-none : (place : Place) → Leads place place []
+unfolding sent_by
+Leads-none place = record { steps = []; sents = []; taken = refl; read = refl }
+
+Leads-change : (place : Place) (c : Carousel) (size : ℕ) → Leads place (change_turn (turn_of_carousel c size) place) []
+unfolding sent_by
+Leads-change place c size = record {
+  steps = NewTurn (turn_of_carousel c size) ∷ [];
+  sents = [];
+  taken = refl;
+  read = refl;
+}
+
+Leads-on : (before mid after : Place) (ps qs : List (List ℕ)) → Leads before mid ps → Leads mid after qs
+    → Leads before after (ps ++ qs)
+Leads-on before mid after ps qs p q = record {
+  steps = p.steps ++ q.steps;
+  sents = p.sents ++ q.sents;
+  taken = steps-go_on p.steps q.steps before mid after p.sents q.sents p.taken q.taken;
+  read = read_each-append read_packet ps qs (map (λ (s : Sent). s.packet) p.sents)
+      (map (λ (s : Sent). s.packet) q.sents) p.read q.read
+      ∙ ap (λ (fs : List PacketFields). Some fs) (sym (map-append (λ (s : Sent). s.packet) p.sents q.sents));
+}
+
+-- the place stays, and nothing was sent
+stays : (before after : ServerState) (reply empty : Reply) → packets_in empty ≡ [] → reply ≡ empty
+    → after.place ≡ before.place → Leads before.place after.place (packets_in reply)
+stays before after reply empty none e same = rw (e, none, same) (Leads-none before.place)
+
+sends : (before after : ServerState) (reply : Reply) (count : ℕ) (sents : List Sent)
+    → packets_in reply ≡ packets_sent sents → Sends before count sents after
+    → Leads before.place after.place (packets_in reply)
+sends before after reply count sents e s = rw e (record {
+  steps = replicate count Request;
+  sents = sents;
+  taken = s.steps;
+  read = s.read;
+})
+
+-- the packets before a request that failed
+cut-behind : (before between after : ServerState) (reply : Reply) (count : ℕ) (sents : List Sent)
+    → packets_in reply ≡ packets_sent sents → Sends before count sents between
+    → FailsToSend between after → Leads before.place after.place (packets_in reply)
+cut-behind before between after reply count sents e s f =
+    subst (λ (p : Place). Leads before.place p (packets_in reply)) (sym f.stays.place)
+    (sends before between reply count sents e s)
+
+commanded : (before after : ServerState) (c : Command) (reply : Reply) → IsCommandAnswer before c reply after
+    → Leads before.place after.place (packets_in reply)
+commanded before after c reply (accepts d e a) = rw (e, a.place)
+    (Leads-change before.place after.standing.carousel after.standing.geometry.segment_size)
+commanded before after c reply (refuses r e why s) = stays before after reply (refused r) refl e s.place
+commanded before after c reply (fails e h) = stays before after reply (refused DeviceFault) refl e h.place
+
+nexts : (before after : ServerState) (count : ℕ) (reply : Reply) → IsNextAnswer before count reply after
+    → Leads before.place after.place (packets_in reply)
+nexts before after count reply (all sents e s) =
+    sends before after reply count sents (ap packets_in e) s
+nexts before after count reply (cut made sents between few e s f) =
+    cut-behind before between after reply made sents (ap packets_in e) s f
+
+turns : (before after : ServerState) (reply : Reply) → IsTurnAnswer before reply after
+    → Leads before.place after.place (packets_in reply)
+turns before after reply (all others sents e s) =
+    sends before after reply (others + 1) sents (ap packets_in e) s.sends
+turns before after reply (cut made sents between e s f) =
+    cut-behind before between after reply made sents (ap packets_in e) s.sends f
+
+answered : (before after : ServerState) (request : Result Line Refusal) (reply : Reply)
+    → IsAnswer before request reply after → Leads before.place after.place (packets_in reply)
+unfolding IsAnswer
+answered before after (Err r) reply a = stays before after reply (refused r) refl a.0 a.1.place
+answered before after (Ok (asks.Command c)) reply a = commanded before after c reply a
+answered before after (Ok asks.List) reply a =
+    stays before after reply (listing before.standing.carousel) refl a.0 a.1.place
+answered before after (Ok (asks.Raw kind tid body)) reply a = stays before after reply _ refl a.0 a.1.place
+answered before after (Ok (asks.Next count)) reply a = nexts before after count reply a
+answered before after (Ok asks.Turn) reply a = turns before after reply a
+
+answers : (before after : ServerState) (request : Result Line Refusal) (reply : Reply)
+    → Answers before request reply after → Leads before.place after.place (packets_in reply)
+answers before after request reply (decided going a) = answered before after request reply a
+answers before after request reply (halted is needs e s) = stays before after reply _ refl e s.place
+answers before after request reply (no_memory needs e s) = stays before after reply _ refl e s.place
+
+begins : (before after : ServerState) (request : Result Line Refusal) (reply : Reply)
+    → Begins before request reply after → Leads before.place after.place (packets_in reply)
+begins before after request reply (whole a) = answers before after request reply a
+begins before after request reply (next_begun count made sents e going few f s) =
+    sends before after reply made sents (ap packets_in f) s
+begins before after request reply (turn_begun made sents e going f s) =
+    sends before after reply made sents (ap packets_in f) s.sends
+
+session : (exchanges : List Exchange) (before after : ServerState)
+    → Session before exchanges after → Leads before.place after.place (packets_played exchanges)
+unfolding Session
+session [] before after s = rw s (Leads-none before.place)
+session (x ∷ exchanges) before after s =
+    Leads-on before.place x.after.place after.place (packets_in x.reply) (packets_played exchanges)
+    (answers before x.after (line_of x.line) x.reply s.0) (session exchanges x.after after s.1)
+
+some_room : (n : ℕ) → IsLength n → 0 < n - 5
+some_room n (inl e) = omega (arith, e)
+some_room n (inr (inl e)) = omega (arith, e)
+some_room n (inr (inr (inl e))) = omega (arith, e)
+some_room n (inr (inr (inr e))) = omega (arith, e)
+
+continuous : (before : ServerState) (after : Place) (sent : List (List ℕ))
+    → IsValid before.standing.geometry → HasJustOpened before → Leads before.place after sent
+    → IsContinuous sent
+continuous before after sent v opened l =
+    let g = before.standing.geometry in
+    let turn = turn_of_carousel before.standing.carousel g.segment_size in
+    steps-are-continuous g.address (packet_room g) g.segment_size turn l.steps l.sents after sent
+    (some_room g.packet_length v.8)
+    (subst (λ (p : Place). sent_by p l.steps ≡ Some (l.sents, after)) opened l.taken) l.read
+
+pub sessions-are-continuous : SessionsAreContinuous
+sessions-are-continuous before exchanges after v opened s =
+    continuous before after.place (packets_played exchanges) v opened (session exchanges before after s)
+
+pub stopped_sessions-are-continuous : StoppedSessionsAreContinuous
+stopped_sessions-are-continuous before exchanges between request reply after v opened s b =
+    continuous before after.place (packets_played exchanges ++ packets_in reply) v opened
+    (Leads-on before.place between.place after.place (packets_played exchanges) (packets_in reply)
+    (session exchanges before between s) (begins between after request reply b))
