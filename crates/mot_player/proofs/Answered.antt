@@ -81,7 +81,7 @@ index-cases false index content l = l
 index-fits : (last : LastGroup) → IfSome (last_of last) (λ (l : Last). l.index < 16)
 index-fits last = index-cases (is_empty last.segment.items) last.index (last.front ++ last.segment.items) last.in_range
 
-room-some : (length : PacketLength) → 0 < room_of length
+pub room-some : (length : PacketLength) → 0 < room_of length
 room-some P24 = omega arith
 room-some P48 = omega arith
 room-some P72 = omega arith

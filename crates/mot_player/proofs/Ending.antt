@@ -32,7 +32,7 @@ due-as : (place : Place) (group : List ℕ) (at : ℕ) (last : Bool) →
 due-as place group at true = refl
 due-as place group at false = refl
 
-packet-less : (place : Place) (group : List ℕ) (at : ℕ) → 0 < place.room → at < length group →
+pub packet-less : (place : Place) (group : List ℕ) (at : ℕ) → 0 < place.room → at < length group →
     (packet_sent place group at).ends_turn ≡ false →
     bytes_due (packet_sent place group at).place < length group - at + group_bytes_of place.waiting
 packet-less place group at r l e =

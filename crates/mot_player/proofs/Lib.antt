@@ -6,6 +6,7 @@ pub mod GoesOn
 pub mod Indexes
 pub mod Kept
 pub mod Laws
+pub mod Nearer
 pub mod NextSegment
 pub mod Plans
 pub mod Requests

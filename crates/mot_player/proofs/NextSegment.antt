@@ -57,7 +57,7 @@ length-body [] j l = absurd (omega arith)
 length-body (x ∷ bodies) zero l = refl
 length-body (x ∷ bodies) (suc j) l = length-body bodies j (omega arith)
 
-length-at : (plan : TurnPlan) (bodies : List (List ℕ)) (k : ℕ) → AreBodiesFor plan bodies → k < length plan.bodies + 1 →
+pub length-at : (plan : TurnPlan) (bodies : List (List ℕ)) (k : ℕ) → AreBodiesFor plan bodies → k < length plan.bodies + 1 →
     length (entity_bytes plan bodies k) ≡ entity_length plan k
 length-at plan bodies zero e l = refl
 length-at plan bodies (suc j) e l =

@@ -1,12 +1,12 @@
-ghost use Rattle.std.specs.Prelude.{◌≡◌, ℕ, List, length, map, Some, None, IfOk, IfErr, OnOk};
-ghost use Rattle.std.specs.Prelude.{OnErr};
+ghost use Rattle.std.specs.Prelude.{◌≡◌, ◌<◌, ℕ, List, false, length, map, Some, None, IfOk};
+ghost use Rattle.std.specs.Prelude.{IfErr, OnOk, OnErr};
 ghost use Rattle.mot_base.specs.PacketLength.{room_of};
 ghost use Rattle.mot_base.specs.declared.refusal.Refusal.TheVariants.{OutOfMemory, DeviceFault};
 ghost use Rattle.mot_packets.specs.Packet.{read_packet};
 ghost use Rattle.mot_player.specs.Bodies.{Rises};
 ghost use Rattle.mot_player.specs.Standing.{AreBodiesFor, place_of, turn_of};
 ghost use Rattle.mot_player.specs.Laws.{ChangesGoOn, IsPlace, IsStep, RequestsGoOn};
-ghost use Rattle.mot_player.specs.Laws.{StepsAreContinuous};
+ghost use Rattle.mot_player.specs.Laws.{StepsAreContinuous, bytes_left};
 ghost use Rattle.mot_player.specs.Laws.{TurnsEnd, TurnsReadAsTheirCarousels};
 ghost use Rattle.mot_player.specs.Place.{Sent, change_turn, opened_place, request};
 
@@ -124,6 +124,10 @@ impl Player {
         ensures failed { OnErr result (Rises (B.failures bodies.old) (B.failures bodies.new)) }
         ensures no_fault { OnOk result (B.failures bodies.new ≡ B.failures bodies.old) }
         ensures refused { IfErr result (λ refusal. refusal ≡ DeviceFault) }
+
+        // Whatever bytes a read gave, each packet brings the end of the turn nearer.
+        ensures nearer { IfOk result (λ played. played.ends_turn ≡ false
+            → bytes_left self.new < bytes_left self.old) }
 
         // From each of its places every group can be sent.
         ensures place { (bodies : List (List ℕ)) → AreBodiesFor self.old.turn bodies

@@ -44,7 +44,8 @@ impl State {
     ghost use Rattle.mot_packets.specs.Written.{bytes_of_packet};
     ghost use Rattle.mot_player.specs.Bodies.{Rises};
     ghost use Rattle.mot_player.specs.Place.{packet_sent};
-    ghost use Rattle.mot_player.specs.Inner.Ready.{HasBegun, IsFitted, place_with, standing_of};
+    ghost use Rattle.mot_player.specs.Inner.Ready.{HasBegun, HasTaken, IsFitted, place_with};
+    ghost use Rattle.mot_player.specs.Inner.Ready.{standing_of};
     ghost use Rattle.mot_player.specs.Standing.{AreBodiesFor};
 
     /// Begins the group of the next segment, of which no packet is sent yet. Where a read of the
@@ -56,6 +57,8 @@ impl State {
         ensures fitted { IsFitted self.new }
         ensures begun { B.IsHonest bodies.new
             → OnOk result (HasBegun self.old self.new (B.bodies bodies.old)) }
+        ensures taken { OnOk result ((bodies : List (List ℕ)) → AreBodiesFor self.old.turn bodies
+            → HasTaken self.old self.new bodies) }
         ensures sent { self.new.sent ≡ 0 }
         ensures some { OnOk result (0 < vec_len self.new.group) }
         ensures turn { self.new.turn ≡ self.old.turn }

@@ -11,6 +11,7 @@ use Rattle.mot_carousel.specs.declared.carousel.Carousel.{Carousel}
 use Rattle.mot_carousel.specs.Carousel.{change}
 use Rattle.mot_carousel.specs.Stands.{carousel_of, bodies_after, AreBodiesOf}
 use Rattle.mot_journal.specs.declared.layout.Layout.TheVariants.{One}
+use Rattle.mot_journal.specs.Slot.{longest_name}
 use Rattle.mot_repository.specs.Extents.{AreExtentsAfter}
 use Rattle.mot_repository.specs.Gap.{least_gap}
 use Rattle.mot_repository.specs.Repository.{RepositoryView}
@@ -31,9 +32,9 @@ IsRefusedByRules c limit command refusal =
 
 -- the name that a command speaks of has more bytes than a slot of layout 1 holds
 abbrev pub HasLongName : Command → Type 0
-HasLongName (Put name content mime body) = 100 < length name
-HasLongName (Replace name content mime body) = 100 < length name
-HasLongName (Withdraw name) = 100 < length name
+HasLongName (Put name content mime body) = longest_name One < length name
+HasLongName (Replace name content mime body) = longest_name One < length name
+HasLongName (Withdraw name) = longest_name One < length name
 HasLongName (Period period) = ⊥
 
 -- the disk's layout has room for the command's name

@@ -2,6 +2,7 @@
 use Rattle.std.specs.Prelude.{◌≡◌, ℕ, ◌+◌, ◌<◌, ◌≤◌, All, true, List, [], ◌∷◌, ◌++◌, length, map}
 use Rattle.std.specs.Prelude.{bytes_eq, slice_range, Option, Some, None, Ok, if◌then◌else◌}
 use Rattle.std.specs.List.{AllByRecursion}
+use Rattle.mot_base.specs.declared.geometry.TheConstants.{MAX_OBJECTS}
 use Rattle.mot_carousel.specs.declared.command.Command.{Command}
 use Rattle.mot_carousel.specs.declared.command.Command.TheVariants.{Put, Replace, Withdraw, Period}
 use Rattle.mot_carousel.specs.declared.command.Done.{Done}
@@ -88,7 +89,7 @@ abbrev pub RecordsFollowCommands : Type 0
 RecordsFollowCommands =
     (limit start : ℕ) (area : List ℕ) (c : Catalogue) (next : Carousel)
     (command : Command) (done : Done)
-    → limit ≤ 250 → is_consistent c ≡ true → IsSound (carousel_in area c)
+    → limit ≤ MAX_OBJECTS → is_consistent c ≡ true → IsSound (carousel_in area c)
     → change (carousel_in area c) limit command ≡ Ok (next, done)
     → IsPlaced area (extents_of c) command start
     → (after : Catalogue)

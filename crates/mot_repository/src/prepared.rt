@@ -1,6 +1,6 @@
 ghost use Rattle.std.specs.Prelude.{◌≡◌, ◌≤◌, ◌+◌, ◌↔◌, true, IsTrue, IsFalse, IfOk, IfErr};
 ghost use Rattle.std.specs.Prelude.{OnOk};
-ghost use Rattle.mot_base.specs.Geometry.{area_start};
+ghost use Rattle.mot_base.specs.Geometry as Sizes;
 ghost use Rattle.mot_journal.specs.Geometry.{is_valid};
 ghost use Rattle.mot_journal.specs.declared.layout.Layout.TheVariants.{One};
 ghost use Rattle.mot_repository.specs.Answers.{HasLongName, HasRoomForName, IsRefusal};
@@ -14,7 +14,7 @@ use crate::placing::{body_start, extents_after};
 use crate::records::{record_of_change, records_of};
 use mot_base::{Geometry, Refusal};
 use mot_carousel::{Carousel, Command, Done, plan};
-use mot_journal::{Layout, Record};
+use mot_journal::{Layout, Record, area_start};
 use std::alloc::{AllocError, Global};
 
 /// A change that was worked out, with all memory that doing it takes.
@@ -123,8 +123,7 @@ fn body_copy(alloc: Global, command: &Command) -> Result<Vec<u8>, AllocError>
 
 /// Where on a disk of this geometry a part of the data area begins.
 fn place_in_area(geometry: &Geometry, start: u32) -> u64
-    requires { is_valid geometry.now ≡ true }
-    ensures { result ≡ area_start geometry.now + start }
+    ensures { result ≡ Sizes.area_start geometry.now + start }
 {
-    geometry.length() - u64::from(geometry.data_area) + u64::from(start)
+    area_start(geometry) + u64::from(start)
 }

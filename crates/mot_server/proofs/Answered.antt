@@ -1,10 +1,10 @@
 -- What an answer to one command makes of a run.
-use Rattle.std.proofs.Common.{◌≡◌, ℕ, ◌≤◌, Bool, true, false, List, [], ◌∷◌, ◌++◌, length, map, replicate, Option, Some, None, Result, Ok, Err, refl, sym, ◌∙◌, ap, subst, arith}
+use Rattle.std.proofs.Common.{◌≡◌, ℕ, ◌≤◌, Bool, true, false, List, [], ◌∷◌, ◌++◌, length, map, replicate, Option, Some, None, Result, Ok, Err, refl, sym, ◌∙◌, ap, subst}
 use Rattle.std.proofs.lemmas.List.{length-replicate}
 use Rattle.std.specs.Prelude.{slice_get, IsTrue, IsFalse, if◌then◌else◌}
-use Rattle.disk_store.specs.Disk.{State, Throughout, Keeps, IsHonestDisk, IsUnchanged}
+use Rattle.disk_store.specs.Disk.{State, Throughout, Keeps, IsHonestDisk}
 use Rattle.mot_base.specs.declared.refusal.Refusal.{Refusal}
-use Rattle.mot_base.specs.declared.refusal.Refusal.TheVariants.{NameTaken, NoSuchName, TooManyObjects, DeviceFault, Halted}
+use Rattle.mot_base.specs.declared.refusal.Refusal.TheVariants.{NameTaken, NoSuchName, TooManyObjects, DeviceFault}
 use Rattle.mot_carousel.specs.declared.command.Command.{Command}
 use Rattle.mot_carousel.specs.declared.command.Command.TheVariants.{Put, Replace, Withdraw, Period}
 use Rattle.mot_carousel.specs.declared.command.Done.{Done}
@@ -92,10 +92,10 @@ pub run_fault : (first view view' : RepositoryView) (start mid now : State) (com
 run_fault first view view' start mid now command refusal le later same ends (accepted done e changed) = absurd (not_ok done refusal e)
 run_fault first view view' start mid now command refusal le later same ends (failed e going rises halts) =
     let is : refusal ≡ DeviceFault = cc in
-    run_ends.device is (rises_on start.failures mid.failures now.failures le later rises) halts.halted
+    run_ends.device (subst IsFalse same going) is (rises_on start.failures mid.failures now.failures le later rises) halts.halted
 run_fault first view view' start mid now command refusal le later same ends (refused r e (halted is is_halted) same_view still) =
     let same_refusal : refusal ≡ r = cc in
-    run_ends.halted (same_refusal ∙ is_halted) (subst IsTrue same is)
+    run_ends.halted (subst IsTrue same is) (same_refusal ∙ is_halted)
 run_fault first view view' start mid now command refusal le later same ends (refused r e (long_name going one long is) same_view still) =
     let same_refusal : refusal ≡ r = cc in
     absurd (subst Yes (sym ends ∙ ap is_run_ending (same_refusal ∙ is)) tt)
@@ -109,7 +109,7 @@ run_fault first view view' start mid now command refusal le later same ends (ref
     absurd (subst Yes (sym ends ∙ ap is_run_ending (same_refusal ∙ is)) tt)
 run_fault first view view' start mid now command refusal le later same ends (refused r e (no_memory going room is) same_view still) =
     let same_refusal : refusal ≡ r = cc in
-    run_ends.no_memory (same_refusal ∙ is)
+    run_ends.no_memory (subst IsFalse same going) (same_refusal ∙ is)
 
 -- a command that is answered without a device fault leaves it as halted as it was
 pub as_halted : (view view' : RepositoryView) (mid now : State) (command : Command) (r : Result Done Refusal)
@@ -133,34 +133,6 @@ Clash false = Unit {0}
 -- halted and not halted
 pub not_halted : (b : Bool) → IsTrue b → IsFalse b → ⊥
 not_halted b is isnt = subst Clash (sym isnt ∙ is) tt
-
--- a halted server refuses, and nothing changes
-pub stays_halted : (view view' : RepositoryView) (mid now : State) (command : Command) (refusal : Refusal) → IsTrue view.halted
-    → IsAnswered view view' mid now command (Err refusal) → (view' ≡ view) × IsUnchanged mid now
-stays_halted view view' mid now command refusal is (accepted done e changed) = absurd (not_ok done refusal e)
-stays_halted view view' mid now command refusal is (refused r e why same still) = (same, still)
-stays_halted view view' mid now command refusal is (failed e going rises halts) = absurd (not_halted view.halted is going)
-
-why-halted : (view : RepositoryView) (command : Command) (refusal : Refusal) → IsTrue view.halted → IsRefusal view command refusal
-    → refusal ≡ Halted
-why-halted view command refusal is (halted h e) = e
-why-halted view command refusal is (long_name going one long e) = absurd (not_halted view.halted is going)
-why-halted view command refusal is (by_rules going room rules) = absurd (not_halted view.halted is going)
-why-halted view command refusal is (no_room going room next done changes none e) = absurd (not_halted view.halted is going)
-why-halted view command refusal is (no_memory going room e) = absurd (not_halted view.halted is going)
-
--- so a run ends there
-pub ends_halted : (view view' : RepositoryView) (mid now : State) (command : Command) (refusal : Refusal) → IsTrue view.halted
-    → IsAnswered view view' mid now command (Err refusal) → is_run_ending refusal ≡ false → ⊥
-ends_halted view view' mid now command refusal is (accepted done e changed) goes_on = not_ok done refusal e
-ends_halted view view' mid now command refusal is (refused r e why same still) goes_on =
-    let same_refusal : refusal ≡ r = cc in
-    subst Yes (sym (ap is_run_ending (same_refusal ∙ why-halted view command r is why)) ∙ goes_on) tt
-ends_halted view view' mid now command refusal is (failed e going rises halts) goes_on = not_halted view.halted is going
-
-pub empty : (marks : List Bool) → length marks ≡ 0 → marks ≡ []
-empty [] e = refl
-empty (mark ∷ marks) e = absurd (omega (arith, e))
 
 module _ (layout : Layout) (view view' : RepositoryView) (start mid now : State) (s : Standing) (commands : List Command)
     (marks : List Bool) (command : Command) (at : slice_get commands (length marks) ≡ Some command)

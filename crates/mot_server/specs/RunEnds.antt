@@ -1,5 +1,6 @@
 -- How a run of commands ends, and what it leaves.
 use Rattle.std.specs.Prelude.{◌≡◌, ℕ, Bool, true, false, List, [], ◌∷◌, ◌++◌, Option, IsTrue}
+use Rattle.std.specs.Prelude.{IsFalse}
 use Rattle.disk_store.specs.Disk.{State, Rises, Throughout}
 use Rattle.mot_base.specs.declared.refusal.Refusal.{Refusal}
 use Rattle.mot_base.specs.declared.refusal.Refusal.TheVariants.{OutOfMemory, DeviceFault, Halted}
@@ -22,10 +23,10 @@ is_run_ending refusal = false
 -- what may end a run before its last command
 pub data IsRunFault (old new : RepositoryView) (start now : State)
     (refusal : Refusal) : Type 0 where
-  no_memory : refusal ≡ OutOfMemory → IsRunFault old new start now refusal
-  device : refusal ≡ DeviceFault → Rises start.failures now.failures → IsTrue new.halted
-      → IsRunFault old new start now refusal
-  halted : refusal ≡ Halted → IsTrue old.halted → IsRunFault old new start now refusal
+  halted : IsTrue old.halted → refusal ≡ Halted → IsRunFault old new start now refusal
+  no_memory : IsFalse old.halted → refusal ≡ OutOfMemory → IsRunFault old new start now refusal
+  device : IsFalse old.halted → refusal ≡ DeviceFault → Rises start.failures now.failures
+      → IsTrue new.halted → IsRunFault old new start now refusal
 
 -- What a run of commands leaves that began where the disk and the repository stood for s.
 pub record RunLeaves (old new : RepositoryView) (start now : State) (s : Standing)

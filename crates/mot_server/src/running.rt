@@ -1,5 +1,6 @@
 //! Commands in a row, up to the first that can't be answered.
-ghost use Rattle.std.specs.Prelude.{◌≡◌, ◌≤◌, [], length, vec_len, IfSome, IfNone, IsTrue};
+ghost use Rattle.std.specs.Prelude.{◌≡◌, ◌≤◌, [], length, vec_len, Some, IfSome, IfNone, IsTrue};
+ghost use Rattle.mot_base.specs.declared.refusal.Refusal.TheVariants.{Halted};
 ghost use Rattle.mot_server.specs.RunEnds.{is_run_ending};
 
 use crate::Server;
@@ -18,7 +19,7 @@ pub struct RunEnd {
 }
 
 impl<D: Disk> Server<D> {
-    ghost use Rattle.disk_store.specs.Disk.{Keeps, IsUnchanged};
+    ghost use Rattle.disk_store.specs.Disk.{Keeps};
     ghost use Rattle.mot_journal.specs.Image.{Standing};
     ghost use Rattle.mot_repository.specs.Repository.{Holds};
     ghost use Rattle.mot_server.specs.RunEnds.{IsRunFault, RunLeaves, place_behind};
@@ -27,7 +28,7 @@ impl<D: Disk> Server<D> {
 
     /// Does the commands in order. A command that the carousel's rules refuse is marked false, as
     /// is one whose body finds no room, or whose name is too long for layout 1, and the run goes
-    /// on; every other refusal ends it.
+    /// on; every other refusal ends it. On a server that is halted it ends at once.
     pub fn run(&mut self, alloc: Global, commands: &[Command]) -> RunEnd
         ensures keeps { Keeps (D.state self.old.disk) (D.state self.new.disk) }
         ensures later { (D.state self.old.disk).failures ≤ (D.state self.new.disk).failures }
@@ -36,9 +37,8 @@ impl<D: Disk> Server<D> {
             (D.state self.old.disk) (D.state self.new.disk) refusal) }
 
         // A server that is halted does nothing.
-        ensures halted { IsTrue self.old.view.halted → (self.new.view ≡ self.old.view)
-            × IsUnchanged (D.state self.old.disk) (D.state self.new.disk)
-            × (result.done.items ≡ []) }
+        ensures halted { IsTrue self.old.view.halted → (self.new ≡ self.old)
+            × (result.done.items ≡ []) × (result.fault ≡ Some Halted) }
 
         // The marks, the carousel, and what a crash leaves at each moment and at the end.
         ensures leaves { (s : Standing) → Holds self.old.view s (D.state self.old.disk)
@@ -52,6 +52,12 @@ impl<D: Disk> Server<D> {
             ≡ place_behind (accepted_commands commands.now result.done.items) last
             (place_in self.old s) }
     {
+        if self.halted() {
+            return RunEnd {
+                done: Vec::new(alloc),
+                fault: Some(Refusal::Halted),
+            };
+        }
         let Ok(mut done) = Vec::with_capacity(alloc, commands.len()) else {
             return RunEnd {
                 done: Vec::new(alloc),

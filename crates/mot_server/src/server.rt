@@ -1,5 +1,5 @@
 //! The server: a repository, and a player of what it keeps.
-ghost use Rattle.std.specs.Prelude.{◌≡◌, ◌≤◌, ◌↔◌, ℕ, List, true, false, Ok, OnOk, OnErr, IfOk};
+ghost use Rattle.std.specs.Prelude.{◌≡◌, ◌<◌, ◌≤◌, ◌↔◌, ℕ, List, true, false, Ok, OnOk, OnErr, IfOk};
 ghost use Rattle.std.specs.Prelude.{IfErr, IsTrue, IsFalse};
 ghost use Rattle.disk_store.specs.Disk.{Keeps, KeepsLength, IsStill, IsUnchanged, Throughout};
 ghost use Rattle.mot_base.specs.Geometry.{packet_room};
@@ -54,7 +54,7 @@ impl<D: Disk> Server<D> {
     ghost use Rattle.mot_player.specs.Laws.{ChangesGoOn, IsStep, RequestsGoOn};
     ghost use Rattle.mot_player.specs.Laws.{StepsAreContinuous};
     ghost use Rattle.mot_player.specs.Laws.{TurnsEnd, TurnsReadAsTheirCarousels};
-    ghost use Rattle.mot_player.specs.Laws.{IsAtTurnsBeginning, IsPlace};
+    ghost use Rattle.mot_player.specs.Laws.{IsAtTurnsBeginning, IsPlace, bytes_left};
     ghost use Rattle.mot_player.specs.Reading.{ReadsAs};
     ghost use Rattle.mot_player.specs.Standing.{AreBodiesFor, place_of};
     ghost use Rattle.mot_repository.specs.Answers.{IsAnswered, IsMigrationRefusal};
@@ -211,6 +211,10 @@ impl<D: Disk> Server<D> {
             → (D.state self.new.disk).IsHonest → IfOk result (λ played. IsStep
             (place_in self.old s) played.packet.items played.ends_turn (place_in self.new s)) }
         ensures stays { OnErr result (self.new.player ≡ self.old.player) }
+
+        // On every disk, each packet brings the end of the turn nearer.
+        ensures nearer { IfOk result (λ played. played.ends_turn ≡ false
+            → bytes_left self.new.player < bytes_left self.old.player) }
         ensures going { OnOk result (IsFalse self.old.view.halted) }
         ensures no_fault { OnOk result
             ((D.state self.new.disk).failures ≡ (D.state self.old.disk).failures) }

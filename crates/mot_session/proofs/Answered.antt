@@ -1,75 +1,274 @@
 -- What answers a request.
-use Rattle.std.proofs.Common.{◌≡◌, ℕ, List, Ok, Err, Result, refl, sym, ap, ◌∙◌, subst, inl, inr}
-use Rattle.std.proofs.Common.{◌⊎◌}
+use Rattle.std.proofs.Common.{◌≡◌, ℕ, ◌≤◌, ◌⊎◌, inl, inr, ⊎_elim, Bool, true, false, List, [], ◌∷◌, ◌++◌}
+use Rattle.std.proofs.Common.{Ok, Err, Result, refl, sym, ap, ◌∙◌, subst, arith, append-nil}
+use Rattle.std.specs.Prelude.{IsTrue, IsFalse, if◌then◌else◌}
+use Rattle.disk_store.specs.Disk.{State, IsHonestDisk, IsUnchanged, Throughout}
+use Rattle.disk_store.proofs.Laws.{begins, stays, weakens}
+use Rattle.mot_base.specs.declared.geometry.Geometry.{Geometry}
 use Rattle.mot_base.specs.declared.group_kind.GroupKind.{GroupKind}
 use Rattle.mot_base.specs.declared.refusal.Refusal.{Refusal}
-use Rattle.mot_base.specs.declared.refusal.Refusal.TheVariants.{OutOfMemory}
+use Rattle.mot_base.specs.declared.refusal.Refusal.TheVariants.{OutOfMemory, DeviceFault, Halted}
 use Rattle.mot_carousel.specs.declared.command.Command.{Command}
 use Rattle.mot_carousel.specs.declared.command.Done.{Done}
-use Rattle.mot_carousel.specs.Carousel.{change}
+use Rattle.mot_carousel.specs.Carousel.{Carousel, change}
+use Rattle.mot_carousel.specs.Stands.{carousel_of, bodies_after}
 use Rattle.mot_groups.specs.Group.{bytes_of_group}
+use Rattle.mot_journal.specs.Image.{Standing}
 use Rattle.mot_lines.specs.declared.line.Line.{Line}
 use Rattle.mot_lines.specs.declared.line.Line.TheVariants as asks
-use Rattle.mot_lines.specs.Line.{IsParsed, NeedsMemory}
+use Rattle.mot_lines.specs.Line.{IsParsed, NeedsMemory, line_of}
+use Rattle.mot_player.specs.Place.{change_turn}
+use Rattle.mot_player.specs.Standing as player
+use Rattle.mot_player.specs.Turn.{turn_of_carousel}
+use Rattle.mot_repository.specs.Answers.{IsAnswered, IsChanged, IsRefusal, accepted, failed, refused}
+use Rattle.mot_repository.specs.Answers as repository
+use Rattle.mot_repository.specs.Repository.{RepositoryView, Agrees, Holds, IsBeforeOrAfter, IsNext}
+use Rattle.mot_server.specs.Runs.{StandsAfterSome}
+use Rattle.mot_server.specs.Server.{ServerView, place_in, bodies_of}
+use Rattle.mot_server.proofs.Laws.{after_none, before_or_after, holds_still, is_accepted, more, no_gap}
+use Rattle.mot_server.proofs.Laws.{none_of, not_halted, still_agrees, unchanged_on}
 use Rattle.mot_session.specs.Raw.{raw_group, packets_at}
-use Rattle.mot_session.specs.Inner.Decision.{Decides}
-use Rattle.mot_session.specs.Session.{Reply, refused, accepted, listing, packets, reply_to_change}
-use Rattle.mot_session.specs.Session.{state_after_change, IsAnswer, Answers, decided, no_memory}
+use Rattle.mot_session.specs.Inner.Decision.{Decides, may_be_done, written_by}
+use Rattle.mot_session.specs.Session as session
+use Rattle.mot_session.specs.Session.{Reply, Answers, IsAnswer, IsRefused, Accepts, NeedsCarousel}
+use Rattle.mot_session.specs.Session.{decided, no_memory, accepts, refuses, fails}
 use Rattle.mot_session.specs.declared.answering.Decision.{Decision}
 use Rattle.mot_session.specs.declared.answering.Decision.TheVariants.{Refused, Accepted, Listing}
 use Rattle.mot_session.specs.declared.answering.Decision.TheVariants.{Packets, Next, Turn}
-use Rattle.mot_base.specs.declared.geometry.Geometry.{Geometry}
-use Rattle.mot_player.specs.Place.{Place, change_turn}
-use Rattle.mot_player.specs.Turn.{turn_of_carousel}
-use Rattle.mot_session.specs.State.{ServerState}
+use Rattle.mot_session.specs.State.{ServerState, IsLater, KeepsCarousel, StandsFor, Stays, state_of}
+use Rattle.mot_session.specs.Stored.{command_in, is_device_fault}
+use Rattle.mot_session.specs.Inner.Writes.{Crosses, OnlyReads, may_have_done}
+use Rattle.mot_session.proofs.Outcomes.{done_by, failed_by_reply}
 
-module _ (before after : ServerState) (c : Command) where
-  -- a command that was accepted
-  pub Answers-accepted : (d : Done)
-      → change before.carousel before.geometry.objects c ≡ Ok (after.carousel, d)
-      → after.geometry ≡ before.geometry
-      → after.place ≡ change_turn (turn_of_carousel after.carousel before.geometry.segment_size) before.place
-      → Answers before (Ok (asks.Command c)) (accepted d) after
+pub stays-none : (state : ServerState) → Stays state state
+stays-none state = record {
+  keeps = record {
+    standing = refl;
+    layout = refl;
+    halted = refl;
+    later = record { moment = omega arith; failures = omega arith };
+  };
+  place = refl;
+}
+
+-- a refusal is one
+same_refusal : (a b : Refusal) → (let e : Result Done Refusal = Err a in e ≡ Err b) → a ≡ b
+same_refusal a b e = cc
+
+same_done : (a b : Done) → (let e : Result Done Refusal = Ok a in e ≡ Ok b) → a ≡ b
+same_done a b e = cc
+
+abbrev IsFailure : Result Done Refusal → Type 0
+IsFailure (Ok done) = ⊥
+IsFailure (Err refusal) = Unit {0}
+
+not_ok : (done : Done) (refusal : Refusal) → Err refusal ≡ Ok done → ⊥
+not_ok done refusal e = subst IsFailure e tt
+
+-- ---- a command
+
+module _ {D : Type 0} (old new : ServerView D) (s : Standing) (start now : State) (c : Command)
+    (stands : StandsFor old.view s start) (later : start.failures ≤ now.failures)
+    (any_moment : Holds old.view s start → Throughout start now (IsBeforeOrAfter s c)) where
+  -- it was accepted
+  changed_of : (done : Done) → IsAnswered old.view new.view start now c (Ok done)
+      → IsChanged old.view c done new.view
+  changed_of done (accepted d e changed) =
+      subst (λ x. IsChanged old.view c x new.view) (sym (same_done done d e)) changed
+  changed_of done (refused refusal e why same still) = absurd (not_ok done refusal (sym e))
+  changed_of done (failed e going rises halts) = absurd (not_ok done DeviceFault (sym e))
+
+  pub Answers-accepted : (done : Done) → IsAnswered old.view new.view start now c (Ok done)
+      → IsFalse old.view.halted → (next : Standing) → IsNext s c done next → Holds new.view next now
+      → place_in new next ≡ change_turn (turn_of_carousel next.carousel next.geometry.segment_size) (place_in old s)
+      → (last : Standing) × StandsFor new.view last now
+      × Answers (state_of old s start) (Ok (asks.Command c)) (session.accepted done) (state_of new last now)
   unfolding IsAnswer
-  Answers-accepted d changed same place = decided (
-    sym (ap reply_to_change changed),
-    ap (λ (g : Geometry). record { geometry = g; carousel = after.carousel; place = after.place }) same
-        ∙ ap (λ (p : Place). record { geometry = before.geometry; carousel = after.carousel; place = p }) place
-        ∙ sym (ap (state_after_change before) changed),
+  Answers-accepted done answer going next step holds place =
+      let changed = changed_of done answer in (
+        next,
+        record { agrees = holds.agrees; holds = λ is. holds },
+        decided (λ needs. going) (accepts done refl (record {
+          is_accepted = is_accepted old.view s stands.agrees new.view next c done holds.agrees changed step;
+          layout = changed.layout;
+          halted = changed.halted;
+          place = place;
+          later = record { moment = (any_moment (stands.holds going)).later; failures = later };
+        })),
+      )
+
+  -- it was refused, and nothing changed
+  stays-refused : start.moment ≤ now.moment → new.view ≡ old.view → new.player ≡ old.player
+      → Stays (state_of old s start) (state_of new s now)
+  stays-refused time same player_same = record {
+    keeps = record {
+      standing = refl;
+      layout = ap (λ (v : RepositoryView). v.journal.layout) same;
+      halted = ap (λ (v : RepositoryView). v.halted) same;
+      later = record { moment = time; failures = later };
+    };
+    place = ap (λ (p : player.Standing). player.place_of p (bodies_of s.carousel)) player_same;
+  }
+
+  -- the rules, told of what the disk stands for
+  rules-on : (r : Refusal) → repository.IsRefusedByRules old.view.carousel old.view.journal.geometry.objects c r
+      → change s.carousel s.geometry.objects c ≡ Err r
+  rules-on r rules =
+      let agrees = stands.agrees in
+      subst (λ (k : Carousel). change k s.geometry.objects c ≡ Err r) (sym agrees.carousel)
+      (subst (λ (g : Geometry). change (carousel_of old.view.carousel agrees.bodies) g.objects c ≡ Err r)
+      agrees.geometry (rules agrees.bodies agrees.are_bodies))
+
+  why-refused : (r : Refusal) → IsRefusal old.view c r → Stays (state_of old s start) (state_of new s now)
+      → Answers (state_of old s start) (Ok (asks.Command c)) (session.refused r) (state_of new s now)
+  unfolding IsAnswer
+  why-refused r (repository.halted is e) same = session.halted is tt (ap session.refused e) same
+  why-refused r (repository.long_name going layout long e) same =
+      decided (λ needs. going) (refuses r refl (session.long_name layout long e) same)
+  why-refused r (repository.by_rules going room rules) same =
+      decided (λ needs. going) (refuses r refl (session.by_rules room (rules-on r rules)) same)
+  why-refused r (repository.no_room going room next done changes none e) same =
+      let agrees = stands.agrees in
+      decided (λ needs. going) (refuses r refl (session.no_room room
+      (carousel_of next (bodies_after old.view.carousel c agrees.bodies), done)
+      (subst (λ (k : Carousel). change k s.geometry.objects c
+      ≡ Ok (carousel_of next (bodies_after old.view.carousel c agrees.bodies), done)) (sym agrees.carousel)
+      (subst (λ (g : Geometry). change (carousel_of old.view.carousel agrees.bodies) g.objects c
+      ≡ Ok (carousel_of next (bodies_after old.view.carousel c agrees.bodies), done))
+      agrees.geometry (changes agrees.bodies agrees.are_bodies).0))
+      (no_gap old.view s agrees c none) e) same)
+  why-refused r (repository.no_memory going room e) same = no_memory tt (ap session.refused e) same
+
+  pub Answers-refused_command : (r : Refusal) → IsAnswered old.view new.view start now c (Err r)
+      → new.player ≡ old.player → now.IsHonest
+      → (last : Standing) × StandsFor new.view last now
+      × Answers (state_of old s start) (Ok (asks.Command c)) (session.refused r) (state_of new last now)
+  unfolding IsAnswer
+  Answers-refused_command r (accepted d e changed) still_player honest = absurd (not_ok d r e)
+  Answers-refused_command r (refused x e why same still) still_player honest = (
+    s,
+    record {
+      agrees = subst (λ v. Agrees v s) (sym same) stands.agrees;
+      holds = λ is. holds_still old.view new.view s start now
+          (stands.holds (subst (λ (v : RepositoryView). IsFalse v.halted) same is)) honest still same;
+    },
+    why-refused r (subst (λ y. IsRefusal old.view c y) (sym (same_refusal r x e)) why)
+        (stays-refused still.time.later same still_player),
+  )
+  Answers-refused_command r (failed e going rises halts) still_player honest = (
+    s,
+    record {
+      agrees = still_agrees old.view new.view s halts stands.agrees;
+      holds = λ is. absurd (not_halted new.view.halted halts.halted is);
+    },
+    decided (λ needs. going) (fails (ap session.refused (same_refusal r DeviceFault e)) (record {
+      rises = rises;
+      standing = refl;
+      layout = halts.layout;
+      place = ap (λ (p : player.Standing). player.place_of p (bodies_of s.carousel)) still_player;
+      halted = halts.halted;
+      later = record { moment = (any_moment (stands.holds going)).later; failures = later };
+    })),
   )
 
-  -- and one that was refused
-  pub Answers-refused_command : (r : Refusal)
-      → (r ≡ OutOfMemory) ⊎ (change before.carousel before.geometry.objects c ≡ Err r)
-      → after ≡ before → Answers before (Ok (asks.Command c)) (refused r) after
-  unfolding IsAnswer
-  Answers-refused_command r (inl h) same = no_memory tt (ap refused h) same
-  Answers-refused_command r (inr h) same =
-      decided (sym (ap reply_to_change h), same ∙ sym (ap (state_after_change before) h))
+-- ---- what a crash leaves of it
+
+-- nothing changes on the disk
+pub crosses-unchanged : (view : RepositoryView) (s : Standing) (start now : State) (commands : List Command)
+    → IsHonestDisk start → Holds view s start → IsUnchanged start now
+    → Throughout start now (StandsAfterSome s [] commands)
+crosses-unchanged view s start now commands sound holds still =
+    stays start start now (StandsAfterSome s [] commands)
+    (begins start (StandsAfterSome s [] commands) sound
+    (λ image left. none_of s [] commands s image (after_none s) (holds.each image left))) still.time
+
+-- nothing was asked of the disk
+pub crosses-none : (view : RepositoryView) (s : Standing) (start : State) (commands : List Command)
+    → IsHonestDisk start → Holds view s start → Throughout start start (StandsAfterSome s [] commands)
+crosses-none view s start commands sound holds =
+    begins start (StandsAfterSome s [] commands) sound
+    (λ image left. none_of s [] commands s image (after_none s) (holds.each image left))
+
+tried : (s : Standing) (start now : State) (c : Command) → Throughout start now (IsBeforeOrAfter s c)
+    → Throughout start now (StandsAfterSome s [] (c ∷ []))
+tried s start now c time = weakens start now (IsBeforeOrAfter s c) (StandsAfterSome s [] (c ∷ [])) time
+    (λ image is. before_or_after s [] s c image (after_none s) is)
+
+pub crosses-accepted : (s : Standing) (start now : State) (c : Command) (done : Done)
+    → Throughout start now (IsBeforeOrAfter s c)
+    → Throughout start now (StandsAfterSome s [] (written_by (Accepted done) (Ok (asks.Command c))))
+crosses-accepted s start now c done time = tried s start now c time
+
+pub crosses-refused : (view view' : RepositoryView) (s : Standing) (start now : State) (c : Command) (r : Refusal)
+    → IsHonestDisk start → Holds view s start → IsAnswered view view' start now c (Err r)
+    → Throughout start now (IsBeforeOrAfter s c)
+    → Throughout start now (StandsAfterSome s [] (written_by (Refused r) (Ok (asks.Command c))))
+crosses-refused view view' s start now c r sound holds (accepted d e changed) time = absurd (not_ok d r e)
+crosses-refused view view' s start now c r sound holds (refused x e why same still) time =
+    crosses-unchanged view s start now (written_by (Refused r) (Ok (asks.Command c))) sound holds still
+crosses-refused view view' s start now c r sound holds (failed e going rises halts) time =
+    subst (λ x. Throughout start now (StandsAfterSome s [] (written_by (Refused x) (Ok (asks.Command c)))))
+    (sym (same_refusal r DeviceFault e)) (tried s start now c time)
+
+-- a halted server refuses, and nothing changes
+pub stays_halted : (view view' : RepositoryView) (start now : State) (c : Command) (r : Refusal)
+    → IsTrue view.halted → IsAnswered view view' start now c (Err r)
+    → (view' ≡ view) × IsUnchanged start now
+stays_halted view view' start now c r is (accepted d e changed) = absurd (not_ok d r e)
+stays_halted view view' start now c r is (refused x e why same still) = (same, still)
+stays_halted view view' start now c r is (failed e going rises halts) =
+    absurd (not_halted view.halted is going)
+
+-- ---- other lines
 
 module _ (state : ServerState) where
-  pub Answers-refused : (r : Refusal) → Answers state (Err r) (refused r) state
+  pub Answers-refused : (r : Refusal) → Answers state (Err r) (session.refused r) state
   unfolding IsAnswer
-  Answers-refused r = decided (refl, refl)
+  Answers-refused r = decided (λ needs. absurd needs) (refl, stays-none state)
 
-  pub Answers-list : Answers state (Ok asks.List) (listing state.carousel) state
+  pub Answers-list : IsFalse state.halted
+      → Answers state (Ok asks.List) (session.listing state.standing.carousel) state
   unfolding IsAnswer
-  Answers-list = decided (refl, refl)
+  Answers-list going = decided (λ needs. going) (refl, stays-none state)
 
   pub Answers-raw : (kind : GroupKind) (tid : ℕ) (body group : List ℕ)
       → group ≡ bytes_of_group (raw_group kind tid body)
-      → Answers state (Ok (asks.Raw kind tid body)) (packets (packets_at state.geometry group)) state
+      → Answers state (Ok (asks.Raw kind tid body)) (session.packets (packets_at state.standing.geometry group))
+      state
   unfolding IsAnswer
-  Answers-raw kind tid body group e = decided (ap (λ g. packets (packets_at state.geometry g)) e, refl)
+  Answers-raw kind tid body group e = decided (λ needs. absurd needs)
+      (ap (λ g. session.packets (packets_at state.standing.geometry g)) e, stays-none state)
+
+  pub Answers-no_memory : (request : Result Line Refusal) → NeedsMemory request
+      → Answers state request (session.refused OutOfMemory) state
+  Answers-no_memory request needs = no_memory needs refl (stays-none state)
+
+  -- a halted server shows nothing
+  pub Answers-halted : (request : Result Line Refusal) → NeedsCarousel request → IsTrue state.halted
+      → Answers state request (session.refused Halted) state
+  Answers-halted request needs is = session.halted is needs refl (stays-none state)
+
+-- what is shown or played is decided so, unless the server is halted
+pub Decides-shown : (state : ServerState) (request : Result Line Refusal) (decision result : Decision)
+    → NeedsCarousel request → (IsTrue state.halted → result ≡ Refused Halted)
+    → (IsFalse state.halted → result ≡ decision)
+    → (IsFalse state.halted → Decides state request decision state) → Decides state request result state
+Decides-shown state request decision result needs is isnt decides = by_case state.halted refl
+    where
+  by_case : (b : Bool) → state.halted ≡ b → Decides state request result state
+  by_case true e = subst (λ d. Decides state request d state) (sym (is e)) (Answers-halted state request needs e)
+  by_case false e = subst (λ d. Decides state request d state) (sym (isnt e)) (decides e)
+
+-- the line was parsed, or there was no memory for it
 
 module _ (before after : ServerState) where
   answers-no_memory : (reply : Reply) (asked : Result Line Refusal) → NeedsMemory asked
       → Answers before (Err OutOfMemory) reply after → Answers before asked reply after
   unfolding IsAnswer
-  answers-no_memory reply asked needs (decided d) = no_memory needs d.0 d.1
+  answers-no_memory reply asked needs (decided going d) = no_memory needs d.0 d.1
+  answers-no_memory reply asked needs (session.halted is n e f) = absurd n
   answers-no_memory reply asked needs (no_memory n e f) = no_memory needs e f
 
-  -- the line was parsed, or there was no memory for it
   answers-parsed : (reply : Reply) (request asked : Result Line Refusal) → IsParsed request asked
       → Answers before request reply after → Answers before asked reply after
   answers-parsed reply request asked (inl e) a = subst (λ r. Answers before r reply after) e a
@@ -85,11 +284,61 @@ module _ (before after : ServerState) where
   pub Decides-parsed : (decision : Decision) (request asked : Result Line Refusal)
       → IsParsed request asked → Decides before request decision after
       → Decides before asked decision after
-  Decides-parsed (Refused r) request asked o d = answers-parsed (refused r) request asked o d
-  Decides-parsed (Accepted a) request asked o d = answers-parsed (accepted a) request asked o d
-  Decides-parsed Listing request asked o d = answers-parsed (listing after.carousel) request asked o d
+  Decides-parsed (Refused r) request asked o d = answers-parsed (session.refused r) request asked o d
+  Decides-parsed (Accepted a) request asked o d = answers-parsed (session.accepted a) request asked o d
+  Decides-parsed Listing request asked o d =
+      answers-parsed (session.listing after.standing.carousel) request asked o d
   Decides-parsed (Packets group) request asked o d =
-      answers-parsed (packets (packets_at after.geometry group.items)) request asked o d
+      answers-parsed (session.packets (packets_at after.standing.geometry group.items)) request asked o d
   Decides-parsed (Next count) request asked o d =
-      (plays-parsed (asks.Next count) request asked o d.0, d.1)
-  Decides-parsed Turn request asked o d = (plays-parsed asks.Turn request asked o d.0, d.1)
+      (plays-parsed (asks.Next count) request asked o d.0, d.1, d.2)
+  Decides-parsed Turn request asked o d = (plays-parsed asks.Turn request asked o d.0, d.1, d.2)
+
+abbrev empty : Bool → List Command
+empty b = if b then [] else []
+
+-- and what was written is of that command
+pub written_by-parsed : (decision : Decision) (request asked : Result Line Refusal) (s : Standing) (start now : State)
+    → IsParsed request asked → Throughout start now (StandsAfterSome s [] (written_by decision request))
+    → Throughout start now (StandsAfterSome s [] (written_by decision asked))
+written_by-parsed decision request asked s start now (inl e) time =
+    subst (λ r. Throughout start now (StandsAfterSome s [] (written_by decision r))) e time
+written_by-parsed decision request asked s start now (inr e) time =
+    weakens start now (StandsAfterSome s [] []) (StandsAfterSome s [] (written_by decision asked))
+    (subst (λ l. Throughout start now (StandsAfterSome s [] l)) (nothing (may_be_done decision))
+    (subst (λ r. Throughout start now (StandsAfterSome s [] (written_by decision r))) e.0 time))
+    (λ image is. more s [] [] (written_by decision asked) image is)
+    where
+  nothing : (b : Bool) → empty b ≡ []
+  nothing true = refl
+  nothing false = refl
+
+-- ---- a line
+
+-- what a line may have done, by its reply
+line_did : (reply : Reply) (request : Result Line Refusal)
+    → (if may_have_done reply then command_in request else [])
+    ≡ done_by reply request ++ failed_by_reply reply request
+line_did (session.refused r) request = refl
+line_did (session.accepted d) request = sym (append-nil (command_in request))
+line_did (session.listing c) request = refl
+line_did (session.packets ps) request = refl
+line_did (session.played sents) request = refl
+line_did (session.cut_short sents) request = refl
+
+-- what a crash leaves of a line, from what it leaves of its command and of the reply
+pub Crosses-line : {D : Type 0} (old mid new : ServerView D) (s : Standing) (start between now : State)
+    (line : List ℕ) (reply : Reply) (after : ServerState) (decision : Decision) (request : Result Line Refusal)
+    → StandsFor old.view s start → now.IsHonest → OnlyReads mid new between now
+    → IsParsed request (line_of line) → may_have_done reply ≡ may_be_done decision
+    → (Holds old.view s start → Throughout start between (StandsAfterSome s [] (written_by decision request)))
+    → (IsTrue old.view.halted → IsUnchanged start between)
+    → Crosses start now (state_of old s start) (record { line = line; reply = reply; after = after })
+Crosses-line old mid new s start between now line reply after decision request stands honest reads parsed same crossed kept = record {
+  going = λ going.
+      let first = written_by-parsed decision request (line_of line) s start between parsed (crossed (stands.holds going)) in
+      let all = stays start between now (StandsAfterSome s [] (written_by decision (line_of line))) first (reads.unchanged honest).time in
+      subst (λ l. Throughout start now (StandsAfterSome s [] l))
+      (ap (λ b. if b then command_in (line_of line) else []) (sym same) ∙ line_did reply (line_of line)) all;
+  halted = λ is. unchanged_on start between now (kept is) (reads.unchanged honest);
+}

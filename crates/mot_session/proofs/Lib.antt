@@ -1,11 +1,15 @@
 pub mod Answered
 pub mod Continued
+pub mod Crashes
+pub mod Faults
 pub mod Fronts
-pub mod Going
 pub mod Joined
 pub mod Laws
+pub mod Outcomes
 pub mod Packets
+pub mod Replies
+pub mod Requests
 pub mod Rows
 pub mod Runs
-pub mod Turns
+pub mod SessionLaws
 pub mod Written

@@ -1,98 +1,141 @@
 -- A session that goes on.
-use Rattle.std.proofs.Common.{◌≡◌, ℕ, ◌+◌, List, [], ◌∷◌, ◌++◌, length, Option}
+use Rattle.std.proofs.Common.{◌≡◌, ℕ, ◌+◌, ◌≤◌, List, [], ◌∷◌, ◌++◌, length, map, Option}
 use Rattle.std.proofs.Common.{refl, sym, ap, ◌∙◌, subst, arith, append-nil, length-append}
+use Rattle.std.proofs.lemmas.List.{map-append}
 use Rattle.std.specs.Io.KnownBytes.{Appends}
+use Rattle.std.specs.Prelude.{IsFalse}
 use Rattle.std.proofs.KnownBytes.{Appends-trans, Appends-nil}
 use Rattle.std.proofs.lemmas.List.Concat.{flat_map-append}
+use Rattle.disk_store.specs.Disk.{State, IsHonestDisk}
 use Rattle.mot_lines.specs.Inner.Hand.{bytes_in_hand}
 use Rattle.mot_lines.specs.Inner.LineEnd.{HasNoLineEnd}
 use Rattle.mot_lines.specs.Line.{line_of}
 use Rattle.mot_lines.specs.Lines.{whole_lines, rest_of}
 use Rattle.mot_lines.proofs.Laws.{whole_lines-none, rest_of-none, whole_lines-end, rest_of-end}
 use Rattle.mot_lines.proofs.Laws.{whole_lines-within, rest_of-within}
-use Rattle.mot_session.specs.Inner.Progress.{Progress}
-use Rattle.mot_session.specs.Inner.Writes.{Answered}
-use Rattle.mot_session.specs.Served.{BrokenOff, Served, Stopped}
-use Rattle.mot_session.specs.Session.{Reply, Answers, Session, text_of, texts_of}
-use Rattle.mot_session.specs.State.{ServerState}
+use Rattle.mot_repository.specs.Repository.{Holds, IsOf}
+use Rattle.mot_server.specs.Server.{ServerView}
+use Rattle.mot_journal.specs.Image.{Standing}
+use Rattle.mot_session.specs.declared.serving.writing.WriteFault.{WriteFault}
+use Rattle.mot_session.specs.Inner.InHand.{InHand}
+use Rattle.mot_session.specs.Inner.Writes.{AnswersLine, Answered, Crosses}
+use Rattle.mot_session.specs.Served.{BrokenOff, Replied, Served, Stopped}
+use Rattle.mot_session.specs.Session.{Reply, Answers, Exchange, Session, text_of, texts_of}
+use Rattle.mot_session.specs.State.{ServerState, StandsFor, state_of}
+use Rattle.mot_session.specs.Stored.{IsStored, accepted_in, failed_by, failed_in}
+use Rattle.mot_session.proofs.Crashes.{stored-push, stored-none}
+use Rattle.mot_session.proofs.Outcomes.{Outcome, outcome, begun_outcome}
+use Rattle.std.specs.Prelude.{Result, Ok, Err}
 
-Session-push : (before mid after : ServerState) (lines : List (List ℕ)) (replies : List Reply)
-    (line : List ℕ) (reply : Reply)
-    → Session before lines replies mid → Answers mid (line_of line) reply after
-    → Session before (lines ++ line ∷ []) (replies ++ reply ∷ []) after
+Session-push : (before mid : ServerState) (xs : List Exchange) (x : Exchange)
+    → Session before xs mid → Answers mid (line_of x.line) x.reply x.after
+    → Session before (xs ++ x ∷ []) x.after
 unfolding Session
-Session-push before mid after [] [] line reply s a =
-    (after, subst (λ m. Answers m (line_of line) reply after) s a, refl)
-Session-push before mid after (l ∷ lines) (r ∷ replies) line reply s a =
-    (s.0, s.1, Session-push s.0 mid after lines replies line reply s.2 a)
-Session-push before mid after [] (r ∷ replies) line reply s a = absurd s
-Session-push before mid after (l ∷ lines) [] line reply s a = absurd s
+Session-push before mid [] x s a =
+    (subst (λ m. Answers m (line_of x.line) x.reply x.after) s a, refl)
+Session-push before mid (y ∷ xs) x s a = (s.0, Session-push y.after mid xs x s.1 a)
 
-texts-push : (replies : List Reply) (reply : Reply)
-    → texts_of (replies ++ reply ∷ []) ≡ texts_of replies ++ text_of reply
-texts-push replies reply = flat_map-append text_of replies (reply ∷ [])
-    ∙ ap (λ l. texts_of replies ++ l) (append-nil (text_of reply))
-
-Served-none : (state : ServerState) (known : Option (List ℕ)) → Served state state [] known known
-unfolding Session
-Served-none state known = record { replies = []; session = refl; appended = Appends-nil known }
-
--- one more line was answered
-pub Served-push : (before mid after : ServerState) (lines : List (List ℕ))
-    (line : List ℕ) (old now new : Option (List ℕ))
-    → Served before mid lines old now → Answered mid (line_of line) after now new
-    → Served before after (lines ++ line ∷ []) old new
-Served-push before mid after lines line old now new s r = record {
-  replies = s.replies ++ r.reply ∷ [];
-  session = Session-push before mid after lines s.replies line r.reply s.session r.answers;
-  appended = subst (Appends old new) (sym (texts-push s.replies r.reply))
-      (Appends-trans old now new _ _ s.appended r.written);
-}
+texts-push : (xs : List Exchange) (x : Exchange) → texts_of (xs ++ x ∷ []) ≡ texts_of xs ++ text_of x.reply
+texts-push xs x = flat_map-append (λ (y : Exchange). text_of y.reply) xs (x ∷ [])
+    ∙ ap (λ l. texts_of xs ++ l) (append-nil (text_of x.reply))
 
 -- nothing was read
-pub Progress-none : (state : ServerState) (known hand : Option (List ℕ)) → hand ≡ bytes_in_hand []
-    → Progress state known [] hand 0 state known
-Progress-none state known hand h = record {
-  in_hand = h ∙ ap bytes_in_hand (sym rest_of-none);
-  counted = ap length (sym whole_lines-none);
-  served = subst (λ l. Served state state l known known) (sym whole_lines-none)
-      (Served-none state known);
+pub Served-none : {D : Type 0} (server : ServerView D) (s : Standing) (now : State) (known : Option (List ℕ))
+    → StandsFor server.view s now → (now.IsHonest → IsHonestDisk now) → now.IsHonest
+    → Served now (state_of server s now) (state_of server s now) (whole_lines []) known known
+unfolding Session
+Served-none server s now known stands sound honest = record {
+  exchanges = [];
+  replied = record {
+    are_lines = sym whole_lines-none;
+    session = refl;
+    appended = Appends-nil known;
+  };
+  stored = λ going. stored-none now (state_of server s now) (sound honest) refl
+      (λ image left. (stands.holds going).each image left);
 }
 
-module _ (before mid : ServerState) (old now : Option (List ℕ)) (xs : List ℕ)
-    (hand : Option (List ℕ)) (count : ℕ) (p : Progress before old xs hand count mid now) where
-  -- more bytes of a line came
-  pub Progress-within : (ys : List ℕ) (next : Option (List ℕ)) → HasNoLineEnd ys
-      → next ≡ bytes_in_hand (rest_of xs ++ ys) → Progress before old (xs ++ ys) next count mid now
-  Progress-within ys next none h = record {
-    in_hand = h ∙ ap bytes_in_hand (sym (rest_of-within xs ys none));
-    counted = p.counted ∙ ap length (sym (whole_lines-within xs ys none));
-    served = subst (λ l. Served before mid l old now) (sym (whole_lines-within xs ys none)) p.served;
-  }
+module _ {D : Type 0} (mid_server after_server : ServerView D) (m last : Standing) (start now : State)
+    (sound_start : IsHonestDisk start) (sound : IsHonestDisk now)
+    (stands : StandsFor after_server.view last now) (before : ServerState)
+    (lines : List (List ℕ)) (line : List ℕ) (old known new : Option (List ℕ)) where
+  abbrev mid : ServerState
+  mid = state_of mid_server m start
 
-  -- a line ended, and was answered
-  pub Progress-end : (after : ServerState) (new next : Option (List ℕ))
-      → Answered mid (line_of (rest_of xs)) after now new → next ≡ bytes_in_hand []
-      → Progress before old (xs ++ 10 ∷ []) next (count + 1) after new
-  Progress-end after new next r h = record {
-    in_hand = h ∙ ap bytes_in_hand (sym (rest_of-end xs));
-    counted = let c = p.counted in rw (whole_lines-end, length-append) (omega arith);
-    served = subst (λ l. Served before after l old new) (sym (whole_lines-end xs))
-        (Served-push before mid after (whole_lines xs) (rest_of xs) old now new p.served r);
-  }
+  abbrev after : ServerState
+  after = state_of after_server last now
 
-  -- the reply to the line in hand was broken off
-  pub Stopped-here : (after : ServerState) (new : Option (List ℕ)) (lines more : List (List ℕ))
-      → BrokenOff mid (line_of (rest_of xs)) after now new
-      → lines ≡ whole_lines xs ++ rest_of xs ∷ more → Stopped before after lines count old new
-  Stopped-here after new lines more b e = record {
-    answered = whole_lines xs;
-    line = rest_of xs;
-    unanswered = more;
+  abbrev exchange : Reply → Exchange
+  exchange reply = record { line = line; reply = reply; after = after }
+
+  stored : (later : start.moment ≤ now.moment) (reply : Reply) (xs : List Exchange)
+      → Outcome mid after (accepted_in (exchange reply)) (failed_in (exchange reply))
+      → Crosses start now mid (exchange reply) → Session before xs mid
+      → IsStored start (failed_by xs) before xs
+      → IsStored now (failed_by (xs ++ exchange reply ∷ [])) before (xs ++ exchange reply ∷ [])
+  stored later reply xs what crosses s is = stored-push start now before mid xs (exchange reply) sound_start
+      sound refl refl later what crosses (λ going image left. (stands.holds going).each image left) s is
+
+  -- one more line was answered
+  pub Served-push : Served start before mid lines old known → start.moment ≤ now.moment → (reply : Reply)
+      → Answered mid (line_of line) reply after known new → Crosses start now mid (exchange reply)
+      → Served now before after (lines ++ line ∷ []) old new
+  Served-push served later reply a crosses =
+      let xs = served.exchanges in
+      let is = served.replied in record {
+        exchanges = xs ++ exchange reply ∷ [];
+        replied = record {
+          are_lines = map-append (λ (x : Exchange). x.line) xs (exchange reply ∷ [])
+              ∙ ap (λ l. l ++ line ∷ []) is.are_lines;
+          session = Session-push before mid xs (exchange reply) is.session a.answers;
+          appended = subst (Appends old new) (sym (texts-push xs (exchange reply)))
+              (Appends-trans old known new _ _ is.appended a.written);
+        };
+        stored = λ going. stored later reply xs (outcome mid after (line_of line) reply a.answers) crosses
+            is.session (served.stored going);
+      }
+
+  -- its reply was broken off
+  pub Stopped-here : Served start before mid lines old known → start.moment ≤ now.moment → (reply : Reply)
+      → BrokenOff mid (line_of line) reply after known new → Crosses start now mid (exchange reply)
+      → (count : ℕ) → count ≡ length lines → (all unanswered : List (List ℕ))
+      → all ≡ lines ++ line ∷ unanswered → Stopped now before after all count old new
+  Stopped-here served later reply b crosses count counted all unanswered e = record {
+    answered = lines;
+    line = line;
+    unanswered = unanswered;
     split = e;
-    counted = p.counted;
+    counted = counted;
+    exchanges = served.exchanges;
     between = mid;
-    known = now;
-    served = p.served;
+    known = known;
+    replied = served.replied;
+    reply = reply;
     broken = b;
+    stored = λ going. stored later reply served.exchanges (begun_outcome mid after (line_of line) reply b.begins)
+        crosses served.replied.session (served.stored going);
+  }
+
+-- ---- the line in hand
+
+pub InHand-none : (hand : Option (List ℕ)) → hand ≡ bytes_in_hand [] → InHand [] hand 0
+InHand-none hand h = record {
+  rest = h ∙ ap bytes_in_hand (sym rest_of-none);
+  counted = ap length (sym whole_lines-none);
+}
+
+module _ (xs : List ℕ) (hand : Option (List ℕ)) (count : ℕ) (is : InHand xs hand count) where
+  -- more bytes of a line came
+  pub InHand-within : (ys : List ℕ) (next : Option (List ℕ)) → HasNoLineEnd ys
+      → next ≡ bytes_in_hand (rest_of xs ++ ys) → InHand (xs ++ ys) next count
+  InHand-within ys next none h = record {
+    rest = h ∙ ap bytes_in_hand (sym (rest_of-within xs ys none));
+    counted = is.counted ∙ ap length (sym (whole_lines-within xs ys none));
+  }
+
+  -- a line ended
+  pub InHand-end : (next : Option (List ℕ)) → next ≡ bytes_in_hand [] → InHand (xs ++ 10 ∷ []) next (count + 1)
+  InHand-end next h = record {
+    rest = h ∙ ap bytes_in_hand (sym (rest_of-end xs));
+    counted = let c = is.counted in rw (whole_lines-end, length-append) (omega arith);
   }

@@ -1,5 +1,3 @@
 pub mod Decision
-pub mod Going
-pub mod Playing
-pub mod Progress
+pub mod InHand
 pub mod Writes

@@ -1,18 +1,23 @@
--- What holds of every raw reply, and of the packets of a whole session.
-use Rattle.std.specs.Prelude.{ℕ, ◌≡◌, ◌<◌, ◌≤◌, List, [], ◌∷◌, ◌++◌, length, Some, Result}
+-- What holds of every raw reply, and of every session.
+use Rattle.std.specs.Prelude.{ℕ, ◌≡◌, ◌+◌, ◌⊎◌, ◌<◌, ◌≤◌, Bool, true, false, List, [], ◌∷◌, ◌++◌}
+use Rattle.std.specs.Prelude.{length, ◌&&◌, is_ok, if◌then◌else◌, Some, Result}
+use Rattle.disk_store.specs.Disk.{most_failures}
 use Rattle.mot_base.specs.Geometry.{IsValid}
 use Rattle.mot_base.specs.declared.geometry.Geometry.{Geometry}
 use Rattle.mot_base.specs.declared.group_kind.GroupKind.{GroupKind}
 use Rattle.mot_base.specs.declared.numbers.TheConstants.{MAX_SEGMENT}
 use Rattle.mot_base.specs.declared.refusal.Refusal.{Refusal}
 use Rattle.mot_groups.specs.Group.{read_group}
+use Rattle.mot_lines.specs.Line.{line_of}
 use Rattle.mot_lines.specs.declared.line.Line.{Line}
 use Rattle.mot_packets.specs.Gather.{gather}
 use Rattle.mot_player.specs.Continuity.{IsContinuous}
 use Rattle.mot_session.specs.Raw.{raw_group, raw_packets}
 use Rattle.mot_session.specs.Served.{Begins}
-use Rattle.mot_session.specs.Session.{Reply, Session, packets_played}
-use Rattle.mot_session.specs.State.{ServerState, new_server}
+use Rattle.mot_session.specs.Session.{Exchange, Reply, Session, accepted, cut_short, listing, packets}
+use Rattle.mot_session.specs.Session.{packets_in, packets_played, played, refused}
+use Rattle.mot_session.specs.State.{HasJustOpened, ServerState}
+use Rattle.mot_session.specs.Stored.{is_device_fault}
 
 -- a receiver gathers one group from the packets of a raw reply, and reads in it the segment that
 -- was asked for
@@ -23,17 +28,50 @@ RawRepliesRead =
     → (group : List ℕ) × (gather (raw_packets g kind tid body) ≡ Some (group ∷ []))
     × (read_group group ≡ Some (raw_group kind tid body))
 
--- On a server just made all packets of the replies to `next` and `turn` lines, in order, have their
--- continuity indexes, whatever lines come between them.
+-- On a server just opened all packets of the replies to `next` and `turn` lines, in order, have
+-- their continuity indexes, whatever lines come between them.
 abbrev pub SessionsAreContinuous : Type 0
 SessionsAreContinuous =
-    (g : Geometry) (lines : List (List ℕ)) (replies : List Reply) (after : ServerState) → IsValid g
-    → Session (new_server g) lines replies after → IsContinuous (packets_played replies)
+    (before : ServerState) (exchanges : List Exchange) (after : ServerState)
+    → IsValid before.standing.geometry → HasJustOpened before → Session before exchanges after
+    → IsContinuous (packets_played exchanges)
 
 -- so, too, where the reply to the line after them was broken off
 abbrev pub StoppedSessionsAreContinuous : Type 0
 StoppedSessionsAreContinuous =
-    (g : Geometry) (lines : List (List ℕ)) (replies : List Reply) (between : ServerState)
-    (request : Result Line Refusal) (reply : Reply) (after : ServerState) → IsValid g
-    → Session (new_server g) lines replies between → Begins between request reply after
-    → IsContinuous (packets_played (replies ++ reply ∷ []))
+    (before : ServerState) (exchanges : List Exchange) (between : ServerState)
+    (request : Result Line Refusal) (reply : Reply) (after : ServerState)
+    → IsValid before.standing.geometry → HasJustOpened before → Session before exchanges between
+    → Begins between request reply after
+    → IsContinuous (packets_played exchanges ++ packets_in reply)
+
+-- a reply that holds a device fault
+abbrev pub has_fault : Reply → Bool
+has_fault (refused r) = is_device_fault r
+has_fault (accepted d) = false
+has_fault (listing c) = false
+has_fault (packets ps) = false
+has_fault (played sents) = false
+has_fault (cut_short sents) = true
+
+-- how many replies to requests hold one
+abbrev pub faults_in : List Exchange → ℕ
+faults_in [] = 0
+faults_in (x ∷ exchanges) =
+    (if is_ok (line_of x.line) && has_fault x.reply then 1 else 0) + faults_in exchanges
+
+-- The replies to requests hold a device fault at most as often as the disk's failures rose, unless
+-- their count reached the greatest `u64`.
+abbrev pub FaultsAreTheDisks : Type 0
+FaultsAreTheDisks =
+    (before : ServerState) (exchanges : List Exchange) (after : ServerState)
+    → Session before exchanges after
+    → (faults_in exchanges + before.failures ≤ after.failures)
+    ⊎ (most_failures ≤ after.failures)
+
+-- what holds of every session
+pub record SessionLaws : Type 0 where
+  pub raw : RawRepliesRead
+  pub continuous : SessionsAreContinuous
+  pub stopped : StoppedSessionsAreContinuous
+  pub device_faults : FaultsAreTheDisks

@@ -1,8 +1,8 @@
 pub mod Inner
 pub mod Laws
 pub mod Played
-pub mod Playing
 pub mod Raw
 pub mod Served
 pub mod Session
 pub mod State
+pub mod Stored

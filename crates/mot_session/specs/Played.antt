@@ -2,11 +2,12 @@
 use Rattle.std.specs.Prelude.{ℕ, ◌≡◌, ◌+◌, true, false, List, [], ◌∷◌, ◌++◌, map, replicate}
 use Rattle.std.specs.Prelude.{Some}
 use Rattle.std.specs.List.{flat_map}
+use Rattle.disk_store.specs.Disk.{Rises}
 use Rattle.mot_lines.specs.Text.{played_line}
 use Rattle.mot_packets.specs.Written.{bytes_of_packet}
 use Rattle.mot_player.specs.Laws.{AreSent}
 use Rattle.mot_player.specs.Place.{Sent, Request, sent_by}
-use Rattle.mot_session.specs.State.{ServerState}
+use Rattle.mot_session.specs.State.{ServerState, KeepsCarousel, Stays}
 
 -- the packets that were sent
 abbrev pub packets_sent : List Sent → List (List ℕ)
@@ -19,14 +20,13 @@ sent_line s = played_line (bytes_of_packet s.packet) s.ends_turn
 abbrev pub sent_lines : List Sent → List ℕ
 sent_lines sents = flat_map sent_line sents
 
--- so many requests sent these packets, each of which reads as what was sent; carousel and geometry
--- stay
+-- so many requests sent these packets, each of which reads as what was sent, and nothing else
+-- changed
 pub record Sends (before : ServerState) (count : ℕ) (sents : List Sent) (after : ServerState) :
     Type 0 where
   pub steps : sent_by before.place (replicate count Request) ≡ Some (sents, after.place)
   pub read : AreSent sents (packets_sent sents)
-  pub geometry : after.geometry ≡ before.geometry
-  pub carousel : after.carousel ≡ before.carousel
+  pub keeps : KeepsCarousel before after
 
 -- so many requests sent packets of which none ends a turn
 pub record SendsWithinTurn (before : ServerState) (count : ℕ) (sents : List Sent)
@@ -39,3 +39,8 @@ pub record SendsTurn (before : ServerState) (others : ℕ) (sents : List Sent)
     (after : ServerState) : Type 0 where
   pub sends : Sends before (others + 1) sents after
   pub ends : map (λ (s : Sent). s.ends_turn) sents ≡ replicate others false ++ true ∷ []
+
+-- a request failed, since a body could not be read; nothing changed, and the next one tries again
+pub record FailsToSend (before after : ServerState) : Type 0 where
+  pub rises : Rises before.failures after.failures
+  pub stays : Stays before after

@@ -1,7 +1,8 @@
 -- What was read and written so far.
-use Rattle.std.specs.Prelude.{ℕ, ◌≡◌, ◌≤◌, ◌*◌, ◌⊎◌, List, [], ◌∷◌, ◌++◌, length, Option, Some}
-use Rattle.std.specs.Prelude.{None, Result, Ok}
+use Rattle.std.specs.Prelude.{ℕ, ◌≡◌, ◌≤◌, ◌*◌, ◌⊎◌, List, [], ◌∷◌, ◌++◌, length, map, Option, Some}
+use Rattle.std.specs.Prelude.{None, Result, Ok, IsFalse}
 use Rattle.std.specs.Io.KnownBytes.{Appends, Consumes}
+use Rattle.disk_store.specs.Disk.{State}
 use Rattle.mot_base.specs.declared.refusal.Refusal.{Refusal}
 use Rattle.mot_base.specs.declared.refusal.Refusal.TheVariants.{OutOfMemory, ReadFault, WriteFault}
 use Rattle.mot_lines.specs.Line.{line_of}
@@ -10,8 +11,10 @@ use Rattle.mot_lines.specs.declared.line.Line.TheVariants as asks
 use Rattle.mot_player.specs.Place.{Sent}
 use Rattle.mot_session.specs.declared.serving.TheConstants.{READ_SIZE}
 use Rattle.mot_session.specs.Played.{Sends, SendsWithinTurn, sent_lines}
-use Rattle.mot_session.specs.Session.{Reply, played, Answers, Session, text_of, texts_of}
+use Rattle.mot_session.specs.Session.{Reply, played, cut_short, Answers, Exchange, Session, text_of}
+use Rattle.mot_session.specs.Session.{texts_of}
 use Rattle.mot_session.specs.State.{ServerState}
+use Rattle.mot_session.specs.Stored.{IsStored, failed_by}
 
 -- the reader gave these bytes, in at most so many reads
 pub record TakesInput (reads : ℕ) (unread left : Option (List ℕ)) (input : List ℕ) : Type 0 where
@@ -33,40 +36,56 @@ pub data Begins (before : ServerState) (request : Result Line Refusal) (reply : 
     (after : ServerState) : Type 0 where
   whole : Answers before request reply after → Begins before request reply after
   next_begun : (count made : ℕ) (sents : List Sent) → request ≡ Ok (asks.Next count)
-      → made ≤ count → reply ≡ played sents → Sends before made sents after
+      → IsFalse before.halted → made ≤ count → reply ≡ played sents
+      → Sends before made sents after → Begins before request reply after
+  turn_begun : (made : ℕ) (sents : List Sent) → request ≡ Ok asks.Turn → IsFalse before.halted
+      → reply ≡ played sents → SendsWithinTurn before made sents after
       → Begins before request reply after
-  turn_begun : (made : ℕ) (sents : List Sent) → request ≡ Ok asks.Turn → reply ≡ played sents
-      → SendsWithinTurn before made sents after → Begins before request reply after
 
--- the request was answered, or its answer was begun, and some first bytes of the reply were
--- written; a packet was asked for only where the lines of those before it were
-pub record BrokenOff (before : ServerState) (request : Result Line Refusal) (after : ServerState)
-    (old new : Option (List ℕ)) : Type 0 where
-  pub reply : Reply
+-- The request was answered, or its answer was begun, and some first bytes of the reply were
+-- written; a packet was asked for only where the lines of those before it were.
+pub record BrokenOff (before : ServerState) (request : Result Line Refusal) (reply : Reply)
+    (after : ServerState) (old new : Option (List ℕ)) : Type 0 where
   pub begins : Begins before request reply after
   pub written : WritesFront (text_of reply) old new
   pub in_order : (first : List Sent) (last : Sent) → reply ≡ played (first ++ last ∷ [])
       → length (sent_lines first) ≤ length written.written
+  pub cut_in_order : (sents : List Sent) → reply ≡ cut_short sents
+      → length (sent_lines sents) ≤ length written.written
 
--- each of these lines was answered
-pub record Served (before after : ServerState) (lines : List (List ℕ))
+-- these are the lines, each was answered, and the replies were written
+pub record Replied (before : ServerState) (exchanges : List Exchange) (after : ServerState)
+    (lines : List (List ℕ)) (old new : Option (List ℕ)) : Type 0 where
+  pub are_lines : map (λ (x : Exchange). x.line) exchanges ≡ lines
+  pub session : Session before exchanges after
+  pub appended : Appends old new (texts_of exchanges)
+
+-- each of these lines was answered; and whatever a crash leaves on the disk, now in this state, all
+-- that was told is stored
+pub record Served (now : State) (before after : ServerState) (lines : List (List ℕ))
     (old new : Option (List ℕ)) : Type 0 where
-  pub replies : List Reply
-  pub session : Session before lines replies after
-  pub appended : Appends old new (texts_of replies)
+  pub exchanges : List Exchange
+  pub replied : Replied before exchanges after lines old new
+  pub stored : IsFalse before.halted → IsStored now (failed_by exchanges) before exchanges
 
 -- of these lines the first count were answered, and the reply to the one after them was broken off
-pub record Stopped (before after : ServerState) (lines : List (List ℕ)) (count : ℕ)
+pub record Stopped (now : State) (before after : ServerState) (lines : List (List ℕ)) (count : ℕ)
     (old new : Option (List ℕ)) : Type 0 where
   pub answered : List (List ℕ)
   pub line : List ℕ
   pub unanswered : List (List ℕ)
   pub split : lines ≡ answered ++ line ∷ unanswered
   pub counted : count ≡ length answered
+  pub exchanges : List Exchange
   pub between : ServerState
   pub known : Option (List ℕ)
-  pub served : Served before between answered old known
-  pub broken : BrokenOff between (line_of line) after known new
+  pub replied : Replied before exchanges between answered old known
+  -- the command in hand may have been done
+  pub reply : Reply
+  pub broken : BrokenOff between (line_of line) reply after known new
+  pub stored :
+      let all = exchanges ++ record { line = line; reply = reply; after = after } ∷ [] in
+      IsFalse before.halted → IsStored now (failed_by all) before all
 
 -- what ends serving: the end of the input, or one of three faults
 abbrev pub EndsServing : Option Refusal → Type 0

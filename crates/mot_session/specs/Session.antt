@@ -1,10 +1,14 @@
 -- What a server answers, line by line.
-use Rattle.std.specs.Prelude.{ℕ, ◌≡◌, List, [], ◌∷◌, Result, Ok, Err}
+use Rattle.std.specs.Prelude.{ℕ, ◌≡◌, ◌<◌, ⊤, List, [], ◌∷◌, ◌++◌, Result, Ok, Err, IsTrue, IsFalse}
 use Rattle.std.specs.List.{flat_map}
+use Rattle.disk_store.specs.Disk.{Rises}
 use Rattle.mot_base.specs.declared.refusal.Refusal.{Refusal}
-use Rattle.mot_base.specs.declared.refusal.Refusal.TheVariants.{OutOfMemory}
+use Rattle.mot_base.specs.declared.refusal.Refusal.TheVariants.{BadName, NoRoom, OutOfMemory}
+use Rattle.mot_base.specs.declared.refusal.Refusal.TheVariants.{DeviceFault, Halted}
+use Rattle.mot_carousel.specs.declared.command.Command as command
 use Rattle.mot_carousel.specs.declared.command.Done.{Done}
 use Rattle.mot_carousel.specs.Carousel.{Carousel, change}
+use Rattle.mot_journal.specs.declared.layout.Layout.TheVariants.{One}
 use Rattle.mot_lines.specs.declared.line.Line.{Line}
 use Rattle.mot_lines.specs.declared.line.Line.TheVariants.{Command, Raw, Next, Turn}
 use Rattle.mot_lines.specs.declared.line.Line.TheVariants as asks
@@ -13,9 +17,12 @@ use Rattle.mot_lines.specs.Listing.{listing_text}
 use Rattle.mot_lines.specs.Text.{done_line, packet_line, refusal_line}
 use Rattle.mot_player.specs.Place.{Sent, change_turn}
 use Rattle.mot_player.specs.Turn.{turn_of_carousel}
-use Rattle.mot_session.specs.Played.{Sends, SendsTurn, packets_sent, sent_lines}
+use Rattle.mot_repository.specs.Answers.{HasLongName}
+use Rattle.mot_server.specs.Marks.{IsAcceptedAt, HasNoGapFor}
+use Rattle.mot_session.specs.Played.{FailsToSend, Sends, SendsTurn, SendsWithinTurn, packets_sent}
+use Rattle.mot_session.specs.Played.{sent_lines}
 use Rattle.mot_session.specs.Raw.{raw_packets}
-use Rattle.mot_session.specs.State.{ServerState}
+use Rattle.mot_session.specs.State.{ServerState, IsLater, KeepsCarousel, Stays}
 
 pub data Reply : Type 0 where
   refused : Refusal → Reply
@@ -23,6 +30,8 @@ pub data Reply : Type 0 where
   listing : Carousel → Reply
   packets : List (List ℕ) → Reply
   played : List Sent → Reply
+  -- packets, and then the device fault of the request behind them
+  cut_short : List Sent → Reply
 
 -- a reply's bytes
 unfoldable pub text_of : Reply → List ℕ
@@ -31,64 +40,116 @@ text_of (accepted d) = done_line d
 text_of (listing c) = listing_text c
 text_of (packets ps) = flat_map packet_line ps
 text_of (played sents) = sent_lines sents
+text_of (cut_short sents) = sent_lines sents ++ refusal_line DeviceFault
 
-abbrev pub texts_of : List Reply → List ℕ
-texts_of replies = flat_map text_of replies
+-- why a command is refused: a name too long for layout 1, the rules of the carousel, or no gap of
+-- the data area for the body, each only where the ones before it are not
+pub data IsRefused (s : ServerState) (c : command.Command) (refusal : Refusal) : Type 0 where
+  long_name : s.layout ≡ One → HasLongName c → refusal ≡ BadName → IsRefused s c refusal
+  by_rules : (s.layout ≡ One → HasLongName c → ⊥)
+      → change s.standing.carousel s.standing.geometry.objects c ≡ Err refusal
+      → IsRefused s c refusal
+  no_room : (s.layout ≡ One → HasLongName c → ⊥) → (next : Carousel × Done)
+      → change s.standing.carousel s.standing.geometry.objects c ≡ Ok next
+      → HasNoGapFor s.standing c → refusal ≡ NoRoom → IsRefused s c refusal
 
--- a command is answered as the carousel's rules do: it is accepted and changes the carousel and
--- with it the turn, or is refused and changes nothing
-abbrev pub reply_to_change : Result (Carousel × Done) Refusal → Reply
-reply_to_change (Ok (next, d)) = accepted d
-reply_to_change (Err r) = refused r
+-- a command is accepted: the carousel is the one that the rules make of it, a new body lies in the
+-- least gap, and the new carousel's turn follows the group under way
+pub record Accepts (s : ServerState) (c : command.Command) (done : Done) (after : ServerState) :
+    Type 0 where
+  pub is_accepted : IsAcceptedAt s.standing c done after.standing
+  pub layout : after.layout ≡ s.layout
+  pub halted : after.halted ≡ s.halted
+  pub place : after.place ≡ change_turn (turn_of_carousel after.standing.carousel
+      after.standing.geometry.segment_size) s.place
+  pub later : IsLater s after
 
-abbrev pub state_after_change : ServerState → Result (Carousel × Done) Refusal → ServerState
-state_after_change s (Ok (next, d)) = record {
-  geometry = s.geometry;
-  carousel = next;
-  place = change_turn (turn_of_carousel next s.geometry.segment_size) s.place;
-}
-state_after_change s (Err r) = s
+-- the disk fails, and the server is halted, with the carousel from before
+pub record Halts (s after : ServerState) : Type 0 where
+  pub rises : Rises s.failures after.failures
+  pub standing : after.standing ≡ s.standing
+  pub layout : after.layout ≡ s.layout
+  pub place : after.place ≡ s.place
+  pub halted : IsTrue after.halted
+  pub later : IsLater s after
 
--- What answers a request, and the state after it. A refused line gets its refusal, a list line the
--- carousel, a raw line the packets of its group, and none of them changes the state; a `next` line
--- gets the packets of its requests, and a `turn` line those up to the first that ends a turn.
+-- what a command is answered
+pub data IsCommandAnswer (s : ServerState) (c : command.Command) (reply : Reply)
+    (after : ServerState) : Type 0 where
+  accepts : (done : Done) → reply ≡ accepted done → Accepts s c done after
+      → IsCommandAnswer s c reply after
+  refuses : (refusal : Refusal) → reply ≡ refused refusal → IsRefused s c refusal → Stays s after
+      → IsCommandAnswer s c reply after
+  fails : reply ≡ refused DeviceFault → Halts s after → IsCommandAnswer s c reply after
+
+-- what so many requests of packets are answered: all packets, or those before a request that fails
+pub data IsNextAnswer (s : ServerState) (count : ℕ) (reply : Reply) (after : ServerState) :
+    Type 0 where
+  all : (sents : List Sent) → reply ≡ played sents → Sends s count sents after
+      → IsNextAnswer s count reply after
+  cut : (made : ℕ) (sents : List Sent) (between : ServerState) → made < count
+      → reply ≡ cut_short sents → Sends s made sents between → FailsToSend between after
+      → IsNextAnswer s count reply after
+
+-- so, too, of the requests up to the first packet that ends a turn
+pub data IsTurnAnswer (s : ServerState) (reply : Reply) (after : ServerState) : Type 0 where
+  all : (others : ℕ) (sents : List Sent) → reply ≡ played sents → SendsTurn s others sents after
+      → IsTurnAnswer s reply after
+  cut : (made : ℕ) (sents : List Sent) (between : ServerState) → reply ≡ cut_short sents
+      → SendsWithinTurn s made sents between → FailsToSend between after
+      → IsTurnAnswer s reply after
+
+-- What answers a request, and the state after it. A line that is no request gets its refusal, a
+-- list line the carousel, a raw line the packets of its group, and none of them changes anything.
 unfoldable pub IsAnswer : ServerState → Result Line Refusal → Reply → ServerState → Type 0
-IsAnswer s (Err r) reply after = (reply ≡ refused r) × (after ≡ s)
-IsAnswer s (Ok (Command c)) reply after =
-    let changed = change s.carousel s.geometry.objects c in
-    (reply ≡ reply_to_change changed) × (after ≡ state_after_change s changed)
-IsAnswer s (Ok asks.List) reply after = (reply ≡ listing s.carousel) × (after ≡ s)
+IsAnswer s (Err r) reply after = (reply ≡ refused r) × Stays s after
+IsAnswer s (Ok (Command c)) reply after = IsCommandAnswer s c reply after
+IsAnswer s (Ok asks.List) reply after = (reply ≡ listing s.standing.carousel) × Stays s after
 IsAnswer s (Ok (Raw kind tid body)) reply after =
-    (reply ≡ packets (raw_packets s.geometry kind tid body)) × (after ≡ s)
-IsAnswer s (Ok (Next count)) reply after =
-    (sents : List Sent) × (reply ≡ played sents) × Sends s count sents after
-IsAnswer s (Ok Turn) reply after =
-    (others : ℕ) × (sents : List Sent) × (reply ≡ played sents) × SendsTurn s others sents after
+    (reply ≡ packets (raw_packets s.standing.geometry kind tid body)) × Stays s after
+IsAnswer s (Ok (Next count)) reply after = IsNextAnswer s count reply after
+IsAnswer s (Ok Turn) reply after = IsTurnAnswer s reply after
+
+-- a request that needs a server which is not halted: every one but a raw line
+abbrev pub NeedsCarousel : Result Line Refusal → Type 0
+NeedsCarousel (Err r) = ⊥
+NeedsCarousel (Ok (Raw kind tid body)) = ⊥
+NeedsCarousel (Ok line) = ⊤
 
 -- The reply to a request, and the state after it. A growth of memory that is refused may stand in
 -- a reply's place, but not of a list, a `next` or a `turn` line's.
 pub data Answers (before : ServerState) (request : Result Line Refusal) (reply : Reply)
     (after : ServerState) : Type 0 where
-  decided : IsAnswer before request reply after → Answers before request reply after
-  no_memory : NeedsMemory request → reply ≡ refused OutOfMemory → after ≡ before
+  decided : (NeedsCarousel request → IsFalse before.halted) → IsAnswer before request reply after
+      → Answers before request reply after
+  halted : IsTrue before.halted → NeedsCarousel request → reply ≡ refused Halted
+      → Stays before after → Answers before request reply after
+  no_memory : NeedsMemory request → reply ≡ refused OutOfMemory → Stays before after
       → Answers before request reply after
 
--- one reply a line, from a state to a state
-unfoldable pub Session : ServerState → List (List ℕ) → List Reply → ServerState → Type 0
-Session before [] [] after = after ≡ before
-Session before (line ∷ lines) (reply ∷ replies) after =
-    (next : ServerState) × Answers before (line_of line) reply next
-    × Session next lines replies after
-Session before [] (reply ∷ replies) after = ⊥
-Session before (line ∷ lines) [] after = ⊥
+-- a line, its reply, and the state after it
+pub record Exchange : Type 0 where
+  pub line : List ℕ
+  pub reply : Reply
+  pub after : ServerState
+
+abbrev pub texts_of : List Exchange → List ℕ
+texts_of exchanges = flat_map (λ (x : Exchange). text_of x.reply) exchanges
+
+-- line by line, from a state to a state
+unfoldable pub Session : ServerState → List Exchange → ServerState → Type 0
+Session before [] after = after ≡ before
+Session before (x ∷ exchanges) after =
+    Answers before (line_of x.line) x.reply x.after × Session x.after exchanges after
 
 -- the packets of the replies to `next` and `turn` lines
 abbrev pub packets_in : Reply → List (List ℕ)
 packets_in (played sents) = packets_sent sents
+packets_in (cut_short sents) = packets_sent sents
 packets_in (refused r) = []
 packets_in (accepted d) = []
 packets_in (listing c) = []
 packets_in (packets ps) = []
 
-abbrev pub packets_played : List Reply → List (List ℕ)
-packets_played replies = flat_map packets_in replies
+abbrev pub packets_played : List Exchange → List (List ℕ)
+packets_played exchanges = flat_map (λ (x : Exchange). packets_in x.reply) exchanges

@@ -1,21 +1,73 @@
--- What a server stands for.
+-- What a server on a disk stands for.
+use Rattle.std.specs.Prelude.{◌≡◌, ℕ, ◌≤◌, Bool, IsFalse}
+use Rattle.disk_store.specs.Disk as disk
 use Rattle.mot_base.specs.Geometry.{packet_room}
 use Rattle.mot_base.specs.declared.geometry.Geometry.{Geometry}
-use Rattle.mot_carousel.specs.Carousel.{Carousel, new_carousel}
+use Rattle.mot_journal.specs.declared.layout.Layout.{Layout}
+use Rattle.mot_journal.specs.Image.{Standing}
 use Rattle.mot_player.specs.Place.{Place, opened_place}
 use Rattle.mot_player.specs.Turn.{turn_of_carousel}
+use Rattle.mot_repository.specs.Repository.{RepositoryView, Agrees, Holds}
+use Rattle.mot_server.specs.Server.{ServerView, place_in}
 
--- its geometry, its carousel with the bodies, and where it stands in playing it
 pub record ServerState : Type 0 where
-  pub geometry : Geometry
-  pub carousel : Carousel
+  -- its geometry, its carousel with the bodies, and where they lie
+  pub standing : Standing
+  pub layout : Layout
+  -- where it stands in playing the carousel
   pub place : Place
+  -- a device fault has come in a command
+  pub halted : Bool
+  -- the moment of the disk's clock, and how often a call of the disk has failed
+  pub moment : ℕ
+  pub failures : ℕ
 
--- nothing was played of the new carousel
-abbrev pub new_server : Geometry → ServerState
-new_server g = record {
-  geometry = g;
-  carousel = new_carousel;
-  place = opened_place g.address (packet_room g) g.segment_size
-      (turn_of_carousel new_carousel g.segment_size);
+-- a server of this standing, on a disk in this state
+abbrev pub state_of : {D : Type 0} → ServerView D → Standing → disk.State → ServerState
+state_of server s state = record {
+  standing = s;
+  layout = server.view.journal.layout;
+  place = place_in server s;
+  halted = server.view.halted;
+  moment = state.moment;
+  failures = state.failures;
 }
+
+-- What it keeps in memory is of this standing; and while it is not halted, each image that a crash
+-- now may leave stands for it.
+pub record StandsFor (view : RepositoryView) (s : Standing) (state : disk.State) : Type 0 where
+  pub agrees : Agrees view s
+  pub holds : IsFalse view.halted → Holds view s state
+
+-- Where a server stood for something, and its disk is honest to the end, it stands for something
+-- again, and between the two there is P.
+abbrev pub Leads : {D : Type 0} → (D → disk.State) → ServerView D → ServerView D
+    → (ServerState → ServerState → Type 0) → Type 0
+Leads state old new P =
+    (s : Standing) → StandsFor old.view s (state old.disk) → (state new.disk).IsHonest
+    → (last : Standing) × StandsFor new.view last (state new.disk)
+    × P (state_of old s (state old.disk)) (state_of new last (state new.disk))
+
+-- time goes on
+pub record IsLater (before after : ServerState) : Type 0 where
+  pub moment : before.moment ≤ after.moment
+  pub failures : before.failures ≤ after.failures
+
+-- nothing is stored or halted
+pub record KeepsCarousel (before after : ServerState) : Type 0 where
+  pub standing : after.standing ≡ before.standing
+  pub layout : after.layout ≡ before.layout
+  pub halted : after.halted ≡ before.halted
+  pub later : IsLater before after
+
+-- nor is anything played
+pub record Stays (before after : ServerState) : Type 0 where
+  pub keeps : KeepsCarousel before after
+  pub place : after.place ≡ before.place
+
+-- nothing was played yet
+abbrev pub HasJustOpened : ServerState → Type 0
+HasJustOpened state =
+    let g = state.standing.geometry in
+    state.place ≡ opened_place g.address (packet_room g) g.segment_size
+    (turn_of_carousel state.standing.carousel g.segment_size)

@@ -1,13 +1,19 @@
-ghost use Rattle.std.specs.Prelude.{Ok};
-ghost use Rattle.mot_session.specs.Inner.Decision.{Decides};
+ghost use Rattle.std.specs.Prelude.{◌≡◌, ◌≤◌, [], Ok, IsTrue, IsFalse};
+ghost use Rattle.disk_store.specs.Disk.{IsUnchanged, KeepsLength, Throughout};
+ghost use Rattle.mot_journal.specs.Image.{Standing};
+ghost use Rattle.mot_repository.specs.Repository.{Holds};
+ghost use Rattle.mot_server.specs.Runs.{StandsAfterSome};
+ghost use Rattle.mot_session.specs.Inner.Decision.{Decides, written_by};
+ghost use Rattle.mot_session.specs.State.{Leads};
 
 mod group;
 
-use crate::Server;
+use disk_store::Disk;
 use group::group_of;
 use mot_base::Refusal;
 use mot_carousel::{Command, Done};
 use mot_lines::Line;
+use mot_server::Server;
 use std::alloc::{AllocError, Global};
 
 /// What a line is answered, before it is written. A list and packets are shown as the server has
@@ -29,8 +35,22 @@ pub(crate) enum Decision {
 }
 
 /// Does what a line asks for, and decides the reply.
-pub(crate) fn answer(alloc: Global, request: Result<Line, Refusal>, server: &mut Server) -> Decision
-    ensures { Decides server.old request result server.new }
+pub(crate) fn answer<D: Disk>(
+    alloc: Global,
+    request: Result<Line, Refusal>,
+    server: &mut Server<D>,
+) -> Decision
+    ensures decides { Leads D.state server.old server.new
+        (λ before after. Decides before request result after) }
+
+    // At each moment a crash leaves the carousel from before, or after the request's command.
+    ensures crosses { (s : Standing) → Holds server.old.view s (D.state server.old.disk)
+        → Throughout (D.state server.old.disk) (D.state server.new.disk)
+        (StandsAfterSome s [] (written_by result request)) }
+    ensures halted { IsTrue server.old.view.halted → (server.new.view ≡ server.old.view)
+        × IsUnchanged (D.state server.old.disk) (D.state server.new.disk) }
+    ensures keeps { KeepsLength (D.state server.old.disk) (D.state server.new.disk) }
+    ensures later { (D.state server.old.disk).failures ≤ (D.state server.new.disk).failures }
 {
     match request {
         Ok(request) => answer_request(alloc, &request, server),
@@ -38,25 +58,53 @@ pub(crate) fn answer(alloc: Global, request: Result<Line, Refusal>, server: &mut
     }
 }
 
-/// Does what a request asks, and decides the reply.
-fn answer_request(alloc: Global, request: &Line, server: &mut Server) -> Decision
-    ensures { Decides server.old (Ok request.now) result server.new }
+/// Does what a request asks, and decides the reply. A halted server answers raw lines alone.
+fn answer_request<D: Disk>(alloc: Global, request: &Line, server: &mut Server<D>) -> Decision
+    ensures decides { Leads D.state server.old server.new
+        (λ before after. Decides before (Ok request.now) result after) }
+    ensures crosses { (s : Standing) → Holds server.old.view s (D.state server.old.disk)
+        → Throughout (D.state server.old.disk) (D.state server.new.disk)
+        (StandsAfterSome s [] (written_by result (Ok request.now))) }
+    ensures halted { IsTrue server.old.view.halted → (server.new.view ≡ server.old.view)
+        × IsUnchanged (D.state server.old.disk) (D.state server.new.disk) }
+    ensures keeps { KeepsLength (D.state server.old.disk) (D.state server.new.disk) }
+    ensures later { (D.state server.old.disk).failures ≤ (D.state server.new.disk).failures }
 {
     match request {
         Line::Command(command) => answer_command(alloc, command, server),
-        Line::List => Decision::Listing,
         Line::Raw { kind, tid, body } => match group_of(alloc, *kind, *tid, body) {
             Ok(group) => Decision::Packets(group),
             Err(AllocError) => Decision::Refused(Refusal::OutOfMemory),
         },
-        Line::Next(count) => Decision::Next(*count),
-        Line::Turn => Decision::Turn,
+        Line::List => show(server, Decision::Listing),
+        Line::Next(count) => show(server, Decision::Next(*count)),
+        Line::Turn => show(server, Decision::Turn),
+    }
+}
+
+/// What shows or plays the carousel is decided so, unless the server is halted.
+fn show<D: Disk>(server: &Server<D>, decision: Decision) -> Decision
+    ensures halted { IsTrue server.now.view.halted → result ≡ Decision.Refused Refusal.Halted }
+    ensures going { IsFalse server.now.view.halted → result ≡ decision }
+{
+    if server.halted() {
+        Decision::Refused(Refusal::Halted)
+    } else {
+        decision
     }
 }
 
 /// Does what a command asks, and decides the reply.
-fn answer_command(alloc: Global, command: &Command, server: &mut Server) -> Decision
-    ensures { Decides server.old (Ok (Line.Command command.now)) result server.new }
+fn answer_command<D: Disk>(alloc: Global, command: &Command, server: &mut Server<D>) -> Decision
+    ensures decides { Leads D.state server.old server.new
+        (λ before after. Decides before (Ok (Line.Command command.now)) result after) }
+    ensures crosses { (s : Standing) → Holds server.old.view s (D.state server.old.disk)
+        → Throughout (D.state server.old.disk) (D.state server.new.disk)
+        (StandsAfterSome s [] (written_by result (Ok (Line.Command command.now)))) }
+    ensures halted { IsTrue server.old.view.halted → (server.new.view ≡ server.old.view)
+        × IsUnchanged (D.state server.old.disk) (D.state server.new.disk) }
+    ensures keeps { KeepsLength (D.state server.old.disk) (D.state server.new.disk) }
+    ensures later { (D.state server.old.disk).failures ≤ (D.state server.new.disk).failures }
 {
     match server.execute(alloc, command) {
         Ok(done) => Decision::Accepted(done),

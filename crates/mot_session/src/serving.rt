@@ -1,18 +1,21 @@
 ghost use Rattle.std.specs.Prelude.{◌≡◌, ℕ, ◌+◌, ◌-◌, ◌^◌, ◌≤◌, ◌<◌, ◌⊎◌, Option, List, ◌++◌};
-ghost use Rattle.std.specs.Prelude.{length, OnOk, OnErr, IfNone, None, Some};
+ghost use Rattle.std.specs.Prelude.{length, OnOk, OnErr, IfNone, None, Some, IsTrue};
 ghost use Rattle.std.specs.Io.KnownBytes.{Keeps, IsAtEnd};
+ghost use Rattle.disk_store.specs.Disk.{IsUnchanged, KeepsLength};
 ghost use Rattle.mot_base.specs.declared.refusal.Refusal.TheVariants.{OutOfMemory, ReadFault};
 ghost use Rattle.mot_lines.specs.Lines.{whole_lines, lines_of};
-ghost use Rattle.mot_session.specs.Inner.Progress.{Progress};
+ghost use Rattle.mot_session.specs.Inner.InHand.{InHand};
+ghost use Rattle.mot_session.specs.Laws.{SessionLaws};
 ghost use Rattle.mot_session.specs.Served.{TakesInput, Served, Stopped, EndsServing};
-ghost use Rattle.mot_session.specs.State.{ServerState};
+ghost use Rattle.mot_session.specs.State.{Leads, ServerState};
 
 mod reply;
 mod writing;
 
-use crate::Server;
+use disk_store::Disk;
 use mot_base::Refusal;
 use mot_lines::{Hand, cut_at_line_end};
+use mot_server::Server;
 use reply::answer_line;
 use std::alloc::Global;
 use std::io::{Read, Write};
@@ -37,44 +40,64 @@ pub struct ServeEnd {
 /// The writer is flushed after each reply. Faults are `ReadFault`, where a read failed or the input
 /// did not end within the reads (a line in hand is not answered); `WriteFault`, where a write or a
 /// flush failed; and `OutOfMemory`, where there is no room for a line (nothing was read or
-/// written).
-pub fn serve<R: Read, W: Write>(
+/// written). A device fault ends no serving: it is a line's reply, and a command's halts the
+/// server.
+///
+/// What is promised of replies, of what a crash leaves, and of the server afterwards has as its
+/// premise that the server stood for something (`StandsFor`: every server does that was opened on a
+/// disk formatted here), and that the disk is honest to the end.
+pub fn serve<R: Read, W: Write, D: Disk>(
     alloc: Global,
     reader: &mut R,
     writer: &mut W,
-    server: &mut Server,
+    server: &mut Server<D>,
     reads: u64,
 ) -> ServeEnd
     requires { reads ≤ MAX_READS }
 
-    // All that the reader had was read, and each line of it was answered.
+    // All that the reader had was read, and each line of it was answered; all that was told is
+    // stored.
     ensures ended { result.fault ≡ None → (input : List ℕ)
         × TakesInput reads (R.remaining reader.old) (R.remaining reader.new) input
         × IsAtEnd (R.remaining reader.new) × (result.lines ≡ length (lines_of input))
-        × Served server.old server.new (lines_of input)
-        (W.contents writer.old) (W.contents writer.new) }
+        × Leads D.state server.old server.new (λ before after. Served (D.state server.new.disk)
+        before after (lines_of input) (W.contents writer.old) (W.contents writer.new)) }
 
-    // Each line whose end was read was answered.
+    // Each line whose end was read was answered; all that was told is stored.
     ensures unread { result.fault ≡ Some ReadFault → (input : List ℕ)
         × TakesInput reads (R.remaining reader.old) (R.remaining reader.new) input
         × (result.lines ≡ length (whole_lines input))
-        × Served server.old server.new (whole_lines input)
-        (W.contents writer.old) (W.contents writer.new) }
+        × Leads D.state server.old server.new (λ before after. Served (D.state server.new.disk)
+        before after (whole_lines input) (W.contents writer.old) (W.contents writer.new)) }
 
-    // The first lines were answered, and the reply to the next was broken off. What follows the
-    // last line end is a line only where the input has ended.
+    // The first lines were answered, and the reply to the next was broken off; all that was told is
+    // stored. What follows the last line end is a line only where the input has ended.
     ensures unwritten { result.fault ≡ Some Refusal.WriteFault → (input : List ℕ)
         × TakesInput reads (R.remaining reader.old) (R.remaining reader.new) input
-        × (Stopped server.old server.new (whole_lines input) result.lines
-        (W.contents writer.old) (W.contents writer.new)
-        ⊎ (IsAtEnd (R.remaining reader.new) × Stopped server.old server.new (lines_of input)
-        result.lines (W.contents writer.old) (W.contents writer.new))) }
+        × (Leads D.state server.old server.new (λ before after. Stopped (D.state server.new.disk)
+        before after (whole_lines input) result.lines
+        (W.contents writer.old) (W.contents writer.new))
+        ⊎ (IsAtEnd (R.remaining reader.new)
+        × Leads D.state server.old server.new (λ before after. Stopped (D.state server.new.disk)
+        before after (lines_of input) result.lines
+        (W.contents writer.old) (W.contents writer.new)))) }
 
     // Nothing was done.
     ensures none { result.fault ≡ Some OutOfMemory → (result.lines ≡ 0) × (server.new ≡ server.old)
         × Keeps (R.remaining reader.old) (R.remaining reader.new)
         × Keeps (W.contents writer.old) (W.contents writer.new) }
     ensures faults { EndsServing result.fault }
+    ensures keeps { KeepsLength (D.state server.old.disk) (D.state server.new.disk) }
+    ensures later { (D.state server.old.disk).failures ≤ (D.state server.new.disk).failures }
+
+    // A server that is halted changes nothing.
+    ensures halted { IsTrue server.old.view.halted → (server.new.view ≡ server.old.view)
+        × ((D.state server.new.disk).IsHonest
+        → IsUnchanged (D.state server.old.disk) (D.state server.new.disk)) }
+
+    // The packets of raw replies read as what was asked for, those of a session have their
+    // continuity indexes, and no more device faults are answered than the disk has.
+    ensures laws { SessionLaws }
 {
     let Ok(mut hand) = Hand::new(alloc) else {
         return ended(0, Refusal::OutOfMemory);
@@ -107,24 +130,37 @@ fn ended(lines: u64, fault: Refusal) -> ServeEnd
 }
 
 /// Answers what follows the last line end, unless it is empty.
-fn answer_last<W: Write>(
+fn answer_last<W: Write, D: Disk>(
     alloc: Global,
     hand: &Hand,
     lines: u64,
     writer: &mut W,
-    server: &mut Server,
+    server: &mut Server<D>,
 ) -> ServeEnd
     requires { lines < 2 ^ 64 - 1 }
+    ensures lines { result.fault ≡ None → (input : List ℕ) → InHand input hand.now lines
+        → result.lines ≡ length (lines_of input) }
     ensures ended { result.fault ≡ None
         → (before : ServerState) (old : Option (List ℕ)) (input : List ℕ)
-        → Progress before old input hand.now lines server.old (W.contents writer.old)
-        → Served before server.new (lines_of input) old (W.contents writer.new)
-        × (result.lines ≡ length (lines_of input)) }
+        → InHand input hand.now lines → Leads D.state server.old server.new (λ between after.
+        Served (D.state server.old.disk) before between (whole_lines input) old
+        (W.contents writer.old)
+        → Served (D.state server.new.disk) before after (lines_of input) old
+        (W.contents writer.new)) }
     ensures fault { (result.fault ≡ None) ⊎ (result.fault ≡ Some Refusal.WriteFault) }
     ensures unwritten { result.fault ≡ Some Refusal.WriteFault
         → (before : ServerState) (old : Option (List ℕ)) (input : List ℕ)
-        → Progress before old input hand.now lines server.old (W.contents writer.old)
-        → Stopped before server.new (lines_of input) result.lines old (W.contents writer.new) }
+        → InHand input hand.now lines
+        → Leads D.state server.old server.new (λ between after.
+        Served (D.state server.old.disk) before between (whole_lines input) old
+        (W.contents writer.old)
+        → Stopped (D.state server.new.disk) before after (lines_of input) result.lines old
+        (W.contents writer.new)) }
+    ensures keeps { KeepsLength (D.state server.old.disk) (D.state server.new.disk) }
+    ensures later { (D.state server.old.disk).failures ≤ (D.state server.new.disk).failures }
+    ensures halted { IsTrue server.old.view.halted → (server.new.view ≡ server.old.view)
+        × ((D.state server.new.disk).IsHonest
+        → IsUnchanged (D.state server.old.disk) (D.state server.new.disk)) }
 {
     if hand.is_empty() {
         return ServeEnd { lines, fault: None };
@@ -139,24 +175,35 @@ fn answer_last<W: Write>(
 }
 
 /// Answers each line that ends in the chunk, and keeps the rest in hand.
-fn answer_chunk<W: Write>(
+fn answer_chunk<W: Write, D: Disk>(
     alloc: Global,
     chunk: &[u8],
     hand: &mut Hand,
     lines: &mut u64,
     writer: &mut W,
-    server: &mut Server,
+    server: &mut Server<D>,
 ) -> Result<(), WriteFault>
     requires { lines.old + length chunk.now < 2 ^ 64 }
     ensures bound { OnOk result (lines.new ≤ lines.old + length chunk.now) }
+    ensures hand { OnOk result ((input : List ℕ) → InHand input hand.old lines.old
+        → InHand (input ++ chunk.now) hand.new lines.new) }
     ensures ok { OnOk result ((before : ServerState) (old : Option (List ℕ)) (input : List ℕ)
-        → Progress before old input hand.old lines.old server.old (W.contents writer.old)
-        → Progress before old (input ++ chunk.now) hand.new lines.new server.new
-        (W.contents writer.new)) }
+        → InHand input hand.old lines.old → Leads D.state server.old server.new (λ between after.
+        Served (D.state server.old.disk) before between (whole_lines input) old
+        (W.contents writer.old)
+        → Served (D.state server.new.disk) before after (whole_lines (input ++ chunk.now)) old
+        (W.contents writer.new))) }
     ensures err { OnErr result ((before : ServerState) (old : Option (List ℕ)) (input : List ℕ)
-        → Progress before old input hand.old lines.old server.old (W.contents writer.old)
-        → Stopped before server.new (whole_lines (input ++ chunk.now)) lines.new old
-        (W.contents writer.new)) }
+        → InHand input hand.old lines.old → Leads D.state server.old server.new (λ between after.
+        Served (D.state server.old.disk) before between (whole_lines input) old
+        (W.contents writer.old)
+        → Stopped (D.state server.new.disk) before after (whole_lines (input ++ chunk.now))
+        lines.new old (W.contents writer.new))) }
+    ensures keeps { KeepsLength (D.state server.old.disk) (D.state server.new.disk) }
+    ensures later { (D.state server.old.disk).failures ≤ (D.state server.new.disk).failures }
+    ensures halted { IsTrue server.old.view.halted → (server.new.view ≡ server.old.view)
+        × ((D.state server.new.disk).IsHonest
+        → IsUnchanged (D.state server.old.disk) (D.state server.new.disk)) }
 {
     let mut rest = chunk;
     while let Some((line, next)) = cut_at_line_end(rest) {

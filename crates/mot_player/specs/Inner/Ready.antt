@@ -1,6 +1,6 @@
 -- What the state of a player stands for, and what holds of it between requests.
 use Rattle.std.specs.Prelude.{◌≡◌, ℕ, ◌+◌, ◌<◌, ◌≤◌, ◌==◌, if◌then◌else◌, List, ◌∷◌, Some, None}
-use Rattle.std.specs.Prelude.{vec_len, vec_capacity}
+use Rattle.std.specs.Prelude.{length, vec_len, vec_capacity}
 use Rattle.mot_base.specs.PacketLength.{room_of}
 use Rattle.mot_base.specs.declared.numbers.TheConstants.{MAX_SEGMENT}
 use Rattle.mot_groups.specs.Group.{Segment, bytes_of_group}
@@ -42,6 +42,14 @@ pub record IsFitted (p : State) : Type 0 where
 pub record IsReady (p : State) : Type 0 where
   pub fitted : IsFitted p
   pub left : 0 < p.sent → p.sent < vec_len p.group
+
+-- whatever the bodies are, a group as long as the next segment's has come, and the others wait
+pub record HasTaken (old new : State) (bodies : List (List ℕ)) : Type 0 where
+  pub segment : Segment
+  pub others : List Segment
+  pub next : to_send (place_with old bodies) ≡ segment ∷ others
+  pub len : vec_len new.group ≡ length segment.bytes + 11
+  pub waiting : (place_with new bodies).waiting ≡ others
 
 -- the group of the next segment was begun, and none of its packets sent
 pub record HasBegun (old new : State) (bodies : List (List ℕ)) : Type 0 where

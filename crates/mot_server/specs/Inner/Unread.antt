@@ -1,6 +1,7 @@
 -- Where no read has come, all stays.
 use Rattle.std.specs.Prelude.{refl}
-use Rattle.std.proofs.Common.{inl, arith}
+use Rattle.std.proofs.Common.{inl}
+use Rattle.std.proofs.Math.Nat.{le_refl}
 use Rattle.disk_store.specs.Disk.{State, IsUnchanged}
 use Rattle.mot_repository.specs.Repository.{RepositoryView}
 use Rattle.mot_server.specs.Bodies.{HasRead}
@@ -9,7 +10,7 @@ pub is_unchanged : (state : State) → IsUnchanged state state
 is_unchanged state = record {
   bytes = refl;
   time = record {
-    later = omega arith;
+    later = le_refl state.moment;
     nothing_else = λ t c le left. inl left;
     keeps = λ t c le left. left;
   };
@@ -21,6 +22,6 @@ pub unread : (view : RepositoryView) (state : State) → HasRead view view state
 unread view state = record {
   view = refl;
   keeps = record { len = refl; was_honest = λ honest. honest };
-  later = omega arith;
+  later = le_refl state.failures;
   unchanged = λ honest. is_unchanged state;
 }

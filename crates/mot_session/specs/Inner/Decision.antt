@@ -1,6 +1,7 @@
 -- What the server decides, before it is written.
-use Rattle.std.specs.Prelude.{◌≡◌, Result, Ok}
+use Rattle.std.specs.Prelude.{◌≡◌, List, [], Result, Ok, IsFalse, if◌then◌else◌, Bool, true, false}
 use Rattle.mot_base.specs.declared.refusal.Refusal.{Refusal}
+use Rattle.mot_carousel.specs.declared.command.Command as command
 use Rattle.mot_lines.specs.declared.line.Line.{Line}
 use Rattle.mot_lines.specs.declared.line.Line.TheVariants as asks
 use Rattle.mot_session.specs.declared.answering.Decision.{Decision}
@@ -9,14 +10,30 @@ use Rattle.mot_session.specs.declared.answering.Decision.TheVariants.{Packets, N
 use Rattle.mot_session.specs.Raw.{packets_at}
 use Rattle.mot_session.specs.Session.{refused, accepted, listing, packets, Answers}
 use Rattle.mot_session.specs.State.{ServerState}
+use Rattle.mot_session.specs.Stored.{command_in, is_device_fault}
 
 -- a decision answers the request, with the reply that it stands for on the server then; or it is to
 -- play packets, and nothing was done yet
 abbrev pub Decides : ServerState → Result Line Refusal → Decision → ServerState → Type 0
 Decides before request (Refused r) after = Answers before request (refused r) after
 Decides before request (Accepted d) after = Answers before request (accepted d) after
-Decides before request Listing after = Answers before request (listing after.carousel) after
+Decides before request Listing after =
+    Answers before request (listing after.standing.carousel) after
 Decides before request (Packets group) after =
-    Answers before request (packets (packets_at after.geometry group.items)) after
-Decides before request (Next count) after = (request ≡ Ok (asks.Next count)) × (after ≡ before)
-Decides before request Turn after = (request ≡ Ok asks.Turn) × (after ≡ before)
+    Answers before request (packets (packets_at after.standing.geometry group.items)) after
+Decides before request (Next count) after =
+    (request ≡ Ok (asks.Next count)) × IsFalse before.halted × (after ≡ before)
+Decides before request Turn after =
+    (request ≡ Ok asks.Turn) × IsFalse before.halted × (after ≡ before)
+
+-- the command that was written to the disk, whole or in part
+abbrev pub may_be_done : Decision → Bool
+may_be_done (Accepted d) = true
+may_be_done (Refused r) = is_device_fault r
+may_be_done Listing = false
+may_be_done (Packets group) = false
+may_be_done (Next count) = false
+may_be_done Turn = false
+
+abbrev pub written_by : Decision → Result Line Refusal → List command.Command
+written_by decision request = if may_be_done decision then command_in request else []

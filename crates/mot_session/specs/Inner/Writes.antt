@@ -1,16 +1,25 @@
 -- What a call that writes did. The writer's known bytes were old and are new.
-use Rattle.std.specs.Prelude.{ℕ, ◌≡◌, List, Option, Some, Result, Ok, Err}
+use Rattle.std.specs.Prelude.{ℕ, ◌≡◌, ◌≤◌, Bool, ◌||◌, List, [], ◌++◌, Option, Some, None, Result, Ok}
+use Rattle.std.specs.Prelude.{Err}
+use Rattle.std.specs.Prelude.{IfOk, IsTrue, IsFalse}
 use Rattle.std.specs.Io.KnownBytes.{Appends}
+use Rattle.disk_store.specs.Disk.{State, KeepsLength, IsUnchanged, Throughout}
 use Rattle.mot_base.specs.declared.refusal.Refusal.{Refusal}
+use Rattle.mot_base.specs.declared.refusal.Refusal.TheVariants.{DeviceFault}
 use Rattle.mot_lines.specs.declared.line.Line.{Line}
+use Rattle.mot_lines.specs.Line.{line_of}
+use Rattle.mot_lines.specs.Text.{refusal_line}
 use Rattle.mot_packets.specs.Packet.{read_packet}
 use Rattle.mot_packets.specs.Written.{bytes_of_packet}
 use Rattle.mot_player.specs.Place.{Sent, request}
+use Rattle.mot_server.specs.Runs.{StandsAfterSome}
+use Rattle.mot_server.specs.Server.{ServerView}
 use Rattle.mot_session.specs.declared.serving.writing.WriteFault.{WriteFault}
-use Rattle.mot_session.specs.Played.{sent_line}
+use Rattle.mot_session.specs.Played.{FailsToSend, sent_line}
 use Rattle.mot_session.specs.Served.{BrokenOff, WritesFront}
-use Rattle.mot_session.specs.Session.{Reply, Answers, text_of}
-use Rattle.mot_session.specs.State.{ServerState}
+use Rattle.mot_session.specs.Session.{Reply, Answers, Exchange, text_of}
+use Rattle.mot_session.specs.State.{KeepsCarousel, ServerState}
+use Rattle.mot_session.specs.Stored.{accepted_in, failed_in, is_accepting, is_failing}
 
 -- it wrote these bytes, or, after a fault, some first of them
 abbrev pub Writes : {T : Type 0} → Result T WriteFault → List ℕ
@@ -19,25 +28,65 @@ Writes (Ok done) bytes old new = Appends old new bytes
 Writes (Err fault) bytes old new = WritesFront bytes old new
 
 -- a request was answered, and the whole reply was written
-pub record Answered (before : ServerState) (request : Result Line Refusal) (after : ServerState)
-    (old new : Option (List ℕ)) : Type 0 where
-  pub reply : Reply
+pub record Answered (before : ServerState) (request : Result Line Refusal) (reply : Reply)
+    (after : ServerState) (old new : Option (List ℕ)) : Type 0 where
   pub answers : Answers before request reply after
   pub written : Appends old new (text_of reply)
 
 -- it answered a request, or, after a fault, the reply was broken off
-abbrev pub AnswersRequest : {T : Type 0} → Result T WriteFault → ServerState → Result Line Refusal
-    → ServerState → Option (List ℕ) → Option (List ℕ) → Type 0
-AnswersRequest (Ok done) before request after old new = Answered before request after old new
-AnswersRequest (Err fault) before request after old new = BrokenOff before request after old new
+abbrev pub AnswersWith : {T : Type 0} → Result T WriteFault → ServerState → Result Line Refusal
+    → Reply → ServerState → Option (List ℕ) → Option (List ℕ) → Type 0
+AnswersWith (Ok done) before request reply after old new =
+    Answered before request reply after old new
+AnswersWith (Err fault) before request reply after old new =
+    BrokenOff before request reply after old new
 
--- a request of a packet was made, and the packet's line written
-pub record SendsOne {T : Type 0} (result : Result T WriteFault) (before : ServerState)
-    (after : ServerState) (old new : Option (List ℕ)) : Type 0 where
-  pub sent : Sent
+-- a reply behind which a command may be done
+abbrev pub may_have_done : Reply → Bool
+may_have_done reply = is_accepting reply || is_failing reply
+
+-- so, with a reply behind which a command may be done, or with one behind which none is
+abbrev pub AnswersRequest : {T : Type 0} → Result T WriteFault → Bool → ServerState
+    → Result Line Refusal → ServerState → Option (List ℕ) → Option (List ℕ) → Type 0
+AnswersRequest result does before request after old new =
+    (reply : Reply) × (may_have_done reply ≡ does)
+    × AnswersWith result before request reply after old new
+
+-- What a crash leaves of one line, whose answering began on the disk as it was at start: on a
+-- halted server nothing comes, and else the carousel from before, or after the line's command.
+pub record Crosses (start now : State) (before : ServerState) (x : Exchange) : Type 0 where
+  pub going : IsFalse before.halted → Throughout start now (StandsAfterSome before.standing []
+      (accepted_in x ++ failed_in x))
+  pub halted : IsTrue before.halted → IsUnchanged start now
+
+-- a line was answered so
+pub record AnswersLine {T : Type 0} (result : Result T WriteFault) (start now : State)
+    (before : ServerState) (line : List ℕ) (after : ServerState) (old new : Option (List ℕ)) :
+    Type 0 where
+  pub reply : Reply
+  pub answers : AnswersWith result before (line_of line) reply after old new
+  pub crosses : Crosses start now before (record { line = line; reply = reply; after = after })
+
+-- a request of a packet was made, which sent this
+pub record SendsOne (before : ServerState) (sent : Sent) (after : ServerState) : Type 0 where
   pub asked : request before.place ≡ Some sent
   pub read : read_packet (bytes_of_packet sent.packet) ≡ Some sent.packet
   pub place : after.place ≡ sent.place
-  pub geometry : after.geometry ≡ before.geometry
-  pub carousel : after.carousel ≡ before.carousel
-  pub written : Writes result (sent_line sent) old new
+  pub keeps : KeepsCarousel before after
+
+-- a request of a packet was made, and the line of what came was written: the packet's, with whether
+-- it ends the turn, or the device fault's
+pub data AnswersOne (result : Result (Option Bool) WriteFault) (before after : ServerState)
+    (old new : Option (List ℕ)) : Type 0 where
+  sends : (sent : Sent) → SendsOne before sent after
+      → IfOk result (λ shown. shown ≡ Some sent.ends_turn)
+      → Writes result (sent_line sent) old new → AnswersOne result before after old new
+  fails : FailsToSend before after → IfOk result (λ shown. shown ≡ None)
+      → Writes result (refusal_line DeviceFault) old new → AnswersOne result before after old new
+
+-- the disk was only read, and nothing was stored or halted
+pub record OnlyReads {D : Type 0} (old new : ServerView D) (before now : State) : Type 0 where
+  pub view : new.view ≡ old.view
+  pub keeps : KeepsLength before now
+  pub later : before.failures ≤ now.failures
+  pub unchanged : now.IsHonest → IsUnchanged before now

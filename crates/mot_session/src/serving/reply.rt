@@ -1,20 +1,24 @@
-ghost use Rattle.std.specs.Prelude.{◌≡◌, ℕ, List, Result, Ok, IfOk};
+ghost use Rattle.std.specs.Prelude.{◌≡◌, ◌<◌, ◌≤◌, ℕ, List, Result, Ok, Err, Some, true, false};
+ghost use Rattle.std.specs.Prelude.{IsTrue, IsFalse, IfOk};
 ghost use Rattle.std.specs.List.{flat_map};
+ghost use Rattle.disk_store.specs.Disk.{IsUnchanged, KeepsLength};
 ghost use Rattle.mot_base.specs.Geometry.{IsValid};
+ghost use Rattle.mot_journal.specs.Image.{Standing};
 ghost use Rattle.mot_lines.specs.Inner.Listing.{object_line_beside, listing_text_beside};
 ghost use Rattle.mot_lines.specs.Text.{packet_line};
 ghost use Rattle.mot_lines.specs.Inner.Hand.{bytes_in_hand};
-ghost use Rattle.mot_lines.specs.Line.{line_of};
 ghost use Rattle.mot_lines.specs.declared.line.Line.TheVariants as asks;
-ghost use Rattle.mot_player.specs.Laws.{IsPlace};
-ghost use Rattle.mot_session.specs.Inner.Decision.{Decides};
-ghost use Rattle.mot_session.specs.Inner.Writes.{Writes, AnswersRequest, SendsOne};
+ghost use Rattle.mot_player.specs.Laws.{bytes_left};
+ghost use Rattle.mot_repository.specs.Repository.{Holds};
+ghost use Rattle.mot_session.specs.Inner.Decision.{Decides, may_be_done};
+ghost use Rattle.mot_session.specs.Inner.Writes.{Writes, AnswersLine, AnswersOne, AnswersRequest};
+ghost use Rattle.mot_session.specs.Inner.Writes.{OnlyReads};
 ghost use Rattle.mot_session.specs.Raw.{packets_at};
-ghost use Rattle.mot_session.specs.State.{ServerState};
+ghost use Rattle.mot_session.specs.State.{Leads, ServerState, StandsFor, state_of};
 
 use super::writing::{WriteFault, write_whole};
-use crate::Server;
 use crate::answering::{Decision, answer};
+use disk_store::Disk;
 use mot_base::{Geometry, Refusal};
 use mot_carousel::{Carousel, Object};
 use mot_lines::{
@@ -22,19 +26,26 @@ use mot_lines::{
 };
 use mot_packets::{cut_packet, packet_count};
 use mot_player::Played;
+use mot_server::Server;
 use std::alloc::Global;
 use std::io::Write;
 
 /// Answers the line in hand; after a fault some first bytes of the reply were written.
-pub(super) fn answer_line<W: Write>(
+pub(super) fn answer_line<W: Write, D: Disk>(
     alloc: Global,
     hand: &Hand,
     writer: &mut W,
-    server: &mut Server,
+    server: &mut Server<D>,
 ) -> Result<(), WriteFault>
-    ensures { (line : List ℕ) → hand.now ≡ bytes_in_hand line
-        → AnswersRequest result server.old (line_of line) server.new
-        (W.contents writer.old) (W.contents writer.new) }
+    ensures answers { (line : List ℕ) → hand.now ≡ bytes_in_hand line
+        → Leads D.state server.old server.new (λ before after. AnswersLine result
+        (D.state server.old.disk) (D.state server.new.disk) before line after
+        (W.contents writer.old) (W.contents writer.new)) }
+    ensures keeps { KeepsLength (D.state server.old.disk) (D.state server.new.disk) }
+    ensures later { (D.state server.old.disk).failures ≤ (D.state server.new.disk).failures }
+    ensures halted { IsTrue server.old.view.halted → (server.new.view ≡ server.old.view)
+        × ((D.state server.new.disk).IsHonest
+        → IsUnchanged (D.state server.old.disk) (D.state server.new.disk)) }
 {
     let request = hand.parse(alloc);
     let decision = answer(alloc, request, server);
@@ -43,62 +54,105 @@ pub(super) fn answer_line<W: Write>(
 }
 
 /// Writes the reply that was decided, and plays the packets of it that are to be played.
-fn write_reply<W: Write>(
+fn write_reply<W: Write, D: Disk>(
     writer: &mut W,
-    server: &mut Server,
+    server: &mut Server<D>,
     decision: &Decision,
 ) -> Result<(), WriteFault>
-    ensures { (before : ServerState) (request : Result Line Refusal)
-        → Decides before request decision.now server.old
-        → AnswersRequest result before request server.new
+    ensures reads { OnlyReads server.old server.new
+        (D.state server.old.disk) (D.state server.new.disk) }
+    ensures answers { (before : ServerState) (request : Result Line Refusal) (s : Standing)
+        → StandsFor server.old.view s (D.state server.old.disk)
+        → (D.state server.new.disk).IsHonest
+        → Decides before request decision.now (state_of server.old s (D.state server.old.disk))
+        → AnswersRequest result (may_be_done decision.now) before request
+        (state_of server.new s (D.state server.new.disk))
         (W.contents writer.old) (W.contents writer.new) }
 {
     match decision {
         Decision::Refused(refusal) => write_whole(writer, refusal_text(*refusal).as_slice()),
         Decision::Accepted(done) => write_whole(writer, done_text(*done).as_slice()),
         Decision::Listing => write_carousel(writer, server.carousel()),
-        Decision::Packets(group) => write_packets(writer, server.geometry(), group),
+        Decision::Packets(group) => write_packets(writer, &server.geometry(), group),
         Decision::Next(count) => write_next(writer, server, *count),
         Decision::Turn => write_turn(writer, server),
     }
 }
 
-/// Plays so many packets, and writes a line of each before the next is made.
-fn write_next<W: Write>(writer: &mut W, server: &mut Server, count: u32) -> Result<(), WriteFault>
-    ensures { AnswersRequest result server.old (Ok (asks.Next count)) server.new
+/// Plays so many packets, or those before a body that can't be read, and writes a line of each
+/// before the next is made.
+fn write_next<W: Write, D: Disk>(
+    writer: &mut W,
+    server: &mut Server<D>,
+    count: u32,
+) -> Result<(), WriteFault>
+    ensures reads { OnlyReads server.old server.new
+        (D.state server.old.disk) (D.state server.new.disk) }
+    ensures answers { (s : Standing) → Holds server.old.view s (D.state server.old.disk)
+        → (D.state server.new.disk).IsHonest → AnswersRequest result false
+        (state_of server.old s (D.state server.old.disk)) (Ok (asks.Next count))
+        (state_of server.new s (D.state server.new.disk))
         (W.contents writer.old) (W.contents writer.new) }
 {
     for _ in 0..count {
-        write_next_packet(writer, server)?;
+        let Some(_) = write_next_packet(writer, server)? else {
+            return Ok(());
+        };
     }
     Ok(())
 }
 
-/// Plays the packets up to the first that ends a turn, and writes a line of each before the next is
-/// made.
-fn write_turn<W: Write>(writer: &mut W, server: &mut Server) -> Result<(), WriteFault>
-    ensures { AnswersRequest result server.old (Ok asks.Turn) server.new
+/// Plays the packets up to the first that ends a turn, or those before a body that can't be read,
+/// and writes a line of each before the next is made.
+fn write_turn<W: Write, D: Disk>(
+    writer: &mut W,
+    server: &mut Server<D>,
+) -> Result<(), WriteFault>
+    ensures reads { OnlyReads server.old server.new
+        (D.state server.old.disk) (D.state server.new.disk) }
+    ensures answers { (s : Standing) → Holds server.old.view s (D.state server.old.disk)
+        → (D.state server.new.disk).IsHonest → AnswersRequest result false
+        (state_of server.old s (D.state server.old.disk)) (Ok asks.Turn)
+        (state_of server.new s (D.state server.new.disk))
         (W.contents writer.old) (W.contents writer.new) }
 {
     loop {
-        if write_next_packet(writer, server)? {
+        let Some(ends_turn) = write_next_packet(writer, server)? else {
+            return Ok(());
+        };
+        if ends_turn {
             return Ok(());
         }
     }
 }
 
-/// Plays a packet and writes its line; answers whether it ends a turn.
-fn write_next_packet<W: Write>(writer: &mut W, server: &mut Server) -> Result<bool, WriteFault>
-    ensures sent { (sends : SendsOne result server.old server.new
-        (W.contents writer.old) (W.contents writer.new))
-        × IfOk result (λ ends_turn. ends_turn ≡ sends.sent.ends_turn) }
-    ensures place { IsPlace server.old.place }
+/// Plays a packet and writes its line; answers whether it ends a turn. Where it is refused, the
+/// refusal's line is written, and the answer is none.
+fn write_next_packet<W: Write, D: Disk>(
+    writer: &mut W,
+    server: &mut Server<D>,
+) -> Result<Option<bool>, WriteFault>
+    ensures reads { OnlyReads server.old server.new
+        (D.state server.old.disk) (D.state server.new.disk) }
+    ensures answers { (s : Standing) → Holds server.old.view s (D.state server.old.disk)
+        → (D.state server.new.disk).IsHonest → AnswersOne result
+        (state_of server.old s (D.state server.old.disk))
+        (state_of server.new s (D.state server.new.disk))
+        (W.contents writer.old) (W.contents writer.new) }
+    ensures nearer { IfOk result (λ shown. shown ≡ Some false
+        → bytes_left server.new.player < bytes_left server.old.player) }
 {
-    let Played { packet, ends_turn } = server.next_packet().unwrap();
-    write_whole(writer, played_text(&packet, ends_turn).as_slice())?;
-    Ok(ends_turn)
+    match server.next_packet() {
+        Ok(Played { packet, ends_turn }) => {
+            write_whole(writer, played_text(&packet, ends_turn).as_slice())?;
+            Ok(Some(ends_turn))
+        }
+        Err(refusal) => {
+            write_whole(writer, refusal_text(refusal).as_slice())?;
+            Ok(None)
+        }
+    }
 }
-
 /// Writes the carousel's line, and then one for each object.
 fn write_carousel<W: Write>(writer: &mut W, carousel: &Carousel) -> Result<(), WriteFault>
     ensures { Writes result (listing_text_beside carousel.now)

@@ -1,5 +1,19 @@
-use Rattle.mot_session.proofs.Answered.{Answers-refused}
+use Rattle.std.proofs.Common.{Err}
+use Rattle.mot_session.proofs.Answered.{Answers-refused, crosses-none}
+use Rattle.mot_session.specs.State.{state_of}
 use Rattle.mot_session.proofs.answering.answer.Goals as goal
 
-pub returns-in-Err : goal.returns-in-Err
-returns-in-Err c = rw c.in-Err.is (Answers-refused c.args.server.now c.in-Err.refusal)
+pub returns-in-Ok-clause-crosses : goal.returns-in-Ok-clause-crosses
+returns-in-Ok-clause-crosses g c = rw c.in-Ok.is c.answer_request.ensures.crosses
+
+pub returns-in-Err-clause-decides : goal.returns-in-Err-clause-decides
+returns-in-Err-clause-decides g c = rw c.in-Err.is (λ s stands honest. (
+  s,
+  stands,
+  Answers-refused (state_of c.args.server.now s (g.D.Disk.state c.args.server.now.disk)) c.in-Err.refusal,
+))
+
+pub returns-in-Err-clause-crosses : goal.returns-in-Err-clause-crosses
+returns-in-Err-clause-crosses g c = λ s holds.
+    crosses-none c.args.server.now.view s (g.D.Disk.state c.args.server.now.disk) _
+    (g.met.D.Disk.sound c.args.server.now.disk holds.journal.honest) holds

@@ -1,9 +1,71 @@
-use Rattle.mot_session.proofs.Answered.{Answers-list, Answers-raw}
+use Rattle.std.proofs.Common.{refl}
+use Rattle.std.specs.Prelude.{Ok}
+use Rattle.mot_lines.specs.declared.line.Line.TheVariants as asks
+use Rattle.mot_session.specs.declared.answering.Decision.TheVariants as decision
+use Rattle.mot_session.specs.State.{state_of}
+use Rattle.mot_session.proofs.Answered.{Answers-list, Answers-raw, Decides-shown, crosses-none}
 use Rattle.mot_session.proofs.answering.answer_request.Goals as goal
 
-pub returns-in-List : goal.returns-in-List
-returns-in-List c = rw c.in-List.is (Answers-list c.args.server.now)
+pub returns-in-Command-clause-crosses : goal.returns-in-Command-clause-crosses
+returns-in-Command-clause-crosses g c = rw c.in-Command.is c.answer_command.ensures.crosses
 
-pub returns-in-Ok : goal.returns-in-Ok
-returns-in-Ok c = rw c.in-Raw.is (Answers-raw c.args.server.now c.in-Raw.kind c.in-Raw.tid c.in-Raw.body
-    c.in-Ok.group.items c.in-Ok.ensures)
+pub returns-in-Ok-clause-decides : goal.returns-in-Ok-clause-decides
+returns-in-Ok-clause-decides g c = rw c.in-Raw.is (λ s stands honest. (
+  s,
+  stands,
+  Answers-raw (state_of c.args.server.now s (g.D.Disk.state c.args.server.now.disk)) c.in-Raw.kind
+      c.in-Raw.tid c.in-Raw.body c.in-Ok.group.items c.in-Ok.ensures,
+))
+
+pub returns-in-Ok-clause-crosses : goal.returns-in-Ok-clause-crosses
+returns-in-Ok-clause-crosses g c = λ s holds.
+    crosses-none c.args.server.now.view s (g.D.Disk.state c.args.server.now.disk) _
+    (g.met.D.Disk.sound c.args.server.now.disk holds.journal.honest) holds
+
+pub returns-in-Err-clause-crosses : goal.returns-in-Err-clause-crosses
+returns-in-Err-clause-crosses g c = λ s holds.
+    crosses-none c.args.server.now.view s (g.D.Disk.state c.args.server.now.disk) _
+    (g.met.D.Disk.sound c.args.server.now.disk holds.journal.honest) holds
+
+pub returns-in-List-clause-decides : goal.returns-in-List-clause-decides
+returns-in-List-clause-decides g c = rw c.in-List.is (λ s stands honest.
+    let before = state_of c.args.server.now s (g.D.Disk.state c.args.server.now.disk) in (
+      s,
+      stands,
+      Decides-shown before (Ok asks.List) decision.Listing c.show.result tt c.show.ensures.halted
+          c.show.ensures.going (λ going. Answers-list before going),
+    ))
+
+pub returns-in-List-clause-crosses : goal.returns-in-List-clause-crosses
+returns-in-List-clause-crosses g c = λ s holds.
+    crosses-none c.args.server.now.view s (g.D.Disk.state c.args.server.now.disk) _
+    (g.met.D.Disk.sound c.args.server.now.disk holds.journal.honest) holds
+
+pub returns-in-Next-clause-decides : goal.returns-in-Next-clause-decides
+returns-in-Next-clause-decides g c = rw c.in-Next.is (λ s stands honest.
+    let before = state_of c.args.server.now s (g.D.Disk.state c.args.server.now.disk) in (
+      s,
+      stands,
+      Decides-shown before (Ok (asks.Next c.in-Next.count)) (decision.Next c.in-Next.count)
+          c.show-in-Next.result tt c.show-in-Next.ensures.halted c.show-in-Next.ensures.going
+          (λ going. (refl, going, refl)),
+    ))
+
+pub returns-in-Next-clause-crosses : goal.returns-in-Next-clause-crosses
+returns-in-Next-clause-crosses g c = λ s holds.
+    crosses-none c.args.server.now.view s (g.D.Disk.state c.args.server.now.disk) _
+    (g.met.D.Disk.sound c.args.server.now.disk holds.journal.honest) holds
+
+pub returns-in-Turn-clause-decides : goal.returns-in-Turn-clause-decides
+returns-in-Turn-clause-decides g c = rw c.in-Turn.is (λ s stands honest.
+    let before = state_of c.args.server.now s (g.D.Disk.state c.args.server.now.disk) in (
+      s,
+      stands,
+      Decides-shown before (Ok asks.Turn) decision.Turn c.show-in-Turn.result tt
+          c.show-in-Turn.ensures.halted c.show-in-Turn.ensures.going (λ going. (refl, going, refl)),
+    ))
+
+pub returns-in-Turn-clause-crosses : goal.returns-in-Turn-clause-crosses
+returns-in-Turn-clause-crosses g c = λ s holds.
+    crosses-none c.args.server.now.view s (g.D.Disk.state c.args.server.now.disk) _
+    (g.met.D.Disk.sound c.args.server.now.disk holds.journal.honest) holds

@@ -1,10 +1,15 @@
-use Rattle.std.proofs.Common.{◌≡◌, ℕ, ◌+◌, List, [], ◌∷◌, ◌++◌, sym, ap, subst, ◌∙◌, arith}
-use Rattle.std.proofs.Common.{append_assoc, length, length-append}
+use Rattle.std.proofs.Common.{◌≡◌, ℕ, ◌+◌, List, [], ◌∷◌, ◌++◌, refl, sym, ap, subst, ◌∙◌, arith}
+use Rattle.std.proofs.Common.{append_assoc, append-nil, length, length-append}
 use Rattle.std.proofs.lemmas.Result.{err_from_is_err_and}
 use Rattle.mot_lines.specs.Lines.{whole_lines, rest_of}
-use Rattle.mot_lines.proofs.Laws.{whole_lines-end, whole_lines-front}
-use Rattle.mot_session.specs.Inner.Progress.{Progress}
-use Rattle.mot_session.proofs.Runs.{Progress-within, Progress-end, Stopped-here}
+use Rattle.mot_lines.proofs.Laws.{whole_lines-end, whole_lines-front, whole_lines-within}
+use Rattle.mot_server.proofs.Laws.{keeps_on, unchanged_on}
+use Rattle.mot_session.specs.Inner.InHand.{InHand}
+use Rattle.mot_session.specs.Served.{Served}
+use Rattle.mot_session.specs.State.{state_of}
+use Rattle.mot_session.proofs.Outcomes.{later-answers, later-begins}
+use Rattle.mot_session.proofs.Requests.{is_unchanged}
+use Rattle.mot_session.proofs.Runs.{InHand-end, InHand-within, Served-push, Stopped-here}
 use Rattle.mot_session.proofs.serving.answer_chunk.Goals as goal
 
 -- a line and its end, taken from what is left
@@ -24,14 +29,44 @@ lines_at_end xs rest input e =
           ∙ append_assoc (whole_lines xs) (rest_of xs ∷ []) f.0,
     )
 
+-- the input, a front of the chunk, and a line
+joined : (input front line : List ℕ)
+    → ((input ++ front) ++ line) ++ 10 ∷ [] ≡ input ++ ((front ++ line) ++ 10 ∷ [])
+joined input front line =
+    append_assoc (input ++ front) line (10 ∷ []) ∙ append_assoc input front (line ++ 10 ∷ [])
+    ∙ ap (λ l. input ++ l) (sym (append_assoc front line (10 ∷ [])))
+
+pub loop-line-init : goal.loop-line-init
+loop-line-init g c =
+    let state = g.D.Disk.state c.args.server.now.disk in record {
+      bound = omega arith;
+      keeps = record { len = refl; was_honest = λ honest. honest };
+      later = omega arith;
+      halted = λ is. (refl, λ honest. is_unchanged state);
+      taken = (
+        [],
+        refl,
+        λ input is. subst (λ xs. InHand xs c.args.hand.now c.args.lines.now) (sym (append-nil input)) is,
+        λ before old input is s stands honest. (
+          s,
+          stands,
+          λ served. subst (λ xs. Served state before (state_of c.args.server.now s state) (whole_lines xs) old
+              (g.W.Write.contents c.args.writer.now)) (sym (append-nil input)) served,
+        ),
+      );
+    }
+
 pub loop-line-preserved : goal.loop-line-preserved
 loop-line-preserved g c =
-    let so_far = c.loop-line.invariant.taken in
+    let state = g.D.Disk.state in
+    let inv = c.loop-line.invariant in
+    let so_far = inv.taken in
+    let first = c.args.server.now in
+    let mid = c.loop-line.server in
+    let new = c.answer_line.new.server in
     let line : List ℕ = c.in-Some.line.now in
-    let taken : ((so_far.0 ++ line) ++ 10 ∷ []) ++ c.in-Some.next.now ≡ c.args.chunk.now =
-    line_taken so_far.0 line c.in-Some.next.now c.loop-line.rest.now c.args.chunk.now so_far.1
-    (sym c.in-Some.ensures.parts) in
-    let bound = c.loop-line.invariant.bound in
+    let one = c.in_ok-answer_line.ensures in
+    let bound = inv.bound in
     record {
       bound = omega (
         arith,
@@ -39,54 +74,118 @@ loop-line-preserved g c =
         length-append line (10 ∷ c.in-Some.next.now),
         bound,
       );
+      keeps = keeps_on (state first.disk) (state mid.disk) (state new.disk) inv.keeps one.keeps;
+      later = let was = inv.later in let on = one.later in omega (arith, was, on);
+      halted = λ is.
+          let was = inv.halted is in
+          let on = one.halted (rw was.0 is) in (
+            on.0 ∙ was.0,
+            λ honest. unchanged_on (state first.disk) (state mid.disk) (state new.disk)
+                (was.1 (one.keeps.was_honest honest)) (on.1 honest),
+          );
       taken = (
         (so_far.0 ++ line) ++ 10 ∷ [],
-        taken,
-        λ before old input p.
+        line_taken so_far.0 line c.in-Some.next.now c.loop-line.rest.now c.args.chunk.now so_far.1
+            (sym c.in-Some.ensures.parts),
+        λ input is.
             let xs : List ℕ = input ++ so_far.0 in
-            let q = Progress-within before c.loop-line.server old _ xs c.loop-line.hand c.loop-line.lines
-            (so_far.2 before old input p) line c.add.new.self c.in-Some.ensures.first
-            (c.add.ensures (rest_of xs) (so_far.2 before old input p).in_hand) in
-            let r = Progress-end before c.loop-line.server old _ (xs ++ line) c.add.new.self
-            c.loop-line.lines q c.answer_line.new.server _ c.clear.new.self
-            (c.in_ok-answer_line.ensures (rest_of (xs ++ line)) q.in_hand) c.clear.ensures in
-            subst (λ l. Progress before old l c.clear.new.self (c.loop-line.lines + 1) c.answer_line.new.server
-            (g.W.Write.contents c.answer_line.new.writer))
-            (append_assoc xs line (10 ∷ []) ∙ append_assoc input so_far.0 (line ++ 10 ∷ [])
-            ∙ ap (λ l. input ++ l) (sym (append_assoc so_far.0 line (10 ∷ [])))) r,
+            let h0 = so_far.2 input is in
+            let h1 = InHand-within xs c.loop-line.hand c.loop-line.lines h0 line c.add.new.self
+            c.in-Some.ensures.first (c.add.ensures (rest_of xs) h0.rest) in
+            subst (λ l. InHand l c.clear.new.self (c.loop-line.lines + 1)) (joined input so_far.0 line)
+            (InHand-end (xs ++ line) c.add.new.self c.loop-line.lines h1 c.clear.new.self c.clear.ensures),
+        λ before old input is s stands honest.
+            let xs : List ℕ = input ++ so_far.0 in
+            let h0 = so_far.2 input is in
+            let h1 = InHand-within xs c.loop-line.hand c.loop-line.lines h0 line c.add.new.self
+            c.in-Some.ensures.first (c.add.ensures (rest_of xs) h0.rest) in
+            let was = one.keeps.was_honest honest in
+            let f = so_far.3 before old input is s stands was in
+            let a = one.answers (rest_of (xs ++ line)) h1.rest f.0 f.1 honest in
+            let told = a.2 in
+            let later = later-answers (state_of mid f.0 (state mid.disk)) (state_of new a.0 (state new.disk)) _
+            told.reply told.answers.answers in (
+              a.0,
+              a.1,
+              λ served. subst (λ l. Served (state new.disk) before (state_of new a.0 (state new.disk)) (whole_lines l)
+                  old (g.W.Write.contents c.answer_line.new.writer)) (joined input so_far.0 line)
+                  (subst (λ l. Served (state new.disk) before (state_of new a.0 (state new.disk)) l old
+                  (g.W.Write.contents c.answer_line.new.writer)) (sym (whole_lines-end (xs ++ line)))
+                  (Served-push mid new f.0 a.0 (state mid.disk) (state new.disk)
+                  (g.met.D.Disk.sound mid.disk was) (g.met.D.Disk.sound new.disk honest) a.1 before
+                  (whole_lines (xs ++ line)) (rest_of (xs ++ line)) old _ _
+                  (subst (λ l. Served (state mid.disk) before (state_of mid f.0 (state mid.disk)) l old
+                  (g.W.Write.contents c.loop-line.writer))
+                  (sym (whole_lines-within xs line c.in-Some.ensures.first)) (f.2 served))
+                  later.moment told.reply told.answers told.crosses)),
+            ),
       );
     }
 
 pub returns-in_err-answer_line-clause-err : goal.returns-in_err-answer_line-clause-err
 returns-in_err-answer_line-clause-err g c =
+    let state = g.D.Disk.state in
     let o = err_from_is_err_and c.from_residual.result c.from_residual.ensures.1 in
-    let so_far = c.loop-line.invariant.taken in
+    let inv = c.loop-line.invariant in
+    let so_far = inv.taken in
+    let mid = c.loop-line.server in
+    let new = c.answer_line.new.server in
     let line : List ℕ = c.in-Some.line.now in
     let rest : List ℕ = c.in-Some.next.now in
+    let one = c.in_err-answer_line.ensures in
     let taken : ((so_far.0 ++ line) ++ 10 ∷ []) ++ rest ≡ c.args.chunk.now =
     line_taken so_far.0 line rest c.loop-line.rest.now c.args.chunk.now so_far.1
     (sym c.in-Some.ensures.parts) in
-    rw o.1 (λ before old input p.
+    rw o.1 (λ before old input is s stands honest.
     let xs : List ℕ = input ++ so_far.0 in
-    let q = Progress-within before c.loop-line.server old _ xs c.loop-line.hand c.loop-line.lines
-    (so_far.2 before old input p) line c.add.new.self c.in-Some.ensures.first
-    (c.add.ensures (rest_of xs) (so_far.2 before old input p).in_hand) in
+    let h0 = so_far.2 input is in
+    let h1 = InHand-within xs c.loop-line.hand c.loop-line.lines h0 line c.add.new.self
+    c.in-Some.ensures.first (c.add.ensures (rest_of xs) h0.rest) in
+    let was = one.keeps.was_honest honest in
+    let f = so_far.3 before old input is s stands was in
+    let a = one.answers (rest_of (xs ++ line)) h1.rest f.0 f.1 honest in
+    let told = a.2 in
+    let later = later-begins (state_of mid f.0 (state mid.disk)) (state_of new a.0 (state new.disk)) _
+    told.reply told.answers.begins in
     let whole : ((xs ++ line) ++ 10 ∷ []) ++ rest ≡ input ++ c.args.chunk.now =
-    ap (λ l. (l ++ 10 ∷ []) ++ rest) (append_assoc input so_far.0 line)
-    ∙ ap (λ l. l ++ rest) (append_assoc input (so_far.0 ++ line) (10 ∷ []))
+    ap (λ l. l ++ rest) (joined input so_far.0 line)
     ∙ append_assoc input ((so_far.0 ++ line) ++ 10 ∷ []) rest ∙ ap (λ l. input ++ l) taken in
-    let lines = lines_at_end (xs ++ line) rest (input ++ c.args.chunk.now) whole in
-    Stopped-here before c.loop-line.server old _ (xs ++ line) c.add.new.self c.loop-line.lines q
-    c.answer_line.new.server _ (whole_lines (input ++ c.args.chunk.now)) lines.0
-    (c.in_err-answer_line.ensures (rest_of (xs ++ line)) q.in_hand) lines.1)
+    let lines = lines_at_end (xs ++ line) rest (input ++ c.args.chunk.now) whole in (
+      a.0,
+      a.1,
+      λ served. Stopped-here mid new f.0 a.0 (state mid.disk) (state new.disk)
+          (g.met.D.Disk.sound mid.disk was) (g.met.D.Disk.sound new.disk honest) a.1 before
+          (whole_lines (xs ++ line)) (rest_of (xs ++ line)) old _ _
+          (subst (λ l. Served (state mid.disk) before (state_of mid f.0 (state mid.disk)) l old
+          (g.W.Write.contents c.loop-line.writer))
+          (sym (whole_lines-within xs line c.in-Some.ensures.first)) (f.2 served))
+          later.moment told.reply told.answers told.crosses c.loop-line.lines h1.counted
+          (whole_lines (input ++ c.args.chunk.now)) lines.0 lines.1,
+    ))
 
-pub returns-clause-ok : goal.returns-clause-ok
-returns-clause-ok g c = λ before old input p.
+pub returns-clause-hand : goal.returns-clause-hand
+returns-clause-hand g c = λ input is.
     let so_far = c.loop-line.invariant.taken in
     let xs : List ℕ = input ++ so_far.0 in
-    let q = Progress-within before c.loop-line.server old _ xs c.loop-line.hand c.loop-line.lines
-    (so_far.2 before old input p) c.loop-line.rest.now c.add-2.new.self c.in_default.ensures.none
-    (c.add-2.ensures (rest_of xs) (so_far.2 before old input p).in_hand) in
-    subst (λ l. Progress before old l c.add-2.new.self c.loop-line.lines c.loop-line.server
-    (g.W.Write.contents c.loop-line.writer))
-    (append_assoc input so_far.0 c.loop-line.rest.now ∙ ap (λ l. input ++ l) so_far.1) q
+    let h0 = so_far.2 input is in
+    subst (λ l. InHand l c.add-2.new.self c.loop-line.lines)
+    (append_assoc input so_far.0 c.loop-line.rest.now ∙ ap (λ l. input ++ l) so_far.1)
+    (InHand-within xs c.loop-line.hand c.loop-line.lines h0 c.loop-line.rest.now c.add-2.new.self
+    c.in_default.ensures.none (c.add-2.ensures (rest_of xs) h0.rest))
+
+pub returns-clause-ok : goal.returns-clause-ok
+returns-clause-ok g c = λ before old input is s stands honest.
+    let state = g.D.Disk.state in
+    let so_far = c.loop-line.invariant.taken in
+    let mid = c.loop-line.server in
+    let xs : List ℕ = input ++ so_far.0 in
+    let f = so_far.3 before old input is s stands honest in (
+      f.0,
+      f.1,
+      λ served. subst (λ l. Served (state mid.disk) before (state_of mid f.0 (state mid.disk)) (whole_lines l) old
+          (g.W.Write.contents c.loop-line.writer))
+          (append_assoc input so_far.0 c.loop-line.rest.now ∙ ap (λ l. input ++ l) so_far.1)
+          (subst (λ l. Served (state mid.disk) before (state_of mid f.0 (state mid.disk)) l old
+          (g.W.Write.contents c.loop-line.writer))
+          (sym (whole_lines-within xs c.loop-line.rest.now c.in_default.ensures.none)) (f.2 served)),
+    )

@@ -1,10 +1,14 @@
-use Rattle.std.proofs.Common.{◌≡◌, ℕ, ◌+◌, ◌*◌, ◌≤◌, List, [], ◌++◌, take, length, Option, subst}
+use Rattle.std.proofs.Common.{◌≡◌, ℕ, ◌+◌, ◌*◌, ◌≤◌, List, [], ◌++◌, take, length, Option, refl, subst, ◌∙◌}
 use Rattle.std.proofs.Common.{arith, append-nil, length-append, length-take, inl, inr}
 use Rattle.std.specs.Io.KnownBytes.{Consumes}
 use Rattle.std.proofs.KnownBytes.{Consumes-nil, Consumes-trans}
+use Rattle.mot_server.proofs.Laws.{keeps_on, unchanged_on}
 use Rattle.mot_session.specs.declared.serving.TheConstants.{READ_SIZE}
 use Rattle.mot_session.specs.Served.{TakesInput}
-use Rattle.mot_session.proofs.Runs.{Progress-none}
+use Rattle.mot_session.specs.State.{state_of}
+use Rattle.mot_session.proofs.SessionLaws.{session-laws}
+use Rattle.mot_session.proofs.Requests.{is_unchanged}
+use Rattle.mot_session.proofs.Runs.{InHand-none, Served-none}
 use Rattle.mot_session.proofs.serving.serve.Goals as goal
 
 -- a read of nothing
@@ -19,7 +23,7 @@ allowed : (few many : ℕ) (a b d : Option (List ℕ)) (input : List ℕ) → fe
     → TakesInput few a b input → Consumes a d input → TakesInput many a d input
 allowed few many a b d input l t q = record {
   consumed = q;
-  bounded = let some = t.bounded in omega (arith, some);
+  bounded = let some = t.bounded in omega (arith, some, l);
 }
 
 -- one more read
@@ -32,77 +36,142 @@ read_more few many a b d input bytes l short t q = record {
 }
 
 pub loop-init : goal.loop-init
-loop-init g c = record {
-  bound = omega arith;
-  taken = (
-    [],
-    record { consumed = Consumes-nil _; bounded = omega arith },
-    Progress-none c.args.server.now (g.W.Write.contents c.args.writer.now) _ c.in-Ok.ensures,
-  );
-}
+loop-init g c =
+    let server = c.args.server.now in
+    let state = g.D.Disk.state server.disk in record {
+      bound = omega arith;
+      keeps = record { len = refl; was_honest = λ honest. honest };
+      later = omega arith;
+      halted = λ is. (refl, λ honest. is_unchanged state);
+      taken = (
+        [],
+        record { consumed = Consumes-nil _; bounded = omega arith },
+        InHand-none _ c.in-Ok.ensures,
+        λ s stands honest. (
+          s,
+          stands,
+          Served-none server s state (g.W.Write.contents c.args.writer.now) stands
+              (λ so. g.met.D.Disk.sound server.disk so) honest,
+        ),
+      );
+    }
 
 pub returns-then-count-eq0-clause-ended : goal.returns-then-count-eq0-clause-ended
 returns-then-count-eq0-clause-ended g c = λ none.
+    let state = g.D.Disk.state in
     let t = c.loop.invariant.taken in
     let r = c.in-Ok-read.ensures.bytes in
     let more = c.loop-test.true in
-    let s = c.answer_last.ensures.ended none c.args.server.now
-    (g.W.Write.contents c.args.writer.now) t.0 t.2 in (
+    let first = c.args.server.now in (
       t.0,
       allowed c.loop.counter c.args.reads _ _ _ t.0 (omega (arith, more)) t.1
           (none_read _ _ _ t.0 c.read.new.buf c.in-Ok-read.count t.1.consumed r.0
           c.if-count-eq0.true),
       r.1 c.if-count-eq0.true (omega arith),
-      s.1,
-      s.0,
+      c.answer_last.ensures.lines none t.0 t.2,
+      λ s stands honest.
+          let was = c.answer_last.ensures.keeps.was_honest honest in
+          let mid = t.3 s stands was in
+          let last = c.answer_last.ensures.ended none (state_of first s (state first.disk))
+          (g.W.Write.contents c.args.writer.now) t.0 t.2 mid.0 mid.1 honest in
+          (last.0, last.1, last.2 mid.2),
     )
 
 pub returns-then-count-eq0-clause-unwritten : goal.returns-then-count-eq0-clause-unwritten
 returns-then-count-eq0-clause-unwritten g c = λ fault.
+    let state = g.D.Disk.state in
     let t = c.loop.invariant.taken in
     let r = c.in-Ok-read.ensures.bytes in
     let more = c.loop-test.true in
-    let s = c.answer_last.ensures.unwritten fault c.args.server.now
-    (g.W.Write.contents c.args.writer.now) t.0 t.2 in (
+    let first = c.args.server.now in (
       t.0,
       allowed c.loop.counter c.args.reads _ _ _ t.0 (omega (arith, more)) t.1
           (none_read _ _ _ t.0 c.read.new.buf c.in-Ok-read.count t.1.consumed r.0
           c.if-count-eq0.true),
-      inr (r.1 c.if-count-eq0.true (omega arith), s),
+      inr (
+        r.1 c.if-count-eq0.true (omega arith),
+        λ s stands honest.
+            let was = c.answer_last.ensures.keeps.was_honest honest in
+            let mid = t.3 s stands was in
+            let last = c.answer_last.ensures.unwritten fault (state_of first s (state first.disk))
+            (g.W.Write.contents c.args.writer.now) t.0 t.2 mid.0 mid.1 honest in
+            (last.0, last.1, last.2 mid.2),
+      ),
     )
 
 pub returns-in_default-answer_chunk-clause-unwritten : goal.returns-in_default-answer_chunk-clause-unwritten
 returns-in_default-answer_chunk-clause-unwritten g c = λ fault.
+    let state = g.D.Disk.state in
     let t = c.loop.invariant.taken in
     let r = c.in-Ok-read.ensures.bytes in
     let m = c.in-Ok-read.ensures.bound in
     let more = c.loop-test.true in
-    let s = c.in_default-answer_chunk.ensures.err c.args.server.now
-    (g.W.Write.contents c.args.writer.now) t.0 t.2 in
+    let first = c.args.server.now in
     rw c.ended-in_default-answer_chunk.ensures (
       t.0 ++ take c.in-Ok-read.count c.read.new.buf,
       read_more c.loop.counter c.args.reads _ _ _ t.0 (take c.in-Ok-read.count c.read.new.buf)
           (omega (arith, more))
           (omega (arith, length-take c.in-Ok-read.count c.read.new.buf, m.0, m.1)) t.1 r.0,
-      inl s,
+      inl (λ s stands honest.
+          let was = c.in_default-answer_chunk.ensures.keeps.was_honest honest in
+          let mid = t.3 s stands was in
+          let last = c.in_default-answer_chunk.ensures.err (state_of first s (state first.disk))
+          (g.W.Write.contents c.args.writer.now) t.0 t.2 mid.0 mid.1 honest in
+          (last.0, last.1, last.2 mid.2)),
     )
 
 pub loop-preserved : goal.loop-preserved
 loop-preserved g c =
-    let t = c.loop.invariant.taken in
+    let state = g.D.Disk.state in
+    let inv = c.loop.invariant in
+    let t = inv.taken in
     let r = c.in-Ok-read.ensures.bytes in
-    let s = c.in-Ok-answer_chunk.ensures.ok c.args.server.now
-    (g.W.Write.contents c.args.writer.now) t.0 t.2 in
-    let b = c.in-Ok-answer_chunk.ensures.bound in
+    let one = c.in-Ok-answer_chunk.ensures in
+    let b = one.bound in
     let m = c.in-Ok-read.ensures.bound in
+    let first = c.args.server.now in
+    let mid_server = c.loop.server in
+    let new = c.answer_chunk.new.server in
     record {
       bound = let l : c.loop.lines ≤ READ_SIZE * c.loop.counter = c.loop.invariant.bound in
-          omega (arith, b, m.0, m.1);
+          omega (arith, b, m.0, m.1, l);
+      keeps = keeps_on (state first.disk) (state mid_server.disk) (state new.disk) inv.keeps one.keeps;
+      later = let was = inv.later in let on = one.later in omega (arith, was, on);
+      halted = λ is.
+          let was = inv.halted is in
+          let on = one.halted (rw was.0 is) in (
+            on.0 ∙ was.0,
+            λ honest. unchanged_on (state first.disk) (state mid_server.disk) (state new.disk)
+                (was.1 (one.keeps.was_honest honest)) (on.1 honest),
+          );
       taken = (
         t.0 ++ take c.in-Ok-read.count c.read.new.buf,
         read_more c.loop.counter (c.loop.counter + 1) _ _ _ t.0
             (take c.in-Ok-read.count c.read.new.buf) (omega arith)
             (omega (arith, length-take c.in-Ok-read.count c.read.new.buf, m.0, m.1)) t.1 r.0,
-        s,
+        one.hand t.0 t.2,
+        λ s stands honest.
+            let was = one.keeps.was_honest honest in
+            let mid = t.3 s stands was in
+            let last = one.ok (state_of first s (state first.disk))
+            (g.W.Write.contents c.args.writer.now) t.0 t.2 mid.0 mid.1 honest in
+            (last.0, last.1, last.2 mid.2),
       );
     }
+
+-- on each way out
+
+pub returns-in_default-clause-laws : goal.returns-in_default-clause-laws
+returns-in_default-clause-laws g c = session-laws
+
+pub returns-in_default-read-clause-laws : goal.returns-in_default-read-clause-laws
+returns-in_default-read-clause-laws g c = session-laws
+
+pub returns-then-count-eq0-clause-laws : goal.returns-then-count-eq0-clause-laws
+returns-then-count-eq0-clause-laws g c = session-laws
+
+pub returns-in_default-answer_chunk-clause-laws : goal.returns-in_default-answer_chunk-clause-laws
+returns-in_default-answer_chunk-clause-laws g c = session-laws
+
+pub returns-clause-laws : goal.returns-clause-laws
+returns-clause-laws g c = session-laws

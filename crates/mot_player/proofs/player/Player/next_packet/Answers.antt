@@ -1,12 +1,13 @@
-use Rattle.std.proofs.Common.{◌≡◌, ℕ, List, Some, ap, sym, subst}
+use Rattle.std.proofs.Common.{◌≡◌, ◌∙◌, ◌<◌, ℕ, List, Some, false, ap, arith, sym, subst}
 use Rattle.mot_packets.specs.Packet.{read_packet}
 use Rattle.mot_packets.specs.Written.{bytes_of_packet}
-use Rattle.mot_player.specs.Laws.{IsPlace, IsStep}
-use Rattle.mot_player.specs.Inner.Ready.{IsReady, place_with, standing_of}
+use Rattle.mot_player.specs.Laws.{IsStep, bytes_due, bytes_left}
+use Rattle.mot_player.specs.Inner.Ready.{HasTaken, place_with, standing_of}
 use Rattle.mot_player.specs.Standing.{AreBodiesFor, Standing, TurnPlan, place_of}
 use Rattle.mot_player.specs.declared.player.Player.TheInside.{Inside}
 use Rattle.mot_player.specs.declared.state.State.{State}
 use Rattle.mot_player.proofs.Answered.{place_is, answers-under_way, answers-begun, sent_from}
+use Rattle.mot_player.proofs.Nearer.{left-less, nearer-begun, nearer-under_way}
 use Rattle.mot_player.proofs.player.Player.next_packet.Goals as goal
 use Rattle.mot_player.proofs.player.Player.next_packet.Goals.{then-self-eq0+in_ok-begin, else-self-eq0}
 
@@ -53,3 +54,29 @@ returns-clause-place g c = place_is c.args.self.now c.self.inside.state c.self.v
 
 pub returns-in_err-begin-clause-place : goal.returns-in_err-begin-clause-place
 returns-in_err-begin-clause-place g c = place_is c.args.self.now c.self.inside.state c.self.view_is c.self.invariant
+
+pub returns-clause-nearer : goal.returns-clause-nearer
+returns-clause-nearer g c = λ goes_on.
+    let old : State = c.self.inside.state in
+    let mid : State = c.if-self-eq0.self-inside.state in
+    let new : State = c.send.new.self in
+    let left : (s : Standing) → Type 0 = λ s. bytes_left (standing_of new) < bytes_left s in
+    let ends = c.send.ensures.ends_turn in
+    let place = c.send.ensures.place in
+    elim c.if-self-eq0.branch [
+      | then-self-eq0+in_ok-begin w ↦ (
+          let same : mid ≡ w.begin.new.self = ap (λ (i : Inside). i.state) w.self-inside-is in
+          let kept = ap (λ (s : State). s.turn) same ∙ w.in_ok-begin.ensures.turn in
+          let none = ap (λ (s : State). s.sent) same ∙ w.in_ok-begin.ensures.sent in
+          subst left c.self.view_is (left-less old mid new c.send.result.ends_turn kept c.send.ensures.turn ends place
+          (λ bodies are. nearer-begun old mid bodies w.if-self-eq0.true none
+          (subst (λ (s : State). HasTaken old s bodies) (sym same) (w.in_ok-begin.ensures.taken bodies are))) goes_on))
+      | else-self-eq0 w ↦ (
+          let same : mid ≡ old = ap (λ (i : Inside). i.state) w.self-inside-is in
+          let some : 0 < old.sent = omega (arith, w.if-self-eq0.false) in
+          subst left c.self.view_is (left-less old mid new c.send.result.ends_turn (ap (λ (s : State). s.turn) same)
+          c.send.ensures.turn ends place
+          (λ bodies are. subst (λ (s : State). (sent_from s bodies).ends_turn ≡ false
+          → bytes_due (sent_from s bodies).place < bytes_due (place_with old bodies)) (sym same)
+          (nearer-under_way old bodies w.if-self-eq0.false (c.self.invariant.left some))) goes_on))
+    ]

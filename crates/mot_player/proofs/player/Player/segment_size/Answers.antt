@@ -1,8 +1,3 @@
-use Rattle.std.proofs.Common.{◌≡◌, ℕ, List, ap, sym, subst}
-use Rattle.mot_player.specs.Inner.Ready.{IsReady, standing_of}
-use Rattle.mot_player.specs.Laws.{IsPlace}
-use Rattle.mot_player.specs.Standing.{AreBodiesFor, Standing, TurnPlan, place_of}
-use Rattle.mot_player.specs.declared.state.State.{State}
 use Rattle.mot_player.proofs.Answered.{place_is}
 use Rattle.mot_player.proofs.player.Player.segment_size.Goals as goal
 

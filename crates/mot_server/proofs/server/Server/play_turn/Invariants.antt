@@ -1,6 +1,7 @@
-use Rattle.std.proofs.Common.{◌≡◌, ◌≤◌, ◌-◌, ◌^◌, length}
+use Rattle.std.proofs.Common.{◌≡◌, ◌≤◌}
 use Rattle.disk_store.specs.Disk.{KeepsLength, IsUnchanged}
 use Rattle.mot_journal.specs.Image.{Standing}
+use Rattle.mot_player.specs.Laws.{bytes_left}
 use Rattle.mot_repository.specs.Repository.{Holds}
 use Rattle.mot_server.specs.Inner.Going.{IsGoing}
 use Rattle.mot_server.specs.Playing.{bytes_of_packets}
@@ -18,4 +19,4 @@ invariant-loop-packets g l = record {
 }
 
 abbrev pub decreases-loop-packets : goal.decreases-loop-packets
-decreases-loop-packets g l = 2 ^ 64 - length l.packets.items
+decreases-loop-packets g l = bytes_left l.self.player

@@ -1,5 +1,5 @@
 use Rattle.std.proofs.Common.{◌≡◌, ◌∙◌, rules, arith, refl, sym, ap, subst, Bool, true, false, length, ◌≤◌, [], Some, None, Ok, Err}
-use Rattle.std.specs.Prelude.{slice_get, vec_capacity, IsTrue}
+use Rattle.std.specs.Prelude.{slice_get, vec_capacity}
 use Rattle.std.specs.Global.{Vec}
 use Rattle.std.proofs.lemmas.Option.{slice_get_read}
 use Rattle.mot_base.specs.declared.refusal.Refusal.TheVariants.{OutOfMemory}
@@ -10,9 +10,7 @@ use Rattle.mot_server.specs.Server.{place_in}
 use Rattle.mot_server.proofs.Places.{none_done, stays_there, turns_there}
 use Rattle.mot_server.proofs.Runs.{Reached, begins, rests, one_longer, marks_after, accepted-true, accepted-false}
 use Rattle.mot_server.proofs.Calls.{keeps_all_on}
-use Rattle.mot_server.specs.Inner.Unread.{is_unchanged}
-use Rattle.mot_server.proofs.Read.{unchanged_on}
-use Rattle.mot_server.proofs.Answered.{goes_on_true, goes_on_false, ends_here, run_fault, as_halted, no_fault_in, no_fault_of, not_halted, ends_halted, stays_halted, empty}
+use Rattle.mot_server.proofs.Answered.{goes_on_true, goes_on_false, ends_here, run_fault, as_halted, no_fault_in, no_fault_of}
 use Rattle.mot_server.proofs.server.Server.run.Goals as goal
 use Rattle.mot_server.proofs.server.Server.run.Goals.{in-Ok-execute, in-Err+else-ends_run}
 
@@ -21,7 +19,7 @@ returns-in_default-clause-leaves g c = λ s holds.
     let state = g.D.Disk.state c.args.self.now.disk in
     let view = c.args.self.now.view in
     let sound = g.met.D.Disk.sound c.args.self.now.disk holds.journal.honest in
-    subst (λ l. RunLeaves view view state state s c.args.commands.now l (Some OutOfMemory)) (sym c.new.ensures.items)
+    subst (λ l. RunLeaves view view state state s c.args.commands.now l (Some OutOfMemory)) (sym c.new-in_default.ensures.items)
     (rests view.journal.layout view view state state s c.args.commands.now [] (Some OutOfMemory) refl
     (begins view state s c.args.commands.now sound holds))
 
@@ -48,7 +46,6 @@ loop-command-init g c = record {
   index = search rules;
   room = search rules;
   plays = λ s last holds after. none_done c.args.self.now c.args.commands.now c.in-Ok.done.items c.in-Ok.ensures.items s last after;
-  none = λ is. (refl, is_unchanged (g.D.Disk.state c.args.self.now.disk), refl);
   reached = λ s holds.
       let state = g.D.Disk.state c.args.self.now.disk in
       let view = c.args.self.now.view in
@@ -83,7 +80,6 @@ loop-command-preserved g c =
                 (ap (accepted_commands commands) now ∙ accepted-true commands marks c.command-item.result at)
                 accepted step.1 (c.loop-command.invariant.plays s so_far.last holds accepted)
                 (run.place so_far.last step.0 so_far.holds.agrees step.2.agrees) after;
-            none = λ is. absurd (not_halted c.loop-command.self.view.halted (subst IsTrue (sym c.loop-command.invariant.halted) is) run.going);
             reached = λ s holds.
                 let so_far = c.loop-command.invariant.reached s holds in
                 subst (λ l. Reached c.args.self.now.view.journal.layout c.execute.new.self.view (state c.args.self.now.disk) (state c.execute.new.self.disk) s c.args.commands.now l) (sym now)
@@ -105,7 +101,6 @@ loop-command-preserved g c =
                 subst (λ l. place_in c.execute.new.self last ≡ place_behind l last (place_in c.args.self.now s)) (sym same)
                 (stays_there c.loop-command.self c.execute.new.self last (place_behind (accepted_commands commands marks) last (place_in c.args.self.now s)) run.stays
                 (c.loop-command.invariant.plays s last holds (subst (λ l. IsAfter s l last) same after)));
-            none = λ is. absurd (ends_halted c.loop-command.self.view c.execute.new.self.view (state c.loop-command.self.disk) (state c.execute.new.self.disk) c.command-item.result w.in-Err.refusal (subst IsTrue (sym c.loop-command.invariant.halted) is) run.answered (sym w.ends_run.ensures ∙ w.if-ends_run.false));
             reached = λ s holds.
                 let so_far = c.loop-command.invariant.reached s holds in
                 subst (λ l. Reached c.args.self.now.view.journal.layout c.execute.new.self.view (state c.args.self.now.disk) (state c.execute.new.self.disk) s c.args.commands.now l) (sym now)
@@ -115,31 +110,14 @@ loop-command-preserved g c =
 
 pub returns-in_default-clause-place : goal.returns-in_default-clause-place
 returns-in_default-clause-place g c = λ s last holds after.
-    none_done c.args.self.now c.args.commands.now c.new.result.items c.new.ensures.items s last after
+    none_done c.args.self.now c.args.commands.now c.new-in_default.result.items
+    c.new-in_default.ensures.items s last after
 
 pub returns-then-ends_run-clause-place : goal.returns-then-ends_run-clause-place
 returns-then-ends_run-clause-place g c = λ s last holds after.
     let accepted = accepted_commands c.args.commands.now c.loop-command.done.items in
     stays_there c.loop-command.self c.execute.new.self last (place_behind accepted last (place_in c.args.self.now s)) c.in-Err.ensures.stays
     (c.loop-command.invariant.plays s last holds after)
-
-pub returns-in_default-clause-halted : goal.returns-in_default-clause-halted
-returns-in_default-clause-halted g c = λ is. (refl, is_unchanged (g.D.Disk.state c.args.self.now.disk), c.new.ensures.items)
-
-pub returns-clause-halted : goal.returns-clause-halted
-returns-clause-halted g c = λ is.
-    let none = c.loop-command.invariant.none is in
-    (none.0, none.1, empty c.loop-command.done.items (c.loop-command.invariant.index ∙ none.2))
-
-pub returns-then-ends_run-clause-halted : goal.returns-then-ends_run-clause-halted
-returns-then-ends_run-clause-halted g c = λ is.
-    let state = g.D.Disk.state in
-    let none = c.loop-command.invariant.none is in
-    let still = stays_halted c.loop-command.self.view c.execute.new.self.view (state c.loop-command.self.disk) (state c.execute.new.self.disk) c.command-item.result c.in-Err.refusal (subst IsTrue (sym c.loop-command.invariant.halted) is) c.in-Err.ensures.answered in (
-      still.0 ∙ none.0,
-      unchanged_on (state c.args.self.now.disk) (state c.loop-command.self.disk) (state c.execute.new.self.disk) none.1 still.1,
-      empty c.loop-command.done.items (c.loop-command.invariant.index ∙ none.2),
-    )
 
 pub returns-then-ends_run-clause-fault : goal.returns-then-ends_run-clause-fault
 returns-then-ends_run-clause-fault g c =

@@ -1,6 +1,6 @@
 use Rattle.std.proofs.Common.{◌≡◌, ◌≤◌, length}
-use Rattle.std.specs.Prelude.{vec_capacity, IsTrue}
-use Rattle.disk_store.specs.Disk.{Keeps, IsUnchanged}
+use Rattle.std.specs.Prelude.{vec_capacity}
+use Rattle.disk_store.specs.Disk.{Keeps}
 use Rattle.mot_journal.specs.Image.{Standing}
 use Rattle.mot_repository.specs.Repository.{Holds}
 use Rattle.mot_server.specs.RunEnds.{place_behind}
@@ -18,9 +18,6 @@ invariant-loop-command g l =
       halted : l.self.view.halted ≡ l.fn.self.view.halted;
       index : length l.done.items ≡ l.command-index;
       room : length l.commands ≤ vec_capacity l.done;
-      -- a server that is halted comes to no second command
-      none : IsTrue l.fn.self.view.halted → (l.self.view ≡ l.fn.self.view)
-          × IsUnchanged (state l.fn.self.disk) (state l.self.disk) × (l.command-index ≡ 0);
       plays : (s last : Standing) → Holds l.fn.self.view s (state l.fn.self.disk) → IsAfter s (accepted_commands l.commands l.done.items) last
           → place_in l.self last ≡ place_behind (accepted_commands l.commands l.done.items) last (place_in l.fn.self s);
       reached : (s : Standing) → Holds l.fn.self.view s (state l.fn.self.disk)

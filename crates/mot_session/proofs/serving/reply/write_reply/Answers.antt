@@ -1,50 +1,58 @@
-use Rattle.std.proofs.Common.{refl, sym, ap, ◌∙◌, subst}
+use Rattle.std.proofs.Common.{◌≡◌, refl, sym, ap, ◌∙◌, subst}
+use Rattle.mot_base.specs.declared.geometry.Geometry.{Geometry}
+use Rattle.mot_carousel.specs.declared.carousel.Carousel as kept
+use Rattle.mot_carousel.specs.Stands.{AreBodiesOf}
+use Rattle.mot_lines.specs.Inner.Listing.{listing_text_beside}
 use Rattle.mot_lines.specs.Listing.{listing_text}
-use Rattle.mot_lines.specs.declared.line.Line.TheVariants as asks
+use Rattle.mot_lines.specs.Text.{packet_line}
+use Rattle.std.specs.List.{flat_map}
 use Rattle.mot_lines.proofs.Laws.{listing_text-beside}
 use Rattle.mot_session.specs.Inner.Writes.{Writes}
 use Rattle.mot_session.specs.Raw.{packets_at}
 use Rattle.mot_session.specs.Session.{accepted, listing, packets, refused, text_of}
-use Rattle.mot_session.proofs.Written.{AnswersRequest-played, AnswersRequest-written}
+use Rattle.mot_session.specs.State.{state_of}
+use Rattle.mot_session.proofs.Written.{AnswersRequest-written}
 use Rattle.mot_session.proofs.serving.reply.write_reply.Goals as goal
 
-pub returns-in-Refused : goal.returns-in-Refused
+pub returns-in-Refused-clause-answers : goal.returns-in-Refused-clause-answers
 unfolding text_of
-returns-in-Refused g c = rw c.in-Refused.is (λ before request d.
-    AnswersRequest-written c.write_whole.result before c.args.server.now request
+returns-in-Refused-clause-answers g c = rw c.in-Refused.is (λ before request s stands honest d.
+    AnswersRequest-written c.write_whole.result before
+    (state_of c.args.server.now s (g.D.Disk.state c.args.server.now.disk)) request
     (refused c.in-Refused.refusal) _ _ refl d
     (rw (c.as_slice.ensures.value, c.refusal_text.ensures) at c.write_whole.ensures))
 
-pub returns-in-Accepted : goal.returns-in-Accepted
+pub returns-in-Accepted-clause-answers : goal.returns-in-Accepted-clause-answers
 unfolding text_of
-returns-in-Accepted g c = rw c.in-Accepted.is (λ before request d.
-    AnswersRequest-written c.write_whole-in-Accepted.result before c.args.server.now request
+returns-in-Accepted-clause-answers g c = rw c.in-Accepted.is (λ before request s stands honest d.
+    AnswersRequest-written c.write_whole-in-Accepted.result before
+    (state_of c.args.server.now s (g.D.Disk.state c.args.server.now.disk)) request
     (accepted c.in-Accepted.done) _ _ refl d
     (rw (c.as_slice-in-Accepted.ensures.value, c.done_text.ensures) at c.write_whole-in-Accepted.ensures))
 
-pub returns-in-Listing : goal.returns-in-Listing
+pub returns-in-Listing-clause-answers : goal.returns-in-Listing-clause-answers
 unfolding text_of
-returns-in-Listing g c = rw c.in-Listing.is (λ before request d.
-    AnswersRequest-written c.write_carousel.result before c.args.server.now request
-    (listing c.args.server.now.carousel) _ _ refl d
+returns-in-Listing-clause-answers g c = rw c.in-Listing.is (λ before request s stands honest d.
+    let agrees = stands.agrees in
+    let text : listing_text_beside c.carousel.result.now ≡ listing_text s.carousel =
+    ap listing_text_beside c.carousel.ensures.value
+    ∙ listing_text-beside c.args.server.now.view.carousel agrees.bodies agrees.are_bodies
+    ∙ ap listing_text (sym agrees.carousel) in
+    AnswersRequest-written c.write_carousel.result before
+    (state_of c.args.server.now s (g.D.Disk.state c.args.server.now.disk)) request
+    (listing s.carousel) _ _ refl d
     (subst (λ t. Writes c.write_carousel.result t
     (g.W.Write.contents c.args.writer.now) (g.W.Write.contents c.write_carousel.new.writer))
-    (listing_text-beside c.carousel.result.now c.carousel.ensures.0 c.carousel.ensures.1
-    ∙ ap listing_text (sym c.carousel.ensures.2)) c.write_carousel.ensures))
+    text c.write_carousel.ensures))
 
-pub returns-in-Packets : goal.returns-in-Packets
+pub returns-in-Packets-clause-answers : goal.returns-in-Packets-clause-answers
 unfolding text_of
-returns-in-Packets g c = rw c.in-Packets.is (λ before request d.
-    AnswersRequest-written c.write_packets.result before c.args.server.now request
-    (packets (packets_at c.args.server.now.geometry c.in-Packets.group.items)) _ _ refl d
-    (rw (c.geometry.ensures.value, c.deref.ensures.value) at c.write_packets.ensures))
-
-pub returns-in-Next : goal.returns-in-Next
-returns-in-Next g c = rw c.in-Next.is (λ before request d.
-    AnswersRequest-played c.write_next.result before c.args.server.now c.write_next.new.server
-    (asks.Next c.in-Next.count) request _ _ d.0 d.1 c.write_next.ensures)
-
-pub returns-in-Turn : goal.returns-in-Turn
-returns-in-Turn g c = rw c.in-Turn.is (λ before request d.
-    AnswersRequest-played c.write_turn.result before c.args.server.now c.write_turn.new.server
-    asks.Turn request _ _ d.0 d.1 c.write_turn.ensures)
+returns-in-Packets-clause-answers g c = rw c.in-Packets.is (λ before request s stands honest d.
+    let same : c.geometry.result ≡ s.geometry = c.geometry.ensures.value ∙ stands.agrees.geometry in
+    let w = rw c.deref.ensures.value at c.write_packets.ensures in
+    AnswersRequest-written c.write_packets.result before
+    (state_of c.args.server.now s (g.D.Disk.state c.args.server.now.disk)) request
+    (packets (packets_at s.geometry c.in-Packets.group.items)) _ _ refl d
+    (subst (λ (h : Geometry). Writes c.write_packets.result
+    (flat_map packet_line (packets_at h c.in-Packets.group.items))
+    (g.W.Write.contents c.args.writer.now) (g.W.Write.contents c.write_packets.new.writer)) same w))

@@ -1,14 +1,24 @@
 use Rattle.std.proofs.Common.{ℕ, List}
 use Rattle.std.specs.Io.KnownBytes.{Appends}
-use Rattle.mot_player.specs.Laws.{bytes_due}
+use Rattle.mot_journal.specs.Image.{Standing}
+use Rattle.mot_player.specs.Laws.{bytes_left}
 use Rattle.mot_player.specs.Place.{Sent}
+use Rattle.mot_repository.specs.Repository.{Holds}
+use Rattle.mot_session.specs.Inner.Writes.{OnlyReads}
 use Rattle.mot_session.specs.Played.{SendsWithinTurn, sent_lines}
+use Rattle.mot_session.specs.State.{state_of}
 use Rattle.mot_session.proofs.serving.reply.write_turn.Given as goal
 
-abbrev pub invariant-loop : goal.invariant-loop
-invariant-loop g l = (count : ℕ) × (sents : List Sent)
-    × SendsWithinTurn l.initial.server count sents l.server
-    × Appends (g.W.Write.contents l.initial.writer) (g.W.Write.contents l.writer) (sent_lines sents)
+abbrev pub invariant-loop-ends_turn : goal.invariant-loop-ends_turn
+invariant-loop-ends_turn g l = record {
+  reads : OnlyReads l.initial.server l.server (g.D.Disk.state l.initial.server.disk) (g.D.Disk.state l.server.disk);
+  sent : (s : Standing) → Holds l.initial.server.view s (g.D.Disk.state l.initial.server.disk)
+      → (g.D.Disk.state l.server.disk).IsHonest
+      → (count : ℕ) × (sents : List Sent)
+      × SendsWithinTurn (state_of l.initial.server s (g.D.Disk.state l.initial.server.disk)) count sents
+      (state_of l.server s (g.D.Disk.state l.server.disk))
+      × Appends (g.W.Write.contents l.initial.writer) (g.W.Write.contents l.writer) (sent_lines sents);
+}
 
-abbrev pub decreases-loop : goal.decreases-loop
-decreases-loop g l = bytes_due l.server.place
+abbrev pub decreases-loop-ends_turn : goal.decreases-loop-ends_turn
+decreases-loop-ends_turn g l = bytes_left l.server.player

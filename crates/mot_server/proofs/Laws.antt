@@ -1,0 +1,16 @@
+-- What holds of the definitions, for the crates above.
+
+-- an accepted command, and one that finds no gap, told of what the disk stands for
+pub use Rattle.mot_server.proofs.Acceptance.{is_accepted, no_gap}
+-- commands in a row, and what a crash leaves of them
+pub use Rattle.mot_server.proofs.Runs.{after_none, after_one, after_both}
+pub use Rattle.mot_server.proofs.Runs.{more, less_sure, none_of, before_or_after}
+pub use Rattle.mot_server.proofs.Survival.{after_history_none}
+-- calls that change nothing, one after the other
+pub use Rattle.mot_server.proofs.Read.{holds_still, keeps_on, rises_on, unchanged_on}
+-- a device fault leaves the carousel in memory as it was
+pub use Rattle.mot_server.proofs.Runs.{still_agrees}
+-- a geometry that is valid
+pub use Rattle.mot_server.proofs.Turns.{valid_is}
+-- a halted server refuses, and nothing changes
+pub use Rattle.mot_server.proofs.Answered.{not_halted}

@@ -1,0 +1,214 @@
+-- What one line makes of the carousel.
+use Rattle.std.proofs.Common.{◌≡◌, Bool, true, false, List, [], ◌∷◌, Result, Ok, Err, refl, sym, ap, ◌∙◌}
+use Rattle.std.proofs.Common.{subst, Option, Some, None, ℕ, arith}
+use Rattle.std.specs.Prelude.{IsTrue, IsFalse, if◌then◌else◌}
+use Rattle.mot_base.specs.declared.refusal.Refusal.{Refusal}
+use Rattle.mot_base.specs.declared.refusal.Refusal.TheVariants.{BadName, NoRoom, OutOfMemory}
+use Rattle.mot_base.specs.declared.refusal.Refusal.TheVariants.{NameTaken, NoSuchName, TooManyObjects}
+use Rattle.mot_base.specs.declared.refusal.Refusal.TheVariants.{DeviceFault, Halted}
+use Rattle.mot_carousel.specs.declared.command.Command as command
+use Rattle.mot_carousel.specs.declared.command.Command.TheVariants as orders
+use Rattle.mot_carousel.specs.declared.command.Done.{Done}
+use Rattle.mot_carousel.specs.Carousel.{Carousel, Object, change, change_if_named, free_object_id}
+use Rattle.mot_lines.specs.declared.line.Line.{Line}
+use Rattle.mot_lines.specs.declared.line.Line.TheVariants as asks
+use Rattle.mot_lines.specs.Line.{NeedsMemory}
+use Rattle.mot_repository.specs.Repository.{IsNext}
+use Rattle.mot_session.specs.Session.{Reply, refused, accepted, listing, packets, played, cut_short}
+use Rattle.mot_session.specs.Session.{IsRefused, long_name, by_rules, no_room}
+use Rattle.mot_session.specs.Session.{IsCommandAnswer, accepts, refuses, fails}
+use Rattle.mot_session.specs.Session.{IsNextAnswer, IsTurnAnswer, IsAnswer, all, cut}
+use Rattle.mot_session.specs.Served.{Begins, whole, next_begun, turn_begun}
+use Rattle.mot_session.specs.Session.{Answers, decided, halted, no_memory}
+use Rattle.mot_session.specs.Session as session
+use Rattle.mot_session.specs.State.{ServerState, IsLater, KeepsCarousel, Stays}
+use Rattle.mot_session.specs.Stored.{command_in, is_accepting, is_device_fault, is_failing}
+
+-- nothing is done; a command is done; or the disk fails, and the server is halted
+pub data Outcome (before after : ServerState) (done failed : List command.Command) : Type 0 where
+  nothing : done ≡ [] → failed ≡ [] → after.standing ≡ before.standing
+      → after.halted ≡ before.halted → Outcome before after done failed
+  one : (c : command.Command) (d : Done) → done ≡ c ∷ [] → failed ≡ [] → IsFalse before.halted
+      → after.halted ≡ before.halted → IsNext before.standing c d after.standing
+      → Outcome before after done failed
+  halts : done ≡ [] → IsFalse before.halted → IsTrue after.halted
+      → after.standing ≡ before.standing → Outcome before after done failed
+
+abbrev pub done_by : Reply → Result Line Refusal → List command.Command
+done_by reply request = if is_accepting reply then command_in request else []
+
+abbrev pub failed_by_reply : Reply → Result Line Refusal → List command.Command
+failed_by_reply reply request = if is_failing reply then command_in request else []
+
+abbrev empty : Bool → List command.Command
+empty b = if b then [] else []
+
+no_command : (b : Bool) → empty b ≡ []
+no_command true = refl
+no_command false = refl
+
+module _ (before after : ServerState) (request : Result Line Refusal) where
+  -- nothing but time goes on
+  unchanged : (reply : Reply) → is_accepting reply ≡ false → is_failing reply ≡ false
+      → after.standing ≡ before.standing → after.halted ≡ before.halted
+      → Outcome before after (done_by reply request) (failed_by_reply reply request)
+  unchanged reply isnt fine standing same = nothing
+      (ap (λ b. if b then command_in request else []) isnt)
+      (ap (λ b. if b then command_in request else []) fine) standing same
+
+  unchanged_so : (reply is : Reply) → reply ≡ is → is_accepting is ≡ false → is_failing is ≡ false
+      → after.standing ≡ before.standing → after.halted ≡ before.halted
+      → Outcome before after (done_by reply request) (failed_by_reply reply request)
+  unchanged_so reply is e isnt fine standing same =
+      unchanged reply (ap is_accepting e ∙ isnt) (ap is_failing e ∙ fine) standing same
+
+-- the rules refuse with none of the disk's refusals
+put-refuses : (taken full : Bool) (x : Carousel × Done) (refusal : Refusal)
+    → (if taken then Err NameTaken else (if full then Err TooManyObjects else Ok x)) ≡ Err refusal
+    → is_device_fault refusal ≡ false
+put-refuses true full x refusal e =
+    let same : NameTaken ≡ refusal = cc in ap is_device_fault (sym same)
+put-refuses false true x refusal e =
+    let same : TooManyObjects ≡ refusal = cc in ap is_device_fault (sym same)
+put-refuses false false x refusal e = cc
+
+named-refuses : (c : Carousel) (taken : Option ℕ) (objects : Option (List Object)) (refusal : Refusal)
+    → change_if_named c taken objects ≡ Err refusal → is_device_fault refusal ≡ false
+named-refuses c taken None refusal e =
+    let same : NoSuchName ≡ refusal = cc in ap is_device_fault (sym same)
+named-refuses c taken (Some objects) refusal e = cc
+
+rules-refuse : (c : Carousel) (limit : ℕ) (command : command.Command) (refusal : Refusal)
+    → change c limit command ≡ Err refusal → is_device_fault refusal ≡ false
+unfolding change
+rules-refuse c limit (orders.Put name content mime body) refusal e = put-refuses _ _ _ refusal e
+rules-refuse c limit (orders.Replace name content mime body) refusal e =
+    named-refuses c (Some (free_object_id c)) _ refusal e
+rules-refuse c limit (orders.Withdraw name) refusal e = named-refuses c None _ refusal e
+rules-refuse c limit (orders.Period period) refusal e = cc
+
+pub refused-fine : (s : ServerState) (c : command.Command) (refusal : Refusal) → IsRefused s c refusal
+    → is_device_fault refusal ≡ false
+refused-fine s c refusal (long_name layout long e) = ap is_device_fault e
+refused-fine s c refusal (by_rules room rules) =
+    rules-refuse s.standing.carousel s.standing.geometry.objects c refusal rules
+refused-fine s c refusal (no_room room next is none e) = ap is_device_fault e
+
+commanded : (before after : ServerState) (c : command.Command) (reply : Reply) → IsFalse before.halted
+    → IsCommandAnswer before c reply after
+    → Outcome before after (done_by reply (Ok (asks.Command c))) (failed_by_reply reply (Ok (asks.Command c)))
+commanded before after c reply going (accepts d e a) = one c d
+    (ap (λ (r : Reply). done_by r (Ok (asks.Command c))) e)
+    (ap (λ (r : Reply). failed_by_reply r (Ok (asks.Command c))) e)
+    going a.halted a.is_accepted.by_rules
+commanded before after c reply going (refuses refusal e why stays) =
+    unchanged_so before after (Ok (asks.Command c)) reply (refused refusal) e refl
+    (refused-fine before c refusal why) stays.keeps.standing stays.keeps.halted
+commanded before after c reply going (fails e h) = halts
+    (ap (λ (r : Reply). done_by r (Ok (asks.Command c))) e) going h.halted h.standing
+
+nexts : (before after : ServerState) (request : Result Line Refusal) (count : ℕ) (reply : Reply)
+    → IsNextAnswer before count reply after
+    → Outcome before after (done_by reply request) (failed_by_reply reply request)
+nexts before after request count reply (all sents e s) =
+    unchanged_so before after request reply (played sents) e refl refl s.keeps.standing s.keeps.halted
+nexts before after request count reply (cut made sents between few e s f) =
+    unchanged_so before after request reply (cut_short sents) e refl refl
+    (f.stays.keeps.standing ∙ s.keeps.standing) (f.stays.keeps.halted ∙ s.keeps.halted)
+
+turns : (before after : ServerState) (request : Result Line Refusal) (reply : Reply)
+    → IsTurnAnswer before reply after
+    → Outcome before after (done_by reply request) (failed_by_reply reply request)
+turns before after request reply (all others sents e s) =
+    unchanged_so before after request reply (played sents) e refl refl s.sends.keeps.standing
+    s.sends.keeps.halted
+turns before after request reply (cut made sents between e s f) =
+    unchanged_so before after request reply (cut_short sents) e refl refl
+    (f.stays.keeps.standing ∙ s.sends.keeps.standing) (f.stays.keeps.halted ∙ s.sends.keeps.halted)
+
+answered : (before after : ServerState) (request : Result Line Refusal) (reply : Reply)
+    → (session.NeedsCarousel request → IsFalse before.halted) → IsAnswer before request reply after
+    → Outcome before after (done_by reply request) (failed_by_reply reply request)
+unfolding IsAnswer
+answered before after (Err r) reply going a = nothing (no_command (is_accepting reply))
+    (no_command (is_failing reply)) a.1.keeps.standing a.1.keeps.halted
+answered before after (Ok (asks.Command c)) reply going a = commanded before after c reply (going tt) a
+answered before after (Ok asks.List) reply going a = nothing (no_command (is_accepting reply))
+    (no_command (is_failing reply)) a.1.keeps.standing a.1.keeps.halted
+answered before after (Ok (asks.Raw kind tid body)) reply going a =
+    nothing (no_command (is_accepting reply)) (no_command (is_failing reply)) a.1.keeps.standing
+    a.1.keeps.halted
+answered before after (Ok (asks.Next count)) reply going a =
+    nexts before after (Ok (asks.Next count)) count reply a
+answered before after (Ok asks.Turn) reply going a = turns before after (Ok asks.Turn) reply a
+
+pub outcome : (before after : ServerState) (request : Result Line Refusal) (reply : Reply)
+    → Answers before request reply after
+    → Outcome before after (done_by reply request) (failed_by_reply reply request)
+outcome before after request reply (decided going a) = answered before after request reply going a
+outcome before after request reply (halted is needs e s) =
+    unchanged_so before after request reply (refused Halted) e refl refl s.keeps.standing
+    s.keeps.halted
+outcome before after request reply (no_memory needs e s) =
+    unchanged_so before after request reply (refused OutOfMemory) e refl refl s.keeps.standing
+    s.keeps.halted
+
+-- also where its reply was broken off
+pub begun_outcome : (before after : ServerState) (request : Result Line Refusal) (reply : Reply)
+    → Begins before request reply after
+    → Outcome before after (done_by reply request) (failed_by_reply reply request)
+begun_outcome before after request reply (whole a) = outcome before after request reply a
+begun_outcome before after request reply (next_begun count made sents e going few f s) =
+    unchanged_so before after request reply (played sents) f refl refl s.keeps.standing s.keeps.halted
+begun_outcome before after request reply (turn_begun made sents e going f s) =
+    unchanged_so before after request reply (played sents) f refl refl s.sends.keeps.standing
+    s.sends.keeps.halted
+
+-- time goes on
+
+module _ (before after : ServerState) where
+  later-commanded : (c : command.Command) (reply : Reply) → IsCommandAnswer before c reply after
+      → IsLater before after
+  later-commanded c reply (accepts d e a) = a.later
+  later-commanded c reply (refuses refusal e why stays) = stays.keeps.later
+  later-commanded c reply (fails e h) = h.later
+
+  later-two : (between : ServerState) → IsLater before between → IsLater between after
+      → IsLater before after
+  later-two between a b = record {
+    moment = omega (arith, a.moment, b.moment);
+    failures = omega (arith, a.failures, b.failures);
+  }
+
+  later-next : (count : ℕ) (reply : Reply) → IsNextAnswer before count reply after
+      → IsLater before after
+  later-next count reply (all sents e s) = s.keeps.later
+  later-next count reply (cut made sents between few e s f) =
+      later-two between s.keeps.later f.stays.keeps.later
+
+  later-turn : (reply : Reply) → IsTurnAnswer before reply after → IsLater before after
+  later-turn reply (all others sents e s) = s.sends.keeps.later
+  later-turn reply (cut made sents between e s f) =
+      later-two between s.sends.keeps.later f.stays.keeps.later
+
+  later-answered : (request : Result Line Refusal) (reply : Reply)
+      → IsAnswer before request reply after → IsLater before after
+  unfolding IsAnswer
+  later-answered (Err r) reply a = a.1.keeps.later
+  later-answered (Ok (asks.Command c)) reply a = later-commanded c reply a
+  later-answered (Ok asks.List) reply a = a.1.keeps.later
+  later-answered (Ok (asks.Raw kind tid body)) reply a = a.1.keeps.later
+  later-answered (Ok (asks.Next count)) reply a = later-next count reply a
+  later-answered (Ok asks.Turn) reply a = later-turn reply a
+
+  pub later-answers : (request : Result Line Refusal) (reply : Reply)
+      → Answers before request reply after → IsLater before after
+  later-answers request reply (decided going a) = later-answered request reply a
+  later-answers request reply (halted is needs e s) = s.keeps.later
+  later-answers request reply (no_memory needs e s) = s.keeps.later
+
+  pub later-begins : (request : Result Line Refusal) (reply : Reply)
+      → Begins before request reply after → IsLater before after
+  later-begins request reply (whole a) = later-answers request reply a
+  later-begins request reply (next_begun count made sents e going few f s) = s.keeps.later
+  later-begins request reply (turn_begun made sents e going f s) = s.sends.keeps.later

@@ -1,0 +1,94 @@
+-- Requests of packets on a disk that is only read.
+use Rattle.std.proofs.Common.{◌≡◌, ℕ, ◌≤◌, Bool, List, Option, Some, None, Result, Ok, Err, refl, sym, ap, ◌∙◌}
+use Rattle.std.proofs.Common.{subst, arith, inl}
+use Rattle.std.specs.Prelude.{IfOk, IsFalse}
+use Rattle.disk_store.specs.Disk.{State, IsUnchanged}
+use Rattle.mot_journal.specs.Image.{Standing}
+use Rattle.mot_lines.specs.Text.{played_line}
+use Rattle.mot_packets.specs.Packet.{read_packet}
+use Rattle.mot_packets.specs.Written.{bytes_of_packet}
+use Rattle.mot_player.specs.Laws.{IsStep}
+use Rattle.mot_repository.specs.Repository.{RepositoryView, Agrees, Holds}
+use Rattle.mot_server.specs.Server.{ServerView, place_in}
+use Rattle.mot_server.proofs.Laws.{holds_still, keeps_on, unchanged_on}
+use Rattle.mot_session.specs.declared.serving.writing.WriteFault.{WriteFault}
+use Rattle.mot_session.specs.Inner.Writes.{AnswersOne, OnlyReads, SendsOne, Writes, sends}
+use Rattle.mot_session.specs.Played.{sent_line}
+use Rattle.mot_session.specs.State.{KeepsCarousel, ServerState, StandsFor, state_of}
+
+module _ {D : Type 0} (old new : ServerView D) (start now : State) (reads : OnlyReads old new start now)
+    (honest : now.IsHonest) where
+  -- only the player's place may be another
+  pub keeps-read : (s : Standing) → KeepsCarousel (state_of old s start) (state_of new s now)
+  keeps-read s = record {
+    standing = refl;
+    layout = ap (λ (v : RepositoryView). v.journal.layout) reads.view;
+    halted = ap (λ (v : RepositoryView). v.halted) reads.view;
+    later = record { moment = (reads.unchanged honest).time.later; failures = reads.later };
+  }
+
+  pub holds-read : (s : Standing) → Holds old.view s start → Holds new.view s now
+  holds-read s holds =
+      holds_still old.view new.view s start now holds honest (reads.unchanged honest) reads.view
+
+  pub stands-read : (s : Standing) → StandsFor old.view s start → StandsFor new.view s now
+  stands-read s stands = record {
+    agrees = subst (λ v. Agrees v s) (sym reads.view) stands.agrees;
+    holds = λ going. holds-read s
+        (stands.holds (sym (ap (λ (v : RepositoryView). v.halted) reads.view) ∙ going));
+  }
+
+  -- a packet was played, and its line written
+  pub AnswersOne-sent : (s : Standing) (packet : List ℕ) (ends : Bool)
+      → IsStep (place_in old s) packet ends (place_in new s) → (result : Result (Option Bool) WriteFault)
+      → IfOk result (λ shown. shown ≡ Some ends) → (text : List ℕ) → text ≡ played_line packet ends
+      → (known next : Option (List ℕ)) → Writes result text known next
+      → AnswersOne result (state_of old s start) (state_of new s now) known next
+  AnswersOne-sent s packet ends step result shown text is known next w = sends step.sent
+      (record {
+        asked = step.asked;
+        read = subst (λ (b : List ℕ). read_packet b ≡ Some step.sent.packet) step.bytes step.reads;
+        place = step.place;
+        keeps = keeps-read s;
+      })
+      (subst (λ (b : Bool). IfOk result (λ shown. shown ≡ Some b)) step.ends shown)
+      (subst (λ (b : List ℕ). Writes result b known next)
+      (is ∙ ap (λ (b : List ℕ). played_line b ends) step.bytes
+      ∙ ap (played_line (bytes_of_packet step.sent.packet)) step.ends) w)
+
+-- where no call has come, nothing changed
+pub is_unchanged : (state : State) → IsUnchanged state state
+is_unchanged state = record {
+  bytes = refl;
+  time = record {
+    later = omega arith;
+    nothing_else = λ t c le left. inl left;
+    keeps = λ t c le left. left;
+  };
+  images = λ c. (λ left. left, λ left. left);
+  loose = λ k. (λ is. is, λ is. is);
+}
+
+-- nothing was read yet
+pub reads-none : {D : Type 0} (server : ServerView D) (state : State) → OnlyReads server server state state
+reads-none server state = record {
+  view = refl;
+  keeps = record { len = refl; was_honest = λ honest. honest };
+  later = omega arith;
+  unchanged = λ honest. is_unchanged state;
+}
+
+pub reads-more : {D : Type 0} (old mid new : ServerView D) (start between now : State)
+    → OnlyReads old mid start between → OnlyReads mid new between now → OnlyReads old new start now
+reads-more old mid new start between now a b = record {
+  view = b.view ∙ a.view;
+  keeps = keeps_on start between now a.keeps b.keeps;
+  later = omega (arith, a.later, b.later);
+  unchanged = λ honest.
+      unchanged_on start between now (a.unchanged (b.keeps.was_honest honest)) (b.unchanged honest);
+}
+
+-- a server of that state is halted where the state is
+pub going-of : {D : Type 0} (server : ServerView D) (s : Standing) (state : State) (before : ServerState)
+    → state_of server s state ≡ before → IsFalse before.halted → IsFalse server.view.halted
+going-of server s state before same going = ap (λ (b : ServerState). b.halted) same ∙ going
