@@ -1,35 +1,79 @@
 -- What is known of a disk that was just opened.
-use Rattle.std.proofs.Common.{◌≡◌, ℕ, List, Result, Ok, sym, ◌∙◌, subst}
+use Rattle.std.proofs.Common.{◌≡◌, ℕ, List, Result, Ok, refl, sym, ◌∙◌, subst}
 use Rattle.std.specs.Prelude.{IsFalse}
-use Rattle.disk_store.specs.Disk.{State, IsHonestDisk, IsStill, Throughout}
+use Rattle.disk_store.specs.Disk.{State, IsHonestDisk, IsStill, KeepsLength, Throughout}
 use Rattle.disk_store.proofs.Laws.{only_bytes, begins, stays}
+use Rattle.mot_base.specs.Geometry.{packet_room}
 use Rattle.mot_base.specs.declared.refusal.Refusal.{Refusal}
 use Rattle.mot_journal.specs.Image.{Standing, stands_for}
 use Rattle.mot_journal.specs.Journal.{HasRecords}
+use Rattle.mot_player.specs.Place.{opened_place}
+use Rattle.mot_player.specs.Turn.{turn_of_carousel}
+use Rattle.mot_program.specs.Serving.{OpensTo}
 use Rattle.mot_repository.specs.Repository.{RepositoryView, Agrees, IsOf, Holds}
 use Rattle.mot_repository.specs.Opening.{IsOpened}
+use Rattle.mot_server.specs.Server.{ServerView, place_in}
+use Rattle.mot_session.specs.State.{ServerState, Leads, state_of}
 
 same-standing : (r : Result Standing Refusal) (a b : Standing) → r ≡ Ok a → r ≡ Ok b → a ≡ b
 same-standing r a b is was = let e : Ok a ≡ Ok b = sym is ∙ was in cc
 
+-- each image that a crash may leave stands for this
+abbrev pub AllAre : Standing → State → Type 0
+AllAre s state = (image : List ℕ) → state.MayLeave image → IsOf s image
+
 -- nothing is loose, so what it stands for holds
-pub opened_holds : (old new : State) (view : RepositoryView) (s : Standing) → IsOf s old.bytes → IsOpened old new view → new.IsHonest
-    → IsHonestDisk new → IsStill old new → IsFalse view.halted → Holds view s new
-opened_holds old new view s image opened honest sound still going = record {
-  going = going;
-  agrees = subst (λ d. Agrees view d) (same-standing (stands_for old.bytes) opened.standing s opened.stands image.stands) opened.agrees;
-  records = opened.records;
-  journal = record {
-    going = opened.unspent;
-    count = opened.count;
-    honest = honest;
-    each = λ c left. subst (λ d. HasRecords view.journal opened.records d) (sym (only_bytes new sound opened.firm c left ∙ still.bytes))
-        (record { read = opened.read; clean = image.clean });
-  };
-  each = λ c left. subst (λ d. IsOf s d) (sym (only_bytes new sound opened.firm c left ∙ still.bytes)) image;
-}
+pub opened_holds : (start old : State) (view : RepositoryView) (s : Standing)
+    → IsHonestDisk start → AllAre s start → IsOpened start old view → old.IsHonest
+    → IsHonestDisk old → IsStill start old → IsFalse view.halted → Holds view s old
+opened_holds start old view s before all opened honest sound still going =
+    let image = all start.bytes before.bytes in
+    let only : (c : List ℕ) → old.MayLeave c → start.bytes ≡ c =
+    λ c left. sym (only_bytes old sound opened.firm c left ∙ still.bytes) in
+    record {
+      going = going;
+      agrees = subst (λ d. Agrees view d)
+          (same-standing (stands_for start.bytes) opened.standing s opened.stands image.stands)
+          opened.agrees;
+      records = opened.records;
+      journal = record {
+        going = opened.unspent;
+        count = opened.count;
+        honest = honest;
+        each = λ c left. subst (λ d. HasRecords view.journal opened.records d) (only c left)
+            (record { read = opened.read; clean = image.clean });
+      };
+      each = λ c left. subst (λ d. IsOf s d) (only c left) image;
+    }
 
 -- no image came while it was opened
-pub opened_throughout : (old new : State) (P : List ℕ → Type 0) → IsHonestDisk old → ((c : List ℕ) → old.MayLeave c → P c)
-    → IsStill old new → Throughout old new P
-opened_throughout old new P sound here still = stays old old new P (begins old P sound here) still.time
+pub opened_throughout : (start old : State) (P : List ℕ → Type 0) → IsHonestDisk start
+    → ((c : List ℕ) → start.MayLeave c → P c) → IsStill start old → Throughout start old P
+opened_throughout start old P sound here still =
+    stays start start old P (begins start P sound here) still.time
+
+-- a session on a server that was opened is one from the disk's standing on
+pub opens_to : {D : Type 0} (state : D → State) (start : D) (server new : ServerView D)
+    (P : ServerState → ServerState → Type 0)
+    → ((disk : D) → (state disk).IsHonest → IsHonestDisk (state disk))
+    → KeepsLength (state start) (state server.disk)
+    → ((state server.disk).IsHonest → IsOpened (state start) (state server.disk) server.view)
+    → ((state server.disk).IsHonest → IsStill (state start) (state server.disk))
+    → IsFalse server.view.halted
+    → ((s : Standing) → Agrees server.view s
+    → place_in server s ≡ opened_place s.geometry.address (packet_room s.geometry)
+    s.geometry.segment_size (turn_of_carousel s.carousel s.geometry.segment_size))
+    → KeepsLength (state server.disk) (state new.disk)
+    → Leads state server new P → OpensTo (state start) (state new.disk) P
+opens_to state start server new P sound opens opened still going at_start keeps leads s honest all =
+    let was = keeps.was_honest honest in
+    let holds = opened_holds (state start) (state server.disk) server.view s
+    (sound start (opens.was_honest was)) all (opened was) was (sound server.disk was) (still was)
+    going in
+    let led = leads s (record { agrees = holds.agrees; holds = λ _. holds }) honest in (
+      state_of server s (state server.disk),
+      state_of new led.0 (state new.disk),
+      record { standing = refl; opened = at_start s holds.agrees; going = going },
+      (λ on. (led.1.holds on).each),
+      led.2,
+    )

@@ -3,4 +3,5 @@ pub mod Files
 pub mod Options
 pub mod Program
 pub mod Report
+pub mod Serving
 pub mod Task

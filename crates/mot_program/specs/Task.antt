@@ -4,7 +4,7 @@ use Rattle.clap.specs.Words.{IsAmong, Row, Text, fault_of, first_of, subcommand_
 use Rattle.clap.specs.declared.error.ErrorKind.{ErrorKind}
 use Rattle.clap.specs.declared.error.ErrorKind.TheVariants.{DisplayHelp}
 use Rattle.mot_program.specs.declared.task.Task.{Task}
-use Rattle.mot_program.specs.declared.task.Task.TheVariants.{Memory, Format, Check, Migrate}
+use Rattle.mot_program.specs.declared.task.Task.TheVariants.{Memory, Format, Serve, Check, Migrate}
 use Rattle.mot_program.specs.Command.{program_app}
 use Rattle.mot_program.specs.Options.{GiveGeometry}
 
@@ -17,6 +17,7 @@ abbrev pub IsTask : Text → List Row → Task → Type 0
 IsTask name rows (Memory geometry) = (name ≡ codes "memory") × GiveGeometry rows geometry
 IsTask name rows (Format path geometry) =
     (name ≡ codes "format") × NameDisk rows path.now × GiveGeometry rows geometry
+IsTask name rows (Serve path) = (name ≡ codes "serve") × NameDisk rows path.now
 IsTask name rows (Check path) = (name ≡ codes "check") × NameDisk rows path.now
 IsTask name rows (Migrate path) = (name ≡ codes "migrate") × NameDisk rows path.now
 

@@ -9,7 +9,7 @@ use crate::command::command;
 use crate::formatting::format_file;
 use crate::migrating::migrate_file;
 use crate::printing::{explain, refuse};
-use crate::serving::serve_memory;
+use crate::serving::{serve_file, serve_memory};
 use crate::task::task_of;
 use disk_store::Start;
 use mot_base::Refusal;
@@ -89,6 +89,7 @@ fn execute<T: Files<File = File>, B: Start, R: Read, W: Write>(
     match task {
         Task::Memory(geometry) => serve_memory(alloc, geometry, reader, writer),
         Task::Format { path, geometry } => format_file(rt, path, start, &geometry, writer),
+        Task::Serve(path) => serve_file(rt, alloc, path, start, reader, writer),
         Task::Check(path) => check_file(rt, alloc, path, start, writer),
         Task::Migrate(path) => migrate_file(rt, alloc, path, start, writer),
     }

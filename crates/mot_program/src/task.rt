@@ -19,6 +19,8 @@ pub enum Task<'a> {
         /// The sizes of the disk.
         geometry: Geometry,
     },
+    /// Serve the disk of the file at this path.
+    Serve(&'a str),
     /// Tell what the disk of the file at this path keeps.
     Check(&'a str),
     /// Rewrite the disk of the file at this path into layout 2.
@@ -35,6 +37,7 @@ pub(crate) fn task_of<'a>(name: &str, words: &ArgMatches<'a>) -> Option<Task<'a>
             path: disk_of(words)?,
             geometry: geometry_of(words)?,
         }),
+        "serve" => Some(Task::Serve(disk_of(words)?)),
         "check" => Some(Task::Check(disk_of(words)?)),
         "migrate" => Some(Task::Migrate(disk_of(words)?)),
         _ => None,

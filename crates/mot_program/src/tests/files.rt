@@ -1,6 +1,6 @@
 //! Rows of commands on files. Each test makes a folder of its own where it runs, and takes it away
 //! again.
-use super::expect_served;
+use super::{expect_served, output};
 use std::alloc::{AllocError, Global};
 use std::fs;
 use std::fs::File;
@@ -176,5 +176,53 @@ fn what_is_no_disk(rt: HostRuntime) -> Result<(), Fail> {
         expect_refusal(&rt, alloc, empty.as_slice(), b"motcar: 17 NotFormatted\n");
     }
     fs::remove_dir_all(&rt, "none.test")?;
+    Ok(())
+}
+
+// What was put is there when the file is opened again, and is played from the beginning of a turn.
+#[test]
+fn a_disk_is_served_twice(rt: HostRuntime) -> Result<(), Fail> {
+    let alloc = rt.alloc();
+    make_empty_folder(&rt, "serve.test")?;
+    let path = "serve.test/disk";
+    expect_output(&rt, alloc, &["format", path], b"formatted 84032\n");
+    let put = b"put a 2 3 - 0102030405\nlist\n";
+    let done = b"done object 2 directory 3\ncarousel 0 3 3 1\nobject 2 0 2 3 5 a -\n";
+    expect_served(&rt, alloc, &["serve", path], put, 0, done, b"");
+    let played = output(&rt, alloc, &["serve", path], b"list\nturn\n");
+    assert!(rt; played.starts_with(b"carousel 0 3 3 1\nobject 2 0 2 3 5 a -\npacket 4c0127"));
+    assert_eq!(rt; played.get(142..155), Some(b"packet 1c0110".as_slice()));
+    assert!(rt; played.ends_with(b" end\n"));
+    fs::remove_dir_all(&rt, "serve.test")?;
+    Ok(())
+}
+
+// A file that is not there, and one that is no disk.
+#[test]
+fn what_is_not_served(rt: HostRuntime) -> Result<(), Fail> {
+    let alloc = rt.alloc();
+    make_empty_folder(&rt, "unserved.test")?;
+    fs::write(&rt, "unserved.test/short", &vec![in alloc; 0u8; 63]?)?;
+    let fault = b"motcar: 15 DeviceFault\n";
+    let none = b"motcar: 17 NotFormatted\n";
+    expect_served(
+        &rt,
+        alloc,
+        &["serve", "unserved.test/missing"],
+        b"list\n",
+        1,
+        b"",
+        fault,
+    );
+    expect_served(
+        &rt,
+        alloc,
+        &["serve", "unserved.test/short"],
+        b"list\n",
+        1,
+        b"",
+        none,
+    );
+    fs::remove_dir_all(&rt, "unserved.test")?;
     Ok(())
 }

@@ -19,7 +19,7 @@ returns-clause-under g c = λ s honest each.
     let now = subst (λ d. (state d).IsHonest) c.into_disk.ensures honest in
     let was = c.migrate.ensures.keeps.was_honest now in
     let sound = g.met.D.Disk.sound c.args.disk (opens.keeps.was_honest was) in
-    let holds = opened_holds (state c.args.disk) (state server.disk) server.view s (each (state c.args.disk).bytes sound.bytes)
+    let holds = opened_holds (state c.args.disk) (state server.disk) server.view s sound each
     (opens.opened was) was (g.met.D.Disk.sound server.disk was) (opens.still was) opens.going in
     let first = opened_throughout (state c.args.disk) (state server.disk) (IsOf s) sound each (opens.still was) in
     subst (λ d. Throughout (state c.args.disk) (state d) (IsOf s)) (sym c.into_disk.ensures)
@@ -52,7 +52,7 @@ returns-clause-done g c =
               is_two = λ s honest each image left.
                   let was = c.migrate.ensures.keeps.was_honest (subst (λ d. (state d).IsHonest) c.into_disk.ensures honest) in
                   let sound = g.met.D.Disk.sound c.args.disk (opens.keeps.was_honest was) in
-                  let holds = opened_holds (state c.args.disk) (state server.disk) server.view s (each (state c.args.disk).bytes sound.bytes)
+                  let holds = opened_holds (state c.args.disk) (state server.disk) server.view s sound each
                   (opens.opened was) was (g.met.D.Disk.sound server.disk was) (opens.still was) opens.going in
                   let holds_then = calls.ok s holds in
                   let here = subst (λ d. (state d).MayLeave image) c.into_disk.ensures left in

@@ -1,31 +1,30 @@
-use Rattle.std.proofs.Common.{refl, inl, inr}
-use Rattle.mot_program.proofs.Ends.{fault-cases}
+use Rattle.std.proofs.Common.{inl, inr, refl}
+use Rattle.mot_program.proofs.Ends.{OnOk-one, OnErr-one}
 use Rattle.mot_program.proofs.serving.serve_memory.Goals as goal
 
-pub returns-in-None-clause-whole : goal.returns-in-None-clause-whole
-returns-in-None-clause-whole g c = let r = c.serve.ensures.ended c.in-None.is in record {
-  valid = c.in_ok-server.ensures.valid refl;
-  input = r.0;
-  taken = r.1;
-  at_end = r.2;
-  after = c.serve.new.server;
-  served = (rw c.in_ok-server.ensures.made at r.4);
-}
+pub returns-clause-whole : goal.returns-clause-whole
+returns-clause-whole g c = OnOk-one c.serve_disk.result.result (λ served. record {
+  before = c.format.new.disk;
+  after = c.serve_disk.result.disk;
+  begun = record {
+    valid = c.if-not-is_valid.ensures.0 refl;
+    formatted = λ image left. let r = c.in_ok-format.ensures.ok tt image left in
+        record { stands = r.0; clean = r.1 };
+  };
+  served = served;
+}) c.serve_disk.ensures.whole
 
 pub returns-clause-part : goal.returns-clause-part
-returns-clause-part g c = fault-cases _ c.serve.result.fault c.in-Some.refusal c.in-Some.is c.serve.ensures.faults
-    (λ e. inl ((c.serve.ensures.none e).2))
-    (λ e. let r = c.serve.ensures.unread e in inr (record {
-      valid = c.in_ok-server.ensures.valid refl;
-      input = r.0;
-      taken = r.1;
-      after = c.serve.new.server;
-      ended = inl (rw c.in_ok-server.ensures.made at r.3);
-    }))
-    (λ e. let r = c.serve.ensures.unwritten e in inr (record {
-      valid = c.in_ok-server.ensures.valid refl;
-      input = r.0;
-      taken = r.1;
-      after = c.serve.new.server;
-      ended = inr (c.serve.result.lines, (rw c.in_ok-server.ensures.made at r.2));
-    }))
+returns-clause-part g c = OnErr-one c.serve_disk.result.result (λ stopped. elim stopped [
+  | inl unserved ↦ inl unserved.kept
+  | inr served ↦ inr (record {
+    before = c.format.new.disk;
+    after = c.serve_disk.result.disk;
+    begun = record {
+      valid = c.if-not-is_valid.ensures.0 refl;
+      formatted = λ image left. let r = c.in_ok-format.ensures.ok tt image left in
+          record { stands = r.0; clean = r.1 };
+    };
+    served = served;
+  })
+]) c.serve_disk.ensures.part
