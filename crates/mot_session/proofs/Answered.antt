@@ -254,10 +254,10 @@ pub Decides-shown : (state : ServerState) (request : Result Line Refusal) (decis
     → (IsFalse state.halted → result ≡ decision)
     → (IsFalse state.halted → Decides state request decision state) → Decides state request result state
 Decides-shown state request decision result needs is isnt decides = by_case state.halted refl
-    where
-  by_case : (b : Bool) → state.halted ≡ b → Decides state request result state
-  by_case true e = subst (λ d. Decides state request d state) (sym (is e)) (Answers-halted state request needs e)
-  by_case false e = subst (λ d. Decides state request d state) (sym (isnt e)) (decides e)
+  where
+    by_case : (b : Bool) → state.halted ≡ b → Decides state request result state
+    by_case true e = subst (λ d. Decides state request d state) (sym (is e)) (Answers-halted state request needs e)
+    by_case false e = subst (λ d. Decides state request d state) (sym (isnt e)) (decides e)
 
 -- the line was parsed, or there was no memory for it
 
@@ -308,10 +308,10 @@ written_by-parsed decision request asked s start now (inr e) time =
     (subst (λ l. Throughout start now (StandsAfterSome s [] l)) (nothing (may_be_done decision))
     (subst (λ r. Throughout start now (StandsAfterSome s [] (written_by decision r))) e.0 time))
     (λ image is. more s [] [] (written_by decision asked) image is)
-    where
-  nothing : (b : Bool) → empty b ≡ []
-  nothing true = refl
-  nothing false = refl
+  where
+    nothing : (b : Bool) → empty b ≡ []
+    nothing true = refl
+    nothing false = refl
 
 -- ---- a line
 

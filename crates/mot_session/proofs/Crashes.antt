@@ -190,19 +190,19 @@ module _ (start now : State) (between : ServerState) (x : Exchange) (sound_start
       (λ going. none_of x.after.standing [] (failed ++ failed_in x) x.after.standing image
       (after_none x.after.standing) (each going image here))
       (halted_or_not x.after.halted)
-      where
-    halting : Outcome between x.after (accepted_in x) (failed_in x) → IsFalse between.halted
-        → IsTrue x.after.halted → (image : List ℕ)
-        → StandsAfterSome between.standing [] (accepted_in x ++ failed_in x) image
-        → StandsAfterSome x.after.standing [] (failed ++ failed_in x) image
-    halting (nothing none fails standing same) was is image so =
-        absurd (not_halted x.after.halted is (same ∙ was))
-    halting (one c d e fails going same step) was is image so =
-        absurd (not_halted x.after.halted is (same ∙ was))
-    halting (halts none going h standing) was is image so =
-        subst (λ s. StandsAfterSome s [] (failed ++ failed_in x) image) (sym standing)
-        (subst (λ l. StandsAfterSome between.standing [] (l ++ failed_in x) image) (sym (fine was))
-        (subst (λ l. StandsAfterSome between.standing [] (l ++ failed_in x) image) none so))
+    where
+      halting : Outcome between x.after (accepted_in x) (failed_in x) → IsFalse between.halted
+          → IsTrue x.after.halted → (image : List ℕ)
+          → StandsAfterSome between.standing [] (accepted_in x ++ failed_in x) image
+          → StandsAfterSome x.after.standing [] (failed ++ failed_in x) image
+      halting (nothing none fails standing same) was is image so =
+          absurd (not_halted x.after.halted is (same ∙ was))
+      halting (one c d e fails going same step) was is image so =
+          absurd (not_halted x.after.halted is (same ∙ was))
+      halting (halts none going h standing) was is image so =
+          subst (λ s. StandsAfterSome s [] (failed ++ failed_in x) image) (sym standing)
+          (subst (λ l. StandsAfterSome between.standing [] (l ++ failed_in x) image) (sym (fine was))
+          (subst (λ l. StandsAfterSome between.standing [] (l ++ failed_in x) image) none so))
 
   stored-more : (before : ServerState) (xs : List Exchange) → Session before xs between
       → IsStored start failed before xs

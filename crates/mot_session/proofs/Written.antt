@@ -279,28 +279,28 @@ module _ {T : Type 0} (result : Result T WriteFault) (before mid after : ServerS
       → AnswersRequest result false before request after old new
   unfolding text_of
   answers-cut request a = (cut_short sents, refl, with result written)
-      where
-    with : (r : Result T WriteFault) → Writes r (refusal_line DeviceFault) now new
-        → AnswersWith r before request (cut_short sents) after old new
-    with (Ok done) w = record {
-      answers = decided (λ needs. going) a;
-      written = Appends-trans old now new (sent_lines sents) (refusal_line DeviceFault) so_far w;
-    }
-    with (Err fault) w = record {
-      begins = whole (decided (λ needs. going) a);
-      written = record {
-        written = sent_lines sents ++ w.written;
-        unwritten = w.unwritten;
-        split = ap (λ l. sent_lines sents ++ l) w.split
-            ∙ sym (append_assoc (sent_lines sents) w.written w.unwritten);
-        appended = Appends-trans old now new (sent_lines sents) w.written so_far w.appended;
-      };
-      in_order = λ first last e. absurd (not_played sents (first ++ last ∷ []) e);
-      cut_in_order = λ others e.
-          let same : others ≡ sents = sym (ap sents_of e) in
-          let long : length (sent_lines others) ≡ length (sent_lines sents) = ap (λ l. length (sent_lines l)) same in
-          omega (arith, long, length-append (sent_lines sents) w.written);
-    }
+    where
+      with : (r : Result T WriteFault) → Writes r (refusal_line DeviceFault) now new
+          → AnswersWith r before request (cut_short sents) after old new
+      with (Ok done) w = record {
+        answers = decided (λ needs. going) a;
+        written = Appends-trans old now new (sent_lines sents) (refusal_line DeviceFault) so_far w;
+      }
+      with (Err fault) w = record {
+        begins = whole (decided (λ needs. going) a);
+        written = record {
+          written = sent_lines sents ++ w.written;
+          unwritten = w.unwritten;
+          split = ap (λ l. sent_lines sents ++ l) w.split
+              ∙ sym (append_assoc (sent_lines sents) w.written w.unwritten);
+          appended = Appends-trans old now new (sent_lines sents) w.written so_far w.appended;
+        };
+        in_order = λ first last e. absurd (not_played sents (first ++ last ∷ []) e);
+        cut_in_order = λ others e.
+            let same : others ≡ sents = sym (ap sents_of e) in
+            let long : length (sent_lines others) ≡ length (sent_lines sents) = ap (λ l. length (sent_lines l)) same in
+            omega (arith, long, length-append (sent_lines sents) w.written);
+      }
 
   pub AnswersRequest-next_cut : (count : ℕ) → made < count → Sends before made sents mid
       → AnswersRequest result false before (Ok (asks.Next count)) after old new

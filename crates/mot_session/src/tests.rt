@@ -1,10 +1,15 @@
 mod commands;
+mod halting;
 mod playing;
 mod receiving;
 mod streams;
 
 use super::*;
+use disk_store::MemoryDisk;
 use mot_base::Refusal;
+use mot_journal::format;
+use mot_packets::Packet;
+use mot_player::Played;
 use std::alloc::Global;
 use std::cell::Cell;
 use std::io::{Read, Write};
@@ -25,23 +30,81 @@ const DIRECTORY: &[u8] = b"raw 6 1 0000000d000000000004000000\n";
 const DIRECTORY_PACKETS: &[u8] = b"packet 08011376008000120001000d0000000d0000000000049c3d\n\
     packet 140105000000f10d000000000000000000000000000017ad\n";
 
+/// A server on a disk in memory.
+type Server = mot_server::Server<MemoryDisk>;
+
+/// A disk of this geometry that was just made.
+fn new_disk(alloc: Global, geometry: &Geometry) -> Result<MemoryDisk, Refusal> {
+    let Some(mut disk) = MemoryDisk::new(alloc, geometry.length()) else {
+        return Err(Refusal::OutOfMemory);
+    };
+    format(&mut disk, geometry)?;
+    Ok(disk)
+}
+
+/// An open server, or why it was refused.
+fn open(alloc: Global, disk: MemoryDisk) -> Result<Server, Refusal> {
+    match Server::open(alloc, disk) {
+        Ok(server) => Ok(server),
+        Err(refused) => Err(refused.refusal),
+    }
+}
+
+/// A server on a disk of this geometry that was just made.
+fn new_server(alloc: Global, geometry: &Geometry) -> Result<Server, Refusal> {
+    open(alloc, new_disk(alloc, geometry)?)
+}
+
 /// A server of the default geometry but for its packet length.
 fn server_of(alloc: Global, packet_length: u16) -> Result<Server, Refusal> {
     let geometry = Geometry {
         packet_length,
         ..Geometry::default()
     };
-    Server::new(alloc, geometry)
+    new_server(alloc, &geometry)
 }
 
-/// Serves; what is promised of it is not needed here.
+// The calls of a server, of which the tests need no promise: so they are cheap to prove.
+
+/// Serves within so many reads.
+fn run_within<R: Read, W: Write>(
+    alloc: Global,
+    reader: &mut R,
+    writer: &mut W,
+    server: &mut Server,
+    reads: u32,
+) -> ServeEnd {
+    serve(alloc, reader, writer, server, u64::from(reads))
+}
+
+/// Serves.
 fn run<R: Read, W: Write>(
     alloc: Global,
     reader: &mut R,
     writer: &mut W,
     server: &mut Server,
 ) -> ServeEnd {
-    serve(alloc, reader, writer, server, 100_000)
+    run_within(alloc, reader, writer, server, 100_000)
+}
+
+/// Plays a packet.
+fn play(server: &mut Server) -> Result<Played, Refusal> {
+    server.next_packet()
+}
+
+/// Plays a turn.
+fn play_turn(alloc: Global, server: &mut Server) -> Result<Vec<Packet>, Refusal> {
+    server.play_turn(alloc)
+}
+
+/// Whether the server is halted.
+fn is_halted(server: &Server) -> bool {
+    server.halted()
+}
+
+/// The server on its disk, opened again.
+fn reopened(alloc: Global, server: Server) -> Result<Server, Refusal> {
+    open(alloc, server.into_disk())
 }
 
 /// What the server answers to an input that ends.
@@ -173,7 +236,7 @@ fn no_more_reads_than_are_given(rt: HostRuntime) -> Result<(), Fail> {
         };
         let mut written = Vec::new(alloc);
         let mut server = server_of(alloc, 24)?;
-        let end = serve(alloc, &mut reader, &mut written, &mut server, 3);
+        let end = run_within(alloc, &mut reader, &mut written, &mut server, 3);
         assert_eq!(rt; end.fault, Some(Refusal::ReadFault));
         assert_eq!(rt; end.lines, lines);
         assert_eq!(rt; reader.reads, 3);
@@ -242,7 +305,7 @@ fn replies_before_the_end(rt: HostRuntime) -> Result<(), Fail> {
         flushes: &flushes,
     };
     let mut server = server_of(alloc, 24)?;
-    let end = serve(alloc, &mut reader, &mut writer, &mut server, 5);
+    let end = run_within(alloc, &mut reader, &mut writer, &mut server, 5);
     assert_eq!(rt; end.lines, 5);
     assert_eq!(rt; reader.given, 5);
     assert_eq!(rt; writer.taken.len(), 5 * HELLO_PACKET.len());

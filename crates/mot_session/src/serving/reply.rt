@@ -104,10 +104,7 @@ fn write_next<W: Write, D: Disk>(
 
 /// Plays the packets up to the first that ends a turn, or those before a body that can't be read,
 /// and writes a line of each before the next is made.
-fn write_turn<W: Write, D: Disk>(
-    writer: &mut W,
-    server: &mut Server<D>,
-) -> Result<(), WriteFault>
+fn write_turn<W: Write, D: Disk>(writer: &mut W, server: &mut Server<D>) -> Result<(), WriteFault>
     ensures reads { OnlyReads server.old server.new
         (D.state server.old.disk) (D.state server.new.disk) }
     ensures answers { (s : Standing) → Holds server.old.view s (D.state server.old.disk)

@@ -1,9 +1,8 @@
 //! The carousel's lines and their replies.
 use super::streams::FailingWriter;
-use super::{answers, replies, run, server_of};
-use crate::{Geometry, Server};
+use super::{answers, new_server, replies, run, server_of};
+use crate::Geometry;
 use mot_base::Refusal;
-use mot_carousel::{Body, Command, Content, Done, Mime, Name, Period};
 use std::alloc::Global;
 use std::test::Fail;
 
@@ -85,7 +84,12 @@ fn longest_body(rt: HostRuntime) -> Result<(), Fail> {
     let mut line = Vec::from_slice(alloc, b"put a 2 3 - ")?;
     line.extend_from_slice(&repeat(alloc, b"55", 262_144)?)?;
     line.extend_from_slice(b"\nlist\n")?;
-    let written = replies(alloc, 24, &line)?;
+    let geometry = Geometry {
+        data_area: 262_144,
+        ..Geometry::default()
+    };
+    let mut server = new_server(alloc, &geometry)?;
+    let written = answers(alloc, &mut server, &line)?;
     let output = b"done object 2 directory 3\ncarousel 0 3 3 1\nobject 2 0 2 3 262144 a -\n";
     assert_eq!(rt; written.as_slice(), output.as_slice());
     Ok(())
@@ -118,7 +122,7 @@ fn greatest_number_of_objects(rt: HostRuntime) -> Result<(), Fail> {
             objects,
             ..Geometry::default()
         };
-        let mut server = Server::new(alloc, geometry)?;
+        let mut server = new_server(alloc, &geometry)?;
         answers(alloc, &mut server, &puts(alloc, objects)?)?;
         let written = answers(alloc, &mut server, b"put other 2 3 - 00")?;
         assert_eq!(rt;
@@ -129,7 +133,7 @@ fn greatest_number_of_objects(rt: HostRuntime) -> Result<(), Fail> {
         let written = answers(alloc, &mut server, line.as_bytes())?;
         assert_eq!(rt; written.as_slice(), reply.as_bytes(), "{objects}");
     }
-    let mut server = Server::new(alloc, Geometry::default())?;
+    let mut server = server_of(alloc, 96)?;
     let written = answers(alloc, &mut server, &puts(alloc, 17)?)?;
     assert!(rt; written.ends_with(b"directory 33\nrefused 11 TooManyObjects\n"));
     Ok(())
@@ -175,26 +179,5 @@ fn broken_off_reply(rt: HostRuntime) -> Result<(), Fail> {
         written.as_slice(),
         b"carousel 0 3 3 1\nobject 2 0 2 3 1 a -\n".as_slice()
     );
-    Ok(())
-}
-
-#[test]
-fn executed_commands(rt: HostRuntime) -> Result<(), Fail> {
-    let alloc = rt.alloc();
-    let mut server = server_of(alloc, 24)?;
-    let put = Command::Put {
-        name: Name::new(Vec::from_slice(alloc, b"a")?)?,
-        content: Content::new(2, 3)?,
-        mime: Some(Mime::new(Vec::from_slice(alloc, b"image/png")?)?),
-        body: Body::new(Vec::from_slice(alloc, b"\x01\x02")?)?,
-    };
-    let Done { object, directory } = server.execute(alloc, &put)?;
-    assert_eq!(rt; object.map(|id| id.get()), Some(2));
-    assert_eq!(rt; directory.get(), 3);
-    assert_eq!(rt; server.execute(alloc, &put).err(), Some(Refusal::NameTaken));
-    let period = Command::Period(Period::new(5)?);
-    assert_eq!(rt; server.execute(alloc, &period)?.directory.get(), 4);
-    assert_eq!(rt; server.carousel().period.get(), 5);
-    assert_eq!(rt; server.carousel().objects.len(), 1);
     Ok(())
 }

@@ -1,7 +1,7 @@
 //! The packets of `next` and `turn` lines.
 use super::streams::{CountingWriter, FailingWriter};
-use super::{answers, has_packet, replies, run, server_of};
-use crate::{Geometry, Server};
+use super::{Server, answers, has_packet, new_server, play, play_turn, replies, run, server_of};
+use crate::Geometry;
 use mot_base::Refusal;
 use std::alloc::Global;
 use std::test::Fail;
@@ -108,7 +108,7 @@ fn indexes_of_groups(rt: HostRuntime) -> Result<(), Fail> {
         segment_size: 64,
         ..Geometry::default()
     };
-    let mut server = Server::new(alloc, geometry)?;
+    let mut server = new_server(alloc, &geometry)?;
     let written = answers(alloc, &mut server, TWO_SEGMENTS)?;
     let rows = [
         (194, "packet 380113740000001200020040"),
@@ -156,7 +156,7 @@ fn played_behind_a_fault(rt: HostRuntime) -> Result<(), Fail> {
 fn each_eighth_ends(server: &mut Server, count: u32) -> Result<bool, Fail> {
     let mut answer = true;
     for number in 0..count {
-        let played = server.next_packet()?;
+        let played = play(server)?;
         if played.ends_turn != (number % 8 == 7) {
             answer = false;
         }
@@ -171,7 +171,7 @@ fn packets_by_call(rt: HostRuntime) -> Result<(), Fail> {
     let put = REPLACED.get(..153).unwrap_or(REPLACED);
     answers(alloc, &mut server, put)?;
     assert!(rt; each_eighth_ends(&mut server, 16)?);
-    assert_eq!(rt; server.play_turn(alloc)?.len(), 8);
+    assert_eq!(rt; play_turn(alloc, &mut server)?.len(), 8);
     Ok(())
 }
 
@@ -184,7 +184,7 @@ fn a_refused_growth_of_a_turn(rt: HostRuntime) -> Result<(), Fail> {
     let Ok(mut server) = server_of(alloc, 24) else {
         return Ok(());
     };
-    let is_whole = match server.play_turn(alloc) {
+    let is_whole = match play_turn(alloc, &mut server) {
         Ok(packets) => {
             assert_eq!(rt; packets.len(), 2);
             true
@@ -196,7 +196,7 @@ fn a_refused_growth_of_a_turn(rt: HostRuntime) -> Result<(), Fail> {
     };
     let mut ends = [false; 4];
     for end in &mut ends {
-        *end = server.next_packet()?.ends_turn;
+        *end = play(&mut server)?.ends_turn;
     }
     assert_eq!(rt; ends, [!is_whole, is_whole, !is_whole, is_whole]);
     Ok(())

@@ -1,6 +1,6 @@
 //! What a receiver of our own makes of the packets that are played.
-use super::answers;
-use crate::{Geometry, Server};
+use super::{Server, answers, new_server, play, play_turn};
+use crate::Geometry;
 use mot_base::Refusal;
 use mot_packets::Packet;
 use std::alloc::Global;
@@ -67,9 +67,10 @@ fn server_of(alloc: Global, objects: u16, segment_size: u16) -> Result<Server, R
         objects,
         segment_size,
         packet_length: 24,
+        data_area: 262_144,
         ..Geometry::default()
     };
-    Server::new(alloc, geometry)
+    new_server(alloc, &geometry)
 }
 
 /// A hexadecimal digit.
@@ -125,7 +126,7 @@ fn bytes_of(alloc: Global, count: u32) -> Result<Vec<u8>, Refusal> {
 /// What a receiver makes of a turn.
 fn received_turn(alloc: Global, server: &mut Server) -> Result<Receiver, Fail> {
     let mut receiver = Receiver::new(alloc);
-    let packets = server.play_turn(alloc)?;
+    let packets = play_turn(alloc, server)?;
     for packet in packets.as_slice() {
         receiver.take_packet(packet.as_slice())?;
     }
@@ -156,7 +157,7 @@ fn beginning_of(packet: &Packet) -> Option<u8> {
 /// Plays up to the first packet of a body's group.
 fn play_to_body(server: &mut Server) -> Result<(), Fail> {
     for _ in 0..1_000 {
-        if beginning_of(&server.next_packet()?.packet) == Some(0x74) {
+        if beginning_of(&play(server)?.packet) == Some(0x74) {
             return Ok(());
         }
     }
@@ -178,8 +179,8 @@ fn withdraw_under_way(
     play_to_body(server)?;
     let line = withdraw_line(alloc, name)?;
     let _ = answers(alloc, server, line.as_slice())?;
-    let rest = server.next_packet()?.packet;
-    let next = server.next_packet()?.packet;
+    let rest = play(server)?.packet;
+    let next = play(server)?.packet;
     Ok((beginning_of(&rest), beginning_of(&next)))
 }
 

@@ -13,10 +13,10 @@ loop-init g c =
     let state = g.D.Disk.state c.args.server.now.disk in record {
       reads = reads-none c.args.server.now state;
       sent = λ s holds honest. (
-          [],
-          Sends-none (state_of c.args.server.now s state),
-          Appends-nil (g.W.Write.contents c.args.writer.now),
-        );
+        [],
+        Sends-none (state_of c.args.server.now s state),
+        Appends-nil (g.W.Write.contents c.args.writer.now),
+      );
     }
 
 pub returns-in_err-write_next_packet-clause-answers : goal.returns-in_err-write_next_packet-clause-answers

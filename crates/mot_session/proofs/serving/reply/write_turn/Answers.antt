@@ -12,11 +12,11 @@ loop-ends_turn-init g c =
     let state = g.D.Disk.state c.args.server.now.disk in record {
       reads = reads-none c.args.server.now state;
       sent = λ s holds honest. (
-          0,
-          [],
-          record { sends = Sends-none (state_of c.args.server.now s state); ends = refl },
-          Appends-nil (g.W.Write.contents c.args.writer.now),
-        );
+        0,
+        [],
+        record { sends = Sends-none (state_of c.args.server.now s state); ends = refl },
+        Appends-nil (g.W.Write.contents c.args.writer.now),
+      );
     }
 
 pub returns-in_err-ends_turn-clause-answers : goal.returns-in_err-ends_turn-clause-answers
