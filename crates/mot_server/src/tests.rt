@@ -1,5 +1,5 @@
-//! What no clause says: that calls succeed where there is memory and the disk does not fail, and the
-//! worked rows.
+//! What no clause says: that calls succeed where there is memory and the disk does not fail, and
+//! the headers of some packets.
 use super::*;
 use disk_store::{Disk, MemoryDisk};
 use mot_base::Refusal;
