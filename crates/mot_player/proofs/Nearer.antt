@@ -1,5 +1,7 @@
 -- Each packet brings the end of the turn nearer, whatever bytes a read gave.
-use Rattle.std.proofs.Common.{◌≡◌, ℕ, ◌+◌, ◌-◌, ◌<◌, ◌≤◌, Bool, false, List, [], ◌∷◌, Some, None, refl, sym, ap, ◌∙◌, subst, arith, length, length-drop, length-take-le, map, take, drop, vec_len, eq-eqb}
+use Rattle.std.proofs.Common.{◌≡◌, ℕ, ◌+◌, ◌-◌, ◌<◌, ◌≤◌, Bool, false, List, [], ◌∷◌, Some}
+use Rattle.std.proofs.Common.{None, refl, sym, ap, ◌∙◌, subst, arith, length, length-drop}
+use Rattle.std.proofs.Common.{length-take-le, map, take, drop, vec_len, eq-eqb}
 use Rattle.std.proofs.lemmas.Bool.{ne_eqb}
 use Rattle.std.proofs.lemmas.List.{length-replicate}
 use Rattle.std.specs.Prelude.{◌==◌, if◌then◌else◌, replicate}
@@ -7,7 +9,8 @@ use Rattle.mot_player.specs.Inner.Next.{IsNext, segment_of}
 use Rattle.mot_player.specs.Inner.Ready.{HasTaken, place_with, standing_of}
 use Rattle.mot_player.specs.Laws.{blank_bodies, bytes_due, bytes_left, group_bytes_of}
 use Rattle.mot_player.specs.Place.{UnderWay}
-use Rattle.mot_player.specs.Standing.{AreBodiesFor, BodyPlan, TurnPlan, entities_of, entity_bytes, entity_length, segments_from, turn_of}
+use Rattle.mot_player.specs.Standing.{AreBodiesFor, BodyPlan, TurnPlan, entities_of}
+use Rattle.mot_player.specs.Standing.{entity_bytes, entity_length, segments_from, turn_of}
 use Rattle.mot_player.specs.declared.part.Part.{Part}
 use Rattle.mot_player.specs.declared.state.State.{State}
 use Rattle.mot_player.proofs.Answered.{room-some, sent_from}
@@ -15,8 +18,8 @@ use Rattle.mot_player.proofs.Ending.{packet-less}
 use Rattle.mot_player.proofs.NextSegment.{length-at}
 
 -- a part of an entity has so many bytes
-length-part : (plan : TurnPlan) (bodies : List (List ℕ)) (k at len : ℕ) → AreBodiesFor plan bodies →
-    k < length plan.bodies + 1 → at + len ≤ entity_length plan k →
+length-part : (plan : TurnPlan) (bodies : List (List ℕ)) (k at len : ℕ) →
+    AreBodiesFor plan bodies → k < length plan.bodies + 1 → at + len ≤ entity_length plan k →
     length (take len (drop at (entity_bytes plan bodies k))) ≡ len
 length-part plan bodies k at len are l range =
     let bytes : List ℕ = entity_bytes plan bodies k in
@@ -25,29 +28,33 @@ length-part plan bodies k at len are l range =
     length-take-le len (drop at bytes) (omega (arith, whole, left, range))
 
 -- the group of the next part has come
-pub taken : (old new : State) (bodies : List (List ℕ)) (p : Part) → AreBodiesFor old.turn bodies →
-    IsNext old.turn old.segment_size old.entity old.segment p → p.entity < length old.turn.bodies + 1 →
-    p.from + p.len ≤ entity_length old.turn p.entity → new.turn ≡ old.turn → new.segment_size ≡ old.segment_size →
-    new.entity ≡ p.next_entity → new.segment ≡ p.next_segment → vec_len new.group ≡ p.len + 11 →
-    HasTaken old new bodies
+pub taken : (old new : State) (bodies : List (List ℕ)) (p : Part) →
+    AreBodiesFor old.turn bodies → IsNext old.turn old.segment_size old.entity old.segment p →
+    p.entity < length old.turn.bodies + 1 →
+    p.from + p.len ≤ entity_length old.turn p.entity → new.turn ≡ old.turn →
+    new.segment_size ≡ old.segment_size → new.entity ≡ p.next_entity →
+    new.segment ≡ p.next_segment → vec_len new.group ≡ p.len + 11 → HasTaken old new bodies
 taken old new bodies p are next inside range same_turn same_size entity segment len =
     let long = length-part old.turn bodies p.entity p.from p.len are inside range in
     record {
       segment = segment_of old.turn bodies p;
-      others = segments_from old.segment_size (entities_of (turn_of old.turn bodies)) p.next_entity p.next_segment;
+      others = segments_from old.segment_size (entities_of (turn_of old.turn bodies))
+          p.next_entity p.next_segment;
       next = next bodies are;
       len = omega (arith, len, long);
       waiting = rw (same_turn, same_size, entity, segment) refl;
     }
 
 blank-lengths : (plans : List BodyPlan) →
-    map (length {A = ℕ}) (map (λ (b : BodyPlan). replicate {A = ℕ} b.length 0) plans) ≡ map (λ (b : BodyPlan). b.length) plans
+    map (length {A = ℕ}) (map (λ (b : BodyPlan). replicate {A = ℕ} b.length 0) plans)
+    ≡ map (λ (b : BodyPlan). b.length) plans
 blank-lengths [] = refl
 blank-lengths (b ∷ plans) =
-    ap (λ (n : ℕ). n ∷ map (length {A = ℕ}) (map (λ (p : BodyPlan). replicate {A = ℕ} p.length 0) plans)) (length-replicate {A = ℕ} b.length 0)
+    let others : List (List ℕ) = map (λ (p : BodyPlan). replicate {A = ℕ} p.length 0) plans in
+    ap (λ (n : ℕ). n ∷ map (length {A = ℕ}) others) (length-replicate {A = ℕ} b.length 0)
     ∙ ap (λ ns. b.length ∷ ns) (blank-lengths plans)
 
-pub are-blank : (plan : TurnPlan) → AreBodiesFor plan (blank_bodies plan)
+are-blank : (plan : TurnPlan) → AreBodiesFor plan (blank_bodies plan)
 are-blank plan = blank-lengths plan.bodies
 
 -- a packet of the group that is under way
@@ -56,34 +63,41 @@ pub nearer-under_way : (state : State) (bodies : List (List ℕ)) → (state.sen
     bytes_due (sent_from state bodies).place < bytes_due (place_with state bodies)
 nearer-under_way state bodies some left goes_on =
     let u : UnderWay = record { group = state.group.items; sent = state.sent } in
-    let under_way : (if state.sent == 0 then None else Some u) ≡ Some u = rw (ne_eqb state.sent 0 some) refl in
-    rw under_way
-    (packet-less (place_with state bodies) state.group.items state.sent (room-some state.full_length) (omega (arith, left)) goes_on)
+    let under_way : (if state.sent == 0 then None else Some u) ≡ Some u =
+    rw (ne_eqb state.sent 0 some) refl in
+    rw under_way (packet-less (place_with state bodies) state.group.items state.sent
+    (room-some state.full_length) (omega (arith, left)) goes_on)
 
 -- the first packet of a group that was begun
-pub nearer-begun : (old state : State) (bodies : List (List ℕ)) → old.sent ≡ 0 → state.sent ≡ 0 →
-    HasTaken old state bodies → (sent_from state bodies).ends_turn ≡ false →
+pub nearer-begun : (old state : State) (bodies : List (List ℕ)) → old.sent ≡ 0 →
+    state.sent ≡ 0 → HasTaken old state bodies → (sent_from state bodies).ends_turn ≡ false →
     bytes_due (sent_from state bodies).place < bytes_due (place_with old bodies)
 nearer-begun old state bodies none none_sent taken goes_on =
-    let due : bytes_due (place_with old bodies) ≡ length taken.segment.bytes + 11 + group_bytes_of taken.others =
+    let due : bytes_due (place_with old bodies)
+    ≡ length taken.segment.bytes + 11 + group_bytes_of taken.others =
     rw (eq-eqb old.sent 0 none) (ap group_bytes_of taken.next) in
-    let less = packet-less (place_with state bodies) state.group.items state.sent (room-some state.full_length)
-    (omega (arith, none_sent, taken.len)) goes_on in
+    let less = packet-less (place_with state bodies) state.group.items state.sent
+    (room-some state.full_length) (omega (arith, none_sent, taken.len)) goes_on in
     omega (arith, less, due, none_sent, taken.len, ap group_bytes_of taken.waiting)
 
 -- as it is told of standings: `mid` is the state that sends
-pub left-less : (old mid new : State) (ends : Bool) → mid.turn ≡ old.turn → new.turn ≡ mid.turn →
-    ((bodies : List (List ℕ)) → AreBodiesFor mid.turn bodies → ends ≡ (sent_from mid bodies).ends_turn) →
+pub left-less : (old mid new : State) (ends : Bool) → mid.turn ≡ old.turn →
+    new.turn ≡ mid.turn →
+    ((bodies : List (List ℕ)) → AreBodiesFor mid.turn bodies →
+    ends ≡ (sent_from mid bodies).ends_turn) →
     ((bodies : List (List ℕ)) → place_with new bodies ≡ (sent_from mid bodies).place) →
-    ((bodies : List (List ℕ)) → AreBodiesFor old.turn bodies → (sent_from mid bodies).ends_turn ≡ false →
+    ((bodies : List (List ℕ)) → AreBodiesFor old.turn bodies →
+    (sent_from mid bodies).ends_turn ≡ false →
     bytes_due (sent_from mid bodies).place < bytes_due (place_with old bodies)) →
     ends ≡ false → bytes_left (standing_of new) < bytes_left (standing_of old)
 left-less old mid new ends kept same ends_is place less goes_on =
     let bodies : List (List ℕ) = blank_bodies old.turn in
     let are : AreBodiesFor old.turn bodies = are-blank old.turn in
-    let own : AreBodiesFor mid.turn bodies = subst (λ (t : TurnPlan). AreBodiesFor t bodies) (sym kept) are in
+    let own : AreBodiesFor mid.turn bodies =
+    subst (λ (t : TurnPlan). AreBodiesFor t bodies) (sym kept) are in
     let here : bytes_left (standing_of new) ≡ bytes_due (sent_from mid bodies).place =
-    ap (λ (t : TurnPlan). bytes_due (place_with new (blank_bodies t))) (same ∙ kept) ∙ ap bytes_due (place bodies) in
+    ap (λ (t : TurnPlan). bytes_due (place_with new (blank_bodies t))) (same ∙ kept)
+    ∙ ap bytes_due (place bodies) in
     let below : bytes_due (sent_from mid bodies).place < bytes_left (standing_of old) =
     less bodies are (sym (ends_is bodies own) ∙ goes_on) in
     omega (arith, here, below)

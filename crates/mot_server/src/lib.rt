@@ -15,3 +15,6 @@ pub use mot_repository::Refused;
 pub use restarting::{Restarted, restart};
 pub use running::RunEnd;
 pub use server::Server;
+
+#[cfg(test)]
+mod tests;

@@ -1,6 +1,6 @@
 //! The server: a repository, and a player of what it keeps.
-ghost use Rattle.std.specs.Prelude.{◌≡◌, ◌<◌, ◌≤◌, ◌↔◌, ℕ, List, true, false, Ok, OnOk, OnErr, IfOk};
-ghost use Rattle.std.specs.Prelude.{IfErr, IsTrue, IsFalse};
+ghost use Rattle.std.specs.Prelude.{◌≡◌, ◌<◌, ◌≤◌, ◌↔◌, ℕ, List, true, false, Ok, OnOk, OnErr};
+ghost use Rattle.std.specs.Prelude.{IfOk, IfErr, IsTrue, IsFalse};
 ghost use Rattle.disk_store.specs.Disk.{Keeps, KeepsLength, IsStill, IsUnchanged, Throughout};
 ghost use Rattle.mot_base.specs.Geometry.{packet_room};
 ghost use Rattle.mot_journal.specs.Image as journal;

@@ -68,13 +68,16 @@ returns-clause-nearer g c = λ goes_on.
           let same : mid ≡ w.begin.new.self = ap (λ (i : Inside). i.state) w.self-inside-is in
           let kept = ap (λ (s : State). s.turn) same ∙ w.in_ok-begin.ensures.turn in
           let none = ap (λ (s : State). s.sent) same ∙ w.in_ok-begin.ensures.sent in
-          subst left c.self.view_is (left-less old mid new c.send.result.ends_turn kept c.send.ensures.turn ends place
+          subst left c.self.view_is (left-less old mid new c.send.result.ends_turn kept
+          c.send.ensures.turn ends place
           (λ bodies are. nearer-begun old mid bodies w.if-self-eq0.true none
-          (subst (λ (s : State). HasTaken old s bodies) (sym same) (w.in_ok-begin.ensures.taken bodies are))) goes_on))
+          (subst (λ (s : State). HasTaken old s bodies) (sym same)
+          (w.in_ok-begin.ensures.taken bodies are))) goes_on))
       | else-self-eq0 w ↦ (
           let same : mid ≡ old = ap (λ (i : Inside). i.state) w.self-inside-is in
           let some : 0 < old.sent = omega (arith, w.if-self-eq0.false) in
-          subst left c.self.view_is (left-less old mid new c.send.result.ends_turn (ap (λ (s : State). s.turn) same)
+          let kept = ap (λ (s : State). s.turn) same in
+          subst left c.self.view_is (left-less old mid new c.send.result.ends_turn kept
           c.send.ensures.turn ends place
           (λ bodies are. subst (λ (s : State). (sent_from s bodies).ends_turn ≡ false
           → bytes_due (sent_from s bodies).place < bytes_due (place_with old bodies)) (sym same)
