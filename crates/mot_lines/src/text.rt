@@ -29,6 +29,7 @@ pub type PacketLine = ArrayVec<u8, PACKET_LINE_ROOM>;
 const NO_DIGITS: [u8; 2 * MAX_PACKET] = [0; 2 * MAX_PACKET];
 
 /// A packet's line.
+// Inlined, the line would be copied once more.
 #[inline(never)]
 pub fn packet_text(packet: &Packet) -> PacketLine
     ensures { result.items ≡ packet_line packet.now.items }
@@ -41,6 +42,7 @@ pub fn packet_text(packet: &Packet) -> PacketLine
 }
 
 /// The line of a packet that was played, with ` end` behind one that ends a turn.
+// Inlined, the line would be copied once more.
 #[inline(never)]
 pub fn played_text(packet: &Packet, ends_turn: bool) -> PacketLine
     ensures { result.items ≡ played_line packet.now.items ends_turn }
