@@ -4,6 +4,7 @@ ghost use Rattle.arrayvec.specs.ArrayVec.{array_vec_len};
 
 use arrayvec::ArrayVec;
 use byteorder::{BigEndian, ByteOrder};
+use std::mem;
 
 /// Adds bytes for which there is room; no memory is taken.
 pub fn append(out: &mut Vec<u8>, bytes: &[u8])
@@ -12,9 +13,13 @@ pub fn append(out: &mut Vec<u8>, bytes: &[u8])
     ensures len { vec_len out.new ≡ vec_len out.old + length bytes.now }
     ensures capacity { vec_capacity out.new ≡ vec_capacity out.old }
 {
+    // A vector of this function's own: its length need not be written after each byte.
+    let none = Vec::new(*out.allocator());
+    let mut filled = mem::replace(out, none);
     for byte in bytes {
-        out.push_reserved(*byte);
+        filled.push_reserved(*byte);
     }
+    *out = filled;
 }
 
 /// Adds a number of 16 bits, for which there is room, its high byte first; no memory is taken.

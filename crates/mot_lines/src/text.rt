@@ -11,7 +11,7 @@ use arrayvec::ArrayVec;
 use itoa::Buffer;
 use mot_base::{Refusal, TransportId, array_append};
 use mot_carousel::{Carousel, Done, Mime, Object};
-use mot_packets::Packet;
+use mot_packets::{MAX_PACKET, Packet};
 
 /// Room for a line of a reply.
 pub const LINE_ROOM: usize = 400;
@@ -25,35 +25,48 @@ pub const PACKET_LINE_ROOM: usize = 204;
 /// The line of a packet, with its end.
 pub type PacketLine = ArrayVec<u8, PACKET_LINE_ROOM>;
 
+/// Places for the digits of the longest packet.
+const NO_DIGITS: [u8; 2 * MAX_PACKET] = [0; 2 * MAX_PACKET];
+
 /// A packet's line.
+// Inlined, the line would be copied once more.
+#[inline(never)]
 pub fn packet_text(packet: &Packet) -> PacketLine
     ensures { result.items ≡ packet_line packet.now.items }
 {
-    let mut digits = [0u8; 192];
-    let digits = &mut digits[..2 * packet.len()];
-    write_digits(packet.as_slice(), digits);
     let mut text = PacketLine::new();
     array_append(&mut text, b"packet ");
-    array_append(&mut text, digits);
+    append_digits(&mut text, packet.as_slice());
     array_append(&mut text, b"\n");
     text
 }
 
 /// The line of a packet that was played, with ` end` behind one that ends a turn.
+// Inlined, the line would be copied once more.
+#[inline(never)]
 pub fn played_text(packet: &Packet, ends_turn: bool) -> PacketLine
     ensures { result.items ≡ played_line packet.now.items ends_turn }
 {
-    let mut digits = [0u8; 192];
-    let digits = &mut digits[..2 * packet.len()];
-    write_digits(packet.as_slice(), digits);
     let mut text = PacketLine::new();
     array_append(&mut text, b"packet ");
-    array_append(&mut text, digits);
+    append_digits(&mut text, packet.as_slice());
     if ends_turn {
         array_append(&mut text, b" end");
     }
     array_append(&mut text, b"\n");
     text
+}
+
+/// Adds two small digits for each byte, for which there is room.
+fn append_digits(text: &mut PacketLine, bytes: &[u8])
+    requires short { length bytes.now ≤ MAX_PACKET }
+    requires room { array_vec_len text.old + 2 * length bytes.now ≤ PACKET_LINE_ROOM }
+    ensures items { text.new.items ≡ text.old.items ++ encode_lower bytes.now }
+    ensures len { array_vec_len text.new ≡ array_vec_len text.old + 2 * length bytes.now }
+{
+    let front = text.len();
+    array_append(text, &NO_DIGITS[..2 * bytes.len()]);
+    write_digits(bytes, &mut text.as_mut_slice()[front..]);
 }
 
 /// Writes two small digits for each byte. They are sums, not looked up, so that a processor makes

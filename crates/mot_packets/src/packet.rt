@@ -86,26 +86,28 @@ pub fn cut_packet(
         is_last,
         address,
     };
-    packet_of(header, useful)
+    let mut packet = Packet::new();
+    fill_packet(&mut packet, header, useful);
+    packet
 }
 
-/// The packet of this header and useful data; the rest of its data field is zeros.
-fn packet_of(header: Header, useful: &[u8]) -> Packet
-    requires { length useful.now ≤ room_of header.length }
-    ensures written { result.items ≡ bytes_of_packet (fields_of header useful.now) }
-    ensures reads { read_packet result.items ≡ Some (fields_of header useful.now) }
-    ensures len { array_vec_len result ≡ bytes_of header.length }
-    ensures bytes { AreBytes result.items }
+/// Fills a packet, which is empty, by this header and useful data; the rest of its data field is
+/// zeros.
+fn fill_packet(packet: &mut Packet, header: Header, useful: &[u8])
+    requires empty { packet.old.items ≡ [] }
+    requires fits { length useful.now ≤ room_of header.length }
+    ensures written { packet.new.items ≡ bytes_of_packet (fields_of header useful.now) }
+    ensures reads { read_packet packet.new.items ≡ Some (fields_of header useful.now) }
+    ensures len { array_vec_len packet.new ≡ bytes_of header.length }
+    ensures bytes { AreBytes packet.new.items }
 {
     let room = header.length.room();
-    let mut packet = Packet::new();
-    array_append_number(&mut packet, header.word());
+    array_append_number(packet, header.word());
     packet.push(useful.len() as u8);
-    array_append(&mut packet, useful);
-    append_zeros(&mut packet, room - useful.len());
+    array_append(packet, useful);
+    append_zeros(packet, room - useful.len());
     let checksum = crc16(packet.as_slice());
-    array_append_number(&mut packet, checksum);
-    packet
+    array_append_number(packet, checksum);
 }
 
 /// Adds zeros for which there is room.

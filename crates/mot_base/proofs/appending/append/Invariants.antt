@@ -3,7 +3,7 @@ use Rattle.mot_base.proofs.appending.append.Given as goal
 
 abbrev pub invariant-loop-byte : goal.invariant-loop-byte
 invariant-loop-byte l = record {
-  items : l.out.items ≡ l.fn.out.items ++ take l.byte-index l.bytes;
-  len : vec_len l.out ≡ vec_len l.fn.out + l.byte-index;
-  capacity : vec_capacity l.out ≡ vec_capacity l.fn.out;
+  items : l.filled.items ≡ l.initial.filled.items ++ take l.byte-index l.bytes;
+  len : vec_len l.filled ≡ vec_len l.initial.filled + l.byte-index;
+  capacity : vec_capacity l.filled ≡ vec_capacity l.initial.filled;
 }

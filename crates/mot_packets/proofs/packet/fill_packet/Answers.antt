@@ -7,7 +7,7 @@ use Rattle.mot_packets.specs.Written.{IsPacket, covered_bytes, bytes_of_packet}
 use Rattle.mot_packets.specs.Inner.Header.{fields_of}
 use Rattle.mot_packets.proofs.HeaderWord.{IsLength-room_of, code_of_room-room_of}
 use Rattle.mot_packets.proofs.ReadBack.{AreBytes-bytes_of_packet, read_packet-bytes_of_packet}
-use Rattle.mot_packets.proofs.packet.packet_of.Goals as goal
+use Rattle.mot_packets.proofs.packet.fill_packet.Goals as goal
 
 whole : (c : goal.After-array_append_number-2) →
     c.array_append_number-2.new.out.items ≡ bytes_of_packet (fields_of c.args.header c.args.useful.now)
@@ -20,7 +20,7 @@ whole c =
       c.array_append.ensures.items,
       c.push.ensures.items,
       c.array_append_number.ensures.items,
-      c.new-packet.ensures,
+      c.requires.empty,
       c.room-room.ensures,
       c.word.ensures.word,
       code_of_room-room_of c.args.header.length,
