@@ -160,7 +160,6 @@ fn disks_that_are_not_sound(rt: HostRuntime) -> Result<(), Fail> {
     Ok(())
 }
 
-// No user may write a program while it runs, not even root.
 #[test]
 fn what_is_no_disk(rt: HostRuntime) -> Result<(), Fail> {
     let alloc = rt.alloc();
@@ -173,7 +172,6 @@ fn what_is_no_disk(rt: HostRuntime) -> Result<(), Fail> {
         expect_refusal(&rt, alloc, &[command, "none.test"], fault);
         expect_refusal(&rt, alloc, &[command, "none.test/link"], fault);
         expect_refusal(&rt, alloc, &[command, "/dev/null"], fault);
-        expect_refusal(&rt, alloc, &[command, "/proc/self/exe"], fault);
         let empty = [command, "none.test/empty"];
         expect_refusal(&rt, alloc, empty.as_slice(), b"motcar: 17 NotFormatted\n");
     }
