@@ -1,4 +1,4 @@
-use Rattle.std.proofs.Common.{◌≡◌, ◌⊎◌, ◌∙◌, ap, inl, inr, subst, sym}
+use Rattle.std.proofs.Common.{◌⊎◌, ap, inl, inr, subst, sym}
 use Rattle.disk_store.specs.Disk.{IsStill}
 use Rattle.mot_lines.specs.Lines.{whole_lines, lines_of}
 use Rattle.mot_session.specs.Served.{Served, Stopped}
@@ -68,14 +68,14 @@ returns-in-Some-clause-part g c =
         elim r.2 [
           | inl led ↦ inl (opens_to state c.args.disk server new
               (λ before after.
-            Stopped (state new.disk) before after (whole_lines r.0) count old written)
+              Stopped (state new.disk) before after (whole_lines r.0) count old written)
               g.met.D.Disk.sound opens.keeps opens.opened opens.still opens.going opens.at_start
               calls.keeps led)
           | inr led ↦ inr (
             led.0,
             opens_to state c.args.disk server new
                 (λ before after.
-            Stopped (state new.disk) before after (lines_of r.0) count old written)
+                Stopped (state new.disk) before after (lines_of r.0) count old written)
                 g.met.D.Disk.sound opens.keeps opens.opened opens.still opens.going opens.at_start
                 calls.keeps led.1,
           )
