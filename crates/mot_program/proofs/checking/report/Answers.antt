@@ -28,7 +28,8 @@ returns-clause-told g c =
     ∙ ap (λ l. list view.carousel ++ clean_line clean ++ l) layout in
     let old = g.W.Write.contents c.args.writer.now in
     let new = g.W.Write.contents c.write_last.new.writer in
-    let so_far = Appends-trans _ _ _ _ _ c.in_ok-write_carousel.ensures c.in_ok-write_bytes.ensures in
+    let so_far = Appends-trans _ _ _ _ _ c.in_ok-write_carousel.ensures
+    c.in_ok-write_bytes.ensures in
     OnOk-one c.write_last.result (λ last. (
       clean,
       subst (Appends old new) text (Appends-trans _ _ _ _ _ so_far last),

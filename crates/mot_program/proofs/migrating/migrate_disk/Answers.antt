@@ -56,7 +56,8 @@ returns-clause-done g c =
           let wrote = w.write_last-result.result in
           let text = subst (λ l. OnOk wrote (Appends old new l)) w.migrated_text.ensures
           w.write_last-result.ensures in
-          let here = subst (λ x. OnOk wrote (Appends old (g.W.Write.contents x) (migrated_line done)))
+          let here = subst (λ x. OnOk wrote
+          (Appends old (g.W.Write.contents x) (migrated_line done)))
           (sym w.writer-is) text in
           let printed = subst (λ r. OnOk r (Appends old (g.W.Write.contents c.match-migrate.writer)
           (migrated_line done))) (sym w.result-is) here in
