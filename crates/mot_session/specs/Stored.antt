@@ -64,10 +64,9 @@ LeavesSince now state commands =
     (image : List ℕ) → now.LeftSince state.moment image
     → StandsAfterSome state.standing [] commands image
 
--- Whenever the power goes, all that was told is stored. From the beginning of a session on, from
--- each reply on up to the next, and from its end on, a crash leaves the carousel as it then is,
--- after a beginning of the commands that later replies accept, or after all of them and the one
--- that a device fault cut off.
+-- All that was told is stored. Since the moment of each state of a session, from its beginning to
+-- its end, a crash leaves that state's carousel, after a beginning of the commands that later
+-- replies accept, or after all of them and the one that a device fault cut off.
 abbrev pub IsStored : State → List command.Command → ServerState → List Exchange → Type 0
 IsStored now failed before [] = LeavesSince now before failed
 IsStored now failed before (x ∷ exchanges) =
