@@ -1,11 +1,15 @@
--- What crates above may cite: the lines of an input that grows, and what a list shows.
-use Rattle.std.proofs.Common.{◌≡◌, ℕ, List, [], ◌∷◌, ◌++◌}
+-- What crates above may cite: the lines of an input that grows, why a line is refused, and what a list
+-- shows.
+use Rattle.std.proofs.Common.{◌≡◌, ℕ, List, [], ◌∷◌, ◌++◌, Err}
+use Rattle.mot_base.specs.declared.refusal.Refusal.TheVariants.{DeviceFault}
 use Rattle.mot_carousel.specs.declared.carousel.Carousel.{Carousel}
 use Rattle.mot_carousel.specs.Stands.{carousel_of, AreBodiesOf}
 use Rattle.mot_lines.specs.Inner.LineEnd.{HasNoLineEnd}
 use Rattle.mot_lines.specs.Inner.Listing.{listing_text_beside}
+use Rattle.mot_lines.specs.Line.{line_of}
 use Rattle.mot_lines.specs.Lines.{whole_lines, rest_of, lines_of}
 use Rattle.mot_lines.specs.Listing.{listing_text}
+use Rattle.mot_lines.proofs.Faults as faults
 use Rattle.mot_lines.proofs.Input as input
 use Rattle.mot_lines.proofs.Listed as listed
 
@@ -41,6 +45,10 @@ lines_of-ended xs none = input.lines_empty xs none
 
 pub lines_of-begun : (xs : List ℕ) → (rest_of xs ≡ [] → ⊥) → lines_of xs ≡ whole_lines xs ++ rest_of xs ∷ []
 lines_of-begun xs some = input.lines_last xs some
+
+-- no line is refused for a fault of the disk
+pub line_of-no_fault : (line : List ℕ) → line_of line ≡ Err DeviceFault → ⊥
+line_of-no_fault line = faults.line line
 
 -- what a list shows of a carousel, made of the objects and their bodies' lengths alone
 pub listing_text-beside : (c : Carousel) (bodies : List (List ℕ)) → AreBodiesOf c bodies

@@ -41,20 +41,18 @@ pub fn packet_text(packet: &Packet) -> PacketLine
     text
 }
 
-/// The line of a packet that was played, with ` end` behind one that ends a turn.
-// Inlined, the line would be copied once more.
-#[inline(never)]
-pub fn played_text(packet: &Packet, ends_turn: bool) -> PacketLine
-    ensures { result.items ≡ played_line packet.now.items ends_turn }
+/// Makes the line that of a packet that was played, with ` end` behind one that ends a turn.
+// In place, since a line that is answered is copied.
+pub fn set_played_text(text: &mut PacketLine, packet: &Packet, ends_turn: bool)
+    ensures { text.new.items ≡ played_line packet.now.items ends_turn }
 {
-    let mut text = PacketLine::new();
-    array_append(&mut text, b"packet ");
-    append_digits(&mut text, packet.as_slice());
+    text.clear();
+    array_append(text, b"packet ");
+    append_digits(text, packet.as_slice());
     if ends_turn {
-        array_append(&mut text, b" end");
+        array_append(text, b" end");
     }
-    array_append(&mut text, b"\n");
-    text
+    array_append(text, b"\n");
 }
 
 /// Adds two small digits for each byte, for which there is room.

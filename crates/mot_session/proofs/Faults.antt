@@ -1,7 +1,7 @@
 -- No more device faults are answered than the disk has.
 use Rattle.std.proofs.Common.{◌≡◌, ◌⊎◌, inl, inr, ⊎_elim, ℕ, ◌+◌, ◌<◌, ◌≤◌, Bool, true, false, List, [], ◌∷◌}
 use Rattle.std.proofs.Common.{Result, Ok, Err, refl, sym, ap, ◌∙◌, subst, arith}
-use Rattle.std.specs.Prelude.{if◌then◌else◌, ◌&&◌, is_ok}
+use Rattle.std.specs.Prelude.{if◌then◌else◌}
 use Rattle.disk_store.specs.Disk.{Rises, most_failures}
 use Rattle.mot_base.specs.declared.refusal.Refusal.{Refusal}
 use Rattle.mot_base.specs.declared.refusal.Refusal.TheVariants as refusal
@@ -15,55 +15,62 @@ use Rattle.mot_session.specs.Session.{IsCommandAnswer, accepts, refuses, fails, 
 use Rattle.mot_session.specs.Session.{IsAnswer, Answers, decided, halted, no_memory, Session}
 use Rattle.mot_session.specs.State.{ServerState}
 use Rattle.mot_session.specs.Stored.{is_device_fault}
+use Rattle.mot_lines.proofs.Laws.{line_of-no_fault}
 use Rattle.mot_server.proofs.Laws.{rises_on}
 use Rattle.mot_session.proofs.Crashes.{session-later}
 use Rattle.mot_session.proofs.Outcomes.{later-answers, refused-fine}
 
--- the reply to a request has no device fault, or the failures rose
-abbrev Counted : ServerState → Result Line Refusal → Reply → ServerState → Type 0
-Counted before request reply after =
-    ((is_ok request && has_fault reply) ≡ false) ⊎ Rises before.failures after.failures
+-- the reply has no device fault, or the failures rose
+abbrev Counted : ServerState → Reply → ServerState → Type 0
+Counted before reply after = (has_fault reply ≡ false) ⊎ Rises before.failures after.failures
 
-module _ (before after : ServerState) (line : Line) (reply : Reply) where
-  fine : (is : Reply) → reply ≡ is → has_fault is ≡ false → Counted before (Ok line) reply after
+module _ (before after : ServerState) (reply : Reply) where
+  fine : (is : Reply) → reply ≡ is → has_fault is ≡ false → Counted before reply after
   fine is e f = inl (ap has_fault e ∙ f)
 
-  commanded : (c : Command) → IsCommandAnswer before c reply after → Counted before (Ok line) reply after
+  commanded : (c : Command) → IsCommandAnswer before c reply after → Counted before reply after
   commanded c (accepts d e a) = fine (accepted d) e refl
   commanded c (refuses r e why s) = fine (refused r) e (refused-fine before c r why)
   commanded c (fails e h) = inr h.rises
 
-  nexts : (count : ℕ) → IsNextAnswer before count reply after → Counted before (Ok line) reply after
+  nexts : (count : ℕ) → IsNextAnswer before count reply after → Counted before reply after
   nexts count (all sents e s) = fine (played sents) e refl
   nexts count (cut made sents between few e s f) = inr
       (rises_on before.failures between.failures after.failures s.keeps.later.failures
       f.stays.keeps.later.failures f.rises)
 
-  turns : IsTurnAnswer before reply after → Counted before (Ok line) reply after
+  turns : IsTurnAnswer before reply after → Counted before reply after
   turns (all others sents e s) = fine (played sents) e refl
   turns (cut made sents between e s f) = inr
       (rises_on before.failures between.failures after.failures s.sends.keeps.later.failures
       f.stays.keeps.later.failures f.rises)
 
-answered : (before after : ServerState) (line : Line) (reply : Reply) → IsAnswer before (Ok line) reply after
-    → Counted before (Ok line) reply after
-unfolding IsAnswer
-answered before after (asks.Command c) reply a = commanded before after (asks.Command c) reply c a
-answered before after asks.List reply a =
-    fine before after asks.List reply (listing before.standing.carousel) a.0 refl
-answered before after (asks.Raw kind tid body) reply a =
-    fine before after (asks.Raw kind tid body) reply _ a.0 refl
-answered before after (asks.Next count) reply a = nexts before after (asks.Next count) reply count a
-answered before after asks.Turn reply a = turns before after asks.Turn reply a
+-- a refusal that is none for a fault of the disk
+other-refusal : (r : Refusal) → ((r ≡ refusal.DeviceFault) → ⊥) → is_device_fault r ≡ false
+other-refusal refusal.DeviceFault isnt = absurd (isnt refl)
+other-refusal r isnt = refl
 
-counted : (before after : ServerState) (request : Result Line Refusal) (reply : Reply)
-    → Answers before request reply after → Counted before request reply after
-counted before after (Err r) reply a = inl refl
-counted before after (Ok line) reply (decided going a) = answered before after line reply a
-counted before after (Ok line) reply (halted is needs e s) =
-    fine before after line reply (refused refusal.Halted) e refl
-counted before after (Ok line) reply (no_memory needs e s) =
-    fine before after line reply (refused refusal.OutOfMemory) e refl
+answered : (before after : ServerState) (line : List ℕ) (request : Result Line Refusal) (reply : Reply)
+    → line_of line ≡ request → IsAnswer before request reply after → Counted before reply after
+unfolding IsAnswer
+answered before after line (Err r) reply is a =
+    inl (ap has_fault a.0 ∙ other-refusal r (λ e. line_of-no_fault line (is ∙ ap Err e)))
+answered before after line (Ok (asks.Command c)) reply is a =
+    commanded before after reply c a
+answered before after line (Ok asks.List) reply is a =
+    fine before after reply (listing before.standing.carousel) a.0 refl
+answered before after line (Ok (asks.Raw kind tid body)) reply is a =
+    fine before after reply _ a.0 refl
+answered before after line (Ok (asks.Next count)) reply is a =
+    nexts before after reply count a
+answered before after line (Ok asks.Turn) reply is a = turns before after reply a
+
+counted : (before after : ServerState) (line : List ℕ) (reply : Reply)
+    → Answers before (line_of line) reply after → Counted before reply after
+counted before after line reply (decided going a) =
+    answered before after line (line_of line) reply refl a
+counted before after line reply (halted is needs e s) = inl (ap has_fault e)
+counted before after line reply (no_memory needs e s) = inl (ap has_fault e)
 
 -- one more reply
 adds : (holds : Bool) (before mid after count : ℕ) → before ≤ mid → (holds ≡ false) ⊎ Rises before mid
@@ -83,6 +90,6 @@ faults-are_the_disks before [] after s =
 faults-are_the_disks before (x ∷ exchanges) after s =
     let one = later-answers before x.after (line_of x.line) x.reply s.0 in
     let rest = session-later x.after exchanges after s.1 in
-    adds (is_ok (line_of x.line) && has_fault x.reply) before.failures x.after.failures after.failures
-    (faults_in exchanges) one.failures (counted before x.after (line_of x.line) x.reply s.0)
+    adds (has_fault x.reply) before.failures x.after.failures after.failures
+    (faults_in exchanges) one.failures (counted before x.after x.line x.reply s.0)
     (faults-are_the_disks x.after exchanges after s.1) rest.failures

@@ -1,6 +1,6 @@
 -- What holds of every raw reply, and of every session.
 use Rattle.std.specs.Prelude.{ℕ, ◌≡◌, ◌+◌, ◌⊎◌, ◌<◌, ◌≤◌, Bool, true, false, List, [], ◌∷◌, ◌++◌}
-use Rattle.std.specs.Prelude.{length, ◌&&◌, is_ok, if◌then◌else◌, Some, Result}
+use Rattle.std.specs.Prelude.{length, if◌then◌else◌, Some, Result}
 use Rattle.disk_store.specs.Disk.{most_failures}
 use Rattle.mot_base.specs.Geometry.{IsValid}
 use Rattle.mot_base.specs.declared.geometry.Geometry.{Geometry}
@@ -8,7 +8,6 @@ use Rattle.mot_base.specs.declared.group_kind.GroupKind.{GroupKind}
 use Rattle.mot_base.specs.declared.numbers.TheConstants.{MAX_SEGMENT}
 use Rattle.mot_base.specs.declared.refusal.Refusal.{Refusal}
 use Rattle.mot_groups.specs.Group.{read_group}
-use Rattle.mot_lines.specs.Line.{line_of}
 use Rattle.mot_lines.specs.declared.line.Line.{Line}
 use Rattle.mot_packets.specs.Gather.{gather}
 use Rattle.mot_player.specs.Continuity.{IsContinuous}
@@ -54,14 +53,13 @@ has_fault (packets ps) = false
 has_fault (played sents) = false
 has_fault (cut_short sents) = true
 
--- how many replies to requests hold one
+-- how many replies hold one
 abbrev pub faults_in : List Exchange → ℕ
 faults_in [] = 0
-faults_in (x ∷ exchanges) =
-    (if is_ok (line_of x.line) && has_fault x.reply then 1 else 0) + faults_in exchanges
+faults_in (x ∷ exchanges) = (if has_fault x.reply then 1 else 0) + faults_in exchanges
 
--- The replies to requests hold a device fault at most as often as the disk's failures rose, unless
--- their count reached the greatest `u64`.
+-- The replies hold a device fault at most as often as the disk's failures rose, unless their count
+-- reached the greatest `u64`.
 abbrev pub FaultsAreTheDisks : Type 0
 FaultsAreTheDisks =
     (before : ServerState) (exchanges : List Exchange) (after : ServerState)

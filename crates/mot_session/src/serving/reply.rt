@@ -22,7 +22,8 @@ use disk_store::Disk;
 use mot_base::{Geometry, Refusal};
 use mot_carousel::{Carousel, Object};
 use mot_lines::{
-    Hand, Line, carousel_text, done_text, object_text, packet_text, played_text, refusal_text,
+    Hand, Line, PacketLine, carousel_text, done_text, object_text, packet_text, refusal_text,
+    set_played_text,
 };
 use mot_packets::{cut_packet, packet_count};
 use mot_player::Played;
@@ -94,8 +95,9 @@ fn write_next<W: Write, D: Disk>(
         (state_of server.new s (D.state server.new.disk))
         (W.contents writer.old) (W.contents writer.new) }
 {
+    let mut line = PacketLine::new();
     for _ in 0..count {
-        let Some(_) = write_next_packet(writer, server)? else {
+        let Some(_) = write_next_packet(writer, server, &mut line)? else {
             return Ok(());
         };
     }
@@ -113,8 +115,9 @@ fn write_turn<W: Write, D: Disk>(writer: &mut W, server: &mut Server<D>) -> Resu
         (state_of server.new s (D.state server.new.disk))
         (W.contents writer.old) (W.contents writer.new) }
 {
+    let mut line = PacketLine::new();
     loop {
-        let Some(ends_turn) = write_next_packet(writer, server)? else {
+        let Some(ends_turn) = write_next_packet(writer, server, &mut line)? else {
             return Ok(());
         };
         if ends_turn {
@@ -124,10 +127,11 @@ fn write_turn<W: Write, D: Disk>(writer: &mut W, server: &mut Server<D>) -> Resu
 }
 
 /// Plays a packet and writes its line; answers whether it ends a turn. Where it is refused, the
-/// refusal's line is written, and the answer is none.
+/// refusal's line is written, and the answer is none. The line is a place to make it in.
 fn write_next_packet<W: Write, D: Disk>(
     writer: &mut W,
     server: &mut Server<D>,
+    line: &mut PacketLine,
 ) -> Result<Option<bool>, WriteFault>
     ensures reads { OnlyReads server.old server.new
         (D.state server.old.disk) (D.state server.new.disk) }
@@ -141,7 +145,8 @@ fn write_next_packet<W: Write, D: Disk>(
 {
     match server.next_packet() {
         Ok(Played { packet, ends_turn }) => {
-            write_whole(writer, played_text(&packet, ends_turn).as_slice())?;
+            set_played_text(line, &packet, ends_turn);
+            write_whole(writer, line.as_slice())?;
             Ok(Some(ends_turn))
         }
         Err(refusal) => {

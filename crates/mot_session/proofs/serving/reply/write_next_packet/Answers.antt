@@ -12,7 +12,7 @@ returns-in_err-write_whole-in-Ok-clause-answers g c = λ s holds honest.
     (state c.next_packet.new.self.disk)
     (record { view = run.view; keeps = run.keeps; later = run.later; unchanged = run.unchanged }) honest s
     c.in-Ok.field-0.packet.items c.in-Ok.field-0.ends_turn (run.sent s holds honest) (Err _) tt
-    c.as_slice.result.now (c.as_slice.ensures.value ∙ c.played_text.ensures) _ _
+    c.as_slice.result.now (c.as_slice.ensures.value ∙ c.set_played_text.ensures) _ _
     c.in_err-write_whole-in-Ok.ensures)
 
 pub returns-in_ok-write_whole-in-Ok-clause-answers : goal.returns-in_ok-write_whole-in-Ok-clause-answers
@@ -24,5 +24,5 @@ returns-in_ok-write_whole-in-Ok-clause-answers g c = λ s holds honest.
     (record { view = run.view; keeps = run.keeps; later = run.later; unchanged = run.unchanged }) honest s
     c.in-Ok.field-0.packet.items c.in-Ok.field-0.ends_turn (run.sent s holds honest)
     (Ok (Some c.in-Ok.field-0.ends_turn)) refl
-    c.as_slice.result.now (c.as_slice.ensures.value ∙ c.played_text.ensures) _ _
+    c.as_slice.result.now (c.as_slice.ensures.value ∙ c.set_played_text.ensures) _ _
     c.in_ok-write_whole-in-Ok.ensures
