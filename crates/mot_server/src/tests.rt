@@ -33,8 +33,8 @@ const MARKED: [(&[u8], usize); 7] = [
 const OPENING: u64 = 3;
 
 // A disk of these sizes that was just made.
-fn new_disk(alloc: Global, geometry: &Geometry) -> Result<MemoryDisk, Fail> {
-    let mut disk = MemoryDisk::new(alloc, geometry.length()).ok_or("memory")?;
+fn new_disk(alloc: Global, geometry: &Geometry) -> Result<MemoryDisk, Refusal> {
+    let mut disk = MemoryDisk::new(alloc, geometry.length()).ok_or(Refusal::OutOfMemory)?;
     format(&mut disk, geometry)?;
     Ok(disk)
 }
@@ -48,7 +48,7 @@ fn open(alloc: Global, disk: MemoryDisk) -> Result<Server<MemoryDisk>, Refusal> 
 }
 
 // A put of an object of this name, type 2, subtype 3, and body.
-fn put(alloc: Global, name: &[u8], body: Vec<u8>) -> Result<Command, Fail> {
+fn put(alloc: Global, name: &[u8], body: Vec<u8>) -> Result<Command, Refusal> {
     Ok(Command::Put {
         name: Name::new(name.to_vec(alloc)?)?,
         content: Content::new(2, 3)?,
@@ -57,13 +57,13 @@ fn put(alloc: Global, name: &[u8], body: Vec<u8>) -> Result<Command, Fail> {
     })
 }
 
-fn withdraw(alloc: Global, name: &[u8]) -> Result<Command, Fail> {
+fn withdraw(alloc: Global, name: &[u8]) -> Result<Command, Refusal> {
     let name = Name::new(name.to_vec(alloc)?)?;
     Ok(Command::Withdraw { name })
 }
 
 // A put of a body of so many bytes, or a withdrawal where there are none.
-fn command_of(alloc: Global, name: &[u8], length: usize) -> Result<Command, Fail> {
+fn command_of(alloc: Global, name: &[u8], length: usize) -> Result<Command, Refusal> {
     if length == 0 {
         withdraw(alloc, name)
     } else {
@@ -72,7 +72,7 @@ fn command_of(alloc: Global, name: &[u8], length: usize) -> Result<Command, Fail
 }
 
 // Those commands in a row.
-fn commands_of(alloc: Global, rows: &[(&[u8], usize)]) -> Result<Vec<Command>, Fail> {
+fn commands_of(alloc: Global, rows: &[(&[u8], usize)]) -> Result<Vec<Command>, Refusal> {
     let mut commands = Vec::new(alloc);
     for (name, length) in rows {
         commands.push(command_of(alloc, name, *length)?)?;
@@ -142,26 +142,26 @@ fn seen(server: &Server<MemoryDisk>) -> (usize, bool) {
 }
 
 // A put of five bytes.
-fn five_bytes(alloc: Global) -> Result<Command, Fail> {
+fn five_bytes(alloc: Global) -> Result<Command, Refusal> {
     put(alloc, b"a", [1, 2, 3, 4, 5].to_vec(alloc)?)
 }
 
 // A server with one object of five bytes, on a disk of the usual sizes.
-fn with_five_bytes(alloc: Global) -> Result<Server<MemoryDisk>, Fail> {
+fn with_five_bytes(alloc: Global) -> Result<Server<MemoryDisk>, Refusal> {
     let mut server = open(alloc, new_disk(alloc, &Geometry::default())?)?;
     directory_after(alloc, &mut server, &five_bytes(alloc)?)?;
     Ok(server)
 }
 
 // The same, whose disk fails in the first read of the body: the directory's packet reads nothing.
-fn failing_at_the_body(alloc: Global) -> Result<Server<MemoryDisk>, Fail> {
+fn failing_at_the_body(alloc: Global) -> Result<Server<MemoryDisk>, Refusal> {
     let mut disk = with_five_bytes(alloc)?.into_disk();
     disk.fail_at(OPENING + 1);
     Ok(open(alloc, disk)?)
 }
 
 // A run of puts and withdrawals, of which one put finds no gap.
-fn run_to_its_end(alloc: Global) -> Result<(Server<MemoryDisk>, RunEnd), Fail> {
+fn run_to_its_end(alloc: Global) -> Result<(Server<MemoryDisk>, RunEnd), Refusal> {
     let mut server = open(alloc, new_disk(alloc, &SMALL)?)?;
     let commands = commands_of(alloc, &MARKED)?;
     let end = run_of(alloc, &mut server, &commands);
@@ -169,7 +169,7 @@ fn run_to_its_end(alloc: Global) -> Result<(Server<MemoryDisk>, RunEnd), Fail> {
 }
 
 // A run of three puts, whose disk fails in the first sync of the second one.
-fn failing_run(alloc: Global) -> Result<(Server<MemoryDisk>, RunEnd), Fail> {
+fn failing_run(alloc: Global) -> Result<(Server<MemoryDisk>, RunEnd), Refusal> {
     let mut disk = new_disk(alloc, &SMALL)?;
     disk.fail_at(OPENING + 5 + 3);
     let mut server = open(alloc, disk)?;
@@ -179,7 +179,7 @@ fn failing_run(alloc: Global) -> Result<(Server<MemoryDisk>, RunEnd), Fail> {
 }
 
 // The server that such a run leaves.
-fn halted(alloc: Global) -> Result<Server<MemoryDisk>, Fail> {
+fn halted(alloc: Global) -> Result<Server<MemoryDisk>, Refusal> {
     let (server, _) = failing_run(alloc)?;
     Ok(server)
 }
@@ -246,5 +246,57 @@ fn a_body_that_cannot_be_read_halts_nothing(rt: HostRuntime) -> Result<(), Fail>
     assert_eq!(rt; next_of(&mut server), Err(Refusal::DeviceFault));
     assert_eq!(rt; next_of(&mut server), Ok(([0x1C, 0x01, 0x10], true)));
     assert_eq!(rt; seen(&server), (1, false));
+    Ok(())
+}
+
+// So many objects there are after each beginning of `MARKED`.
+const OBJECTS: [usize; 8] = [0, 1, 2, 3, 2, 1, 1, 2];
+
+// The objects of what the server left on its disk.
+fn objects_left(alloc: Global, server: Server<MemoryDisk>) -> Result<usize, Refusal> {
+    Ok(seen(&open(alloc, server.into_disk())?).0)
+}
+
+// Where a growth is refused, as by `rt try --test --fail-alloc N`: the run's marks begin as those
+// of the whole run, and the disk has what they say, or after a fault of it one command more.
+#[test]
+fn a_refused_growth_of_a_run(rt: HostRuntime) -> Result<(), Fail> {
+    let alloc = rt.alloc();
+    let Ok((server, end)) = run_to_its_end(alloc) else {
+        return Ok(());
+    };
+    let marks = [true, true, true, true, true, false, true];
+    let done = end.done.len();
+    assert!(rt; marks.starts_with(&end.done));
+    let Ok(objects) = objects_left(alloc, server) else {
+        return Ok(());
+    };
+    match end.fault {
+        None => assert_eq!(rt; done, marks.len()),
+        Some(Refusal::DeviceFault) => assert!(rt;
+            OBJECTS[done..].iter().take(2).any(|it| *it == objects)
+        ),
+        fault => assert_eq!(rt;
+            (fault, objects),
+            (Some(Refusal::OutOfMemory), OBJECTS[done])
+        ),
+    }
+    Ok(())
+}
+
+// So, too, a restart: its turn is played, or it is refused, and the disk opens as before.
+#[test]
+fn a_refused_growth_of_a_restart(rt: HostRuntime) -> Result<(), Fail> {
+    let alloc = rt.alloc();
+    let Ok(server) = with_five_bytes(alloc) else {
+        return Ok(());
+    };
+    match restart(alloc, server.into_disk()) {
+        Ok(restarted) => assert_eq!(rt; restarted.packets.len(), 2),
+        Err(Refused { refusal, disk }) => {
+            assert!(rt; matches!(refusal, Refusal::OutOfMemory | Refusal::DeviceFault));
+            assert_eq!(rt; seen(&open(alloc, disk)?), (1, false));
+        }
+    }
     Ok(())
 }

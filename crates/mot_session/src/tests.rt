@@ -1,4 +1,5 @@
 mod commands;
+mod failing;
 mod halting;
 mod playing;
 mod receiving;
