@@ -1,5 +1,5 @@
 -- What answers a request.
-use Rattle.std.proofs.Common.{◌≡◌, ℕ, ◌≤◌, ◌⊎◌, inl, inr, ⊎_elim, Bool, true, false, List, [], ◌∷◌, ◌++◌}
+use Rattle.std.proofs.Common.{◌≡◌, ℕ, ◌≤◌, inl, inr, Bool, true, false, List, [], ◌∷◌, ◌++◌}
 use Rattle.std.proofs.Common.{Ok, Err, Result, refl, sym, ap, ◌∙◌, subst, arith, append-nil}
 use Rattle.std.specs.Prelude.{IsTrue, IsFalse, if◌then◌else◌}
 use Rattle.disk_store.specs.Disk.{State, IsHonestDisk, IsUnchanged, Throughout}
@@ -35,8 +35,8 @@ use Rattle.mot_session.specs.Session.{decided, no_memory, accepts, refuses, fail
 use Rattle.mot_session.specs.declared.answering.Decision.{Decision}
 use Rattle.mot_session.specs.declared.answering.Decision.TheVariants.{Refused, Accepted, Listing}
 use Rattle.mot_session.specs.declared.answering.Decision.TheVariants.{Packets, Next, Turn}
-use Rattle.mot_session.specs.State.{ServerState, IsLater, KeepsCarousel, StandsFor, Stays, state_of}
-use Rattle.mot_session.specs.Stored.{command_in, is_device_fault}
+use Rattle.mot_session.specs.State.{ServerState, StandsFor, Stays, state_of}
+use Rattle.mot_session.specs.Stored.{command_in}
 use Rattle.mot_session.specs.Inner.Writes.{Crosses, OnlyReads, may_have_done}
 use Rattle.mot_session.proofs.Outcomes.{done_by, failed_by_reply}
 

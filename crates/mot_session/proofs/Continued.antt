@@ -5,7 +5,6 @@ use Rattle.std.proofs.lemmas.List.{map-append}
 use Rattle.mot_base.proofs.Laws.{read_each-append}
 use Rattle.mot_base.specs.PacketLength.{IsLength}
 use Rattle.mot_base.specs.Geometry.{IsValid, packet_room}
-use Rattle.mot_base.specs.declared.geometry.Geometry.{Geometry}
 use Rattle.mot_base.specs.declared.refusal.Refusal.{Refusal}
 use Rattle.mot_base.specs.declared.refusal.Refusal.TheVariants.{DeviceFault}
 use Rattle.mot_carousel.specs.Carousel.{Carousel}

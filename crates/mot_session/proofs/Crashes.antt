@@ -3,7 +3,7 @@ use Rattle.std.proofs.Common.{◌≡◌, ℕ, ◌≤◌, ◌⊎◌, inl, inr, �
 use Rattle.std.proofs.Common.{refl, sym, ap, ◌∙◌, subst, arith, append_assoc, append-nil}
 use Rattle.std.proofs.lemmas.List.Concat.{flat_map-append}
 use Rattle.std.specs.Prelude.{IsTrue, IsFalse}
-use Rattle.disk_store.specs.Disk.{State, IsHonestDisk, IsUnchanged, Throughout}
+use Rattle.disk_store.specs.Disk.{State, IsHonestDisk}
 use Rattle.disk_store.proofs.Laws.{at_end}
 use Rattle.mot_carousel.specs.declared.command.Command.{Command}
 use Rattle.mot_journal.specs.Image.{Standing}
@@ -22,7 +22,7 @@ use Rattle.mot_session.proofs.Outcomes.{Outcome, nothing, one, halts, outcome, l
 -- ---- a session, from its lines
 
 module _ (before : ServerState) (x : Exchange) where
-  made : Outcome before x.after (accepted_in x) (failed_in x)
+  pub made : Outcome before x.after (accepted_in x) (failed_in x)
       → IsAfter before.standing (accepted_in x) x.after.standing
   made (nothing none fine standing same) =
       subst (λ l. IsAfter before.standing l x.after.standing) (sym none)
@@ -51,6 +51,15 @@ module _ (before : ServerState) (x : Exchange) where
   outcome_of : Answers before (line_of x.line) x.reply x.after
       → Outcome before x.after (accepted_in x) (failed_in x)
   outcome_of a = outcome before x.after (line_of x.line) x.reply a
+
+-- what a crash leaves of commands behind others
+pub behind : (s now : Standing) (done others : List Command) (image : List ℕ) → IsAfter s done now
+    → StandsAfterSome now [] others image → StandsAfterSome s done others image
+behind s now done others image after left = record {
+  last = left.last;
+  after = after_history_none s now left.last done others after left.after;
+  image_is = left.image_is;
+}
 
 -- what the replies accept is what the carousel is after
 session-after : (before : ServerState) (xs : List Exchange) (after : ServerState)
@@ -147,12 +156,7 @@ module _ (start now : State) (between : ServerState) (x : Exchange) (sound_start
         → StandsAfterSome u.standing [] ((done ++ accepted_in x) ++ (failed ++ failed_in x)) image
     new_images going image left =
         let none = fine going in
-        let all : StandsAfterSome u.standing done (accepted_in x ++ failed_in x) image = record {
-          last = left.last;
-          after = after_history_none u.standing between.standing left.last done (accepted_in x ++ failed_in x)
-              after left.after;
-          image_is = left.image_is;
-        } in
+        let all = behind u.standing between.standing done (accepted_in x ++ failed_in x) image after left in
         subst (λ l. StandsAfterSome u.standing [] l image)
         (sym (append_assoc done (accepted_in x) (failed_in x))
         ∙ ap (λ l. (done ++ accepted_in x) ++ (l ++ failed_in x)) (sym none))

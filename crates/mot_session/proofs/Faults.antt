@@ -1,5 +1,5 @@
 -- No more device faults are answered than the disk has.
-use Rattle.std.proofs.Common.{◌≡◌, ◌⊎◌, inl, inr, ⊎_elim, ℕ, ◌+◌, ◌<◌, ◌≤◌, Bool, true, false, List, [], ◌∷◌}
+use Rattle.std.proofs.Common.{◌≡◌, ◌⊎◌, inl, inr, ℕ, ◌+◌, ◌≤◌, Bool, true, false, [], ◌∷◌}
 use Rattle.std.proofs.Common.{Result, Ok, Err, refl, sym, ap, ◌∙◌, subst, arith}
 use Rattle.std.specs.Prelude.{if◌then◌else◌, ◌&&◌, is_ok}
 use Rattle.disk_store.specs.Disk.{Rises, most_failures}
@@ -10,11 +10,10 @@ use Rattle.mot_lines.specs.Line.{line_of}
 use Rattle.mot_lines.specs.declared.line.Line.{Line}
 use Rattle.mot_lines.specs.declared.line.Line.TheVariants as asks
 use Rattle.mot_session.specs.Laws.{FaultsAreTheDisks, faults_in, has_fault}
-use Rattle.mot_session.specs.Session.{Exchange, Reply, refused, listing, packets, played, cut_short, accepted}
+use Rattle.mot_session.specs.Session.{Reply, refused, listing, played, accepted}
 use Rattle.mot_session.specs.Session.{IsCommandAnswer, accepts, refuses, fails, IsNextAnswer, IsTurnAnswer, all, cut}
 use Rattle.mot_session.specs.Session.{IsAnswer, Answers, decided, halted, no_memory, Session}
 use Rattle.mot_session.specs.State.{ServerState}
-use Rattle.mot_session.specs.Stored.{is_device_fault}
 use Rattle.mot_server.proofs.Laws.{rises_on}
 use Rattle.mot_session.proofs.Crashes.{session-later}
 use Rattle.mot_session.proofs.Outcomes.{later-answers, refused-fine}

@@ -1,18 +1,17 @@
 -- What one line makes of the carousel.
 use Rattle.std.proofs.Common.{◌≡◌, Bool, true, false, List, [], ◌∷◌, Result, Ok, Err, refl, sym, ap, ◌∙◌}
-use Rattle.std.proofs.Common.{subst, Option, Some, None, ℕ, arith}
+use Rattle.std.proofs.Common.{Option, Some, None, ℕ, arith}
 use Rattle.std.specs.Prelude.{IsTrue, IsFalse, if◌then◌else◌}
 use Rattle.mot_base.specs.declared.refusal.Refusal.{Refusal}
-use Rattle.mot_base.specs.declared.refusal.Refusal.TheVariants.{BadName, NoRoom, OutOfMemory}
+use Rattle.mot_base.specs.declared.refusal.Refusal.TheVariants.{OutOfMemory}
 use Rattle.mot_base.specs.declared.refusal.Refusal.TheVariants.{NameTaken, NoSuchName, TooManyObjects}
-use Rattle.mot_base.specs.declared.refusal.Refusal.TheVariants.{DeviceFault, Halted}
+use Rattle.mot_base.specs.declared.refusal.Refusal.TheVariants.{Halted}
 use Rattle.mot_carousel.specs.declared.command.Command as command
 use Rattle.mot_carousel.specs.declared.command.Command.TheVariants as orders
 use Rattle.mot_carousel.specs.declared.command.Done.{Done}
 use Rattle.mot_carousel.specs.Carousel.{Carousel, Object, change, change_if_named, free_object_id}
 use Rattle.mot_lines.specs.declared.line.Line.{Line}
 use Rattle.mot_lines.specs.declared.line.Line.TheVariants as asks
-use Rattle.mot_lines.specs.Line.{NeedsMemory}
 use Rattle.mot_repository.specs.Repository.{IsNext}
 use Rattle.mot_session.specs.Session.{Reply, refused, accepted, listing, packets, played, cut_short}
 use Rattle.mot_session.specs.Session.{IsRefused, long_name, by_rules, no_room}
@@ -21,7 +20,7 @@ use Rattle.mot_session.specs.Session.{IsNextAnswer, IsTurnAnswer, IsAnswer, all,
 use Rattle.mot_session.specs.Served.{Begins, whole, next_begun, turn_begun}
 use Rattle.mot_session.specs.Session.{Answers, decided, halted, no_memory}
 use Rattle.mot_session.specs.Session as session
-use Rattle.mot_session.specs.State.{ServerState, IsLater, KeepsCarousel, Stays}
+use Rattle.mot_session.specs.State.{ServerState, IsLater}
 use Rattle.mot_session.specs.Stored.{command_in, is_accepting, is_device_fault, is_failing}
 
 -- nothing is done; a command is done; or the disk fails, and the server is halted

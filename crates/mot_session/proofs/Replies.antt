@@ -1,13 +1,13 @@
 -- Replies to `next` and `turn` lines, packet by packet.
 use Rattle.std.proofs.Common.{◌≡◌, ℕ, ◌+◌, ◌<◌, Bool, true, false, List, [], ◌∷◌, ◌++◌, Option, Some, None}
-use Rattle.std.proofs.Common.{Result, Ok, Err, refl, sym, ap, ◌∙◌, subst, arith}
-use Rattle.std.specs.Prelude.{IsFalse, is_none}
+use Rattle.std.proofs.Common.{Ok, Err, sym, ◌∙◌, arith}
+use Rattle.std.specs.Prelude.{IsFalse}
 use Rattle.std.specs.Io.KnownBytes.{Appends}
 use Rattle.mot_lines.specs.declared.line.Line.TheVariants as asks
 use Rattle.mot_player.specs.Place.{Sent}
 use Rattle.mot_session.specs.declared.serving.writing.WriteFault.{WriteFault}
 use Rattle.mot_session.specs.Inner.Writes.{AnswersOne, AnswersRequest, sends, fails}
-use Rattle.mot_session.specs.Played.{Sends, SendsTurn, SendsWithinTurn, sent_lines}
+use Rattle.mot_session.specs.Played.{Sends, SendsWithinTurn, sent_lines}
 use Rattle.mot_session.specs.State.{ServerState}
 use Rattle.mot_session.proofs.Written.{Answered-turn, AnswersRequest-next_cut, AnswersRequest-turn_cut}
 use Rattle.mot_session.proofs.Written.{BrokenOff-next, BrokenOff-turn, Sends-more, SendsTurn-ended}

@@ -1,9 +1,8 @@
 -- A session that goes on.
-use Rattle.std.proofs.Common.{◌≡◌, ℕ, ◌+◌, ◌≤◌, List, [], ◌∷◌, ◌++◌, length, map, Option}
+use Rattle.std.proofs.Common.{◌≡◌, ℕ, ◌+◌, ◌≤◌, List, [], ◌∷◌, ◌++◌, length, Option}
 use Rattle.std.proofs.Common.{refl, sym, ap, ◌∙◌, subst, arith, append-nil, length-append}
 use Rattle.std.proofs.lemmas.List.{map-append}
 use Rattle.std.specs.Io.KnownBytes.{Appends}
-use Rattle.std.specs.Prelude.{IsFalse}
 use Rattle.std.proofs.KnownBytes.{Appends-trans, Appends-nil}
 use Rattle.std.proofs.lemmas.List.Concat.{flat_map-append}
 use Rattle.disk_store.specs.Disk.{State, IsHonestDisk}
@@ -13,19 +12,16 @@ use Rattle.mot_lines.specs.Line.{line_of}
 use Rattle.mot_lines.specs.Lines.{whole_lines, rest_of}
 use Rattle.mot_lines.proofs.Laws.{whole_lines-none, rest_of-none, whole_lines-end, rest_of-end}
 use Rattle.mot_lines.proofs.Laws.{whole_lines-within, rest_of-within}
-use Rattle.mot_repository.specs.Repository.{Holds, IsOf}
 use Rattle.mot_server.specs.Server.{ServerView}
 use Rattle.mot_journal.specs.Image.{Standing}
-use Rattle.mot_session.specs.declared.serving.writing.WriteFault.{WriteFault}
 use Rattle.mot_session.specs.Inner.InHand.{InHand}
-use Rattle.mot_session.specs.Inner.Writes.{AnswersLine, Answered, Crosses}
-use Rattle.mot_session.specs.Served.{BrokenOff, Replied, Served, Stopped}
+use Rattle.mot_session.specs.Inner.Writes.{Answered, Crosses}
+use Rattle.mot_session.specs.Served.{BrokenOff, Served, Stopped}
 use Rattle.mot_session.specs.Session.{Reply, Answers, Exchange, Session, text_of, texts_of}
 use Rattle.mot_session.specs.State.{ServerState, StandsFor, state_of}
 use Rattle.mot_session.specs.Stored.{IsStored, accepted_in, failed_by, failed_in}
 use Rattle.mot_session.proofs.Crashes.{stored-push, stored-none}
 use Rattle.mot_session.proofs.Outcomes.{Outcome, outcome, begun_outcome}
-use Rattle.std.specs.Prelude.{Result, Ok, Err}
 
 Session-push : (before mid : ServerState) (xs : List Exchange) (x : Exchange)
     → Session before xs mid → Answers mid (line_of x.line) x.reply x.after

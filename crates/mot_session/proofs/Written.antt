@@ -1,5 +1,5 @@
 -- Replies that were written, whole or in part.
-use Rattle.std.proofs.Common.{◌≡◌, ℕ, ◌+◌, ◌<◌, ◌≤◌, true, false, Bool, List, [], ◌∷◌, ◌++◌, map, Option, Some, None}
+use Rattle.std.proofs.Common.{◌≡◌, ℕ, ◌+◌, ◌<◌, ◌≤◌, true, false, Bool, List, [], ◌∷◌, ◌++◌, map, Option, Some}
 use Rattle.std.proofs.Common.{Result, Ok, Err, refl, sym, ap, ◌∙◌, subst, arith, append_assoc, append-nil}
 use Rattle.std.proofs.Common.{length, length-append}
 use Rattle.std.specs.Prelude.{replicate, IsFalse}
@@ -22,11 +22,10 @@ use Rattle.mot_session.specs.Inner.Writes.{Writes, Answered, AnswersWith, Answer
 use Rattle.mot_session.specs.Inner.Writes.{may_have_done}
 use Rattle.mot_session.specs.Played.{FailsToSend, Sends, SendsTurn, SendsWithinTurn, packets_sent}
 use Rattle.mot_session.specs.Played.{sent_line, sent_lines}
-use Rattle.mot_session.specs.Served.{Begins, whole, next_begun, turn_begun, BrokenOff, WritesFront}
+use Rattle.mot_session.specs.Served.{Begins, whole, next_begun, turn_begun, WritesFront}
 use Rattle.mot_session.specs.Session.{Reply, Answers, IsAnswer, decided, accepted, listing, packets}
 use Rattle.mot_session.specs.Session.{played, refused, cut_short, text_of, all, cut}
-use Rattle.mot_session.specs.State.{ServerState, IsLater, KeepsCarousel}
-use Rattle.mot_session.proofs.Fronts.{WritesFront-after}
+use Rattle.mot_session.specs.State.{ServerState, KeepsCarousel}
 
 pub sent_lines-more : (sents : List Sent) (s : Sent)
     → sent_lines (sents ++ s ∷ []) ≡ sent_lines sents ++ sent_line s

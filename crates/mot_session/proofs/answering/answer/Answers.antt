@@ -1,4 +1,3 @@
-use Rattle.std.proofs.Common.{Err}
 use Rattle.mot_session.proofs.Answered.{Answers-refused, crosses-none}
 use Rattle.mot_session.specs.State.{state_of}
 use Rattle.mot_session.proofs.answering.answer.Goals as goal

@@ -3,12 +3,11 @@ use Rattle.std.proofs.Common.{append_assoc, append-nil, length, length-append}
 use Rattle.std.proofs.lemmas.Result.{err_from_is_err_and}
 use Rattle.mot_lines.specs.Lines.{whole_lines, rest_of}
 use Rattle.mot_lines.proofs.Laws.{whole_lines-end, whole_lines-front, whole_lines-within}
-use Rattle.mot_server.proofs.Laws.{keeps_on, unchanged_on}
 use Rattle.mot_session.specs.Inner.InHand.{InHand}
 use Rattle.mot_session.specs.Served.{Served}
 use Rattle.mot_session.specs.State.{state_of}
 use Rattle.mot_session.proofs.Outcomes.{later-answers, later-begins}
-use Rattle.mot_session.proofs.Requests.{is_unchanged}
+use Rattle.mot_session.proofs.Requests.{goes_on-more, goes_on-none}
 use Rattle.mot_session.proofs.Runs.{InHand-end, InHand-within, Served-push, Stopped-here}
 use Rattle.mot_session.proofs.serving.answer_chunk.Goals as goal
 
@@ -40,9 +39,7 @@ pub loop-line-init : goal.loop-line-init
 loop-line-init g c =
     let state = g.D.Disk.state c.args.server.now.disk in record {
       bound = omega arith;
-      keeps = record { len = refl; was_honest = λ honest. honest };
-      later = omega arith;
-      halted = λ is. (refl, λ honest. is_unchanged state);
+      goes = goes_on-none c.args.server.now state;
       taken = (
         [],
         refl,
@@ -74,15 +71,7 @@ loop-line-preserved g c =
         length-append line (10 ∷ c.in-Some.next.now),
         bound,
       );
-      keeps = keeps_on (state first.disk) (state mid.disk) (state new.disk) inv.keeps one.keeps;
-      later = let was = inv.later in let on = one.later in omega (arith, was, on);
-      halted = λ is.
-          let was = inv.halted is in
-          let on = one.halted (rw was.0 is) in (
-            on.0 ∙ was.0,
-            λ honest. unchanged_on (state first.disk) (state mid.disk) (state new.disk)
-                (was.1 (one.keeps.was_honest honest)) (on.1 honest),
-          );
+      goes = goes_on-more first mid new (state first.disk) (state mid.disk) (state new.disk) inv.goes one.goes;
       taken = (
         (so_far.0 ++ line) ++ 10 ∷ [],
         line_taken so_far.0 line c.in-Some.next.now c.loop-line.rest.now c.args.chunk.now so_far.1
@@ -99,7 +88,7 @@ loop-line-preserved g c =
             let h0 = so_far.2 input is in
             let h1 = InHand-within xs c.loop-line.hand c.loop-line.lines h0 line c.add.new.self
             c.in-Some.ensures.first (c.add.ensures (rest_of xs) h0.rest) in
-            let was = one.keeps.was_honest honest in
+            let was = one.goes.keeps.was_honest honest in
             let f = so_far.3 before old input is s stands was in
             let a = one.answers (rest_of (xs ++ line)) h1.rest f.0 f.1 honest in
             let told = a.2 in
@@ -141,7 +130,7 @@ returns-in_err-answer_line-clause-err g c =
     let h0 = so_far.2 input is in
     let h1 = InHand-within xs c.loop-line.hand c.loop-line.lines h0 line c.add.new.self
     c.in-Some.ensures.first (c.add.ensures (rest_of xs) h0.rest) in
-    let was = one.keeps.was_honest honest in
+    let was = one.goes.keeps.was_honest honest in
     let f = so_far.3 before old input is s stands was in
     let a = one.answers (rest_of (xs ++ line)) h1.rest f.0 f.1 honest in
     let told = a.2 in

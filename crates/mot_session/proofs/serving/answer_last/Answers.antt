@@ -3,7 +3,7 @@ use Rattle.std.proofs.Common.{length-append}
 use Rattle.std.proofs.lemmas.Bool.{both_ways}
 use Rattle.mot_lines.specs.Lines.{whole_lines, rest_of, lines_of}
 use Rattle.mot_lines.proofs.Laws.{lines_of-ended, lines_of-begun}
-use Rattle.mot_session.specs.Served.{Served, Stopped}
+use Rattle.mot_session.specs.Served.{Served}
 use Rattle.mot_session.specs.State.{state_of}
 use Rattle.mot_session.proofs.Outcomes.{later-answers, later-begins}
 use Rattle.mot_session.proofs.Runs.{Served-push, Stopped-here}
@@ -39,7 +39,7 @@ returns-in-Ok-clause-ended g c = λ none before old input is s stands honest.
     let some : rest_of input ≡ [] → ⊥ = λ h. both_ways _ c.if-is_empty.false
     ((c.is_empty.ensures (rest_of input) is.rest).1 h) in
     let e : lines_of input ≡ whole_lines input ++ rest_of input ∷ [] = lines_of-begun input some in
-    let was = c.in-Ok.ensures.keeps.was_honest honest in
+    let was = c.in-Ok.ensures.goes.keeps.was_honest honest in
     let a = c.in-Ok.ensures.answers (rest_of input) is.rest s stands honest in
     let told = a.2 in
     let later = later-answers (state_of mid s (state mid.disk)) (state_of new a.0 (state new.disk)) _
@@ -62,7 +62,7 @@ returns-in-Err-clause-unwritten g c = λ fault before old input is.
     let some : rest_of input ≡ [] → ⊥ = λ h. both_ways _ c.if-is_empty.false
     ((c.is_empty.ensures (rest_of input) is.rest).1 h) in
     rw c.ended.ensures (λ s stands honest.
-    let was = c.in-Err.ensures.keeps.was_honest honest in
+    let was = c.in-Err.ensures.goes.keeps.was_honest honest in
     let a = c.in-Err.ensures.answers (rest_of input) is.rest s stands honest in
     let told = a.2 in
     let later = later-begins (state_of mid s (state mid.disk)) (state_of new a.0 (state new.disk)) _

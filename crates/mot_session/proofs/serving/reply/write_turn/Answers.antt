@@ -1,4 +1,4 @@
-use Rattle.std.proofs.Common.{◌+◌, [], ◌∙◌, ap, refl, subst, Some, sym, ◌≡◌}
+use Rattle.std.proofs.Common.{◌+◌, [], ◌∙◌, ap, refl, Some}
 use Rattle.std.proofs.KnownBytes.{Appends-nil}
 use Rattle.std.proofs.lemmas.Result.{err_from_is_err_and}
 use Rattle.mot_session.specs.State.{state_of}
