@@ -11,7 +11,8 @@ use Rattle.mot_lines.specs.declared.line.Line.{Line}
 use Rattle.mot_lines.specs.declared.line.Line.TheVariants as asks
 use Rattle.mot_session.specs.Laws.{FaultsAreTheDisks, faults_in, has_fault}
 use Rattle.mot_session.specs.Session.{Reply, refused, listing, played, accepted}
-use Rattle.mot_session.specs.Session.{IsCommandAnswer, accepts, refuses, fails, IsNextAnswer, IsTurnAnswer, all, cut}
+use Rattle.mot_session.specs.Session.{IsCommandAnswer, accepts, refuses, fails, IsNextAnswer}
+use Rattle.mot_session.specs.Session.{IsTurnAnswer, all, cut}
 use Rattle.mot_session.specs.Session.{IsAnswer, Answers, decided, halted, no_memory, Session}
 use Rattle.mot_session.specs.State.{ServerState}
 use Rattle.mot_server.proofs.Laws.{rises_on}
@@ -27,7 +28,8 @@ module _ (before after : ServerState) (line : Line) (reply : Reply) where
   fine : (is : Reply) → reply ≡ is → has_fault is ≡ false → Counted before (Ok line) reply after
   fine is e f = inl (ap has_fault e ∙ f)
 
-  commanded : (c : Command) → IsCommandAnswer before c reply after → Counted before (Ok line) reply after
+  commanded : (c : Command) → IsCommandAnswer before c reply after
+      → Counted before (Ok line) reply after
   commanded c (accepts d e a) = fine (accepted d) e refl
   commanded c (refuses r e why s) = fine (refused r) e (refused-fine before c r why)
   commanded c (fails e h) = inr h.rises
@@ -44,7 +46,8 @@ module _ (before after : ServerState) (line : Line) (reply : Reply) where
       (rises_on before.failures between.failures after.failures s.sends.keeps.later.failures
       f.stays.keeps.later.failures f.rises)
 
-answered : (before after : ServerState) (line : Line) (reply : Reply) → IsAnswer before (Ok line) reply after
+answered : (before after : ServerState) (line : Line) (reply : Reply)
+    → IsAnswer before (Ok line) reply after
     → Counted before (Ok line) reply after
 unfolding IsAnswer
 answered before after (asks.Command c) reply a = commanded before after (asks.Command c) reply c a
@@ -65,7 +68,8 @@ counted before after (Ok line) reply (no_memory needs e s) =
     fine before after line reply (refused refusal.OutOfMemory) e refl
 
 -- one more reply
-adds : (holds : Bool) (before mid after count : ℕ) → before ≤ mid → (holds ≡ false) ⊎ Rises before mid
+adds : (holds : Bool) (before mid after count : ℕ) → before ≤ mid
+    → (holds ≡ false) ⊎ Rises before mid
     → (count + mid ≤ after) ⊎ (most_failures ≤ after) → mid ≤ after
     → (((if holds then 1 else 0) + count) + before ≤ after) ⊎ (most_failures ≤ after)
 adds holds before mid after count le one (inr most) on = inr most
@@ -82,6 +86,7 @@ faults-are_the_disks before [] after s =
 faults-are_the_disks before (x ∷ exchanges) after s =
     let one = later-answers before x.after (line_of x.line) x.reply s.0 in
     let rest = session-later x.after exchanges after s.1 in
-    adds (is_ok (line_of x.line) && has_fault x.reply) before.failures x.after.failures after.failures
+    adds (is_ok (line_of x.line) && has_fault x.reply) before.failures x.after.failures
+    after.failures
     (faults_in exchanges) one.failures (counted before x.after (line_of x.line) x.reply s.0)
     (faults-are_the_disks x.after exchanges after s.1) rest.failures

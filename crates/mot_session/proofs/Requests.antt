@@ -16,7 +16,8 @@ use Rattle.mot_session.specs.declared.serving.writing.WriteFault.{WriteFault}
 use Rattle.mot_session.specs.Inner.Writes.{AnswersOne, GoesOn, OnlyReads, Writes, sends}
 use Rattle.mot_session.specs.State.{KeepsCarousel, ServerState, StandsFor, state_of}
 
-module _ {D : Type 0} (old new : ServerView D) (start now : State) (reads : OnlyReads old new start now)
+module _ {D : Type 0} (old new : ServerView D) (start now : State)
+    (reads : OnlyReads old new start now)
     (honest : now.IsHonest) where
   -- only the player's place may be another
   pub keeps-read : (s : Standing) → KeepsCarousel (state_of old s start) (state_of new s now)
@@ -40,7 +41,8 @@ module _ {D : Type 0} (old new : ServerView D) (start now : State) (reads : Only
 
   -- a packet was played, and its line written
   pub AnswersOne-sent : (s : Standing) (packet : List ℕ) (ends : Bool)
-      → IsStep (place_in old s) packet ends (place_in new s) → (result : Result (Option Bool) WriteFault)
+      → IsStep (place_in old s) packet ends (place_in new s)
+      → (result : Result (Option Bool) WriteFault)
       → IfOk result (λ shown. shown ≡ Some ends) → (text : List ℕ) → text ≡ played_line packet ends
       → (known next : Option (List ℕ)) → Writes result text known next
       → AnswersOne result (state_of old s start) (state_of new s now) known next
@@ -57,7 +59,8 @@ module _ {D : Type 0} (old new : ServerView D) (start now : State) (reads : Only
       ∙ ap (played_line (bytes_of_packet step.sent.packet)) step.ends) w)
 
 -- nothing was read yet
-pub reads-none : {D : Type 0} (server : ServerView D) (state : State) → OnlyReads server server state state
+pub reads-none : {D : Type 0} (server : ServerView D) (state : State)
+    → OnlyReads server server state state
 reads-none server state = record {
   view = refl;
   keeps = record { len = refl; was_honest = λ honest. honest };
@@ -76,7 +79,8 @@ reads-more old mid new start between now a b = record {
 }
 
 -- nothing was asked yet
-pub goes_on-none : {D : Type 0} (server : ServerView D) (state : State) → GoesOn server server state state
+pub goes_on-none : {D : Type 0} (server : ServerView D) (state : State)
+    → GoesOn server server state state
 goes_on-none server state = record {
   keeps = record { len = refl; was_honest = λ honest. honest };
   later = omega arith;
@@ -92,11 +96,13 @@ goes_on-more old mid new start between now a b = record {
       let first = a.halted is in
       let then = b.halted (ap (λ (v : RepositoryView). v.halted) first.0 ∙ is) in (
         then.0 ∙ first.0,
-        λ honest. unchanged_on start between now (first.1 (b.keeps.was_honest honest)) (then.1 honest),
+        λ honest. unchanged_on start between now (first.1 (b.keeps.was_honest honest))
+            (then.1 honest),
       );
 }
 
 -- a server of that state is halted where the state is
-pub going-of : {D : Type 0} (server : ServerView D) (s : Standing) (state : State) (before : ServerState)
+pub going-of : {D : Type 0} (server : ServerView D) (s : Standing) (state : State)
+    (before : ServerState)
     → state_of server s state ≡ before → IsFalse before.halted → IsFalse server.view.halted
 going-of server s state before same going = ap (λ (b : ServerState). b.halted) same ∙ going

@@ -31,12 +31,14 @@ Session-push before mid [] x s a =
     (subst (λ m. Answers m (line_of x.line) x.reply x.after) s a, refl)
 Session-push before mid (y ∷ xs) x s a = (s.0, Session-push y.after mid xs x s.1 a)
 
-texts-push : (xs : List Exchange) (x : Exchange) → texts_of (xs ++ x ∷ []) ≡ texts_of xs ++ text_of x.reply
+texts-push : (xs : List Exchange) (x : Exchange)
+    → texts_of (xs ++ x ∷ []) ≡ texts_of xs ++ text_of x.reply
 texts-push xs x = flat_map-append (λ (y : Exchange). text_of y.reply) xs (x ∷ [])
     ∙ ap (λ l. texts_of xs ++ l) (append-nil (text_of x.reply))
 
 -- nothing was read
-pub Served-none : {D : Type 0} (server : ServerView D) (s : Standing) (now : State) (known : Option (List ℕ))
+pub Served-none : {D : Type 0} (server : ServerView D) (s : Standing) (now : State)
+    (known : Option (List ℕ))
     → StandsFor server.view s now → (now.IsHonest → IsHonestDisk now) → now.IsHonest
     → Served now (state_of server s now) (state_of server s now) (whole_lines []) known known
 unfolding Session
@@ -51,7 +53,8 @@ Served-none server s now known stands sound honest = record {
       (λ image left. (stands.holds going).each image left);
 }
 
-module _ {D : Type 0} (mid_server after_server : ServerView D) (m last : Standing) (start now : State)
+module _ {D : Type 0} (mid_server after_server : ServerView D) (m last : Standing)
+    (start now : State)
     (sound_start : IsHonestDisk start) (sound : IsHonestDisk now)
     (stands : StandsFor after_server.view last now) (before : ServerState)
     (lines : List (List ℕ)) (line : List ℕ) (old known new : Option (List ℕ)) where
@@ -69,11 +72,14 @@ module _ {D : Type 0} (mid_server after_server : ServerView D) (m last : Standin
       → Crosses start now mid (exchange reply) → Session before xs mid
       → IsStored start (failed_by xs) before xs
       → IsStored now (failed_by (xs ++ exchange reply ∷ [])) before (xs ++ exchange reply ∷ [])
-  stored later reply xs what crosses s is = stored-push start now before mid xs (exchange reply) sound_start
-      sound refl refl later what crosses (λ going image left. (stands.holds going).each image left) s is
+  stored later reply xs what crosses s is =
+      stored-push start now before mid xs (exchange reply) sound_start
+      sound refl refl later what crosses
+      (λ going image left. (stands.holds going).each image left) s is
 
   -- one more line was answered
-  pub Served-push : Served start before mid lines old known → start.moment ≤ now.moment → (reply : Reply)
+  pub Served-push : Served start before mid lines old known → start.moment ≤ now.moment
+      → (reply : Reply)
       → Answered mid (line_of line) reply after known new → Crosses start now mid (exchange reply)
       → Served now before after (lines ++ line ∷ []) old new
   Served-push served later reply a crosses =
@@ -87,12 +93,14 @@ module _ {D : Type 0} (mid_server after_server : ServerView D) (m last : Standin
           appended = subst (Appends old new) (sym (texts-push xs (exchange reply)))
               (Appends-trans old known new _ _ is.appended a.written);
         };
-        stored = λ going. stored later reply xs (outcome mid after (line_of line) reply a.answers) crosses
+        stored = λ going. stored later reply xs
+            (outcome mid after (line_of line) reply a.answers) crosses
             is.session (served.stored going);
       }
 
   -- its reply was broken off
-  pub Stopped-here : Served start before mid lines old known → start.moment ≤ now.moment → (reply : Reply)
+  pub Stopped-here : Served start before mid lines old known → start.moment ≤ now.moment
+      → (reply : Reply)
       → BrokenOff mid (line_of line) reply after known new → Crosses start now mid (exchange reply)
       → (count : ℕ) → count ≡ length lines → (all unanswered : List (List ℕ))
       → all ≡ lines ++ line ∷ unanswered → Stopped now before after all count old new
@@ -108,7 +116,8 @@ module _ {D : Type 0} (mid_server after_server : ServerView D) (m last : Standin
     replied = served.replied;
     reply = reply;
     broken = b;
-    stored = λ going. stored later reply served.exchanges (begun_outcome mid after (line_of line) reply b.begins)
+    stored = λ going. stored later reply served.exchanges
+        (begun_outcome mid after (line_of line) reply b.begins)
         crosses served.replied.session (served.stored going);
   }
 
@@ -130,7 +139,8 @@ module _ (xs : List ℕ) (hand : Option (List ℕ)) (count : ℕ) (is : InHand x
   }
 
   -- a line ended
-  pub InHand-end : (next : Option (List ℕ)) → next ≡ bytes_in_hand [] → InHand (xs ++ 10 ∷ []) next (count + 1)
+  pub InHand-end : (next : Option (List ℕ)) → next ≡ bytes_in_hand []
+      → InHand (xs ++ 10 ∷ []) next (count + 1)
   InHand-end next h = record {
     rest = h ∙ ap bytes_in_hand (sym (rest_of-end xs));
     counted = let c = is.counted in rw (whole_lines-end, length-append) (omega arith);

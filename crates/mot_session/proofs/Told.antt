@@ -39,19 +39,24 @@ less_of_sure s sure done others image is =
     }
 
 module _ (start now : State) (before : ServerState) (x : Exchange) (sound : IsHonestDisk now)
-    (what : Outcome before x.after (accepted_in x) (failed_in x)) (crosses : Crosses start now before x)
-    (each : IsFalse x.after.halted → (image : List ℕ) → now.MayLeave image → IsOf x.after.standing image)
+    (what : Outcome before x.after (accepted_in x) (failed_in x))
+    (crosses : Crosses start now before x)
+    (each : IsFalse x.after.halted → (image : List ℕ) → now.MayLeave image
+    → IsOf x.after.standing image)
     (going : IsFalse before.halted) (s : Standing) (acknowledged : List Command)
     (so_far : IsAfter s acknowledged before.standing) where
   -- the command that the reply accepts was done
   accepted_more : IsAfter s (acknowledged ++ accepted_in x) x.after.standing
-  accepted_more = after_both s acknowledged (accepted_in x) before.standing x.after.standing so_far (made before x what)
+  accepted_more = after_both s acknowledged (accepted_in x) before.standing x.after.standing so_far
+      (made before x what)
 
   came : (image : List ℕ) → StandsAfterSome before.standing [] (accepted_in x ++ failed_in x) image
       → StandsAfterSome s acknowledged (accepted_in x ++ failed_in x) image
-  came image left = behind s before.standing acknowledged (accepted_in x ++ failed_in x) image so_far left
+  came image left =
+      behind s before.standing acknowledged (accepted_in x ++ failed_in x) image so_far left
 
-  leaves : Outcome before x.after (accepted_in x) (failed_in x) → (image : List ℕ) → now.MayLeave image
+  leaves : Outcome before x.after (accepted_in x) (failed_in x) → (image : List ℕ)
+      → now.MayLeave image
       → StandsAfterSome s (acknowledged ++ accepted_in x) (failed_in x) image
   leaves (nothing none fine standing same) image left =
       none_of s (acknowledged ++ accepted_in x) (failed_in x) x.after.standing image accepted_more
@@ -60,7 +65,8 @@ module _ (start now : State) (before : ServerState) (x : Exchange) (sound : IsHo
       none_of s (acknowledged ++ accepted_in x) (failed_in x) x.after.standing image accepted_more
       (each (same ∙ going) image left)
   leaves (halts none was is standing) image left =
-      let all = came image (at_end start now (StandsAfterSome before.standing [] (accepted_in x ++ failed_in x))
+      let all = came image
+      (at_end start now (StandsAfterSome before.standing [] (accepted_in x ++ failed_in x))
       sound (crosses.going going) image left) in
       subst (λ l. StandsAfterSome s (acknowledged ++ l) (failed_in x) image) (sym none)
       (subst (λ l. StandsAfterSome s l (failed_in x) image) (sym (append-nil acknowledged))
@@ -75,17 +81,21 @@ module _ (start now : State) (before : ServerState) (x : Exchange) (sound : IsHo
         ⊎_elim {C = StandsAfterSome s sure (others ++ (accepted_in x ++ failed_in x)) image}
         (λ was. more s sure others (accepted_in x ++ failed_in x) image (stored image was))
         (λ is. less_of_sure s sure others (accepted_in x ++ failed_in x) image
-        (subst (λ l. StandsAfterSome s l (accepted_in x ++ failed_in x) image) parts (came image is)))
+        (subst (λ l. StandsAfterSome s l (accepted_in x ++ failed_in x) image) parts
+        (came image is)))
         ((crosses.going going).before moment image early left);
   }
 
 -- a line was answered, in whole or in part
 module _ {D T : Type 0} (state : D → State) (old new : ServerView D) (line : List ℕ)
-    (known next : Option (List ℕ)) (sound : (state new.disk).IsHonest → IsHonestDisk (state new.disk)) where
+    (known next : Option (List ℕ))
+    (sound : (state new.disk).IsHonest → IsHonestDisk (state new.disk)) where
   pub ServedLine-told : (result : Result T WriteFault)
-      → Leads state old new (λ before after. AnswersLine result (state old.disk) (state new.disk) before line after
+      → Leads state old new
+      (λ before after. AnswersLine result (state old.disk) (state new.disk) before line after
       known next)
-      → OnOk result (Leads state old new (λ before after. ServedLine (state old.disk) (state new.disk) before line
+      → OnOk result (Leads state old new
+      (λ before after. ServedLine (state old.disk) (state new.disk) before line
       after known next))
   ServedLine-told (Ok done) led = λ s stands honest.
       let a = led s stands honest in
@@ -107,9 +117,11 @@ module _ {D T : Type 0} (state : D → State) (old new : ServerView D) (line : L
   ServedLine-told (Err fault) led = tt
 
   pub StoppedLine-told : (result : Result T WriteFault)
-      → Leads state old new (λ before after. AnswersLine result (state old.disk) (state new.disk) before line after
+      → Leads state old new
+      (λ before after. AnswersLine result (state old.disk) (state new.disk) before line after
       known next)
-      → OnErr result (Leads state old new (λ before after. StoppedLine (state old.disk) (state new.disk) before line
+      → OnErr result (Leads state old new
+      (λ before after. StoppedLine (state old.disk) (state new.disk) before line
       after known next))
   StoppedLine-told (Ok done) led = tt
   StoppedLine-told (Err fault) led = λ s stands honest.
@@ -124,7 +136,8 @@ module _ {D T : Type 0} (state : D → State) (old new : ServerView D) (line : L
           broken = told.answers;
           stored = keeps (state old.disk) (state new.disk) before
               (record { line = line; reply = told.reply; after = after }) (sound honest)
-              (begun_outcome before after (line_of line) told.reply told.answers.begins) told.crosses
+              (begun_outcome before after (line_of line) told.reply told.answers.begins)
+              told.crosses
               (λ going image left. (a.1.holds going).each image left);
         },
       )

@@ -1,5 +1,5 @@
 ghost use Rattle.std.specs.Prelude.{◌≡◌, ℕ, ◌+◌, ◌-◌, ◌^◌, ◌≤◌, ◌<◌, ◌⊎◌, Option, List, ◌++◌};
-ghost use Rattle.std.specs.Prelude.{length, OnOk, OnErr, IfNone, None, Some, IsTrue};
+ghost use Rattle.std.specs.Prelude.{length, OnOk, OnErr, None, Some, IsTrue};
 ghost use Rattle.std.specs.Io.KnownBytes.{Keeps, IsAtEnd};
 ghost use Rattle.disk_store.specs.Disk.{IsUnchanged, KeepsLength};
 ghost use Rattle.mot_base.specs.declared.refusal.Refusal.TheVariants.{OutOfMemory, ReadFault};

@@ -1,5 +1,4 @@
-ghost use Rattle.std.specs.Prelude.{◌≡◌, ◌<◌, ◌≤◌, ℕ, List, Result, Ok, Err, Some, true, false};
-ghost use Rattle.std.specs.Prelude.{IsTrue, IsFalse, IfOk};
+ghost use Rattle.std.specs.Prelude.{◌≡◌, ◌<◌, ℕ, List, Result, Ok, Some, false, IfOk};
 ghost use Rattle.std.specs.List.{flat_map};
 ghost use Rattle.mot_base.specs.Geometry.{IsValid};
 ghost use Rattle.mot_journal.specs.Image.{Standing};

@@ -96,7 +96,8 @@ returns-then-count-eq0-clause-unwritten g c = λ fault.
       ),
     )
 
-pub returns-in_default-answer_chunk-clause-unwritten : goal.returns-in_default-answer_chunk-clause-unwritten
+pub returns-in_default-answer_chunk-clause-unwritten :
+    goal.returns-in_default-answer_chunk-clause-unwritten
 returns-in_default-answer_chunk-clause-unwritten g c = λ fault.
     let state = g.D.Disk.state in
     let t = c.loop.invariant.taken in
@@ -132,7 +133,8 @@ loop-preserved g c =
     record {
       bound = let l : c.loop.lines ≤ READ_SIZE * c.loop.counter = c.loop.invariant.bound in
           omega (arith, b, m.0, m.1, l);
-      goes = goes_on-more first mid_server new (state first.disk) (state mid_server.disk) (state new.disk)
+      goes = goes_on-more first mid_server new (state first.disk) (state mid_server.disk)
+          (state new.disk)
           inv.goes one.goes;
       taken = (
         t.0 ++ take c.in-Ok-read.count c.read.new.buf,

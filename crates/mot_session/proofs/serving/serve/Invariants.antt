@@ -13,8 +13,11 @@ invariant-loop g l =
       bound : l.lines ≤ READ_SIZE * l.counter;
       goes : GoesOn l.fn.server l.server (state l.fn.server.disk) (state l.server.disk);
       taken : (input : List ℕ)
-          × TakesInput l.counter (g.R.Read.remaining l.fn.reader) (g.R.Read.remaining l.reader) input
+          × TakesInput l.counter (g.R.Read.remaining l.fn.reader)
+          (g.R.Read.remaining l.reader) input
           × InHand input l.hand l.lines
-          × Leads (g.D.Disk.state) l.fn.server l.server (λ before after. Served (state l.server.disk)
-          before after (whole_lines input) (g.W.Write.contents l.fn.writer) (g.W.Write.contents l.writer));
+          × Leads (g.D.Disk.state) l.fn.server l.server
+          (λ before after. Served (state l.server.disk)
+          before after (whole_lines input) (g.W.Write.contents l.fn.writer)
+          (g.W.Write.contents l.writer));
     }

@@ -19,7 +19,8 @@ returns-in_err-write_reply-clause-answers g c = λ line parsed s stands honest.
     let before = state_of old s (state old.disk) in
     let between = state_of mid decided.0 (state mid.disk) in
     let after = state_of new decided.0 (state new.disk) in
-    let written = c.in_err-write_reply.ensures.answers before (line_of line) decided.0 decided.1 honest
+    let written = c.in_err-write_reply.ensures.answers before
+    (line_of line) decided.0 decided.1 honest
     (Decides-parsed before between c.answer-decision.result c.args.request (line_of line) parsed
     decided.2) in (
       decided.0,
@@ -27,7 +28,8 @@ returns-in_err-write_reply-clause-answers g c = λ line parsed s stands honest.
       record {
         reply = written.0;
         answers = rw p.1 written.2;
-        crosses = Crosses-line old mid new s (state old.disk) (state mid.disk) (state new.disk) line written.0
+        crosses = Crosses-line old mid new s (state old.disk) (state mid.disk)
+            (state new.disk) line written.0
             after c.answer-decision.result c.args.request stands honest reads parsed written.1
             (c.answer-decision.ensures.crosses s) (λ is. (c.answer-decision.ensures.halted is).1);
       },
@@ -45,16 +47,19 @@ returns-clause-answers g c = λ line parsed s stands honest.
     let before = state_of old s (state old.disk) in
     let between = state_of mid decided.0 (state mid.disk) in
     let after = state_of new decided.0 (state new.disk) in
-    let written = c.in_ok-write_reply.ensures.answers before (line_of line) decided.0 decided.1 honest
+    let written = c.in_ok-write_reply.ensures.answers before
+    (line_of line) decided.0 decided.1 honest
     (Decides-parsed before between c.answer-decision.result c.args.request (line_of line) parsed
     decided.2) in (
       decided.0,
       stands-read mid new (state mid.disk) (state new.disk) reads honest decided.0 decided.1,
       record {
         reply = written.0;
-        answers = AnswersWith-kept c.map_err.result before after (line_of line) written.0 _ _ _ written.2
+        answers =
+            AnswersWith-kept c.map_err.result before after (line_of line) written.0 _ _ _ written.2
             c.flush.ensures.bytes;
-        crosses = Crosses-line old mid new s (state old.disk) (state mid.disk) (state new.disk) line written.0
+        crosses = Crosses-line old mid new s (state old.disk) (state mid.disk)
+            (state new.disk) line written.0
             after c.answer-decision.result c.args.request stands honest reads parsed written.1
             (c.answer-decision.ensures.crosses s) (λ is. (c.answer-decision.ensures.halted is).1);
       },
