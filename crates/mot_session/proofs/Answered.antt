@@ -1,5 +1,5 @@
 -- What answers a request.
-use Rattle.std.proofs.Common.{◌≡◌, ℕ, ◌≤◌, ◌⊎◌, inl, inr, ⊎_elim, Bool, true, false, List, [], ◌∷◌, ◌++◌}
+use Rattle.std.proofs.Common.{◌≡◌, ℕ, ◌≤◌, inl, inr, Bool, true, false, List, [], ◌∷◌, ◌++◌}
 use Rattle.std.proofs.Common.{Ok, Err, Result, refl, sym, ap, ◌∙◌, subst, arith, append-nil}
 use Rattle.std.specs.Prelude.{IsTrue, IsFalse, if◌then◌else◌}
 use Rattle.disk_store.specs.Disk.{State, IsHonestDisk, IsUnchanged, Throughout}
@@ -20,12 +20,14 @@ use Rattle.mot_lines.specs.Line.{IsParsed, NeedsMemory, line_of}
 use Rattle.mot_player.specs.Place.{change_turn}
 use Rattle.mot_player.specs.Standing as player
 use Rattle.mot_player.specs.Turn.{turn_of_carousel}
-use Rattle.mot_repository.specs.Answers.{IsAnswered, IsChanged, IsRefusal, accepted, failed, refused}
+use Rattle.mot_repository.specs.Answers.{IsAnswered, IsChanged, IsRefusal, accepted, failed}
+use Rattle.mot_repository.specs.Answers.{refused}
 use Rattle.mot_repository.specs.Answers as repository
 use Rattle.mot_repository.specs.Repository.{RepositoryView, Agrees, Holds, IsBeforeOrAfter, IsNext}
 use Rattle.mot_server.specs.Runs.{StandsAfterSome}
 use Rattle.mot_server.specs.Server.{ServerView, place_in, bodies_of}
-use Rattle.mot_server.proofs.Laws.{after_none, before_or_after, holds_still, is_accepted, more, no_gap}
+use Rattle.mot_server.proofs.Laws.{after_none, before_or_after, holds_still, is_accepted, more}
+use Rattle.mot_server.proofs.Laws.{no_gap}
 use Rattle.mot_server.proofs.Laws.{none_of, not_halted, still_agrees, unchanged_on}
 use Rattle.mot_session.specs.Raw.{raw_group, packets_at}
 use Rattle.mot_session.specs.Inner.Decision.{Decides, may_be_done, written_by}
@@ -35,8 +37,8 @@ use Rattle.mot_session.specs.Session.{decided, no_memory, accepts, refuses, fail
 use Rattle.mot_session.specs.declared.answering.Decision.{Decision}
 use Rattle.mot_session.specs.declared.answering.Decision.TheVariants.{Refused, Accepted, Listing}
 use Rattle.mot_session.specs.declared.answering.Decision.TheVariants.{Packets, Next, Turn}
-use Rattle.mot_session.specs.State.{ServerState, IsLater, KeepsCarousel, StandsFor, Stays, state_of}
-use Rattle.mot_session.specs.Stored.{command_in, is_device_fault}
+use Rattle.mot_session.specs.State.{ServerState, StandsFor, Stays, state_of}
+use Rattle.mot_session.specs.Stored.{command_in}
 use Rattle.mot_session.specs.Inner.Writes.{Crosses, OnlyReads, may_have_done}
 use Rattle.mot_session.proofs.Outcomes.{done_by, failed_by_reply}
 
@@ -80,16 +82,19 @@ module _ {D : Type 0} (old new : ServerView D) (s : Standing) (start now : State
 
   pub Answers-accepted : (done : Done) → IsAnswered old.view new.view start now c (Ok done)
       → IsFalse old.view.halted → (next : Standing) → IsNext s c done next → Holds new.view next now
-      → place_in new next ≡ change_turn (turn_of_carousel next.carousel next.geometry.segment_size) (place_in old s)
+      → place_in new next ≡ change_turn (turn_of_carousel next.carousel next.geometry.segment_size)
+      (place_in old s)
       → (last : Standing) × StandsFor new.view last now
-      × Answers (state_of old s start) (Ok (asks.Command c)) (session.accepted done) (state_of new last now)
+      × Answers (state_of old s start) (Ok (asks.Command c)) (session.accepted done)
+      (state_of new last now)
   unfolding IsAnswer
   Answers-accepted done answer going next step holds place =
       let changed = changed_of done answer in (
         next,
         record { agrees = holds.agrees; holds = λ is. holds },
         decided (λ needs. going) (accepts done refl (record {
-          is_accepted = is_accepted old.view s stands.agrees new.view next c done holds.agrees changed step;
+          is_accepted =
+              is_accepted old.view s stands.agrees new.view next c done holds.agrees changed step;
           layout = changed.layout;
           halted = changed.halted;
           place = place;
@@ -111,16 +116,20 @@ module _ {D : Type 0} (old new : ServerView D) (s : Standing) (start now : State
   }
 
   -- the rules, told of what the disk stands for
-  rules-on : (r : Refusal) → repository.IsRefusedByRules old.view.carousel old.view.journal.geometry.objects c r
+  rules-on : (r : Refusal) → repository.IsRefusedByRules old.view.carousel
+      old.view.journal.geometry.objects c r
       → change s.carousel s.geometry.objects c ≡ Err r
   rules-on r rules =
       let agrees = stands.agrees in
       subst (λ (k : Carousel). change k s.geometry.objects c ≡ Err r) (sym agrees.carousel)
-      (subst (λ (g : Geometry). change (carousel_of old.view.carousel agrees.bodies) g.objects c ≡ Err r)
+      (subst (λ (g : Geometry). change
+      (carousel_of old.view.carousel agrees.bodies) g.objects c ≡ Err r)
       agrees.geometry (rules agrees.bodies agrees.are_bodies))
 
-  why-refused : (r : Refusal) → IsRefusal old.view c r → Stays (state_of old s start) (state_of new s now)
-      → Answers (state_of old s start) (Ok (asks.Command c)) (session.refused r) (state_of new s now)
+  why-refused : (r : Refusal) → IsRefusal old.view c r
+      → Stays (state_of old s start) (state_of new s now)
+      → Answers (state_of old s start) (Ok (asks.Command c)) (session.refused r)
+      (state_of new s now)
   unfolding IsAnswer
   why-refused r (repository.halted is e) same = session.halted is tt (ap session.refused e) same
   why-refused r (repository.long_name going layout long e) same =
@@ -132,7 +141,8 @@ module _ {D : Type 0} (old new : ServerView D) (s : Standing) (start now : State
       decided (λ needs. going) (refuses r refl (session.no_room room
       (carousel_of next (bodies_after old.view.carousel c agrees.bodies), done)
       (subst (λ (k : Carousel). change k s.geometry.objects c
-      ≡ Ok (carousel_of next (bodies_after old.view.carousel c agrees.bodies), done)) (sym agrees.carousel)
+      ≡ Ok (carousel_of next (bodies_after old.view.carousel c agrees.bodies), done))
+      (sym agrees.carousel)
       (subst (λ (g : Geometry). change (carousel_of old.view.carousel agrees.bodies) g.objects c
       ≡ Ok (carousel_of next (bodies_after old.view.carousel c agrees.bodies), done))
       agrees.geometry (changes agrees.bodies agrees.are_bodies).0))
@@ -142,7 +152,8 @@ module _ {D : Type 0} (old new : ServerView D) (s : Standing) (start now : State
   pub Answers-refused_command : (r : Refusal) → IsAnswered old.view new.view start now c (Err r)
       → new.player ≡ old.player → now.IsHonest
       → (last : Standing) × StandsFor new.view last now
-      × Answers (state_of old s start) (Ok (asks.Command c)) (session.refused r) (state_of new last now)
+      × Answers (state_of old s start) (Ok (asks.Command c)) (session.refused r)
+      (state_of new last now)
   unfolding IsAnswer
   Answers-refused_command r (accepted d e changed) still_player honest = absurd (not_ok d r e)
   Answers-refused_command r (refused x e why same still) still_player honest = (
@@ -150,7 +161,8 @@ module _ {D : Type 0} (old new : ServerView D) (s : Standing) (start now : State
     record {
       agrees = subst (λ v. Agrees v s) (sym same) stands.agrees;
       holds = λ is. holds_still old.view new.view s start now
-          (stands.holds (subst (λ (v : RepositoryView). IsFalse v.halted) same is)) honest still same;
+          (stands.holds (subst (λ (v : RepositoryView). IsFalse v.halted) same is)) honest
+          still same;
     },
     why-refused r (subst (λ y. IsRefusal old.view c y) (sym (same_refusal r x e)) why)
         (stays-refused still.time.later same still_player),
@@ -174,7 +186,8 @@ module _ {D : Type 0} (old new : ServerView D) (s : Standing) (start now : State
 -- ---- what a crash leaves of it
 
 -- nothing changes on the disk
-pub crosses-unchanged : (view : RepositoryView) (s : Standing) (start now : State) (commands : List Command)
+pub crosses-unchanged : (view : RepositoryView) (s : Standing) (start now : State)
+    (commands : List Command)
     → IsHonestDisk start → Holds view s start → IsUnchanged start now
     → Throughout start now (StandsAfterSome s [] commands)
 crosses-unchanged view s start now commands sound holds still =
@@ -184,14 +197,17 @@ crosses-unchanged view s start now commands sound holds still =
 
 -- nothing was asked of the disk
 pub crosses-none : (view : RepositoryView) (s : Standing) (start : State) (commands : List Command)
-    → IsHonestDisk start → Holds view s start → Throughout start start (StandsAfterSome s [] commands)
+    → IsHonestDisk start → Holds view s start → Throughout start start
+    (StandsAfterSome s [] commands)
 crosses-none view s start commands sound holds =
     begins start (StandsAfterSome s [] commands) sound
     (λ image left. none_of s [] commands s image (after_none s) (holds.each image left))
 
-tried : (s : Standing) (start now : State) (c : Command) → Throughout start now (IsBeforeOrAfter s c)
+tried : (s : Standing) (start now : State) (c : Command)
+    → Throughout start now (IsBeforeOrAfter s c)
     → Throughout start now (StandsAfterSome s [] (c ∷ []))
-tried s start now c time = weakens start now (IsBeforeOrAfter s c) (StandsAfterSome s [] (c ∷ [])) time
+tried s start now c time =
+    weakens start now (IsBeforeOrAfter s c) (StandsAfterSome s [] (c ∷ [])) time
     (λ image is. before_or_after s [] s c image (after_none s) is)
 
 pub crosses-accepted : (s : Standing) (start now : State) (c : Command) (done : Done)
@@ -199,15 +215,19 @@ pub crosses-accepted : (s : Standing) (start now : State) (c : Command) (done : 
     → Throughout start now (StandsAfterSome s [] (written_by (Accepted done) (Ok (asks.Command c))))
 crosses-accepted s start now c done time = tried s start now c time
 
-pub crosses-refused : (view view' : RepositoryView) (s : Standing) (start now : State) (c : Command) (r : Refusal)
+pub crosses-refused : (view view' : RepositoryView) (s : Standing) (start now : State) (c : Command)
+    (r : Refusal)
     → IsHonestDisk start → Holds view s start → IsAnswered view view' start now c (Err r)
     → Throughout start now (IsBeforeOrAfter s c)
     → Throughout start now (StandsAfterSome s [] (written_by (Refused r) (Ok (asks.Command c))))
-crosses-refused view view' s start now c r sound holds (accepted d e changed) time = absurd (not_ok d r e)
+crosses-refused view view' s start now c r sound holds (accepted d e changed) time =
+    absurd (not_ok d r e)
 crosses-refused view view' s start now c r sound holds (refused x e why same still) time =
-    crosses-unchanged view s start now (written_by (Refused r) (Ok (asks.Command c))) sound holds still
+    crosses-unchanged view s start now
+    (written_by (Refused r) (Ok (asks.Command c))) sound holds still
 crosses-refused view view' s start now c r sound holds (failed e going rises halts) time =
-    subst (λ x. Throughout start now (StandsAfterSome s [] (written_by (Refused x) (Ok (asks.Command c)))))
+    subst (λ x. Throughout start now
+    (StandsAfterSome s [] (written_by (Refused x) (Ok (asks.Command c)))))
     (sym (same_refusal r DeviceFault e)) (tried s start now c time)
 
 -- a halted server refuses, and nothing changes
@@ -233,7 +253,8 @@ module _ (state : ServerState) where
 
   pub Answers-raw : (kind : GroupKind) (tid : ℕ) (body group : List ℕ)
       → group ≡ bytes_of_group (raw_group kind tid body)
-      → Answers state (Ok (asks.Raw kind tid body)) (session.packets (packets_at state.standing.geometry group))
+      → Answers state (Ok (asks.Raw kind tid body))
+      (session.packets (packets_at state.standing.geometry group))
       state
   unfolding IsAnswer
   Answers-raw kind tid body group e = decided (λ needs. absurd needs)
@@ -249,14 +270,17 @@ module _ (state : ServerState) where
   Answers-halted request needs is = session.halted is needs refl (stays-none state)
 
 -- what is shown or played is decided so, unless the server is halted
-pub Decides-shown : (state : ServerState) (request : Result Line Refusal) (decision result : Decision)
+pub Decides-shown : (state : ServerState) (request : Result Line Refusal)
+    (decision result : Decision)
     → NeedsCarousel request → (IsTrue state.halted → result ≡ Refused Halted)
     → (IsFalse state.halted → result ≡ decision)
-    → (IsFalse state.halted → Decides state request decision state) → Decides state request result state
+    → (IsFalse state.halted → Decides state request decision state)
+    → Decides state request result state
 Decides-shown state request decision result needs is isnt decides = by_case state.halted refl
   where
     by_case : (b : Bool) → state.halted ≡ b → Decides state request result state
-    by_case true e = subst (λ d. Decides state request d state) (sym (is e)) (Answers-halted state request needs e)
+    by_case true e = subst (λ d. Decides state request d state) (sym (is e))
+        (Answers-halted state request needs e)
     by_case false e = subst (λ d. Decides state request d state) (sym (isnt e)) (decides e)
 
 -- the line was parsed, or there was no memory for it
@@ -284,12 +308,15 @@ module _ (before after : ServerState) where
   pub Decides-parsed : (decision : Decision) (request asked : Result Line Refusal)
       → IsParsed request asked → Decides before request decision after
       → Decides before asked decision after
-  Decides-parsed (Refused r) request asked o d = answers-parsed (session.refused r) request asked o d
-  Decides-parsed (Accepted a) request asked o d = answers-parsed (session.accepted a) request asked o d
+  Decides-parsed (Refused r) request asked o d =
+      answers-parsed (session.refused r) request asked o d
+  Decides-parsed (Accepted a) request asked o d =
+      answers-parsed (session.accepted a) request asked o d
   Decides-parsed Listing request asked o d =
       answers-parsed (session.listing after.standing.carousel) request asked o d
   Decides-parsed (Packets group) request asked o d =
-      answers-parsed (session.packets (packets_at after.standing.geometry group.items)) request asked o d
+      answers-parsed (session.packets (packets_at after.standing.geometry group.items))
+      request asked o d
   Decides-parsed (Next count) request asked o d =
       (plays-parsed (asks.Next count) request asked o d.0, d.1, d.2)
   Decides-parsed Turn request asked o d = (plays-parsed asks.Turn request asked o d.0, d.1, d.2)
@@ -298,8 +325,10 @@ abbrev empty : Bool → List Command
 empty b = if b then [] else []
 
 -- and what was written is of that command
-pub written_by-parsed : (decision : Decision) (request asked : Result Line Refusal) (s : Standing) (start now : State)
-    → IsParsed request asked → Throughout start now (StandsAfterSome s [] (written_by decision request))
+pub written_by-parsed : (decision : Decision) (request asked : Result Line Refusal) (s : Standing)
+    (start now : State)
+    → IsParsed request asked → Throughout start now
+    (StandsAfterSome s [] (written_by decision request))
     → Throughout start now (StandsAfterSome s [] (written_by decision asked))
 written_by-parsed decision request asked s start now (inl e) time =
     subst (λ r. Throughout start now (StandsAfterSome s [] (written_by decision r))) e time
@@ -327,18 +356,27 @@ line_did (session.played sents) request = refl
 line_did (session.cut_short sents) request = refl
 
 -- what a crash leaves of a line, from what it leaves of its command and of the reply
-pub Crosses-line : {D : Type 0} (old mid new : ServerView D) (s : Standing) (start between now : State)
-    (line : List ℕ) (reply : Reply) (after : ServerState) (decision : Decision) (request : Result Line Refusal)
+pub Crosses-line : {D : Type 0} (old mid new : ServerView D) (s : Standing)
+    (start between now : State)
+    (line : List ℕ) (reply : Reply) (after : ServerState) (decision : Decision)
+    (request : Result Line Refusal)
     → StandsFor old.view s start → now.IsHonest → OnlyReads mid new between now
     → IsParsed request (line_of line) → may_have_done reply ≡ may_be_done decision
-    → (Holds old.view s start → Throughout start between (StandsAfterSome s [] (written_by decision request)))
+    → (Holds old.view s start → Throughout start between
+    (StandsAfterSome s [] (written_by decision request)))
     → (IsTrue old.view.halted → IsUnchanged start between)
-    → Crosses start now (state_of old s start) (record { line = line; reply = reply; after = after })
-Crosses-line old mid new s start between now line reply after decision request stands honest reads parsed same crossed kept = record {
-  going = λ going.
-      let first = written_by-parsed decision request (line_of line) s start between parsed (crossed (stands.holds going)) in
-      let all = stays start between now (StandsAfterSome s [] (written_by decision (line_of line))) first (reads.unchanged honest).time in
-      subst (λ l. Throughout start now (StandsAfterSome s [] l))
-      (ap (λ b. if b then command_in (line_of line) else []) (sym same) ∙ line_did reply (line_of line)) all;
-  halted = λ is. unchanged_on start between now (kept is) (reads.unchanged honest);
-}
+    → Crosses start now (state_of old s start)
+    (record { line = line; reply = reply; after = after })
+Crosses-line old mid new s start between now line reply after decision request stands honest reads
+    parsed same crossed kept = record {
+      going = λ going.
+          let first = written_by-parsed decision request (line_of line) s start between parsed
+          (crossed (stands.holds going)) in
+          let all = stays start between now
+          (StandsAfterSome s [] (written_by decision (line_of line))) first
+          (reads.unchanged honest).time in
+          subst (λ l. Throughout start now (StandsAfterSome s [] l))
+          (ap (λ b. if b then command_in (line_of line) else []) (sym same)
+          ∙ line_did reply (line_of line)) all;
+      halted = λ is. unchanged_on start between now (kept is) (reads.unchanged honest);
+    }

@@ -1,11 +1,11 @@
 -- The packets of a session, in order.
-use Rattle.std.proofs.Common.{◌≡◌, ℕ, ◌+◌, ◌-◌, ◌<◌, List, [], ◌∷◌, ◌++◌, Some, Result, Ok, Err, refl, sym, ap}
+use Rattle.std.proofs.Common.{◌≡◌, ℕ, ◌+◌, ◌-◌, ◌<◌, List, [], ◌∷◌, ◌++◌, Some, Result, Ok, Err}
+use Rattle.std.proofs.Common.{refl, sym, ap}
 use Rattle.std.proofs.Common.{◌∙◌, subst, inl, inr, arith, map}
 use Rattle.std.proofs.lemmas.List.{map-append}
 use Rattle.mot_base.proofs.Laws.{read_each-append}
 use Rattle.mot_base.specs.PacketLength.{IsLength}
 use Rattle.mot_base.specs.Geometry.{IsValid, packet_room}
-use Rattle.mot_base.specs.declared.geometry.Geometry.{Geometry}
 use Rattle.mot_base.specs.declared.refusal.Refusal.{Refusal}
 use Rattle.mot_base.specs.declared.refusal.Refusal.TheVariants.{DeviceFault}
 use Rattle.mot_carousel.specs.Carousel.{Carousel}
@@ -23,9 +23,12 @@ use Rattle.std.specs.Prelude.{replicate}
 use Rattle.mot_session.specs.Laws.{SessionsAreContinuous, StoppedSessionsAreContinuous}
 use Rattle.mot_session.specs.Played.{FailsToSend, Sends, packets_sent}
 use Rattle.mot_session.specs.Served.{Begins, whole, next_begun, turn_begun}
-use Rattle.mot_session.specs.Session.{Exchange, Reply, refused, listing, IsCommandAnswer, accepts, refuses}
-use Rattle.mot_session.specs.Session.{fails, IsNextAnswer, IsTurnAnswer, all, cut, IsAnswer, Answers}
-use Rattle.mot_session.specs.Session.{decided, halted, no_memory, Session, packets_in, packets_played}
+use Rattle.mot_session.specs.Session.{Exchange, Reply, refused, listing, IsCommandAnswer, accepts}
+use Rattle.mot_session.specs.Session.{refuses}
+use Rattle.mot_session.specs.Session.{fails, IsNextAnswer, IsTurnAnswer, all, cut, IsAnswer}
+use Rattle.mot_session.specs.Session.{Answers}
+use Rattle.mot_session.specs.Session.{decided, halted, no_memory, Session, packets_in}
+use Rattle.mot_session.specs.Session.{packets_played}
 use Rattle.mot_session.specs.State.{HasJustOpened, ServerState}
 
 -- steps that led from a place to another, and the packets that they sent
@@ -39,7 +42,8 @@ Leads-none : (place : Place) → Leads place place []
 unfolding sent_by
 Leads-none place = record { steps = []; sents = []; taken = refl; read = refl }
 
-Leads-change : (place : Place) (c : Carousel) (size : ℕ) → Leads place (change_turn (turn_of_carousel c size) place) []
+Leads-change : (place : Place) (c : Carousel) (size : ℕ)
+    → Leads place (change_turn (turn_of_carousel c size) place) []
 unfolding sent_by
 Leads-change place c size = record {
   steps = NewTurn (turn_of_carousel c size) ∷ [];
@@ -48,7 +52,8 @@ Leads-change place c size = record {
   read = refl;
 }
 
-Leads-on : (before mid after : Place) (ps qs : List (List ℕ)) → Leads before mid ps → Leads mid after qs
+Leads-on : (before mid after : Place) (ps qs : List (List ℕ)) → Leads before mid ps
+    → Leads mid after qs
     → Leads before after (ps ++ qs)
 Leads-on before mid after ps qs p q = record {
   steps = p.steps ++ q.steps;
@@ -56,7 +61,8 @@ Leads-on before mid after ps qs p q = record {
   taken = steps-go_on p.steps q.steps before mid after p.sents q.sents p.taken q.taken;
   read = read_each-append read_packet ps qs (map (λ (s : Sent). s.packet) p.sents)
       (map (λ (s : Sent). s.packet) q.sents) p.read q.read
-      ∙ ap (λ (fs : List PacketFields). Some fs) (sym (map-append (λ (s : Sent). s.packet) p.sents q.sents));
+      ∙ ap (λ (fs : List PacketFields). Some fs)
+      (sym (map-append (λ (s : Sent). s.packet) p.sents q.sents));
 }
 
 -- the place stays, and nothing was sent
@@ -82,14 +88,18 @@ cut-behind before between after reply count sents e s f =
     subst (λ (p : Place). Leads before.place p (packets_in reply)) (sym f.stays.place)
     (sends before between reply count sents e s)
 
-commanded : (before after : ServerState) (c : Command) (reply : Reply) → IsCommandAnswer before c reply after
+commanded : (before after : ServerState) (c : Command) (reply : Reply)
+    → IsCommandAnswer before c reply after
     → Leads before.place after.place (packets_in reply)
 commanded before after c reply (accepts d e a) = rw (e, a.place)
     (Leads-change before.place after.standing.carousel after.standing.geometry.segment_size)
-commanded before after c reply (refuses r e why s) = stays before after reply (refused r) refl e s.place
-commanded before after c reply (fails e h) = stays before after reply (refused DeviceFault) refl e h.place
+commanded before after c reply (refuses r e why s) =
+    stays before after reply (refused r) refl e s.place
+commanded before after c reply (fails e h) =
+    stays before after reply (refused DeviceFault) refl e h.place
 
-nexts : (before after : ServerState) (count : ℕ) (reply : Reply) → IsNextAnswer before count reply after
+nexts : (before after : ServerState) (count : ℕ) (reply : Reply)
+    → IsNextAnswer before count reply after
     → Leads before.place after.place (packets_in reply)
 nexts before after count reply (all sents e s) =
     sends before after reply count sents (ap packets_in e) s
@@ -110,7 +120,8 @@ answered before after (Err r) reply a = stays before after reply (refused r) ref
 answered before after (Ok (asks.Command c)) reply a = commanded before after c reply a
 answered before after (Ok asks.List) reply a =
     stays before after reply (listing before.standing.carousel) refl a.0 a.1.place
-answered before after (Ok (asks.Raw kind tid body)) reply a = stays before after reply _ refl a.0 a.1.place
+answered before after (Ok (asks.Raw kind tid body)) reply a =
+    stays before after reply _ refl a.0 a.1.place
 answered before after (Ok (asks.Next count)) reply a = nexts before after count reply a
 answered before after (Ok asks.Turn) reply a = turns before after reply a
 
@@ -154,7 +165,8 @@ continuous before after sent v opened l =
 
 pub sessions-are-continuous : SessionsAreContinuous
 sessions-are-continuous before exchanges after v opened s =
-    continuous before after.place (packets_played exchanges) v opened (session exchanges before after s)
+    continuous before after.place (packets_played exchanges) v opened
+    (session exchanges before after s)
 
 pub stopped_sessions-are-continuous : StoppedSessionsAreContinuous
 stopped_sessions-are-continuous before exchanges between request reply after v opened s b =

@@ -1,9 +1,10 @@
 -- What a crash leaves of a session, line by line.
-use Rattle.std.proofs.Common.{◌≡◌, ℕ, ◌≤◌, ◌⊎◌, inl, inr, ⊎_elim, Bool, true, false, List, [], ◌∷◌, ◌++◌}
+use Rattle.std.proofs.Common.{◌≡◌, ℕ, ◌≤◌, ◌⊎◌, inl, inr, ⊎_elim, Bool, true, false, List, [], ◌∷◌}
+use Rattle.std.proofs.Common.{◌++◌}
 use Rattle.std.proofs.Common.{refl, sym, ap, ◌∙◌, subst, arith, append_assoc, append-nil}
 use Rattle.std.proofs.lemmas.List.Concat.{flat_map-append}
 use Rattle.std.specs.Prelude.{IsTrue, IsFalse}
-use Rattle.disk_store.specs.Disk.{State, IsHonestDisk, IsUnchanged, Throughout}
+use Rattle.disk_store.specs.Disk.{State, IsHonestDisk}
 use Rattle.disk_store.proofs.Laws.{at_end}
 use Rattle.mot_carousel.specs.declared.command.Command.{Command}
 use Rattle.mot_journal.specs.Image.{Standing}
@@ -22,14 +23,15 @@ use Rattle.mot_session.proofs.Outcomes.{Outcome, nothing, one, halts, outcome, l
 -- ---- a session, from its lines
 
 module _ (before : ServerState) (x : Exchange) where
-  made : Outcome before x.after (accepted_in x) (failed_in x)
+  pub made : Outcome before x.after (accepted_in x) (failed_in x)
       → IsAfter before.standing (accepted_in x) x.after.standing
   made (nothing none fine standing same) =
       subst (λ l. IsAfter before.standing l x.after.standing) (sym none)
       (subst (λ s. IsAfter before.standing [] s) (sym standing) (after_none before.standing))
   made (one c d is fine going same step) =
       subst (λ l. IsAfter before.standing l x.after.standing) (sym is)
-      (after_one before.standing [] before.standing x.after.standing c d (after_none before.standing) step)
+      (after_one before.standing [] before.standing x.after.standing c d
+      (after_none before.standing) step)
   made (halts none going is standing) =
       subst (λ l. IsAfter before.standing l x.after.standing) (sym none)
       (subst (λ s. IsAfter before.standing [] s) (sym standing) (after_none before.standing))
@@ -52,12 +54,22 @@ module _ (before : ServerState) (x : Exchange) where
       → Outcome before x.after (accepted_in x) (failed_in x)
   outcome_of a = outcome before x.after (line_of x.line) x.reply a
 
+-- what a crash leaves of commands behind others
+pub behind : (s now : Standing) (done others : List Command) (image : List ℕ) → IsAfter s done now
+    → StandsAfterSome now [] others image → StandsAfterSome s done others image
+behind s now done others image after left = record {
+  last = left.last;
+  after = after_history_none s now left.last done others after left.after;
+  image_is = left.image_is;
+}
+
 -- what the replies accept is what the carousel is after
 session-after : (before : ServerState) (xs : List Exchange) (after : ServerState)
     → Session before xs after → IsAfter before.standing (accepted_by xs) after.standing
 unfolding Session
 session-after before [] after s =
-    subst (λ (a : ServerState). IsAfter before.standing [] a.standing) (sym s) (after_none before.standing)
+    subst (λ (a : ServerState). IsAfter before.standing [] a.standing) (sym s)
+    (after_none before.standing)
 session-after before (x ∷ xs) after s =
     after_both before.standing (accepted_in x) (accepted_by xs) x.after.standing after.standing
     (made before x (outcome_of before x s.0)) (session-after x.after xs after s.1)
@@ -102,17 +114,21 @@ stored-end : (now : State) (failed : List Command) (before : ServerState) (xs : 
     (after : ServerState) → Session before xs after → IsStored now failed before xs
     → LeavesSince now after failed
 unfolding Session
-stored-end now failed before [] after s stored = subst (λ a. LeavesSince now a failed) (sym s) stored
+stored-end now failed before [] after s stored =
+    subst (λ a. LeavesSince now a failed) (sym s) stored
 stored-end now failed before (x ∷ xs) after s stored =
     stored-end now failed x.after xs after s.1 stored.1
 
 -- ---- one line more, which begins at start and ends now
 
-module _ (start now : State) (between : ServerState) (x : Exchange) (sound_start : IsHonestDisk start)
+module _ (start now : State) (between : ServerState) (x : Exchange)
+    (sound_start : IsHonestDisk start)
     (sound : IsHonestDisk now) (at_start : between.moment ≡ start.moment)
     (at_now : x.after.moment ≡ now.moment) (later : start.moment ≤ now.moment)
-    (what : Outcome between x.after (accepted_in x) (failed_in x)) (crosses : Crosses start now between x)
-    (each : IsFalse x.after.halted → (image : List ℕ) → now.MayLeave image → IsOf x.after.standing image)
+    (what : Outcome between x.after (accepted_in x) (failed_in x))
+    (crosses : Crosses start now between x)
+    (each : IsFalse x.after.halted → (image : List ℕ) → now.MayLeave image
+    → IsOf x.after.standing image)
     (failed : List Command) (fine : IsFalse between.halted → failed ≡ []) where
   -- on a halted server nothing is done
   nothing_done : Outcome between x.after (accepted_in x) (failed_in x) → IsTrue between.halted
@@ -131,7 +147,8 @@ module _ (start now : State) (between : ServerState) (x : Exchange) (sound_start
         let none = nothing_done what is in
         subst (λ l. StandsAfterSome u.standing [] l image)
         (ap (λ l. l ++ failed) (sym (append-nil done) ∙ ap (λ l. done ++ l) (sym none.0))
-        ∙ ap (λ l. (done ++ accepted_in x) ++ l) (sym (append-nil failed) ∙ ap (λ l. failed ++ l) (sym none.1)))
+        ∙ ap (λ l. (done ++ accepted_in x) ++ l)
+        (sym (append-nil failed) ∙ ap (λ l. failed ++ l) (sym none.1)))
         left
     old_images (inr going) image left =
         let none = fine going in
@@ -147,12 +164,8 @@ module _ (start now : State) (between : ServerState) (x : Exchange) (sound_start
         → StandsAfterSome u.standing [] ((done ++ accepted_in x) ++ (failed ++ failed_in x)) image
     new_images going image left =
         let none = fine going in
-        let all : StandsAfterSome u.standing done (accepted_in x ++ failed_in x) image = record {
-          last = left.last;
-          after = after_history_none u.standing between.standing left.last done (accepted_in x ++ failed_in x)
-              after left.after;
-          image_is = left.image_is;
-        } in
+        let all = behind u.standing between.standing done
+        (accepted_in x ++ failed_in x) image after left in
         subst (λ l. StandsAfterSome u.standing [] l image)
         (sym (append_assoc done (accepted_in x) (failed_in x))
         ∙ ap (λ l. (done ++ accepted_in x) ++ (l ++ failed_in x)) (sym none))
@@ -160,8 +173,10 @@ module _ (start now : State) (between : ServerState) (x : Exchange) (sound_start
 
     leaves_more : LeavesSince start u (done ++ failed)
         → LeavesSince now u ((done ++ accepted_in x) ++ (failed ++ failed_in x))
-    leaves_more leaves = ⊎_elim {C = LeavesSince now u ((done ++ accepted_in x) ++ (failed ++ failed_in x))}
-        (λ is image left. ⊎_elim (λ was. old_images (inl is) image (leaves image was)) (λ came. absurd came)
+    leaves_more leaves =
+        ⊎_elim {C = LeavesSince now u ((done ++ accepted_in x) ++ (failed ++ failed_in x))}
+        (λ is image left. ⊎_elim (λ was. old_images (inl is) image (leaves image was))
+        (λ came. absurd came)
         ((crosses.halted is).time.nothing_else u.moment image early left))
         (λ going image left. ⊎_elim (λ was. old_images (inr going) image (leaves image was))
         (λ came. new_images going image came)
@@ -171,7 +186,8 @@ module _ (start now : State) (between : ServerState) (x : Exchange) (sound_start
   -- what a crash leaves behind the line
   leaves_now : LeavesSince start between failed → LeavesSince now x.after (failed ++ failed_in x)
   leaves_now leaves = λ image left.
-      let here : now.MayLeave image = sound.only_now image (subst (λ t. now.LeftSince t image) at_now left) in
+      let here : now.MayLeave image = sound.only_now image
+      (subst (λ t. now.LeftSince t image) at_now left) in
       ⊎_elim
       (λ is. ⊎_elim
       (λ was.
@@ -201,7 +217,8 @@ module _ (start now : State) (between : ServerState) (x : Exchange) (sound_start
           absurd (not_halted x.after.halted is (same ∙ was))
       halting (halts none going h standing) was is image so =
           subst (λ s. StandsAfterSome s [] (failed ++ failed_in x) image) (sym standing)
-          (subst (λ l. StandsAfterSome between.standing [] (l ++ failed_in x) image) (sym (fine was))
+          (subst (λ l. StandsAfterSome between.standing [] (l ++ failed_in x) image)
+          (sym (fine was))
           (subst (λ l. StandsAfterSome between.standing [] (l ++ failed_in x) image) none so))
 
   stored-more : (before : ServerState) (xs : List Exchange) → Session before xs between
@@ -209,11 +226,13 @@ module _ (start now : State) (between : ServerState) (x : Exchange) (sound_start
       → IsStored now (failed ++ failed_in x) before (xs ++ x ∷ [])
   unfolding Session
   stored-more before [] s stored =
-      let since : LeavesSince start between failed = subst (λ b. LeavesSince start b failed) (sym s) stored in
+      let since : LeavesSince start between failed = subst (λ b. LeavesSince start b failed)
+      (sym s) stored in
       let mine : LeavesSince now between (accepted_in x ++ (failed ++ failed_in x)) =
       leaves_more between [] (omega (arith, at_start)) (after_none between.standing) since in (
         subst (λ b. LeavesSince now b (accepted_by (x ∷ []) ++ (failed ++ failed_in x))) s
-            (subst (λ l. LeavesSince now between (l ++ (failed ++ failed_in x))) (sym (append-nil (accepted_in x))) mine),
+            (subst (λ l. LeavesSince now between (l ++ (failed ++ failed_in x)))
+            (sym (append-nil (accepted_in x))) mine),
         leaves_now since,
       )
   stored-more before (y ∷ xs) s stored =
@@ -222,27 +241,33 @@ module _ (start now : State) (between : ServerState) (x : Exchange) (sound_start
         subst (λ l. LeavesSince now before (l ++ (failed ++ failed_in x)))
             (sym (flat_map-append accepted_in (y ∷ xs) (x ∷ [])
             ∙ ap (λ l. accepted_by (y ∷ xs) ++ l) (append-nil (accepted_in x))))
-            (leaves_more before (accepted_by (y ∷ xs)) (omega (arith, at_start, l.moment)) a stored.0),
+            (leaves_more before (accepted_by (y ∷ xs))
+            (omega (arith, at_start, l.moment)) a stored.0),
         stored-more y.after xs s.1 stored.1,
       )
 
 -- one line more, of which a crash leaves what it may
-pub stored-push : (start now : State) (before between : ServerState) (xs : List Exchange) (x : Exchange)
+pub stored-push : (start now : State) (before between : ServerState) (xs : List Exchange)
+    (x : Exchange)
     → IsHonestDisk start → IsHonestDisk now → between.moment ≡ start.moment
     → x.after.moment ≡ now.moment → start.moment ≤ now.moment
     → Outcome between x.after (accepted_in x) (failed_in x) → Crosses start now between x
     → (IsFalse x.after.halted → (image : List ℕ) → now.MayLeave image → IsOf x.after.standing image)
     → Session before xs between → IsStored start (failed_by xs) before xs
     → IsStored now (failed_by (xs ++ x ∷ [])) before (xs ++ x ∷ [])
-stored-push start now before between xs x sound_start sound at_start at_now later what crosses each s stored =
+stored-push start now before between xs x sound_start sound at_start at_now later what crosses each
+    s stored =
     subst (λ l. IsStored now l before (xs ++ x ∷ []))
-    (sym (flat_map-append failed_in xs (x ∷ []) ∙ ap (λ l. failed_by xs ++ l) (append-nil (failed_in x))))
+    (sym (flat_map-append failed_in xs (x ∷ [])
+    ∙ ap (λ l. failed_by xs ++ l) (append-nil (failed_in x))))
     (stored-more start now between x sound_start sound at_start at_now later what crosses each
     (failed_by xs) (session-fine before xs between s) before xs s stored)
 
 -- before the first line
-pub stored-none : (now : State) (before : ServerState) → IsHonestDisk now → before.moment ≡ now.moment
-    → ((image : List ℕ) → now.MayLeave image → IsOf before.standing image) → IsStored now [] before []
+pub stored-none : (now : State) (before : ServerState) → IsHonestDisk now
+    → before.moment ≡ now.moment
+    → ((image : List ℕ) → now.MayLeave image → IsOf before.standing image)
+    → IsStored now [] before []
 stored-none now before sound at_now each = λ image left.
     none_of before.standing [] [] before.standing image (after_none before.standing)
     (each image (sound.only_now image (subst (λ t. now.LeftSince t image) at_now left)))

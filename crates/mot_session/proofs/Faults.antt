@@ -1,5 +1,6 @@
 -- No more device faults are answered than the disk has.
-use Rattle.std.proofs.Common.{◌≡◌, ◌⊎◌, inl, inr, ⊎_elim, ℕ, ◌+◌, ◌<◌, ◌≤◌, Bool, true, false, List, [], ◌∷◌}
+use Rattle.std.proofs.Common.{◌≡◌, ◌⊎◌, inl, inr, ℕ, ◌+◌, ◌≤◌, Bool, true, false, List, []}
+use Rattle.std.proofs.Common.{◌∷◌}
 use Rattle.std.proofs.Common.{Result, Ok, Err, refl, sym, ap, ◌∙◌, subst, arith}
 use Rattle.std.specs.Prelude.{if◌then◌else◌}
 use Rattle.disk_store.specs.Disk.{Rises, most_failures}
@@ -9,13 +10,14 @@ use Rattle.mot_carousel.specs.declared.command.Command.{Command}
 use Rattle.mot_lines.specs.Line.{line_of}
 use Rattle.mot_lines.specs.declared.line.Line.{Line}
 use Rattle.mot_lines.specs.declared.line.Line.TheVariants as asks
+use Rattle.mot_lines.proofs.Laws.{line_of-no_fault}
 use Rattle.mot_session.specs.Laws.{FaultsAreTheDisks, faults_in, has_fault}
-use Rattle.mot_session.specs.Session.{Exchange, Reply, refused, listing, packets, played, cut_short, accepted}
-use Rattle.mot_session.specs.Session.{IsCommandAnswer, accepts, refuses, fails, IsNextAnswer, IsTurnAnswer, all, cut}
+use Rattle.mot_session.specs.Session.{Reply, refused, listing, played, accepted}
+use Rattle.mot_session.specs.Session.{IsCommandAnswer, accepts, refuses, fails, IsNextAnswer}
+use Rattle.mot_session.specs.Session.{IsTurnAnswer, all, cut}
 use Rattle.mot_session.specs.Session.{IsAnswer, Answers, decided, halted, no_memory, Session}
 use Rattle.mot_session.specs.State.{ServerState}
 use Rattle.mot_session.specs.Stored.{is_device_fault}
-use Rattle.mot_lines.proofs.Laws.{line_of-no_fault}
 use Rattle.mot_server.proofs.Laws.{rises_on}
 use Rattle.mot_session.proofs.Crashes.{session-later}
 use Rattle.mot_session.proofs.Outcomes.{later-answers, refused-fine}
@@ -73,7 +75,8 @@ counted before after line reply (halted is needs e s) = inl (ap has_fault e)
 counted before after line reply (no_memory needs e s) = inl (ap has_fault e)
 
 -- one more reply
-adds : (holds : Bool) (before mid after count : ℕ) → before ≤ mid → (holds ≡ false) ⊎ Rises before mid
+adds : (holds : Bool) (before mid after count : ℕ) → before ≤ mid
+    → (holds ≡ false) ⊎ Rises before mid
     → (count + mid ≤ after) ⊎ (most_failures ≤ after) → mid ≤ after
     → (((if holds then 1 else 0) + count) + before ≤ after) ⊎ (most_failures ≤ after)
 adds holds before mid after count le one (inr most) on = inr most

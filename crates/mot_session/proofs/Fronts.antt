@@ -27,7 +27,8 @@ WritesFront-all bytes old new h = record {
 }
 
 -- a front of what comes after bytes that were written
-pub WritesFront-after : (front bytes : List ℕ) (old mid new : Option (List ℕ)) → Appends old mid front
+pub WritesFront-after : (front bytes : List ℕ) (old mid new : Option (List ℕ))
+    → Appends old mid front
     → WritesFront bytes mid new → WritesFront (front ++ bytes) old new
 WritesFront-after front bytes old mid new h w = record {
   written = front ++ w.written;
@@ -37,7 +38,8 @@ WritesFront-after front bytes old mid new h w = record {
 }
 
 -- a front of bytes that others come after
-pub WritesFront-before : (bytes rest : List ℕ) (old new : Option (List ℕ)) → WritesFront bytes old new
+pub WritesFront-before : (bytes rest : List ℕ) (old new : Option (List ℕ))
+    → WritesFront bytes old new
     → WritesFront (bytes ++ rest) old new
 WritesFront-before bytes rest old new w = record {
   written = w.written;
@@ -55,7 +57,8 @@ Writes-after (Err fault) front bytes old mid new h w = WritesFront-after front b
 
 -- a flush keeps what was written, and may fail after all of it
 pub Writes-kept : {T : Type 0} (result : Result T WriteFault) (bytes : List ℕ)
-    (old mid new : Option (List ℕ)) → Appends old mid bytes → Keeps mid new → Writes result bytes old new
+    (old mid new : Option (List ℕ)) → Appends old mid bytes → Keeps mid new
+    → Writes result bytes old new
 Writes-kept (Ok done) bytes old mid new h k = Appends-kept old mid new bytes h k
 Writes-kept (Err fault) bytes old mid new h k =
     WritesFront-all bytes old new (Appends-kept old mid new bytes h k)

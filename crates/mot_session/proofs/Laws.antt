@@ -50,18 +50,23 @@ is_group kind tid body low high some short = record {
 }
 
 -- the packets of a group gather to it
-gathered : (room address : ℕ) (group : List ℕ) (size : PacketLength) → room_of size ≡ room → 1 ≤ address
-    → address ≤ 1023 → 0 < length group → gather (packets_of_group room address 0 group) ≡ Some (group ∷ [])
+gathered : (room address : ℕ) (group : List ℕ) (size : PacketLength) → room_of size ≡ room
+    → 1 ≤ address
+    → address ≤ 1023 → 0 < length group → gather (packets_of_group room address 0 group)
+    ≡ Some (group ∷ [])
 gathered room address group size e low high some =
     subst (λ r. gather (packets_of_group r address 0 group) ≡ Some (group ∷ [])) e
-    (gather-of_pieces (room_of size) address 0 group (packets_of_group (room_of size) address 0 group)
-    (room_some size) some (read_each-packets_of_group size address 0 group (omega arith) (omega arith)))
+    (gather-of_pieces (room_of size) address 0 group
+    (packets_of_group (room_of size) address 0 group)
+    (room_some size) some
+    (read_each-packets_of_group size address 0 group (omega arith) (omega arith)))
 
 pub raw_packets-read : RawRepliesRead
 raw_packets-read g kind tid body v low high some short =
     let size = length_of g.packet_length v.8 in
     let group : GroupFields = raw_group kind tid body in (
       bytes_of_group group,
-      gathered (packet_room g) g.address (bytes_of_group group) size.0 size.1 v.6 v.7 (some_bytes group),
+      gathered (packet_room g) g.address (bytes_of_group group) size.0 size.1 v.6 v.7
+          (some_bytes group),
       read_group-bytes_of_group group (is_group kind tid body low high some short),
     )

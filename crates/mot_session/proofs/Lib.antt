@@ -12,4 +12,5 @@ pub mod Requests
 pub mod Rows
 pub mod Runs
 pub mod SessionLaws
+pub mod Told
 pub mod Written

@@ -1,18 +1,19 @@
 -- What one line makes of the carousel.
-use Rattle.std.proofs.Common.{◌≡◌, Bool, true, false, List, [], ◌∷◌, Result, Ok, Err, refl, sym, ap, ◌∙◌}
-use Rattle.std.proofs.Common.{subst, Option, Some, None, ℕ, arith}
+use Rattle.std.proofs.Common.{◌≡◌, Bool, true, false, List, [], ◌∷◌, Result, Ok, Err, refl, sym, ap}
+use Rattle.std.proofs.Common.{◌∙◌}
+use Rattle.std.proofs.Common.{Option, Some, None, ℕ, arith}
 use Rattle.std.specs.Prelude.{IsTrue, IsFalse, if◌then◌else◌}
 use Rattle.mot_base.specs.declared.refusal.Refusal.{Refusal}
-use Rattle.mot_base.specs.declared.refusal.Refusal.TheVariants.{BadName, NoRoom, OutOfMemory}
-use Rattle.mot_base.specs.declared.refusal.Refusal.TheVariants.{NameTaken, NoSuchName, TooManyObjects}
-use Rattle.mot_base.specs.declared.refusal.Refusal.TheVariants.{DeviceFault, Halted}
+use Rattle.mot_base.specs.declared.refusal.Refusal.TheVariants.{OutOfMemory}
+use Rattle.mot_base.specs.declared.refusal.Refusal.TheVariants.{NameTaken, NoSuchName}
+use Rattle.mot_base.specs.declared.refusal.Refusal.TheVariants.{TooManyObjects}
+use Rattle.mot_base.specs.declared.refusal.Refusal.TheVariants.{Halted}
 use Rattle.mot_carousel.specs.declared.command.Command as command
 use Rattle.mot_carousel.specs.declared.command.Command.TheVariants as orders
 use Rattle.mot_carousel.specs.declared.command.Done.{Done}
 use Rattle.mot_carousel.specs.Carousel.{Carousel, Object, change, change_if_named, free_object_id}
 use Rattle.mot_lines.specs.declared.line.Line.{Line}
 use Rattle.mot_lines.specs.declared.line.Line.TheVariants as asks
-use Rattle.mot_lines.specs.Line.{NeedsMemory}
 use Rattle.mot_repository.specs.Repository.{IsNext}
 use Rattle.mot_session.specs.Session.{Reply, refused, accepted, listing, packets, played, cut_short}
 use Rattle.mot_session.specs.Session.{IsRefused, long_name, by_rules, no_room}
@@ -21,7 +22,7 @@ use Rattle.mot_session.specs.Session.{IsNextAnswer, IsTurnAnswer, IsAnswer, all,
 use Rattle.mot_session.specs.Served.{Begins, whole, next_begun, turn_begun}
 use Rattle.mot_session.specs.Session.{Answers, decided, halted, no_memory}
 use Rattle.mot_session.specs.Session as session
-use Rattle.mot_session.specs.State.{ServerState, IsLater, KeepsCarousel, Stays}
+use Rattle.mot_session.specs.State.{ServerState, IsLater}
 use Rattle.mot_session.specs.Stored.{command_in, is_accepting, is_device_fault, is_failing}
 
 -- nothing is done; a command is done; or the disk fails, and the server is halted
@@ -72,7 +73,8 @@ put-refuses false true x refusal e =
     let same : TooManyObjects ≡ refusal = cc in ap is_device_fault (sym same)
 put-refuses false false x refusal e = cc
 
-named-refuses : (c : Carousel) (taken : Option ℕ) (objects : Option (List Object)) (refusal : Refusal)
+named-refuses : (c : Carousel) (taken : Option ℕ) (objects : Option (List Object))
+    (refusal : Refusal)
     → change_if_named c taken objects ≡ Err refusal → is_device_fault refusal ≡ false
 named-refuses c taken None refusal e =
     let same : NoSuchName ≡ refusal = cc in ap is_device_fault (sym same)
@@ -87,16 +89,19 @@ rules-refuse c limit (orders.Replace name content mime body) refusal e =
 rules-refuse c limit (orders.Withdraw name) refusal e = named-refuses c None _ refusal e
 rules-refuse c limit (orders.Period period) refusal e = cc
 
-pub refused-fine : (s : ServerState) (c : command.Command) (refusal : Refusal) → IsRefused s c refusal
+pub refused-fine : (s : ServerState) (c : command.Command) (refusal : Refusal)
+    → IsRefused s c refusal
     → is_device_fault refusal ≡ false
 refused-fine s c refusal (long_name layout long e) = ap is_device_fault e
 refused-fine s c refusal (by_rules room rules) =
     rules-refuse s.standing.carousel s.standing.geometry.objects c refusal rules
 refused-fine s c refusal (no_room room next is none e) = ap is_device_fault e
 
-commanded : (before after : ServerState) (c : command.Command) (reply : Reply) → IsFalse before.halted
+commanded : (before after : ServerState) (c : command.Command) (reply : Reply)
+    → IsFalse before.halted
     → IsCommandAnswer before c reply after
-    → Outcome before after (done_by reply (Ok (asks.Command c))) (failed_by_reply reply (Ok (asks.Command c)))
+    → Outcome before after (done_by reply (Ok (asks.Command c)))
+    (failed_by_reply reply (Ok (asks.Command c)))
 commanded before after c reply going (accepts d e a) = one c d
     (ap (λ (r : Reply). done_by r (Ok (asks.Command c))) e)
     (ap (λ (r : Reply). failed_by_reply r (Ok (asks.Command c))) e)
@@ -111,7 +116,8 @@ nexts : (before after : ServerState) (request : Result Line Refusal) (count : �
     → IsNextAnswer before count reply after
     → Outcome before after (done_by reply request) (failed_by_reply reply request)
 nexts before after request count reply (all sents e s) =
-    unchanged_so before after request reply (played sents) e refl refl s.keeps.standing s.keeps.halted
+    unchanged_so before after request reply
+    (played sents) e refl refl s.keeps.standing s.keeps.halted
 nexts before after request count reply (cut made sents between few e s f) =
     unchanged_so before after request reply (cut_short sents) e refl refl
     (f.stays.keeps.standing ∙ s.keeps.standing) (f.stays.keeps.halted ∙ s.keeps.halted)
@@ -132,7 +138,8 @@ answered : (before after : ServerState) (request : Result Line Refusal) (reply :
 unfolding IsAnswer
 answered before after (Err r) reply going a = nothing (no_command (is_accepting reply))
     (no_command (is_failing reply)) a.1.keeps.standing a.1.keeps.halted
-answered before after (Ok (asks.Command c)) reply going a = commanded before after c reply (going tt) a
+answered before after (Ok (asks.Command c)) reply going a =
+    commanded before after c reply (going tt) a
 answered before after (Ok asks.List) reply going a = nothing (no_command (is_accepting reply))
     (no_command (is_failing reply)) a.1.keeps.standing a.1.keeps.halted
 answered before after (Ok (asks.Raw kind tid body)) reply going a =
@@ -159,7 +166,8 @@ pub begun_outcome : (before after : ServerState) (request : Result Line Refusal)
     → Outcome before after (done_by reply request) (failed_by_reply reply request)
 begun_outcome before after request reply (whole a) = outcome before after request reply a
 begun_outcome before after request reply (next_begun count made sents e going few f s) =
-    unchanged_so before after request reply (played sents) f refl refl s.keeps.standing s.keeps.halted
+    unchanged_so before after request reply
+    (played sents) f refl refl s.keeps.standing s.keeps.halted
 begun_outcome before after request reply (turn_begun made sents e going f s) =
     unchanged_so before after request reply (played sents) f refl refl s.sends.keeps.standing
     s.sends.keeps.halted

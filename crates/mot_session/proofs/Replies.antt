@@ -1,22 +1,25 @@
 -- Replies to `next` and `turn` lines, packet by packet.
-use Rattle.std.proofs.Common.{◌≡◌, ℕ, ◌+◌, ◌<◌, Bool, true, false, List, [], ◌∷◌, ◌++◌, Option, Some, None}
-use Rattle.std.proofs.Common.{Result, Ok, Err, refl, sym, ap, ◌∙◌, subst, arith}
-use Rattle.std.specs.Prelude.{IsFalse, is_none}
+use Rattle.std.proofs.Common.{◌≡◌, ℕ, ◌+◌, ◌<◌, Bool, true, false, List, [], ◌∷◌, ◌++◌, Option}
+use Rattle.std.proofs.Common.{Some, None}
+use Rattle.std.proofs.Common.{Ok, Err, sym, ◌∙◌, arith}
+use Rattle.std.specs.Prelude.{IsFalse}
 use Rattle.std.specs.Io.KnownBytes.{Appends}
 use Rattle.mot_lines.specs.declared.line.Line.TheVariants as asks
 use Rattle.mot_player.specs.Place.{Sent}
 use Rattle.mot_session.specs.declared.serving.writing.WriteFault.{WriteFault}
 use Rattle.mot_session.specs.Inner.Writes.{AnswersOne, AnswersRequest, sends, fails}
-use Rattle.mot_session.specs.Played.{Sends, SendsTurn, SendsWithinTurn, sent_lines}
+use Rattle.mot_session.specs.Played.{Sends, SendsWithinTurn, sent_lines}
 use Rattle.mot_session.specs.State.{ServerState}
-use Rattle.mot_session.proofs.Written.{Answered-turn, AnswersRequest-next_cut, AnswersRequest-turn_cut}
+use Rattle.mot_session.proofs.Written.{Answered-turn, AnswersRequest-next_cut}
+use Rattle.mot_session.proofs.Written.{AnswersRequest-turn_cut}
 use Rattle.mot_session.proofs.Written.{BrokenOff-next, BrokenOff-turn, Sends-more, SendsTurn-ended}
 use Rattle.mot_session.proofs.Written.{SendsWithinTurn-more, appended-more}
 
 same_bool : (shown : Option Bool) (a b : Bool) → shown ≡ Some a → shown ≡ Some b → a ≡ b
 same_bool shown a b e f = let both : Some a ≡ Some b = sym e ∙ f in cc
 
-module _ (before mid after : ServerState) (going : IsFalse before.halted) (old now new : Option (List ℕ))
+module _ (before mid after : ServerState) (going : IsFalse before.halted)
+    (old now new : Option (List ℕ))
     (made : ℕ) (sents : List Sent) (so_far : Appends old now (sent_lines sents)) where
   -- the line of a request was broken off
   pub next-broken : (fault : WriteFault) (count : ℕ) → made < count → Sends before made sents mid
@@ -26,7 +29,8 @@ module _ (before mid after : ServerState) (going : IsFalse before.halted) (old n
       BrokenOff-next fault before mid after going old now new sent one w made sents so_far count
       (omega (arith, few)) s
   next-broken fault count few s (fails failing shown w) =
-      AnswersRequest-next_cut {T = Unit {0}} (Err fault) before mid after going old now new made sents so_far failing w
+      AnswersRequest-next_cut {T = Unit {0}}
+      (Err fault) before mid after going old now new made sents so_far failing w
       count few s
 
   pub turn-broken : (fault : WriteFault) → SendsWithinTurn before made sents mid
@@ -35,27 +39,34 @@ module _ (before mid after : ServerState) (going : IsFalse before.halted) (old n
   turn-broken fault s (sends sent one shown w) =
       BrokenOff-turn fault before mid after going old now new sent one w made sents so_far s
   turn-broken fault s (fails failing shown w) =
-      AnswersRequest-turn_cut {T = Unit {0}} (Err fault) before mid after going old now new made sents so_far failing w s
+      AnswersRequest-turn_cut {T = Unit {0}}
+      (Err fault) before mid after going old now new made sents so_far failing w s
 
   module _ (shown : Option Bool) (one : AnswersOne (Ok shown) mid after now new) where
     -- the request was refused
-    next-cut-of : AnswersOne (Ok shown) mid after now new → shown ≡ None → (count : ℕ) → made < count
+    next-cut-of : AnswersOne (Ok shown) mid after now new → shown ≡ None → (count : ℕ)
+        → made < count
         → Sends before made sents mid
         → AnswersRequest {T = Unit {0}} (Ok tt) false before (Ok (asks.Next count)) after old new
-    next-cut-of (sends sent one is w) none count few s = let both : Some sent.ends_turn ≡ None = sym is ∙ none in cc
+    next-cut-of (sends sent one is w) none count few s =
+        let both : Some sent.ends_turn ≡ None = sym is ∙ none in cc
     next-cut-of (fails failing is w) none count few s =
-        AnswersRequest-next_cut {T = Unit {0}} (Ok tt) before mid after going old now new made sents so_far
+        AnswersRequest-next_cut {T = Unit {0}}
+        (Ok tt) before mid after going old now new made sents so_far
         failing w count few s
 
     pub next-cut : shown ≡ None → (count : ℕ) → made < count → Sends before made sents mid
         → AnswersRequest {T = Unit {0}} (Ok tt) false before (Ok (asks.Next count)) after old new
     next-cut none count few s = next-cut-of one none count few s
 
-    turn-cut-of : AnswersOne (Ok shown) mid after now new → shown ≡ None → SendsWithinTurn before made sents mid
+    turn-cut-of : AnswersOne (Ok shown) mid after now new → shown ≡ None
+        → SendsWithinTurn before made sents mid
         → AnswersRequest {T = Unit {0}} (Ok tt) false before (Ok asks.Turn) after old new
-    turn-cut-of (sends sent one is w) none s = let both : Some sent.ends_turn ≡ None = sym is ∙ none in cc
+    turn-cut-of (sends sent one is w) none s =
+        let both : Some sent.ends_turn ≡ None = sym is ∙ none in cc
     turn-cut-of (fails failing is w) none s =
-        AnswersRequest-turn_cut {T = Unit {0}} (Ok tt) before mid after going old now new made sents so_far
+        AnswersRequest-turn_cut {T = Unit {0}}
+        (Ok tt) before mid after going old now new made sents so_far
         failing w s
 
     pub turn-cut : shown ≡ None → SendsWithinTurn before made sents mid
@@ -79,23 +90,28 @@ module _ (before mid after : ServerState) (going : IsFalse before.halted) (old n
 
     turn-more-of : AnswersOne (Ok shown) mid after now new → shown ≡ Some false
         → SendsWithinTurn before made sents mid
-        → (all : List Sent) × SendsWithinTurn before (made + 1) all after × Appends old new (sent_lines all)
+        → (all : List Sent) × SendsWithinTurn before (made + 1) all after
+        × Appends old new (sent_lines all)
     turn-more-of (sends sent one is w) some s = (
       sents ++ sent ∷ [],
-      SendsWithinTurn-more before mid after sent one made sents s (same_bool shown sent.ends_turn false is some),
+      SendsWithinTurn-more before mid after sent one made sents s
+          (same_bool shown sent.ends_turn false is some),
       appended-more sents sent old now new so_far w,
     )
     turn-more-of (fails failing is w) some s = let both : Some false ≡ None = sym some ∙ is in cc
 
     pub turn-more : shown ≡ Some false → SendsWithinTurn before made sents mid
-        → (all : List Sent) × SendsWithinTurn before (made + 1) all after × Appends old new (sent_lines all)
+        → (all : List Sent) × SendsWithinTurn before (made + 1) all after
+        × Appends old new (sent_lines all)
     turn-more some s = turn-more-of one some s
 
     turn-ended-of : AnswersOne (Ok shown) mid after now new → shown ≡ Some true
         → SendsWithinTurn before made sents mid
         → AnswersRequest {T = Unit {0}} (Ok tt) false before (Ok asks.Turn) after old new
-    turn-ended-of (sends sent one is w) some s = Answered-turn before after going old new made (sents ++ sent ∷ [])
-        (SendsTurn-ended before mid after sent one made sents s (same_bool shown sent.ends_turn true is some))
+    turn-ended-of (sends sent one is w) some s =
+        Answered-turn before after going old new made (sents ++ sent ∷ [])
+        (SendsTurn-ended before mid after sent one made sents s
+        (same_bool shown sent.ends_turn true is some))
         (appended-more sents sent old now new so_far w)
     turn-ended-of (fails failing is w) some s = let both : Some true ≡ None = sym some ∙ is in cc
 

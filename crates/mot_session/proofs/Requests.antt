@@ -1,22 +1,23 @@
 -- Requests of packets on a disk that is only read.
-use Rattle.std.proofs.Common.{◌≡◌, ℕ, ◌≤◌, Bool, List, Option, Some, None, Result, Ok, Err, refl, sym, ap, ◌∙◌}
-use Rattle.std.proofs.Common.{subst, arith, inl}
+use Rattle.std.proofs.Common.{◌≡◌, ℕ, Bool, List, Option, Some, Result, refl, sym, ap, ◌∙◌}
+use Rattle.std.proofs.Common.{subst, arith}
 use Rattle.std.specs.Prelude.{IfOk, IsFalse}
-use Rattle.disk_store.specs.Disk.{State, IsUnchanged}
+use Rattle.disk_store.specs.Disk.{State}
 use Rattle.mot_journal.specs.Image.{Standing}
 use Rattle.mot_lines.specs.Text.{played_line}
 use Rattle.mot_packets.specs.Packet.{read_packet}
 use Rattle.mot_packets.specs.Written.{bytes_of_packet}
 use Rattle.mot_player.specs.Laws.{IsStep}
 use Rattle.mot_repository.specs.Repository.{RepositoryView, Agrees, Holds}
+use Rattle.mot_server.specs.Inner.Unread.{is_unchanged}
 use Rattle.mot_server.specs.Server.{ServerView, place_in}
 use Rattle.mot_server.proofs.Laws.{holds_still, keeps_on, unchanged_on}
 use Rattle.mot_session.specs.declared.serving.writing.WriteFault.{WriteFault}
-use Rattle.mot_session.specs.Inner.Writes.{AnswersOne, OnlyReads, SendsOne, Writes, sends}
-use Rattle.mot_session.specs.Played.{sent_line}
+use Rattle.mot_session.specs.Inner.Writes.{AnswersOne, GoesOn, OnlyReads, Writes, sends}
 use Rattle.mot_session.specs.State.{KeepsCarousel, ServerState, StandsFor, state_of}
 
-module _ {D : Type 0} (old new : ServerView D) (start now : State) (reads : OnlyReads old new start now)
+module _ {D : Type 0} (old new : ServerView D) (start now : State)
+    (reads : OnlyReads old new start now)
     (honest : now.IsHonest) where
   -- only the player's place may be another
   pub keeps-read : (s : Standing) → KeepsCarousel (state_of old s start) (state_of new s now)
@@ -40,7 +41,8 @@ module _ {D : Type 0} (old new : ServerView D) (start now : State) (reads : Only
 
   -- a packet was played, and its line written
   pub AnswersOne-sent : (s : Standing) (packet : List ℕ) (ends : Bool)
-      → IsStep (place_in old s) packet ends (place_in new s) → (result : Result (Option Bool) WriteFault)
+      → IsStep (place_in old s) packet ends (place_in new s)
+      → (result : Result (Option Bool) WriteFault)
       → IfOk result (λ shown. shown ≡ Some ends) → (text : List ℕ) → text ≡ played_line packet ends
       → (known next : Option (List ℕ)) → Writes result text known next
       → AnswersOne result (state_of old s start) (state_of new s now) known next
@@ -56,21 +58,9 @@ module _ {D : Type 0} (old new : ServerView D) (start now : State) (reads : Only
       (is ∙ ap (λ (b : List ℕ). played_line b ends) step.bytes
       ∙ ap (played_line (bytes_of_packet step.sent.packet)) step.ends) w)
 
--- where no call has come, nothing changed
-pub is_unchanged : (state : State) → IsUnchanged state state
-is_unchanged state = record {
-  bytes = refl;
-  time = record {
-    later = omega arith;
-    nothing_else = λ t c le left. inl left;
-    keeps = λ t c le left. left;
-  };
-  images = λ c. (λ left. left, λ left. left);
-  loose = λ k. (λ is. is, λ is. is);
-}
-
 -- nothing was read yet
-pub reads-none : {D : Type 0} (server : ServerView D) (state : State) → OnlyReads server server state state
+pub reads-none : {D : Type 0} (server : ServerView D) (state : State)
+    → OnlyReads server server state state
 reads-none server state = record {
   view = refl;
   keeps = record { len = refl; was_honest = λ honest. honest };
@@ -88,7 +78,31 @@ reads-more old mid new start between now a b = record {
       unchanged_on start between now (a.unchanged (b.keeps.was_honest honest)) (b.unchanged honest);
 }
 
+-- nothing was asked yet
+pub goes_on-none : {D : Type 0} (server : ServerView D) (state : State)
+    → GoesOn server server state state
+goes_on-none server state = record {
+  keeps = record { len = refl; was_honest = λ honest. honest };
+  later = omega arith;
+  halted = λ is. (refl, λ honest. is_unchanged state);
+}
+
+pub goes_on-more : {D : Type 0} (old mid new : ServerView D) (start between now : State)
+    → GoesOn old mid start between → GoesOn mid new between now → GoesOn old new start now
+goes_on-more old mid new start between now a b = record {
+  keeps = keeps_on start between now a.keeps b.keeps;
+  later = omega (arith, a.later, b.later);
+  halted = λ is.
+      let first = a.halted is in
+      let then = b.halted (ap (λ (v : RepositoryView). v.halted) first.0 ∙ is) in (
+        then.0 ∙ first.0,
+        λ honest. unchanged_on start between now (first.1 (b.keeps.was_honest honest))
+            (then.1 honest),
+      );
+}
+
 -- a server of that state is halted where the state is
-pub going-of : {D : Type 0} (server : ServerView D) (s : Standing) (state : State) (before : ServerState)
+pub going-of : {D : Type 0} (server : ServerView D) (s : Standing) (state : State)
+    (before : ServerState)
     → state_of server s state ≡ before → IsFalse before.halted → IsFalse server.view.halted
 going-of server s state before same going = ap (λ (b : ServerState). b.halted) same ∙ going

@@ -9,7 +9,8 @@ use Rattle.mot_session.specs.declared.serving.TheConstants.{READ_SIZE, MAX_READS
 use Rattle.mot_session.specs.Raw.{raw_group}
 
 hello_group : bytes_of_group (raw_group Body 2 (codes "hello"))
-    ≡ 0x74 ∷ 0 ∷ 0x80 ∷ 0 ∷ 0x12 ∷ 0 ∷ 2 ∷ 0 ∷ 5 ∷ 0x68 ∷ 0x65 ∷ 0x6c ∷ 0x6c ∷ 0x6f ∷ 0x34 ∷ 0xcf ∷ []
+    ≡ 0x74 ∷ 0 ∷ 0x80 ∷ 0 ∷ 0x12 ∷ 0 ∷ 2 ∷ 0 ∷ 5 ∷ 0x68 ∷ 0x65 ∷ 0x6c ∷ 0x6c ∷ 0x6f ∷ 0x34
+    ∷ 0xcf ∷ []
 unfolding bytes_of_group crc_of bits_of bits_of_bytes number_of_bits added_to_front remainder
 hello_group = refl
 

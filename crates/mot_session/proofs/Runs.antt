@@ -1,9 +1,8 @@
 -- A session that goes on.
-use Rattle.std.proofs.Common.{◌≡◌, ℕ, ◌+◌, ◌≤◌, List, [], ◌∷◌, ◌++◌, length, map, Option}
+use Rattle.std.proofs.Common.{◌≡◌, ℕ, ◌+◌, ◌≤◌, List, [], ◌∷◌, ◌++◌, length, Option}
 use Rattle.std.proofs.Common.{refl, sym, ap, ◌∙◌, subst, arith, append-nil, length-append}
 use Rattle.std.proofs.lemmas.List.{map-append}
 use Rattle.std.specs.Io.KnownBytes.{Appends}
-use Rattle.std.specs.Prelude.{IsFalse}
 use Rattle.std.proofs.KnownBytes.{Appends-trans, Appends-nil}
 use Rattle.std.proofs.lemmas.List.Concat.{flat_map-append}
 use Rattle.disk_store.specs.Disk.{State, IsHonestDisk}
@@ -13,19 +12,16 @@ use Rattle.mot_lines.specs.Line.{line_of}
 use Rattle.mot_lines.specs.Lines.{whole_lines, rest_of}
 use Rattle.mot_lines.proofs.Laws.{whole_lines-none, rest_of-none, whole_lines-end, rest_of-end}
 use Rattle.mot_lines.proofs.Laws.{whole_lines-within, rest_of-within}
-use Rattle.mot_repository.specs.Repository.{Holds, IsOf}
 use Rattle.mot_server.specs.Server.{ServerView}
 use Rattle.mot_journal.specs.Image.{Standing}
-use Rattle.mot_session.specs.declared.serving.writing.WriteFault.{WriteFault}
 use Rattle.mot_session.specs.Inner.InHand.{InHand}
-use Rattle.mot_session.specs.Inner.Writes.{AnswersLine, Answered, Crosses}
-use Rattle.mot_session.specs.Served.{BrokenOff, Replied, Served, Stopped}
+use Rattle.mot_session.specs.Inner.Writes.{Answered, Crosses}
+use Rattle.mot_session.specs.Served.{BrokenOff, Served, Stopped}
 use Rattle.mot_session.specs.Session.{Reply, Answers, Exchange, Session, text_of, texts_of}
 use Rattle.mot_session.specs.State.{ServerState, StandsFor, state_of}
 use Rattle.mot_session.specs.Stored.{IsStored, accepted_in, failed_by, failed_in}
 use Rattle.mot_session.proofs.Crashes.{stored-push, stored-none}
 use Rattle.mot_session.proofs.Outcomes.{Outcome, outcome, begun_outcome}
-use Rattle.std.specs.Prelude.{Result, Ok, Err}
 
 Session-push : (before mid : ServerState) (xs : List Exchange) (x : Exchange)
     → Session before xs mid → Answers mid (line_of x.line) x.reply x.after
@@ -35,12 +31,14 @@ Session-push before mid [] x s a =
     (subst (λ m. Answers m (line_of x.line) x.reply x.after) s a, refl)
 Session-push before mid (y ∷ xs) x s a = (s.0, Session-push y.after mid xs x s.1 a)
 
-texts-push : (xs : List Exchange) (x : Exchange) → texts_of (xs ++ x ∷ []) ≡ texts_of xs ++ text_of x.reply
+texts-push : (xs : List Exchange) (x : Exchange)
+    → texts_of (xs ++ x ∷ []) ≡ texts_of xs ++ text_of x.reply
 texts-push xs x = flat_map-append (λ (y : Exchange). text_of y.reply) xs (x ∷ [])
     ∙ ap (λ l. texts_of xs ++ l) (append-nil (text_of x.reply))
 
 -- nothing was read
-pub Served-none : {D : Type 0} (server : ServerView D) (s : Standing) (now : State) (known : Option (List ℕ))
+pub Served-none : {D : Type 0} (server : ServerView D) (s : Standing) (now : State)
+    (known : Option (List ℕ))
     → StandsFor server.view s now → (now.IsHonest → IsHonestDisk now) → now.IsHonest
     → Served now (state_of server s now) (state_of server s now) (whole_lines []) known known
 unfolding Session
@@ -55,7 +53,8 @@ Served-none server s now known stands sound honest = record {
       (λ image left. (stands.holds going).each image left);
 }
 
-module _ {D : Type 0} (mid_server after_server : ServerView D) (m last : Standing) (start now : State)
+module _ {D : Type 0} (mid_server after_server : ServerView D) (m last : Standing)
+    (start now : State)
     (sound_start : IsHonestDisk start) (sound : IsHonestDisk now)
     (stands : StandsFor after_server.view last now) (before : ServerState)
     (lines : List (List ℕ)) (line : List ℕ) (old known new : Option (List ℕ)) where
@@ -73,11 +72,14 @@ module _ {D : Type 0} (mid_server after_server : ServerView D) (m last : Standin
       → Crosses start now mid (exchange reply) → Session before xs mid
       → IsStored start (failed_by xs) before xs
       → IsStored now (failed_by (xs ++ exchange reply ∷ [])) before (xs ++ exchange reply ∷ [])
-  stored later reply xs what crosses s is = stored-push start now before mid xs (exchange reply) sound_start
-      sound refl refl later what crosses (λ going image left. (stands.holds going).each image left) s is
+  stored later reply xs what crosses s is =
+      stored-push start now before mid xs (exchange reply) sound_start
+      sound refl refl later what crosses
+      (λ going image left. (stands.holds going).each image left) s is
 
   -- one more line was answered
-  pub Served-push : Served start before mid lines old known → start.moment ≤ now.moment → (reply : Reply)
+  pub Served-push : Served start before mid lines old known → start.moment ≤ now.moment
+      → (reply : Reply)
       → Answered mid (line_of line) reply after known new → Crosses start now mid (exchange reply)
       → Served now before after (lines ++ line ∷ []) old new
   Served-push served later reply a crosses =
@@ -91,12 +93,14 @@ module _ {D : Type 0} (mid_server after_server : ServerView D) (m last : Standin
           appended = subst (Appends old new) (sym (texts-push xs (exchange reply)))
               (Appends-trans old known new _ _ is.appended a.written);
         };
-        stored = λ going. stored later reply xs (outcome mid after (line_of line) reply a.answers) crosses
+        stored = λ going. stored later reply xs
+            (outcome mid after (line_of line) reply a.answers) crosses
             is.session (served.stored going);
       }
 
   -- its reply was broken off
-  pub Stopped-here : Served start before mid lines old known → start.moment ≤ now.moment → (reply : Reply)
+  pub Stopped-here : Served start before mid lines old known → start.moment ≤ now.moment
+      → (reply : Reply)
       → BrokenOff mid (line_of line) reply after known new → Crosses start now mid (exchange reply)
       → (count : ℕ) → count ≡ length lines → (all unanswered : List (List ℕ))
       → all ≡ lines ++ line ∷ unanswered → Stopped now before after all count old new
@@ -112,7 +116,8 @@ module _ {D : Type 0} (mid_server after_server : ServerView D) (m last : Standin
     replied = served.replied;
     reply = reply;
     broken = b;
-    stored = λ going. stored later reply served.exchanges (begun_outcome mid after (line_of line) reply b.begins)
+    stored = λ going. stored later reply served.exchanges
+        (begun_outcome mid after (line_of line) reply b.begins)
         crosses served.replied.session (served.stored going);
   }
 
@@ -134,7 +139,8 @@ module _ (xs : List ℕ) (hand : Option (List ℕ)) (count : ℕ) (is : InHand x
   }
 
   -- a line ended
-  pub InHand-end : (next : Option (List ℕ)) → next ≡ bytes_in_hand [] → InHand (xs ++ 10 ∷ []) next (count + 1)
+  pub InHand-end : (next : Option (List ℕ)) → next ≡ bytes_in_hand []
+      → InHand (xs ++ 10 ∷ []) next (count + 1)
   InHand-end next h = record {
     rest = h ∙ ap bytes_in_hand (sym (rest_of-end xs));
     counted = let c = is.counted in rw (whole_lines-end, length-append) (omega arith);

@@ -1,6 +1,8 @@
 -- Replies that were written, whole or in part.
-use Rattle.std.proofs.Common.{◌≡◌, ℕ, ◌+◌, ◌<◌, ◌≤◌, true, false, Bool, List, [], ◌∷◌, ◌++◌, map, Option, Some, None}
-use Rattle.std.proofs.Common.{Result, Ok, Err, refl, sym, ap, ◌∙◌, subst, arith, append_assoc, append-nil}
+use Rattle.std.proofs.Common.{◌≡◌, ℕ, ◌+◌, ◌<◌, ◌≤◌, true, false, Bool, List, [], ◌∷◌, ◌++◌, map}
+use Rattle.std.proofs.Common.{Option, Some}
+use Rattle.std.proofs.Common.{Result, Ok, Err, refl, sym, ap, ◌∙◌, subst, arith, append_assoc}
+use Rattle.std.proofs.Common.{append-nil}
 use Rattle.std.proofs.Common.{length, length-append}
 use Rattle.std.specs.Prelude.{replicate, IsFalse}
 use Rattle.std.specs.Io.KnownBytes.{Appends, Keeps}
@@ -22,11 +24,10 @@ use Rattle.mot_session.specs.Inner.Writes.{Writes, Answered, AnswersWith, Answer
 use Rattle.mot_session.specs.Inner.Writes.{may_have_done}
 use Rattle.mot_session.specs.Played.{FailsToSend, Sends, SendsTurn, SendsWithinTurn, packets_sent}
 use Rattle.mot_session.specs.Played.{sent_line, sent_lines}
-use Rattle.mot_session.specs.Served.{Begins, whole, next_begun, turn_begun, BrokenOff, WritesFront}
+use Rattle.mot_session.specs.Served.{Begins, whole, next_begun, turn_begun, WritesFront}
 use Rattle.mot_session.specs.Session.{Reply, Answers, IsAnswer, decided, accepted, listing, packets}
 use Rattle.mot_session.specs.Session.{played, refused, cut_short, text_of, all, cut}
-use Rattle.mot_session.specs.State.{ServerState, IsLater, KeepsCarousel}
-use Rattle.mot_session.proofs.Fronts.{WritesFront-after}
+use Rattle.mot_session.specs.State.{ServerState, KeepsCarousel}
 
 pub sent_lines-more : (sents : List Sent) (s : Sent)
     → sent_lines (sents ++ s ∷ []) ≡ sent_lines sents ++ sent_line s
@@ -67,7 +68,8 @@ all_but_last-more (t ∷ u ∷ sents) s = ap (λ l. t ∷ l) (all_but_last-more 
 in_order-none : (reply : Reply) (first : List Sent) (last : Sent) (count : ℕ) → sents_of reply ≡ []
     → reply ≡ played (first ++ last ∷ []) → length (sent_lines first) ≤ count
 in_order-none reply first last count none e =
-    let counted : length (sents_of reply) ≡ length (first ++ last ∷ []) = ap (λ r. length (sents_of r)) e in
+    let counted : length (sents_of reply) ≡ length (first ++ last ∷ []) =
+    ap (λ r. length (sents_of r)) e in
     let nothing : length (sents_of reply) ≡ 0 = ap length none in
     let grown : length (first ++ last ∷ []) ≡ length first + 1 = length-append first (last ∷ []) in
     omega (arith, counted, nothing, grown)
@@ -80,12 +82,15 @@ cut_in_order-none reply sents count none e =
     omega (arith, lines)
 
 -- all of the reply was written
-in_order-whole : (reply : Reply) (first : List Sent) (last : Sent) → reply ≡ played (first ++ last ∷ [])
+in_order-whole : (reply : Reply) (first : List Sent) (last : Sent)
+    → reply ≡ played (first ++ last ∷ [])
     → length (sent_lines first) ≤ length (text_of reply)
 unfolding text_of
 in_order-whole reply first last e =
-    let text : length (text_of reply) ≡ length (sent_lines (first ++ last ∷ [])) = ap (λ r. length (text_of r)) e in
-    let grown : length (sent_lines (first ++ last ∷ [])) ≡ length (sent_lines first ++ sent_line last) =
+    let text : length (text_of reply) ≡ length (sent_lines (first ++ last ∷ [])) =
+    ap (λ r. length (text_of r)) e in
+    let grown : length (sent_lines (first ++ last ∷ []))
+    ≡ length (sent_lines first ++ sent_line last) =
     ap length (sent_lines-more first last) in
     omega (arith, text, grown, length-append (sent_lines first) (sent_line last))
 
@@ -104,7 +109,8 @@ in_order-begun : (sents : List Sent) (s : Sent) (front : List ℕ) (first : List
 in_order-begun sents s front first last e =
     let same : sents ≡ first = sym (all_but_last-more sents s)
     ∙ ap (λ r. all_but_last (sents_of r)) e ∙ all_but_last-more first last in
-    let long : length (sent_lines sents) ≡ length (sent_lines first) = ap (λ l. length (sent_lines l)) same in
+    let long : length (sent_lines sents) ≡ length (sent_lines first) =
+    ap (λ l. length (sent_lines l)) same in
     omega (arith, long, length-append (sent_lines sents) front)
 
 abbrev Yes : Bool → Type 0
@@ -119,9 +125,11 @@ not_played sents others e = subst (λ r. Yes (is_cut_short r)) e tt
 
 -- ---- replies that were decided at once
 
-pub AnswersRequest-written : {T : Type 0} (result : Result T WriteFault) (before after : ServerState)
+pub AnswersRequest-written : {T : Type 0} (result : Result T WriteFault)
+    (before after : ServerState)
     (request : Result Line Refusal) (reply : Reply) (old new : Option (List ℕ))
-    → sents_of reply ≡ [] → Answers before request reply after → Writes result (text_of reply) old new
+    → sents_of reply ≡ [] → Answers before request reply after
+    → Writes result (text_of reply) old new
     → AnswersRequest result (may_have_done reply) before request after old new
 AnswersRequest-written (Ok done) before after request reply old new none a w =
     (reply, refl, record { answers = a; written = w })
@@ -137,7 +145,8 @@ AnswersRequest-written (Err fault) before after request reply old new none a w =
 )
 
 -- a reply that was played was written
-pub AnswersRequest-played : {T : Type 0} (result : Result T WriteFault) (before now after : ServerState)
+pub AnswersRequest-played : {T : Type 0} (result : Result T WriteFault)
+    (before now after : ServerState)
     (line : Line) (request : Result Line Refusal) (old new : Option (List ℕ))
     → request ≡ Ok line → now ≡ before → AnswersRequest result false now (Ok line) after old new
     → AnswersRequest result false before request after old new
@@ -193,17 +202,21 @@ pub Sends-none : (state : ServerState) → Sends state 0 [] state
 unfolding sent_by
 Sends-none state = record { steps = refl; read = refl; keeps = keeps-none state }
 
-map-more : {A B : Type 0} (f : A → B) (xs : List A) (x : A) → map f (xs ++ x ∷ []) ≡ map f xs ++ f x ∷ []
+map-more : {A B : Type 0} (f : A → B) (xs : List A) (x : A)
+    → map f (xs ++ x ∷ []) ≡ map f xs ++ f x ∷ []
 map-more f [] x = refl
 map-more f (y ∷ xs) x = ap (λ l. f y ∷ l) (map-more f xs x)
 
-module _ (before mid after : ServerState) (s : Sent) (one : SendsOne mid s after) (count : ℕ) (sents : List Sent) where
+module _ (before mid after : ServerState) (s : Sent) (one : SendsOne mid s after) (count : ℕ)
+    (sents : List Sent) where
   -- one more request
   pub Sends-more : Sends before count sents mid → Sends before (count + 1) (sents ++ s ∷ []) after
   Sends-more so_far = record {
-    steps = subst (λ (steps : List Step). sent_by before.place steps ≡ Some (sents ++ s ∷ [], after.place))
+    steps = subst (λ (steps : List Step). sent_by before.place steps
+        ≡ Some (sents ++ s ∷ [], after.place))
         (replicate_more count Request)
-        (requests-go_on before.place mid.place (replicate count Request) sents s so_far.steps one.asked
+        (requests-go_on before.place mid.place
+        (replicate count Request) sents s so_far.steps one.asked
         ∙ ap (λ (p : Place). Some (sents ++ s ∷ [], p)) (sym one.place));
     read = rw (
       map-more (λ (x : Sent). bytes_of_packet x.packet) sents s,
@@ -219,7 +232,8 @@ module _ (before mid after : ServerState) (s : Sent) (one : SendsOne mid s after
       → SendsWithinTurn before (count + 1) (sents ++ s ∷ []) after
   SendsWithinTurn-more so_far e = record {
     sends = Sends-more so_far.sends;
-    ends = map-more (λ (x : Sent). x.ends_turn) sents s ∙ ap (λ l. l ++ s.ends_turn ∷ []) so_far.ends
+    ends =
+        map-more (λ (x : Sent). x.ends_turn) sents s ∙ ap (λ l. l ++ s.ends_turn ∷ []) so_far.ends
         ∙ ap (λ (b : Bool). replicate count false ++ b ∷ []) e ∙ replicate_more count false;
   }
 
@@ -228,7 +242,8 @@ module _ (before mid after : ServerState) (s : Sent) (one : SendsOne mid s after
       → SendsTurn before count (sents ++ s ∷ []) after
   SendsTurn-ended so_far e = record {
     sends = Sends-more so_far.sends;
-    ends = map-more (λ (x : Sent). x.ends_turn) sents s ∙ ap (λ l. l ++ s.ends_turn ∷ []) so_far.ends
+    ends =
+        map-more (λ (x : Sent). x.ends_turn) sents s ∙ ap (λ l. l ++ s.ends_turn ∷ []) so_far.ends
         ∙ ap (λ (b : Bool). replicate count false ++ b ∷ []) e;
   }
 
@@ -253,22 +268,29 @@ front-more sents s old now new a w = record {
 
 -- ---- replies that were played
 
-module _ (before after : ServerState) (going : IsFalse before.halted) (old new : Option (List ℕ)) where
+module _ (before after : ServerState) (going : IsFalse before.halted)
+    (old new : Option (List ℕ)) where
   -- a `next` line was answered
   pub Answered-next : (count : ℕ) (sents : List Sent) → Sends before count sents after
       → Appends old new (sent_lines sents)
       → AnswersRequest {T = Unit {0}} (Ok tt) false before (Ok (asks.Next count)) after old new
   unfolding IsAnswer text_of
-  Answered-next count sents s w =
-      (played sents, refl, record { answers = decided (λ needs. going) (all sents refl s); written = w })
+  Answered-next count sents s w = (
+    played sents,
+    refl,
+    record { answers = decided (λ needs. going) (all sents refl s); written = w },
+  )
 
   -- a `turn` line was answered
   pub Answered-turn : (others : ℕ) (sents : List Sent) → SendsTurn before others sents after
       → Appends old new (sent_lines sents)
       → AnswersRequest {T = Unit {0}} (Ok tt) false before (Ok asks.Turn) after old new
   unfolding IsAnswer text_of
-  Answered-turn others sents s w =
-      (played sents, refl, record { answers = decided (λ needs. going) (all others sents refl s); written = w })
+  Answered-turn others sents s w = (
+    played sents,
+    refl,
+    record { answers = decided (λ needs. going) (all others sents refl s); written = w },
+  )
 
 -- the refusal's line ends the reply
 module _ {T : Type 0} (result : Result T WriteFault) (before mid after : ServerState)
@@ -298,7 +320,8 @@ module _ {T : Type 0} (result : Result T WriteFault) (before mid after : ServerS
         in_order = λ first last e. absurd (not_played sents (first ++ last ∷ []) e);
         cut_in_order = λ others e.
             let same : others ≡ sents = sym (ap sents_of e) in
-            let long : length (sent_lines others) ≡ length (sent_lines sents) = ap (λ l. length (sent_lines l)) same in
+            let long : length (sent_lines others) ≡ length (sent_lines sents) =
+            ap (λ l. length (sent_lines l)) same in
             omega (arith, long, length-append (sent_lines sents) w.written);
       }
 

@@ -13,7 +13,8 @@ use Rattle.mot_packets.specs.Gather.{gather}
 use Rattle.mot_player.specs.Continuity.{IsContinuous}
 use Rattle.mot_session.specs.Raw.{raw_group, raw_packets}
 use Rattle.mot_session.specs.Served.{Begins}
-use Rattle.mot_session.specs.Session.{Exchange, Reply, Session, accepted, cut_short, listing, packets}
+use Rattle.mot_session.specs.Session.{Exchange, Reply, Session, accepted, cut_short, listing}
+use Rattle.mot_session.specs.Session.{packets}
 use Rattle.mot_session.specs.Session.{packets_in, packets_played, played, refused}
 use Rattle.mot_session.specs.State.{HasJustOpened, ServerState}
 use Rattle.mot_session.specs.Stored.{is_device_fault}

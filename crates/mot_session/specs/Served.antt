@@ -14,7 +14,7 @@ use Rattle.mot_session.specs.Played.{Sends, SendsWithinTurn, sent_lines}
 use Rattle.mot_session.specs.Session.{Reply, played, cut_short, Answers, Exchange, Session, text_of}
 use Rattle.mot_session.specs.Session.{texts_of}
 use Rattle.mot_session.specs.State.{ServerState}
-use Rattle.mot_session.specs.Stored.{IsStored, failed_by}
+use Rattle.mot_session.specs.Stored.{IsStored, IsToldAndStored, failed_by}
 
 -- the reader gave these bytes, in at most so many reads
 pub record TakesInput (reads : ℕ) (unread left : Option (List ℕ)) (input : List ℕ) : Type 0 where
@@ -52,6 +52,24 @@ pub record BrokenOff (before : ServerState) (request : Result Line Refusal) (rep
       → length (sent_lines first) ≤ length written.written
   pub cut_in_order : (sents : List Sent) → reply ≡ cut_short sents
       → length (sent_lines sents) ≤ length written.written
+
+-- The line was answered on a disk that was in a state start and is in a state now, the whole reply
+-- was written, and what was told is stored.
+pub record ServedLine (start now : State) (before : ServerState) (line : List ℕ)
+    (after : ServerState) (old new : Option (List ℕ)) : Type 0 where
+  pub reply : Reply
+  pub answers : Answers before (line_of line) reply after
+  pub appended : Appends old new (text_of reply)
+  pub stored : IsToldAndStored start now before
+      (record { line = line; reply = reply; after = after })
+
+-- So, but the reply was broken off. Its command is stored all the same.
+pub record StoppedLine (start now : State) (before : ServerState) (line : List ℕ)
+    (after : ServerState) (old new : Option (List ℕ)) : Type 0 where
+  pub reply : Reply
+  pub broken : BrokenOff before (line_of line) reply after old new
+  pub stored : IsToldAndStored start now before
+      (record { line = line; reply = reply; after = after })
 
 -- these are the lines, each was answered, and the replies were written
 pub record Replied (before : ServerState) (exchanges : List Exchange) (after : ServerState)

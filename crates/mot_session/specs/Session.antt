@@ -22,7 +22,7 @@ use Rattle.mot_server.specs.Marks.{IsAcceptedAt, HasNoGapFor}
 use Rattle.mot_session.specs.Played.{FailsToSend, Sends, SendsTurn, SendsWithinTurn, packets_sent}
 use Rattle.mot_session.specs.Played.{sent_lines}
 use Rattle.mot_session.specs.Raw.{raw_packets}
-use Rattle.mot_session.specs.State.{ServerState, IsLater, KeepsCarousel, Stays}
+use Rattle.mot_session.specs.State.{ServerState, IsLater, Stays}
 
 pub data Reply : Type 0 where
   refused : Refusal → Reply

@@ -2,7 +2,6 @@
 use Rattle.std.specs.Prelude.{◌≡◌, ℕ, ◌≤◌, Bool, IsFalse}
 use Rattle.disk_store.specs.Disk as disk
 use Rattle.mot_base.specs.Geometry.{packet_room}
-use Rattle.mot_base.specs.declared.geometry.Geometry.{Geometry}
 use Rattle.mot_journal.specs.declared.layout.Layout.{Layout}
 use Rattle.mot_journal.specs.Image.{Standing}
 use Rattle.mot_player.specs.Place.{Place, opened_place}

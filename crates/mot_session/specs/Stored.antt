@@ -1,16 +1,17 @@
 -- What a crash leaves of a session.
-use Rattle.std.specs.Prelude.{ℕ, Bool, true, false, List, [], ◌∷◌, ◌++◌, Result, Ok, Err}
-use Rattle.std.specs.Prelude.{if◌then◌else◌}
+use Rattle.std.specs.Prelude.{ℕ, ◌≡◌, ◌≤◌, Bool, true, false, List, [], ◌∷◌, ◌++◌, Result, Ok, Err}
+use Rattle.std.specs.Prelude.{IsFalse, if◌then◌else◌}
 use Rattle.std.specs.List.{flat_map}
 use Rattle.disk_store.specs.Disk.{State}
 use Rattle.mot_base.specs.declared.refusal.Refusal.{Refusal}
 use Rattle.mot_base.specs.declared.refusal.Refusal.TheVariants.{DeviceFault}
 use Rattle.mot_carousel.specs.declared.command.Command as command
+use Rattle.mot_journal.specs.Image.{Standing}
 use Rattle.mot_lines.specs.declared.line.Line.{Line}
 use Rattle.mot_lines.specs.declared.line.Line.TheVariants.{Command, Raw, Next, Turn}
 use Rattle.mot_lines.specs.declared.line.Line.TheVariants as asks
 use Rattle.mot_lines.specs.Line.{line_of}
-use Rattle.mot_server.specs.Runs.{StandsAfterSome}
+use Rattle.mot_server.specs.Runs.{IsAfter, StandsAfterSome}
 use Rattle.mot_session.specs.Session.{Exchange, Reply, accepted, refused, listing, packets, played}
 use Rattle.mot_session.specs.Session.{cut_short}
 use Rattle.mot_session.specs.State.{ServerState}
@@ -57,12 +58,38 @@ accepted_by exchanges = flat_map accepted_in exchanges
 abbrev pub failed_by : List Exchange → List command.Command
 failed_by exchanges = flat_map failed_in exchanges
 
+-- At each moment since that one of the disk's clock, inside a call of the disk or between two, a
+-- crash leaves what all of the sure commands and a beginning of the others make of s.
+abbrev pub HoldsSince : State → ℕ → Standing → List command.Command → List command.Command → Type 0
+HoldsSince now moment s sure others =
+    (image : List ℕ) → now.LeftSince moment image → StandsAfterSome s sure others image
+
+-- What a crash leaves of one line. Its answering began on the disk as it was at start, where the
+-- acknowledged commands had made of s what it stood for, and ended on the disk as it is now.
+pub record KeepsAcknowledged (start now : State) (s : Standing)
+    (acknowledged : List command.Command) (x : Exchange) : Type 0 where
+  -- The command that the reply accepts is one more that is acknowledged.
+  pub after : IsAfter s (acknowledged ++ accepted_in x) x.after.standing
+  -- From now on a crash leaves all of these, and at most the one that a device fault cut off.
+  pub at_end : HoldsSince now now.moment s (acknowledged ++ accepted_in x) (failed_in x)
+  -- Since the start one leaves all that were acknowledged before, and at most the line's command.
+  pub any_moment : HoldsSince now start.moment s acknowledged (accepted_in x ++ failed_in x)
+  -- What was stored since an earlier moment stays stored.
+  pub earlier : (moment : ℕ) (sure others : List command.Command) → moment ≤ start.moment
+      → acknowledged ≡ sure ++ others → HoldsSince start moment s sure others
+      → HoldsSince now moment s sure (others ++ (accepted_in x ++ failed_in x))
+
+-- What was told is stored, whenever the power goes, and whatever commands were acknowledged before.
+-- (A halted server changes nothing.)
+abbrev pub IsToldAndStored : State → State → ServerState → Exchange → Type 0
+IsToldAndStored start now before x =
+    IsFalse before.halted → (s : Standing) (acknowledged : List command.Command)
+    → IsAfter s acknowledged before.standing → KeepsAcknowledged start now s acknowledged x
+
 -- At each moment since the server stood so, a crash leaves its carousel after a beginning of these
 -- commands.
 abbrev pub LeavesSince : State → ServerState → List command.Command → Type 0
-LeavesSince now state commands =
-    (image : List ℕ) → now.LeftSince state.moment image
-    → StandsAfterSome state.standing [] commands image
+LeavesSince now state commands = HoldsSince now state.moment state.standing [] commands
 
 -- All that was told is stored. Since the moment of each state of a session, from its beginning to
 -- its end, a crash leaves that state's carousel, after a beginning of the commands that later

@@ -6,7 +6,7 @@ mod serving;
 
 pub use mot_base::Geometry;
 pub use mot_lines::{Description, Line, SegmentBytes, parse_line};
-pub use serving::{MAX_READS, READ_SIZE, ServeEnd, serve};
+pub use serving::{MAX_READS, READ_SIZE, ServeEnd, WriteFault, serve, serve_line};
 
 #[cfg(test)]
 mod tests;

@@ -1,12 +1,14 @@
 ghost use Rattle.std.specs.Prelude.{◌≡◌, ℕ, ◌+◌, ◌-◌, ◌^◌, ◌≤◌, ◌<◌, ◌⊎◌, Option, List, ◌++◌};
-ghost use Rattle.std.specs.Prelude.{length, OnOk, OnErr, IfNone, None, Some, IsTrue};
+ghost use Rattle.std.specs.Prelude.{length, OnOk, OnErr, None, Some, IsTrue};
 ghost use Rattle.std.specs.Io.KnownBytes.{Keeps, IsAtEnd};
 ghost use Rattle.disk_store.specs.Disk.{IsUnchanged, KeepsLength};
 ghost use Rattle.mot_base.specs.declared.refusal.Refusal.TheVariants.{OutOfMemory, ReadFault};
 ghost use Rattle.mot_lines.specs.Lines.{whole_lines, lines_of};
 ghost use Rattle.mot_session.specs.Inner.InHand.{InHand};
+ghost use Rattle.mot_session.specs.Inner.Writes.{GoesOn};
 ghost use Rattle.mot_session.specs.Laws.{SessionLaws};
 ghost use Rattle.mot_session.specs.Served.{TakesInput, Served, Stopped, EndsServing};
+ghost use Rattle.mot_session.specs.Served.{ServedLine, StoppedLine};
 ghost use Rattle.mot_session.specs.State.{Leads, ServerState};
 
 mod reply;
@@ -14,12 +16,12 @@ mod writing;
 
 use disk_store::Disk;
 use mot_base::Refusal;
-use mot_lines::{Hand, cut_at_line_end};
+use mot_lines::{Hand, cut_at_line_end, parse_line};
 use mot_server::Server;
-use reply::answer_line;
+use reply::{answer_line, respond};
 use std::alloc::Global;
 use std::io::{Read, Write};
-use writing::WriteFault;
+pub use writing::WriteFault;
 
 /// The most bytes of one read.
 pub const READ_SIZE: usize = 4_096;
@@ -36,12 +38,12 @@ pub struct ServeEnd {
     pub fault: Option<Refusal>,
 }
 
-/// Answers each line that the reader gives, in at most `reads` reads of at most 4,096 bytes each.
-/// The writer is flushed after each reply. Faults are `ReadFault`, where a read failed or the input
-/// did not end within the reads (a line in hand is not answered); `WriteFault`, where a write or a
-/// flush failed; and `OutOfMemory`, where there is no room for a line (nothing was read or
-/// written). A device fault ends no serving: it is a line's reply, and a command's halts the
-/// server.
+/// Answers each line that the reader gives, in at most `reads` reads of at most 4,096 bytes each,
+/// each as `serve_line` does, so that the writer is flushed after each reply. Faults are
+/// `ReadFault`, where a read failed or the input did not end within the reads (a line in hand is
+/// not answered); `WriteFault`, where a write or a flush failed; and `OutOfMemory`, where there is
+/// no room for a line (nothing was read or written). A device fault ends no serving: it is a line's
+/// reply, and a command's halts the server.
 ///
 /// What is promised of replies, of what a crash leaves, and of the server afterwards has as its
 /// premise that the server stood for something (`StandsFor`: every server does that was opened on a
@@ -119,6 +121,39 @@ pub fn serve<R: Read, W: Write, D: Disk>(
     ended(lines, Refusal::ReadFault)
 }
 
+/// Answers one line, given without its end: does what it asks for, writes the whole reply, and
+/// flushes the writer. Err where a write or a flush failed. `serve` does the same for each line of
+/// its input, one after the other.
+///
+/// Here the states of the disk are those of one line's beginning and of the call's return: whoever
+/// has the reply knows a moment of the disk's clock since which what it tells is stored. What is
+/// promised has the same premise as in `serve`.
+pub fn serve_line<W: Write, D: Disk>(
+    alloc: Global,
+    line: &[u8],
+    writer: &mut W,
+    server: &mut Server<D>,
+) -> Result<(), WriteFault>
+    // The whole reply was written, and what was told is stored.
+    ensures answered { OnOk result (Leads D.state server.old server.new (λ before after.
+        ServedLine (D.state server.old.disk) (D.state server.new.disk) before line.now after
+        (W.contents writer.old) (W.contents writer.new))) }
+
+    // Some first bytes of the reply were written, and its command is stored all the same.
+    ensures broken { OnErr result (Leads D.state server.old server.new (λ before after.
+        StoppedLine (D.state server.old.disk) (D.state server.new.disk) before line.now after
+        (W.contents writer.old) (W.contents writer.new))) }
+    ensures keeps { KeepsLength (D.state server.old.disk) (D.state server.new.disk) }
+    ensures later { (D.state server.old.disk).failures ≤ (D.state server.new.disk).failures }
+
+    // A server that is halted changes nothing.
+    ensures halted { IsTrue server.old.view.halted → (server.new.view ≡ server.old.view)
+        × ((D.state server.new.disk).IsHonest
+        → IsUnchanged (D.state server.old.disk) (D.state server.new.disk)) }
+{
+    respond(alloc, parse_line(alloc, line), writer, server)
+}
+
 /// Serving that a fault ended.
 fn ended(lines: u64, fault: Refusal) -> ServeEnd
     ensures { result ≡ record { lines = lines; fault = Some fault } }
@@ -156,11 +191,8 @@ fn answer_last<W: Write, D: Disk>(
         (W.contents writer.old)
         → Stopped (D.state server.new.disk) before after (lines_of input) result.lines old
         (W.contents writer.new)) }
-    ensures keeps { KeepsLength (D.state server.old.disk) (D.state server.new.disk) }
-    ensures later { (D.state server.old.disk).failures ≤ (D.state server.new.disk).failures }
-    ensures halted { IsTrue server.old.view.halted → (server.new.view ≡ server.old.view)
-        × ((D.state server.new.disk).IsHonest
-        → IsUnchanged (D.state server.old.disk) (D.state server.new.disk)) }
+    ensures goes { GoesOn server.old server.new
+        (D.state server.old.disk) (D.state server.new.disk) }
 {
     if hand.is_empty() {
         return ServeEnd { lines, fault: None };
@@ -199,11 +231,8 @@ fn answer_chunk<W: Write, D: Disk>(
         (W.contents writer.old)
         → Stopped (D.state server.new.disk) before after (whole_lines (input ++ chunk.now))
         lines.new old (W.contents writer.new))) }
-    ensures keeps { KeepsLength (D.state server.old.disk) (D.state server.new.disk) }
-    ensures later { (D.state server.old.disk).failures ≤ (D.state server.new.disk).failures }
-    ensures halted { IsTrue server.old.view.halted → (server.new.view ≡ server.old.view)
-        × ((D.state server.new.disk).IsHonest
-        → IsUnchanged (D.state server.old.disk) (D.state server.new.disk)) }
+    ensures goes { GoesOn server.old server.new
+        (D.state server.old.disk) (D.state server.new.disk) }
 {
     let mut rest = chunk;
     while let Some((line, next)) = cut_at_line_end(rest) {

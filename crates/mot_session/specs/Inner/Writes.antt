@@ -1,5 +1,6 @@
 -- What a call that writes did. The writer's known bytes were old and are new.
-use Rattle.std.specs.Prelude.{ℕ, ◌≡◌, ◌≤◌, Bool, ◌||◌, List, [], ◌++◌, Option, Some, None, Result, Ok}
+use Rattle.std.specs.Prelude.{ℕ, ◌≡◌, ◌≤◌, Bool, ◌||◌, List, [], ◌++◌, Option, Some, None, Result}
+use Rattle.std.specs.Prelude.{Ok}
 use Rattle.std.specs.Prelude.{Err}
 use Rattle.std.specs.Prelude.{IfOk, IsTrue, IsFalse}
 use Rattle.std.specs.Io.KnownBytes.{Appends}
@@ -83,6 +84,14 @@ pub data AnswersOne (result : Result (Option Bool) WriteFault) (before after : S
       → Writes result (sent_line sent) old new → AnswersOne result before after old new
   fails : FailsToSend before after → IfOk result (λ shown. shown ≡ None)
       → Writes result (refusal_line DeviceFault) old new → AnswersOne result before after old new
+
+-- Whatever was asked, the disk's length stays and its failures do not fall, and a halted server
+-- changes nothing.
+pub record GoesOn {D : Type 0} (old new : ServerView D) (before now : State) : Type 0 where
+  pub keeps : KeepsLength before now
+  pub later : before.failures ≤ now.failures
+  pub halted : IsTrue old.view.halted → (new.view ≡ old.view)
+      × (now.IsHonest → IsUnchanged before now)
 
 -- the disk was only read, and nothing was stored or halted
 pub record OnlyReads {D : Type 0} (old new : ServerView D) (before now : State) : Type 0 where

@@ -1,10 +1,9 @@
-ghost use Rattle.std.specs.Prelude.{◌≡◌, ◌<◌, ◌≤◌, ℕ, List, Result, Ok, Err, Some, true, false};
-ghost use Rattle.std.specs.Prelude.{IsTrue, IsFalse, IfOk};
+ghost use Rattle.std.specs.Prelude.{◌≡◌, ◌<◌, ℕ, List, Result, Ok, Some, false, IfOk};
 ghost use Rattle.std.specs.List.{flat_map};
-ghost use Rattle.disk_store.specs.Disk.{IsUnchanged, KeepsLength};
 ghost use Rattle.mot_base.specs.Geometry.{IsValid};
 ghost use Rattle.mot_journal.specs.Image.{Standing};
 ghost use Rattle.mot_lines.specs.Inner.Listing.{object_line_beside, listing_text_beside};
+ghost use Rattle.mot_lines.specs.Line.{IsParsed, line_of};
 ghost use Rattle.mot_lines.specs.Text.{packet_line};
 ghost use Rattle.mot_lines.specs.Inner.Hand.{bytes_in_hand};
 ghost use Rattle.mot_lines.specs.declared.line.Line.TheVariants as asks;
@@ -12,7 +11,7 @@ ghost use Rattle.mot_player.specs.Laws.{bytes_left};
 ghost use Rattle.mot_repository.specs.Repository.{Holds};
 ghost use Rattle.mot_session.specs.Inner.Decision.{Decides, may_be_done};
 ghost use Rattle.mot_session.specs.Inner.Writes.{Writes, AnswersLine, AnswersOne, AnswersRequest};
-ghost use Rattle.mot_session.specs.Inner.Writes.{OnlyReads};
+ghost use Rattle.mot_session.specs.Inner.Writes.{GoesOn, OnlyReads};
 ghost use Rattle.mot_session.specs.Raw.{packets_at};
 ghost use Rattle.mot_session.specs.State.{Leads, ServerState, StandsFor, state_of};
 
@@ -31,7 +30,7 @@ use mot_server::Server;
 use std::alloc::Global;
 use std::io::Write;
 
-/// Answers the line in hand; after a fault some first bytes of the reply were written.
+/// Answers the line in hand.
 pub(super) fn answer_line<W: Write, D: Disk>(
     alloc: Global,
     hand: &Hand,
@@ -42,13 +41,27 @@ pub(super) fn answer_line<W: Write, D: Disk>(
         → Leads D.state server.old server.new (λ before after. AnswersLine result
         (D.state server.old.disk) (D.state server.new.disk) before line after
         (W.contents writer.old) (W.contents writer.new)) }
-    ensures keeps { KeepsLength (D.state server.old.disk) (D.state server.new.disk) }
-    ensures later { (D.state server.old.disk).failures ≤ (D.state server.new.disk).failures }
-    ensures halted { IsTrue server.old.view.halted → (server.new.view ≡ server.old.view)
-        × ((D.state server.new.disk).IsHonest
-        → IsUnchanged (D.state server.old.disk) (D.state server.new.disk)) }
+    ensures goes { GoesOn server.old server.new
+        (D.state server.old.disk) (D.state server.new.disk) }
 {
-    let request = hand.parse(alloc);
+    respond(alloc, hand.parse(alloc), writer, server)
+}
+
+/// Does what a line was parsed to ask for, writes the whole reply, and flushes the writer; after a
+/// fault some first bytes of the reply were written.
+pub(super) fn respond<W: Write, D: Disk>(
+    alloc: Global,
+    request: Result<Line, Refusal>,
+    writer: &mut W,
+    server: &mut Server<D>,
+) -> Result<(), WriteFault>
+    ensures answers { (line : List ℕ) → IsParsed request (line_of line)
+        → Leads D.state server.old server.new (λ before after. AnswersLine result
+        (D.state server.old.disk) (D.state server.new.disk) before line after
+        (W.contents writer.old) (W.contents writer.new)) }
+    ensures goes { GoesOn server.old server.new
+        (D.state server.old.disk) (D.state server.new.disk) }
+{
     let decision = answer(alloc, request, server);
     write_reply(writer, server, &decision)?;
     writer.flush().map_err(|_| WriteFault)
@@ -155,6 +168,7 @@ fn write_next_packet<W: Write, D: Disk>(
         }
     }
 }
+
 /// Writes the carousel's line, and then one for each object.
 fn write_carousel<W: Write>(writer: &mut W, carousel: &Carousel) -> Result<(), WriteFault>
     ensures { Writes result (listing_text_beside carousel.now)

@@ -3,8 +3,8 @@ ghost use Rattle.mot_session.specs.Inner.Writes.{Writes};
 use std::io::Write;
 
 /// A write or a flush failed.
-#[derive(Clone, Copy)]
-pub(super) struct WriteFault;
+#[derive(Clone, Copy, Debug, PartialEq, Eq)]
+pub struct WriteFault;
 
 /// Writes all of the bytes; after a fault some first of them were written.
 pub(super) fn write_whole<W: Write>(writer: &mut W, bytes: &[u8]) -> Result<(), WriteFault>

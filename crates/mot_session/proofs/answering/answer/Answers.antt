@@ -1,4 +1,3 @@
-use Rattle.std.proofs.Common.{Err}
 use Rattle.mot_session.proofs.Answered.{Answers-refused, crosses-none}
 use Rattle.mot_session.specs.State.{state_of}
 use Rattle.mot_session.proofs.answering.answer.Goals as goal
@@ -10,7 +9,8 @@ pub returns-in-Err-clause-decides : goal.returns-in-Err-clause-decides
 returns-in-Err-clause-decides g c = rw c.in-Err.is (λ s stands honest. (
   s,
   stands,
-  Answers-refused (state_of c.args.server.now s (g.D.Disk.state c.args.server.now.disk)) c.in-Err.refusal,
+  Answers-refused (state_of c.args.server.now s (g.D.Disk.state c.args.server.now.disk))
+      c.in-Err.refusal,
 ))
 
 pub returns-in-Err-clause-crosses : goal.returns-in-Err-clause-crosses

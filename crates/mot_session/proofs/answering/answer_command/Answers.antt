@@ -17,11 +17,13 @@ returns-in-Ok-clause-decides g c = λ s stands honest.
 pub returns-in-Ok-clause-crosses : goal.returns-in-Ok-clause-crosses
 returns-in-Ok-clause-crosses g c = λ s holds.
     let state = g.D.Disk.state in
-    crosses-accepted s (state c.args.server.now.disk) (state c.execute.new.self.disk) c.args.command.now
+    crosses-accepted s (state c.args.server.now.disk)
+    (state c.execute.new.self.disk) c.args.command.now
     c.in-Ok.done (c.in-Ok.ensures.any_moment s holds)
 
 pub returns-in-Ok-clause-halted : goal.returns-in-Ok-clause-halted
-returns-in-Ok-clause-halted g c = λ is. absurd (not_halted c.args.server.now.view.halted is c.in-Ok.ensures.going)
+returns-in-Ok-clause-halted g c =
+    λ is. absurd (not_halted c.args.server.now.view.halted is c.in-Ok.ensures.going)
 
 pub returns-in-Err-clause-decides : goal.returns-in-Err-clause-decides
 returns-in-Err-clause-decides g c = λ s stands honest.

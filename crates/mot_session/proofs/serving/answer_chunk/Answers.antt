@@ -3,20 +3,21 @@ use Rattle.std.proofs.Common.{append_assoc, append-nil, length, length-append}
 use Rattle.std.proofs.lemmas.Result.{err_from_is_err_and}
 use Rattle.mot_lines.specs.Lines.{whole_lines, rest_of}
 use Rattle.mot_lines.proofs.Laws.{whole_lines-end, whole_lines-front, whole_lines-within}
-use Rattle.mot_server.proofs.Laws.{keeps_on, unchanged_on}
 use Rattle.mot_session.specs.Inner.InHand.{InHand}
 use Rattle.mot_session.specs.Served.{Served}
 use Rattle.mot_session.specs.State.{state_of}
 use Rattle.mot_session.proofs.Outcomes.{later-answers, later-begins}
-use Rattle.mot_session.proofs.Requests.{is_unchanged}
+use Rattle.mot_session.proofs.Requests.{goes_on-more, goes_on-none}
 use Rattle.mot_session.proofs.Runs.{InHand-end, InHand-within, Served-push, Stopped-here}
 use Rattle.mot_session.proofs.serving.answer_chunk.Goals as goal
 
 -- a line and its end, taken from what is left
-line_taken : (front line rest left chunk : List ℕ) → front ++ left ≡ chunk → line ++ 10 ∷ rest ≡ left
+line_taken : (front line rest left chunk : List ℕ) → front ++ left ≡ chunk
+    → line ++ 10 ∷ rest ≡ left
     → ((front ++ line) ++ 10 ∷ []) ++ rest ≡ chunk
 line_taken front line rest left chunk e f =
-    append_assoc (front ++ line) (10 ∷ []) rest ∙ append_assoc front line (10 ∷ rest) ∙ ap (λ l. front ++ l) f
+    append_assoc (front ++ line) (10 ∷ []) rest ∙ append_assoc front line (10 ∷ rest)
+    ∙ ap (λ l. front ++ l) f
     ∙ e
 
 -- the lines of an input whose next line ends
@@ -40,17 +41,17 @@ pub loop-line-init : goal.loop-line-init
 loop-line-init g c =
     let state = g.D.Disk.state c.args.server.now.disk in record {
       bound = omega arith;
-      keeps = record { len = refl; was_honest = λ honest. honest };
-      later = omega arith;
-      halted = λ is. (refl, λ honest. is_unchanged state);
+      goes = goes_on-none c.args.server.now state;
       taken = (
         [],
         refl,
-        λ input is. subst (λ xs. InHand xs c.args.hand.now c.args.lines.now) (sym (append-nil input)) is,
+        λ input is. subst (λ xs. InHand xs c.args.hand.now c.args.lines.now)
+            (sym (append-nil input)) is,
         λ before old input is s stands honest. (
           s,
           stands,
-          λ served. subst (λ xs. Served state before (state_of c.args.server.now s state) (whole_lines xs) old
+          λ served. subst (λ xs. Served state before (state_of c.args.server.now s state)
+              (whole_lines xs) old
               (g.W.Write.contents c.args.writer.now)) (sym (append-nil input)) served,
         ),
       );
@@ -74,15 +75,8 @@ loop-line-preserved g c =
         length-append line (10 ∷ c.in-Some.next.now),
         bound,
       );
-      keeps = keeps_on (state first.disk) (state mid.disk) (state new.disk) inv.keeps one.keeps;
-      later = let was = inv.later in let on = one.later in omega (arith, was, on);
-      halted = λ is.
-          let was = inv.halted is in
-          let on = one.halted (rw was.0 is) in (
-            on.0 ∙ was.0,
-            λ honest. unchanged_on (state first.disk) (state mid.disk) (state new.disk)
-                (was.1 (one.keeps.was_honest honest)) (on.1 honest),
-          );
+      goes = goes_on-more first mid new (state first.disk) (state mid.disk)
+          (state new.disk) inv.goes one.goes;
       taken = (
         (so_far.0 ++ line) ++ 10 ∷ [],
         line_taken so_far.0 line c.in-Some.next.now c.loop-line.rest.now c.args.chunk.now so_far.1
@@ -92,29 +86,36 @@ loop-line-preserved g c =
             let h0 = so_far.2 input is in
             let h1 = InHand-within xs c.loop-line.hand c.loop-line.lines h0 line c.add.new.self
             c.in-Some.ensures.first (c.add.ensures (rest_of xs) h0.rest) in
-            subst (λ l. InHand l c.clear.new.self (c.loop-line.lines + 1)) (joined input so_far.0 line)
-            (InHand-end (xs ++ line) c.add.new.self c.loop-line.lines h1 c.clear.new.self c.clear.ensures),
+            subst (λ l. InHand l c.clear.new.self (c.loop-line.lines + 1))
+            (joined input so_far.0 line)
+            (InHand-end (xs ++ line) c.add.new.self c.loop-line.lines h1 c.clear.new.self
+            c.clear.ensures),
         λ before old input is s stands honest.
             let xs : List ℕ = input ++ so_far.0 in
             let h0 = so_far.2 input is in
             let h1 = InHand-within xs c.loop-line.hand c.loop-line.lines h0 line c.add.new.self
             c.in-Some.ensures.first (c.add.ensures (rest_of xs) h0.rest) in
-            let was = one.keeps.was_honest honest in
+            let was = one.goes.keeps.was_honest honest in
             let f = so_far.3 before old input is s stands was in
             let a = one.answers (rest_of (xs ++ line)) h1.rest f.0 f.1 honest in
             let told = a.2 in
-            let later = later-answers (state_of mid f.0 (state mid.disk)) (state_of new a.0 (state new.disk)) _
+            let later = later-answers (state_of mid f.0 (state mid.disk))
+            (state_of new a.0 (state new.disk)) _
             told.reply told.answers.answers in (
               a.0,
               a.1,
-              λ served. subst (λ l. Served (state new.disk) before (state_of new a.0 (state new.disk)) (whole_lines l)
+              λ served. subst (λ l. Served (state new.disk) before
+                  (state_of new a.0 (state new.disk)) (whole_lines l)
                   old (g.W.Write.contents c.answer_line.new.writer)) (joined input so_far.0 line)
-                  (subst (λ l. Served (state new.disk) before (state_of new a.0 (state new.disk)) l old
-                  (g.W.Write.contents c.answer_line.new.writer)) (sym (whole_lines-end (xs ++ line)))
+                  (subst (λ l. Served (state new.disk) before
+                  (state_of new a.0 (state new.disk)) l old
+                  (g.W.Write.contents c.answer_line.new.writer))
+                  (sym (whole_lines-end (xs ++ line)))
                   (Served-push mid new f.0 a.0 (state mid.disk) (state new.disk)
                   (g.met.D.Disk.sound mid.disk was) (g.met.D.Disk.sound new.disk honest) a.1 before
                   (whole_lines (xs ++ line)) (rest_of (xs ++ line)) old _ _
-                  (subst (λ l. Served (state mid.disk) before (state_of mid f.0 (state mid.disk)) l old
+                  (subst (λ l. Served (state mid.disk) before
+                  (state_of mid f.0 (state mid.disk)) l old
                   (g.W.Write.contents c.loop-line.writer))
                   (sym (whole_lines-within xs line c.in-Some.ensures.first)) (f.2 served))
                   later.moment told.reply told.answers told.crosses)),
@@ -141,11 +142,12 @@ returns-in_err-answer_line-clause-err g c =
     let h0 = so_far.2 input is in
     let h1 = InHand-within xs c.loop-line.hand c.loop-line.lines h0 line c.add.new.self
     c.in-Some.ensures.first (c.add.ensures (rest_of xs) h0.rest) in
-    let was = one.keeps.was_honest honest in
+    let was = one.goes.keeps.was_honest honest in
     let f = so_far.3 before old input is s stands was in
     let a = one.answers (rest_of (xs ++ line)) h1.rest f.0 f.1 honest in
     let told = a.2 in
-    let later = later-begins (state_of mid f.0 (state mid.disk)) (state_of new a.0 (state new.disk)) _
+    let later = later-begins (state_of mid f.0 (state mid.disk))
+    (state_of new a.0 (state new.disk)) _
     told.reply told.answers.begins in
     let whole : ((xs ++ line) ++ 10 ∷ []) ++ rest ≡ input ++ c.args.chunk.now =
     ap (λ l. l ++ rest) (joined input so_far.0 line)
@@ -182,10 +184,12 @@ returns-clause-ok g c = λ before old input is s stands honest.
     let f = so_far.3 before old input is s stands honest in (
       f.0,
       f.1,
-      λ served. subst (λ l. Served (state mid.disk) before (state_of mid f.0 (state mid.disk)) (whole_lines l) old
+      λ served. subst (λ l. Served (state mid.disk) before (state_of mid f.0 (state mid.disk))
+          (whole_lines l) old
           (g.W.Write.contents c.loop-line.writer))
           (append_assoc input so_far.0 c.loop-line.rest.now ∙ ap (λ l. input ++ l) so_far.1)
           (subst (λ l. Served (state mid.disk) before (state_of mid f.0 (state mid.disk)) l old
           (g.W.Write.contents c.loop-line.writer))
-          (sym (whole_lines-within xs c.loop-line.rest.now c.in_default.ensures.none)) (f.2 served)),
+          (sym (whole_lines-within xs c.loop-line.rest.now c.in_default.ensures.none))
+          (f.2 served)),
     )

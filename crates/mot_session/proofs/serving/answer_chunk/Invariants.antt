@@ -1,8 +1,7 @@
 use Rattle.std.proofs.Common.{◌≡◌, ℕ, ◌+◌, ◌≤◌, List, ◌++◌, length, Option}
-use Rattle.std.specs.Prelude.{IsTrue}
-use Rattle.disk_store.specs.Disk.{IsUnchanged, KeepsLength}
 use Rattle.mot_lines.specs.Lines.{whole_lines}
 use Rattle.mot_session.specs.Inner.InHand.{InHand}
+use Rattle.mot_session.specs.Inner.Writes.{GoesOn}
 use Rattle.mot_session.specs.Served.{Served}
 use Rattle.mot_session.specs.State.{Leads, ServerState}
 use Rattle.mot_session.proofs.serving.answer_chunk.Given as goal
@@ -11,10 +10,7 @@ abbrev pub invariant-loop-line : goal.invariant-loop-line
 invariant-loop-line g l =
     let state = g.D.Disk.state in record {
       bound : l.lines + length l.rest ≤ l.initial.lines + length l.chunk;
-      keeps : KeepsLength (state l.initial.server.disk) (state l.server.disk);
-      later : (state l.initial.server.disk).failures ≤ (state l.server.disk).failures;
-      halted : IsTrue l.initial.server.view.halted → (l.server.view ≡ l.initial.server.view)
-          × ((state l.server.disk).IsHonest → IsUnchanged (state l.initial.server.disk) (state l.server.disk));
+      goes : GoesOn l.initial.server l.server (state l.initial.server.disk) (state l.server.disk);
       taken : (front : List ℕ) × (front ++ l.rest ≡ l.chunk)
           × ((input : List ℕ) → InHand input l.initial.hand l.initial.lines
           → InHand (input ++ front) l.hand l.lines)

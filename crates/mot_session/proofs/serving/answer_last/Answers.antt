@@ -3,7 +3,7 @@ use Rattle.std.proofs.Common.{length-append}
 use Rattle.std.proofs.lemmas.Bool.{both_ways}
 use Rattle.mot_lines.specs.Lines.{whole_lines, rest_of, lines_of}
 use Rattle.mot_lines.proofs.Laws.{lines_of-ended, lines_of-begun}
-use Rattle.mot_session.specs.Served.{Served, Stopped}
+use Rattle.mot_session.specs.Served.{Served}
 use Rattle.mot_session.specs.State.{state_of}
 use Rattle.mot_session.proofs.Outcomes.{later-answers, later-begins}
 use Rattle.mot_session.proofs.Runs.{Served-push, Stopped-here}
@@ -11,13 +11,15 @@ use Rattle.mot_session.proofs.serving.answer_last.Goals as goal
 
 pub returns-then-is_empty-clause-lines : goal.returns-then-is_empty-clause-lines
 returns-then-is_empty-clause-lines g c = λ none input is.
-    let e = lines_of-ended input ((c.is_empty.ensures (rest_of input) is.rest).0 c.if-is_empty.true) in
+    let e = lines_of-ended input
+    ((c.is_empty.ensures (rest_of input) is.rest).0 c.if-is_empty.true) in
     is.counted ∙ ap length (sym e)
 
 pub returns-then-is_empty-clause-ended : goal.returns-then-is_empty-clause-ended
 returns-then-is_empty-clause-ended g c = λ none before old input is s stands honest.
     let state = g.D.Disk.state c.args.server.now.disk in
-    let e = lines_of-ended input ((c.is_empty.ensures (rest_of input) is.rest).0 c.if-is_empty.true) in (
+    let e = lines_of-ended input
+    ((c.is_empty.ensures (rest_of input) is.rest).0 c.if-is_empty.true) in (
       s,
       stands,
       λ served. subst (λ l. Served state before (state_of c.args.server.now s state) l old
@@ -39,10 +41,11 @@ returns-in-Ok-clause-ended g c = λ none before old input is s stands honest.
     let some : rest_of input ≡ [] → ⊥ = λ h. both_ways _ c.if-is_empty.false
     ((c.is_empty.ensures (rest_of input) is.rest).1 h) in
     let e : lines_of input ≡ whole_lines input ++ rest_of input ∷ [] = lines_of-begun input some in
-    let was = c.in-Ok.ensures.keeps.was_honest honest in
+    let was = c.in-Ok.ensures.goes.keeps.was_honest honest in
     let a = c.in-Ok.ensures.answers (rest_of input) is.rest s stands honest in
     let told = a.2 in
-    let later = later-answers (state_of mid s (state mid.disk)) (state_of new a.0 (state new.disk)) _
+    let later = later-answers (state_of mid s (state mid.disk))
+    (state_of new a.0 (state new.disk)) _
     told.reply told.answers.answers in (
       a.0,
       a.1,
@@ -62,7 +65,7 @@ returns-in-Err-clause-unwritten g c = λ fault before old input is.
     let some : rest_of input ≡ [] → ⊥ = λ h. both_ways _ c.if-is_empty.false
     ((c.is_empty.ensures (rest_of input) is.rest).1 h) in
     rw c.ended.ensures (λ s stands honest.
-    let was = c.in-Err.ensures.keeps.was_honest honest in
+    let was = c.in-Err.ensures.goes.keeps.was_honest honest in
     let a = c.in-Err.ensures.answers (rest_of input) is.rest s stands honest in
     let told = a.2 in
     let later = later-begins (state_of mid s (state mid.disk)) (state_of new a.0 (state new.disk)) _
@@ -71,6 +74,7 @@ returns-in-Err-clause-unwritten g c = λ fault before old input is.
       a.1,
       λ served. Stopped-here mid new s a.0 (state mid.disk) (state new.disk)
           (g.met.D.Disk.sound mid.disk was) (g.met.D.Disk.sound new.disk honest) a.1 before
-          (whole_lines input) (rest_of input) old _ _ served later.moment told.reply told.answers told.crosses
+          (whole_lines input)
+          (rest_of input) old _ _ served later.moment told.reply told.answers told.crosses
           c.args.lines is.counted (lines_of input) [] (lines_of-begun input some),
     ))

@@ -1,13 +1,12 @@
-use Rattle.std.proofs.Common.{◌≡◌, ℕ, ◌+◌, ◌*◌, ◌≤◌, List, [], ◌++◌, take, length, Option, refl, subst, ◌∙◌}
+use Rattle.std.proofs.Common.{◌≡◌, ℕ, ◌+◌, ◌*◌, ◌≤◌, List, [], ◌++◌, take, length, Option, subst}
 use Rattle.std.proofs.Common.{arith, append-nil, length-append, length-take, inl, inr}
 use Rattle.std.specs.Io.KnownBytes.{Consumes}
 use Rattle.std.proofs.KnownBytes.{Consumes-nil, Consumes-trans}
-use Rattle.mot_server.proofs.Laws.{keeps_on, unchanged_on}
 use Rattle.mot_session.specs.declared.serving.TheConstants.{READ_SIZE}
 use Rattle.mot_session.specs.Served.{TakesInput}
 use Rattle.mot_session.specs.State.{state_of}
 use Rattle.mot_session.proofs.SessionLaws.{session-laws}
-use Rattle.mot_session.proofs.Requests.{is_unchanged}
+use Rattle.mot_session.proofs.Requests.{goes_on-more, goes_on-none}
 use Rattle.mot_session.proofs.Runs.{InHand-none, Served-none}
 use Rattle.mot_session.proofs.serving.serve.Goals as goal
 
@@ -40,9 +39,7 @@ loop-init g c =
     let server = c.args.server.now in
     let state = g.D.Disk.state server.disk in record {
       bound = omega arith;
-      keeps = record { len = refl; was_honest = λ honest. honest };
-      later = omega arith;
-      halted = λ is. (refl, λ honest. is_unchanged state);
+      goes = goes_on-none server state;
       taken = (
         [],
         record { consumed = Consumes-nil _; bounded = omega arith },
@@ -70,7 +67,7 @@ returns-then-count-eq0-clause-ended g c = λ none.
       r.1 c.if-count-eq0.true (omega arith),
       c.answer_last.ensures.lines none t.0 t.2,
       λ s stands honest.
-          let was = c.answer_last.ensures.keeps.was_honest honest in
+          let was = c.answer_last.ensures.goes.keeps.was_honest honest in
           let mid = t.3 s stands was in
           let last = c.answer_last.ensures.ended none (state_of first s (state first.disk))
           (g.W.Write.contents c.args.writer.now) t.0 t.2 mid.0 mid.1 honest in
@@ -91,7 +88,7 @@ returns-then-count-eq0-clause-unwritten g c = λ fault.
       inr (
         r.1 c.if-count-eq0.true (omega arith),
         λ s stands honest.
-            let was = c.answer_last.ensures.keeps.was_honest honest in
+            let was = c.answer_last.ensures.goes.keeps.was_honest honest in
             let mid = t.3 s stands was in
             let last = c.answer_last.ensures.unwritten fault (state_of first s (state first.disk))
             (g.W.Write.contents c.args.writer.now) t.0 t.2 mid.0 mid.1 honest in
@@ -99,7 +96,8 @@ returns-then-count-eq0-clause-unwritten g c = λ fault.
       ),
     )
 
-pub returns-in_default-answer_chunk-clause-unwritten : goal.returns-in_default-answer_chunk-clause-unwritten
+pub returns-in_default-answer_chunk-clause-unwritten :
+    goal.returns-in_default-answer_chunk-clause-unwritten
 returns-in_default-answer_chunk-clause-unwritten g c = λ fault.
     let state = g.D.Disk.state in
     let t = c.loop.invariant.taken in
@@ -113,7 +111,7 @@ returns-in_default-answer_chunk-clause-unwritten g c = λ fault.
           (omega (arith, more))
           (omega (arith, length-take c.in-Ok-read.count c.read.new.buf, m.0, m.1)) t.1 r.0,
       inl (λ s stands honest.
-          let was = c.in_default-answer_chunk.ensures.keeps.was_honest honest in
+          let was = c.in_default-answer_chunk.ensures.goes.keeps.was_honest honest in
           let mid = t.3 s stands was in
           let last = c.in_default-answer_chunk.ensures.err (state_of first s (state first.disk))
           (g.W.Write.contents c.args.writer.now) t.0 t.2 mid.0 mid.1 honest in
@@ -135,15 +133,9 @@ loop-preserved g c =
     record {
       bound = let l : c.loop.lines ≤ READ_SIZE * c.loop.counter = c.loop.invariant.bound in
           omega (arith, b, m.0, m.1, l);
-      keeps = keeps_on (state first.disk) (state mid_server.disk) (state new.disk) inv.keeps one.keeps;
-      later = let was = inv.later in let on = one.later in omega (arith, was, on);
-      halted = λ is.
-          let was = inv.halted is in
-          let on = one.halted (rw was.0 is) in (
-            on.0 ∙ was.0,
-            λ honest. unchanged_on (state first.disk) (state mid_server.disk) (state new.disk)
-                (was.1 (one.keeps.was_honest honest)) (on.1 honest),
-          );
+      goes = goes_on-more first mid_server new (state first.disk) (state mid_server.disk)
+          (state new.disk)
+          inv.goes one.goes;
       taken = (
         t.0 ++ take c.in-Ok-read.count c.read.new.buf,
         read_more c.loop.counter (c.loop.counter + 1) _ _ _ t.0
@@ -151,7 +143,7 @@ loop-preserved g c =
             (omega (arith, length-take c.in-Ok-read.count c.read.new.buf, m.0, m.1)) t.1 r.0,
         one.hand t.0 t.2,
         λ s stands honest.
-            let was = one.keeps.was_honest honest in
+            let was = one.goes.keeps.was_honest honest in
             let mid = t.3 s stands was in
             let last = one.ok (state_of first s (state first.disk))
             (g.W.Write.contents c.args.writer.now) t.0 t.2 mid.0 mid.1 honest in

@@ -1,9 +1,8 @@
-use Rattle.std.proofs.Common.{◌≡◌, ℕ, ◌*◌, ◌≤◌, List}
-use Rattle.std.specs.Prelude.{IsTrue}
-use Rattle.disk_store.specs.Disk.{IsUnchanged, KeepsLength}
+use Rattle.std.proofs.Common.{ℕ, ◌*◌, ◌≤◌, List}
 use Rattle.mot_lines.specs.Lines.{whole_lines}
 use Rattle.mot_session.specs.declared.serving.TheConstants.{READ_SIZE}
 use Rattle.mot_session.specs.Inner.InHand.{InHand}
+use Rattle.mot_session.specs.Inner.Writes.{GoesOn}
 use Rattle.mot_session.specs.Served.{Served, TakesInput}
 use Rattle.mot_session.specs.State.{Leads}
 use Rattle.mot_session.proofs.serving.serve.Given as goal
@@ -12,13 +11,13 @@ abbrev pub invariant-loop : goal.invariant-loop
 invariant-loop g l =
     let state = g.D.Disk.state in record {
       bound : l.lines ≤ READ_SIZE * l.counter;
-      keeps : KeepsLength (state l.fn.server.disk) (state l.server.disk);
-      later : (state l.fn.server.disk).failures ≤ (state l.server.disk).failures;
-      halted : IsTrue l.fn.server.view.halted → (l.server.view ≡ l.fn.server.view)
-          × ((state l.server.disk).IsHonest → IsUnchanged (state l.fn.server.disk) (state l.server.disk));
+      goes : GoesOn l.fn.server l.server (state l.fn.server.disk) (state l.server.disk);
       taken : (input : List ℕ)
-          × TakesInput l.counter (g.R.Read.remaining l.fn.reader) (g.R.Read.remaining l.reader) input
+          × TakesInput l.counter (g.R.Read.remaining l.fn.reader)
+          (g.R.Read.remaining l.reader) input
           × InHand input l.hand l.lines
-          × Leads (g.D.Disk.state) l.fn.server l.server (λ before after. Served (state l.server.disk)
-          before after (whole_lines input) (g.W.Write.contents l.fn.writer) (g.W.Write.contents l.writer));
+          × Leads (g.D.Disk.state) l.fn.server l.server
+          (λ before after. Served (state l.server.disk)
+          before after (whole_lines input) (g.W.Write.contents l.fn.writer)
+          (g.W.Write.contents l.writer));
     }

@@ -19,7 +19,8 @@ loop-init g c =
       );
     }
 
-pub returns-in_err-write_next_packet-clause-answers : goal.returns-in_err-write_next_packet-clause-answers
+pub returns-in_err-write_next_packet-clause-answers :
+    goal.returns-in_err-write_next_packet-clause-answers
 returns-in_err-write_next_packet-clause-answers g c = λ s holds honest.
     let state = g.D.Disk.state in
     let first = c.args.server.now in
@@ -57,14 +58,17 @@ loop-preserved g c =
     let new = c.write_next_packet.new.server in
     let so_far = c.loop.invariant in
     let one = c.in_ok-write_next_packet.ensures in record {
-      reads = reads-more first mid new (state first.disk) (state mid.disk) (state new.disk) so_far.reads one.reads;
+      reads = reads-more first mid new (state first.disk) (state mid.disk)
+          (state new.disk) so_far.reads one.reads;
       sent = λ s holds honest.
           let was = one.reads.keeps.was_honest honest in
           let sent = so_far.sent s holds was in
-          let held = holds-read first mid (state first.disk) (state mid.disk) so_far.reads was s holds in
+          let held = holds-read first mid (state first.disk)
+          (state mid.disk) so_far.reads was s holds in
           next-more (state_of first s (state first.disk)) (state_of mid s (state mid.disk))
           (state_of new s (state new.disk)) holds.going _ _ _ c.loop.counter sent.0 sent.2
-          c.in_ok-write_next_packet.field-0 (one.answers s held honest) c.in-Some.field-0 c.in-Some.is sent.1;
+          c.in_ok-write_next_packet.field-0
+          (one.answers s held honest) c.in-Some.field-0 c.in-Some.is sent.1;
     }
 
 pub returns-clause-answers : goal.returns-clause-answers
@@ -76,7 +80,9 @@ returns-clause-answers g c = λ s holds honest.
     let last = c.loop-test.false in
     let bound = c.loop.auto.counter-end in
     let all : c.loop.counter ≡ c.args.count = omega (arith, last, bound) in
-    Answered-next (state_of first s (state first.disk)) (state_of mid s (state mid.disk)) holds.going _ _
+    Answered-next (state_of first s (state first.disk))
+    (state_of mid s (state mid.disk)) holds.going _ _
     c.args.count so_far.0
-    (subst (λ n. Sends (state_of first s (state first.disk)) n so_far.0 (state_of mid s (state mid.disk))) all so_far.1)
+    (subst (λ n. Sends (state_of first s (state first.disk)) n so_far.0
+    (state_of mid s (state mid.disk))) all so_far.1)
     so_far.2

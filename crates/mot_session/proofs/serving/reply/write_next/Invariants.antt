@@ -10,11 +10,13 @@ use Rattle.mot_session.proofs.serving.reply.write_next.Given as goal
 
 abbrev pub invariant-loop : goal.invariant-loop
 invariant-loop g l = record {
-  reads : OnlyReads l.initial.server l.server (g.D.Disk.state l.initial.server.disk) (g.D.Disk.state l.server.disk);
+  reads : OnlyReads l.initial.server l.server (g.D.Disk.state l.initial.server.disk)
+      (g.D.Disk.state l.server.disk);
   sent : (s : Standing) → Holds l.initial.server.view s (g.D.Disk.state l.initial.server.disk)
       → (g.D.Disk.state l.server.disk).IsHonest
       → (sents : List Sent)
       × Sends (state_of l.initial.server s (g.D.Disk.state l.initial.server.disk)) l.counter sents
       (state_of l.server s (g.D.Disk.state l.server.disk))
-      × Appends (g.W.Write.contents l.initial.writer) (g.W.Write.contents l.writer) (sent_lines sents);
+      × Appends (g.W.Write.contents l.initial.writer) (g.W.Write.contents l.writer)
+      (sent_lines sents);
 }

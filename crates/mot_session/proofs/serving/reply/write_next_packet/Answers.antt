@@ -3,25 +3,29 @@ use Rattle.std.proofs.lemmas.Result.{err_from_is_err_and}
 use Rattle.mot_session.proofs.Requests.{AnswersOne-sent}
 use Rattle.mot_session.proofs.serving.reply.write_next_packet.Goals as goal
 
-pub returns-in_err-write_whole-in-Ok-clause-answers : goal.returns-in_err-write_whole-in-Ok-clause-answers
+pub returns-in_err-write_whole-in-Ok-clause-answers :
+    goal.returns-in_err-write_whole-in-Ok-clause-answers
 returns-in_err-write_whole-in-Ok-clause-answers g c = λ s holds honest.
     let state = g.D.Disk.state in
     let p = err_from_is_err_and c.from_residual.result c.from_residual.ensures.1 in
     let run = c.in-Ok.ensures in
     rw p.1 (AnswersOne-sent c.args.server.now c.next_packet.new.self (state c.args.server.now.disk)
     (state c.next_packet.new.self.disk)
-    (record { view = run.view; keeps = run.keeps; later = run.later; unchanged = run.unchanged }) honest s
+    (record { view = run.view; keeps = run.keeps; later = run.later; unchanged = run.unchanged })
+    honest s
     c.in-Ok.field-0.packet.items c.in-Ok.field-0.ends_turn (run.sent s holds honest) (Err _) tt
     c.as_slice.result.now (c.as_slice.ensures.value ∙ c.set_played_text.ensures) _ _
     c.in_err-write_whole-in-Ok.ensures)
 
-pub returns-in_ok-write_whole-in-Ok-clause-answers : goal.returns-in_ok-write_whole-in-Ok-clause-answers
+pub returns-in_ok-write_whole-in-Ok-clause-answers :
+    goal.returns-in_ok-write_whole-in-Ok-clause-answers
 returns-in_ok-write_whole-in-Ok-clause-answers g c = λ s holds honest.
     let state = g.D.Disk.state in
     let run = c.in-Ok.ensures in
     AnswersOne-sent c.args.server.now c.next_packet.new.self (state c.args.server.now.disk)
     (state c.next_packet.new.self.disk)
-    (record { view = run.view; keeps = run.keeps; later = run.later; unchanged = run.unchanged }) honest s
+    (record { view = run.view; keeps = run.keeps; later = run.later; unchanged = run.unchanged })
+    honest s
     c.in-Ok.field-0.packet.items c.in-Ok.field-0.ends_turn (run.sent s holds honest)
     (Ok (Some c.in-Ok.field-0.ends_turn)) refl
     c.as_slice.result.now (c.as_slice.ensures.value ∙ c.set_played_text.ensures) _ _

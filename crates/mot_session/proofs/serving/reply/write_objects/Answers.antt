@@ -16,7 +16,8 @@ loop-object-preserved g c =
     c.as_slice.ensures.value ∙ c.object_text.ensures in
     let more = lines-more object_line_beside c.args.objects.now i c.object-item.result
     c.loop-object-test.true c.object-item.is in
-    subst (Appends (g.W.Write.contents c.args.writer.now) (g.W.Write.contents c.write_whole.new.writer))
+    subst (Appends (g.W.Write.contents c.args.writer.now)
+    (g.W.Write.contents c.write_whole.new.writer))
     (ap (λ l. flat_map object_line_beside (take i c.args.objects.now) ++ l) text ∙ sym more)
     (Appends-trans _ _ _ _ _ c.loop-object.invariant c.in_ok-write_whole.ensures)
 

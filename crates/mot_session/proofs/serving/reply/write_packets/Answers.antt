@@ -25,7 +25,8 @@ loop-number-preserved g c =
     at c.loop-number-test.true)
     (rw (c.room.ensures, c.length_of_packets-length.ensures, c.address_of_packets-address.ensures)
     at c.cut_packet-packet.ensures.written) in
-    subst (Appends (g.W.Write.contents c.args.writer.now) (g.W.Write.contents c.write_whole.new.writer))
+    subst (Appends (g.W.Write.contents c.args.writer.now)
+    (g.W.Write.contents c.write_whole.new.writer))
     (ap (λ l. flat_map packet_line (take n all) ++ l) text ∙ sym more)
     (Appends-trans _ _ _ _ _ c.loop-number.invariant c.in_ok-write_whole.ensures)
 
@@ -48,7 +49,8 @@ returns-in_err-write_whole g c =
     (flat_map packet_line (drop (n + 1) all)) _ _ front in
     rw p.1 (subst (λ l. WritesFront l (g.W.Write.contents c.args.writer.now)
     (g.W.Write.contents c.write_whole.new.writer))
-    (ap (λ l. (flat_map packet_line (take n all) ++ l) ++ flat_map packet_line (drop (n + 1) all)) text
+    (ap (λ l. (flat_map packet_line (take n all) ++ l) ++ flat_map packet_line (drop (n + 1) all))
+    text
     ∙ ap (λ l. l ++ flat_map packet_line (drop (n + 1) all)) (sym more)
     ∙ lines-parts packet_line all (n + 1)) whole)
 

@@ -6,5 +6,6 @@ use Rattle.mot_session.specs.Raw.{packets_at}
 use Rattle.mot_session.proofs.serving.reply.write_packets.Given as goal
 
 abbrev pub invariant-loop-number : goal.invariant-loop-number
-invariant-loop-number g l = Appends (g.W.Write.contents l.initial.writer) (g.W.Write.contents l.writer)
+invariant-loop-number g l =
+    Appends (g.W.Write.contents l.initial.writer) (g.W.Write.contents l.writer)
     (flat_map packet_line (take l.number (packets_at l.geometry l.group)))

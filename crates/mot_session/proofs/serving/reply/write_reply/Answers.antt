@@ -1,7 +1,5 @@
 use Rattle.std.proofs.Common.{◌≡◌, refl, sym, ap, ◌∙◌, subst}
 use Rattle.mot_base.specs.declared.geometry.Geometry.{Geometry}
-use Rattle.mot_carousel.specs.declared.carousel.Carousel as kept
-use Rattle.mot_carousel.specs.Stands.{AreBodiesOf}
 use Rattle.mot_lines.specs.Inner.Listing.{listing_text_beside}
 use Rattle.mot_lines.specs.Listing.{listing_text}
 use Rattle.mot_lines.specs.Text.{packet_line}
@@ -28,7 +26,8 @@ returns-in-Accepted-clause-answers g c = rw c.in-Accepted.is (λ before request 
     AnswersRequest-written c.write_whole-in-Accepted.result before
     (state_of c.args.server.now s (g.D.Disk.state c.args.server.now.disk)) request
     (accepted c.in-Accepted.done) _ _ refl d
-    (rw (c.as_slice-in-Accepted.ensures.value, c.done_text.ensures) at c.write_whole-in-Accepted.ensures))
+    (rw (c.as_slice-in-Accepted.ensures.value, c.done_text.ensures) at
+    c.write_whole-in-Accepted.ensures))
 
 pub returns-in-Listing-clause-answers : goal.returns-in-Listing-clause-answers
 unfolding text_of

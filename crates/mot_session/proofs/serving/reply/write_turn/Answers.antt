@@ -1,4 +1,4 @@
-use Rattle.std.proofs.Common.{◌+◌, [], ◌∙◌, ap, refl, subst, Some, sym, ◌≡◌}
+use Rattle.std.proofs.Common.{◌+◌, [], ◌∙◌, ap, refl, Some}
 use Rattle.std.proofs.KnownBytes.{Appends-nil}
 use Rattle.std.proofs.lemmas.Result.{err_from_is_err_and}
 use Rattle.mot_session.specs.State.{state_of}
@@ -74,12 +74,15 @@ loop-ends_turn-preserved g c =
     let so_far = c.loop-ends_turn.invariant in
     let one = c.in_ok-ends_turn.ensures in
     let shown = c.in-Some.is ∙ ap (λ e. Some e) c.if-ends_turn.false in record {
-      reads = reads-more first mid new (state first.disk) (state mid.disk) (state new.disk) so_far.reads one.reads;
+      reads = reads-more first mid new (state first.disk) (state mid.disk)
+          (state new.disk) so_far.reads one.reads;
       sent = λ s holds honest.
           let was = one.reads.keeps.was_honest honest in
           let sent = so_far.sent s holds was in
-          let held = holds-read first mid (state first.disk) (state mid.disk) so_far.reads was s holds in
-          let more = turn-more (state_of first s (state first.disk)) (state_of mid s (state mid.disk))
+          let held = holds-read first mid (state first.disk)
+          (state mid.disk) so_far.reads was s holds in
+          let more = turn-more (state_of first s (state first.disk))
+          (state_of mid s (state mid.disk))
           (state_of new s (state new.disk)) holds.going _ _ _ sent.0 sent.1 sent.3
           c.in_ok-ends_turn.field-0 (one.answers s held honest) shown sent.2 in
           (sent.0 + 1, more.0, more.1, more.2);

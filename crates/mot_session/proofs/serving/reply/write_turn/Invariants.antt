@@ -11,13 +11,16 @@ use Rattle.mot_session.proofs.serving.reply.write_turn.Given as goal
 
 abbrev pub invariant-loop-ends_turn : goal.invariant-loop-ends_turn
 invariant-loop-ends_turn g l = record {
-  reads : OnlyReads l.initial.server l.server (g.D.Disk.state l.initial.server.disk) (g.D.Disk.state l.server.disk);
+  reads : OnlyReads l.initial.server l.server (g.D.Disk.state l.initial.server.disk)
+      (g.D.Disk.state l.server.disk);
   sent : (s : Standing) → Holds l.initial.server.view s (g.D.Disk.state l.initial.server.disk)
       → (g.D.Disk.state l.server.disk).IsHonest
       → (count : ℕ) × (sents : List Sent)
-      × SendsWithinTurn (state_of l.initial.server s (g.D.Disk.state l.initial.server.disk)) count sents
+      × SendsWithinTurn
+      (state_of l.initial.server s (g.D.Disk.state l.initial.server.disk)) count sents
       (state_of l.server s (g.D.Disk.state l.server.disk))
-      × Appends (g.W.Write.contents l.initial.writer) (g.W.Write.contents l.writer) (sent_lines sents);
+      × Appends (g.W.Write.contents l.initial.writer) (g.W.Write.contents l.writer)
+      (sent_lines sents);
 }
 
 abbrev pub decreases-loop-ends_turn : goal.decreases-loop-ends_turn

@@ -24,7 +24,8 @@ loop-at-preserved g c =
           (drop c.loop-at.at c.args.bytes.now)) ≡ length c.args.bytes.now - c.loop-at.at =
           ap length (slice_from c.args.bytes.now c.loop-at.at)
           ∙ length-drop c.loop-at.at c.args.bytes.now in omega (arith, b);
-      written = subst (Appends (g.W.Write.contents c.args.writer.now) (g.W.Write.contents c.write.new.self))
+      written = subst (Appends (g.W.Write.contents c.args.writer.now)
+          (g.W.Write.contents c.write.new.self))
           (part c.args.bytes.now c.loop-at.at c.in-Ok.count)
           (Appends-trans _ _ _ _ _ c.loop-at.invariant.written c.in-Ok.ensures.bytes);
     }

@@ -1,0 +1,143 @@
+-- What was told of one line is stored.
+use Rattle.std.proofs.Common.{ℕ, ◌+◌, ⊎_elim, List, [], ◌++◌, length, take, Option, Result, Ok, Err}
+use Rattle.std.proofs.Common.{sym, ap, ◌∙◌, subst, arith, append_assoc, append-nil, length-append}
+use Rattle.std.proofs.Math.Seq.{take-append-add}
+use Rattle.std.specs.Prelude.{IsFalse, OnOk, OnErr}
+use Rattle.disk_store.specs.Disk.{State, IsHonestDisk}
+use Rattle.disk_store.proofs.Laws.{at_end}
+use Rattle.mot_carousel.specs.declared.command.Command.{Command}
+use Rattle.mot_journal.specs.Image.{Standing}
+use Rattle.mot_lines.specs.Line.{line_of}
+use Rattle.mot_repository.specs.Repository.{IsOf}
+use Rattle.mot_server.specs.Runs.{IsAfter, StandsAfterSome}
+use Rattle.mot_server.specs.Server.{ServerView}
+use Rattle.mot_server.proofs.Laws.{after_both, more, none_of}
+use Rattle.mot_session.specs.declared.serving.writing.WriteFault.{WriteFault}
+use Rattle.mot_session.specs.Inner.Writes.{AnswersLine, Crosses}
+use Rattle.mot_session.specs.Served.{ServedLine, StoppedLine}
+use Rattle.mot_session.specs.Session.{Exchange}
+use Rattle.mot_session.specs.State.{Leads, ServerState, state_of}
+use Rattle.mot_session.specs.Stored.{KeepsAcknowledged, accepted_in}
+use Rattle.mot_session.specs.Stored.{failed_in}
+use Rattle.mot_session.proofs.Crashes.{behind, made}
+use Rattle.mot_session.proofs.Outcomes.{Outcome, nothing, one, halts, begun_outcome, outcome}
+
+-- some of what is sure may be told as what may be
+less_of_sure : (s : Standing) (sure done others : List Command) (image : List ℕ)
+    → StandsAfterSome s (sure ++ done) others image → StandsAfterSome s sure (done ++ others) image
+less_of_sure s sure done others image is =
+    let count : ℕ = is.after.count in record {
+      last = is.last;
+      after = record {
+        count = length done + count;
+        few = omega (arith, is.after.few, length-append done others);
+        after = subst (λ l. IsAfter s l is.last)
+            (append_assoc sure done (take count others)
+            ∙ ap (λ l. sure ++ l) (sym (take-append-add done others count))) is.after.after;
+      };
+      image_is = is.image_is;
+    }
+
+module _ (start now : State) (before : ServerState) (x : Exchange) (sound : IsHonestDisk now)
+    (what : Outcome before x.after (accepted_in x) (failed_in x))
+    (crosses : Crosses start now before x)
+    (each : IsFalse x.after.halted → (image : List ℕ) → now.MayLeave image
+    → IsOf x.after.standing image)
+    (going : IsFalse before.halted) (s : Standing) (acknowledged : List Command)
+    (so_far : IsAfter s acknowledged before.standing) where
+  -- the command that the reply accepts was done
+  accepted_more : IsAfter s (acknowledged ++ accepted_in x) x.after.standing
+  accepted_more = after_both s acknowledged (accepted_in x) before.standing x.after.standing so_far
+      (made before x what)
+
+  came : (image : List ℕ) → StandsAfterSome before.standing [] (accepted_in x ++ failed_in x) image
+      → StandsAfterSome s acknowledged (accepted_in x ++ failed_in x) image
+  came image left =
+      behind s before.standing acknowledged (accepted_in x ++ failed_in x) image so_far left
+
+  leaves : Outcome before x.after (accepted_in x) (failed_in x) → (image : List ℕ)
+      → now.MayLeave image
+      → StandsAfterSome s (acknowledged ++ accepted_in x) (failed_in x) image
+  leaves (nothing none fine standing same) image left =
+      none_of s (acknowledged ++ accepted_in x) (failed_in x) x.after.standing image accepted_more
+      (each (same ∙ going) image left)
+  leaves (one c d is fine was same step) image left =
+      none_of s (acknowledged ++ accepted_in x) (failed_in x) x.after.standing image accepted_more
+      (each (same ∙ going) image left)
+  leaves (halts none was is standing) image left =
+      let all = came image
+      (at_end start now (StandsAfterSome before.standing [] (accepted_in x ++ failed_in x))
+      sound (crosses.going going) image left) in
+      subst (λ l. StandsAfterSome s (acknowledged ++ l) (failed_in x) image) (sym none)
+      (subst (λ l. StandsAfterSome s l (failed_in x) image) (sym (append-nil acknowledged))
+      (subst (λ l. StandsAfterSome s acknowledged (l ++ failed_in x) image) none all))
+
+  keeps : KeepsAcknowledged start now s acknowledged x
+  keeps = record {
+    after = accepted_more;
+    at_end = λ image left. leaves what image (sound.only_now image left);
+    any_moment = λ image left. came image ((crosses.going going).each image left);
+    earlier = λ moment sure others early parts stored image left.
+        ⊎_elim {C = StandsAfterSome s sure (others ++ (accepted_in x ++ failed_in x)) image}
+        (λ was. more s sure others (accepted_in x ++ failed_in x) image (stored image was))
+        (λ is. less_of_sure s sure others (accepted_in x ++ failed_in x) image
+        (subst (λ l. StandsAfterSome s l (accepted_in x ++ failed_in x) image) parts
+        (came image is)))
+        ((crosses.going going).before moment image early left);
+  }
+
+-- a line was answered, in whole or in part
+module _ {D T : Type 0} (state : D → State) (old new : ServerView D) (line : List ℕ)
+    (known next : Option (List ℕ))
+    (sound : (state new.disk).IsHonest → IsHonestDisk (state new.disk)) where
+  pub ServedLine-told : (result : Result T WriteFault)
+      → Leads state old new
+      (λ before after. AnswersLine result (state old.disk) (state new.disk) before line after
+      known next)
+      → OnOk result (Leads state old new
+      (λ before after. ServedLine (state old.disk) (state new.disk) before line
+      after known next))
+  ServedLine-told (Ok done) led = λ s stands honest.
+      let a = led s stands honest in
+      let told = a.2 in
+      let before : ServerState = state_of old s (state old.disk) in
+      let after : ServerState = state_of new a.0 (state new.disk) in (
+        a.0,
+        a.1,
+        record {
+          reply = told.reply;
+          answers = told.answers.answers;
+          appended = told.answers.written;
+          stored = keeps (state old.disk) (state new.disk) before
+              (record { line = line; reply = told.reply; after = after }) (sound honest)
+              (outcome before after (line_of line) told.reply told.answers.answers) told.crosses
+              (λ going image left. (a.1.holds going).each image left);
+        },
+      )
+  ServedLine-told (Err fault) led = tt
+
+  pub StoppedLine-told : (result : Result T WriteFault)
+      → Leads state old new
+      (λ before after. AnswersLine result (state old.disk) (state new.disk) before line after
+      known next)
+      → OnErr result (Leads state old new
+      (λ before after. StoppedLine (state old.disk) (state new.disk) before line
+      after known next))
+  StoppedLine-told (Ok done) led = tt
+  StoppedLine-told (Err fault) led = λ s stands honest.
+      let a = led s stands honest in
+      let told = a.2 in
+      let before : ServerState = state_of old s (state old.disk) in
+      let after : ServerState = state_of new a.0 (state new.disk) in (
+        a.0,
+        a.1,
+        record {
+          reply = told.reply;
+          broken = told.answers;
+          stored = keeps (state old.disk) (state new.disk) before
+              (record { line = line; reply = told.reply; after = after }) (sound honest)
+              (begun_outcome before after (line_of line) told.reply told.answers.begins)
+              told.crosses
+              (λ going image left. (a.1.holds going).each image left);
+        },
+      )

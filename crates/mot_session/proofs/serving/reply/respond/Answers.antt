@@ -1,0 +1,66 @@
+use Rattle.std.proofs.lemmas.Result.{err_from_is_err_and}
+use Rattle.mot_lines.specs.Line.{line_of}
+use Rattle.mot_session.specs.State.{state_of}
+use Rattle.mot_session.proofs.Answered.{Crosses-line, Decides-parsed}
+use Rattle.mot_session.proofs.Requests.{stands-read}
+use Rattle.mot_session.proofs.Written.{AnswersWith-kept}
+use Rattle.mot_session.proofs.serving.reply.respond.Goals as goal
+
+pub returns-in_err-write_reply-clause-answers : goal.returns-in_err-write_reply-clause-answers
+returns-in_err-write_reply-clause-answers g c = λ line parsed s stands honest.
+    let state = g.D.Disk.state in
+    let old = c.args.server.now in
+    let mid = c.answer-decision.new.server in
+    let new = c.write_reply.new.server in
+    let p = err_from_is_err_and c.from_residual.result c.from_residual.ensures.1 in
+    let reads = c.in_err-write_reply.ensures.reads in
+    let was = reads.keeps.was_honest honest in
+    let decided = c.answer-decision.ensures.decides s stands was in
+    let before = state_of old s (state old.disk) in
+    let between = state_of mid decided.0 (state mid.disk) in
+    let after = state_of new decided.0 (state new.disk) in
+    let written = c.in_err-write_reply.ensures.answers before
+    (line_of line) decided.0 decided.1 honest
+    (Decides-parsed before between c.answer-decision.result c.args.request (line_of line) parsed
+    decided.2) in (
+      decided.0,
+      stands-read mid new (state mid.disk) (state new.disk) reads honest decided.0 decided.1,
+      record {
+        reply = written.0;
+        answers = rw p.1 written.2;
+        crosses = Crosses-line old mid new s (state old.disk) (state mid.disk)
+            (state new.disk) line written.0
+            after c.answer-decision.result c.args.request stands honest reads parsed written.1
+            (c.answer-decision.ensures.crosses s) (λ is. (c.answer-decision.ensures.halted is).1);
+      },
+    )
+
+pub returns-clause-answers : goal.returns-clause-answers
+returns-clause-answers g c = λ line parsed s stands honest.
+    let state = g.D.Disk.state in
+    let old = c.args.server.now in
+    let mid = c.answer-decision.new.server in
+    let new = c.write_reply.new.server in
+    let reads = c.in_ok-write_reply.ensures.reads in
+    let was = reads.keeps.was_honest honest in
+    let decided = c.answer-decision.ensures.decides s stands was in
+    let before = state_of old s (state old.disk) in
+    let between = state_of mid decided.0 (state mid.disk) in
+    let after = state_of new decided.0 (state new.disk) in
+    let written = c.in_ok-write_reply.ensures.answers before
+    (line_of line) decided.0 decided.1 honest
+    (Decides-parsed before between c.answer-decision.result c.args.request (line_of line) parsed
+    decided.2) in (
+      decided.0,
+      stands-read mid new (state mid.disk) (state new.disk) reads honest decided.0 decided.1,
+      record {
+        reply = written.0;
+        answers =
+            AnswersWith-kept c.map_err.result before after (line_of line) written.0 _ _ _ written.2
+            c.flush.ensures.bytes;
+        crosses = Crosses-line old mid new s (state old.disk) (state mid.disk)
+            (state new.disk) line written.0
+            after c.answer-decision.result c.args.request stands honest reads parsed written.1
+            (c.answer-decision.ensures.crosses s) (λ is. (c.answer-decision.ensures.halted is).1);
+      },
+    )
