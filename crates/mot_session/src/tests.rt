@@ -3,12 +3,13 @@ mod failing;
 mod halting;
 mod playing;
 mod receiving;
+mod stops;
 mod streams;
 
 use super::*;
 use disk_store::MemoryDisk;
 use mot_base::Refusal;
-use mot_journal::format;
+use mot_journal::{Layout, format};
 use mot_packets::Packet;
 use mot_player::Played;
 use std::alloc::Global;
@@ -101,6 +102,21 @@ fn play_turn(alloc: Global, server: &mut Server) -> Result<Vec<Packet>, Refusal>
 /// Whether the server is halted.
 fn is_halted(server: &Server) -> bool {
     server.halted()
+}
+
+/// Whether no gate is open behind a closed one.
+fn is_clean(server: &mut Server) -> Result<bool, Refusal> {
+    server.is_clean()
+}
+
+/// Migrates the server's disk.
+fn migrate(alloc: Global, server: &mut Server) -> Result<bool, Refusal> {
+    server.migrate(alloc)
+}
+
+/// Whether the server's disk is of layout 2.
+fn is_of_layout_two(server: &Server) -> bool {
+    server.layout() == Layout::Two
 }
 
 /// The server on its disk, opened again.

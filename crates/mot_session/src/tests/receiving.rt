@@ -6,20 +6,25 @@ use mot_packets::Packet;
 use std::alloc::Global;
 use std::test::Fail;
 
-/// What has come of a group, and the segments of the bodies so far.
+/// What has come of a group, and the entities so far.
 #[derive(Drop)]
-struct Receiver {
+pub struct Receiver {
     group: Vec<u8>,
+    groups: u32,
     segments: u16,
-    body: Vec<u8>,
+    head: [u8; 3],
+    /// Of each entity the type of its groups, its transport id, and its bytes.
+    pub entities: Vec<u8>,
 }
 
 impl Receiver {
     fn new(alloc: Global) -> Self {
         Receiver {
             group: Vec::new(alloc),
+            groups: 0,
             segments: 0,
-            body: Vec::new(alloc),
+            head: [0; 3],
+            entities: Vec::new(alloc),
         }
     }
 
@@ -39,24 +44,42 @@ impl Receiver {
         Ok(())
     }
 
-    /// Adds the segment of a group of a body, whose number has to be the next.
+    /// Adds the segment of a group, whose number has to be the next of its entity.
     fn take_group(&mut self) -> Result<(), Fail> {
-        let [kind, _, high, low, _, _, _, size_high, size_low, rest @ ..] = self.group.as_slice()
+        let [
+            kind,
+            _,
+            high,
+            low,
+            _,
+            first,
+            second,
+            size_high,
+            size_low,
+            rest @ ..,
+        ] = self.group.as_slice()
         else {
             return Err(Fail::new("no group"));
         };
-        if *kind != 0x74 {
-            return Ok(());
-        }
-        if u16::from_be_bytes([*high & 0x7F, *low]) != self.segments {
+        let head = [*kind, *first, *second];
+        let number = u16::from_be_bytes([*high & 0x7F, *low]);
+        if number != self.segments {
             return Err(Fail::new("a segment out of its order"));
+        }
+        if number == 0 {
+            self.head = head;
+            self.entities.extend_from_slice(&head)?;
+        } else if head != self.head {
+            return Err(Fail::new("a segment of another entity"));
         }
         let size = usize::from(u16::from_be_bytes([*size_high, *size_low]));
         let Some(segment) = rest.get(..size) else {
             return Err(Fail::new("a segment cut short"));
         };
-        self.body.extend_from_slice(segment)?;
-        self.segments = self.segments.wrapping_add(1);
+        self.entities.extend_from_slice(segment)?;
+        let is_last = *high & 0x80 != 0;
+        self.segments = if is_last { 0 } else { number.wrapping_add(1) };
+        self.groups = self.groups.wrapping_add(1);
         Ok(())
     }
 }
@@ -123,15 +146,24 @@ fn bytes_of(alloc: Global, count: u32) -> Result<Vec<u8>, Refusal> {
     Ok(bytes)
 }
 
-/// What a receiver makes of a turn.
-fn received_turn(alloc: Global, server: &mut Server) -> Result<Receiver, Fail> {
+/// What a receiver makes of a turn, whose last entity has to be whole.
+pub fn received_turn(alloc: Global, server: &mut Server) -> Result<Receiver, Fail> {
     let mut receiver = Receiver::new(alloc);
     let packets = play_turn(alloc, server)?;
     for packet in packets.as_slice() {
         receiver.take_packet(packet.as_slice())?;
     }
+    if receiver.segments != 0 || !receiver.group.is_empty() {
+        return Err(Fail::new("a turn that is cut short"));
+    }
     Ok(receiver)
 }
+
+/// The directory that has an object of 262,144 bytes in segments of 64, named `a`.
+const DIRECTORY: [u8; 31] = [
+    0x76, 0, 3, 0, 0, 0, 28, 0, 1, 0, 0, 0, 0, 64, 0, 0, 0, 2, 0x00, 0x40, 0x00, 0x00, 0x06, 0x84,
+    0x03, 0xCC, 2, 0xF0, 0x61, 0x46, 0,
+];
 
 // The longest body in the shortest segments: 4,096 groups numbered in order, and the body again.
 #[test]
@@ -141,8 +173,11 @@ fn longest_body(rt: HostRuntime) -> Result<(), Fail> {
     let body = bytes_of(alloc, 262_144)?;
     put(alloc, &mut server, b"a", body.as_slice())?;
     let receiver = received_turn(alloc, &mut server)?;
-    assert_eq!(rt; receiver.segments, 4_096);
-    assert!(rt; receiver.body.as_slice() == body.as_slice());
+    let mut expected = Vec::from_slice(alloc, &DIRECTORY)?;
+    expected.extend_from_slice(b"\x74\0\x02")?;
+    expected.extend_from_slice(body.as_slice())?;
+    assert_eq!(rt; receiver.groups, 1 + 4_096);
+    assert!(rt; receiver.entities.as_slice() == expected.as_slice());
     Ok(())
 }
 
