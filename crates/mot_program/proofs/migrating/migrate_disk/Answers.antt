@@ -50,29 +50,34 @@ returns-clause-done g c =
     let old = g.W.Write.contents c.args.writer.now in
     elim c.match-migrate.branch [
       | in-Ok-migrate w ↦
-        let done = w.in-Ok-migrate.is_rewritten in
-        let calls = w.in-Ok-migrate.ensures in
-        let new = g.W.Write.contents w.write_last-result.new.writer in
-        let wrote = w.write_last-result.result in
-        let text = subst (λ l. OnOk wrote (Appends old new l)) w.migrated_text.ensures
-        w.write_last-result.ensures in
-        let here = subst (λ x. OnOk wrote (Appends old (g.W.Write.contents x) (migrated_line done)))
-        (sym w.writer-is) text in
-        let printed = subst (λ r. OnOk r (Appends old (g.W.Write.contents c.match-migrate.writer)
-        (migrated_line done))) (sym w.result-is) here in
-        OnOk-one c.match-migrate.result (λ told. (done, record {
-          under = returns-clause-under g c;
-          rewritten = λ honest.
-              let now = subst (λ d. (state d).IsHonest) c.into_disk.ensures honest in
-              let opened = opens.opened (c.migrate.ensures.keeps.was_honest now) in
-              (with_records server.view.journal opened.records, opened.read, calls.rewritten.0);
-          is_two = λ s honest each image left.
-              let then = calls.ok s (held g c s honest each) in
-              let may = subst (λ d. (state d).MayLeave image) c.into_disk.ensures left in
-              let records = with_records after.view.journal then.records in
-              (then.each image may,
-              (records, (then.journal.each image may).read, calls.rewritten.1));
-        }, told)) printed
+          let done = w.in-Ok-migrate.is_rewritten in
+          let calls = w.in-Ok-migrate.ensures in
+          let new = g.W.Write.contents w.write_last-result.new.writer in
+          let wrote = w.write_last-result.result in
+          let text = subst (λ l. OnOk wrote (Appends old new l)) w.migrated_text.ensures
+          w.write_last-result.ensures in
+          let here = subst (λ x. OnOk wrote (Appends old (g.W.Write.contents x) (migrated_line done)))
+          (sym w.writer-is) text in
+          let printed = subst (λ r. OnOk r (Appends old (g.W.Write.contents c.match-migrate.writer)
+          (migrated_line done))) (sym w.result-is) here in
+          OnOk-one c.match-migrate.result (λ told. (
+            done,
+            record {
+              under = returns-clause-under g c;
+              rewritten = λ honest.
+                  let now = subst (λ d. (state d).IsHonest) c.into_disk.ensures honest in
+                  let opened = opens.opened (c.migrate.ensures.keeps.was_honest now) in
+                  (with_records server.view.journal opened.records, opened.read, calls.rewritten.0);
+              is_two = λ s honest each image left.
+                  let then = calls.ok s (held g c s honest each) in
+                  let may = subst (λ d. (state d).MayLeave image) c.into_disk.ensures left in
+                  let records = with_records after.view.journal then.records in (
+                    then.each image may,
+                    (records, (then.journal.each image may).read, calls.rewritten.1),
+                  );
+            },
+            told,
+          )) printed
       | in-Err-migrate w ↦ subst (λ r. OnOk r ((done : Bool)
           × IsMigrated (state c.args.disk) (state c.into_disk.result) done
           × Appends old (g.W.Write.contents c.match-migrate.writer) (migrated_line done)))
