@@ -4,8 +4,8 @@ use Rattle.std.proofs.Common.{subst, inl, inr}
 use Rattle.std.specs.Prelude.{option_map}
 use Rattle.std.specs.Box.{box_value}
 use Rattle.clap.specs.Words.{App, HasKind, HasMatchesOf, IsAmong, Row, Text, app_of, fault_of}
-use Rattle.clap.specs.Words.{found_of, is_simple, is_simple_and_free, kind_of, rows_of, subcommand_of}
-use Rattle.clap.specs.Words.{subcommand_name_of, subcommand_rows_of}
+use Rattle.clap.specs.Words.{found_of, is_simple, is_simple_and_free, kind_of, rows_of}
+use Rattle.clap.specs.Words.{subcommand_of, subcommand_name_of, subcommand_rows_of}
 use Rattle.clap.specs.declared.builder.Command.{Command}
 use Rattle.clap.specs.declared.error.Error.{Error}
 use Rattle.clap.specs.declared.error.ErrorKind.TheVariants.{DisplayHelp, OutOfMemory}

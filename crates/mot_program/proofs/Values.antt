@@ -16,14 +16,16 @@ first_text [] = refl
 first_text (v ∷ vals) = refl
 
 abbrev value_in : Option MatchedArg → Option (List ℕ)
-value_in = option_and_then (λ a. option_map (λ (s : Bor (List ℕ)). s.now) (slice_get a.vals.items 0))
+value_in = option_and_then (λ a.
+    option_map (λ (s : Bor (List ℕ)). s.now) (slice_get a.vals.items 0))
 
 abbrev value_of_row : Option Row → Option (List ℕ)
 value_of_row = option_and_then (λ (r : Row). slice_get r.values 0)
 
 module _ (id : List ℕ) where
-  first_step : (b : Bool) (e : Bor (List ℕ) × MatchedArg) (found : Option (Bor (List ℕ) × MatchedArg))
-      (row : Row) (rows : Option Row) → row.values ≡ map (λ (s : Bor (List ℕ)). s.now) e.1.vals.items
+  first_step : (b : Bool) (e : Bor (List ℕ) × MatchedArg)
+      (found : Option (Bor (List ℕ) × MatchedArg)) (row : Row) (rows : Option Row)
+      → row.values ≡ map (λ (s : Bor (List ℕ)). s.now) e.1.vals.items
       → value_in (option_map (λ (x : Bor (List ℕ) × MatchedArg). x.1) found) ≡ value_of_row rows
       → value_in (option_map (λ (x : Bor (List ℕ) × MatchedArg). x.1) (cond b (Some e) found))
       ≡ value_of_row (cond b (Some row) rows)

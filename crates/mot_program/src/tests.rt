@@ -4,7 +4,7 @@ mod files;
 
 use super::*;
 use disk_store::Unknown;
-use std::alloc::Global;
+use std::alloc::AllocError;
 use std::fs::File;
 use std::io;
 use std::io::Write;
@@ -12,179 +12,192 @@ use std::process::Abort;
 use std::rt::Files;
 use std::test::Fail;
 
-const HELLO: &[u8] = b"raw 4 2 68656c6c6f\n";
+const HELLO: &str = "raw 4 2 68656c6c6f\n";
 
-const HELLO_PACKET: &[u8] = b"packet 0c011074008000120002000568656c6c6f34cf0000008561\n";
+const HELLO_PACKET: &str = "packet 0c011074008000120002000568656c6c6f34cf0000008561\n";
 
-/// Runs the program on an input, and compares its status and what it wrote.
-fn expect_served(
-    rt: &(impl Abort + Files<File = File>),
-    alloc: Global,
-    words: &[&str],
-    input: &[u8],
-    status: u8,
-    output: &[u8],
-    errors: &[u8],
-) {
-    let mut reader = input;
-    let mut written = Vec::new(alloc);
-    let mut complaints = Vec::new(alloc);
-    let answer = run_program(
+// Of these helpers the tests need no promise, and a table has one loop: so they are cheap to prove.
+
+/// Runs the program on these words and this input; gives its status.
+fn run<W: Write>(
+    rt: &(impl Abort + AllocGlobal + Files<File = File>),
+    words: &str,
+    input: &str,
+    writer: &mut W,
+    errors: &mut Vec<u8>,
+) -> Result<u8, AllocError> {
+    let alloc = rt.alloc();
+    let words: Vec<&str> = words.split_whitespace().collect(alloc)?;
+    let mut reader = input.as_bytes();
+    Ok(run_program(
         rt,
         alloc,
-        words,
+        words.as_slice(),
         Unknown,
         &mut reader,
-        &mut written,
-        &mut complaints,
-    );
-    assert_eq!(rt; answer, status, "{words:?}");
-    assert_eq!(rt; written.as_slice(), output, "{words:?}");
-    assert_eq!(rt; complaints.as_slice(), errors, "{words:?}");
-}
-
-/// The same, on the line `HELLO`.
-fn expect_run(
-    rt: &(impl Abort + Files<File = File>),
-    alloc: Global,
-    words: &[&str],
-    status: u8,
-    output: &[u8],
-    errors: &[u8],
-) {
-    expect_served(rt, alloc, words, HELLO, status, output, errors);
-}
-
-#[test]
-fn served_geometries(rt: HostRuntime) {
-    let alloc = rt.alloc();
-    let far = b"packet 0fff1074008000120002000568656c6c6f34cf0000008ee5\n";
-    expect_run(&rt, alloc, &["memory"], 0, HELLO_PACKET, b"");
-    expect_run(
-        &rt,
-        alloc,
-        &["memory", "--packet=0048"],
-        0,
-        HELLO_PACKET,
-        b"",
-    );
-    expect_run(&rt, alloc, &["memory", "--address", "1023"], 0, far, b"");
-}
-
-#[test]
-fn refused_geometries(rt: HostRuntime) {
-    let alloc = rt.alloc();
-    let rows = [
-        ("--packet", "25"),
-        ("--packet", "65560"),
-        ("--objects", "0"),
-        ("--objects", "251"),
-        ("--objects", "65552"),
-        ("--data", "0"),
-        ("--data", "268435457"),
-        ("--segment", "63"),
-        ("--segment", "8190"),
-        ("--address", "0"),
-        ("--address", "1024"),
-    ];
-    for (option, number) in rows {
-        let words = ["memory", option, number];
-        let refused = b"motcar: 21 BadGeometry\n";
-        expect_run(&rt, alloc, words.as_slice(), 1, b"", refused);
-    }
-}
-
-/// Runs the program, and looks whether it printed to the output or to the errors alone.
-fn expect_text(rt: &(impl Abort + Files<File = File>), alloc: Global, words: &[&str], status: u8) {
-    let mut reader = HELLO;
-    let mut written = Vec::new(alloc);
-    let mut errors = Vec::new(alloc);
-    let answer = run_program(
-        rt,
-        alloc,
-        words,
-        Unknown,
-        &mut reader,
-        &mut written,
-        &mut errors,
-    );
-    assert_eq!(rt; answer, status, "{words:?}");
-    assert_eq!(rt; written.is_empty(), status == 2, "{words:?}");
-    assert_eq!(rt; errors.is_empty(), status == 0, "{words:?}");
-}
-
-#[test]
-fn wrong_words_and_help(rt: HostRuntime) {
-    let alloc = rt.alloc();
-    expect_text(&rt, alloc, &[], 2);
-    expect_text(&rt, alloc, &["play"], 2);
-    expect_text(&rt, alloc, &["memory", "--packet", "x"], 2);
-    expect_text(&rt, alloc, &["memory", "--packet", "4294967320"], 2);
-    expect_text(&rt, alloc, &["memory", "--packet=24", "--packet=24"], 2);
-    expect_text(&rt, alloc, &["--help"], 0);
-    expect_text(&rt, alloc, &["help"], 0);
-    expect_text(&rt, alloc, &["memory", "--help"], 0);
+        writer,
+        errors,
+    ))
 }
 
 /// What the program writes to its output, run on these words and this input.
-fn output(rt: &impl Files<File = File>, alloc: Global, words: &[&str], input: &[u8]) -> Vec<u8> {
-    let mut reader = input;
-    let mut written = Vec::new(alloc);
-    let mut errors = Vec::new(alloc);
-    run_program(
-        rt,
-        alloc,
-        words,
-        Unknown,
-        &mut reader,
-        &mut written,
-        &mut errors,
-    );
-    written
+fn output(
+    rt: &(impl Abort + AllocGlobal + Files<File = File>),
+    words: &str,
+    input: &str,
+) -> Result<Vec<u8>, AllocError> {
+    let mut written = Vec::new(rt.alloc());
+    let mut errors = Vec::new(rt.alloc());
+    run(rt, words, input, &mut written, &mut errors)?;
+    Ok(written)
+}
+
+/// Words, an input, the status, and all that is printed: to the output where the status is 0, to
+/// the errors where it is not.
+type Row<'a> = (&'a str, &'a str, u8, &'a str);
+
+/// Runs the program as each row says.
+fn expect_rows(
+    rt: &(impl Abort + AllocGlobal + Files<File = File>),
+    rows: &[Row<'_>],
+) -> Result<(), AllocError> {
+    for row in rows {
+        expect_row(rt, *row)?;
+    }
+    Ok(())
+}
+
+/// Runs the program as a row says.
+fn expect_row(
+    rt: &(impl Abort + AllocGlobal + Files<File = File>),
+    row: Row<'_>,
+) -> Result<(), AllocError> {
+    let (words, input, status, text) = row;
+    let mut written = Vec::new(rt.alloc());
+    let mut errors = Vec::new(rt.alloc());
+    let answer = run(rt, words, input, &mut written, &mut errors)?;
+    let (output, complaints) = if status == 0 { (text, "") } else { ("", text) };
+    assert_eq!(rt; answer, status, "{words}");
+    assert_eq!(rt; written.as_slice(), output.as_bytes(), "{words}");
+    assert_eq!(rt; errors.as_slice(), complaints.as_bytes(), "{words}");
+    Ok(())
+}
+
+/// Looks whether each of these words is refused so, and nothing else is printed.
+fn expect_refusals(
+    rt: &(impl Abort + AllocGlobal + Files<File = File>),
+    lines: &[&str],
+    refusal: &str,
+) -> Result<(), AllocError> {
+    for words in lines {
+        expect_row(rt, (*words, HELLO, 1, refusal))?;
+    }
+    Ok(())
+}
+
+#[test]
+fn served_geometries(rt: HostRuntime) -> Result<(), Fail> {
+    let far = "packet 0fff1074008000120002000568656c6c6f34cf0000008ee5\n";
+    let rows = [
+        ("memory", HELLO, 0, HELLO_PACKET),
+        ("memory --packet=0048", HELLO, 0, HELLO_PACKET),
+        ("memory --address 1023", HELLO, 0, far),
+    ];
+    expect_rows(&rt, rows.as_slice())?;
+    Ok(())
+}
+
+#[test]
+fn refused_geometries(rt: HostRuntime) -> Result<(), Fail> {
+    let lines = [
+        "memory --packet 25",
+        "memory --packet 65560",
+        "memory --objects 0",
+        "memory --objects 251",
+        "memory --objects 65552",
+        "memory --data 0",
+        "memory --data 268435457",
+        "memory --segment 63",
+        "memory --segment 8190",
+        "memory --address 0",
+        "memory --address 1024",
+    ];
+    expect_refusals(&rt, lines.as_slice(), "motcar: 21 BadGeometry\n")?;
+    Ok(())
+}
+
+/// Runs the program, and looks whether it printed to the output or to the errors alone.
+fn expect_text(
+    rt: &(impl Abort + AllocGlobal + Files<File = File>),
+    words: &str,
+    status: u8,
+) -> Result<(), AllocError> {
+    let mut written = Vec::new(rt.alloc());
+    let mut errors = Vec::new(rt.alloc());
+    let answer = run(rt, words, HELLO, &mut written, &mut errors)?;
+    assert_eq!(rt; answer, status, "{words}");
+    assert_eq!(rt; written.is_empty(), status == 2, "{words}");
+    assert_eq!(rt; errors.is_empty(), status == 0, "{words}");
+    Ok(())
+}
+
+#[test]
+fn wrong_words_and_help(rt: HostRuntime) -> Result<(), Fail> {
+    let rows = [
+        ("", 2),
+        ("play", 2),
+        ("memory --packet x", 2),
+        ("memory --packet 4294967320", 2),
+        ("memory --packet=24 --packet=24", 2),
+        ("--help", 0),
+        ("help", 0),
+        ("memory --help", 0),
+    ];
+    for (words, status) in rows {
+        expect_text(&rt, words, status)?;
+    }
+    Ok(())
 }
 
 /// Looks whether the help of these words has this line.
-fn expect_line(rt: &(impl Abort + Files<File = File>), alloc: Global, words: &[&str], line: &str) {
-    let text = output(rt, alloc, words, b"");
+fn expect_line(
+    rt: &(impl Abort + AllocGlobal + Files<File = File>),
+    words: &str,
+    line: &str,
+) -> Result<(), AllocError> {
+    let text = output(rt, words, "")?;
     let has_line = text
         .split(|byte| *byte == b'\n')
         .any(|part| part == line.as_bytes());
     assert!(rt; has_line, "{line}");
+    Ok(())
 }
 
 #[test]
-fn help_texts(rt: HostRuntime) {
-    let alloc = rt.alloc();
+fn help_texts(rt: HostRuntime) -> Result<(), Fail> {
     let options =
         "Options of memory and format: --objects N, --data N, --segment N, --address N, --packet N";
     let formats =
         "The lines that motcar reads and its replies are told in docs/FORMATS.md, how to run it in";
-    expect_line(&rt, alloc, &["help"], "Usage: motcar <COMMAND>");
-    expect_line(&rt, alloc, &["--help"], options);
-    expect_line(&rt, alloc, &["--help"], formats);
-    expect_line(
-        &rt,
-        alloc,
-        &["memory", "--help"],
-        "Usage: motcar memory [OPTIONS]",
-    );
-    expect_line(
-        &rt,
-        alloc,
-        &["help", "memory"],
-        "Usage: motcar memory [OPTIONS]",
-    );
+    let rows = [
+        ("help", "Usage: motcar <COMMAND>"),
+        ("--help", options),
+        ("--help", formats),
+        ("memory --help", "Usage: motcar memory [OPTIONS]"),
+        ("help memory", "Usage: motcar memory [OPTIONS]"),
+    ];
+    for (words, line) in rows {
+        expect_line(&rt, words, line)?;
+    }
+    Ok(())
 }
 
 // By default a packet has at most 96 bytes: a body of 81 bytes takes one of 96 and one of 24.
 #[test]
 fn default_packets(rt: HostRuntime) -> Result<(), Fail> {
-    let alloc = rt.alloc();
-    let mut line = Vec::from_slice(alloc, b"raw 4 2 ")?;
-    for _ in 0..81u8 {
-        line.extend_from_slice(b"55")?;
-    }
-    let written = output(&rt, alloc, &["memory"], &line);
+    let body = "55".repeat(rt.alloc(), 81)?;
+    let line = format!(in rt.alloc(); "raw 4 2 {body}")?;
+    let written = output(&rt, "memory", line.as_str())?;
     assert!(rt; written.starts_with(b"packet c8015b"));
     assert_eq!(rt; written.get(200..213), Some(b"packet 140101".as_slice()));
     assert_eq!(rt; written.len(), 256);
@@ -216,30 +229,35 @@ impl Write for FailingWriter {
     }
 }
 
+/// Looks whether the program answers that this output failed.
+fn expect_fault<W: Write>(
+    rt: &(impl Abort + AllocGlobal + Files<File = File>),
+    words: &str,
+    writer: &mut W,
+) -> Result<(), AllocError> {
+    let mut errors = Vec::new(rt.alloc());
+    let status = run(rt, words, HELLO, writer, &mut errors)?;
+    assert_eq!(rt; status, 1, "{words}");
+    assert_eq!(rt;
+        errors.as_slice(),
+        b"motcar: 23 WriteFault\n".as_slice(),
+        "{words}"
+    );
+    Ok(())
+}
+
 // A write that fails, and a flush that fails after all was written.
 #[test]
-fn failing_output(rt: HostRuntime) {
-    let alloc = rt.alloc();
-    for word in ["memory", "--help"] {
-        for room in [10, 100_000] {
-            let mut writer = FailingWriter {
-                taken: Vec::new(alloc),
-                room,
-            };
-            let mut reader = HELLO;
-            let mut errors = Vec::new(alloc);
-            let status = run_program(
-                &rt,
-                alloc,
-                &[word],
-                Unknown,
-                &mut reader,
-                &mut writer,
-                &mut errors,
-            );
-            let fault = b"motcar: 23 WriteFault\n".as_slice();
-            assert_eq!(rt; status, 1, "{word} {room}");
-            assert_eq!(rt; errors.as_slice(), fault, "{word} {room}");
-        }
+fn failing_output(rt: HostRuntime) -> Result<(), Fail> {
+    let rows = [
+        ("memory", 10),
+        ("memory", 100_000),
+        ("--help", 10),
+        ("--help", 100_000),
+    ];
+    for (words, room) in rows {
+        let taken = Vec::new(rt.alloc());
+        expect_fault(&rt, words, &mut FailingWriter { taken, room })?;
     }
+    Ok(())
 }

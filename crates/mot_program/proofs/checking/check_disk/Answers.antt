@@ -24,7 +24,8 @@ returns-clause-told g c = OnOk-one c.report-result.result (λ told. (
       let same = (opens.still was).bytes in
       let bytes = (state c.args.disk).bytes in
       let exact = told.2 opened.standing now (ap stands_for same ∙ opened.stands)
-      (subst (StandsWhere view.journal) (sym same) (stands_where view.journal opened.records bytes opened.read)) in
+      (subst (StandsWhere view.journal) (sym same)
+      (stands_where view.journal opened.records bytes opened.read)) in
       record {
         standing = opened.standing;
         stands = opened.stands;

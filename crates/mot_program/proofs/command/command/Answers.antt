@@ -6,7 +6,8 @@ use Rattle.mot_program.proofs.command.command.Goals as goal
 
 pub returns : goal.returns
 returns c =
-    let top : app_of c.subcommand_required.result ≡ record { top = program_top; subs = [] } = search rules in
+    let top : app_of c.subcommand_required.result ≡ record { top = program_top; subs = [] } =
+    search rules in
     IfOk-weaker c.subcommand-5.result _ _ (λ command h.
     h.shape c.in_ok-migrate.ensures.local ∙ ap₂ with_subcommand
     (c.in_ok-subcommand-4.ensures.shape c.in_ok-check.ensures.local ∙ ap₂ with_subcommand

@@ -9,8 +9,8 @@ use Rattle.mot_lines.specs.Inner.Listing.{object_line_beside}
 use Rattle.mot_program.proofs.printing.write_objects.Goals as goal
 
 -- one more line
-lines-more : {A : Type 0} (line : A → List ℕ) (xs : List A) (i : ℕ) (x : A) → i < length xs → x ≡ get_or xs i x
-    → flat_map line (take (i + 1) xs) ≡ flat_map line (take i xs) ++ line x
+lines-more : {A : Type 0} (line : A → List ℕ) (xs : List A) (i : ℕ) (x : A) → i < length xs
+    → x ≡ get_or xs i x → flat_map line (take (i + 1) xs) ≡ flat_map line (take i xs) ++ line x
 lines-more line xs i x l e =
     ap (flat_map line) (take_more xs i x l)
     ∙ flat_map-append line (take i xs) (get_or xs i x ∷ [])
@@ -24,6 +24,7 @@ loop-object-preserved g c =
     c.as_slice.ensures.value ∙ c.object_text.ensures in
     let more = lines-more object_line_beside c.args.objects.now i c.object-item.result
     c.loop-object-test.true c.object-item.is in
-    subst (Appends (g.W.Write.contents c.args.writer.now) (g.W.Write.contents c.write_bytes.new.writer))
+    subst (Appends (g.W.Write.contents c.args.writer.now)
+    (g.W.Write.contents c.write_bytes.new.writer))
     (ap (λ l. flat_map object_line_beside (take i c.args.objects.now) ++ l) text ∙ sym more)
     (Appends-trans _ _ _ _ _ c.loop-object.invariant c.in_ok-write_bytes.ensures)

@@ -5,5 +5,6 @@ use Rattle.mot_lines.specs.Inner.Listing.{object_line_beside}
 use Rattle.mot_program.proofs.printing.write_objects.Given as goal
 
 abbrev pub invariant-loop-object : goal.invariant-loop-object
-invariant-loop-object g l = Appends (g.W.Write.contents l.initial.writer) (g.W.Write.contents l.writer)
+invariant-loop-object g l =
+    Appends (g.W.Write.contents l.initial.writer) (g.W.Write.contents l.writer)
     (flat_map object_line_beside (take l.object-index l.objects))

@@ -27,7 +27,8 @@ pub returns-in-Ok-execute-clause-done : goal.returns-in-Ok-execute-clause-done
 returns-in-Ok-execute-clause-done g c = λ _. inl (
   c.in-Some-task_of.task,
   AskFor-matched (map g.S.AsStr.text c.args.words.now) c.in-Ok.command c.in-Ok.ensures
-      c.in-Ok-try_get_matches_from.matches c.in-Some.name.now (rows_of (found_of c.in-Some.rest.now))
+      c.in-Ok-try_get_matches_from.matches c.in-Some.name.now
+      (rows_of (found_of c.in-Some.rest.now))
       c.in-Some-task_of.task c.in-Ok-try_get_matches_from.ensures.matches c.in-Some.ensures.name
       c.in-Some.ensures.rows c.in-Some-task_of.ensures,
   c.in-Ok-execute.ensures.done,
@@ -39,7 +40,8 @@ returns-clause-refused g c = λ _. elim c.in-Err-execute.ensures.refused [
   | inr part ↦ inr (
     c.in-Some-task_of.task,
     AskFor-matched (map g.S.AsStr.text c.args.words.now) c.in-Ok.command c.in-Ok.ensures
-        c.in-Ok-try_get_matches_from.matches c.in-Some.name.now (rows_of (found_of c.in-Some.rest.now))
+        c.in-Ok-try_get_matches_from.matches c.in-Some.name.now
+        (rows_of (found_of c.in-Some.rest.now))
         c.in-Some-task_of.task c.in-Ok-try_get_matches_from.ensures.matches c.in-Some.ensures.name
         c.in-Some.ensures.rows c.in-Some-task_of.ensures,
     part,

@@ -67,13 +67,15 @@ returns-in-Some-clause-part g c =
         count,
         elim r.2 [
           | inl led ↦ inl (opens_to state c.args.disk server new
-              (λ before after. Stopped (state new.disk) before after (whole_lines r.0) count old written)
+              (λ before after.
+              Stopped (state new.disk) before after (whole_lines r.0) count old written)
               g.met.D.Disk.sound opens.keeps opens.opened opens.still opens.going opens.at_start
               calls.keeps led)
           | inr led ↦ inr (
             led.0,
             opens_to state c.args.disk server new
-                (λ before after. Stopped (state new.disk) before after (lines_of r.0) count old written)
+                (λ before after.
+                Stopped (state new.disk) before after (lines_of r.0) count old written)
                 g.met.D.Disk.sound opens.keeps opens.opened opens.still opens.going opens.at_start
                 calls.keeps led.1,
           )
