@@ -197,8 +197,8 @@ crosses-unchanged view s start now commands sound holds still =
 
 -- nothing was asked of the disk
 pub crosses-none : (view : RepositoryView) (s : Standing) (start : State) (commands : List Command)
-    → IsHonestDisk start → Holds view s start → Throughout start start
-    (StandsAfterSome s [] commands)
+    → IsHonestDisk start → Holds view s start
+    → Throughout start start (StandsAfterSome s [] commands)
 crosses-none view s start commands sound holds =
     begins start (StandsAfterSome s [] commands) sound
     (λ image left. none_of s [] commands s image (after_none s) (holds.each image left))
@@ -327,8 +327,8 @@ empty b = if b then [] else []
 -- and what was written is of that command
 pub written_by-parsed : (decision : Decision) (request asked : Result Line Refusal) (s : Standing)
     (start now : State)
-    → IsParsed request asked → Throughout start now
-    (StandsAfterSome s [] (written_by decision request))
+    → IsParsed request asked
+    → Throughout start now (StandsAfterSome s [] (written_by decision request))
     → Throughout start now (StandsAfterSome s [] (written_by decision asked))
 written_by-parsed decision request asked s start now (inl e) time =
     subst (λ r. Throughout start now (StandsAfterSome s [] (written_by decision r))) e time
@@ -362,8 +362,8 @@ pub Crosses-line : {D : Type 0} (old mid new : ServerView D) (s : Standing)
     (request : Result Line Refusal)
     → StandsFor old.view s start → now.IsHonest → OnlyReads mid new between now
     → IsParsed request (line_of line) → may_have_done reply ≡ may_be_done decision
-    → (Holds old.view s start → Throughout start between
-    (StandsAfterSome s [] (written_by decision request)))
+    → (Holds old.view s start
+    → Throughout start between (StandsAfterSome s [] (written_by decision request)))
     → (IsTrue old.view.halted → IsUnchanged start between)
     → Crosses start now (state_of old s start)
     (record { line = line; reply = reply; after = after })

@@ -16,7 +16,7 @@ module _ {A : Type 0} (line : A → List ℕ) (xs : List A) where
       ∙ ap (λ y. flat_map line (take i xs) ++ line y) (sym e)
 
   -- the first lines, and the others
-  pub lines-parts : (i : ℕ) → flat_map line (take i xs) ++ flat_map line
-      (drop i xs) ≡ flat_map line xs
+  pub lines-parts : (i : ℕ) → flat_map line (take i xs) ++ flat_map line (drop i xs)
+      ≡ flat_map line xs
   lines-parts i = sym (flat_map-append line (take i xs) (drop i xs))
       ∙ ap (flat_map line) (take-append-drop i xs)

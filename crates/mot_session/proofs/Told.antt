@@ -15,10 +15,9 @@ use Rattle.mot_server.proofs.Laws.{after_both, more, none_of}
 use Rattle.mot_session.specs.declared.serving.writing.WriteFault.{WriteFault}
 use Rattle.mot_session.specs.Inner.Writes.{AnswersLine, Crosses}
 use Rattle.mot_session.specs.Served.{ServedLine, StoppedLine}
-use Rattle.mot_session.specs.Session.{Exchange}
-use Rattle.mot_session.specs.State.{Leads, ServerState, state_of}
-use Rattle.mot_session.specs.Stored.{KeepsAcknowledged, accepted_in}
-use Rattle.mot_session.specs.Stored.{failed_in}
+use Rattle.mot_session.specs.Session.{Exchange, Reply}
+use Rattle.mot_session.specs.State.{Leads, ServerState, StandsFor, state_of}
+use Rattle.mot_session.specs.Stored.{IsToldAndStored, KeepsAcknowledged, accepted_in, failed_in}
 use Rattle.mot_session.proofs.Crashes.{behind, made}
 use Rattle.mot_session.proofs.Outcomes.{Outcome, nothing, one, halts, begun_outcome, outcome}
 
@@ -87,57 +86,66 @@ module _ (start now : State) (before : ServerState) (x : Exchange) (sound : IsHo
   }
 
 -- a line was answered, in whole or in part
-module _ {D T : Type 0} (state : D → State) (old new : ServerView D) (line : List ℕ)
+module _ {D : Type 0} (state : D → State) (old new : ServerView D) (line : List ℕ)
     (known next : Option (List ℕ))
     (sound : (state new.disk).IsHonest → IsHonestDisk (state new.disk)) where
-  pub ServedLine-told : (result : Result T WriteFault)
-      → Leads state old new
-      (λ before after. AnswersLine result (state old.disk) (state new.disk) before line after
-      known next)
-      → OnOk result (Leads state old new
-      (λ before after. ServedLine (state old.disk) (state new.disk) before line
-      after known next))
+  abbrev start : Standing → ServerState
+  start s = state_of old s (state old.disk)
+
+  abbrev exchange : Standing → Reply → Exchange
+  exchange last reply =
+      record { line = line; reply = reply; after = state_of new last (state new.disk) }
+
+  abbrev AnswersSo : {T : Type 0} → Result T WriteFault → ServerState → ServerState → Type 0
+  AnswersSo result before after =
+      AnswersLine result (state old.disk) (state new.disk) before line after known next
+
+  stored : (s last : Standing) (reply : Reply) → StandsFor new.view last (state new.disk)
+      → (state new.disk).IsHonest
+      → Outcome (start s) (state_of new last (state new.disk)) (accepted_in (exchange last reply))
+      (failed_in (exchange last reply))
+      → Crosses (state old.disk) (state new.disk) (start s) (exchange last reply)
+      → IsToldAndStored (state old.disk) (state new.disk) (start s) (exchange last reply)
+  stored s last reply stands honest what crosses =
+      keeps (state old.disk) (state new.disk) (start s) (exchange last reply)
+      (sound honest) what crosses
+      (λ going image left. (stands.holds going).each image left)
+
+  pub ServedLine-told : {T : Type 0} (result : Result T WriteFault)
+      → Leads state old new (AnswersSo result)
+      → OnOk result (Leads state old new (λ before after.
+      ServedLine (state old.disk) (state new.disk) before line after known next))
   ServedLine-told (Ok done) led = λ s stands honest.
       let a = led s stands honest in
-      let told = a.2 in
-      let before : ServerState = state_of old s (state old.disk) in
-      let after : ServerState = state_of new a.0 (state new.disk) in (
+      let told = a.2 in (
         a.0,
         a.1,
         record {
           reply = told.reply;
           answers = told.answers.answers;
           appended = told.answers.written;
-          stored = keeps (state old.disk) (state new.disk) before
-              (record { line = line; reply = told.reply; after = after }) (sound honest)
-              (outcome before after (line_of line) told.reply told.answers.answers) told.crosses
-              (λ going image left. (a.1.holds going).each image left);
+          stored = stored s a.0 told.reply a.1 honest
+              (outcome (start s) (state_of new a.0 (state new.disk)) (line_of line) told.reply
+              told.answers.answers) told.crosses;
         },
       )
   ServedLine-told (Err fault) led = tt
 
-  pub StoppedLine-told : (result : Result T WriteFault)
-      → Leads state old new
-      (λ before after. AnswersLine result (state old.disk) (state new.disk) before line after
-      known next)
-      → OnErr result (Leads state old new
-      (λ before after. StoppedLine (state old.disk) (state new.disk) before line
-      after known next))
+  pub StoppedLine-told : {T : Type 0} (result : Result T WriteFault)
+      → Leads state old new (AnswersSo result)
+      → OnErr result (Leads state old new (λ before after.
+      StoppedLine (state old.disk) (state new.disk) before line after known next))
   StoppedLine-told (Ok done) led = tt
   StoppedLine-told (Err fault) led = λ s stands honest.
       let a = led s stands honest in
-      let told = a.2 in
-      let before : ServerState = state_of old s (state old.disk) in
-      let after : ServerState = state_of new a.0 (state new.disk) in (
+      let told = a.2 in (
         a.0,
         a.1,
         record {
           reply = told.reply;
           broken = told.answers;
-          stored = keeps (state old.disk) (state new.disk) before
-              (record { line = line; reply = told.reply; after = after }) (sound honest)
-              (begun_outcome before after (line_of line) told.reply told.answers.begins)
-              told.crosses
-              (λ going image left. (a.1.holds going).each image left);
+          stored = stored s a.0 told.reply a.1 honest
+              (begun_outcome (start s) (state_of new a.0 (state new.disk)) (line_of line) told.reply
+              told.answers.begins) told.crosses;
         },
       )

@@ -70,7 +70,7 @@ pub record KeepsAcknowledged (start now : State) (s : Standing)
     (acknowledged : List command.Command) (x : Exchange) : Type 0 where
   -- The command that the reply accepts is one more that is acknowledged.
   pub after : IsAfter s (acknowledged ++ accepted_in x) x.after.standing
-  -- From now on a crash leaves all of these, and at most the one that a device fault cut off.
+  -- Now a crash leaves all of these, and at most the one that a device fault cut off.
   pub at_end : HoldsSince now now.moment s (acknowledged ++ accepted_in x) (failed_in x)
   -- Since the start one leaves all that were acknowledged before, and at most the line's command.
   pub any_moment : HoldsSince now start.moment s acknowledged (accepted_in x ++ failed_in x)
