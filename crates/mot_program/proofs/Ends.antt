@@ -1,5 +1,5 @@
 -- What a call that may fail leaves.
-use Rattle.std.proofs.Common.{◌≡◌, Option, Some, Result, Ok, Err, inl, inr, ◌⊎◌}
+use Rattle.std.proofs.Common.{◌≡◌, Option, Some, Result, Ok, Err, inl, inr}
 use Rattle.std.specs.Prelude.{OnOk, OnErr}
 use Rattle.mot_base.specs.declared.refusal.Refusal.{Refusal}
 use Rattle.mot_base.specs.declared.refusal.Refusal.TheVariants.{OutOfMemory, ReadFault, WriteFault}

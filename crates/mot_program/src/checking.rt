@@ -15,7 +15,7 @@ use crate::printing::{write_bytes, write_carousel, write_last};
 use disk_store::{Disk, Start};
 use mot_base::Refusal;
 use mot_journal::Layout;
-use mot_server::{Refused, Server};
+use mot_server::Server;
 use std::alloc::Global;
 use std::fs::File;
 use std::io::Write;
@@ -50,12 +50,7 @@ pub(crate) fn check_disk<D: Disk, W: Write>(alloc: Global, disk: D, writer: &mut
 {
     let mut server = match Server::open(alloc, disk) {
         Ok(server) => server,
-        Err(Refused { refusal, disk }) => {
-            return Ended {
-                disk,
-                result: Err(refusal),
-            };
-        }
+        Err(refused) => return Ended::unopened(refused),
     };
     let result = report(&mut server, writer);
     Ended {

@@ -16,6 +16,3 @@ mod task;
 pub use options::Options;
 pub use program::run_program;
 pub use task::Task;
-
-#[cfg(test)]
-mod tests;

@@ -10,7 +10,7 @@ use crate::file::open_file;
 use crate::printing::write_last;
 use disk_store::{Disk, Start};
 use mot_base::Refusal;
-use mot_server::{Refused, Server};
+use mot_server::Server;
 use std::alloc::Global;
 use std::fs::File;
 use std::io::Write;
@@ -44,12 +44,7 @@ pub(crate) fn migrate_disk<D: Disk, W: Write>(alloc: Global, disk: D, writer: &m
 {
     let mut server = match Server::open(alloc, disk) {
         Ok(server) => server,
-        Err(Refused { refusal, disk }) => {
-            return Ended {
-                disk,
-                result: Err(refusal),
-            };
-        }
+        Err(refused) => return Ended::unopened(refused),
     };
     let result = match server.migrate(alloc) {
         Ok(is_rewritten) => write_last(writer, migrated_text(is_rewritten)),

@@ -11,7 +11,7 @@ use crate::file::open_file;
 use disk_store::{Disk, MemoryDisk, Start};
 use mot_base::{Geometry, Refusal};
 use mot_journal::format;
-use mot_server::{Refused, Server};
+use mot_server::Server;
 use mot_session::serve;
 use std::alloc::Global;
 use std::fs::File;
@@ -86,12 +86,7 @@ fn serve_disk<R: Read, W: Write, D: Disk>(
 {
     let mut server = match Server::open(alloc, disk) {
         Ok(server) => server,
-        Err(Refused { refusal, disk }) => {
-            return Ended {
-                disk,
-                result: Err(refusal),
-            };
-        }
+        Err(refused) => return Ended::unopened(refused),
     };
     let fault = serve(alloc, reader, writer, &mut server, READS).fault;
     let disk = server.into_disk();

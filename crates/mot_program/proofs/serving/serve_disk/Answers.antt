@@ -1,4 +1,4 @@
-use Rattle.std.proofs.Common.{◌≡◌, ◌⊎◌, ◌∙◌, ap, inl, inr, subst, sym}
+use Rattle.std.proofs.Common.{◌⊎◌, ap, inl, inr, subst, sym}
 use Rattle.disk_store.specs.Disk.{IsStill}
 use Rattle.mot_lines.specs.Lines.{whole_lines, lines_of}
 use Rattle.mot_session.specs.Served.{Served, Stopped}

@@ -2,8 +2,8 @@ ghost use Rattle.std.specs.Prelude.{Some};
 
 mod files;
 
-use super::*;
 use disk_store::Unknown;
+use mot_program::run_program;
 use std::alloc::AllocError;
 use std::fs::File;
 use std::io;
@@ -20,7 +20,7 @@ const HELLO_PACKET: &str = "packet 0c011074008000120002000568656c6c6f34cf0000008
 
 /// Runs the program on these words and this input; gives its status.
 fn run<W: Write>(
-    rt: &(impl Abort + AllocGlobal + Files<File = File>),
+    rt: &(impl AllocGlobal + Files<File = File>),
     words: &str,
     input: &str,
     writer: &mut W,
@@ -42,7 +42,7 @@ fn run<W: Write>(
 
 /// What the program writes to its output, run on these words and this input.
 fn output(
-    rt: &(impl Abort + AllocGlobal + Files<File = File>),
+    rt: &(impl AllocGlobal + Files<File = File>),
     words: &str,
     input: &str,
 ) -> Result<Vec<u8>, AllocError> {
