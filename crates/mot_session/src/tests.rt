@@ -134,6 +134,12 @@ fn answers(alloc: Global, server: &mut Server, input: &[u8]) -> Result<Vec<u8>, 
     }
 }
 
+/// What a new server of these sizes answers.
+fn replies_of(alloc: Global, geometry: &Geometry, input: &[u8]) -> Result<Vec<u8>, Fail> {
+    let mut server = new_server(alloc, geometry)?;
+    answers(alloc, &mut server, input)
+}
+
 /// What a new server answers.
 fn replies(alloc: Global, packet_length: u16, input: &[u8]) -> Result<Vec<u8>, Fail> {
     let mut server = server_of(alloc, packet_length)?;

@@ -1,5 +1,5 @@
 //! Replies where the disk fails, or has no room.
-use super::{Server, answers, has_packet, is_halted, new_disk, open, reopened, server_of};
+use super::{Server, answers, has_packet, is_halted, new_disk, open, reopened, replies, server_of};
 use crate::Geometry;
 use mot_base::Refusal;
 use std::alloc::Global;
@@ -8,7 +8,7 @@ use std::test::Fail;
 // How many device calls an opening makes: a sync and two reads.
 const OPENING: u64 = 3;
 
-const PUT: &[u8] = b"put a 2 3 image/png 0102030405\n";
+const PUT_TURN_NEXT: &[u8] = b"put a 2 3 image/png 0102030405\nturn\nnext 1\n";
 
 /// A server with packets of 24 bytes and one object, of which that device call fails after opening.
 fn failing(alloc: Global, call: u8) -> Result<Server, Refusal> {
@@ -21,48 +21,57 @@ fn failing(alloc: Global, call: u8) -> Result<Server, Refusal> {
     open(alloc, disk)
 }
 
-// The first sync of a put fails: it is told, and then each request but a raw one is refused.
+/// What a server answers, whether it is then halted, and what it answers when it is opened again.
+fn answers_twice(
+    alloc: Global,
+    server: Server,
+    input: &[u8],
+    again: &[u8],
+) -> Result<(Vec<u8>, bool, Vec<u8>), Fail> {
+    let mut server = server;
+    let first = answers(alloc, &mut server, input)?;
+    let halted = is_halted(&server);
+    let mut server = reopened(alloc, server)?;
+    let second = answers(alloc, &mut server, again)?;
+    Ok((first, halted, second))
+}
+
+/// What such a failing server answers.
+fn failing_replies(alloc: Global, call: u8, input: &[u8]) -> Result<Vec<u8>, Fail> {
+    let mut server = failing(alloc, call)?;
+    answers(alloc, &mut server, input)
+}
+
+// The first sync of a put fails: it is told, and then each request but a raw one is refused. Opened
+// again, it has no object, for the put was never told.
 #[test]
 fn a_halted_server_answers_raw_lines(rt: HostRuntime) -> Result<(), Fail> {
     let alloc = rt.alloc();
-    let mut server = failing(alloc, 3)?;
     let input = b"put a 2 3 - 00\nperiod 1\nlist\nnext 2\nturn\nbogus\nraw 4 2 68656c6c6f\n";
     let output = b"refused 15 DeviceFault\nrefused 16 Halted\nrefused 16 Halted\n\
         refused 16 Halted\nrefused 16 Halted\nrefused 1 BadLine\n\
         packet 0c011074008000120002000568656c6c6f34cf0000008561\n";
-    let written = answers(alloc, &mut server, input)?;
+    let (written, halted, again) = answers_twice(alloc, failing(alloc, 3)?, input, b"list\n")?;
     assert_eq!(rt; written.as_slice(), output.as_slice());
-    assert!(rt; is_halted(&server));
-    // Opened again, it has no object, for the put was never told.
-    let mut server = reopened(alloc, server)?;
-    let written = answers(alloc, &mut server, b"list\n")?;
-    assert_eq!(rt; written.as_slice(), b"carousel 0 1 1 0\n".as_slice());
+    assert!(rt; halted);
+    assert_eq!(rt; again.as_slice(), b"carousel 0 1 1 0\n".as_slice());
     Ok(())
 }
 
 // A body that can't be read: the reply ends with the refusal, and the next request tries again.
 #[test]
 fn a_reply_ends_at_a_body_that_cannot_be_read(rt: HostRuntime) -> Result<(), Fail> {
-    let alloc = rt.alloc();
     // The put makes five device calls, and the directory's packets none.
-    let mut server = failing(alloc, 5 + 1)?;
-    answers(alloc, &mut server, PUT)?;
-    let written = answers(alloc, &mut server, b"turn\n")?;
+    let written = failing_replies(rt.alloc(), 5 + 1, PUT_TURN_NEXT)?;
     for (at, packet) in [
-        (0, "packet 080113"),
-        (56, "packet 100113"),
-        (112, "packet 24010c"),
+        (26, "packet 080113"),
+        (82, "packet 100113"),
+        (138, "packet 24010c"),
+        (194, "refused 15 DeviceFault\npacket 3c0110"),
     ] {
         assert!(rt; has_packet(&written, at, packet), "at {at}");
     }
-    assert_eq!(rt;
-        written.get(168..),
-        Some(b"refused 15 DeviceFault\n".as_slice())
-    );
-    let written = answers(alloc, &mut server, b"next 1\n")?;
-    assert!(rt; has_packet(&written, 0, "packet 3c0110"));
     assert!(rt; written.ends_with(b" end\n"));
-    assert!(rt; !is_halted(&server));
     Ok(())
 }
 
@@ -70,10 +79,9 @@ fn a_reply_ends_at_a_body_that_cannot_be_read(rt: HostRuntime) -> Result<(), Fai
 #[test]
 fn a_carousel_is_there_again(rt: HostRuntime) -> Result<(), Fail> {
     let alloc = rt.alloc();
-    let mut server = server_of(alloc, 96)?;
-    answers(alloc, &mut server, b"put a 2 3 - 0102030405\n")?;
-    let mut server = reopened(alloc, server)?;
-    let written = answers(alloc, &mut server, b"list\nturn\n")?;
+    let put = b"put a 2 3 - 0102030405\n";
+    let (_, halted, written) = answers_twice(alloc, server_of(alloc, 96)?, put, b"list\nturn\n")?;
+    assert!(rt; !halted);
     let list = b"carousel 0 3 3 1\nobject 2 0 2 3 5 a -\n";
     assert!(rt; written.starts_with(list));
     assert!(rt; has_packet(&written, list.len(), "packet 4c0127"));
@@ -90,8 +98,7 @@ fn a_body_that_no_gap_holds(rt: HostRuntime) -> Result<(), Fail> {
     for _ in 0..65_537u32 {
         line.extend_from_slice(b"55")?;
     }
-    let mut server = server_of(alloc, 24)?;
-    let written = answers(alloc, &mut server, &line)?;
+    let written = replies(alloc, 24, &line)?;
     assert_eq!(rt; written.as_slice(), b"refused 12 NoRoom\n".as_slice());
     Ok(())
 }

@@ -1,6 +1,6 @@
 //! The packets of `next` and `turn` lines.
 use super::streams::{CountingWriter, FailingWriter};
-use super::{Server, answers, has_packet, new_server, play, play_turn, replies, run, server_of};
+use super::{Server, answers, has_packet, play, play_turn, replies, replies_of, run, server_of};
 use crate::Geometry;
 use mot_base::Refusal;
 use std::alloc::Global;
@@ -108,8 +108,7 @@ fn indexes_of_groups(rt: HostRuntime) -> Result<(), Fail> {
         segment_size: 64,
         ..Geometry::default()
     };
-    let mut server = new_server(alloc, &geometry)?;
-    let written = answers(alloc, &mut server, TWO_SEGMENTS)?;
+    let written = replies_of(alloc, &geometry, TWO_SEGMENTS)?;
     let rows = [
         (194, "packet 380113740000001200020040"),
         (418, "packet 3c010c741080011200020001"),
@@ -140,13 +139,18 @@ fn broken_off(alloc: Global, room: usize) -> Result<Server, Fail> {
     }
 }
 
+/// What such a server answers to a request of a packet.
+fn next_behind(alloc: Global, room: usize) -> Result<Vec<u8>, Fail> {
+    let mut server = broken_off(alloc, room)?;
+    answers(alloc, &mut server, b"next 1\n")
+}
+
 // A reply that was broken off in the line of a packet: what is played next follows that packet.
 #[test]
 fn played_behind_a_fault(rt: HostRuntime) -> Result<(), Fail> {
     let alloc = rt.alloc();
     for (room, packet) in [(10, "packet 140105"), (66, "packet 280113")] {
-        let mut server = broken_off(alloc, room)?;
-        let written = answers(alloc, &mut server, b"next 1\n")?;
+        let written = next_behind(alloc, room)?;
         assert!(rt; has_packet(&written, 0, packet), "at {room}");
     }
     Ok(())

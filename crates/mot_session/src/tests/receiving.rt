@@ -165,14 +165,19 @@ const DIRECTORY: [u8; 31] = [
     0x03, 0xCC, 2, 0xF0, 0x61, 0x46, 0,
 ];
 
+/// What a receiver makes of a turn with an object `a` of these bytes, in segments of 64.
+fn received_of(alloc: Global, body: &[u8]) -> Result<Receiver, Fail> {
+    let mut server = server_of(alloc, 16, 64)?;
+    put(alloc, &mut server, b"a", body)?;
+    received_turn(alloc, &mut server)
+}
+
 // The longest body in the shortest segments: 4,096 groups numbered in order, and the body again.
 #[test]
 fn longest_body(rt: HostRuntime) -> Result<(), Fail> {
     let alloc = rt.alloc();
-    let mut server = server_of(alloc, 16, 64)?;
     let body = bytes_of(alloc, 262_144)?;
-    put(alloc, &mut server, b"a", body.as_slice())?;
-    let receiver = received_turn(alloc, &mut server)?;
+    let receiver = received_of(alloc, body.as_slice())?;
     let mut expected = Vec::from_slice(alloc, &DIRECTORY)?;
     expected.extend_from_slice(b"\x74\0\x02")?;
     expected.extend_from_slice(body.as_slice())?;
