@@ -134,16 +134,20 @@ fn answers(alloc: Global, server: &mut Server, input: &[u8]) -> Result<Vec<u8>, 
     }
 }
 
+/// The same of a server that nothing is asked of behind it.
+fn last_answers(alloc: Global, server: Server, input: &[u8]) -> Result<Vec<u8>, Fail> {
+    let mut server = server;
+    answers(alloc, &mut server, input)
+}
+
 /// What a new server of these sizes answers.
 fn replies_of(alloc: Global, geometry: &Geometry, input: &[u8]) -> Result<Vec<u8>, Fail> {
-    let mut server = new_server(alloc, geometry)?;
-    answers(alloc, &mut server, input)
+    last_answers(alloc, new_server(alloc, geometry)?, input)
 }
 
 /// What a new server answers.
 fn replies(alloc: Global, packet_length: u16, input: &[u8]) -> Result<Vec<u8>, Fail> {
-    let mut server = server_of(alloc, packet_length)?;
-    answers(alloc, &mut server, input)
+    last_answers(alloc, server_of(alloc, packet_length)?, input)
 }
 
 /// A raw line with so many digits.

@@ -1,6 +1,6 @@
 //! The carousel's lines and their replies.
 use super::streams::FailingWriter;
-use super::{answers, replies, replies_of, run, server_of};
+use super::{last_answers, replies, replies_of, run, server_of};
 use crate::Geometry;
 use mot_base::Refusal;
 use std::alloc::Global;
@@ -168,7 +168,7 @@ fn broken_off_reply(rt: HostRuntime) -> Result<(), Fail> {
     assert_eq!(rt; end.fault, Some(Refusal::WriteFault));
     assert_eq!(rt; end.lines, 0);
     assert_eq!(rt; writer.taken.as_slice(), b"done ".as_slice());
-    let written = answers(alloc, &mut server, b"list")?;
+    let written = last_answers(alloc, server, b"list")?;
     assert_eq!(rt;
         written.as_slice(),
         b"carousel 0 3 3 1\nobject 2 0 2 3 1 a -\n".as_slice()

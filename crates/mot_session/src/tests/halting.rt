@@ -1,5 +1,8 @@
 //! Replies where the disk fails, or has no room.
-use super::{Server, answers, has_packet, is_halted, new_disk, open, reopened, replies, server_of};
+use super::{
+    Server, answers, has_packet, is_halted, last_answers, new_disk, open, reopened, replies,
+    server_of,
+};
 use crate::Geometry;
 use mot_base::Refusal;
 use std::alloc::Global;
@@ -31,15 +34,13 @@ fn answers_twice(
     let mut server = server;
     let first = answers(alloc, &mut server, input)?;
     let halted = is_halted(&server);
-    let mut server = reopened(alloc, server)?;
-    let second = answers(alloc, &mut server, again)?;
+    let second = last_answers(alloc, reopened(alloc, server)?, again)?;
     Ok((first, halted, second))
 }
 
 /// What such a failing server answers.
 fn failing_replies(alloc: Global, call: u8, input: &[u8]) -> Result<Vec<u8>, Fail> {
-    let mut server = failing(alloc, call)?;
-    answers(alloc, &mut server, input)
+    last_answers(alloc, failing(alloc, call)?, input)
 }
 
 // The first sync of a put fails: it is told, and then each request but a raw one is refused. Opened

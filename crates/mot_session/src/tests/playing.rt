@@ -1,6 +1,8 @@
 //! The packets of `next` and `turn` lines.
 use super::streams::{CountingWriter, FailingWriter};
-use super::{Server, answers, has_packet, play, play_turn, replies, replies_of, run, server_of};
+use super::{
+    Server, answers, has_packet, last_answers, play, play_turn, replies, replies_of, run, server_of,
+};
 use crate::Geometry;
 use mot_base::Refusal;
 use std::alloc::Global;
@@ -139,25 +141,19 @@ fn broken_off(alloc: Global, room: usize) -> Result<Server, Fail> {
     }
 }
 
-/// What such a server answers to a request of a packet.
-fn next_behind(alloc: Global, room: usize) -> Result<Vec<u8>, Fail> {
-    let mut server = broken_off(alloc, room)?;
-    answers(alloc, &mut server, b"next 1\n")
-}
-
 // A reply that was broken off in the line of a packet: what is played next follows that packet.
 #[test]
 fn played_behind_a_fault(rt: HostRuntime) -> Result<(), Fail> {
     let alloc = rt.alloc();
     for (room, packet) in [(10, "packet 140105"), (66, "packet 280113")] {
-        let written = next_behind(alloc, room)?;
+        let written = last_answers(alloc, broken_off(alloc, room)?, b"next 1\n")?;
         assert!(rt; has_packet(&written, 0, packet), "at {room}");
     }
     Ok(())
 }
 
 /// Plays so many packets; whether exactly each eighth ends a turn.
-fn each_eighth_ends(server: &mut Server, count: u32) -> Result<bool, Fail> {
+fn each_eighth_ends(server: &mut Server, count: u32) -> Result<bool, Refusal> {
     let mut answer = true;
     for number in 0..count {
         let played = play(server)?;
@@ -168,14 +164,24 @@ fn each_eighth_ends(server: &mut Server, count: u32) -> Result<bool, Fail> {
     Ok(answer)
 }
 
+/// How many packets a turn has.
+fn length_of_turn(alloc: Global, server: &mut Server) -> Result<usize, Refusal> {
+    Ok(play_turn(alloc, server)?.len())
+}
+
+/// A server with an object of 70 bytes.
+fn with_object(alloc: Global) -> Result<Server, Fail> {
+    let mut server = server_of(alloc, 24)?;
+    answers(alloc, &mut server, REPLACED.get(..153).unwrap_or(REPLACED))?;
+    Ok(server)
+}
+
 #[test]
 fn packets_by_call(rt: HostRuntime) -> Result<(), Fail> {
     let alloc = rt.alloc();
-    let mut server = server_of(alloc, 24)?;
-    let put = REPLACED.get(..153).unwrap_or(REPLACED);
-    answers(alloc, &mut server, put)?;
-    assert!(rt; each_eighth_ends(&mut server, 16)?);
-    assert_eq!(rt; play_turn(alloc, &mut server)?.len(), 8);
+    let mut server = with_object(alloc)?;
+    assert_eq!(rt; each_eighth_ends(&mut server, 16), Ok(true));
+    assert_eq!(rt; length_of_turn(alloc, &mut server), Ok(8));
     Ok(())
 }
 

@@ -224,19 +224,33 @@ fn withdraw_under_way(
     Ok((beginning_of(&rest), beginning_of(&next)))
 }
 
+/// A server with 250 objects.
+fn with_objects(alloc: Global) -> Result<Server, Fail> {
+    let body = bytes_of(alloc, 20)?;
+    let mut server = server_of(alloc, 250, 1_024)?;
+    for number in 0..250 {
+        put(alloc, &mut server, &name_of(number), body.as_slice())?;
+    }
+    Ok(server)
+}
+
+/// Withdraws them in turn, each under way; whether each time the group ended, and the directory
+/// followed.
+fn directories_follow(alloc: Global, server: &mut Server) -> Result<bool, Fail> {
+    for number in 0..250 {
+        let (rest, next) = withdraw_under_way(alloc, server, &name_of(number))?;
+        if rest.is_some() || next != Some(0x76) {
+            return Ok(false);
+        }
+    }
+    Ok(true)
+}
+
 // Each of 250 objects goes in the middle of its group: the group ends, and the directory follows.
 #[test]
 fn withdrawn_under_way(rt: HostRuntime) -> Result<(), Fail> {
     let alloc = rt.alloc();
-    let mut server = server_of(alloc, 250, 1_024)?;
-    let body = bytes_of(alloc, 20)?;
-    for number in 0..250 {
-        put(alloc, &mut server, &name_of(number), body.as_slice())?;
-    }
-    for number in 0..250 {
-        let (rest, next) = withdraw_under_way(alloc, &mut server, &name_of(number))?;
-        assert_eq!(rt; rest, None);
-        assert_eq!(rt; next, Some(0x76));
-    }
+    let mut server = with_objects(alloc)?;
+    assert!(rt; directories_follow(alloc, &mut server)?);
     Ok(())
 }
