@@ -185,6 +185,14 @@ fn help_texts(rt: HostRuntime) -> Result<(), Fail> {
         ("--help", formats),
         ("memory --help", "Usage: motcar memory [OPTIONS]"),
         ("help memory", "Usage: motcar memory [OPTIONS]"),
+        (
+            "format --help",
+            "Make a disk, and its file where there is none",
+        ),
+        (
+            "format --help",
+            "      --objects <N>  Objects at most, 1 to 250 [default: 16]",
+        ),
     ];
     for (words, line) in rows {
         expect_line(&rt, words, line)?;
