@@ -1,7 +1,7 @@
 //! Readers and writers that fail at each place of a session with lines of all kinds.
 use super::streams::{FailingReader, FailingWriter};
-use super::{run, server_of};
-use crate::ServeEnd;
+use super::{Server, run, server_of};
+use crate::{ServeEnd, WriteFault, serve_line};
 use mot_base::Refusal;
 use std::alloc::Global;
 use std::test::Fail;
@@ -81,6 +81,39 @@ fn taken(alloc: Global, input: &[u8], room: usize) -> Result<(ServeEnd, Vec<u8>)
     Ok((end, writer.taken))
 }
 
+/// How many lines are answered one by one, and what was written, where the writer takes so many
+/// bytes.
+fn taken_by_lines(alloc: Global, room: usize) -> Result<(u64, Vec<u8>), Fail> {
+    let mut writer = FailingWriter {
+        taken: Vec::new(alloc),
+        room,
+        most: 1_000,
+        flushes: 0,
+        fails_at: 1_000,
+    };
+    let mut server = server_of(alloc, 24)?;
+    let mut answered = 0u64;
+    for (line, _) in ROWS {
+        match run_line(alloc, line, &mut writer, &mut server) {
+            Ok(()) => answered = answered.wrapping_add(1),
+            Err(WriteFault) => break,
+        }
+    }
+    Ok((answered, writer.taken))
+}
+
+/// Serves a line, which is given with its end.
+fn run_line(
+    alloc: Global,
+    line: &str,
+    writer: &mut FailingWriter,
+    server: &mut Server,
+) -> Result<(), WriteFault> {
+    let line = line.as_bytes();
+    let end = line.len().saturating_sub(1);
+    serve_line(alloc, line.get(..end).unwrap_or(line), writer, server)
+}
+
 /// The same where the reader fails at a read.
 fn read_until(alloc: Global, input: &[u8], fails_at: usize) -> Result<(ServeEnd, Vec<u8>), Fail> {
     let mut reader = FailingReader {
@@ -106,6 +139,20 @@ fn writers_that_take_so_many_bytes(rt: HostRuntime) -> Result<(), Fail> {
         let (end, written) = taken(alloc, &input, room)?;
         assert_eq!(rt; end.fault, Some(Refusal::WriteFault), "{room} bytes");
         assert_eq!(rt; end.lines, ends_within(&lengths, room), "{room} bytes");
+        assert_eq!(rt; written.as_slice(), &whole[..room], "{room} bytes");
+    }
+    Ok(())
+}
+
+// So, too, of lines that are given one by one.
+#[test]
+fn lines_one_by_one(rt: HostRuntime) -> Result<(), Fail> {
+    let alloc = rt.alloc();
+    let whole = output(alloc, 11)?;
+    let lengths = ROWS.map(|(_, reply)| reply.len());
+    for room in 0..=whole.len() {
+        let (answered, written) = taken_by_lines(alloc, room)?;
+        assert_eq!(rt; answered, ends_within(&lengths, room), "{room} bytes");
         assert_eq!(rt; written.as_slice(), &whole[..room], "{room} bytes");
     }
     Ok(())
