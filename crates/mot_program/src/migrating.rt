@@ -1,5 +1,5 @@
 //! What `migrate` does.
-ghost use Rattle.std.specs.Prelude.{◌≡◌, ◌++◌, ℕ, Bool, List, OnErr, OnOk, ◌⊎◌};
+ghost use Rattle.std.specs.Prelude.{◌≡◌, Bool, OnErr, OnOk, ◌⊎◌};
 ghost use Rattle.std.specs.Io.KnownBytes.{Appends, Keeps};
 ghost use Rattle.disk_store.specs.Disk.{KeepsLength};
 ghost use Rattle.mot_program.specs.Program.{Migrates, MigratesInPart};
