@@ -112,3 +112,86 @@ fn of_a_new_disk(rt: HostRuntime) -> Result<(), Fail> {
     assert_eq!(rt; repository.migrate(alloc), Ok(false));
     Ok(())
 }
+
+// A record of layout 1 with these fields, of type 2, subtype 3, with a name of one byte.
+fn record(kind: u8, object: u8, start: u8, length: u8, name: u8) -> [u8; 27] {
+    [
+        0xA5, kind, 0, 0, 0, 0, 9, 0, 9, 0, object, 0, 2, 0, 3, 0, 0, 0, start, 0, 0, 0, length, 1,
+        name, 0, 0x2D,
+    ]
+}
+
+// A disk for two objects whose slots of this layout begin so.
+fn disk_of(alloc: Global, layout: Layout, slots: &[[u8; 27]]) -> Result<MemoryDisk, Fail> {
+    let (size, kinds) = match layout {
+        Layout::One => (256, 0),
+        Layout::Two => (512, 16),
+    };
+    let mut disk = old_disk(alloc, 2)?;
+    let mut at = 64u16;
+    for slot in slots {
+        let mut slot = *slot;
+        slot[1] |= kinds;
+        write_at(&mut disk, at, &slot)?;
+        at = at.wrapping_add(size);
+    }
+    Ok(disk)
+}
+
+// How many objects a disk opens to, and whether it is clean, or why it is refused.
+fn opened(alloc: Global, disk: MemoryDisk) -> Result<(usize, bool), Refusal> {
+    let mut repository = open(alloc, disk)?;
+    let clean = repository.is_clean()?;
+    Ok((seen(&repository).1, clean))
+}
+
+#[test]
+fn of_both_layouts(rt: HostRuntime) -> Result<(), Fail> {
+    let alloc = rt.alloc();
+    let set = |object, start, name| record(2, object, start, 1, name);
+    let mut dash = set(2, 0, b'a');
+    dash[25] = 1;
+    let mut closed = set(2, 0, b'a');
+    closed[0] = 0xA4;
+    let rows: [(&[[u8; 27]], Result<(usize, bool), Refusal>); 8] = [
+        (&[set(2, 0, b'a'), set(3, 1, b'b')], Ok((2, true))),
+        // One id for two names; then also a kind that is none.
+        (
+            &[set(2, 0, b'a'), set(2, 1, b'b')],
+            Err(Refusal::Damaged(1)),
+        ),
+        (
+            &[set(2, 0, b'a'), set(2, 1, b'b'), record(4, 4, 2, 1, b'c')],
+            Err(Refusal::Damaged(2)),
+        ),
+        // Removal of what is not there.
+        (&[record(3, 9, 0, 1, b'a')], Err(Refusal::Damaged(0))),
+        // Bodies that meet.
+        (
+            &[record(2, 2, 0, 2, b'a'), set(3, 1, b'b')],
+            Err(Refusal::Damaged(1)),
+        ),
+        // `-` as a MIME type.
+        (&[dash], Err(Refusal::Damaged(0))),
+        // A closed gate alone, and in front of an open one.
+        (&[closed], Ok((0, true))),
+        (&[closed, set(3, 1, b'b')], Ok((0, false))),
+    ];
+    for layout in [Layout::One, Layout::Two] {
+        for (slots, outcome) in rows {
+            assert_eq!(rt; opened(alloc, disk_of(alloc, layout, slots)?), outcome);
+        }
+    }
+    Ok(())
+}
+
+#[test]
+fn of_a_selector_that_is_none(rt: HostRuntime) -> Result<(), Fail> {
+    let alloc = rt.alloc();
+    for layout in [Layout::One, Layout::Two] {
+        let mut disk = disk_of(alloc, layout, &[record(2, 2, 0, 1, b'a')])?;
+        write_at(&mut disk, 8, &[0xFF])?;
+        assert_eq!(rt; opened(alloc, disk), Ok((1, true)));
+    }
+    Ok(())
+}
