@@ -11,7 +11,8 @@ IsValid g =
     × (MIN_SEGMENT ≤ g.segment_size) × (g.segment_size ≤ MAX_SEGMENT)
     × (1 ≤ g.address) × (g.address ≤ MAX_ADDRESS) × IsLength g.packet_length
 
--- Where the parts of a disk lie (own format). A half has 2N + 4 slots of 256 bytes, or N + 2 of 512.
+-- Where the parts of a disk lie (own format). A half has 2N + 4 slots of 256 bytes, or N + 2 of
+-- 512.
 abbrev pub half_size : Geometry → ℕ
 half_size g = 512 * g.objects + 1024
 

@@ -181,8 +181,8 @@ fn sync_often(disk: &mut MemoryDisk, syncs: u8) -> Result<(), DiskFault>
     Ok(())
 }
 
-// A write that is made to fail after so many syncs, and the image of a crash behind it: where the record
-// of calls is full, it grows.
+// A write that is made to fail after so many syncs, and the image of a crash behind it: where the
+// record of calls is full, it grows.
 fn after_struck_write(alloc: Global, syncs: u8) -> Result<[u8; 8], DiskFault> {
     let mut disk = MemoryDisk::new(alloc, 8).ok_or(DiskFault)?;
     sync_often(&mut disk, syncs)?;
