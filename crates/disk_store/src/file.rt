@@ -8,6 +8,7 @@ mod history;
 mod opening;
 mod start;
 
+use crate::call_count::CallCount;
 use history::History;
 pub use start::{Start, Unknown};
 use std::fs::File;
@@ -26,6 +27,7 @@ pub struct FileDiskFrom<S: Start> {
     failures: u64,
     can_sync: bool,
     history: History,
+    calls: CallCount,
     /// What the file held as it was opened. Only clauses read it.
     start: PhantomData<S>,
     ghost len_is: { length (content_after S.Start.bytes history.calls).bytes ≡ len },

@@ -26,6 +26,7 @@ impl<S: Start> Disk for FileDiskFrom<S> {
         requires { at + length out.old ≤ (file_state self.old).len }
         ensures keeps { KeepsLength (file_state self.old) (file_state self.new) }
         ensures cause { HasCause (file_state self.old) (file_state self.new) result }
+        ensures called { (file_state self.new).calls ≡ (file_state self.old).calls + 1 }
         ensures unchanged { (file_state self.old).IsHonest
             → IsUnchanged (file_state self.old) (file_state self.new) }
         ensures bytes { (file_state self.new).IsHonest → OnOk result
@@ -39,6 +40,7 @@ impl<S: Start> Disk for FileDiskFrom<S> {
         ensures failed { OnErr result (calls_on self.new ≡ calls_on self.old) }
         ensures syncs { self.new.can_sync ≡ self.old.can_sync }
     {
+        self.calls.raise();
         if self.failures == u64::MAX {
             return Err(DiskFault);
         }
@@ -54,6 +56,7 @@ impl<S: Start> Disk for FileDiskFrom<S> {
         requires { at + length bytes.now ≤ (file_state self.old).len }
         ensures keeps { Keeps (file_state self.old) (file_state self.new) }
         ensures cause { HasCause (file_state self.old) (file_state self.new) result }
+        ensures called { (file_state self.new).calls ≡ (file_state self.old).calls + 1 }
         ensures range { (file_state self.old).IsHonest
             → Writes at (length bytes.now) (file_state self.old) (file_state self.new) }
         ensures bytes { (file_state self.old).IsHonest → OnOk result
@@ -73,6 +76,7 @@ impl<S: Start> Disk for FileDiskFrom<S> {
             ⊎ (calls_on self.new ≡ calls_on self.old)) }
         ensures syncs { self.new.can_sync ≡ self.old.can_sync }
     {
+        self.calls.raise();
         if self.failures == u64::MAX {
             return Err(DiskFault);
         }
@@ -88,6 +92,7 @@ impl<S: Start> Disk for FileDiskFrom<S> {
     fn sync(&mut self) -> Result<(), DiskFault>
         ensures keeps { Keeps (file_state self.old) (file_state self.new) }
         ensures cause { HasCause (file_state self.old) (file_state self.new) result }
+        ensures called { (file_state self.new).calls ≡ (file_state self.old).calls + 1 }
         ensures still { (file_state self.old).IsHonest
             → IsStill (file_state self.old) (file_state self.new) }
         ensures firm { (file_state self.old).IsHonest → OnOk result (IsFirm (file_state self.new)) }
@@ -102,6 +107,7 @@ impl<S: Start> Disk for FileDiskFrom<S> {
         ensures remembered { OnErr result (HasFailedSync self.new) }
         ensures goes_on { OnOk result (CanSync self.new) }
     {
+        self.calls.raise();
         self.can_sync = self.can_sync && self.failures < u64::MAX && self.file.sync_data().is_ok();
         if !self.can_sync {
             self.failures = self.failures.saturating_add(1);

@@ -7,6 +7,7 @@ ghost use Rattle.disk_store.specs.File.{file_state, calls_on, CanSync};
 use super::history::History;
 use super::{FileDisk, FileDiskFrom, Start, Unknown};
 use crate::DiskFault;
+use crate::call_count::CallCount;
 use std::fs::{File, OpenOptions};
 use std::io::{Seek, SeekFrom};
 use std::marker::PhantomData;
@@ -112,6 +113,7 @@ impl<S: Start> FileDiskFrom<S> {
             failures: 0,
             can_sync: true,
             history,
+            calls: CallCount::new(),
             start: PhantomData,
         }
     }

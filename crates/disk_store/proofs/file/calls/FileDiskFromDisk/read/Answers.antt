@@ -27,7 +27,7 @@ returns-clause-keeps g c =
 pub returns-clause-unchanged : goal.returns-clause-unchanged
 returns-clause-unchanged g c = λ honest.
     let call = Gave c.args.at c.read_exact_at.new.buf in
-    unchanged (after_call g.S.Start.bytes) no_content (calls_on c.args.self.now) _ (file_content c.args.self.now) _ _ _ _ _ refl call
+    unchanged (after_call g.S.Start.bytes) no_content (calls_on c.args.self.now) _ (file_content c.args.self.now) _ _ _ _ _ _ _ refl call
     refl c.gave.ensures (content_now g.S.Start.bytes _ _ call c.gave.ensures)
 
 pub returns-clause-bytes : goal.returns-clause-bytes

@@ -24,7 +24,7 @@ returns-clause-keeps g c = record {
 
 pub returns-clause-still : goal.returns-clause-still
 returns-clause-still g c = λ honest.
-    synced_disk (after_call g.S.Start.bytes) no_content (calls_on c.args.self.now) _ (file_content c.args.self.now) _ _ _ _ _ refl Synced
+    synced_disk (after_call g.S.Start.bytes) no_content (calls_on c.args.self.now) _ (file_content c.args.self.now) _ _ _ _ _ _ _ refl Synced
     refl c.synced.ensures (content_now g.S.Start.bytes _ _ Synced c.synced.ensures)
 
 pub returns-clause-firm : goal.returns-clause-firm

@@ -10,8 +10,8 @@ use Rattle.disk_store.proofs.Overwrite.{length-after_overwrite}
 use Rattle.disk_store.proofs.Recorded.{wrote as wrote_disk, touched as touched_disk}
 use Rattle.disk_store.proofs.file.calls.FileDiskFromDisk.write.Goals as goal
 
-pub invariant_of-self : goal.invariant_of-self
-invariant_of-self g c =
+pub invariant_of-self-in_default : goal.invariant_of-self-in_default
+invariant_of-self-in_default g c =
     let s = c.args.self.now in
     let bytes = c.args.bytes.now in
     let whole : IsWhole s.len (file_content s) =
@@ -34,7 +34,7 @@ pub returns-in_default-clause-range : goal.returns-in_default-clause-range
 returns-in_default-clause-range g c = λ honest.
     let s = c.args.self.now in
     let call = FailedWrite c.args.at c.args.bytes.now in
-    touched_disk (after_call g.S.Start.bytes) no_content (calls_on s) _ (file_content s) _ _ _ _ _ refl call s.loose_len
+    touched_disk (after_call g.S.Start.bytes) no_content (calls_on s) _ (file_content s) _ _ _ _ _ _ _ refl call s.loose_len
     c.args.at (length c.args.bytes.now) refl c.requires s.are_bytes c.failed_write.ensures
     (content_now g.S.Start.bytes _ _ call c.failed_write.ensures)
 
@@ -71,7 +71,7 @@ pub returns-clause-range : goal.returns-clause-range
 returns-clause-range g c = λ honest.
     let s = c.args.self.now in
     let call = Wrote c.args.at c.args.bytes.now in
-    wrote_disk (after_call g.S.Start.bytes) no_content (calls_on s) _ (file_content s) _ _ _ _ _ refl call s.loose_len
+    wrote_disk (after_call g.S.Start.bytes) no_content (calls_on s) _ (file_content s) _ _ _ _ _ _ _ refl call s.loose_len
     c.args.at c.args.bytes.now refl c.requires s.are_bytes c.wrote.ensures
     (content_now g.S.Start.bytes _ _ call c.wrote.ensures)
 
