@@ -20,7 +20,8 @@ module _ {S : Type 0} {start : Ghosts S} where
   -- of the model.
   abbrev pub file_state : FileDiskFrom S start → State
   file_state disk = replayed_state (after_call start.bytes) no_content (calls_on disk)
-      (file_content disk) (AreRight start.bytes (calls_on disk) no_content) disk.failures disk.calls.number
+      (file_content disk) (AreRight start.bytes (calls_on disk) no_content)
+      disk.failures disk.calls.number
 
   -- no sync of it has failed
   abbrev pub CanSync : FileDiskFrom S start → Type 0
