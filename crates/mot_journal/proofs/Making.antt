@@ -43,8 +43,9 @@ module _ (g : Geometry) (old wrote : State) (sound : IsHonestDisk old) (writes :
       all_filled = within_joins 8 rest old mid last (half_start g 1) (half_size g) sound2 first_filled second (omega arith) (omega arith)
 
       pub is_made : slice_range wrote.bytes 8 (8 + 56) ≡ behind_magic g
-          → HasSlots g 0 Two (first_record ∷ []) (slot_count Two g) mid.bytes → IsMade g last.bytes
-      is_made head slots = record {
+          → HasSlots g 0 Two (first_record ∷ []) (slot_count Two g) mid.bytes → HasSlots g 1 Two [] (slot_count Two g) last.bytes → IsMade g last.bytes
+      is_made head slots other = record {
+        other = other;
         head = part (half_start g 1) (half_size g) mid.bytes last.bytes second.bytes 8 56 (omega arith)
             ∙ part (half_start g 0) (half_size g) wrote.bytes mid.bytes first.bytes 8 56 (omega arith)
             ∙ sym (range_whole 8 56 wrote.bytes) ∙ head;
@@ -64,11 +65,14 @@ made_stays g b c agree made = record {
   head = ap (λ l. take 56 l) (drop_behind 0 8 b c agree 8 (omega arith)) ∙ made.head;
   slots = λ i lt.
       let was = made.slots i lt in
-      (ap (λ l. take (slot_size Two) l) (drop_behind 0 8 b c agree (half_start g 0 + i * slot_size Two) (behind i)) ∙ was.0, was.1);
+      (ap (λ l. take (slot_size Two) l) (drop_behind 0 8 b c agree (half_start g 0 + i * slot_size Two) (behind 0 i)) ∙ was.0, was.1);
+  other = λ i lt.
+      let was = made.other i lt in
+      (ap (λ l. take (slot_size Two) l) (drop_behind 0 8 b c agree (half_start g 1 + i * slot_size Two) (behind 1 i)) ∙ was.0, was.1);
 }
   where
-    behind : (i : ℕ) → 0 + 8 ≤ half_start g 0 + i * slot_size Two
-    behind i = omega arith
+    behind : (half i : ℕ) → 0 + 8 ≤ half_start g half + i * slot_size Two
+    behind half i = omega arith
 
 module _ (g : Geometry) (valid : IsValid g) (filled : State) (sound1 : IsHonestDisk filled) (long : length_of g ≤ filled.len)
     (made : IsMade g filled.bytes) where
@@ -79,7 +83,7 @@ module _ (g : Geometry) (valid : IsValid g) (filled : State) (sound1 : IsHonestD
 
   none_or_new : (c : List ℕ) → AgreeOutside 0 8 filled.bytes c → NoneOrNew g c
   none_or_new c agree = elim (cases_Bool (has_magic c)) [
-    | inl named ↦ let is = new c agree named in inr (is.stands, is.clean)
+    | inl named ↦ let is = new c agree named in inr (is.stands, is.clean, is.layout, is.other)
     | inr none ↦ inl none
   ]
 

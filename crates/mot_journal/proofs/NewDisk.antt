@@ -1,17 +1,21 @@
 -- A new disk stands for the new carousel.
-use Rattle.std.proofs.Common.{◌≡◌, ℕ, ◌+◌, ◌-◌, ◌≤◌, true, false, ◌&&◌, ◌==◌, List, [], ◌∷◌, length, take, drop, get_or, Some, Ok, refl, sym, ◌∙◌, ap, subst, arith, if◌then◌else◌}
+use Rattle.std.proofs.Common.{◌≡◌, ℕ, zero, suc, ◌+◌, ◌-◌, ◌*◌, ◌<◌, ◌≤◌, true, false, ◌&&◌, ◌==◌, List, [], ◌∷◌, ◌++◌, replicate, zero-mul, length, take, drop, get_or, Some, Ok, refl, sym, ◌∙◌, ap, subst, arith, if◌then◌else◌}
 use Rattle.std.specs.Prelude.{slice_index, nat_le, IsOk}
 use Rattle.std.proofs.lemmas.Bool.Decides.{nat_tests}
-use Rattle.std.proofs.lemmas.List.{get_or-take, get_or-drop}
+use Rattle.std.proofs.lemmas.List.{get_or-take, get_or-drop, drop-drop, replicate-append-replicate}
+use Rattle.std.proofs.Math.Nat.{suc-mul}
+use Rattle.std.proofs.Math.Seq.{take-add}
 use Rattle.mot_base.specs.Fields.{number_in}
 use Rattle.mot_base.specs.declared.geometry.Geometry.{Geometry}
-use Rattle.mot_base.specs.Geometry.{IsValid, length_of}
+use Rattle.mot_base.specs.Geometry.{IsValid, length_of, half_size, half_start, area_start}
 use Rattle.mot_journal.specs.declared.layout.Layout.TheVariants.{Two}
 use Rattle.mot_journal.specs.Geometry.{geometry_of, has_magic, is_valid}
-use Rattle.mot_journal.specs.Slot.{slot_count}
+use Rattle.mot_journal.specs.Image.{IsSecondHalfEmpty}
+use Rattle.mot_journal.specs.Slot.{slot_count, slot_size}
 use Rattle.mot_journal.specs.Catalogue.{new_catalogue, catalogue_of, fold_from}
 use Rattle.mot_journal.specs.Inner.Format.{first_record, behind_magic, IsMade, IsNewDisk}
 use Rattle.mot_journal.specs.Inner.Reading.{number_at}
+use Rattle.mot_journal.specs.Inner.Steps.{HasSlots}
 use Rattle.mot_journal.specs.Journal.{JournalView, with_records}
 use Rattle.mot_journal.proofs.Laws.{stands_by_parts}
 use Rattle.mot_journal.proofs.Halves.{filled_layout, filled_half, filled_reads}
@@ -31,6 +35,25 @@ catalogue_new limit = refl
 
 le_true : (m n : ℕ) → m ≤ n → nat_le m n ≡ true
 le_true m n le = grind (arith, nat_tests)
+
+-- pieces of zeros, one behind the other
+zeros_by_pieces : (size n : ℕ) (l : List ℕ)
+    → ((i : ℕ) → i < n → take size (drop (i * size) l) ≡ replicate size 0) → take (n * size) l ≡ replicate (n * size) 0
+zeros_by_pieces size zero l zeros = ap (λ k. take k l) (zero-mul size) ∙ sym (ap (λ k. replicate {A = ℕ} k 0) (zero-mul size))
+zeros_by_pieces size (suc n) l zeros =
+    ap (λ k. take k l) (suc-mul n size) ∙ take-add (n * size) size l
+    ∙ ap (λ front. front ++ take size (drop (n * size) l)) (zeros_by_pieces size n l (λ i lt. zeros i (omega (arith, lt))))
+    ∙ ap (λ back. replicate (n * size) 0 ++ back) (zeros n (omega arith))
+    ∙ replicate-append-replicate (n * size) size 0 ∙ sym (ap (λ k. replicate {A = ℕ} k 0) (suc-mul n size))
+
+empty_half : (g : Geometry) (c : List ℕ) → HasSlots g 1 Two [] (slot_count Two g) c → IsSecondHalfEmpty g c
+empty_half g c other =
+    let whole : slot_count Two g * slot_size Two ≡ half_size g = omega arith in
+    let size : area_start g - half_start g 1 ≡ half_size g = omega arith in
+    let half = drop (half_start g 1) c in
+    let zeros = zeros_by_pieces (slot_size Two) (slot_count Two g) half (λ i lt.
+    ap (take (slot_size Two)) (drop-drop (i * slot_size Two) (half_start g 1) c) ∙ (other i lt).0) in
+    ap (λ k. take k half) (size ∙ sym whole) ∙ zeros ∙ ap (λ k. replicate {A = ℕ} k 0) whole
 
 module _ (g : Geometry) (valid : IsValid g) (c : List ℕ) (long : length_of g ≤ length c) (named : has_magic c ≡ true)
     (made : IsMade g c) where
@@ -78,4 +101,6 @@ module _ (g : Geometry) (valid : IsValid g) (c : List ℕ) (long : length_of g �
       record {
         stands = stands_by_parts g (with_records (new_view g) (first_record ∷ [])) new_catalogue c refl has.read (catalogue_new g.objects);
         clean = has.clean;
+        layout = (with_records (new_view g) (first_record ∷ []), has.read, refl);
+        other = empty_half g c made.other;
       }

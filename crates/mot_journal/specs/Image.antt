@@ -1,12 +1,14 @@
 -- What an image of a disk stands for (own format).
-use Rattle.std.specs.Prelude.{ℕ, zero, suc, ◌+◌, Bool, true, not, List, [], ◌∷◌, length, take, drop}
-use Rattle.std.specs.Prelude.{take_while, Option, Some, None, Result, Ok, Err, IsTrue, IsOk}
+use Rattle.std.specs.Prelude.{◌≡◌, ℕ, zero, suc, ◌+◌, Bool, true, not, List, [], ◌∷◌, length}
+use Rattle.std.specs.Prelude.{take, drop, slice_range, replicate, take_while, Option, Some, None}
+use Rattle.std.specs.Prelude.{Result, Ok, Err, IsTrue, IsOk}
 use Rattle.std.specs.List.{list_all}
 use Rattle.mot_base.specs.declared.refusal.Refusal.{Refusal}
 use Rattle.mot_base.specs.declared.refusal.Refusal.TheVariants.{NotFormatted}
 use Rattle.mot_carousel.specs.Carousel.{Carousel}
 use Rattle.mot_base.specs.declared.geometry.Geometry.{Geometry}
 use Rattle.mot_journal.specs.declared.layout.Layout.{Layout}
+use Rattle.mot_journal.specs.declared.layout.Layout.TheVariants.{Two}
 use Rattle.mot_journal.specs.declared.record.Record.{Record}
 use Rattle.mot_base.specs.Geometry.{half_start, half_size, area_start}
 use Rattle.mot_journal.specs.Geometry.{geometry_of, selected_half}
@@ -96,3 +98,12 @@ has_clean_gates (Some g) image = are_gates_clean (slots_of g (half_of g image))
 pub record IsClean (image : List ℕ) : Type 0 where
   pub stands : IsOk (stands_for image)
   pub gates : IsTrue (has_clean_gates (geometry_of image) image)
+
+-- the records of the image are in layout 2
+abbrev pub IsInLayoutTwo : List ℕ → Type 0
+IsInLayoutTwo image = (r : DiskRecords) × (records_of image ≡ Ok r) × (r.layout ≡ Two)
+
+-- half 1 is zeros, so no gate of it is open
+abbrev pub IsSecondHalfEmpty : Geometry → List ℕ → Type 0
+IsSecondHalfEmpty g image =
+    slice_range image (half_start g 1) (area_start g) ≡ replicate (half_size g) 0

@@ -14,7 +14,7 @@ use Rattle.mot_base.specs.Geometry.{half_start}
 use Rattle.mot_journal.specs.Slot.{layout_of, slot_size}
 use Rattle.mot_journal.specs.Catalogue.{catalogue_of}
 use Rattle.mot_journal.specs.Image.{DiskRecords, Standing, records_of, stands_for, half_of, area_of}
-use Rattle.mot_journal.specs.Image.{IsClean}
+use Rattle.mot_journal.specs.Image.{IsClean, IsInLayoutTwo, IsSecondHalfEmpty}
 
 pub record JournalView : Type 0 where
   pub geometry : Geometry
@@ -90,10 +90,11 @@ pub record StandsWhere (j : JournalView) (bytes : List ℕ) : Type 0 where
 abbrev pub new_standing : Geometry → Standing
 new_standing g = record { geometry = g; carousel = new_carousel; extents = [] }
 
--- no magic, or clean and a new disk of this geometry
+-- no magic, or clean and a new disk of this geometry, in layout 2, whose other half is empty
 abbrev pub NoneOrNew : Geometry → List ℕ → Type 0
 NoneOrNew g image = (has_magic image ≡ false)
-    ⊎ ((stands_for image ≡ Ok (new_standing g)) × IsClean image)
+    ⊎ ((stands_for image ≡ Ok (new_standing g)) × IsClean image × IsInLayoutTwo image
+    × IsSecondHalfEmpty g image)
 
 -- Of a disk that is honest afterwards `NotFormatted` and `Damaged` are told where its bytes have no
 -- records, with the slot.

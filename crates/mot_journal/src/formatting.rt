@@ -9,7 +9,7 @@ ghost use Rattle.mot_base.specs.declared.refusal.Refusal.TheVariants.{DeviceFaul
 ghost use Rattle.mot_base.specs.declared.refusal.Refusal.TheVariants.{DiskTooSmall};
 ghost use Rattle.mot_base.specs.declared.refusal.Refusal.TheVariants.{AlreadyFormatted};
 ghost use Rattle.mot_journal.specs.Geometry.{has_magic};
-ghost use Rattle.mot_journal.specs.Image.{stands_for, IsClean};
+ghost use Rattle.mot_journal.specs.Image.{stands_for, IsClean, IsInLayoutTwo, IsSecondHalfEmpty};
 ghost use Rattle.mot_journal.specs.Journal.{NoneOrNew, new_standing};
 ghost use Rattle.mot_journal.specs.Inner.Steps.{ChangesWithin, HasCauseOf};
 ghost use Rattle.mot_journal.specs.Inner.Format.{IsMade, IsNewDisk, behind_magic};
@@ -53,6 +53,10 @@ pub fn format<D: Disk>(disk: &mut D, geometry: &Geometry) -> Result<(), Refusal>
     ensures ok { (D.state disk.new).IsHonest → OnOk result ((image : List ℕ)
         → (D.state disk.new).MayLeave image
         → (stands_for image ≡ Ok (new_standing geometry.now)) × IsClean image) }
+    ensures layout { (D.state disk.new).IsHonest → OnOk result ((image : List ℕ)
+        → (D.state disk.new).MayLeave image → IsInLayoutTwo image) }
+    ensures other_half { (D.state disk.new).IsHonest → OnOk result ((image : List ℕ)
+        → (D.state disk.new).MayLeave image → IsSecondHalfEmpty geometry.now image) }
 {
     if !geometry.is_valid() {
         return Err(Refusal::BadGeometry);

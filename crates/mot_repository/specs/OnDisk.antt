@@ -1,12 +1,10 @@
 -- What contracts see of a repository.
-use Rattle.std.specs.Prelude.{◌≡◌, ℕ, ◌+◌, List, slice_index_or, slice_range, Ok, IsTrue, IsFalse}
+use Rattle.std.specs.Prelude.{◌≡◌, ℕ, ◌+◌, List, slice_index_or, slice_range, IsTrue, IsFalse}
 use Rattle.disk_store.specs.Disk.{Rises}
 use Rattle.mot_base.specs.declared.refusal.Refusal.{Refusal}
 use Rattle.mot_base.specs.declared.refusal.Refusal.TheVariants.{DeviceFault, Halted}
 use Rattle.mot_base.specs.declared.geometry.Geometry.{Geometry}
 use Rattle.mot_base.specs.Geometry.{area_start}
-use Rattle.mot_journal.specs.declared.layout.Layout.TheVariants.{Two}
-use Rattle.mot_journal.specs.Image.{DiskRecords, records_of}
 use Rattle.mot_repository.specs.Repository.{RepositoryView}
 
 -- what a repository keeps in memory, and its disk
@@ -31,7 +29,3 @@ pub data IsCheckRefusal {D : Type 0} (old new : OnDisk D) (before now : ℕ) (re
       → IsCheckRefusal old new before now refusal
   failed : IsFalse old.view.halted → refusal ≡ DeviceFault → Rises before now
       → IsCheckRefusal old new before now refusal
-
--- the records of the image are in layout 2
-abbrev pub IsInLayoutTwo : List ℕ → Type 0
-IsInLayoutTwo image = (r : DiskRecords) × (records_of image ≡ Ok r) × (r.layout ≡ Two)

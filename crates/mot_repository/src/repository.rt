@@ -49,7 +49,7 @@ impl<D: Disk> Repository<D> {
     ghost use Rattle.mot_carousel.specs.declared.command.Command.{Command};
     ghost use Rattle.mot_journal.specs.declared.layout.Layout.TheVariants.{One, Two};
     ghost use Rattle.mot_journal.specs.Geometry.{is_valid};
-    ghost use Rattle.mot_journal.specs.Image.{Standing, stands_for, IsClean};
+    ghost use Rattle.mot_journal.specs.Image.{Standing, stands_for, IsClean, IsInLayoutTwo};
     ghost use Rattle.mot_journal.specs.Journal.{StandsWhere};
     ghost use Rattle.mot_repository.specs.Answers.{HasRoomForName, IsRefusal, IsChanged};
     ghost use Rattle.mot_repository.specs.Answers.{IsAnswered};
@@ -57,7 +57,6 @@ impl<D: Disk> Repository<D> {
     ghost use Rattle.mot_repository.specs.Extents.{ArePaired};
     ghost use Rattle.mot_repository.specs.Inner.InOrder.{IsInOrder};
     ghost use Rattle.mot_repository.specs.OnDisk.{OnDisk, extent_at, body_on, IsCheckRefusal};
-    ghost use Rattle.mot_repository.specs.OnDisk.{IsInLayoutTwo};
     ghost use Rattle.mot_repository.specs.Prepared.{view_with};
     ghost use Rattle.mot_repository.specs.Ready.{IsPrepared};
     ghost use Rattle.mot_repository.specs.Repository.{body_at, IsOf, Holds, IsNext};

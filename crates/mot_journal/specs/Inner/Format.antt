@@ -6,7 +6,7 @@ use Rattle.mot_journal.specs.declared.record.Record.{Record}
 use Rattle.mot_journal.specs.declared.record.Action.TheVariants.{Nothing}
 use Rattle.mot_journal.specs.Geometry.{head_bytes}
 use Rattle.mot_journal.specs.Slot.{slot_count}
-use Rattle.mot_journal.specs.Image.{stands_for, IsClean}
+use Rattle.mot_journal.specs.Image.{stands_for, IsClean, IsInLayoutTwo, IsSecondHalfEmpty}
 use Rattle.mot_journal.specs.Journal.{new_standing}
 use Rattle.mot_journal.specs.Inner.Steps.{HasSlots}
 
@@ -22,8 +22,11 @@ behind_magic g = drop 8 (head_bytes g 0)
 pub record IsMade (g : Geometry) (bytes : List ℕ) : Type 0 where
   pub head : take 56 (drop 8 bytes) ≡ behind_magic g
   pub slots : HasSlots g 0 Two (first_record ∷ []) (slot_count Two g) bytes
+  pub other : HasSlots g 1 Two [] (slot_count Two g) bytes
 
 -- the image is a new disk of this geometry
 pub record IsNewDisk (g : Geometry) (image : List ℕ) : Type 0 where
   pub stands : stands_for image ≡ Ok (new_standing g)
   pub clean : IsClean image
+  pub layout : IsInLayoutTwo image
+  pub other : IsSecondHalfEmpty g image

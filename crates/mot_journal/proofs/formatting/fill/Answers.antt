@@ -73,3 +73,4 @@ returns-clause-made g c = λ honest.
     (c.in_ok-write.ensures.bytes honest) in
     is_made geometry old wrote sound writes mid sound1 first last sound2 second
     (head ∙ c.head_behind_magic.ensures.value) (c.in_ok-fill_half.ensures.slots honest1)
+    (c.in_ok-fill_half-2.ensures.slots honest2)
