@@ -4,7 +4,7 @@ ghost use Rattle.std.specs.Prelude.{◌≡◌, ◌⊎◌, ◌+◌, ◌≤◌, []
 ghost use Rattle.std.specs.Prelude.{OnOk, OnErr, IsErr};
 ghost use Rattle.disk_store.specs.Calls.{Gave, Wrote, FailedWrite, Synced};
 ghost use Rattle.disk_store.specs.Disk.{Keeps, KeepsLength, HasCause, IsUnchanged, IsStill, Writes};
-ghost use Rattle.disk_store.specs.Disk.{IsMarked, IsFirm};
+ghost use Rattle.disk_store.specs.Disk.{IsMarked, IsFirm, LeavesAll};
 
 use super::{FileDiskFrom, Start};
 use crate::{Disk, DiskFault};
@@ -39,6 +39,7 @@ impl<S: Start> Disk for FileDiskFrom<S> {
             (calls_on self.new ≡ calls_on self.old ++ Gave at out.new ∷ []) }
         ensures failed { OnErr result (calls_on self.new ≡ calls_on self.old) }
         ensures syncs { self.new.can_sync ≡ self.old.can_sync }
+        ensures all { LeavesAll (file_state self.new) }
     {
         self.calls.raise();
         if self.failures == u64::MAX {
@@ -75,6 +76,7 @@ impl<S: Start> Disk for FileDiskFrom<S> {
             ((calls_on self.new ≡ calls_on self.old ++ FailedWrite at bytes.now ∷ [])
             ⊎ (calls_on self.new ≡ calls_on self.old)) }
         ensures syncs { self.new.can_sync ≡ self.old.can_sync }
+        ensures all { LeavesAll (file_state self.new) }
     {
         self.calls.raise();
         if self.failures == u64::MAX {
@@ -106,6 +108,7 @@ impl<S: Start> Disk for FileDiskFrom<S> {
         ensures lasts { HasFailedSync self.old → IsErr result }
         ensures remembered { OnErr result (HasFailedSync self.new) }
         ensures goes_on { OnOk result (CanSync self.new) }
+        ensures all { LeavesAll (file_state self.new) }
     {
         self.calls.raise();
         self.can_sync = self.can_sync && self.failures < u64::MAX && self.file.sync_data().is_ok();

@@ -1,7 +1,7 @@
 //! How a file is opened as a disk, and how a new one is made.
 ghost use Rattle.std.specs.Prelude.{◌≡◌, [], ◌∷◌, ◌++◌, length, replicate, IfOk, OnOk};
 ghost use Rattle.disk_store.specs.Calls.{content_after, HasBegun, Locked, Opened, Made};
-ghost use Rattle.disk_store.specs.Disk.{IsNew};
+ghost use Rattle.disk_store.specs.Disk.{IsNew, LeavesAll};
 ghost use Rattle.disk_store.specs.File.{file_state, calls_on, CanSync};
 
 use super::history::History;
@@ -29,6 +29,7 @@ impl FileDiskFrom<Unknown> {
     pub fn open<T: Files<File = File>>(files: &T, path: &str) -> Result<FileDisk, DiskFault>
         ensures new { IfOk result (λ disk. IsNew (file_state disk).bytes (file_state disk)) }
         ensures can_sync { IfOk result CanSync }
+        ensures all { IfOk result (λ disk. LeavesAll (file_state disk)) }
 
         // The lock comes before the length, so that no other program of ours changes it in between.
         ensures order { IfOk result (λ disk.
@@ -50,6 +51,7 @@ impl<S: Start> FileDiskFrom<S> {
         ensures first_bytes { IfOk result (λ disk. (file_state disk).len ≡ length S.Start.bytes
             → (file_state disk).bytes ≡ S.Start.bytes) }
         ensures can_sync { IfOk result CanSync }
+        ensures all { IfOk result (λ disk. LeavesAll (file_state disk)) }
         ensures order { IfOk result (λ disk.
             calls_on disk ≡ Locked ∷ Opened (file_state disk).len ∷ []) }
     {
@@ -71,6 +73,7 @@ impl<S: Start> FileDiskFrom<S> {
     ) -> Result<FileDiskFrom<S>, DiskFault>
         ensures new { IfOk result (λ disk. IsNew (replicate len 0) (file_state disk)) }
         ensures can_sync { IfOk result CanSync }
+        ensures all { IfOk result (λ disk. LeavesAll (file_state disk)) }
         ensures order { IfOk result (λ disk. calls_on disk ≡ Locked ∷ Made len ∷ []) }
     {
         let file = OpenOptions::new()
@@ -90,6 +93,7 @@ impl<S: Start> FileDiskFrom<S> {
     fn fill(file: File, len: u64) -> Result<FileDiskFrom<S>, DiskFault>
         ensures new { IfOk result (λ disk. IsNew (replicate len 0) (file_state disk)) }
         ensures can_sync { IfOk result CanSync }
+        ensures all { IfOk result (λ disk. LeavesAll (file_state disk)) }
         ensures order { IfOk result (λ disk. calls_on disk ≡ Locked ∷ Made len ∷ []) }
     {
         let mut making = History::new();
@@ -105,6 +109,7 @@ impl<S: Start> FileDiskFrom<S> {
         requires { HasBegun S.Start.bytes len history.calls }
         ensures new { IsNew (content_after S.Start.bytes history.calls).bytes (file_state result) }
         ensures can_sync { CanSync result }
+        ensures all { LeavesAll (file_state result) }
         ensures history { calls_on result ≡ history.calls }
     {
         FileDiskFrom {
