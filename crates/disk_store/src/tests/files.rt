@@ -1,6 +1,9 @@
 //! Rows of real files. Each test makes a folder of its own where it runs, and takes it away again.
 use super::*;
+use std::io;
+use std::os::fd::AsRawFd;
 use std::os::unix;
+use std::os::unix::fs::MetadataExt;
 
 // A folder of this name with nothing in it.
 fn make_empty_folder(rt: &HostRuntime, name: &str) -> Result<(), Fail> {
@@ -87,6 +90,71 @@ fn only_a_file_that_may_be_written_is_opened(rt: HostRuntime) -> Result<(), Fail
     assert_eq!(rt; disk.len(), 0);
     assert_eq!(rt; disk.sync(), Ok(()));
     fs::remove_dir_all(&rt, "opened.test")?;
+    Ok(())
+}
+
+// Why a file is not opened.
+fn reason(rt: &HostRuntime, path: &str) -> Result<String, Fail> {
+    match FileDiskFrom::open_from(rt, path, Unknown) {
+        Ok(_) => Err("it is opened".into()),
+        Err(unopened) => Ok(format!(in rt.alloc(); "{}", unopened.fault)?),
+    }
+}
+
+// The reason is told in the system's words, and a pipe is told from a file whose sync fails.
+#[test]
+fn why_a_file_is_not_opened(rt: HostRuntime) -> Result<(), Fail> {
+    make_empty_folder(&rt, "reason.test")?;
+    let missing = reason(&rt, "reason.test/missing")?;
+    assert_eq!(rt; missing.as_str(), "No such file or directory");
+    assert_eq!(rt; reason(&rt, "reason.test")?.as_str(), "Is a directory");
+    let no_disk = "neither a regular file nor a block device";
+    assert_eq!(rt; reason(&rt, "/dev/null")?.as_str(), no_disk);
+    let (reader, _writer) = io::pipe(&rt)?;
+    let pipe = format!(in rt.alloc(); "/proc/self/fd/{}", reader.as_raw_fd())?;
+    assert_eq!(rt; reason(&rt, pipe.as_str())?.as_str(), no_disk);
+    let path = "reason.test/disk";
+    let held = FileDisk::create(&rt, path, 8)?;
+    assert_eq!(rt; reason(&rt, path)?.as_str(), "in use by another program");
+    drop(held);
+    fs::remove_dir_all(&rt, "reason.test")?;
+    Ok(())
+}
+
+// How many bytes the device has for a new file of this length, and its length when it is opened.
+fn room_of_new(rt: &HostRuntime, path: &str, len: u64) -> Result<(u64, u64), Fail> {
+    drop(FileDisk::create(rt, path, len)?);
+    let room = 512 * fs::metadata(rt, path)?.blocks().min(1 << 40);
+    Ok((room, FileDisk::open(rt, path)?.len()))
+}
+
+// Each byte of a new file has its place on the device, and is zero.
+#[test]
+fn a_new_file_has_no_holes(rt: HostRuntime) -> Result<(), Fail> {
+    make_empty_folder(&rt, "new.test")?;
+    for len in [1, 16_384, 16_385, 100_000] {
+        let path = "new.test/disk";
+        let (room, found) = room_of_new(&rt, path, len)?;
+        assert_eq!(rt; found, len);
+        assert!(rt; room >= len);
+        let bytes = fs::read(&rt, path)?;
+        assert!(rt; bytes.iter().all(|&byte| byte == 0));
+        fs::remove_file(&rt, path)?;
+    }
+    fs::remove_dir_all(&rt, "new.test")?;
+    Ok(())
+}
+
+// A length that the system refuses leaves no file, and no byte is written.
+#[test]
+fn a_file_that_is_not_made_is_taken_away(rt: HostRuntime) -> Result<(), Fail> {
+    make_empty_folder(&rt, "refused.test")?;
+    let path = "refused.test/disk";
+    assert!(rt; FileDisk::create(&rt, path, u64::MAX).is_err());
+    assert!(rt; !fs::exists(&rt, path)?);
+    assert!(rt; FileDisk::create(&rt, path, 1 << 63).is_err());
+    assert!(rt; !fs::exists(&rt, path)?);
+    fs::remove_dir_all(&rt, "refused.test")?;
     Ok(())
 }
 
