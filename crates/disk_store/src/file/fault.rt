@@ -2,7 +2,7 @@
 ghost use Rattle.std.specs.Prelude.{◌≡◌};
 
 use crate::DiskFault;
-use std::fmt::{self, Display, Formatter};
+use std::fmt::{self, Display, Formatter, Write};
 use std::io;
 
 /// Why a file was not opened or made as a disk.
@@ -14,6 +14,8 @@ pub enum OpenFault {
     InUse,
     /// It is neither a regular file nor a block device.
     NoDisk,
+    /// The file has a second name.
+    SecondName,
 }
 
 /// In the system's words, without its number for them.
@@ -23,19 +25,53 @@ impl Display for OpenFault {
             OpenFault::System(error) => write_reason(error, f),
             OpenFault::InUse => f.pad("in use by another program"),
             OpenFault::NoDisk => f.pad("neither a regular file nor a block device"),
+            OpenFault::SecondName => f.pad("the file has a second name (a hard link)"),
         }
     }
 }
 
 fn write_reason<W: fmt::Write>(error: &io::Error, f: &mut Formatter<W>) -> fmt::Result {
-    let Some(code) = error.raw_os_error() else {
-        return Display::fmt(error, f);
+    let mut words = Words {
+        bytes: [0; MOST_WORDS],
+        len: 0,
     };
-    let mut text = [0; 256];
-    let len = os::error_text(code, &mut text);
-    match str::from_utf8(&text[..len]) {
-        Ok(words) => f.pad(words),
-        Err(_) => Display::fmt(error, f),
+    write!(words, "{error}")?;
+    f.pad(words.without_number())
+}
+
+/// The longest text of an error that is told whole.
+const MOST_WORDS: usize = 256;
+
+/// The first bytes of a text.
+#[derive(Drop)]
+struct Words {
+    bytes: [u8; MOST_WORDS],
+    len: usize,
+}
+
+impl Words {
+    /// The text, without the number that ends the words of the system.
+    fn without_number(&self) -> &str {
+        let end = self.len.min(MOST_WORDS);
+        let Ok(text) = str::from_utf8(&self.bytes[..end]) else {
+            return "";
+        };
+        match text.split_once(" (os error ") {
+            Some((words, _)) => words,
+            None => text,
+        }
+    }
+}
+
+impl Write for Words {
+    fn write_str(&mut self, text: &str) -> fmt::Result {
+        for byte in text.as_bytes() {
+            if self.len < MOST_WORDS {
+                self.bytes[self.len] = *byte;
+                self.len += 1;
+            }
+        }
+        Ok(())
     }
 }
 

@@ -1,7 +1,7 @@
 //! The calls on a file with their answers, as a list that only clauses read. It takes no memory.
 //! Each method is given the answer of a call, notes the call with it, and hands it on: so no call
 //! is noted that the system did not answer.
-ghost use Rattle.std.specs.Prelude.{◌≡◌, ◌↔◌, ℕ, pos, List, [], ◌∷◌, ◌++◌, IfOk, OnOk, OnErr, IsOk};
+ghost use Rattle.std.specs.Prelude.{◌≡◌, ℕ, List, [], ◌∷◌, ◌++◌, IfOk, OnOk, OnErr};
 ghost use Rattle.std.specs.Borrow.{ftrue};
 ghost use Rattle.disk_store.specs.Calls.{Call, call_of, Locked, Opened, Made, Gave, FailedRead};
 ghost use Rattle.disk_store.specs.Calls.{Wrote, FailedWrite, Synced, FailedSync, Dropped, Named};
@@ -127,15 +127,12 @@ impl History {
         answer
     }
 
-    /// The system was told to drop what it keeps of the file, and answered 0 or its number of an
-    /// error.
-    pub fn dropped(&mut self, answer: i32) -> io::Result<()>
-        ensures zero { IsOk result ↔ (answer ≡ pos 0) }
+    /// The system was told to drop what it keeps of the file.
+    pub fn dropped(&mut self, answer: io::Result<()>) -> io::Result<()>
+        ensures same { result ≡ answer }
         ensures noted { OnOk result (self.new.calls ≡ self.old.calls ++ Dropped ∷ []) }
     {
-        if answer != 0 {
-            return Err(io::Error::from_raw_os_error(answer));
-        }
+        answer?;
         self.note(&[DROPPED, 0], &[]);
         Ok(())
     }

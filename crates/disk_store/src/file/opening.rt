@@ -11,7 +11,6 @@ use crate::call_count::CallCount;
 use std::fs;
 use std::fs::{File, OpenOptions};
 use std::marker::PhantomData;
-use std::rt::Files;
 
 /// A file that was not opened or made as a disk, and the value that opening it would have used up.
 #[derive(Drop)]
@@ -30,7 +29,7 @@ impl FileDiskFrom<Unknown> {
     /// Opens a file or a block device that is there, and reads nothing of it but its length. What
     /// it gives is synced. It fails where the path names nothing or anything else, where the file
     /// may not be read and written, and where another opening of it lives.
-    pub fn open<T: Files<File = File>>(files: &T, path: &str) -> Result<FileDisk, DiskFault>
+    pub fn open(rt: &HostRuntime, path: &str) -> Result<FileDisk, DiskFault>
         ensures new { IfOk result (λ disk. IsNew (file_state disk).bytes (file_state disk)) }
         ensures can_sync { IfOk result CanSync }
         ensures all { IfOk result (λ disk. LeavesAll (file_state disk)) }
@@ -39,14 +38,14 @@ impl FileDiskFrom<Unknown> {
         ensures order { IfOk result (λ disk.
             calls_on disk ≡ opening_calls (file_state disk).len) }
     {
-        Ok(FileDiskFrom::open_path(files, path)?)
+        Ok(FileDiskFrom::open_path(rt, path)?)
     }
 
     /// Makes a new file of so many zeros, and opens it. It fails where the path names anything, and
     /// then leaves that as it is; where it fails later, it takes the file away again. No zero is
     /// written or read: that the system gives them is part of what honest means.
-    pub fn create<T: Files<File = File>>(
-        files: &T,
+    pub fn create(
+        rt: &HostRuntime,
         path: &str,
         len: u64,
     ) -> Result<FileDisk, DiskFault>
@@ -54,15 +53,15 @@ impl FileDiskFrom<Unknown> {
         ensures can_sync { IfOk result CanSync }
         ensures order { IfOk result (λ disk. calls_on disk ≡ making_calls len) }
     {
-        Ok(FileDiskFrom::make_path(files, path, len)?)
+        Ok(FileDiskFrom::make_path(rt, path, len)?)
     }
 }
 
 impl<S: Start> FileDiskFrom<S> {
     /// Opens a file that held what `S` says, as `open` does. The value of `S` is used up, so that
     /// code over any `S` opens or makes one file; it comes back where none was opened.
-    pub fn open_from<T: Files<File = File>>(
-        files: &T,
+    pub fn open_from(
+        rt: &HostRuntime,
         path: &str,
         start: S,
     ) -> Result<FileDiskFrom<S>, Unopened<S>>
@@ -73,15 +72,15 @@ impl<S: Start> FileDiskFrom<S> {
         ensures order { IfOk result (λ disk.
             calls_on disk ≡ opening_calls (file_state disk).len) }
     {
-        match FileDiskFrom::open_path(files, path) {
+        match FileDiskFrom::open_path(rt, path) {
             Ok(disk) => Ok(disk),
             Err(fault) => Err(Unopened { start, fault }),
         }
     }
 
     /// Makes a new file as `create` does, and uses up the value of `S` as `open_from` does.
-    pub fn create_from<T: Files<File = File>>(
-        files: &T,
+    pub fn create_from(
+        rt: &HostRuntime,
         path: &str,
         len: u64,
         start: S,
@@ -90,7 +89,7 @@ impl<S: Start> FileDiskFrom<S> {
         ensures can_sync { IfOk result CanSync }
         ensures order { IfOk result (λ disk. calls_on disk ≡ making_calls len) }
     {
-        match FileDiskFrom::make_path(files, path, len) {
+        match FileDiskFrom::make_path(rt, path, len) {
             Ok(disk) => Ok(disk),
             Err(fault) => Err(Unopened { start, fault }),
         }
@@ -99,7 +98,7 @@ impl<S: Start> FileDiskFrom<S> {
     // Opens what stands at the path. The lock comes before all else, so that no other program of
     // ours changes the file in between. What an earlier one wrote is synced, and what the system
     // keeps of it dropped, before anything is asked of the file.
-    fn open_path<T: Files<File = File>>(files: &T, path: &str) -> Result<FileDiskFrom<S>, OpenFault>
+    fn open_path(rt: &HostRuntime, path: &str) -> Result<FileDiskFrom<S>, OpenFault>
         ensures new { IfOk result (λ disk. IsNew (file_state disk).bytes (file_state disk)) }
         ensures first_bytes { IfOk result (λ disk. (file_state disk).len ≡ length S.Start.bytes
             → (file_state disk).bytes ≡ S.Start.bytes) }
@@ -109,20 +108,23 @@ impl<S: Start> FileDiskFrom<S> {
             calls_on disk ≡ opening_calls (file_state disk).len) }
     {
         let mut file = HeldFile::lock(
-            OpenOptions::new().read(true).write(true).open(files, path)?,
+            OpenOptions::new().read(true).write(true).open(rt, path)?,
         )?;
         if !file.is_disk()? {
             return Err(OpenFault::NoDisk);
         }
+        if file.has_other_names()? {
+            return Err(OpenFault::SecondName);
+        }
         file.sync_all()?;
-        file.drop_cached()?;
+        file.drop_cached(rt, path)?;
         let len = file.take_length()?;
         Ok(FileDiskFrom::begin(file, len))
     }
 
     // Makes what the path names nothing for yet, and takes it away again where that fails.
-    fn make_path<T: Files<File = File>>(
-        files: &T,
+    fn make_path(
+        rt: &HostRuntime,
         path: &str,
         len: u64,
     ) -> Result<FileDiskFrom<S>, OpenFault>
@@ -135,20 +137,20 @@ impl<S: Start> FileDiskFrom<S> {
             .read(true)
             .write(true)
             .create_new(true)
-            .open(files, path)?;
-        match FileDiskFrom::fill(file, files, path, len) {
+            .open(rt, path)?;
+        match FileDiskFrom::fill(file, rt, path, len) {
             Ok(disk) => Ok(disk),
             Err(fault) => {
-                let _ = fs::remove_file(files, path);
+                let _ = fs::remove_file(rt, path);
                 Err(fault)
             }
         }
     }
 
     // Fills a new file with zeros, and makes them and its name last.
-    fn fill<T: Files<File = File>>(
+    fn fill(
         file: File,
-        files: &T,
+        rt: &HostRuntime,
         path: &str,
         len: u64,
     ) -> Result<FileDiskFrom<S>, OpenFault>
@@ -160,8 +162,8 @@ impl<S: Start> FileDiskFrom<S> {
         let mut made = HeldFile::lock(file)?;
         made.fill(len)?;
         made.sync_all()?;
-        made.drop_cached()?;
-        made.sync_folder(files, path)?;
+        made.drop_cached(rt, path)?;
+        made.sync_folder(rt, path)?;
         Ok(FileDiskFrom::begin(made, len))
     }
 

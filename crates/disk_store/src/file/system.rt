@@ -7,11 +7,11 @@ ghost use Rattle.disk_store.specs.Calls.{FailedWrite, Synced, FailedSync, Droppe
 
 use super::OpenFault;
 use super::history::History;
-use std::fs::{File, TryLockError};
+use sqlite_std_file::OpenError;
+use std::fs::{self, File, TryLockError};
 use std::io;
 use std::io::{Seek, SeekFrom};
-use std::os::fd::AsRawFd;
-use std::os::unix::fs::{FileExt, FileTypeExt};
+use std::os::unix::fs::{FileExt, FileTypeExt, MetadataExt};
 use std::path::Path;
 use std::rt::Files;
 
@@ -45,6 +45,13 @@ impl HeldFile {
         Ok(kind.is_file() || kind.is_block_device())
     }
 
+    /// Whether it is a regular file that has another name than the one by which it was opened, or
+    /// none. What the system keeps of such a file is not dropped.
+    pub fn has_other_names(&self) -> io::Result<bool> {
+        let found = self.file.metadata()?;
+        Ok(found.is_file() && found.nlink() != 1)
+    }
+
     /// How long it is.
     pub fn take_length(&mut self) -> io::Result<u64>
         ensures { IfOk result
@@ -70,14 +77,14 @@ impl HeldFile {
         self.history.synced(self.file.sync_all())
     }
 
-    /// Drops what the system keeps of the file in its memory. After a sync that failed it keeps what
-    /// it could not write as if it had: so a read gives what the device has.
-    pub fn drop_cached(&mut self) -> io::Result<()>
+    /// Drops what the system keeps of the file of this path in its memory. After a sync that failed
+    /// it keeps what it could not write as if it had: so a read gives what the device has.
+    pub fn drop_cached(&mut self, rt: &HostRuntime, path: &str) -> io::Result<()>
         ensures { OnOk result
             (self.new.history.calls ≡ self.old.history.calls ++ Dropped ∷ []) }
     {
-        let number = self.file.as_raw_fd();
-        self.history.dropped(libc::posix_fadvise(number, 0, 0, libc::POSIX_FADV_DONTNEED))
+        let answer = drop_cached_pages(rt, &self.file, path);
+        self.history.dropped(answer)
     }
 
     /// Makes its name last: the folder of this path has it.
@@ -131,6 +138,34 @@ fn write_zeros(file: &File, len: u64) -> io::Result<()> {
         end -= size;
     }
     Ok(())
+}
+
+// No call of std drops a file's cached pages. The opening of the kit's SQLite does, of the file of a
+// path, once it has synced the file and its folder; nothing else is asked of what it opens. A block
+// device's pages are dropped with its last handle.
+fn drop_cached_pages(rt: &HostRuntime, file: &File, path: &str) -> io::Result<()> {
+    if file.metadata()?.file_type().is_block_device() {
+        return Ok(());
+    }
+    let real = fs::canonicalize(rt, path)?;
+    let log = format!(in rt.alloc(); "{}-wal", real.as_str())?;
+    let opened = sqlite_std_file::open(rt, real.as_str(), sqlite_std_file::Unknown);
+    remove_empty(rt, log.as_str())?;
+    match opened {
+        Ok(_) => Ok(()),
+        Err(OpenError::Io(error)) => Err(error),
+        Err(OpenError::OutOfMemory) => Err(io::ErrorKind::OutOfMemory.into()),
+        Err(OpenError::Busy) => Err(io::ErrorKind::ResourceBusy.into()),
+        Err(OpenError::HotJournal) => Err(io::ErrorKind::AlreadyExists.into()),
+    }
+}
+
+// Takes away the file that the opening has made beside, and nobody else's.
+fn remove_empty(rt: &HostRuntime, path: &str) -> io::Result<()> {
+    match fs::symlink_metadata(rt, path) {
+        Ok(found) if found.is_file() && found.len() == 0 => fs::remove_file(rt, path),
+        _ => Ok(()),
+    }
 }
 
 fn sync_folder_of<T: Files<File = File>>(files: &T, path: &str) -> io::Result<()> {

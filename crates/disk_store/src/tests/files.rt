@@ -216,3 +216,43 @@ fn a_short_read_is_a_fault(rt: HostRuntime) -> Result<(), Fail> {
     fs::remove_dir_all(&rt, "short.test")?;
     Ok(())
 }
+
+// How many names a folder has.
+fn names_in(rt: &HostRuntime, path: &str) -> Result<usize, Fail> {
+    let mut count = 0usize;
+    for entry in fs::read_dir(rt, path)? {
+        let _ = entry?;
+        count = count.wrapping_add(1);
+    }
+    Ok(count)
+}
+
+// An opening leaves nothing beside the file, and takes nobody's file away.
+#[test]
+fn nothing_is_left_beside_a_file(rt: HostRuntime) -> Result<(), Fail> {
+    make_empty_folder(&rt, "beside.test")?;
+    let path = "beside.test/disk";
+    drop(FileDisk::create(&rt, path, 8)?);
+    drop(FileDisk::open(&rt, path)?);
+    assert_eq!(rt; names_in(&rt, "beside.test")?, 1);
+    fs::write(&rt, "beside.test/disk-wal", b"mine")?;
+    drop(FileDisk::open(&rt, path)?);
+    assert_eq!(rt; fs::read(&rt, "beside.test/disk-wal")?.as_slice(), b"mine".as_slice());
+    fs::remove_dir_all(&rt, "beside.test")?;
+    Ok(())
+}
+
+// A file with two names is no disk; by a link that leads to its one name it is.
+#[test]
+fn a_file_has_one_name(rt: HostRuntime) -> Result<(), Fail> {
+    make_empty_folder(&rt, "names.test")?;
+    let path = "names.test/disk";
+    drop(FileDisk::create(&rt, path, 8)?);
+    unix::fs::symlink(&rt, "disk", "names.test/link")?;
+    drop(FileDisk::open(&rt, "names.test/link")?);
+    fs::hard_link(&rt, path, "names.test/second")?;
+    let why = reason(&rt, path)?;
+    assert_eq!(rt; why.as_str(), "the file has a second name (a hard link)");
+    fs::remove_dir_all(&rt, "names.test")?;
+    Ok(())
+}
