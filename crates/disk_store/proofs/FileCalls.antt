@@ -7,7 +7,7 @@ use Rattle.std.proofs.Math.Seq.{drop-append_seam, take-append_seam}
 use Rattle.std.proofs.lemmas.List.Elements.{All-append, All-take, All-drop, All-replicate}
 use Rattle.std.specs.List.{All}
 use Rattle.disk_store.specs.Content.{Content, at_start, after_overwrite, after_write, after_touch, after_sync, replay, IsLooseIn}
-use Rattle.disk_store.specs.Calls.{Call, Locked, Opened, Made, first_bytes, after_call, content_after, no_content, IsRight, AreRight, HasBegun}
+use Rattle.disk_store.specs.Calls.{Call, opening_calls, making_calls, first_bytes, after_call, content_after, no_content, IsRight, AreRight, HasBegun}
 use Rattle.disk_store.proofs.Log.{replay_push}
 use Rattle.disk_store.proofs.Overwrite.{length-after_overwrite}
 
@@ -120,30 +120,37 @@ module _ (len : ℕ) (first : List ℕ) where
   first_bytes_bytes are_bytes = All-take IsByte len (first ++ replicate len 0)
       (All-append IsByte first (replicate len 0) are_bytes are_zeros)
 
-  begun : (calls : List Call) (e : Call) (bytes : List ℕ) → calls ≡ Locked ∷ e ∷ [] → after_call first e no_content ≡ at_start bytes
-      → length bytes ≡ len → All (λ b. b < 256) bytes → IsRight e no_content → HasBegun first len calls
-  begun calls e bytes is then size are_bytes right =
+  begun : (calls first_ones : List Call) (bytes : List ℕ) → calls ≡ first_ones → content_after first first_ones ≡ at_start bytes
+      → length bytes ≡ len → All (λ b. b < 256) bytes → AreRight first first_ones no_content → HasBegun first len calls
+  begun calls first_ones bytes is then size are_bytes right =
       let now : content_after first calls ≡ at_start bytes = ap (content_after first) is ∙ then in
       let now_bytes : (content_after first calls).bytes ≡ bytes = ap (λ s. s.bytes) now in
       record {
         firm = now ∙ ap at_start (sym now_bytes);
         len_is = ap length now_bytes ∙ size;
         are_bytes = subst (All IsByte) (sym now_bytes) are_bytes;
-        are_right = subst (λ l. AreRight first l no_content) (sym is) (tt, (right, tt));
+        are_right = subst (λ l. AreRight first l no_content) (sym is) right;
       }
+
+  -- once they are synced, the zeros of a new file are firm
+  firm_zeros : content_after first (making_calls len) ≡ at_start (replicate len 0)
+  firm_zeros =
+      ap (λ n. record { bytes = replicate len 0; loose = replicate n false; synced = replicate len 0 })
+      (length-replicate len true ∙ sym (length-replicate {A = ℕ} len 0))
 
   module _ (calls : List Call) where
     -- a file that was there
-    pub begun_opened : All (λ b. b < 256) first → calls ≡ Locked ∷ Opened len ∷ [] → HasBegun first len calls
+    pub begun_opened : All (λ b. b < 256) first → calls ≡ opening_calls len → HasBegun first len calls
     begun_opened are_bytes is =
-        begun calls (Opened len) (first_bytes len first) is refl length-first_bytes (first_bytes_bytes are_bytes) tt
+        begun calls (opening_calls len) (first_bytes len first) is refl length-first_bytes (first_bytes_bytes are_bytes) (tt, (tt, (tt, (tt, tt))))
 
-    pub opened_bytes : calls ≡ Locked ∷ Opened len ∷ [] → (content_after first calls).bytes ≡ first_bytes len first
+    pub opened_bytes : calls ≡ opening_calls len → (content_after first calls).bytes ≡ first_bytes len first
     opened_bytes is = ap (λ l. (content_after first l).bytes) is
 
     -- a file that was made
-    pub begun_made : calls ≡ Locked ∷ Made len ∷ [] → HasBegun first len calls
-    begun_made is = begun calls (Made len) (replicate len 0) is refl (length-replicate len 0) are_zeros tt
+    pub begun_made : calls ≡ making_calls len → HasBegun first len calls
+    begun_made is =
+        begun calls (making_calls len) (replicate len 0) is firm_zeros (length-replicate len 0) are_zeros (tt, (tt, (tt, (tt, (tt, tt)))))
 
-    pub made_bytes : calls ≡ Locked ∷ Made len ∷ [] → (content_after first calls).bytes ≡ replicate len 0
+    pub made_bytes : calls ≡ making_calls len → (content_after first calls).bytes ≡ replicate len 0
     made_bytes is = ap (λ l. (content_after first l).bytes) is

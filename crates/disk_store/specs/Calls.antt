@@ -1,6 +1,6 @@
 -- The calls on a file and what they answered, and what the disk model makes of them.
 use Rattle.std.specs.Prelude.{◌≡◌, ℕ, zero, suc, ◌+◌, ◌<◌, List, [], ◌∷◌, ◌++◌, length, take}
-use Rattle.std.specs.Prelude.{replicate, All}
+use Rattle.std.specs.Prelude.{replicate, true, All}
 use Rattle.std.specs.Prelude.{slice_index, slice_range}
 use Rattle.disk_store.specs.Content.{Content, at_start, after_write, after_touch, after_sync}
 use Rattle.disk_store.specs.Content.{replay}
@@ -11,16 +11,32 @@ pub data Call : Type 0 where
   Locked : Call
   -- a file that was there was this long
   Opened : (len : ℕ) → Call
-  -- a new file was made this long
+  -- so many zeros were written into a new file
   Made : (len : ℕ) → Call
   -- a read at this position gave these bytes
   Gave : (at : ℕ) (bytes : List ℕ) → Call
+  -- a read at this position failed
+  FailedRead : (at : ℕ) → Call
   -- these bytes were written
   Wrote : (at : ℕ) (bytes : List ℕ) → Call
   -- these bytes were to be written, and the call failed
   FailedWrite : (at : ℕ) (bytes : List ℕ) → Call
   -- a sync succeeded
   Synced : Call
+  -- a sync failed
+  FailedSync : Call
+  -- what the system kept of the file was dropped
+  Dropped : Call
+  -- the folder that names the file was synced
+  Named : Call
+
+-- the calls that open a file of this length: what is read of it comes from the device
+abbrev pub opening_calls : ℕ → List Call
+opening_calls len = Locked ∷ Synced ∷ Dropped ∷ Opened len ∷ []
+
+-- the calls that make a new file of this length
+abbrev pub making_calls : ℕ → List Call
+making_calls len = Locked ∷ Made len ∷ Synced ∷ Dropped ∷ Named ∷ []
 
 -- A call by a number for its kind, a position or a length, and bytes: so it is noted, since nothing
 -- in memory is a call.
@@ -29,9 +45,13 @@ call_of_kind zero at bytes = Locked
 call_of_kind (suc zero) at bytes = Opened at
 call_of_kind (suc (suc zero)) at bytes = Made at
 call_of_kind (suc (suc (suc zero))) at bytes = Gave at bytes
-call_of_kind (suc (suc (suc (suc zero)))) at bytes = Wrote at bytes
-call_of_kind (suc (suc (suc (suc (suc zero))))) at bytes = FailedWrite at bytes
-call_of_kind (suc (suc (suc (suc (suc (suc more)))))) at bytes = Synced
+call_of_kind (suc (suc (suc (suc zero)))) at bytes = FailedRead at
+call_of_kind (suc (suc (suc (suc (suc zero))))) at bytes = Wrote at bytes
+call_of_kind (suc (suc (suc (suc (suc (suc zero)))))) at bytes = FailedWrite at bytes
+call_of_kind (suc (suc (suc (suc (suc (suc (suc zero))))))) at bytes = Synced
+call_of_kind (suc (suc (suc (suc (suc (suc (suc (suc zero)))))))) at bytes = FailedSync
+call_of_kind (suc (suc (suc (suc (suc (suc (suc (suc (suc zero))))))))) at bytes = Dropped
+call_of_kind (suc (suc (suc (suc (suc (suc (suc (suc (suc (suc more)))))))))) at bytes = Named
 
 abbrev pub call_of : List ℕ → List ℕ → Call
 call_of numbers bytes = call_of_kind (slice_index numbers 0) (slice_index numbers 1) bytes
@@ -39,6 +59,11 @@ call_of numbers bytes = call_of_kind (slice_index numbers 0) (slice_index number
 -- the first of these bytes, with zeros behind them where there are fewer
 abbrev pub first_bytes : ℕ → List ℕ → List ℕ
 first_bytes len bytes = take len (bytes ++ replicate len 0)
+
+-- zeros that were written into a new file
+abbrev pub new_zeros : ℕ → Content
+new_zeros len =
+    record { bytes = replicate len 0; loose = replicate len true; synced = replicate len 0 }
 
 -- before the opening
 abbrev pub no_content : Content
@@ -50,22 +75,30 @@ IsRight Locked s = Unit {0}
 IsRight (Opened len) s = Unit {0}
 IsRight (Made len) s = Unit {0}
 IsRight (Gave at bytes) s = bytes ≡ slice_range s.bytes at (at + length bytes)
+IsRight (FailedRead at) s = Unit {0}
 IsRight (Wrote at bytes) s = Unit {0}
 IsRight (FailedWrite at bytes) s = Unit {0}
 IsRight Synced s = Unit {0}
+IsRight FailedSync s = Unit {0}
+IsRight Dropped s = Unit {0}
+IsRight Named s = Unit {0}
 
 -- a file that holds these bytes as it is opened
 module _ (first : List ℕ) where
-  -- What a file of the model holds after a call. One that was made has zeros. A write that failed
-  -- leaves the old bytes to be read.
+  -- What a file of the model holds after a call. One that was made has zeros, loose up to its sync.
+  -- A write that failed leaves the old bytes to be read.
   abbrev pub after_call : Call → Content → Content
   after_call Locked s = s
   after_call (Opened len) s = at_start (first_bytes len first)
-  after_call (Made len) s = at_start (replicate len 0)
+  after_call (Made len) s = new_zeros len
   after_call (Gave at bytes) s = s
+  after_call (FailedRead at) s = s
   after_call (Wrote at bytes) s = after_write at bytes s
   after_call (FailedWrite at bytes) s = after_touch at (length bytes) s
   after_call Synced s = after_sync s
+  after_call FailedSync s = s
+  after_call Dropped s = s
+  after_call Named s = s
 
   -- each answer is the one of a file of the model that held this before
   abbrev pub AreRight : List Call → Content → Type 0

@@ -10,7 +10,7 @@ use Rattle.disk_store.specs.declared.file.FileDiskFrom.{FileDiskFrom}
 module _ {S : Type 0} {start : Ghosts S} where
   -- the calls so far, with their answers
   abbrev pub calls_on : FileDiskFrom S start → List Call
-  calls_on disk = disk.history.calls
+  calls_on disk = disk.file.history.calls
 
   -- what a file of the model holds after the calls so far
   abbrev pub file_content : FileDiskFrom S start → Content

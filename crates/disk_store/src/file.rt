@@ -4,16 +4,18 @@ ghost use Rattle.std.specs.Prelude.{◌≡◌, ◌<◌, length, All};
 ghost use Rattle.disk_store.specs.Calls.{content_after};
 
 mod calls;
+mod fault;
 mod history;
 mod opening;
 mod start;
+mod system;
 
 use crate::call_count::CallCount;
-use history::History;
+pub use fault::OpenFault;
 pub use opening::Unopened;
 pub use start::{Start, Unknown};
-use std::fs::File;
 use std::marker::PhantomData;
+use system::HeldFile;
 
 /// A regular file or a block device, as long as it was when it was opened. A lock that other
 /// programs may ignore keeps it from being opened so a second time.
@@ -23,18 +25,17 @@ use std::marker::PhantomData;
 /// `S` says, and the opening reads none of it. A file that was made held zeros.
 #[derive(Drop)]
 pub struct FileDiskFrom<S: Start> {
-    file: File,
+    file: HeldFile,
     len: u64,
     failures: u64,
     can_sync: bool,
-    history: History,
     calls: CallCount,
     /// What the file held as it was opened. Only clauses read it.
     start: PhantomData<S>,
-    ghost len_is: { length (content_after S.Start.bytes history.calls).bytes ≡ len },
-    ghost loose_len: { length (content_after S.Start.bytes history.calls).loose
-        ≡ length (content_after S.Start.bytes history.calls).bytes },
-    ghost are_bytes: { All (λ b. b < 256) (content_after S.Start.bytes history.calls).bytes },
+    ghost len_is: { length (content_after S.Start.bytes file.history.calls).bytes ≡ len },
+    ghost loose_len: { length (content_after S.Start.bytes file.history.calls).loose
+        ≡ length (content_after S.Start.bytes file.history.calls).bytes },
+    ghost are_bytes: { All (λ b. b < 256) (content_after S.Start.bytes file.history.calls).bytes },
 }
 
 /// A file whose first bytes are not spoken of.

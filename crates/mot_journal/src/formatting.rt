@@ -1,14 +1,16 @@
 //! Making a new disk.
-ghost use Rattle.std.specs.Prelude.{◌≡◌, ◌⊎◌, ◌↔◌, ◌+◌, ◌-◌, ◌<◌, ◌≤◌, ℕ, List, [], ◌∷◌, length};
-ghost use Rattle.std.specs.Prelude.{drop};
+ghost use Rattle.std.specs.Prelude.{◌≡◌, ◌⊎◌, ◌↔◌, ◌+◌, ◌-◌, ◌*◌, ◌<◌, ◌≤◌, ℕ, List, [], ◌∷◌};
+ghost use Rattle.std.specs.Prelude.{length, drop, MatchResult};
 ghost use Rattle.std.specs.Prelude.{true, false, Ok, OnOk, IfOk, IfErr, IsErrOf};
 ghost use Rattle.disk_store.specs.Disk.{Keeps, KeepsLength, HasCause, Rises, IsUnchanged, IsStill};
-ghost use Rattle.disk_store.specs.Disk.{Throughout};
+ghost use Rattle.disk_store.specs.Disk.{Throughout, Costs, IsFirm};
 ghost use Rattle.mot_base.specs.Geometry.{IsValid, area_start, length_of};
 ghost use Rattle.mot_base.specs.declared.refusal.Refusal.TheVariants.{DeviceFault, BadGeometry};
 ghost use Rattle.mot_base.specs.declared.refusal.Refusal.TheVariants.{DiskTooSmall};
 ghost use Rattle.mot_base.specs.declared.refusal.Refusal.TheVariants.{AlreadyFormatted};
+ghost use Rattle.mot_journal.specs.declared.layout.Layout.TheVariants.{Two};
 ghost use Rattle.mot_journal.specs.Geometry.{has_magic};
+ghost use Rattle.mot_journal.specs.Slot.{slot_count};
 ghost use Rattle.mot_journal.specs.Image.{stands_for, IsClean, IsInLayoutTwo, IsSecondHalfEmpty};
 ghost use Rattle.mot_journal.specs.Journal.{NoneOrNew, new_standing};
 ghost use Rattle.mot_journal.specs.Inner.Steps.{ChangesWithin, HasCauseOf};
@@ -34,6 +36,14 @@ pub fn format<D: Disk>(disk: &mut D, geometry: &Geometry) -> Result<(), Refusal>
     ensures refused { IfErr result (λ refusal. (refusal ≡ BadGeometry) ⊎ (refusal ≡ DiskTooSmall)
         ⊎ (refusal ≡ AlreadyFormatted) ⊎ ((refusal ≡ DeviceFault)
         × Rises (D.state disk.old).failures (D.state disk.new).failures)) }
+    ensures calm { MatchResult result
+        (λ done. (D.state disk.new).failures ≡ (D.state disk.old).failures)
+        (λ refusal. (refusal ≡ DeviceFault)
+        ⊎ ((D.state disk.new).failures ≡ (D.state disk.old).failures)) }
+
+    // a sync and a read of the magic, the bytes behind it, two halves, and the magic between syncs
+    ensures cost { Costs (2 * slot_count Two geometry.now + 6)
+        (D.state disk.old) (D.state disk.new) result }
     ensures untouched { (IsValid geometry.now → ⊥)
         ⊎ ((D.state disk.old).len < length_of geometry.now)
         → IsUnchanged (D.state disk.old) (D.state disk.new) }
@@ -41,6 +51,8 @@ pub fn format<D: Disk>(disk: &mut D, geometry: &Geometry) -> Result<(), Refusal>
     // Where the disk reads the magic, it is synced at most.
     ensures already { (D.state disk.new).IsHonest → has_magic (D.state disk.old).bytes ≡ true
         → IsStill (D.state disk.old) (D.state disk.new) }
+    ensures synced { (D.state disk.new).IsHonest → IsErrOf result AlreadyFormatted
+        → IsFirm (D.state disk.new) }
     ensures already_only { (D.state disk.new).IsHonest → IsErrOf result AlreadyFormatted
         → has_magic (D.state disk.old).bytes ≡ true }
     ensures not_over { (D.state disk.new).IsHonest
@@ -82,6 +94,8 @@ fn reads_magic<D: Disk>(disk: &mut D) -> Result<bool, DiskFault>
     ensures keeps { KeepsLength (D.state disk.old) (D.state disk.new) }
     ensures cause { HasCause (D.state disk.old) (D.state disk.new) result }
     ensures still { (D.state disk.new).IsHonest → IsStill (D.state disk.old) (D.state disk.new) }
+    ensures cost { Costs 2 (D.state disk.old) (D.state disk.new) result }
+    ensures synced { (D.state disk.new).IsHonest → OnOk result (IsFirm (D.state disk.new)) }
     ensures exact { (D.state disk.new).IsHonest
         → IfOk result (λ magic. magic ≡ has_magic (D.state disk.old).bytes) }
 {
@@ -97,6 +111,8 @@ fn make<D: Disk>(disk: &mut D, geometry: &Geometry) -> Result<(), DiskFault>
     requires long_enough { length_of geometry.now ≤ (D.state disk.old).len }
     ensures keeps { Keeps (D.state disk.old) (D.state disk.new) }
     ensures cause { HasCause (D.state disk.old) (D.state disk.new) result }
+    ensures cost { Costs (2 * slot_count Two geometry.now + 4)
+        (D.state disk.old) (D.state disk.new) result }
     ensures any_moment { (D.state disk.old).IsHonest
         → ((image : List ℕ) → (D.state disk.old).MayLeave image → has_magic image ≡ false)
         → Throughout (D.state disk.old) (D.state disk.new) (NoneOrNew geometry.now) }
@@ -114,6 +130,8 @@ fn fill<D: Disk>(disk: &mut D, geometry: &Geometry) -> Result<(), DiskFault>
     requires long_enough { length_of geometry.now ≤ (D.state disk.old).len }
     ensures keeps { Keeps (D.state disk.old) (D.state disk.new) }
     ensures cause { HasCauseOf (D.state disk.old) (D.state disk.new) result }
+    ensures cost { Costs (2 * slot_count Two geometry.now + 1)
+        (D.state disk.old) (D.state disk.new) result }
     ensures range { (D.state disk.old).IsHonest → ChangesWithin 8 (area_start geometry.now - 8)
         (D.state disk.old) (D.state disk.new) }
     ensures made { (D.state disk.old).IsHonest

@@ -1,8 +1,10 @@
 //! The gates of a half, as they are read.
-ghost use Rattle.std.specs.Prelude.{◌≡◌, ◌<◌, ◌≤◌, ◌==◌, slice_index, IfOk, IsErr};
-ghost use Rattle.disk_store.specs.Disk.{KeepsLength, HasCause, IsUnchanged, Rises};
+ghost use Rattle.std.specs.Prelude.{◌≡◌, ◌+◌, ◌<◌, ◌≤◌, ◌==◌, slice_index};
+ghost use Rattle.std.specs.Prelude.{IfOk, OnOk, IsErr};
+ghost use Rattle.disk_store.specs.Disk.{KeepsLength, HasCause, Costs, IsUnchanged, Rises};
 ghost use Rattle.mot_base.specs.Geometry.{length_of};
 ghost use Rattle.mot_journal.specs.Image.{are_gates_clean as gates_clean};
+ghost use Rattle.mot_journal.specs.Slot.{slot_count};
 ghost use Rattle.mot_journal.specs.Inner.Steps.{slots_in_half};
 
 use crate::encoding::OPEN;
@@ -22,6 +24,9 @@ pub fn are_gates_clean<D: Disk>(
     ensures keeps { KeepsLength (D.state disk.old) (D.state disk.new) }
     ensures later { (D.state disk.old).failures ≤ (D.state disk.new).failures }
     ensures cause { IsErr result → Rises (D.state disk.old).failures (D.state disk.new).failures }
+    ensures calm { OnOk result ((D.state disk.new).failures ≡ (D.state disk.old).failures) }
+    ensures cost { (D.state disk.new).calls
+        ≤ (D.state disk.old).calls + slot_count layout geometry.now }
     ensures unchanged { (D.state disk.new).IsHonest
         → IsUnchanged (D.state disk.old) (D.state disk.new) }
     ensures exact { (D.state disk.new).IsHonest → IfOk result (λ clean. clean
@@ -44,6 +49,7 @@ fn is_gate_open<D: Disk>(disk: &mut D, place: u64) -> Result<bool, DiskFault>
     requires { place < (D.state disk.old).len }
     ensures keeps { KeepsLength (D.state disk.old) (D.state disk.new) }
     ensures cause { HasCause (D.state disk.old) (D.state disk.new) result }
+    ensures cost { Costs 1 (D.state disk.old) (D.state disk.new) result }
     ensures unchanged { (D.state disk.new).IsHonest
         → IsUnchanged (D.state disk.old) (D.state disk.new) }
     ensures exact { (D.state disk.new).IsHonest → IfOk result (λ opened. opened

@@ -1,7 +1,7 @@
 ghost use Rattle.std.specs.Prelude.{◌≡◌, ◌≤◌, ◌<◌, ◌+◌, ◌^◌, ◌++◌, ℕ, List, [], ◌∷◌, length, true};
-ghost use Rattle.std.specs.Prelude.{Ok, OnOk, OnErr};
+ghost use Rattle.std.specs.Prelude.{◌⊎◌, Ok, OnOk, OnErr, MatchResult};
 ghost use Rattle.std.specs.Prelude.{◌↔◌, IfOk, IfErr, IsErr, IsTrue, IsFalse, All};
-ghost use Rattle.disk_store.specs.Disk.{Keeps, KeepsLength, HasCause, IsUnchanged, Rises};
+ghost use Rattle.disk_store.specs.Disk.{Keeps, KeepsLength, HasCause, Costs, IsUnchanged, Rises};
 ghost use Rattle.disk_store.specs.Disk.{Throughout};
 ghost use Rattle.mot_base.specs.Geometry.{length_of};
 ghost use Rattle.mot_journal.specs.Geometry.{is_valid, geometry_of};
@@ -11,6 +11,7 @@ ghost use Rattle.mot_journal.specs.Journal.{JournalView, with_records, IsLoadRef
 ghost use Rattle.mot_journal.specs.Journal.{HoldsRecords, FoldOf, WithoutOrWith, OnlyReadArea};
 ghost use Rattle.mot_journal.specs.Journal.{OldOrGiven, StandsWhere, in_other_half};
 ghost use Rattle.mot_journal.specs.Inner.Steps.{AreSound};
+ghost use Rattle.mot_base.specs.declared.refusal.Refusal.TheVariants.{DeviceFault};
 ghost use Rattle.mot_journal.specs.declared.layout.Layout.TheVariants.{One, Two};
 ghost use Rattle.mot_journal.specs.declared.record.Record.{Record};
 
@@ -62,6 +63,13 @@ pub struct Loaded {
 pub fn load<D: Disk>(alloc: Global, disk: &mut D) -> Result<Loaded, Refusal>
     ensures keeps { KeepsLength (D.state disk.old) (D.state disk.new) }
     ensures later { (D.state disk.old).failures ≤ (D.state disk.new).failures }
+
+    // The disk has failed where a device fault is told, and nowhere else.
+    ensures calm { MatchResult result
+        (λ loaded. (D.state disk.new).failures ≡ (D.state disk.old).failures)
+        (λ refusal. (refusal ≡ DeviceFault)
+        ⊎ ((D.state disk.new).failures ≡ (D.state disk.old).failures)) }
+    ensures cost { Costs 2 (D.state disk.old) (D.state disk.new) result }
     ensures unchanged { (D.state disk.new).IsHonest
         → IsUnchanged (D.state disk.old) (D.state disk.new) }
     ensures loaded { (D.state disk.new).IsHonest → IfOk result (λ l.
@@ -151,6 +159,9 @@ impl Journal {
         ensures later { (D.state disk.old).failures ≤ (D.state disk.new).failures }
         ensures cause { IsErr result
             → Rises (D.state disk.old).failures (D.state disk.new).failures }
+        ensures calm { OnOk result ((D.state disk.new).failures ≡ (D.state disk.old).failures) }
+        ensures cost { (D.state disk.new).calls
+            ≤ (D.state disk.old).calls + slot_count self.now.layout self.now.geometry }
         ensures unchanged { (D.state disk.new).IsHonest
             → IsUnchanged (D.state disk.old) (D.state disk.new) }
         ensures exact { (D.state disk.new).IsHonest → StandsWhere self.now (D.state disk.old).bytes
@@ -179,6 +190,7 @@ impl Journal {
 
         ensures keeps { Keeps (D.state disk.old) (D.state disk.new) }
         ensures cause { HasCause (D.state disk.old) (D.state disk.new) result }
+        ensures cost { Costs 4 (D.state disk.old) (D.state disk.new) result }
         ensures spent { OnErr result (self.new ≡ record self.old { spent = true }) }
         ensures added { OnOk result (self.new ≡ record self.old { count = self.old.count + 1 }) }
 
@@ -216,6 +228,8 @@ impl Journal {
 
         ensures keeps { Keeps (D.state disk.old) (D.state disk.new) }
         ensures cause { HasCause (D.state disk.old) (D.state disk.new) result }
+        ensures cost { Costs (slot_count self.old.layout self.old.geometry + 3)
+            (D.state disk.old) (D.state disk.new) result }
         ensures spent { OnErr result (self.new ≡ record self.old { spent = true }) }
         ensures moves { OnOk result
             (self.new ≡ in_other_half self.old self.old.layout given.now) }
@@ -246,6 +260,8 @@ impl Journal {
 
         ensures keeps { Keeps (D.state disk.old) (D.state disk.new) }
         ensures cause { HasCause (D.state disk.old) (D.state disk.new) result }
+        ensures cost { Costs (slot_count Two self.old.geometry + 3)
+            (D.state disk.old) (D.state disk.new) result }
         ensures spent { OnErr result (self.new ≡ record self.old { spent = true }) }
         ensures moves { OnOk result (self.new ≡ in_other_half self.old Two given.now) }
         ensures any_moment { (records : List Record)
@@ -278,6 +294,8 @@ impl Journal {
 
         ensures keeps { Keeps (D.state disk.old) (D.state disk.new) }
         ensures cause { HasCause (D.state disk.old) (D.state disk.new) result }
+        ensures cost { Costs (slot_count layout self.old.geometry + 3)
+            (D.state disk.old) (D.state disk.new) result }
         ensures spent { OnErr result (self.new ≡ record self.old { spent = true }) }
         ensures moves { OnOk result (self.new ≡ in_other_half self.old layout given.now) }
         ensures any_moment { (records : List Record)

@@ -126,3 +126,48 @@ fn two_records_fill_a_half_of_three_slots(rt: HostRuntime) -> Result<(), Fail> {
     assert_eq!(rt; add(&mut journal, &mut disk, 9), Err(DiskFault));
     Ok(())
 }
+
+// Why a new disk is not loaded where its kth call from then on fails.
+fn refusal_at(alloc: Global, k: u64) -> Result<Option<Refusal>, Fail>
+    requires { 1 ≤ k }
+{
+    let mut disk = new_disk(alloc, &SMALL)?;
+    disk.fail_at(k);
+    Ok(load(alloc, &mut disk).err())
+}
+
+#[test]
+fn a_read_that_fails_is_told_as_a_device_fault(rt: HostRuntime) -> Result<(), Fail> {
+    assert_eq!(rt; refusal_at(rt.alloc(), 1)?, Some(Refusal::DeviceFault));
+    assert_eq!(rt; refusal_at(rt.alloc(), 2)?, Some(Refusal::DeviceFault));
+    assert_eq!(rt; refusal_at(rt.alloc(), 3)?, None);
+    Ok(())
+}
+
+// How many records a new disk for so many objects has.
+fn records_of_new(alloc: Global, objects: u16) -> Result<usize, Fail> {
+    let mut disk = new_disk(alloc, &Geometry { objects, ..SMALL })?;
+    Ok(load(alloc, &mut disk)?.records.len())
+}
+
+// The same once each slot of its half is open.
+fn records_of_full(alloc: Global, objects: u16) -> Result<usize, Fail> {
+    let mut disk = new_disk(alloc, &Geometry { objects, ..SMALL })?;
+    let mut journal = load(alloc, &mut disk)?.journal;
+    for period in 0..=objects {
+        add(&mut journal, &mut disk, u32::from(period))?;
+    }
+    Ok(last_of(alloc, &mut disk)?.0)
+}
+
+#[test]
+fn a_half_of_each_size_is_loaded(rt: HostRuntime) -> Result<(), Fail> {
+    for objects in [1, 2, 30, 31, 62, 63, 125, 126, 127, 249, 250] {
+        assert_eq!(rt; records_of_new(rt.alloc(), objects)?, 1);
+    }
+    for objects in [1, 2, 30, 63] {
+        let slots = usize::from(objects) + 2;
+        assert_eq!(rt; records_of_full(rt.alloc(), objects)?, slots);
+    }
+    Ok(())
+}

@@ -1,6 +1,6 @@
 //! The writes of the journal, as runs of calls of the disk.
 ghost use Rattle.std.specs.Prelude.{◌≡◌, ◌+◌, ◌*◌, ◌^◌, ◌<◌, ◌≤◌, ℕ, length, OnOk};
-ghost use Rattle.disk_store.specs.Disk.{Keeps, HasCause, Throughout};
+ghost use Rattle.disk_store.specs.Disk.{Keeps, HasCause, Costs, Throughout};
 ghost use Rattle.mot_base.specs.Geometry.{half_size, half_start as start_of_half, length_of};
 ghost use Rattle.mot_journal.specs.Slot.{slot_count, slot_size};
 ghost use Rattle.mot_journal.specs.Inner.Steps.{IsGated, LeavesWritten, HasCauseOf, ChangesWithin};
@@ -18,6 +18,7 @@ pub fn write_slot<D: Disk>(disk: &mut D, place: u64, slot: &[u8]) -> Result<(), 
     requires fits { place + length slot.now ≤ (D.state disk.old).len }
     ensures keeps { Keeps (D.state disk.old) (D.state disk.new) }
     ensures cause { HasCause (D.state disk.old) (D.state disk.new) result }
+    ensures cost { Costs 4 (D.state disk.old) (D.state disk.new) result }
     ensures any_moment { (D.state disk.old).IsHonest
         → Throughout (D.state disk.old) (D.state disk.new)
         (IsGated place slot.now (D.state disk.old)) }
@@ -58,6 +59,8 @@ pub fn fill_half<D: Disk>(
     requires sound { AreSound geometry.now layout given.now }
     ensures keeps { Keeps (D.state disk.old) (D.state disk.new) }
     ensures cause { HasCauseOf (D.state disk.old) (D.state disk.new) result }
+    ensures cost { Costs (slot_count layout geometry.now)
+        (D.state disk.old) (D.state disk.new) result }
     ensures range { (D.state disk.old).IsHonest
         → ChangesWithin (start_of_half geometry.now half) (half_size geometry.now)
         (D.state disk.old) (D.state disk.new) }
@@ -78,6 +81,7 @@ pub fn publish<D: Disk>(disk: &mut D, place: u64, bytes: &[u8]) -> Result<(), Di
     requires fits { place + length bytes.now ≤ (D.state disk.old).len }
     ensures keeps { Keeps (D.state disk.old) (D.state disk.new) }
     ensures cause { HasCause (D.state disk.old) (D.state disk.new) result }
+    ensures cost { Costs 3 (D.state disk.old) (D.state disk.new) result }
     ensures any_moment { (D.state disk.old).IsHonest
         → Publishes place (length bytes.now) (D.state disk.old) (D.state disk.new) }
     ensures ok { (D.state disk.old).IsHonest → OnOk result

@@ -1,8 +1,10 @@
 mod commands;
 mod failing;
 mod halting;
+mod once;
 mod playing;
 mod receiving;
+mod sizes;
 mod stops;
 mod streams;
 

@@ -1,14 +1,14 @@
-//! The calls on a file as a disk. Each makes the system's call that it notes, on the bytes that it
-//! notes: no contract can say so, and a reader of this file has to see it.
+//! The calls on a file as a disk. Each is a call of the system, noted with its answer, but where it
+//! has to fail: at the greatest count of failures, and a sync after one that failed.
 ghost use Rattle.std.specs.Prelude.{◌≡◌, ◌⊎◌, ◌+◌, ◌≤◌, [], ◌∷◌, ◌++◌, length, slice_range};
 ghost use Rattle.std.specs.Prelude.{OnOk, OnErr, IsErr};
-ghost use Rattle.disk_store.specs.Calls.{Gave, Wrote, FailedWrite, Synced};
+ghost use Rattle.disk_store.specs.Calls.{Gave, FailedRead, Wrote, FailedWrite, Synced};
+ghost use Rattle.disk_store.specs.Calls.{FailedSync};
 ghost use Rattle.disk_store.specs.Disk.{Keeps, KeepsLength, HasCause, IsUnchanged, IsStill, Writes};
-ghost use Rattle.disk_store.specs.Disk.{IsMarked, IsFirm, LeavesAll};
+ghost use Rattle.disk_store.specs.Disk.{IsMarked, IsFirm, LeavesAll, most_failures};
 
 use super::{FileDiskFrom, Start};
 use crate::{Disk, DiskFault};
-use std::os::unix::fs::FileExt;
 
 impl<S: Start> Disk for FileDiskFrom<S> {
     ghost use Rattle.disk_store.specs.File.{file_state, calls_on, CanSync, HasFailedSync};
@@ -37,7 +37,10 @@ impl<S: Start> Disk for FileDiskFrom<S> {
 
         ensures noted { OnOk result
             (calls_on self.new ≡ calls_on self.old ++ Gave at out.new ∷ []) }
-        ensures failed { OnErr result (calls_on self.new ≡ calls_on self.old) }
+        ensures noted_failure { OnErr result
+            ((calls_on self.new ≡ calls_on self.old ++ FailedRead at ∷ [])
+            ⊎ ((calls_on self.new ≡ calls_on self.old)
+            × ((file_state self.old).failures ≡ most_failures))) }
         ensures syncs { self.new.can_sync ≡ self.old.can_sync }
         ensures all { LeavesAll (file_state self.new) }
     {
@@ -45,11 +48,10 @@ impl<S: Start> Disk for FileDiskFrom<S> {
         if self.failures == u64::MAX {
             return Err(DiskFault);
         }
-        let Ok(()) = self.file.read_exact_at(out, at) else {
+        let Ok(()) = self.file.read(at, out) else {
             self.failures += 1;
             return Err(DiskFault);
         };
-        self.history.gave(at, out);
         Ok(())
     }
 
@@ -74,7 +76,8 @@ impl<S: Start> Disk for FileDiskFrom<S> {
         // What failed is not noted as done: the old bytes are what a read is to give.
         ensures noted_failure { OnErr result
             ((calls_on self.new ≡ calls_on self.old ++ FailedWrite at bytes.now ∷ [])
-            ⊎ (calls_on self.new ≡ calls_on self.old)) }
+            ⊎ ((calls_on self.new ≡ calls_on self.old)
+            × ((file_state self.old).failures ≡ most_failures))) }
         ensures syncs { self.new.can_sync ≡ self.old.can_sync }
         ensures all { LeavesAll (file_state self.new) }
     {
@@ -82,12 +85,10 @@ impl<S: Start> Disk for FileDiskFrom<S> {
         if self.failures == u64::MAX {
             return Err(DiskFault);
         }
-        let Ok(()) = self.file.write_all_at(bytes, at) else {
+        let Ok(()) = self.file.write(at, bytes) else {
             self.failures += 1;
-            self.history.failed_write(at, bytes);
             return Err(DiskFault);
         };
-        self.history.wrote(at, bytes);
         Ok(())
     }
 
@@ -102,6 +103,10 @@ impl<S: Start> Disk for FileDiskFrom<S> {
             → OnErr result (IsUnchanged (file_state self.old) (file_state self.new)) }
 
         ensures noted { OnOk result (calls_on self.new ≡ calls_on self.old ++ Synced ∷ []) }
+        ensures noted_failure { OnErr result
+            ((calls_on self.new ≡ calls_on self.old ++ FailedSync ∷ [])
+            ⊎ ((calls_on self.new ≡ calls_on self.old) × (HasFailedSync self.old
+            ⊎ ((file_state self.old).failures ≡ most_failures)))) }
 
         // Once a sync has failed, each later one fails: the system may have dropped what it should
         // have written, and report the next sync as a success.
@@ -111,12 +116,16 @@ impl<S: Start> Disk for FileDiskFrom<S> {
         ensures all { LeavesAll (file_state self.new) }
     {
         self.calls.raise();
-        self.can_sync = self.can_sync && self.failures < u64::MAX && self.file.sync_data().is_ok();
-        if !self.can_sync {
+        if !self.can_sync || self.failures == u64::MAX {
+            self.can_sync = false;
             self.failures = self.failures.saturating_add(1);
             return Err(DiskFault);
         }
-        self.history.synced();
+        let Ok(()) = self.file.sync() else {
+            self.can_sync = false;
+            self.failures += 1;
+            return Err(DiskFault);
+        };
         Ok(())
     }
 }

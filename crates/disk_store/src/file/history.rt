@@ -1,9 +1,13 @@
 //! The calls on a file with their answers, as a list that only clauses read. It takes no memory.
-ghost use Rattle.std.specs.Prelude.{◌≡◌, ℕ, List, [], ◌∷◌, ◌++◌};
+//! Each method is given the answer of a call, notes the call with it, and hands it on: so no call
+//! is noted that the system did not answer.
+ghost use Rattle.std.specs.Prelude.{◌≡◌, ℕ, List, [], ◌∷◌, ◌++◌, IfOk, OnOk, OnErr};
 ghost use Rattle.std.specs.Borrow.{ftrue};
-ghost use Rattle.disk_store.specs.Calls.{Call, call_of, Locked, Opened, Made, Gave, Wrote};
-ghost use Rattle.disk_store.specs.Calls.{FailedWrite, Synced};
+ghost use Rattle.disk_store.specs.Calls.{Call, call_of, Locked, Opened, Made, Gave, FailedRead};
+ghost use Rattle.disk_store.specs.Calls.{Wrote, FailedWrite, Synced, FailedSync, Dropped, Named};
 
+use std::fs::TryLockError;
+use std::io;
 use std::marker::{Model, PhantomData};
 
 const LOCKED: u64 = 0;
@@ -14,11 +18,19 @@ const MADE: u64 = 2;
 
 const GAVE: u64 = 3;
 
-const WROTE: u64 = 4;
+const FAILED_READ: u64 = 4;
 
-const FAILED_WRITE: u64 = 5;
+const WROTE: u64 = 5;
 
-const SYNCED: u64 = 6;
+const FAILED_WRITE: u64 = 6;
+
+const SYNCED: u64 = 7;
+
+const FAILED_SYNC: u64 = 8;
+
+const DROPPED: u64 = 9;
+
+const NAMED: u64 = 10;
 
 /// The calls so far, the first of them first.
 #[derive(Drop)]
@@ -46,52 +58,92 @@ impl History {
         ensures { self.new.calls ≡ self.old.calls ++ call_of _numbers.now _bytes.now ∷ [] }
     {}
 
-    /// The lock was taken.
-    pub fn locked(&mut self)
-        ensures { self.new.calls ≡ self.old.calls ++ Locked ∷ [] }
+    /// The lock was asked for.
+    pub fn locked(&mut self, answer: Result<(), TryLockError>) -> Result<(), TryLockError>
+        ensures { OnOk result (self.new.calls ≡ self.old.calls ++ Locked ∷ []) }
     {
+        answer?;
         self.note(&[LOCKED, 0], &[]);
+        Ok(())
     }
 
-    /// A file that was there was this long.
-    pub fn opened(&mut self, len: u64)
-        ensures { self.new.calls ≡ self.old.calls ++ Opened len ∷ [] }
+    /// How long a file is was asked for.
+    pub fn opened(&mut self, answer: io::Result<u64>) -> io::Result<u64>
+        ensures same { result ≡ answer }
+        ensures noted { IfOk result (λ len. self.new.calls ≡ self.old.calls ++ Opened len ∷ []) }
     {
+        let len = answer?;
         self.note(&[OPENED, len], &[]);
+        Ok(len)
     }
 
-    /// A new file was made this long.
-    pub fn made(&mut self, len: u64)
-        ensures { self.new.calls ≡ self.old.calls ++ Made len ∷ [] }
+    /// So many zeros were to be written into a new file.
+    pub fn made(&mut self, len: u64, answer: io::Result<()>) -> io::Result<()>
+        ensures same { result ≡ answer }
+        ensures noted { OnOk result (self.new.calls ≡ self.old.calls ++ Made len ∷ []) }
     {
+        answer?;
         self.note(&[MADE, len], &[]);
+        Ok(())
     }
 
-    /// A read gave these bytes.
-    pub fn gave(&mut self, at: u64, bytes: &[u8])
-        ensures { self.new.calls ≡ self.old.calls ++ Gave at bytes.now ∷ [] }
+    /// These bytes came of a read, or it failed.
+    pub fn gave(&mut self, at: u64, bytes: &[u8], answer: io::Result<()>) -> io::Result<()>
+        ensures same { result ≡ answer }
+        ensures ok { OnOk result (self.new.calls ≡ self.old.calls ++ Gave at bytes.now ∷ []) }
+        ensures err { OnErr result (self.new.calls ≡ self.old.calls ++ FailedRead at ∷ []) }
     {
-        self.note(&[GAVE, at], bytes);
+        match answer {
+            Ok(()) => self.note(&[GAVE, at], bytes),
+            Err(_) => self.note(&[FAILED_READ, at], &[]),
+        }
+        answer
     }
 
-    /// These bytes were written.
-    pub fn wrote(&mut self, at: u64, bytes: &[u8])
-        ensures { self.new.calls ≡ self.old.calls ++ Wrote at bytes.now ∷ [] }
+    /// These bytes were to be written.
+    pub fn wrote(&mut self, at: u64, bytes: &[u8], answer: io::Result<()>) -> io::Result<()>
+        ensures same { result ≡ answer }
+        ensures ok { OnOk result (self.new.calls ≡ self.old.calls ++ Wrote at bytes.now ∷ []) }
+        ensures err { OnErr result
+            (self.new.calls ≡ self.old.calls ++ FailedWrite at bytes.now ∷ []) }
     {
-        self.note(&[WROTE, at], bytes);
+        match answer {
+            Ok(()) => self.note(&[WROTE, at], bytes),
+            Err(_) => self.note(&[FAILED_WRITE, at], bytes),
+        }
+        answer
     }
 
-    /// These bytes were to be written, and the call failed.
-    pub fn failed_write(&mut self, at: u64, bytes: &[u8])
-        ensures { self.new.calls ≡ self.old.calls ++ FailedWrite at bytes.now ∷ [] }
+    /// A sync was asked for.
+    pub fn synced(&mut self, answer: io::Result<()>) -> io::Result<()>
+        ensures same { result ≡ answer }
+        ensures ok { OnOk result (self.new.calls ≡ self.old.calls ++ Synced ∷ []) }
+        ensures err { OnErr result (self.new.calls ≡ self.old.calls ++ FailedSync ∷ []) }
     {
-        self.note(&[FAILED_WRITE, at], bytes);
+        match answer {
+            Ok(()) => self.note(&[SYNCED, 0], &[]),
+            Err(_) => self.note(&[FAILED_SYNC, 0], &[]),
+        }
+        answer
     }
 
-    /// A sync succeeded.
-    pub fn synced(&mut self)
-        ensures { self.new.calls ≡ self.old.calls ++ Synced ∷ [] }
+    /// The system was told to drop what it keeps of the file.
+    pub fn dropped(&mut self, answer: io::Result<()>) -> io::Result<()>
+        ensures same { result ≡ answer }
+        ensures noted { OnOk result (self.new.calls ≡ self.old.calls ++ Dropped ∷ []) }
     {
-        self.note(&[SYNCED, 0], &[]);
+        answer?;
+        self.note(&[DROPPED, 0], &[]);
+        Ok(())
+    }
+
+    /// A sync of the folder that names the file was asked for.
+    pub fn named(&mut self, answer: io::Result<()>) -> io::Result<()>
+        ensures same { result ≡ answer }
+        ensures noted { OnOk result (self.new.calls ≡ self.old.calls ++ Named ∷ []) }
+    {
+        answer?;
+        self.note(&[NAMED, 0], &[]);
+        Ok(())
     }
 }

@@ -1,6 +1,9 @@
 //! Rows of real files. Each test makes a folder of its own where it runs, and takes it away again.
 use super::*;
+use std::io;
+use std::os::fd::AsRawFd;
 use std::os::unix;
+use std::os::unix::fs::MetadataExt;
 
 // A folder of this name with nothing in it.
 fn make_empty_folder(rt: &HostRuntime, name: &str) -> Result<(), Fail> {
@@ -90,6 +93,71 @@ fn only_a_file_that_may_be_written_is_opened(rt: HostRuntime) -> Result<(), Fail
     Ok(())
 }
 
+// Why a file is not opened.
+fn reason(rt: &HostRuntime, path: &str) -> Result<String, Fail> {
+    match FileDiskFrom::open_from(rt, path, Unknown) {
+        Ok(_) => Err("it is opened".into()),
+        Err(unopened) => Ok(format!(in rt.alloc(); "{}", unopened.fault)?),
+    }
+}
+
+// The reason is told in the system's words, and a pipe is told from a file whose sync fails.
+#[test]
+fn why_a_file_is_not_opened(rt: HostRuntime) -> Result<(), Fail> {
+    make_empty_folder(&rt, "reason.test")?;
+    let missing = reason(&rt, "reason.test/missing")?;
+    assert_eq!(rt; missing.as_str(), "No such file or directory");
+    assert_eq!(rt; reason(&rt, "reason.test")?.as_str(), "Is a directory");
+    let no_disk = "neither a regular file nor a block device";
+    assert_eq!(rt; reason(&rt, "/dev/null")?.as_str(), no_disk);
+    let (reader, _writer) = io::pipe(&rt)?;
+    let pipe = format!(in rt.alloc(); "/proc/self/fd/{}", reader.as_raw_fd())?;
+    assert_eq!(rt; reason(&rt, pipe.as_str())?.as_str(), no_disk);
+    let path = "reason.test/disk";
+    let held = FileDisk::create(&rt, path, 8)?;
+    assert_eq!(rt; reason(&rt, path)?.as_str(), "in use by another program");
+    drop(held);
+    fs::remove_dir_all(&rt, "reason.test")?;
+    Ok(())
+}
+
+// How many bytes the device has for a new file of this length, and its length when it is opened.
+fn room_of_new(rt: &HostRuntime, path: &str, len: u64) -> Result<(u64, u64), Fail> {
+    drop(FileDisk::create(rt, path, len)?);
+    let room = 512 * fs::metadata(rt, path)?.blocks().min(1 << 40);
+    Ok((room, FileDisk::open(rt, path)?.len()))
+}
+
+// Each byte of a new file has its place on the device, and is zero.
+#[test]
+fn a_new_file_has_no_holes(rt: HostRuntime) -> Result<(), Fail> {
+    make_empty_folder(&rt, "new.test")?;
+    for len in [1, 16_384, 16_385, 100_000] {
+        let path = "new.test/disk";
+        let (room, found) = room_of_new(&rt, path, len)?;
+        assert_eq!(rt; found, len);
+        assert!(rt; room >= len);
+        let bytes = fs::read(&rt, path)?;
+        assert!(rt; bytes.iter().all(|&byte| byte == 0));
+        fs::remove_file(&rt, path)?;
+    }
+    fs::remove_dir_all(&rt, "new.test")?;
+    Ok(())
+}
+
+// A length that the system refuses leaves no file, and no byte is written.
+#[test]
+fn a_file_that_is_not_made_is_taken_away(rt: HostRuntime) -> Result<(), Fail> {
+    make_empty_folder(&rt, "refused.test")?;
+    let path = "refused.test/disk";
+    assert!(rt; FileDisk::create(&rt, path, u64::MAX).is_err());
+    assert!(rt; !fs::exists(&rt, path)?);
+    assert!(rt; FileDisk::create(&rt, path, 1 << 63).is_err());
+    assert!(rt; !fs::exists(&rt, path)?);
+    fs::remove_dir_all(&rt, "refused.test")?;
+    Ok(())
+}
+
 // Writes the last byte of a disk.
 fn write_end<D: Disk>(disk: &mut D, byte: u8) -> Result<(), DiskFault> {
     let len = disk.len();
@@ -111,22 +179,21 @@ fn end_of<D: Disk>(disk: &mut D) -> Result<(u64, u8), DiskFault> {
     Ok((len, byte[0]))
 }
 
-// The same of a file that is made so long, written at its very end, and opened again.
-fn end_of_new(rt: &HostRuntime, path: &str, len: u64, byte: u8) -> Result<(u64, u8), DiskFault> {
-    let mut made = FileDisk::create(rt, path, len)?;
-    write_end(&mut made, byte)?;
-    drop(made);
+// The same of a file that is written at its very end, and opened again.
+fn end_of_written(rt: &HostRuntime, path: &str, byte: u8) -> Result<(u64, u8), DiskFault> {
+    let mut disk = FileDisk::open(rt, path)?;
+    write_end(&mut disk, byte)?;
+    drop(disk);
     end_of(&mut FileDisk::open(rt, path)?)
 }
 
-// A file that is longer than a memory is made and opened at once, since none of it is read.
+// A file that is longer than a memory is opened at once, since none of it is read.
 #[test]
 fn the_last_byte_of_a_long_file_is_written(rt: HostRuntime) -> Result<(), Fail> {
     make_empty_folder(&rt, "long.test")?;
-    assert_eq!(rt;
-        end_of_new(&rt, "long.test/disk", 1 << 42, 7)?,
-        (1 << 42, 7)
-    );
+    let path = "long.test/disk";
+    fs::File::create(&rt, path)?.set_len(1 << 42)?;
+    assert_eq!(rt; end_of_written(&rt, path, 7)?, (1 << 42, 7));
     fs::remove_dir_all(&rt, "long.test")?;
     Ok(())
 }
@@ -147,5 +214,45 @@ fn a_short_read_is_a_fault(rt: HostRuntime) -> Result<(), Fail> {
     }
     drop(disk);
     fs::remove_dir_all(&rt, "short.test")?;
+    Ok(())
+}
+
+// How many names a folder has.
+fn names_in(rt: &HostRuntime, path: &str) -> Result<usize, Fail> {
+    let mut count = 0usize;
+    for entry in fs::read_dir(rt, path)? {
+        let _ = entry?;
+        count = count.wrapping_add(1);
+    }
+    Ok(count)
+}
+
+// An opening leaves nothing beside the file, and takes nobody's file away.
+#[test]
+fn nothing_is_left_beside_a_file(rt: HostRuntime) -> Result<(), Fail> {
+    make_empty_folder(&rt, "beside.test")?;
+    let path = "beside.test/disk";
+    drop(FileDisk::create(&rt, path, 8)?);
+    drop(FileDisk::open(&rt, path)?);
+    assert_eq!(rt; names_in(&rt, "beside.test")?, 1);
+    fs::write(&rt, "beside.test/disk-wal", b"mine")?;
+    drop(FileDisk::open(&rt, path)?);
+    assert_eq!(rt; fs::read(&rt, "beside.test/disk-wal")?.as_slice(), b"mine".as_slice());
+    fs::remove_dir_all(&rt, "beside.test")?;
+    Ok(())
+}
+
+// A file with two names is no disk; by a link that leads to its one name it is.
+#[test]
+fn a_file_has_one_name(rt: HostRuntime) -> Result<(), Fail> {
+    make_empty_folder(&rt, "names.test")?;
+    let path = "names.test/disk";
+    drop(FileDisk::create(&rt, path, 8)?);
+    unix::fs::symlink(&rt, "disk", "names.test/link")?;
+    drop(FileDisk::open(&rt, "names.test/link")?);
+    fs::hard_link(&rt, path, "names.test/second")?;
+    let why = reason(&rt, path)?;
+    assert_eq!(rt; why.as_str(), "the file has a second name (a hard link)");
+    fs::remove_dir_all(&rt, "names.test")?;
     Ok(())
 }

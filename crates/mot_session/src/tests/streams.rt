@@ -134,3 +134,75 @@ impl Write for CountingWriter {
         Ok(())
     }
 }
+
+/// Takes all bytes without memory, and counts the line ends among them.
+#[derive(Drop)]
+pub struct LineCounter {
+    pub lines: usize,
+}
+
+impl Write for LineCounter {
+    fn write(&mut self, buf: &[u8]) -> io::Result<usize> {
+        for byte in buf {
+            if *byte == b'\n' {
+                self.lines = self.lines.wrapping_add(1);
+            }
+        }
+        Ok(buf.len())
+    }
+
+    fn flush(&mut self) -> io::Result<()> {
+        Ok(())
+    }
+}
+
+/// Fails at the read `fails_at`, counted from 0, and else gives one line at each read up to
+/// `lines`, and then the end; it counts its reads, also those behind the end.
+#[derive(Drop)]
+pub struct OnceFailingReader<'a> {
+    pub line: &'a [u8],
+    pub lines: usize,
+    pub fails_at: usize,
+    pub reads: usize,
+}
+
+impl Read for OnceFailingReader<'_> {
+    fn read(&mut self, buf: &mut [u8]) -> io::Result<usize> {
+        let read = self.reads;
+        self.reads = self.reads.wrapping_add(1);
+        if read == self.fails_at {
+            return Err(io::Error::from(io::ErrorKind::Other));
+        }
+        if read >= self.lines {
+            return Ok(0);
+        }
+        let mut line = self.line;
+        line.read(buf)
+    }
+}
+
+/// Fails at the write `fails_at`, counted from 0, and takes all bytes at each other one.
+#[derive(Drop)]
+pub struct OnceFailingWriter {
+    pub taken: Vec<u8>,
+    pub fails_at: usize,
+    pub writes: usize,
+}
+
+impl Write for OnceFailingWriter {
+    ghost contents = { λ writer. Some writer.taken.items };
+
+    fn write(&mut self, buf: &[u8]) -> io::Result<usize> {
+        let write = self.writes;
+        self.writes = self.writes.wrapping_add(1);
+        if write == self.fails_at {
+            return Err(io::Error::from(io::ErrorKind::Other));
+        }
+        self.taken.extend_from_slice(buf)?;
+        Ok(buf.len())
+    }
+
+    fn flush(&mut self) -> io::Result<()> {
+        Ok(())
+    }
+}

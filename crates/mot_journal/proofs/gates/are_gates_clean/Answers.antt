@@ -1,4 +1,4 @@
-use Rattle.std.proofs.Common.{◌≡◌, ◌+◌, ◌<◌, ◌≤◌, ◌==◌, true, false, [], drop, get_or, sym, ◌∙◌, ap, subst, arith, if◌then◌else◌}
+use Rattle.std.proofs.Common.{◌≡◌, ◌+◌, ◌<◌, ◌≤◌, ◌==◌, true, false, [], drop, get_or, sym, ◌∙◌, ap, subst, arith, rules, if◌then◌else◌}
 use Rattle.mot_journal.specs.Slot.{is_open, slot_count}
 use Rattle.mot_journal.specs.Inner.Steps.{slots_in_half}
 use Rattle.mot_journal.proofs.Scan.{scan, scan_is_clean, gate_is, next_gate, scan_ends, next_scan, behind_scan}
@@ -51,7 +51,8 @@ loop-number-preserved g c =
         len = c.is_gate_open.ensures.keeps.len ∙ so_far.keeps.len;
         was_honest = λ h. so_far.keeps.was_honest (c.is_gate_open.ensures.keeps.was_honest h);
       };
-      later = omega (arith, so_far.later, c.is_gate_open.ensures.cause.later);
+      calm = search rules;
+      cost = omega (arith, c.is_gate_open.ensures.cost.at_most, c.in_ok-is_open.ensures.cost, so_far.cost);
       unchanged = λ honest.
           let honest1 = c.is_gate_open.ensures.keeps.was_honest honest in
           unchanged_joins old (state c.loop-number.disk) (state c.is_gate_open.new.disk) (so_far.unchanged honest1)

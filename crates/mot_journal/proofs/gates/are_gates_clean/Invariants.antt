@@ -1,4 +1,4 @@
-use Rattle.std.proofs.Common.{◌≡◌, ◌≤◌, drop, false}
+use Rattle.std.proofs.Common.{◌≡◌, ◌+◌, drop, false}
 use Rattle.disk_store.specs.Disk.{KeepsLength, IsUnchanged}
 use Rattle.mot_journal.specs.Inner.Steps.{slots_in_half}
 use Rattle.mot_journal.proofs.Scan.{scan}
@@ -11,7 +11,8 @@ invariant-loop-number g l =
     let slots = slots_in_half l.geometry l.half l.layout old.bytes in
     record {
       keeps : KeepsLength old now;
-      later : old.failures ≤ now.failures;
+      calm : now.failures ≡ old.failures;
+      cost : now.calls ≡ old.calls + l.number;
       unchanged : now.IsHonest → IsUnchanged old now;
       scanned : now.IsHonest → scan false slots ≡ scan l.is_shut (drop l.number slots);
     }

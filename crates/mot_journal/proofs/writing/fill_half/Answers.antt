@@ -46,6 +46,7 @@ loop-number-preserved g c =
         was_honest = λ h. so_far.keeps.was_honest (c.write.ensures.keeps.was_honest h);
       };
       calm = search rules;
+      cost = omega (arith, c.write.ensures.called, so_far.cost);
       range = λ honest.
           let honest1 = so_far.keeps.honest honest in
           one_more (half_start geometry half) (half_size geometry) (state c.args.disk.now) (state c.loop-number.disk)

@@ -1,4 +1,4 @@
-use Rattle.std.proofs.Common.{◌≡◌}
+use Rattle.std.proofs.Common.{◌≡◌, ◌+◌}
 use Rattle.disk_store.specs.Disk.{Keeps}
 use Rattle.mot_base.specs.Geometry.{half_start, half_size}
 use Rattle.mot_journal.specs.Inner.Steps.{HasSlots, ChangesWithin}
@@ -11,6 +11,7 @@ invariant-loop-number g l =
     record {
       keeps : Keeps old now;
       calm : now.failures ≡ old.failures;
+      cost : now.calls ≡ old.calls + l.number;
       range : old.IsHonest → ChangesWithin (half_start l.geometry l.half) (half_size l.geometry) old now;
       slots : old.IsHonest → HasSlots l.geometry l.half l.layout l.given l.number now.bytes;
     }

@@ -17,7 +17,7 @@ invariant_of-self-in_default g c =
     let whole : IsWhole s.len (file_content s) =
     record { len_is = s.len_is; loose_len = s.loose_len; are_bytes = s.are_bytes } in
     let fits : c.args.at + length bytes ≤ s.len = omega (arith, c.requires, s.len_is) in
-    let now = content_now g.S.Start.bytes _ _ (FailedWrite c.args.at bytes) c.failed_write.ensures in
+    let now = content_now g.S.Start.bytes _ _ (FailedWrite c.args.at bytes) c.in_default.ensures.err in
     let then = subst (IsWhole s.len) (sym now) (whole_touch s.len (file_content s) whole c.args.at (length bytes) fits) in
     record { len_is = then.len_is; loose_len = then.loose_len; are_bytes = then.are_bytes }
 
@@ -25,9 +25,9 @@ pub returns-in_default-clause-keeps : goal.returns-in_default-clause-keeps
 returns-in_default-clause-keeps g c =
     let call = FailedWrite c.args.at c.args.bytes.now in
     record {
-      len = ap (λ u. length u.bytes) (content_now g.S.Start.bytes _ _ call c.failed_write.ensures);
-      honest = λ honest. goes_on_right g.S.Start.bytes _ _ call c.failed_write.ensures honest tt;
-      was_honest = were_right g.S.Start.bytes _ _ call c.failed_write.ensures;
+      len = ap (λ u. length u.bytes) (content_now g.S.Start.bytes _ _ call c.in_default.ensures.err);
+      honest = λ honest. goes_on_right g.S.Start.bytes _ _ call c.in_default.ensures.err honest tt;
+      was_honest = were_right g.S.Start.bytes _ _ call c.in_default.ensures.err;
     }
 
 pub returns-in_default-clause-range : goal.returns-in_default-clause-range
@@ -35,25 +35,25 @@ returns-in_default-clause-range g c = λ honest.
     let s = c.args.self.now in
     let call = FailedWrite c.args.at c.args.bytes.now in
     touched_disk (after_call g.S.Start.bytes) no_content (calls_on s) _ (file_content s) _ _ _ _ _ _ _ refl call s.loose_len
-    c.args.at (length c.args.bytes.now) refl c.requires s.are_bytes c.failed_write.ensures
-    (content_now g.S.Start.bytes _ _ call c.failed_write.ensures)
+    c.args.at (length c.args.bytes.now) refl c.requires s.are_bytes c.in_default.ensures.err
+    (content_now g.S.Start.bytes _ _ call c.in_default.ensures.err)
 
 pub returns-in_default-clause-failed : goal.returns-in_default-clause-failed
 returns-in_default-clause-failed g c = λ honest.
     let s = c.args.self.now in
-    let now = content_now g.S.Start.bytes _ _ (FailedWrite c.args.at c.args.bytes.now) c.failed_write.ensures in
+    let now = content_now g.S.Start.bytes _ _ (FailedWrite c.args.at c.args.bytes.now) c.in_default.ensures.err in
     inl (λ k within. subst (λ u. IsLooseIn u k) (sym now)
     (loose_within (file_content s) c.args.at (length c.args.bytes.now) c.requires s.loose_len k within))
 
-pub invariant_of-self-2 : goal.invariant_of-self-2
-invariant_of-self-2 g c =
+pub invariant_of-self-in-Ok : goal.invariant_of-self-in-Ok
+invariant_of-self-in-Ok g c =
     let s = c.args.self.now in
     let bytes = c.args.bytes.now in
     let whole : IsWhole s.len (file_content s) =
     record { len_is = s.len_is; loose_len = s.loose_len; are_bytes = s.are_bytes } in
     let fits : c.args.at + length bytes ≤ s.len = omega (arith, c.requires, s.len_is) in
     let are_bytes = All-from_get_or (λ b. b < 256) bytes 0 (λ i within. omega (arith, c.type_inv.bytes i)) in
-    let now = content_now g.S.Start.bytes _ _ (Wrote c.args.at bytes) c.wrote.ensures in
+    let now = content_now g.S.Start.bytes _ _ (Wrote c.args.at bytes) c.in-Ok.ensures.ok in
     let then = subst (IsWhole s.len) (sym now) (whole_write s.len (file_content s) whole c.args.at bytes fits are_bytes) in
     record { len_is = then.len_is; loose_len = then.loose_len; are_bytes = then.are_bytes }
 
@@ -61,10 +61,10 @@ pub returns-clause-keeps : goal.returns-clause-keeps
 returns-clause-keeps g c =
     let call = Wrote c.args.at c.args.bytes.now in
     record {
-      len = ap (λ u. length u.bytes) (content_now g.S.Start.bytes _ _ call c.wrote.ensures)
+      len = ap (λ u. length u.bytes) (content_now g.S.Start.bytes _ _ call c.in-Ok.ensures.ok)
           ∙ length-after_overwrite c.args.at c.args.bytes.now (file_content c.args.self.now).bytes c.requires;
-      honest = λ honest. goes_on_right g.S.Start.bytes _ _ call c.wrote.ensures honest tt;
-      was_honest = were_right g.S.Start.bytes _ _ call c.wrote.ensures;
+      honest = λ honest. goes_on_right g.S.Start.bytes _ _ call c.in-Ok.ensures.ok honest tt;
+      was_honest = were_right g.S.Start.bytes _ _ call c.in-Ok.ensures.ok;
     }
 
 pub returns-clause-range : goal.returns-clause-range
@@ -72,20 +72,20 @@ returns-clause-range g c = λ honest.
     let s = c.args.self.now in
     let call = Wrote c.args.at c.args.bytes.now in
     wrote_disk (after_call g.S.Start.bytes) no_content (calls_on s) _ (file_content s) _ _ _ _ _ _ _ refl call s.loose_len
-    c.args.at c.args.bytes.now refl c.requires s.are_bytes c.wrote.ensures
-    (content_now g.S.Start.bytes _ _ call c.wrote.ensures)
+    c.args.at c.args.bytes.now refl c.requires s.are_bytes c.in-Ok.ensures.ok
+    (content_now g.S.Start.bytes _ _ call c.in-Ok.ensures.ok)
 
 pub returns-clause-bytes : goal.returns-clause-bytes
 returns-clause-bytes g c = λ honest.
     let s = c.args.self.now in
     let bytes = c.args.bytes.now in
-    let now = content_now g.S.Start.bytes _ _ (Wrote c.args.at bytes) c.wrote.ensures in
+    let now = content_now g.S.Start.bytes _ _ (Wrote c.args.at bytes) c.in-Ok.ensures.ok in
     ap (λ u. slice_range u.bytes c.args.at (c.args.at + length bytes)) now
     ∙ slice_after_overwrite c.args.at bytes (file_content s).bytes c.requires
 
 pub returns-clause-marked : goal.returns-clause-marked
 returns-clause-marked g c = λ honest k within.
     let s = c.args.self.now in
-    let now = content_now g.S.Start.bytes _ _ (Wrote c.args.at c.args.bytes.now) c.wrote.ensures in
+    let now = content_now g.S.Start.bytes _ _ (Wrote c.args.at c.args.bytes.now) c.in-Ok.ensures.ok in
     subst (λ u. IsLooseIn u k) (sym now)
     (loose_within (file_content s) c.args.at (length c.args.bytes.now) c.requires s.loose_len k within)

@@ -1,0 +1,177 @@
+//! The calls of the system on a file that is a disk. Each method makes the one that it notes, on
+//! the bytes that it notes, and no other that changes the file: no contract can say so, and a
+//! reader of this file has to see it.
+ghost use Rattle.std.specs.Prelude.{◌≡◌, [], ◌∷◌, ◌++◌, IfOk, OnOk, OnErr};
+ghost use Rattle.disk_store.specs.Calls.{Locked, Opened, Made, Gave, FailedRead, Wrote};
+ghost use Rattle.disk_store.specs.Calls.{FailedWrite, Synced, FailedSync, Dropped, Named};
+
+use super::OpenFault;
+use super::history::History;
+use sqlite_std_file::OpenError;
+use std::fs::{self, File, TryLockError};
+use std::io;
+use std::io::{Seek, SeekFrom};
+use std::os::unix::fs::{FileExt, FileTypeExt, MetadataExt};
+use std::path::Path;
+use std::rt::Files;
+
+/// How many zeros are written at once.
+const PIECE: u64 = 16_384;
+
+/// A file that this opening has locked, and the calls on it. Nothing else makes such a value, and
+/// no other call is made on it.
+#[derive(Drop)]
+pub struct HeldFile {
+    file: File,
+    pub history: History,
+}
+
+impl HeldFile {
+    /// Fails where another open of the file has the lock, which goes with the file's last handle.
+    pub fn lock(file: File) -> Result<HeldFile, OpenFault>
+        ensures { IfOk result (λ held. held.history.calls ≡ Locked ∷ []) }
+    {
+        let mut history = History::new();
+        match history.locked(file.try_lock()) {
+            Ok(()) => Ok(HeldFile { file, history }),
+            Err(TryLockError::WouldBlock) => Err(OpenFault::InUse),
+            Err(TryLockError::Error(error)) => Err(OpenFault::System(error)),
+        }
+    }
+
+    /// Whether it is a regular file or a block device. Nothing else has a length that stays.
+    pub fn is_disk(&self) -> io::Result<bool> {
+        let kind = self.file.metadata()?.file_type();
+        Ok(kind.is_file() || kind.is_block_device())
+    }
+
+    /// Whether it is a regular file that has another name than the one by which it was opened, or
+    /// none. What the system keeps of such a file is not dropped.
+    pub fn has_other_names(&self) -> io::Result<bool> {
+        let found = self.file.metadata()?;
+        Ok(found.is_file() && found.nlink() != 1)
+    }
+
+    /// How long it is.
+    pub fn take_length(&mut self) -> io::Result<u64>
+        ensures { IfOk result
+            (λ len. self.new.history.calls ≡ self.old.history.calls ++ Opened len ∷ []) }
+    {
+        self.history.opened(self.file.seek(SeekFrom::End(0)))
+    }
+
+    /// Writes so many zeros from its start on, so that each byte has its place on the device: in a
+    /// hole a write that failed may be lost later, though it is made again with success.
+    pub fn fill(&mut self, len: u64) -> io::Result<()>
+        ensures { OnOk result
+            (self.new.history.calls ≡ self.old.history.calls ++ Made len ∷ []) }
+    {
+        self.history.made(len, write_zeros(&self.file, len))
+    }
+
+    /// Makes last what was written, and the length.
+    pub fn sync_all(&mut self) -> io::Result<()>
+        ensures { OnOk result
+            (self.new.history.calls ≡ self.old.history.calls ++ Synced ∷ []) }
+    {
+        self.history.synced(self.file.sync_all())
+    }
+
+    /// Drops what the system keeps of the file of this path in its memory. After a sync that failed
+    /// it keeps what it could not write as if it had: so a read gives what the device has.
+    pub fn drop_cached(&mut self, rt: &HostRuntime, path: &str) -> io::Result<()>
+        ensures { OnOk result
+            (self.new.history.calls ≡ self.old.history.calls ++ Dropped ∷ []) }
+    {
+        let answer = drop_cached_pages(rt, &self.file, path);
+        self.history.dropped(answer)
+    }
+
+    /// Makes its name last: the folder of this path has it.
+    pub fn sync_folder<T: Files<File = File>>(&mut self, files: &T, path: &str) -> io::Result<()>
+        ensures { OnOk result
+            (self.new.history.calls ≡ self.old.history.calls ++ Named ∷ []) }
+    {
+        self.history.named(sync_folder_of(files, path))
+    }
+
+    /// Reads the bytes from a position on.
+    pub fn read(&mut self, at: u64, out: &mut [u8]) -> io::Result<()>
+        ensures ok { OnOk result
+            (self.new.history.calls ≡ self.old.history.calls ++ Gave at out.new ∷ []) }
+        ensures err { OnErr result
+            (self.new.history.calls ≡ self.old.history.calls ++ FailedRead at ∷ []) }
+    {
+        let answer = self.file.read_exact_at(out, at);
+        self.history.gave(at, out, answer)
+    }
+
+    /// Writes these bytes from a position on.
+    pub fn write(&mut self, at: u64, bytes: &[u8]) -> io::Result<()>
+        ensures ok { OnOk result
+            (self.new.history.calls ≡ self.old.history.calls ++ Wrote at bytes.now ∷ []) }
+        ensures err { OnErr result
+            (self.new.history.calls ≡ self.old.history.calls ++ FailedWrite at bytes.now ∷ []) }
+    {
+        self.history
+            .wrote(at, bytes, self.file.write_all_at(bytes, at))
+    }
+
+    /// Makes last what was written.
+    pub fn sync(&mut self) -> io::Result<()>
+        ensures ok { OnOk result
+            (self.new.history.calls ≡ self.old.history.calls ++ Synced ∷ []) }
+        ensures err { OnErr result
+            (self.new.history.calls ≡ self.old.history.calls ++ FailedSync ∷ []) }
+    {
+        self.history.synced(self.file.sync_data())
+    }
+}
+
+// The last piece goes first, so that a length that the system refuses is refused at once.
+fn write_zeros(file: &File, len: u64) -> io::Result<()> {
+    let zeros = [0; PIECE as usize];
+    let mut end = len;
+    while end > 0 {
+        let size = end.min(PIECE);
+        file.write_all_at(&zeros[..size as usize], end - size)?;
+        end -= size;
+    }
+    Ok(())
+}
+
+// No call of std drops a file's cached pages. The opening of the kit's SQLite does, of the file of a
+// path, once it has synced the file and its folder; nothing else is asked of what it opens. A block
+// device's pages are dropped with its last handle.
+fn drop_cached_pages(rt: &HostRuntime, file: &File, path: &str) -> io::Result<()> {
+    if file.metadata()?.file_type().is_block_device() {
+        return Ok(());
+    }
+    let real = fs::canonicalize(rt, path)?;
+    let log = format!(in rt.alloc(); "{}-wal", real.as_str())?;
+    let opened = sqlite_std_file::open(rt, real.as_str(), sqlite_std_file::Unknown);
+    remove_empty(rt, log.as_str())?;
+    match opened {
+        Ok(_) => Ok(()),
+        Err(OpenError::Io(error)) => Err(error),
+        Err(OpenError::OutOfMemory) => Err(io::ErrorKind::OutOfMemory.into()),
+        Err(OpenError::Busy) => Err(io::ErrorKind::ResourceBusy.into()),
+        Err(OpenError::HotJournal) => Err(io::ErrorKind::AlreadyExists.into()),
+    }
+}
+
+// Takes away the file that the opening has made beside, and nobody else's.
+fn remove_empty(rt: &HostRuntime, path: &str) -> io::Result<()> {
+    match fs::symlink_metadata(rt, path) {
+        Ok(found) if found.is_file() && found.len() == 0 => fs::remove_file(rt, path),
+        _ => Ok(()),
+    }
+}
+
+fn sync_folder_of<T: Files<File = File>>(files: &T, path: &str) -> io::Result<()> {
+    let folder = match Path::new(path).parent() {
+        Some(folder) if folder.as_str() != "" => File::open(files, folder)?,
+        _ => File::open(files, ".")?,
+    };
+    folder.sync_all()
+}
