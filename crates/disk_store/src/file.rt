@@ -10,6 +10,7 @@ mod start;
 
 use crate::call_count::CallCount;
 use history::History;
+pub use opening::Unopened;
 pub use start::{Start, Unknown};
 use std::fs::File;
 use std::marker::PhantomData;

@@ -16,6 +16,19 @@ use std::path::Path;
 use std::rt::Files;
 use std::{fs, io};
 
+/// A file that was not opened or made as a disk, and the value that opening it would have used up.
+#[derive(Drop)]
+pub struct Unopened<S: Start> {
+    pub start: S,
+    pub fault: DiskFault,
+}
+
+impl<S: Start> From<Unopened<S>> for DiskFault {
+    fn from(unopened: Unopened<S>) -> DiskFault {
+        unopened.fault
+    }
+}
+
 impl From<io::Error> for DiskFault {
     fn from(_error: io::Error) -> DiskFault {
         DiskFault
@@ -34,18 +47,64 @@ impl FileDiskFrom<Unknown> {
         ensures order { IfOk result (λ disk.
             calls_on disk ≡ Locked ∷ Opened (file_state disk).len ∷ []) }
     {
-        FileDiskFrom::open_from(files, path, Unknown)
+        FileDiskFrom::open_path(files, path)
+    }
+
+    /// Makes a new file of so many zeros, and opens it. It fails where the path names anything, and
+    /// then leaves that as it is; where it fails later, it takes the file away again. No zero is
+    /// written or read: that the system gives them is part of what honest means.
+    pub fn create<T: Files<File = File>>(
+        files: &T,
+        path: &str,
+        len: u64,
+    ) -> Result<FileDisk, DiskFault>
+        ensures new { IfOk result (λ disk. IsNew (replicate len 0) (file_state disk)) }
+        ensures can_sync { IfOk result CanSync }
+        ensures order { IfOk result (λ disk. calls_on disk ≡ Locked ∷ Made len ∷ []) }
+    {
+        FileDiskFrom::make_path(files, path, len)
     }
 }
 
 impl<S: Start> FileDiskFrom<S> {
     /// Opens a file that held what `S` says, as `open` does. The value of `S` is used up, so that
-    /// code over any `S` opens one file.
+    /// code over any `S` opens or makes one file; it comes back where none was opened.
     pub fn open_from<T: Files<File = File>>(
         files: &T,
         path: &str,
-        _start: S,
-    ) -> Result<FileDiskFrom<S>, DiskFault>
+        start: S,
+    ) -> Result<FileDiskFrom<S>, Unopened<S>>
+        ensures new { IfOk result (λ disk. IsNew (file_state disk).bytes (file_state disk)) }
+        ensures first_bytes { IfOk result (λ disk. (file_state disk).len ≡ length S.Start.bytes
+            → (file_state disk).bytes ≡ S.Start.bytes) }
+        ensures can_sync { IfOk result CanSync }
+        ensures order { IfOk result (λ disk.
+            calls_on disk ≡ Locked ∷ Opened (file_state disk).len ∷ []) }
+    {
+        match FileDiskFrom::open_path(files, path) {
+            Ok(disk) => Ok(disk),
+            Err(fault) => Err(Unopened { start, fault }),
+        }
+    }
+
+    /// Makes a new file as `create` does, and uses up the value of `S` as `open_from` does.
+    pub fn create_from<T: Files<File = File>>(
+        files: &T,
+        path: &str,
+        len: u64,
+        start: S,
+    ) -> Result<FileDiskFrom<S>, Unopened<S>>
+        ensures new { IfOk result (λ disk. IsNew (replicate len 0) (file_state disk)) }
+        ensures can_sync { IfOk result CanSync }
+        ensures order { IfOk result (λ disk. calls_on disk ≡ Locked ∷ Made len ∷ []) }
+    {
+        match FileDiskFrom::make_path(files, path, len) {
+            Ok(disk) => Ok(disk),
+            Err(fault) => Err(Unopened { start, fault }),
+        }
+    }
+
+    fn open_path<T: Files<File = File>>(files: &T, path: &str) -> Result<FileDiskFrom<S>, DiskFault>
         ensures new { IfOk result (λ disk. IsNew (file_state disk).bytes (file_state disk)) }
         ensures first_bytes { IfOk result (λ disk. (file_state disk).len ≡ length S.Start.bytes
             → (file_state disk).bytes ≡ S.Start.bytes) }
@@ -61,10 +120,7 @@ impl<S: Start> FileDiskFrom<S> {
         Ok(FileDiskFrom::begin(file, len, opening))
     }
 
-    /// Makes a new file of so many zeros, and opens it. It fails where the path names anything, and
-    /// then leaves that as it is; where it fails later, it takes the file away again. No zero is
-    /// written or read: that the system gives them is part of what honest means.
-    pub fn create<T: Files<File = File>>(
+    fn make_path<T: Files<File = File>>(
         files: &T,
         path: &str,
         len: u64,
