@@ -48,6 +48,7 @@ impl Disk for RamDisk {
         requires { at + length out.old ≤ (ram_state self.old).len }
         ensures keeps { Keeps (ram_state self.old) (ram_state self.new) }
         ensures cause { HasCause (ram_state self.old) (ram_state self.new) result }
+        ensures called { (ram_state self.new).calls ≡ (ram_state self.old).calls + 1 }
         ensures honest { (ram_state self.new).IsHonest }
         ensures unchanged { IsUnchanged (ram_state self.old) (ram_state self.new) }
         ensures bytes { OnOk result
