@@ -1,5 +1,5 @@
 -- A file that the program opened or made, as a disk.
-use Rattle.std.specs.Prelude.{◌≡◌, ◌⊎◌, ℕ, Bool, true, false, List, [], ◌∷◌, length, take}
+use Rattle.std.specs.Prelude.{◌≡◌, ℕ, Bool, true, false, List, [], ◌∷◌, length, take}
 use Rattle.disk_store.specs.Calls.{AreRight, Call, Locked, Made, Opened, after_call, content_after}
 use Rattle.disk_store.specs.Calls.{no_content}
 use Rattle.disk_store.specs.Content.{replayed_state}
@@ -17,10 +17,10 @@ first_calls false len = Locked ∷ Opened len ∷ []
 abbrev pub BeginWith : List Call → List Call → Type 0
 BeginWith first calls = take (length first) calls ≡ first
 
--- a file's disk after these calls, none of which failed, where the file held these bytes before
+-- a file's disk after these calls, of which none failed, where the file held these bytes before
 abbrev pub state_after : List ℕ → List Call → State
 state_after bytes calls = replayed_state (after_call bytes) no_content calls
-    (content_after bytes calls) (AreRight bytes calls no_content) 0
+    (content_after bytes calls) (AreRight bytes calls no_content) 0 0
 
 -- a file that held these bytes as it was opened
 module _ {S : Type 0} {start : Ghosts S} where
@@ -28,7 +28,7 @@ module _ {S : Type 0} {start : Ghosts S} where
   abbrev pub first_state : Bool → FileDiskFrom S start → State
   first_state is_new disk = state_after start.bytes (first_calls is_new (file_state disk).len)
 
-  -- Its calls begin with those of its making or opening, as a disk that was firm. Where one that
+  -- Its calls begin with those of its making or opening, and then it was a new disk. Where one that
   -- was opened is as long as those bytes, it held them.
   pub record HasBegun (is_new : Bool) (disk : FileDiskFrom S start) : Type 0 where
     pub order : BeginWith (first_calls is_new (file_state disk).len) (calls_on disk)
@@ -36,14 +36,21 @@ module _ {S : Type 0} {start : Ghosts S} where
     pub first_bytes : is_new ≡ false → (file_state disk).len ≡ length start.bytes
         → (first_state is_new disk).bytes ≡ start.bytes
 
-  -- it was there, and this holds between what it was as it was opened and what it is
-  pub record Opened (P : State → State → Type 0) (disk : FileDiskFrom S start) : Type 0 where
+  -- the file was opened, and this holds between what the disk was then and what it is
+  pub record SinceOpened (P : State → State → Type 0) (disk : FileDiskFrom S start) : Type 0 where
     pub begun : HasBegun false disk
     pub since : P (first_state false disk) (file_state disk)
 
-  -- the same of one that was made
-  pub record MadeOf (len : ℕ) (P : State → State → Type 0) (disk : FileDiskFrom S start) :
+  -- it was made, so long, and this holds between what the disk was then and what it is
+  pub record SinceMade (len : ℕ) (P : State → State → Type 0) (disk : FileDiskFrom S start) :
       Type 0 where
     pub begun : HasBegun true disk
     pub len_is : (file_state disk).len ≡ len
     pub since : P (first_state true disk) (file_state disk)
+
+  -- nothing was called on it but its making or opening
+  pub record IsFirst (is_new : Bool) (disk : FileDiskFrom S start) : Type 0 where
+    pub order : calls_on disk ≡ first_calls is_new (file_state disk).len
+    pub new : IsNew (file_state disk).bytes (file_state disk)
+    pub first_bytes : is_new ≡ false → (file_state disk).len ≡ length start.bytes
+        → (file_state disk).bytes ≡ start.bytes

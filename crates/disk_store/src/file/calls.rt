@@ -100,6 +100,7 @@ impl<S: Start> Disk for FileDiskFrom<S> {
             → OnErr result (IsUnchanged (file_state self.old) (file_state self.new)) }
 
         ensures noted { OnOk result (calls_on self.new ≡ calls_on self.old ++ Synced ∷ []) }
+        ensures unnoted { OnErr result (calls_on self.new ≡ calls_on self.old) }
 
         // Once a sync has failed, each later one fails: the system may have dropped what it should
         // have written, and report the next sync as a success.
