@@ -1,5 +1,6 @@
 pub mod Asked
 pub mod Ends
+pub mod Handed
 pub mod Opened
 pub mod Rows
 pub mod Values

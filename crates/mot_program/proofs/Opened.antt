@@ -1,14 +1,15 @@
 -- What is known of a disk that was just opened.
 use Rattle.std.proofs.Common.{◌≡◌, ℕ, List, Result, Ok, refl, sym, ◌∙◌, subst}
 use Rattle.std.specs.Prelude.{IsFalse}
-use Rattle.disk_store.specs.Disk.{State, IsHonestDisk, IsStill, KeepsLength, Throughout}
-use Rattle.disk_store.proofs.Laws.{only_bytes, begins, stays}
+use Rattle.disk_store.specs.Disk.{State, IsHonestDisk, IsStill, Keeps, KeepsLength, Throughout}
+use Rattle.disk_store.proofs.Laws.{only_bytes, begins, joins, stays}
 use Rattle.mot_base.specs.Geometry.{packet_room}
 use Rattle.mot_base.specs.declared.refusal.Refusal.{Refusal}
 use Rattle.mot_journal.specs.Image.{Standing, stands_for}
 use Rattle.mot_journal.specs.Journal.{HasRecords}
 use Rattle.mot_player.specs.Place.{opened_place}
 use Rattle.mot_player.specs.Turn.{turn_of_carousel}
+use Rattle.mot_program.specs.Report.{IsUnderMigration}
 use Rattle.mot_program.specs.Serving.{OpensTo}
 use Rattle.mot_repository.specs.Repository.{RepositoryView, Agrees, IsOf, Holds}
 use Rattle.mot_repository.specs.Opening.{IsOpened}
@@ -77,3 +78,29 @@ opens_to state start server new P sound opens opened still going at_start keeps 
       (λ on. (led.1.holds on).each),
       led.2,
     )
+
+-- what was opened of a disk that stands for something holds it, and migrates it
+module _ {D : Type 0} (state : D → State) (start : D) (server new : ServerView D)
+    (sound : (disk : D) → (state disk).IsHonest → IsHonestDisk (state disk))
+    (opens : KeepsLength (state start) (state server.disk))
+    (opened : (state server.disk).IsHonest
+    → IsOpened (state start) (state server.disk) server.view)
+    (still : (state server.disk).IsHonest → IsStill (state start) (state server.disk))
+    (going : IsFalse server.view.halted) (keeps : Keeps (state server.disk) (state new.disk)) where
+  pub migrates_held : (s : Standing) → (state new.disk).IsHonest → AllAre s (state start)
+      → Holds server.view s (state server.disk)
+  migrates_held s honest each =
+      let was = keeps.was_honest honest in
+      opened_holds (state start) (state server.disk) server.view s
+      (sound start (opens.was_honest was)) each (opened was) was (sound server.disk was)
+      (still was) going
+
+  pub migrates_under : ((s : Standing) → Holds server.view s (state server.disk)
+      → Throughout (state server.disk) (state new.disk) (IsOf s))
+      → IsUnderMigration (state start) (state new.disk)
+  migrates_under any s honest each =
+      let was = keeps.was_honest honest in
+      joins (state start) (state server.disk) (state new.disk) (IsOf s) (IsOf s)
+      (opened_throughout (state start) (state server.disk) (IsOf s)
+      (sound start (opens.was_honest was)) each (still was))
+      (any s (migrates_held s honest each)) (λ image is. is)

@@ -1,22 +1,56 @@
 -- A file that the program opened or made, as a disk.
-use Rattle.std.specs.Prelude.{◌≡◌, ℕ, [], ◌∷◌, length, replicate}
-use Rattle.disk_store.specs.Calls.{Locked, Opened, Made}
-use Rattle.disk_store.specs.Disk.{IsNew}
+use Rattle.std.specs.Prelude.{◌≡◌, ℕ, Bool, true, false, List, [], ◌∷◌, length, take}
+use Rattle.disk_store.specs.Calls.{AreRight, Call, Locked, Made, Opened, after_call, content_after}
+use Rattle.disk_store.specs.Calls.{no_content}
+use Rattle.disk_store.specs.Content.{replayed_state}
+use Rattle.disk_store.specs.Disk.{IsNew, State}
 use Rattle.disk_store.specs.File.{calls_on, file_state}
 use Rattle.disk_store.specs.declared.file.start.Start.{Ghosts}
 use Rattle.disk_store.specs.declared.file.FileDiskFrom.{FileDiskFrom}
 
+-- the calls that make a disk of a new file, and of one that was there
+abbrev pub first_calls : Bool → ℕ → List Call
+first_calls true len = Locked ∷ Made len ∷ []
+first_calls false len = Locked ∷ Opened len ∷ []
+
+-- these calls begin with those
+abbrev pub BeginWith : List Call → List Call → Type 0
+BeginWith first calls = take (length first) calls ≡ first
+
+-- a file's disk after these calls, of which none failed, where the file held these bytes before
+abbrev pub state_after : List ℕ → List Call → State
+state_after bytes calls = replayed_state (after_call bytes) no_content calls
+    (content_after bytes calls) (AreRight bytes calls no_content) 0 0
+
 -- a file that held these bytes as it was opened
 module _ {S : Type 0} {start : Ghosts S} where
-  -- It was opened, and nothing of it was read yet but its length. Where it is as long as those
-  -- bytes, it holds them.
-  pub record IsOpenedFile (disk : FileDiskFrom S start) : Type 0 where
-    pub order : calls_on disk ≡ Locked ∷ Opened (file_state disk).len ∷ []
-    pub new : IsNew (file_state disk).bytes (file_state disk)
-    pub first_bytes : (file_state disk).len ≡ length start.bytes
-        → (file_state disk).bytes ≡ start.bytes
+  -- what its disk was as it was made, or opened
+  abbrev pub first_state : Bool → FileDiskFrom S start → State
+  first_state is_new disk = state_after start.bytes (first_calls is_new (file_state disk).len)
 
-  -- it was made, of so many zeros
-  pub record IsMadeFile (len : ℕ) (disk : FileDiskFrom S start) : Type 0 where
-    pub order : calls_on disk ≡ Locked ∷ Made len ∷ []
-    pub new : IsNew (replicate len 0) (file_state disk)
+  -- Its calls begin with those of its making or opening, and then it was a new disk. Where one that
+  -- was opened is as long as those bytes, it held them.
+  pub record HasBegun (is_new : Bool) (disk : FileDiskFrom S start) : Type 0 where
+    pub order : BeginWith (first_calls is_new (file_state disk).len) (calls_on disk)
+    pub new : IsNew (first_state is_new disk).bytes (first_state is_new disk)
+    pub first_bytes : is_new ≡ false → (file_state disk).len ≡ length start.bytes
+        → (first_state is_new disk).bytes ≡ start.bytes
+
+  -- the file was opened, and this holds between what the disk was then and what it is
+  pub record SinceOpened (P : State → State → Type 0) (disk : FileDiskFrom S start) : Type 0 where
+    pub begun : HasBegun false disk
+    pub since : P (first_state false disk) (file_state disk)
+
+  -- it was made, so long, and this holds between what the disk was then and what it is
+  pub record SinceMade (len : ℕ) (P : State → State → Type 0) (disk : FileDiskFrom S start) :
+      Type 0 where
+    pub begun : HasBegun true disk
+    pub len_is : (file_state disk).len ≡ len
+    pub since : P (first_state true disk) (file_state disk)
+
+  -- nothing was called on it but its making or opening
+  pub record IsFirst (is_new : Bool) (disk : FileDiskFrom S start) : Type 0 where
+    pub order : calls_on disk ≡ first_calls is_new (file_state disk).len
+    pub new : IsNew (file_state disk).bytes (file_state disk)
+    pub first_bytes : is_new ≡ false → (file_state disk).len ≡ length start.bytes
+        → (file_state disk).bytes ≡ start.bytes

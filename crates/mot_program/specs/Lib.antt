@@ -1,3 +1,4 @@
+pub mod Begun
 pub mod Command
 pub mod Files
 pub mod Options

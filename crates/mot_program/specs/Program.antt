@@ -1,127 +1,138 @@
 -- What the program does.
-use Rattle.std.specs.Prelude.{ℕ, ◌⊎◌, Bool, List, Option}
-use Rattle.std.specs.Io.KnownBytes.{Appends}
-use Rattle.disk_store.specs.Disk.{IsStill}
-use Rattle.disk_store.specs.File.{file_state}
-use Rattle.disk_store.specs.Memory.{memory_state}
+use Rattle.std.specs.Prelude.{ℕ, ◌≡◌, ◌⊎◌, List, Option}
+use Rattle.std.specs.Io.KnownBytes.{Keeps}
+use Rattle.clap.specs.Words.{Text}
+use Rattle.disk_store.specs.Ram.{ram_state}
+use Rattle.disk_store.specs.Disk.{State}
 use Rattle.disk_store.specs.declared.file.start.Start.{Ghosts}
 use Rattle.disk_store.specs.declared.file.FileDiskFrom.{FileDiskFrom}
-use Rattle.disk_store.specs.declared.memory.MemoryDisk.{MemoryDisk}
+use Rattle.disk_store.specs.declared.memory.ram.RamDisk.{RamDisk}
 use Rattle.mot_base.specs.Geometry.{IsValid, length_of}
 use Rattle.mot_base.specs.declared.geometry.Geometry.{Geometry}
+use Rattle.mot_base.specs.declared.refusal.Refusal.{Refusal}
+use Rattle.mot_base.specs.declared.refusal.Refusal.TheVariants.{BadGeometry, DeviceFault}
+use Rattle.mot_base.specs.declared.refusal.Refusal.TheVariants.{OutOfMemory, WriteFault}
 use Rattle.mot_journal.specs.Journal.{new_standing}
+use Rattle.mot_program.specs.declared.ended.UsedDisk.{UsedDisk}
+use Rattle.mot_program.specs.declared.ended.UsedDisk.TheVariants.{InMemory, OfFile, Untouched}
 use Rattle.mot_program.specs.declared.task.Task.{Task}
 use Rattle.mot_program.specs.declared.task.Task.TheVariants.{Memory, Format, Serve, Check, Migrate}
-use Rattle.mot_program.specs.Files.{IsMadeFile, IsOpenedFile}
-use Rattle.mot_program.specs.Report.{IsFormatted, IsMigrated, IsReport, IsUnderFormat}
-use Rattle.mot_program.specs.Report.{IsUnderMigration, formatted_line, migrated_line}
-use Rattle.mot_program.specs.Serving.{IsUnserved, ServesInPart, ServesInput}
+use Rattle.mot_program.specs.Files.{SinceMade, SinceOpened}
+use Rattle.mot_program.specs.Report.{Checks, Formats, Migrates, StopsChecking, StopsFormatting}
+use Rattle.mot_program.specs.Report.{StopsMigrating}
+use Rattle.mot_program.specs.Serving.{ServesInput, StopsServing}
+use Rattle.mot_program.specs.Task.{AskFor, AskForHelp}
 use Rattle.mot_repository.specs.Repository.{IsOf}
 
--- In all of these what the reader had left was unread and is left, and the writer's known bytes
--- were old and are new.
-
 -- a disk in memory that is new, of this geometry
-pub record IsNewInMemory (geometry : Geometry) (disk : MemoryDisk) : Type 0 where
+pub record IsNewInMemory (geometry : Geometry) (disk : RamDisk) : Type 0 where
   pub valid : IsValid geometry
-  pub formatted : (image : List ℕ) → (memory_state disk).MayLeave image
+  pub formatted : (image : List ℕ) → (ram_state disk).MayLeave image
       → IsOf (new_standing geometry) image
 
--- the input was served whole, from a new disk in memory
-pub record ServesFromMemory (geometry : Geometry) (unread left old new : Option (List ℕ)) :
+-- a disk was made in memory, and this holds between what it was then and what it is
+pub record SinceNew (geometry : Geometry) (P : State → State → Type 0) (disk : RamDisk) :
     Type 0 where
-  pub before : MemoryDisk
-  pub after : MemoryDisk
-  pub begun : IsNewInMemory geometry before
-  pub served : ServesInput (memory_state before) (memory_state after) unread left old new
+  pub first : RamDisk
+  pub begun : IsNewInMemory geometry first
+  pub since : P (ram_state first) (ram_state disk)
 
--- a fault ended that
-pub record ServesFromMemoryInPart (geometry : Geometry) (unread left old new : Option (List ℕ)) :
-    Type 0 where
-  pub before : MemoryDisk
-  pub after : MemoryDisk
-  pub begun : IsNewInMemory geometry before
-  pub served : ServesInPart (memory_state before) (memory_state after) unread left old new
+-- The disk that is handed out is of a file that held the bytes of `start` as it was opened. These
+-- are words of contracts alone: what holds for each `start` holds for what the file really held.
+module _ {S : Type 0} {start : Ghosts S} where
+  -- no file was opened or made
+  abbrev pub IsUntouched : UsedDisk S start → Type 0
+  IsUntouched (Untouched value) = Unit {0}
+  IsUntouched (InMemory disk value) = ⊥
+  IsUntouched (OfFile disk) = ⊥
 
--- On a disk of a file that held the bytes of `start` as it was opened. These are words of contracts
--- alone: what holds for each `start` holds for what the file really held.
-module _ {S : Type 0} (start : Ghosts S) where
-  -- a file was opened or made, it is formatted now, and that was told
-  pub record Formats (geometry : Geometry) (old new : Option (List ℕ)) : Type 0 where
-    pub before : FileDiskFrom S start
-    pub after : FileDiskFrom S start
-    pub valid : IsValid geometry
-    pub begun : IsOpenedFile before ⊎ IsMadeFile (length_of geometry) before
-    pub formatted : IsFormatted geometry (file_state before) (file_state after)
-    pub printed : Appends old new (formatted_line geometry)
+  -- a disk in memory was made, with this fact
+  abbrev pub OnMemory : (RamDisk → Type 0) → UsedDisk S start → Type 0
+  OnMemory P (Untouched value) = ⊥
+  OnMemory P (InMemory disk value) = P disk
+  OnMemory P (OfFile disk) = ⊥
 
-  -- a file was opened or made, and formatting it came to nothing or could not be told
-  pub record FormatsInPart (geometry : Geometry) : Type 0 where
-    pub before : FileDiskFrom S start
-    pub after : FileDiskFrom S start
-    pub valid : IsValid geometry
-    pub begun : IsOpenedFile before ⊎ IsMadeFile (length_of geometry) before
-    pub under : IsUnderFormat geometry (file_state before) (file_state after)
+  -- a file was opened or made, and its disk has this fact
+  abbrev pub OnFile : (FileDiskFrom S start → Type 0) → UsedDisk S start → Type 0
+  OnFile P (Untouched value) = ⊥
+  OnFile P (InMemory disk value) = ⊥
+  OnFile P (OfFile disk) = P disk
 
-  -- a file's disk was opened, and the input served whole
-  pub record Serves (unread left old new : Option (List ℕ)) : Type 0 where
-    pub before : FileDiskFrom S start
-    pub after : FileDiskFrom S start
-    pub begun : IsOpenedFile before
-    pub served : ServesInput (file_state before) (file_state after) unread left old new
+  -- a file was opened, and this holds between what its disk was then and what it is
+  abbrev pub OnOpened : (State → State → Type 0) → UsedDisk S start → Type 0
+  OnOpened P = OnFile (SinceOpened P)
 
-  -- a file was opened, and a refusal or a fault ended serving
-  pub record StopsServing (unread left old new : Option (List ℕ)) : Type 0 where
-    pub before : FileDiskFrom S start
-    pub after : FileDiskFrom S start
-    pub begun : IsOpenedFile before
-    pub stopped : IsUnserved (file_state before) (file_state after) unread left
-        ⊎ ServesInPart (file_state before) (file_state after) unread left old new
+  -- the same of a file that was opened or else made, so long
+  abbrev pub OnOpenedOrMade : Geometry → (State → State → Type 0) → UsedDisk S start → Type 0
+  OnOpenedOrMade g P = OnFile (λ disk.
+      IsValid g × (SinceOpened P disk ⊎ SinceMade (length_of g) P disk))
 
-  -- a file was opened, and was only synced
-  pub record OnlyOpens (before after : FileDiskFrom S start) : Type 0 where
-    pub begun : IsOpenedFile before
-    pub still : (file_state after).IsHonest → IsStill (file_state before) (file_state after)
-
-  -- what a file's disk stands for was told
-  pub record Checks (old new : Option (List ℕ)) : Type 0 where
-    pub before : FileDiskFrom S start
-    pub after : FileDiskFrom S start
-    pub opens : OnlyOpens before after
-    pub text : List ℕ
-    pub told : (file_state after).IsHonest → IsReport (file_state before).bytes text
-    pub printed : Appends old new text
-
-  -- a file's disk was brought to layout 2, and that was told
-  pub record Migrates (old new : Option (List ℕ)) : Type 0 where
-    pub before : FileDiskFrom S start
-    pub after : FileDiskFrom S start
-    pub begun : IsOpenedFile before
-    pub done : Bool
-    pub migrated : IsMigrated (file_state before) (file_state after) done
-    pub printed : Appends old new (migrated_line done)
-
-  -- a file was opened, and migrating it came to nothing or could not be told
-  pub record MigratesInPart : Type 0 where
-    pub before : FileDiskFrom S start
-    pub after : FileDiskFrom S start
-    pub begun : IsOpenedFile before
-    pub under : IsUnderMigration (file_state before) (file_state after)
+  -- In these what the reader had left was unread and is left, and the writer's known bytes were old
+  -- and are new.
 
   -- the task was done
-  abbrev pub Does : Task → (unread left old new : Option (List ℕ)) → Type 0
-  Does (Memory geometry) unread left old new = ServesFromMemory geometry unread left old new
-  Does (Format path geometry) unread left old new = Formats geometry old new
-  Does (Serve path) unread left old new = Serves unread left old new
-  Does (Check path) unread left old new = Checks old new
-  Does (Migrate path) unread left old new = Migrates old new
+  abbrev pub Does : Task → UsedDisk S start → (unread left old new : Option (List ℕ)) → Type 0
+  Does (Memory g) used unread left old new =
+      OnMemory (SinceNew g (ServesInput unread left old new)) used
+  Does (Format path g) used unread left old new =
+      OnOpenedOrMade g (Formats g old new) used
+  Does (Serve path) used unread left old new = OnOpened (ServesInput unread left old new) used
+  Does (Check path) used unread left old new = OnOpened (Checks old new) used
+  Does (Migrate path) used unread left old new = OnOpened (Migrates old new) used
 
-  -- the task was begun, and a refusal ended it
-  abbrev pub DoesInPart : Task → (unread left old new : Option (List ℕ)) → Type 0
-  DoesInPart (Memory geometry) unread left old new =
-      ServesFromMemoryInPart geometry unread left old new
-  DoesInPart (Format path geometry) unread left old new = FormatsInPart geometry
-  DoesInPart (Serve path) unread left old new = StopsServing unread left old new
-  DoesInPart (Check path) unread left old new =
-      (before : FileDiskFrom S start) × (after : FileDiskFrom S start) × OnlyOpens before after
-  DoesInPart (Migrate path) unread left old new = MigratesInPart
+  -- the task was begun, and this refusal ended it
+  abbrev pub DoesInPart : Task → Refusal → UsedDisk S start
+      → (unread left old new : Option (List ℕ)) → Type 0
+  DoesInPart (Memory g) r used unread left old new =
+      OnMemory (SinceNew g (StopsServing r unread left old new)) used
+  DoesInPart (Format path g) r used unread left old new =
+      OnOpenedOrMade g (StopsFormatting g r old new) used
+  DoesInPart (Serve path) r used unread left old new =
+      OnOpened (StopsServing r unread left old new) used
+  DoesInPart (Check path) r used unread left old new = OnOpened (StopsChecking r old new) used
+  DoesInPart (Migrate path) r used unread left old new = OnOpened (StopsMigrating r old new) used
+
+  -- no file was opened or made, and nothing was printed
+  pub record IsUntold (used : UsedDisk S start) (old new : Option (List ℕ)) : Type 0 where
+    pub untouched : IsUntouched used
+    pub silent : Keeps old new
+
+-- why no disk is made of a file: it can't be opened or made, or the geometry is out of its ranges
+abbrev pub IsMakingRefusal : Geometry → Refusal → Type 0
+IsMakingRefusal g r = (r ≡ DeviceFault) ⊎ ((r ≡ BadGeometry) × (IsValid g → ⊥))
+
+-- why a task is not begun
+abbrev pub IsBeginningRefusal : Task → Refusal → Type 0
+IsBeginningRefusal (Memory g) r = (r ≡ OutOfMemory) ⊎ IsMakingRefusal g r
+IsBeginningRefusal (Format path g) r = IsMakingRefusal g r
+IsBeginningRefusal (Serve path) r = r ≡ DeviceFault
+IsBeginningRefusal (Check path) r = r ≡ DeviceFault
+IsBeginningRefusal (Migrate path) r = r ≡ DeviceFault
+
+-- what a run came to, on this disk
+module _ {S : Type 0} {start : Ghosts S} (words : List Text) where
+  -- the task that the words ask for was done; or they ask for help, and nothing was read
+  abbrev pub Succeeds : UsedDisk S start → (unread left old new : Option (List ℕ)) → Type 0
+  Succeeds used unread left old new =
+      ((task : Task) × AskFor words task × Does task used unread left old new)
+      ⊎ (AskForHelp words × IsUntouched used × Keeps unread left)
+
+  -- why it was refused
+  pub data IsRefused (refusal : Refusal) (used : UsedDisk S start)
+      (unread left old new : Option (List ℕ)) : Type 0 where
+    -- before it could be told what the words ask for
+    no_memory : refusal ≡ OutOfMemory → IsUntold used old new → Keeps unread left
+        → IsRefused refusal used unread left old new
+    -- a number of theirs fits no geometry
+    no_task : refusal ≡ BadGeometry → IsUntold used old new → Keeps unread left
+        → IsRefused refusal used unread left old new
+    -- the help could not be printed
+    no_help : AskForHelp words → refusal ≡ WriteFault → IsUntouched used → Keeps unread left
+        → IsRefused refusal used unread left old new
+    -- the task was not begun
+    unbegun : (task : Task) → AskFor words task → IsBeginningRefusal task refusal
+        → IsUntold used old new → Keeps unread left
+        → IsRefused refusal used unread left old new
+    -- the task was begun
+    begun : (task : Task) → AskFor words task → DoesInPart task refusal used unread left old new
+        → IsRefused refusal used unread left old new

@@ -1,17 +1,25 @@
 -- What `format`, `check` and `migrate` print, and what they leave of a disk.
-use Rattle.std.specs.Prelude.{◌≡◌, ◌↔◌, ℕ, Bool, true, false, List, [], ◌∷◌, ◌++◌, Ok, IsTrue}
-use Rattle.std.specs.Prelude.{codes}
+use Rattle.std.specs.Prelude.{◌≡◌, ◌≢◌, ◌↔◌, ◌<◌, ℕ, Bool, true, false, List, [], ◌∷◌, ◌++◌, Option}
+use Rattle.std.specs.Prelude.{Ok, IsTrue, codes}
 use Rattle.std.specs.Fmt.{decimal}
-use Rattle.disk_store.specs.Disk.{State, KeepsLength, IsStill, Throughout}
+use Rattle.std.specs.Io.KnownBytes.{Appends, Keeps}
+use Rattle.disk_store.specs.Disk.{State, KeepsLength, IsStill, IsUnchanged, Rises, Throughout}
 use Rattle.mot_base.specs.Geometry.{length_of}
 use Rattle.mot_base.specs.declared.geometry.Geometry.{Geometry}
+use Rattle.mot_base.specs.declared.refusal.Refusal.{Refusal}
+use Rattle.mot_base.specs.declared.refusal.Refusal.TheVariants.{AlreadyFormatted, DeviceFault}
+use Rattle.mot_base.specs.declared.refusal.Refusal.TheVariants.{DiskTooSmall, WriteFault}
 use Rattle.mot_journal.specs.Geometry.{has_magic}
 use Rattle.mot_journal.specs.Image.{DiskRecords, Standing, records_of, stands_for, IsClean}
 use Rattle.mot_journal.specs.Journal.{NoneOrNew, new_standing}
 use Rattle.mot_journal.specs.declared.layout.Layout.{Layout}
 use Rattle.mot_journal.specs.declared.layout.Layout.TheVariants.{One, Two}
 use Rattle.mot_lines.specs.Listing.{listing_text}
+use Rattle.mot_repository.specs.Opening.{IsOpeningRefusal}
 use Rattle.mot_repository.specs.Repository.{IsOf}
+
+-- In all of these the disk was in a state start and is in a state now, and the writer's known bytes
+-- were old and are new.
 
 -- ---- `format`
 
@@ -20,18 +28,40 @@ formatted_line g = codes "formatted " ++ decimal (length_of g) ++ 10 ∷ []
 
 -- what a disk is that `format` has touched: a crash at any moment leaves no disk of this format, or
 -- the new one; a disk that was formatted before keeps its bytes
-pub record IsUnderFormat (g : Geometry) (old new : State) : Type 0 where
-  pub keeps : KeepsLength old new
-  pub already : new.IsHonest → has_magic old.bytes ≡ true → IsStill old new
-  pub any_moment : new.IsHonest
-      → ((image : List ℕ) → old.MayLeave image → has_magic image ≡ false)
-      → Throughout old new (NoneOrNew g)
+pub record IsUnderFormat (g : Geometry) (start now : State) : Type 0 where
+  pub keeps : KeepsLength start now
+  pub already : now.IsHonest → has_magic start.bytes ≡ true → IsStill start now
+  pub any_moment : now.IsHonest
+      → ((image : List ℕ) → start.MayLeave image → has_magic image ≡ false)
+      → Throughout start now (NoneOrNew g)
 
 -- it is the new disk of this geometry, and was none before
-pub record IsFormatted (g : Geometry) (old new : State) : Type 0 where
-  pub under : IsUnderFormat g old new
-  pub was_none : new.IsHonest → has_magic old.bytes ≡ false
-  pub is_new : new.IsHonest → (image : List ℕ) → new.MayLeave image → IsOf (new_standing g) image
+pub record IsFormatted (g : Geometry) (start now : State) : Type 0 where
+  pub under : IsUnderFormat g start now
+  pub was_none : now.IsHonest → has_magic start.bytes ≡ false
+  pub is_new : now.IsHonest → (image : List ℕ) → now.MayLeave image → IsOf (new_standing g) image
+
+-- it is, and that was printed
+pub record Formats (g : Geometry) (old new : Option (List ℕ)) (start now : State) : Type 0 where
+  pub formatted : IsFormatted g start now
+  pub printed : Appends old new (formatted_line g)
+
+-- why formatting it is refused
+pub data IsFormatRefusal (g : Geometry) (refusal : Refusal) (start now : State) : Type 0 where
+  too_small : refusal ≡ DiskTooSmall → start.len < length_of g → IsUnchanged start now
+      → IsFormatRefusal g refusal start now
+  already : refusal ≡ AlreadyFormatted → (now.IsHonest → has_magic start.bytes ≡ true)
+      → IsFormatRefusal g refusal start now
+  device : refusal ≡ DeviceFault → Rises start.failures now.failures
+      → IsFormatRefusal g refusal start now
+
+-- it could not be formatted, and nothing was printed; or that it is could not be printed
+pub data StopsFormatting (g : Geometry) (refusal : Refusal) (old new : Option (List ℕ))
+    (start now : State) : Type 0 where
+  refused : IsFormatRefusal g refusal start now → IsUnderFormat g start now → Keeps old new
+      → StopsFormatting g refusal old new start now
+  unprinted : refusal ≡ WriteFault → IsFormatted g start now
+      → StopsFormatting g refusal old new start now
 
 -- ---- `check`
 
@@ -54,6 +84,26 @@ pub record IsReport (bytes text : List ℕ) : Type 0 where
   pub shown : text
       ≡ listing_text standing.carousel ++ clean_line clean ++ layout_line journal.layout
 
+-- the disk was only synced, and what it stands for was printed
+pub record Checks (old new : Option (List ℕ)) (start now : State) : Type 0 where
+  pub still : now.IsHonest → IsStill start now
+  pub text : List ℕ
+  pub told : now.IsHonest → IsReport start.bytes text
+  pub printed : Appends old new text
+
+-- it could not be read, and nothing was printed; or what it stands for could not be printed
+pub data IsUnreported (refusal : Refusal) (old new : Option (List ℕ)) (start now : State) :
+    Type 0 where
+  unread : IsOpeningRefusal start now refusal → Keeps old new
+      → IsUnreported refusal old new start now
+  unprinted : refusal ≡ WriteFault → IsUnreported refusal old new start now
+
+-- the disk was only synced all the same
+pub record StopsChecking (refusal : Refusal) (old new : Option (List ℕ)) (start now : State) :
+    Type 0 where
+  pub still : now.IsHonest → IsStill start now
+  pub unreported : IsUnreported refusal old new start now
+
 -- ---- `migrate`
 
 abbrev pub migrated_line : Bool → List ℕ
@@ -62,9 +112,9 @@ migrated_line false = codes "already layout 2" ++ 10 ∷ []
 
 -- a crash at any moment of a migration leaves what the disk stood for, clean
 abbrev pub IsUnderMigration : State → State → Type 0
-IsUnderMigration old new =
-    (s : Standing) → new.IsHonest → ((image : List ℕ) → old.MayLeave image → IsOf s image)
-    → Throughout old new (IsOf s)
+IsUnderMigration start now =
+    (s : Standing) → now.IsHonest → ((image : List ℕ) → start.MayLeave image → IsOf s image)
+    → Throughout start now (IsOf s)
 
 -- the image is of layout 2
 abbrev pub IsOfLayoutTwo : List ℕ → Type 0
@@ -78,9 +128,24 @@ IsRewritten done bytes =
     × (IsTrue done ↔ (journal.layout ≡ One))
 
 -- it stands for what it stood for, in layout 2
-pub record IsMigrated (old new : State) (done : Bool) : Type 0 where
-  pub under : IsUnderMigration old new
-  pub rewritten : new.IsHonest → IsRewritten done old.bytes
-  pub is_two : (s : Standing) → new.IsHonest
-      → ((image : List ℕ) → old.MayLeave image → IsOf s image)
-      → (image : List ℕ) → new.MayLeave image → IsOf s image × IsOfLayoutTwo image
+pub record IsMigrated (done : Bool) (start now : State) : Type 0 where
+  pub under : IsUnderMigration start now
+  pub rewritten : now.IsHonest → IsRewritten done start.bytes
+  pub is_two : (s : Standing) → now.IsHonest
+      → ((image : List ℕ) → start.MayLeave image → IsOf s image)
+      → (image : List ℕ) → now.MayLeave image → IsOf s image × IsOfLayoutTwo image
+
+-- it does, and that was printed
+pub record Migrates (old new : Option (List ℕ)) (start now : State) : Type 0 where
+  pub done : Bool
+  pub migrated : IsMigrated done start now
+  pub printed : Appends old new (migrated_line done)
+
+-- it could not be brought to layout 2, and nothing was printed; or that it is could not be printed
+pub data StopsMigrating (refusal : Refusal) (old new : Option (List ℕ)) (start now : State) :
+    Type 0 where
+  refused : IsOpeningRefusal start now refusal → IsUnderMigration start now
+      → (refusal ≢ DeviceFault → now.IsHonest → IsStill start now) → Keeps old new
+      → StopsMigrating refusal old new start now
+  unprinted : refusal ≡ WriteFault → (done : Bool) → IsMigrated done start now
+      → StopsMigrating refusal old new start now

@@ -2,9 +2,12 @@
 use Rattle.std.specs.Prelude.{ℕ, ◌≡◌, ◌⊎◌, List, Option, IsFalse}
 use Rattle.std.specs.Io.KnownBytes.{IsAtEnd, Keeps}
 use Rattle.disk_store.specs.Disk.{State, IsStill}
+use Rattle.mot_base.specs.declared.refusal.Refusal.{Refusal}
+use Rattle.mot_base.specs.declared.refusal.Refusal.TheVariants.{OutOfMemory, ReadFault, WriteFault}
 use Rattle.mot_journal.specs.Image.{Standing}
 use Rattle.mot_lines.specs.Lines.{whole_lines, lines_of}
 use Rattle.mot_program.specs.declared.serving.TheConstants.{READS}
+use Rattle.mot_repository.specs.Opening.{IsOpeningRefusal}
 use Rattle.mot_repository.specs.Repository.{IsOf}
 use Rattle.mot_session.specs.Served.{TakesInput, Served, Stopped}
 use Rattle.mot_session.specs.State.{ServerState, HasJustOpened}
@@ -32,27 +35,47 @@ OpensTo start now P =
 -- and is left, and the writer's known bytes were old and are new.
 
 -- the input was served whole
-pub record ServesInput (start now : State) (unread left old new : Option (List ℕ)) : Type 0 where
+pub record ServesInput (unread left old new : Option (List ℕ)) (start now : State) : Type 0 where
   pub input : List ℕ
   pub taken : TakesInput READS unread left input
   pub at_end : IsAtEnd left
   pub served : OpensTo start now (λ before after.
       Served now before after (lines_of input) old new)
 
--- a fault ended serving: each line whose end was read was answered, or the reply to one was broken
--- off
-pub record ServesInPart (start now : State) (unread left old new : Option (List ℕ)) : Type 0 where
+-- a fault of the reader ended serving: each line whose end was read was answered
+pub record ServesWholeLines (unread left old new : Option (List ℕ)) (start now : State) :
+    Type 0 where
   pub input : List ℕ
   pub taken : TakesInput READS unread left input
-  pub ended : OpensTo start now (λ before after.
+  pub served : OpensTo start now (λ before after.
       Served now before after (whole_lines input) old new)
-      ⊎ ((count : ℕ)
-      × (OpensTo start now (λ before after.
+
+-- a fault of the writer ended it: the first lines were answered, and the reply to the one after
+-- them was broken off
+pub record BreaksOff (unread left old new : Option (List ℕ)) (start now : State) : Type 0 where
+  pub input : List ℕ
+  pub taken : TakesInput READS unread left input
+  pub count : ℕ
+  pub stopped :
+      OpensTo start now (λ before after.
       Stopped now before after (whole_lines input) count old new)
       ⊎ (IsAtEnd left × OpensTo start now (λ before after.
-      Stopped now before after (lines_of input) count old new))))
+      Stopped now before after (lines_of input) count old new))
 
--- nothing was read, and the disk was only synced
-pub record IsUnserved (start now : State) (unread left : Option (List ℕ)) : Type 0 where
+-- nothing was read or printed, and the disk was only synced
+pub record IsUnserved (unread left old new : Option (List ℕ)) (start now : State) : Type 0 where
   pub kept : Keeps unread left
+  pub silent : Keeps old new
   pub still : now.IsHonest → IsStill start now
+
+-- why serving ended before the input did, and what it had come to
+pub data StopsServing (refusal : Refusal) (unread left old new : Option (List ℕ))
+    (start now : State) : Type 0 where
+  unopened : IsOpeningRefusal start now refusal → IsUnserved unread left old new start now
+      → StopsServing refusal unread left old new start now
+  no_memory : refusal ≡ OutOfMemory → IsUnserved unread left old new start now
+      → StopsServing refusal unread left old new start now
+  unread : refusal ≡ ReadFault → ServesWholeLines unread left old new start now
+      → StopsServing refusal unread left old new start now
+  unwritten : refusal ≡ WriteFault → BreaksOff unread left old new start now
+      → StopsServing refusal unread left old new start now

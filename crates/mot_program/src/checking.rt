@@ -1,15 +1,16 @@
 //! What `check` does.
-ghost use Rattle.std.specs.Prelude.{◌≡◌, ◌↔◌, ◌++◌, ℕ, Bool, List, IsTrue, Ok, OnErr, OnOk, ◌⊎◌};
+ghost use Rattle.std.specs.Prelude.{◌≡◌, ◌↔◌, ◌≤◌, ◌++◌, ℕ, Bool, List, IsTrue, IsFalse, Ok, OnOk};
+ghost use Rattle.std.specs.Prelude.{IfErr, ◌⊎◌};
 ghost use Rattle.std.specs.Io.KnownBytes.{Appends, Keeps};
-ghost use Rattle.disk_store.specs.declared.file.FileDiskFrom.{FileDiskFrom};
-ghost use Rattle.disk_store.specs.Disk.{KeepsLength, IsStill, IsUnchanged};
+ghost use Rattle.disk_store.specs.Disk.{KeepsLength, IsUnchanged, Rises};
+ghost use Rattle.mot_base.specs.declared.refusal.Refusal.TheVariants.{DeviceFault, WriteFault};
 ghost use Rattle.mot_journal.specs.Image.{Standing, stands_for, IsClean};
 ghost use Rattle.mot_journal.specs.Journal.{StandsWhere};
 ghost use Rattle.mot_lines.specs.Inner.Listing.{listing_text_beside};
-ghost use Rattle.mot_program.specs.Program.{Checks, OnlyOpens};
-ghost use Rattle.mot_program.specs.Report.{IsReport, clean_line, layout_line};
+ghost use Rattle.mot_program.specs.Program.{IsUntold, OnOpened};
+ghost use Rattle.mot_program.specs.Report.{Checks, StopsChecking, clean_line, layout_line};
 
-use crate::ended::Ended;
+use crate::ended::{Ended, Finished};
 use crate::file::open_file;
 use crate::printing::{write_bytes, write_carousel, write_last};
 use disk_store::{Disk, Start};
@@ -28,25 +29,27 @@ pub(crate) fn check_file<T: Files<File = File>, S: Start, W: Write>(
     path: &str,
     start: S,
     writer: &mut W,
-) -> Result<(), Refusal>
-    ensures done { OnOk result (Checks S.Start (W.contents writer.old) (W.contents writer.new)) }
-    ensures part { OnErr result (Keeps (W.contents writer.old) (W.contents writer.new)
-        ⊎ ((before : FileDiskFrom S S.Start) × (after : FileDiskFrom S S.Start)
-        × OnlyOpens S.Start before after)) }
+) -> Finished<S>
+    ensures done { OnOk result.result (OnOpened
+        (Checks (W.contents writer.old) (W.contents writer.new)) result.disk) }
+    ensures refused { IfErr result.result (λ r. ((r ≡ DeviceFault)
+        × IsUntold result.disk (W.contents writer.old) (W.contents writer.new))
+        ⊎ OnOpened (StopsChecking r (W.contents writer.old) (W.contents writer.new)) result.disk) }
 {
-    let disk = open_file(rt, path, start)?;
-    check_disk(alloc, disk, writer).result
+    match open_file(rt, path, start) {
+        Ok(disk) => Finished::of_file(check_disk(alloc, disk, writer)),
+        Err(unopened) => Finished::unopened(unopened),
+    }
 }
 
 /// Prints what a disk keeps, whether it is clean, and its layout. Nothing on it changes, but that
 /// it is synced.
 pub(crate) fn check_disk<D: Disk, W: Write>(alloc: Global, disk: D, writer: &mut W) -> Ended<D>
     ensures keeps { KeepsLength (D.state disk) (D.state result.disk) }
-    ensures still { (D.state result.disk).IsHonest
-        → IsStill (D.state disk) (D.state result.disk) }
-    ensures told { OnOk result.result ((text : List ℕ)
-        × Appends (W.contents writer.old) (W.contents writer.new) text
-        × ((D.state result.disk).IsHonest → IsReport (D.state disk).bytes text)) }
+    ensures done { OnOk result.result (Checks (W.contents writer.old) (W.contents writer.new)
+        (D.state disk) (D.state result.disk)) }
+    ensures refused { IfErr result.result (λ r. StopsChecking r
+        (W.contents writer.old) (W.contents writer.new) (D.state disk) (D.state result.disk)) }
 {
     let mut server = match Server::open(alloc, disk) {
         Ok(server) => server,
@@ -61,7 +64,9 @@ pub(crate) fn check_disk<D: Disk, W: Write>(alloc: Global, disk: D, writer: &mut
 
 /// Prints what an open server keeps, whether its disk is clean, and its layout.
 fn report<D: Disk, W: Write>(server: &mut Server<D>, writer: &mut W) -> Result<(), Refusal>
+    requires { IsFalse server.old.view.halted }
     ensures keeps { KeepsLength (D.state server.old.disk) (D.state server.new.disk) }
+    ensures later { (D.state server.old.disk).failures ≤ (D.state server.new.disk).failures }
     ensures unchanged { (D.state server.new.disk).IsHonest
         → IsUnchanged (D.state server.old.disk) (D.state server.new.disk) }
     ensures told { OnOk result ((clean : Bool)
@@ -72,6 +77,10 @@ fn report<D: Disk, W: Write>(server: &mut Server<D>, writer: &mut W) -> Result<(
         → stands_for (D.state server.old.disk).bytes ≡ Ok s
         → StandsWhere server.old.view.journal (D.state server.old.disk).bytes
         → IsTrue clean ↔ IsClean (D.state server.old.disk).bytes)) }
+    ensures silent { IfErr result (λ r. (r ≡ WriteFault)
+        ⊎ ((r ≡ DeviceFault)
+        × Rises (D.state server.old.disk).failures (D.state server.new.disk).failures
+        × Keeps (W.contents writer.old) (W.contents writer.new))) }
 {
     let is_clean = server.is_clean()?;
     write_carousel(writer, server.carousel())?;

@@ -1,8 +1,87 @@
-ghost use Rattle.std.specs.Prelude.{◌≡◌, Err};
+//! How a task ends, and the disk that it leaves.
+ghost use Rattle.std.specs.Prelude.{◌≡◌, Err, None};
+ghost use Rattle.mot_program.specs.declared.ended.UsedDisk.TheVariants.{OfFile, Untouched};
 
-use disk_store::Disk;
+use crate::begun::{Beginning, BegunFile};
+use disk_store::{Disk, FileDiskFrom, RamDisk, Start, Unopened};
 use mot_base::Refusal;
 use mot_server::Refused;
+
+/// The disk that a task worked on. The value of `S` is used up where a file is opened or made, so
+/// that whoever still has it has opened none.
+#[derive(Drop)]
+pub enum UsedDisk<S: Start> {
+    /// No file was opened or made.
+    Untouched(S),
+    /// A disk in memory was served, and no file opened or made.
+    InMemory(RamDisk, S),
+    /// The disk of the file that was opened or made.
+    OfFile(FileDiskFrom<S>),
+}
+
+/// How a run of the program ended.
+#[derive(Drop)]
+pub struct Exit<S: Start> {
+    /// The exit status: 0 where the task was done or help was asked for, 1 after a refusal that is
+    /// no line's reply, 2 after a fault of the words.
+    pub status: u8,
+    /// The refusal of status 1.
+    pub refusal: Option<Refusal>,
+    /// The disk that was worked on, as it stands.
+    pub disk: UsedDisk<S>,
+}
+
+impl<S: Start> Exit<S> {
+    /// The end of a run that no refusal ended.
+    pub(crate) fn unrefused(status: u8, disk: UsedDisk<S>) -> Self
+        ensures { result ≡ record { status = status; refusal = None; disk = disk } }
+    {
+        Exit {
+            status,
+            refusal: None,
+            disk,
+        }
+    }
+}
+
+/// What a task came to, and the disk after it.
+#[derive(Drop)]
+pub(crate) struct Finished<S: Start> {
+    pub(crate) result: Result<(), Refusal>,
+    pub(crate) disk: UsedDisk<S>,
+}
+
+impl<S: Start> Finished<S> {
+    /// Refused before a file was opened or made.
+    pub(crate) fn untouched(refusal: Refusal, start: S) -> Self
+        ensures { result ≡ record { result = Err refusal; disk = Untouched start } }
+    {
+        Finished {
+            result: Err(refusal),
+            disk: UsedDisk::Untouched(start),
+        }
+    }
+
+    /// A file was not opened or made.
+    pub(crate) fn unopened(unopened: Unopened<S>) -> Self
+        ensures { result ≡ record {
+          result = Err Refusal.DeviceFault;
+          disk = Untouched unopened.start;
+        } }
+    {
+        Finished::untouched(Refusal::DeviceFault, unopened.start)
+    }
+
+    /// On the disk of a file.
+    pub(crate) fn of_file<K: Beginning>(ended: Ended<BegunFile<S, K>>) -> Self
+        ensures { result ≡ record { result = ended.result; disk = OfFile ended.disk.disk } }
+    {
+        Finished {
+            result: ended.result,
+            disk: UsedDisk::OfFile(ended.disk.disk),
+        }
+    }
+}
 
 /// What a command on a disk came to, and the disk after it.
 #[derive(Drop)]

@@ -1,40 +1,42 @@
 //! The file of a disk.
-ghost use Rattle.std.specs.Prelude.{◌⊎◌, IfOk};
-ghost use Rattle.mot_program.specs.Files.{IsMadeFile, IsOpenedFile};
+ghost use Rattle.std.specs.Prelude.{◌≡◌, true, false, IfOk};
+ghost use Rattle.disk_store.specs.File.{file_state};
+ghost use Rattle.mot_program.specs.Files.{IsFirst};
 
-use disk_store::{DiskFault, FileDiskFrom, Start};
-use mot_base::Refusal;
+use crate::begun::{BegunFile, WasMade, WasThere};
+use disk_store::{FileDiskFrom, Start, Unopened};
 use std::fs::File;
+use std::marker::PhantomData;
 use std::rt::Files;
 
-/// Opens the file at the path as a disk; `DeviceFault` where that can't be done.
+/// Opens the file at the path as a disk.
 pub(crate) fn open_file<T: Files<File = File>, S: Start>(
     rt: &T,
     path: &str,
     start: S,
-) -> Result<FileDiskFrom<S>, Refusal>
-    ensures { IfOk result IsOpenedFile }
+) -> Result<BegunFile<S, WasThere>, Unopened<S>>
+    ensures first { IfOk result (λ file. IsFirst false file.disk) }
 {
-    match FileDiskFrom::open_from(rt, path, start) {
-        Ok(disk) => Ok(disk),
-        Err(DiskFault) => Err(Refusal::DeviceFault),
-    }
+    let disk = FileDiskFrom::open_from(rt, path, start)?;
+    Ok(BegunFile {
+        disk,
+        beginning: PhantomData,
+    })
 }
 
-/// The same; where it can't be opened, a new file of so many zeros is made.
-pub(crate) fn open_or_make<T: Files<File = File>, S: Start>(
+/// Makes a new file of so many zeros, as a disk.
+pub(crate) fn make_file<T: Files<File = File>, S: Start>(
     rt: &T,
     path: &str,
-    start: S,
     len: u64,
-) -> Result<FileDiskFrom<S>, Refusal>
-    ensures { IfOk result (λ disk. IsOpenedFile disk ⊎ IsMadeFile len disk) }
+    start: S,
+) -> Result<BegunFile<S, WasMade>, Unopened<S>>
+    ensures first { IfOk result (λ file. IsFirst true file.disk) }
+    ensures len { IfOk result (λ file. (file_state file.disk).len ≡ len) }
 {
-    if let Ok(disk) = FileDiskFrom::open_from(rt, path, start) {
-        return Ok(disk);
-    }
-    match FileDiskFrom::create(rt, path, len) {
-        Ok(disk) => Ok(disk),
-        Err(DiskFault) => Err(Refusal::DeviceFault),
-    }
+    let disk = FileDiskFrom::create_from(rt, path, len, start)?;
+    Ok(BegunFile {
+        disk,
+        beginning: PhantomData,
+    })
 }

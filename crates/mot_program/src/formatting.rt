@@ -1,36 +1,82 @@
 //! What `format` does.
-ghost use Rattle.std.specs.Prelude.{OnErr, OnOk, ◌⊎◌};
-ghost use Rattle.std.specs.Io.KnownBytes.{Appends, Keeps};
-ghost use Rattle.mot_program.specs.Program.{Formats, FormatsInPart};
-ghost use Rattle.mot_program.specs.Report.{IsFormatted, IsUnderFormat, formatted_line};
+ghost use Rattle.std.specs.Prelude.{◌≡◌, OnOk, IfErr, ◌⊎◌};
+ghost use Rattle.std.specs.Io.KnownBytes.{Appends};
+ghost use Rattle.disk_store.specs.Disk.{KeepsLength};
+ghost use Rattle.mot_base.specs.Geometry.{IsValid};
+ghost use Rattle.mot_base.specs.declared.refusal.Refusal.TheVariants.{WriteFault};
+ghost use Rattle.mot_program.specs.Program.{IsMakingRefusal, IsUntold, OnOpenedOrMade};
+ghost use Rattle.mot_program.specs.Report.{Formats, StopsFormatting, formatted_line};
 
-use crate::file::open_or_make;
+use crate::ended::{Ended, Finished};
+use crate::file::{make_file, open_file};
 use disk_store::{Disk, Start};
 use mot_base::{Geometry, Refusal};
 use mot_journal::format;
+use std::fs;
 use std::fs::File;
 use std::io::Write;
 use std::rt::Files;
 
-/// Makes a disk of the file at the path, which is made where it can't be opened. No file is touched
-/// for a geometry out of range.
+/// Makes a disk of the file at the path, which is made where it can't be opened, and taken away
+/// again where the disk could not be made of it. No file is touched for a geometry out of range.
 pub(crate) fn format_file<T: Files<File = File>, S: Start, W: Write>(
     rt: &T,
     path: &str,
     start: S,
-    geometry: &Geometry,
+    geometry: Geometry,
     writer: &mut W,
-) -> Result<(), Refusal>
-    ensures done { OnOk result (Formats S.Start geometry.now
-        (W.contents writer.old) (W.contents writer.new)) }
-    ensures part { OnErr result (Keeps (W.contents writer.old) (W.contents writer.new)
-        ⊎ FormatsInPart S.Start geometry.now) }
+) -> Finished<S>
+    ensures done { OnOk result.result (OnOpenedOrMade geometry (Formats geometry
+        (W.contents writer.old) (W.contents writer.new)) result.disk) }
+    ensures refused { IfErr result.result (λ r.
+        (IsMakingRefusal geometry r
+        × IsUntold result.disk (W.contents writer.old) (W.contents writer.new))
+        ⊎ OnOpenedOrMade geometry (StopsFormatting geometry r
+        (W.contents writer.old) (W.contents writer.new)) result.disk) }
 {
     if !geometry.is_valid() {
-        return Err(Refusal::BadGeometry);
+        return Finished::untouched(Refusal::BadGeometry, start);
     }
-    let mut disk = open_or_make(rt, path, start, geometry.length())?;
-    format_disk(&mut disk, geometry, writer)
+    match open_file(rt, path, start) {
+        Ok(mut disk) => {
+            let result = format_disk(&mut disk, &geometry, writer);
+            Finished::of_file(Ended { disk, result })
+        }
+        Err(unopened) => format_new_file(rt, path, unopened.start, geometry, writer),
+    }
+}
+
+/// Makes a new file, and a disk of it. Where it can't be formatted, it is taken away again.
+fn format_new_file<T: Files<File = File>, S: Start, W: Write>(
+    rt: &T,
+    path: &str,
+    start: S,
+    geometry: Geometry,
+    writer: &mut W,
+) -> Finished<S>
+    requires { IsValid geometry }
+    ensures done { OnOk result.result (OnOpenedOrMade geometry (Formats geometry
+        (W.contents writer.old) (W.contents writer.new)) result.disk) }
+    ensures refused { IfErr result.result (λ r.
+        (IsMakingRefusal geometry r
+        × IsUntold result.disk (W.contents writer.old) (W.contents writer.new))
+        ⊎ OnOpenedOrMade geometry (StopsFormatting geometry r
+        (W.contents writer.old) (W.contents writer.new)) result.disk) }
+{
+    let mut disk = match make_file(rt, path, geometry.length(), start) {
+        Ok(disk) => disk,
+        Err(unopened) => return Finished::unopened(unopened),
+    };
+    let result = format_disk(&mut disk, &geometry, writer);
+    if is_unformatted(&result) {
+        let _ = fs::remove_file(rt, path);
+    }
+    Finished::of_file(Ended { disk, result })
+}
+
+/// Whether formatting failed, and not only the telling of it.
+fn is_unformatted(made: &Result<(), Refusal>) -> bool {
+    matches!(made, Err(refusal) if *refusal != Refusal::WriteFault)
 }
 
 /// Makes a disk, and prints how many bytes it has.
@@ -39,12 +85,25 @@ pub(crate) fn format_disk<D: Disk, W: Write>(
     geometry: &Geometry,
     writer: &mut W,
 ) -> Result<(), Refusal>
-    ensures part { IsUnderFormat geometry.now (D.state disk.old) (D.state disk.new) }
-    ensures done { OnOk result (IsFormatted geometry.now (D.state disk.old) (D.state disk.new)) }
-    ensures printed { OnOk result (Appends (W.contents writer.old) (W.contents writer.new)
-        (formatted_line geometry.now)) }
+    requires { IsValid geometry.now }
+    ensures keeps { KeepsLength (D.state disk.old) (D.state disk.new) }
+    ensures done { OnOk result (Formats geometry.now (W.contents writer.old)
+        (W.contents writer.new) (D.state disk.old) (D.state disk.new)) }
+    ensures refused { IfErr result (λ r. StopsFormatting geometry.now r (W.contents writer.old)
+        (W.contents writer.new) (D.state disk.old) (D.state disk.new)) }
 {
-    format(disk, geometry)?;
+    match format(disk, geometry) {
+        Ok(()) => write_formatted(writer, geometry),
+        Err(refusal) => Err(refusal),
+    }
+}
+
+/// Prints how many bytes a disk has that was formatted.
+fn write_formatted<W: Write>(writer: &mut W, geometry: &Geometry) -> Result<(), Refusal>
+    ensures written { OnOk result (Appends (W.contents writer.old) (W.contents writer.new)
+        (formatted_line geometry.now)) }
+    ensures fault { IfErr result (λ refusal. refusal ≡ WriteFault) }
+{
     let length = geometry.length();
     if writeln!(writer, "formatted {length}").is_err() || writer.flush().is_err() {
         return Err(Refusal::WriteFault);

@@ -1,6 +1,7 @@
 //! The program's command line, and the program itself over any streams and files.
 #![tactic(auto)]
 
+mod begun;
 mod checking;
 mod command;
 mod ended;
@@ -13,6 +14,7 @@ mod program;
 mod serving;
 mod task;
 
+pub use ended::{Exit, UsedDisk};
 pub use options::Options;
-pub use program::run_program;
+pub use program::{run_on, run_program};
 pub use task::Task;

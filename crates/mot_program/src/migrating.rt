@@ -1,15 +1,14 @@
 //! What `migrate` does.
-ghost use Rattle.std.specs.Prelude.{◌≡◌, Bool, OnErr, OnOk, ◌⊎◌};
-ghost use Rattle.std.specs.Io.KnownBytes.{Appends, Keeps};
+ghost use Rattle.std.specs.Prelude.{◌≡◌, OnOk, IfErr, ◌⊎◌};
 ghost use Rattle.disk_store.specs.Disk.{KeepsLength};
-ghost use Rattle.mot_program.specs.Program.{Migrates, MigratesInPart};
-ghost use Rattle.mot_program.specs.Report.{IsMigrated, IsUnderMigration, migrated_line};
+ghost use Rattle.mot_base.specs.declared.refusal.Refusal.TheVariants.{DeviceFault};
+ghost use Rattle.mot_program.specs.Program.{IsUntold, OnOpened};
+ghost use Rattle.mot_program.specs.Report.{Migrates, StopsMigrating, migrated_line};
 
-use crate::ended::Ended;
+use crate::ended::{Ended, Finished};
 use crate::file::open_file;
 use crate::printing::write_last;
 use disk_store::{Disk, Start};
-use mot_base::Refusal;
 use mot_server::Server;
 use std::alloc::Global;
 use std::fs::File;
@@ -24,35 +23,41 @@ pub(crate) fn migrate_file<T: Files<File = File>, S: Start, W: Write>(
     path: &str,
     start: S,
     writer: &mut W,
-) -> Result<(), Refusal>
-    ensures done { OnOk result (Migrates S.Start (W.contents writer.old) (W.contents writer.new)) }
-    ensures part { OnErr result (Keeps (W.contents writer.old) (W.contents writer.new)
-        ⊎ MigratesInPart S.Start) }
+) -> Finished<S>
+    ensures done { OnOk result.result (OnOpened
+        (Migrates (W.contents writer.old) (W.contents writer.new)) result.disk) }
+    ensures refused { IfErr result.result (λ r. ((r ≡ DeviceFault)
+        × IsUntold result.disk (W.contents writer.old) (W.contents writer.new))
+        ⊎ OnOpened (StopsMigrating r (W.contents writer.old) (W.contents writer.new)) result.disk) }
 {
-    let disk = open_file(rt, path, start)?;
-    migrate_disk(alloc, disk, writer).result
+    match open_file(rt, path, start) {
+        Ok(disk) => Finished::of_file(migrate_disk(alloc, disk, writer)),
+        Err(unopened) => Finished::unopened(unopened),
+    }
 }
 
 /// Rewrites a disk of layout 1 into layout 2, and prints whether there was anything to do. What it
 /// stands for stays.
 pub(crate) fn migrate_disk<D: Disk, W: Write>(alloc: Global, disk: D, writer: &mut W) -> Ended<D>
     ensures keeps { KeepsLength (D.state disk) (D.state result.disk) }
-    ensures under { IsUnderMigration (D.state disk) (D.state result.disk) }
-    ensures done { OnOk result.result ((done : Bool)
-        × IsMigrated (D.state disk) (D.state result.disk) done
-        × Appends (W.contents writer.old) (W.contents writer.new) (migrated_line done)) }
+    ensures done { OnOk result.result (Migrates (W.contents writer.old) (W.contents writer.new)
+        (D.state disk) (D.state result.disk)) }
+    ensures refused { IfErr result.result (λ r. StopsMigrating r
+        (W.contents writer.old) (W.contents writer.new) (D.state disk) (D.state result.disk)) }
 {
     let mut server = match Server::open(alloc, disk) {
         Ok(server) => server,
         Err(refused) => return Ended::unopened(refused),
     };
-    let result = match server.migrate(alloc) {
-        Ok(is_rewritten) => write_last(writer, migrated_text(is_rewritten)),
-        Err(refusal) => Err(refusal),
-    };
-    Ended {
-        disk: server.into_disk(),
-        result,
+    match server.migrate(alloc) {
+        Ok(is_rewritten) => Ended {
+            result: write_last(writer, migrated_text(is_rewritten)),
+            disk: server.into_disk(),
+        },
+        Err(refusal) => Ended {
+            result: Err(refusal),
+            disk: server.into_disk(),
+        },
     }
 }
 

@@ -1,11 +1,15 @@
-ghost use Rattle.std.specs.Prelude.{◌≡◌, ◌⊎◌, map, OnErr, OnOk};
+ghost use Rattle.std.specs.Prelude.{◌≡◌, ◌⊎◌, map, IfErr, OnOk, Some};
 ghost use Rattle.std.specs.Io.KnownBytes.{Keeps};
-ghost use Rattle.mot_program.specs.Program.{Does, DoesInPart};
-ghost use Rattle.mot_program.specs.Task.{AskFor, AskForHelp, AreWrong};
+ghost use Rattle.mot_base.specs.declared.refusal.Refusal.{Refusal};
+ghost use Rattle.mot_program.specs.Program.{Does, DoesInPart, IsBeginningRefusal, IsUntold};
+ghost use Rattle.mot_program.specs.Program.{IsRefused, IsUntouched, Succeeds};
+ghost use Rattle.mot_program.specs.Task.{AreWrong};
+ghost use Rattle.mot_program.specs.declared.ended.UsedDisk.{UsedDisk};
 
 use crate::Task;
 use crate::checking::check_file;
 use crate::command::command;
+use crate::ended::{Exit, Finished, UsedDisk};
 use crate::formatting::format_file;
 use crate::migrating::migrate_file;
 use crate::printing::{explain, refuse};
@@ -19,11 +23,8 @@ use std::fs::File;
 use std::io::{Read, Write};
 use std::rt::Files;
 
-/// Does what the words after the program's own name ask for, and answers the exit status: 0 where
-/// it was done or help was asked for, 1 after a refusal that is no line's reply, 2 after a fault of
-/// the words. What went wrong is printed to `errors`.
-///
-/// `start` is for clauses alone: what the file that is opened held then. A program gives `Unknown`.
+/// Does what the words after the program's own name ask for, and answers the exit status, as
+/// `run_on` does.
 pub fn run_program<T: Files<File = File>, S: AsStr, B: Start, R: Read, W: Write, E: Write>(
     rt: &T,
     alloc: Global,
@@ -34,40 +35,71 @@ pub fn run_program<T: Files<File = File>, S: AsStr, B: Start, R: Read, W: Write,
     errors: &mut E,
 ) -> u8
     ensures status { (result ≡ 0) ⊎ (result ≡ 1) ⊎ (result ≡ 2) }
+    ensures done { result ≡ 0 → (disk : UsedDisk B B.Start)
+        × Succeeds (map S.text words.now) disk
+        (R.remaining reader.old) (R.remaining reader.new)
+        (W.contents writer.old) (W.contents writer.new) }
+    ensures refused { result ≡ 1 → (disk : UsedDisk B B.Start) × (refusal : Refusal)
+        × IsRefused (map S.text words.now) refusal disk
+        (R.remaining reader.old) (R.remaining reader.new)
+        (W.contents writer.old) (W.contents writer.new) }
+    ensures usage { result ≡ 2 → AreWrong (map S.text words.now)
+        × Keeps (R.remaining reader.old) (R.remaining reader.new)
+        × Keeps (W.contents writer.old) (W.contents writer.new) }
+{
+    run_on(rt, alloc, words, start, reader, writer, errors).status
+}
+
+/// Does what the words after the program's own name ask for, and hands out the disk that it worked
+/// on. What went wrong is printed to `errors`.
+///
+/// `start` is for clauses alone: what the file that is opened held then. A program gives `Unknown`.
+pub fn run_on<T: Files<File = File>, S: AsStr, B: Start, R: Read, W: Write, E: Write>(
+    rt: &T,
+    alloc: Global,
+    words: &[S],
+    start: B,
+    reader: &mut R,
+    writer: &mut W,
+    errors: &mut E,
+) -> Exit<B>
+    ensures status { (result.status ≡ 0) ⊎ (result.status ≡ 1) ⊎ (result.status ≡ 2) }
 
     // The words asked for a task, and it was done; or they asked for help, and nothing was read.
-    ensures done { result ≡ 0 → ((task : Task) × AskFor (map S.text words.now) task
-        × Does B.Start task (R.remaining reader.old) (R.remaining reader.new)
-        (W.contents writer.old) (W.contents writer.new))
-        ⊎ (AskForHelp (map S.text words.now)
-        × Keeps (R.remaining reader.old) (R.remaining reader.new)) }
+    ensures done { result.status ≡ 0 → Succeeds (map S.text words.now) result.disk
+        (R.remaining reader.old) (R.remaining reader.new)
+        (W.contents writer.old) (W.contents writer.new) }
 
-    // Nothing was read and no file opened, or a refusal ended the task.
-    ensures refused { result ≡ 1 → Keeps (R.remaining reader.old) (R.remaining reader.new)
-        ⊎ ((task : Task) × AskFor (map S.text words.now) task
-        × DoesInPart B.Start task (R.remaining reader.old) (R.remaining reader.new)
-        (W.contents writer.old) (W.contents writer.new)) }
-    ensures usage { result ≡ 2 → AreWrong (map S.text words.now)
+    // What this refusal left of the disk that is handed out.
+    ensures refused { result.status ≡ 1 → (refusal : Refusal) × (result.refusal ≡ Some refusal)
+        × IsRefused (map S.text words.now) refusal result.disk
+        (R.remaining reader.old) (R.remaining reader.new)
+        (W.contents writer.old) (W.contents writer.new) }
+    ensures usage { result.status ≡ 2 → AreWrong (map S.text words.now)
+        × IsUntouched result.disk
         × Keeps (R.remaining reader.old) (R.remaining reader.new)
         × Keeps (W.contents writer.old) (W.contents writer.new) }
 {
     let command = match command(alloc) {
         Ok(command) => command,
-        Err(AllocError) => return refuse(errors, Refusal::OutOfMemory),
+        Err(AllocError) => {
+            return refuse(errors, Refusal::OutOfMemory, UsedDisk::Untouched(start));
+        }
     };
     let matches = match command.try_get_matches_from(words) {
         Ok(matches) => matches,
-        Err(error) => return explain(writer, errors, &error),
+        Err(error) => return explain(writer, errors, &error, start),
     };
     let Some((name, rest)) = matches.subcommand() else {
-        return 2;
+        return Exit::unrefused(2, UsedDisk::Untouched(start));
     };
     let Some(task) = task_of(name, rest) else {
-        return refuse(errors, Refusal::BadGeometry);
+        return refuse(errors, Refusal::BadGeometry, UsedDisk::Untouched(start));
     };
-    match execute(rt, alloc, task, start, reader, writer) {
-        Ok(()) => 0,
-        Err(refusal) => refuse(errors, refusal),
+    let Finished { result, disk } = execute(rt, alloc, task, start, reader, writer);
+    match result {
+        Ok(()) => Exit::unrefused(0, disk),
+        Err(refusal) => refuse(errors, refusal, disk),
     }
 }
 
@@ -79,16 +111,20 @@ fn execute<T: Files<File = File>, B: Start, R: Read, W: Write>(
     start: B,
     reader: &mut R,
     writer: &mut W,
-) -> Result<(), Refusal>
-    ensures done { OnOk result (Does B.Start task.entry (R.remaining reader.old)
-        (R.remaining reader.new) (W.contents writer.old) (W.contents writer.new)) }
-    ensures refused { OnErr result (Keeps (R.remaining reader.old) (R.remaining reader.new)
-        ⊎ DoesInPart B.Start task.entry (R.remaining reader.old)
-        (R.remaining reader.new) (W.contents writer.old) (W.contents writer.new)) }
+) -> Finished<B>
+    ensures done { OnOk result.result (Does task.entry result.disk
+        (R.remaining reader.old) (R.remaining reader.new)
+        (W.contents writer.old) (W.contents writer.new)) }
+    ensures refused { IfErr result.result (λ r. (IsBeginningRefusal task.entry r
+        × IsUntold result.disk (W.contents writer.old) (W.contents writer.new)
+        × Keeps (R.remaining reader.old) (R.remaining reader.new))
+        ⊎ DoesInPart task.entry r result.disk
+        (R.remaining reader.old) (R.remaining reader.new)
+        (W.contents writer.old) (W.contents writer.new)) }
 {
     match task {
-        Task::Memory(geometry) => serve_memory(alloc, geometry, reader, writer),
-        Task::Format { path, geometry } => format_file(rt, path, start, &geometry, writer),
+        Task::Memory(geometry) => serve_memory(alloc, geometry, start, reader, writer),
+        Task::Format { path, geometry } => format_file(rt, path, start, geometry, writer),
         Task::Serve(path) => serve_file(rt, alloc, path, start, reader, writer),
         Task::Check(path) => check_file(rt, alloc, path, start, writer),
         Task::Migrate(path) => migrate_file(rt, alloc, path, start, writer),

@@ -1,14 +1,14 @@
 //! What `memory` and `serve` do.
-ghost use Rattle.std.specs.Prelude.{◌⊎◌, OnErr, OnOk};
+ghost use Rattle.std.specs.Prelude.{◌≡◌, ◌⊎◌, OnOk, IfErr};
 ghost use Rattle.std.specs.Io.KnownBytes.{Keeps};
 ghost use Rattle.disk_store.specs.Disk.{KeepsLength};
-ghost use Rattle.mot_program.specs.Program.{Serves, ServesFromMemory, ServesFromMemoryInPart};
-ghost use Rattle.mot_program.specs.Program.{StopsServing};
-ghost use Rattle.mot_program.specs.Serving.{IsUnserved, ServesInPart, ServesInput};
+ghost use Rattle.mot_base.specs.declared.refusal.Refusal.TheVariants.{DeviceFault, OutOfMemory};
+ghost use Rattle.mot_program.specs.Program.{IsMakingRefusal, IsUntold, OnMemory, OnOpened, SinceNew};
+ghost use Rattle.mot_program.specs.Serving.{ServesInput, StopsServing};
 
-use crate::ended::Ended;
+use crate::ended::{Ended, Finished, UsedDisk};
 use crate::file::open_file;
-use disk_store::{Disk, MemoryDisk, Start};
+use disk_store::{Disk, RamDisk, Start};
 use mot_base::{Geometry, Refusal};
 use mot_journal::format;
 use mot_server::Server;
@@ -23,27 +23,37 @@ pub const READS: u64 = 4_294_967_296;
 
 /// Serves the reader's lines from a new disk in memory; answers what ended it before the input's
 /// end.
-pub(crate) fn serve_memory<R: Read, W: Write>(
+pub(crate) fn serve_memory<S: Start, R: Read, W: Write>(
     alloc: Global,
     geometry: Geometry,
+    start: S,
     reader: &mut R,
     writer: &mut W,
-) -> Result<(), Refusal>
-    ensures whole { OnOk result
-        (ServesFromMemory geometry (R.remaining reader.old) (R.remaining reader.new)
-        (W.contents writer.old) (W.contents writer.new)) }
-    ensures part { OnErr result (Keeps (R.remaining reader.old) (R.remaining reader.new)
-        ⊎ ServesFromMemoryInPart geometry (R.remaining reader.old) (R.remaining reader.new)
-        (W.contents writer.old) (W.contents writer.new)) }
+) -> Finished<S>
+    ensures done { OnOk result.result (OnMemory (SinceNew geometry (ServesInput
+        (R.remaining reader.old) (R.remaining reader.new)
+        (W.contents writer.old) (W.contents writer.new))) result.disk) }
+    ensures refused { IfErr result.result (λ r. (((r ≡ OutOfMemory) ⊎ IsMakingRefusal geometry r)
+        × IsUntold result.disk (W.contents writer.old) (W.contents writer.new)
+        × Keeps (R.remaining reader.old) (R.remaining reader.new))
+        ⊎ OnMemory (SinceNew geometry (StopsServing r
+        (R.remaining reader.old) (R.remaining reader.new)
+        (W.contents writer.old) (W.contents writer.new))) result.disk) }
 {
     if !geometry.is_valid() {
-        return Err(Refusal::BadGeometry);
+        return Finished::untouched(Refusal::BadGeometry, start);
     }
-    let Some(mut disk) = MemoryDisk::new(alloc, geometry.length()) else {
-        return Err(Refusal::OutOfMemory);
+    let Some(mut disk) = RamDisk::new(alloc, geometry.length()) else {
+        return Finished::untouched(Refusal::OutOfMemory, start);
     };
-    format(&mut disk, &geometry)?;
-    serve_disk(alloc, disk, reader, writer).result
+    if let Err(refusal) = format(&mut disk, &geometry) {
+        return Finished::untouched(refusal, start);
+    }
+    let ended = serve_disk(alloc, disk, reader, writer);
+    Finished {
+        result: ended.result,
+        disk: UsedDisk::InMemory(ended.disk, start),
+    }
 }
 
 /// Serves the reader's lines from the disk of the file at the path; answers what ended it before
@@ -55,16 +65,21 @@ pub(crate) fn serve_file<T: Files<File = File>, S: Start, R: Read, W: Write>(
     start: S,
     reader: &mut R,
     writer: &mut W,
-) -> Result<(), Refusal>
-    ensures whole { OnOk result
-        (Serves S.Start (R.remaining reader.old) (R.remaining reader.new)
-        (W.contents writer.old) (W.contents writer.new)) }
-    ensures part { OnErr result (Keeps (R.remaining reader.old) (R.remaining reader.new)
-        ⊎ StopsServing S.Start (R.remaining reader.old) (R.remaining reader.new)
-        (W.contents writer.old) (W.contents writer.new)) }
+) -> Finished<S>
+    ensures done { OnOk result.result (OnOpened (ServesInput
+        (R.remaining reader.old) (R.remaining reader.new)
+        (W.contents writer.old) (W.contents writer.new)) result.disk) }
+    ensures refused { IfErr result.result (λ r. ((r ≡ DeviceFault)
+        × IsUntold result.disk (W.contents writer.old) (W.contents writer.new)
+        × Keeps (R.remaining reader.old) (R.remaining reader.new))
+        ⊎ OnOpened (StopsServing r
+        (R.remaining reader.old) (R.remaining reader.new)
+        (W.contents writer.old) (W.contents writer.new)) result.disk) }
 {
-    let disk = open_file(rt, path, start)?;
-    serve_disk(alloc, disk, reader, writer).result
+    match open_file(rt, path, start) {
+        Ok(disk) => Finished::of_file(serve_disk(alloc, disk, reader, writer)),
+        Err(unopened) => Finished::unopened(unopened),
+    }
 }
 
 /// Serves the reader's lines from a disk that it opens.
@@ -75,14 +90,14 @@ fn serve_disk<R: Read, W: Write, D: Disk>(
     writer: &mut W,
 ) -> Ended<D>
     ensures keeps { KeepsLength (D.state disk) (D.state result.disk) }
-    ensures whole { OnOk result.result (ServesInput (D.state disk) (D.state result.disk)
+    ensures done { OnOk result.result (ServesInput
         (R.remaining reader.old) (R.remaining reader.new)
-        (W.contents writer.old) (W.contents writer.new)) }
-    ensures part { OnErr result.result (IsUnserved (D.state disk) (D.state result.disk)
+        (W.contents writer.old) (W.contents writer.new)
+        (D.state disk) (D.state result.disk)) }
+    ensures refused { IfErr result.result (λ r. StopsServing r
         (R.remaining reader.old) (R.remaining reader.new)
-        ⊎ ServesInPart (D.state disk) (D.state result.disk)
-        (R.remaining reader.old) (R.remaining reader.new)
-        (W.contents writer.old) (W.contents writer.new)) }
+        (W.contents writer.old) (W.contents writer.new)
+        (D.state disk) (D.state result.disk)) }
 {
     let mut server = match Server::open(alloc, disk) {
         Ok(server) => server,

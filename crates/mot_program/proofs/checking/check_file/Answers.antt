@@ -1,20 +1,36 @@
-use Rattle.std.proofs.Common.{inr}
-use Rattle.mot_program.proofs.Ends.{OnOk-one, OnErr-always}
+use Rattle.std.proofs.Common.{◌≡◌, ◌⊎◌, IfErr, OnOk, inl, inr, refl, subst, sym}
+use Rattle.std.proofs.KnownBytes.{Keeps-refl}
+use Rattle.mot_base.specs.declared.refusal.Refusal.TheVariants.{DeviceFault}
+use Rattle.mot_program.specs.Program.{IsUntold, OnOpened}
+use Rattle.mot_program.specs.Report.{Checks, StopsChecking}
+use Rattle.mot_program.proofs.Ends.{IfErr-one, OnOk-one}
+use Rattle.mot_program.proofs.Handed.{since_opened}
 use Rattle.mot_program.proofs.checking.check_file.Goals as goal
 
-pub returns-clause-done : goal.returns-clause-done
-returns-clause-done g c = OnOk-one c.check_disk.result.result (λ told. record {
-  before = c.in_ok-disk.disk;
-  after = c.check_disk.result.disk;
-  opens = record { begun = c.in_ok-disk.ensures; still = c.check_disk.ensures.still };
-  text = told.0;
-  told = told.2;
-  printed = told.1;
-}) c.check_disk.ensures.told
+pub returns-in-Ok-clause-done : goal.returns-in-Ok-clause-done
+returns-in-Ok-clause-done g c =
+    let old = g.W.Write.contents c.args.writer.now in
+    let new = g.W.Write.contents c.check_disk.new.writer in
+    let ended = c.check_disk.result in
+    subst (λ (f : _). OnOk f.result (OnOpened (Checks old new) f.disk))
+    (sym c.of_file.ensures)
+    (OnOk-one ended.result (since_opened c.in-Ok.disk.disk ended.disk.disk (Checks old new)
+    c.in-Ok.ensures.first ended.disk.begins c.check_disk.ensures.keeps) c.check_disk.ensures.done)
 
-pub returns-clause-part : goal.returns-clause-part
-returns-clause-part g c = OnErr-always c.check_disk.result.result (inr (
-  c.in_ok-disk.disk,
-  c.check_disk.result.disk,
-  record { begun = c.in_ok-disk.ensures; still = c.check_disk.ensures.still },
-))
+pub returns-in-Ok-clause-refused : goal.returns-in-Ok-clause-refused
+returns-in-Ok-clause-refused g c =
+    let old = g.W.Write.contents c.args.writer.now in
+    let new = g.W.Write.contents c.check_disk.new.writer in
+    let ended = c.check_disk.result in
+    subst (λ (f : _). IfErr f.result (λ r. ((r ≡ DeviceFault) × IsUntold f.disk old new)
+    ⊎ OnOpened (StopsChecking r old new) f.disk)) (sym c.of_file.ensures)
+    (IfErr-one ended.result (λ r p. inr (since_opened c.in-Ok.disk.disk ended.disk.disk
+    (StopsChecking r old new) c.in-Ok.ensures.first ended.disk.begins
+    c.check_disk.ensures.keeps p)) c.check_disk.ensures.refused)
+
+pub returns-in-Err-clause-refused : goal.returns-in-Err-clause-refused
+returns-in-Err-clause-refused g c =
+    let old = g.W.Write.contents c.args.writer.now in
+    subst (λ (f : _). IfErr f.result (λ r. ((r ≡ DeviceFault) × IsUntold f.disk old old)
+    ⊎ OnOpened (StopsChecking r old old) f.disk)) (sym c.unopened.ensures)
+    (inl (refl, record { untouched = tt; silent = Keeps-refl _ }))

@@ -29,9 +29,9 @@ returns-clause-told g c =
     let old = g.W.Write.contents c.args.writer.now in
     let new = g.W.Write.contents c.write_last.new.writer in
     let so_far = Appends-trans _ _ _ _ _
-    c.in_ok-write_carousel.ensures c.in_ok-write_bytes.ensures in
+    c.in_ok-write_carousel.ensures.written c.in_ok-write_bytes.ensures.written in
     OnOk-one c.write_last.result (λ last. (
       clean,
       subst (Appends old new) text (Appends-trans _ _ _ _ _ so_far last),
       c.in_ok-is_clean.ensures.exact,
-    )) c.write_last.ensures
+    )) c.write_last.ensures.written

@@ -1,25 +1,45 @@
-use Rattle.std.proofs.Common.{◌⊎◌, inr, refl, subst}
-use Rattle.mot_program.specs.Files.{IsMadeFile, IsOpenedFile}
-use Rattle.mot_program.proofs.Ends.{OnOk-both, OnErr-always}
+use Rattle.std.proofs.Common.{◌⊎◌, IfErr, OnOk, inl, inr, refl, subst, sym}
+use Rattle.std.proofs.KnownBytes.{Keeps-refl}
+use Rattle.mot_program.specs.Program.{IsMakingRefusal, IsUntold, OnOpenedOrMade}
+use Rattle.mot_program.specs.Report.{Formats, StopsFormatting}
+use Rattle.mot_program.proofs.Ends.{IfErr-one, OnOk-one}
+use Rattle.mot_program.proofs.Handed.{since_opened}
 use Rattle.mot_program.proofs.formatting.format_file.Goals as goal
 
-pub returns-clause-done : goal.returns-clause-done
-returns-clause-done g c = OnOk-both c.format_disk.result (λ formatted printed. record {
-  before = c.in_ok-disk.disk;
-  after = c.format_disk.new.disk;
-  valid = c.if-not-is_valid.ensures.0 refl;
-  begun = subst (λ n. IsOpenedFile c.in_ok-disk.disk ⊎ IsMadeFile n c.in_ok-disk.disk)
-      c.length.ensures c.in_ok-disk.ensures;
-  formatted = formatted;
-  printed = printed;
-}) c.format_disk.ensures.done c.format_disk.ensures.printed
+pub returns-in-Ok-clause-done : goal.returns-in-Ok-clause-done
+returns-in-Ok-clause-done g c =
+    let geometry = c.args.geometry in
+    let last = c.format_disk-result.new.disk in
+    let old = g.W.Write.contents c.args.writer.now in
+    let new = g.W.Write.contents c.format_disk-result.new.writer in
+    subst (λ (f : _). OnOk f.result (OnOpenedOrMade geometry (Formats geometry old new) f.disk))
+    (sym c.of_file.ensures)
+    (OnOk-one c.format_disk-result.result (λ p. (
+      c.if-not-is_valid.ensures.0 refl,
+      inl (since_opened c.in-Ok.disk.disk last.disk (Formats geometry old new)
+          c.in-Ok.ensures.first last.begins c.format_disk-result.ensures.keeps p),
+    ))
+    c.format_disk-result.ensures.done)
 
-pub returns-clause-part : goal.returns-clause-part
-returns-clause-part g c = OnErr-always c.format_disk.result (inr (record {
-  before = c.in_ok-disk.disk;
-  after = c.format_disk.new.disk;
-  valid = c.if-not-is_valid.ensures.0 refl;
-  begun = subst (λ n. IsOpenedFile c.in_ok-disk.disk ⊎ IsMadeFile n c.in_ok-disk.disk)
-      c.length.ensures c.in_ok-disk.ensures;
-  under = c.format_disk.ensures.part;
-}))
+pub returns-in-Ok-clause-refused : goal.returns-in-Ok-clause-refused
+returns-in-Ok-clause-refused g c =
+    let geometry = c.args.geometry in
+    let last = c.format_disk-result.new.disk in
+    let old = g.W.Write.contents c.args.writer.now in
+    let new = g.W.Write.contents c.format_disk-result.new.writer in
+    subst (λ (f : _). IfErr f.result (λ r. (IsMakingRefusal geometry r × IsUntold f.disk old new)
+    ⊎ OnOpenedOrMade geometry (StopsFormatting geometry r old new) f.disk)) (sym c.of_file.ensures)
+    (IfErr-one c.format_disk-result.result (λ r p. inr (
+      c.if-not-is_valid.ensures.0 refl,
+      inl (since_opened c.in-Ok.disk.disk last.disk (StopsFormatting geometry r old new)
+          c.in-Ok.ensures.first last.begins c.format_disk-result.ensures.keeps p),
+    ))
+    c.format_disk-result.ensures.refused)
+
+pub returns-then-not-is_valid-clause-refused : goal.returns-then-not-is_valid-clause-refused
+returns-then-not-is_valid-clause-refused g c =
+    let geometry = c.args.geometry in
+    let old = g.W.Write.contents c.args.writer.now in
+    subst (λ (f : _). IfErr f.result (λ r. (IsMakingRefusal geometry r × IsUntold f.disk old old)
+    ⊎ OnOpenedOrMade geometry (StopsFormatting geometry r old old) f.disk)) (sym c.untouched.ensures)
+    (inl (inr (refl, λ v. let e = c.if-not-is_valid.ensures.1 v in absurd (cc (e))), record { untouched = tt; silent = Keeps-refl _ }))

@@ -1,85 +1,93 @@
-use Rattle.std.proofs.Common.{Bool, sym, subst}
-use Rattle.std.specs.Prelude.{OnOk}
+use Rattle.std.proofs.Common.{subst, sym}
+use Rattle.std.proofs.KnownBytes.{Keeps-refl}
+use Rattle.std.specs.Prelude.{IfErr}
 use Rattle.std.specs.Io.KnownBytes.{Appends}
-use Rattle.disk_store.specs.Disk.{Throughout}
-use Rattle.disk_store.proofs.Laws.{joins}
 use Rattle.mot_journal.specs.Journal.{with_records}
-use Rattle.mot_journal.specs.Image.{Standing}
-use Rattle.mot_repository.specs.Repository.{Holds, IsOf}
-use Rattle.mot_program.specs.Report.{IsMigrated, migrated_line}
-use Rattle.mot_program.proofs.Ends.{OnOk-one}
-use Rattle.mot_program.proofs.Opened.{AllAre, opened_holds, opened_throughout}
+use Rattle.mot_repository.specs.Answers.IsMigrationRefusal.{failed, halted, no_memory}
+use Rattle.mot_repository.specs.Opening.IsOpeningRefusal.{device, no_memory as no_room}
+use Rattle.mot_repository.specs.Repository.{IsOf}
+use Rattle.mot_program.specs.Report.{IsMigrated, StopsMigrating}
+use Rattle.mot_program.specs.Report.StopsMigrating.{refused, unprinted}
+use Rattle.mot_program.proofs.Ends.{IfErr-one, OnOk-one, rises_later, still_unchanged}
+use Rattle.mot_program.proofs.Opened.{migrates_held, migrates_under, opened_throughout}
 use Rattle.mot_program.proofs.migrating.migrate_disk.Given as given
 use Rattle.mot_program.proofs.migrating.migrate_disk.Goals as goal
-use Rattle.mot_program.proofs.migrating.migrate_disk.Goals.{in-Ok-migrate, in-Err-migrate}
 
--- the server that was opened holds what the disk stood for
-held : (g : given.Over) (c : goal.After-into_disk g) (s : Standing)
-    → (g.D.Disk.state c.into_disk.result).IsHonest → AllAre s (g.D.Disk.state c.args.disk)
-    → Holds c.in-Ok.server.view s (g.D.Disk.state c.in-Ok.server.disk)
-held g c s honest each =
+pub returns-in-Err-clause-refused : goal.returns-in-Err-clause-refused
+returns-in-Err-clause-refused g c =
     let state = g.D.Disk.state in
-    let server = c.in-Ok.server in
-    let opens = c.in-Ok.ensures in
-    let now = subst (λ d. (state d).IsHonest) c.into_disk.ensures honest in
-    let was = c.migrate.ensures.keeps.was_honest now in
-    let sound = g.met.D.Disk.sound in
-    opened_holds (state c.args.disk) (state server.disk) server.view s
-    (sound c.args.disk (opens.keeps.was_honest was)) each (opens.opened was) was
-    (sound server.disk was) (opens.still was) opens.going
-
-pub returns-clause-under : goal.returns-clause-under
-returns-clause-under g c = λ s honest each.
-    let state = g.D.Disk.state in
-    let server = c.in-Ok.server in
-    let opens = c.in-Ok.ensures in
-    let now = subst (λ d. (state d).IsHonest) c.into_disk.ensures honest in
-    let was = c.migrate.ensures.keeps.was_honest now in
-    let first = opened_throughout (state c.args.disk) (state server.disk) (IsOf s)
-    (g.met.D.Disk.sound c.args.disk (opens.keeps.was_honest was)) each (opens.still was) in
-    subst (λ d. Throughout (state c.args.disk) (state d) (IsOf s)) (sym c.into_disk.ensures)
-    (joins (state c.args.disk) (state server.disk) (state c.migrate.new.self.disk) (IsOf s) (IsOf s)
-    first (c.migrate.ensures.any_moment s (held g c s honest each)) (λ image is. is))
-
-pub returns-clause-done : goal.returns-clause-done
-returns-clause-done g c =
-    let state = g.D.Disk.state in
-    let server = c.in-Ok.server in
-    let opens = c.in-Ok.ensures in
-    let after = c.migrate.new.self in
+    let opens = c.in-Err.ensures in
     let old = g.W.Write.contents c.args.writer.now in
-    elim c.match-migrate.branch [
-      | in-Ok-migrate w ↦
-          let done = w.in-Ok-migrate.is_rewritten in
-          let calls = w.in-Ok-migrate.ensures in
-          let new = g.W.Write.contents w.write_last-result.new.writer in
-          let wrote = w.write_last-result.result in
-          let text = subst (λ l. OnOk wrote (Appends old new l)) w.migrated_text.ensures
-          w.write_last-result.ensures in
-          let here = subst (λ x. OnOk wrote (Appends old (g.W.Write.contents x) (migrated_line done)))
-          (sym w.writer-is) text in
-          let printed = subst (λ r. OnOk r (Appends old (g.W.Write.contents c.match-migrate.writer)
-          (migrated_line done))) (sym w.result-is) here in
-          OnOk-one c.match-migrate.result (λ told. (
-            done,
-            record {
-              under = returns-clause-under g c;
-              rewritten = λ honest.
-                  let now = subst (λ d. (state d).IsHonest) c.into_disk.ensures honest in
-                  let opened = opens.opened (c.migrate.ensures.keeps.was_honest now) in
-                  (with_records server.view.journal opened.records, opened.read, calls.rewritten.0);
-              is_two = λ s honest each image left.
-                  let then = calls.ok s (held g c s honest each) in
-                  let may = subst (λ d. (state d).MayLeave image) c.into_disk.ensures left in
-                  let records = with_records after.view.journal then.records in (
-                    then.each image may,
-                    (records, (then.journal.each image may).read, calls.rewritten.1),
-                  );
-            },
-            told,
-          )) printed
-      | in-Err-migrate w ↦ subst (λ r. OnOk r ((done : Bool)
-          × IsMigrated (state c.args.disk) (state c.into_disk.result) done
-          × Appends old (g.W.Write.contents c.match-migrate.writer) (migrated_line done)))
-          (sym w.result-is) tt
-    ]
+    subst (λ (e : _). IfErr e.result (λ r.
+    StopsMigrating r old old (state c.args.disk) (state e.disk)))
+    (sym c.unopened.ensures) (refused opens.refused
+    (λ s honest each. opened_throughout (state c.args.disk) (state c.in-Err.refused.disk) (IsOf s)
+    (g.met.D.Disk.sound c.args.disk (opens.keeps_refused.was_honest honest)) each
+    (opens.still_refused honest))
+    (λ other. opens.still_refused) (Keeps-refl _))
+
+-- what was migrated, whether that was printed or not
+migrated : (g : given.Over) (c : goal.After-into_disk g)
+    → IsMigrated c.in-Ok-migrate.is_rewritten (g.D.Disk.state c.args.disk)
+    (g.D.Disk.state c.migrate.new.self.disk)
+migrated g c =
+    let state = g.D.Disk.state in
+    let server = c.in-Ok.server in
+    let after = c.migrate.new.self in
+    let opens = c.in-Ok.ensures in
+    let calls = c.in-Ok-migrate.ensures in
+    record {
+      under = migrates_under state c.args.disk server after g.met.D.Disk.sound opens.keeps
+          opens.opened opens.still opens.going calls.keeps calls.any_moment;
+      rewritten = λ honest.
+          let opened = opens.opened (calls.keeps.was_honest honest) in
+          (with_records server.view.journal opened.records, opened.read, calls.rewritten.0);
+      is_two = λ s honest each image left.
+          let then = calls.ok s (migrates_held state c.args.disk server after g.met.D.Disk.sound
+          opens.keeps opens.opened opens.still opens.going calls.keeps s honest each) in
+          let records = with_records after.view.journal then.records in (
+            then.each image left,
+            (records, (then.journal.each image left).read, calls.rewritten.1),
+          );
+    }
+
+pub returns-in-Ok-migrate-clause-done : goal.returns-in-Ok-migrate-clause-done
+returns-in-Ok-migrate-clause-done g c =
+    let state = g.D.Disk.state in
+    let old = g.W.Write.contents c.args.writer.now in
+    let new = g.W.Write.contents c.write_last.new.writer in
+    OnOk-one c.write_last.result (λ told. record {
+      done = c.in-Ok-migrate.is_rewritten;
+      migrated = subst (λ d. IsMigrated c.in-Ok-migrate.is_rewritten (state c.args.disk) (state d))
+          (sym c.into_disk.ensures) (migrated g c);
+      printed = subst (Appends old new) c.migrated_text.ensures told;
+    }) c.write_last.ensures.written
+
+pub returns-in-Ok-migrate-clause-refused : goal.returns-in-Ok-migrate-clause-refused
+returns-in-Ok-migrate-clause-refused g c =
+    let state = g.D.Disk.state in
+    IfErr-one c.write_last.result (λ r is. unprinted is c.in-Ok-migrate.is_rewritten
+    (subst (λ d. IsMigrated c.in-Ok-migrate.is_rewritten (state c.args.disk) (state d))
+    (sym c.into_disk.ensures) (migrated g c))) c.write_last.ensures.fault
+
+pub returns-in-Err-migrate-clause-refused : goal.returns-in-Err-migrate-clause-refused
+returns-in-Err-migrate-clause-refused g c =
+    let state = g.D.Disk.state in
+    let start = state c.args.disk in
+    let server = c.in-Ok.server in
+    let after = c.migrate.new.self in
+    let opens = c.in-Ok.ensures in
+    let calls = c.in-Err-migrate.ensures in
+    let old = g.W.Write.contents c.args.writer.now in
+    let under = migrates_under state c.args.disk server after g.met.D.Disk.sound opens.keeps
+    opens.opened opens.still opens.going calls.keeps calls.any_moment in
+    subst (λ d. StopsMigrating c.in-Err-migrate.refusal old old start (state d))
+    (sym c.into_disk-in-Err-migrate.ensures) (elim calls.refused [
+      | halted on is view same ↦ absurd (cc (on, opens.going))
+      | no_memory off is view same ↦ refused (no_room is) under
+          (λ other honest. still_unchanged _ _ _ (opens.still (calls.keeps.was_honest honest)) same)
+          (Keeps-refl _)
+      | failed off is rises view ↦ refused
+          (device is (rises_later _ _ _ opens.later calls.later rises)) under
+          (λ other. absurd (other is)) (Keeps-refl _)
+    ])

@@ -1,21 +1,36 @@
-use Rattle.std.proofs.Common.{inr}
-use Rattle.mot_program.proofs.Ends.{OnOk-one, OnErr-always}
+use Rattle.std.proofs.Common.{◌≡◌, ◌⊎◌, IfErr, OnOk, inl, inr, refl, subst, sym}
+use Rattle.std.proofs.KnownBytes.{Keeps-refl}
+use Rattle.mot_base.specs.declared.refusal.Refusal.TheVariants.{DeviceFault}
+use Rattle.mot_program.specs.Program.{IsUntold, OnOpened}
+use Rattle.mot_program.specs.Report.{Migrates, StopsMigrating}
+use Rattle.mot_program.proofs.Ends.{IfErr-one, OnOk-one}
+use Rattle.mot_program.proofs.Handed.{since_opened}
 use Rattle.mot_program.proofs.migrating.migrate_file.Goals as goal
 
-pub returns-clause-done : goal.returns-clause-done
-returns-clause-done g c = OnOk-one c.migrate_disk.result.result (λ told. record {
-  before = c.in_ok-disk.disk;
-  after = c.migrate_disk.result.disk;
-  begun = c.in_ok-disk.ensures;
-  done = told.0;
-  migrated = told.1;
-  printed = told.2;
-}) c.migrate_disk.ensures.done
+pub returns-in-Ok-clause-done : goal.returns-in-Ok-clause-done
+returns-in-Ok-clause-done g c =
+    let old = g.W.Write.contents c.args.writer.now in
+    let new = g.W.Write.contents c.migrate_disk.new.writer in
+    let ended = c.migrate_disk.result in
+    subst (λ (f : _). OnOk f.result (OnOpened (Migrates old new) f.disk))
+    (sym c.of_file.ensures)
+    (OnOk-one ended.result (since_opened c.in-Ok.disk.disk ended.disk.disk (Migrates old new)
+    c.in-Ok.ensures.first ended.disk.begins c.migrate_disk.ensures.keeps) c.migrate_disk.ensures.done)
 
-pub returns-clause-part : goal.returns-clause-part
-returns-clause-part g c = OnErr-always c.migrate_disk.result.result (inr (record {
-  before = c.in_ok-disk.disk;
-  after = c.migrate_disk.result.disk;
-  begun = c.in_ok-disk.ensures;
-  under = c.migrate_disk.ensures.under;
-}))
+pub returns-in-Ok-clause-refused : goal.returns-in-Ok-clause-refused
+returns-in-Ok-clause-refused g c =
+    let old = g.W.Write.contents c.args.writer.now in
+    let new = g.W.Write.contents c.migrate_disk.new.writer in
+    let ended = c.migrate_disk.result in
+    subst (λ (f : _). IfErr f.result (λ r. ((r ≡ DeviceFault) × IsUntold f.disk old new)
+    ⊎ OnOpened (StopsMigrating r old new) f.disk)) (sym c.of_file.ensures)
+    (IfErr-one ended.result (λ r p. inr (since_opened c.in-Ok.disk.disk ended.disk.disk
+    (StopsMigrating r old new) c.in-Ok.ensures.first ended.disk.begins
+    c.migrate_disk.ensures.keeps p)) c.migrate_disk.ensures.refused)
+
+pub returns-in-Err-clause-refused : goal.returns-in-Err-clause-refused
+returns-in-Err-clause-refused g c =
+    let old = g.W.Write.contents c.args.writer.now in
+    subst (λ (f : _). IfErr f.result (λ r. ((r ≡ DeviceFault) × IsUntold f.disk old old)
+    ⊎ OnOpened (StopsMigrating r old old) f.disk)) (sym c.unopened.ensures)
+    (inl (refl, record { untouched = tt; silent = Keeps-refl _ }))

@@ -27,4 +27,4 @@ loop-object-preserved g c =
     subst (Appends (g.W.Write.contents c.args.writer.now)
     (g.W.Write.contents c.write_bytes.new.writer))
     (ap (λ l. flat_map object_line_beside (take i c.args.objects.now) ++ l) text ∙ sym more)
-    (Appends-trans _ _ _ _ _ c.loop-object.invariant c.in_ok-write_bytes.ensures)
+    (Appends-trans _ _ _ _ _ c.loop-object.invariant c.in_ok-write_bytes.ensures.written)

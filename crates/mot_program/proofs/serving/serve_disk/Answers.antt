@@ -1,23 +1,40 @@
-use Rattle.std.proofs.Common.{◌⊎◌, ap, inl, inr, subst, sym}
+use Rattle.std.proofs.Common.{ap, inl, inr, subst, sym}
+use Rattle.std.specs.Prelude.{IfErr}
 use Rattle.disk_store.specs.Disk.{IsStill}
 use Rattle.mot_lines.specs.Lines.{whole_lines, lines_of}
 use Rattle.mot_session.specs.Served.{Served, Stopped}
-use Rattle.mot_program.specs.Serving.{IsUnserved, ServesInPart, ServesInput}
+use Rattle.mot_program.specs.Serving.{ServesInput, StopsServing}
+use Rattle.mot_program.specs.Serving.StopsServing.{no_memory, unopened, unread, unwritten}
 use Rattle.mot_program.proofs.Ends.{fault-cases}
 use Rattle.mot_program.proofs.Opened.{opens_to}
 use Rattle.mot_program.proofs.serving.serve_disk.Goals as goal
+use Rattle.std.proofs.KnownBytes.{Keeps-refl}
 
-pub returns-in-None-clause-whole : goal.returns-in-None-clause-whole
-returns-in-None-clause-whole g c =
+pub returns-in-Err-clause-refused : goal.returns-in-Err-clause-refused
+returns-in-Err-clause-refused g c =
+    let state = g.D.Disk.state in
+    let opens = c.in-Err.ensures in
+    let remains = g.R.Read.remaining c.args.reader.now in
+    let old = g.W.Write.contents c.args.writer.now in
+    subst (λ (e : _). IfErr e.result (λ r.
+    StopsServing r remains remains old old (state c.args.disk) (state e.disk)))
+    (sym c.unopened.ensures) (unopened opens.refused (record {
+      kept = Keeps-refl _;
+      silent = Keeps-refl _;
+      still = opens.still_refused;
+    }))
+
+pub returns-in-None-clause-done : goal.returns-in-None-clause-done
+returns-in-None-clause-done g c =
     let state = g.D.Disk.state in
     let opens = c.in-Ok.ensures in
     let new = c.serve-fault.new.server in
-    let unread = g.R.Read.remaining c.args.reader.now in
+    let remains = g.R.Read.remaining c.args.reader.now in
     let left = g.R.Read.remaining c.serve-fault.new.reader in
     let old = g.W.Write.contents c.args.writer.now in
     let written = g.W.Write.contents c.serve-fault.new.writer in
     let r = c.serve-fault.ensures.ended c.in-None.is in
-    subst (λ d. ServesInput (state c.args.disk) (state d) unread left old written)
+    subst (λ d. ServesInput remains left old written (state c.args.disk) (state d))
     (sym c.into_disk-disk.ensures) (record {
       input = r.0;
       taken = r.1;
@@ -28,57 +45,56 @@ returns-in-None-clause-whole g c =
           c.serve-fault.ensures.keeps r.4;
     })
 
-pub returns-in-Some-clause-part : goal.returns-in-Some-clause-part
-returns-in-Some-clause-part g c =
+pub returns-in-Some-clause-refused : goal.returns-in-Some-clause-refused
+returns-in-Some-clause-refused g c =
     let state = g.D.Disk.state in
     let opens = c.in-Ok.ensures in
     let server = c.in-Ok.server in
     let new = c.serve-fault.new.server in
     let calls = c.serve-fault.ensures in
     let count = c.serve-fault.result.lines in
-    let unread = g.R.Read.remaining c.args.reader.now in
+    let remains = g.R.Read.remaining c.args.reader.now in
     let left = g.R.Read.remaining c.serve-fault.new.reader in
     let old = g.W.Write.contents c.args.writer.now in
     let written = g.W.Write.contents c.serve-fault.new.writer in
-    subst (λ d. IsUnserved (state c.args.disk) (state d) unread left
-    ⊎ ServesInPart (state c.args.disk) (state d) unread left old written)
+    subst (λ d. StopsServing c.in-Some.refusal remains left old written
+    (state c.args.disk) (state d))
     (sym c.into_disk-disk.ensures)
     (fault-cases _ c.serve-fault.result.fault c.in-Some.refusal c.in-Some.is calls.faults
-    (λ e. let r = calls.none e in
-    inl (record {
+    (λ is e. let r = calls.none e in
+    no_memory is (record {
       kept = r.2;
+      silent = r.3;
       still = subst (λ (d : _). (state d).IsHonest → IsStill (state c.args.disk) (state d))
           (sym (ap (λ s. s.disk) r.1)) opens.still;
     }))
-    (λ e. let r = calls.unread e in
-    inr (record {
+    (λ is e. let r = calls.unread e in
+    unread is (record {
       input = r.0;
       taken = r.1;
-      ended = inl (opens_to state c.args.disk server new
+      served = opens_to state c.args.disk server new
           (λ before after. Served (state new.disk) before after (whole_lines r.0) old written)
           g.met.D.Disk.sound opens.keeps opens.opened opens.still opens.going opens.at_start
-          calls.keeps r.3);
+          calls.keeps r.3;
     }))
-    (λ e. let r = calls.unwritten e in
-    inr (record {
+    (λ is e. let r = calls.unwritten e in
+    unwritten is (record {
       input = r.0;
       taken = r.1;
-      ended = inr (
-        count,
-        elim r.2 [
-          | inl led ↦ inl (opens_to state c.args.disk server new
+      count = count;
+      stopped = elim r.2 [
+        | inl led ↦ inl (opens_to state c.args.disk server new
+            (λ before after.
+            Stopped (state new.disk) before after (whole_lines r.0) count old written)
+            g.met.D.Disk.sound opens.keeps opens.opened opens.still opens.going opens.at_start
+            calls.keeps led)
+        | inr led ↦ inr (
+          led.0,
+          opens_to state c.args.disk server new
               (λ before after.
-              Stopped (state new.disk) before after (whole_lines r.0) count old written)
+              Stopped (state new.disk) before after (lines_of r.0) count old written)
               g.met.D.Disk.sound opens.keeps opens.opened opens.still opens.going opens.at_start
-              calls.keeps led)
-          | inr led ↦ inr (
-            led.0,
-            opens_to state c.args.disk server new
-                (λ before after.
-                Stopped (state new.disk) before after (lines_of r.0) count old written)
-                g.met.D.Disk.sound opens.keeps opens.opened opens.still opens.going opens.at_start
-                calls.keeps led.1,
-          )
-        ],
-      );
+              calls.keeps led.1,
+        )
+      ];
     })))

@@ -1,19 +1,42 @@
-use Rattle.std.proofs.Common.{inr}
-use Rattle.mot_program.proofs.Ends.{OnOk-one, OnErr-one}
+use Rattle.std.proofs.Common.{◌≡◌, ◌⊎◌, IfErr, OnOk, inl, inr, refl, subst, sym}
+use Rattle.std.specs.Io.KnownBytes.{Keeps}
+use Rattle.std.proofs.KnownBytes.{Keeps-refl}
+use Rattle.mot_base.specs.declared.refusal.Refusal.TheVariants.{DeviceFault}
+use Rattle.mot_program.specs.Program.{IsUntold, OnOpened}
+use Rattle.mot_program.specs.Serving.{ServesInput, StopsServing}
+use Rattle.mot_program.proofs.Ends.{IfErr-one, OnOk-one}
+use Rattle.mot_program.proofs.Handed.{since_opened}
 use Rattle.mot_program.proofs.serving.serve_file.Goals as goal
 
-pub returns-clause-whole : goal.returns-clause-whole
-returns-clause-whole g c = OnOk-one c.serve_disk.result.result (λ served. record {
-  before = c.in_ok-disk.disk;
-  after = c.serve_disk.result.disk;
-  begun = c.in_ok-disk.ensures;
-  served = served;
-}) c.serve_disk.ensures.whole
+pub returns-in-Ok-clause-done : goal.returns-in-Ok-clause-done
+returns-in-Ok-clause-done g c =
+    let remains = g.R.Read.remaining c.args.reader.now in
+    let left = g.R.Read.remaining c.serve_disk.new.reader in
+    let old = g.W.Write.contents c.args.writer.now in
+    let new = g.W.Write.contents c.serve_disk.new.writer in
+    let ended = c.serve_disk.result in
+    subst (λ (f : _). OnOk f.result (OnOpened (ServesInput remains left old new) f.disk))
+    (sym c.of_file.ensures)
+    (OnOk-one ended.result (since_opened c.in-Ok.disk.disk ended.disk.disk (ServesInput remains left old new)
+    c.in-Ok.ensures.first ended.disk.begins c.serve_disk.ensures.keeps) c.serve_disk.ensures.done)
 
-pub returns-clause-part : goal.returns-clause-part
-returns-clause-part g c = OnErr-one c.serve_disk.result.result (λ stopped. inr (record {
-  before = c.in_ok-disk.disk;
-  after = c.serve_disk.result.disk;
-  begun = c.in_ok-disk.ensures;
-  stopped = stopped;
-})) c.serve_disk.ensures.part
+pub returns-in-Ok-clause-refused : goal.returns-in-Ok-clause-refused
+returns-in-Ok-clause-refused g c =
+    let remains = g.R.Read.remaining c.args.reader.now in
+    let left = g.R.Read.remaining c.serve_disk.new.reader in
+    let old = g.W.Write.contents c.args.writer.now in
+    let new = g.W.Write.contents c.serve_disk.new.writer in
+    let ended = c.serve_disk.result in
+    subst (λ (f : _). IfErr f.result (λ r. ((r ≡ DeviceFault) × IsUntold f.disk old new × Keeps remains left)
+    ⊎ OnOpened (StopsServing r remains left old new) f.disk)) (sym c.of_file.ensures)
+    (IfErr-one ended.result (λ r p. inr (since_opened c.in-Ok.disk.disk ended.disk.disk
+    (StopsServing r remains left old new) c.in-Ok.ensures.first ended.disk.begins
+    c.serve_disk.ensures.keeps p)) c.serve_disk.ensures.refused)
+
+pub returns-in-Err-clause-refused : goal.returns-in-Err-clause-refused
+returns-in-Err-clause-refused g c =
+    let remains = g.R.Read.remaining c.args.reader.now in
+    let old = g.W.Write.contents c.args.writer.now in
+    subst (λ (f : _). IfErr f.result (λ r. ((r ≡ DeviceFault) × IsUntold f.disk old old × Keeps remains remains)
+    ⊎ OnOpened (StopsServing r remains remains old old) f.disk)) (sym c.unopened.ensures)
+    (inl (refl, record { untouched = tt; silent = Keeps-refl _ }, Keeps-refl _))

@@ -1,30 +1,28 @@
-use Rattle.std.proofs.Common.{inl, inr, refl}
-use Rattle.mot_program.proofs.Ends.{OnOk-one, OnErr-one}
+use Rattle.std.proofs.Common.{inr, refl}
+use Rattle.mot_program.specs.Program.{IsNewInMemory}
+use Rattle.mot_program.proofs.Ends.{IfErr-one, OnOk-one}
+use Rattle.mot_program.proofs.serving.serve_memory.Given as given
 use Rattle.mot_program.proofs.serving.serve_memory.Goals as goal
 
-pub returns-clause-whole : goal.returns-clause-whole
-returns-clause-whole g c = OnOk-one c.serve_disk.result.result (λ served. record {
-  before = c.format.new.disk;
-  after = c.serve_disk.result.disk;
-  begun = record {
-    valid = c.if-not-is_valid.ensures.0 refl;
-    formatted = λ image left. let r = c.in_ok-format.ensures.ok tt image left in
-        record { stands = r.0; clean = r.1 };
-  };
-  served = served;
-}) c.serve_disk.ensures.whole
+-- the disk that is served was just formatted
+begun : (g : given.Over) (c : goal.After-serve_disk-ended g)
+    → IsNewInMemory c.args.geometry c.format.new.disk
+begun g c = record {
+  valid = c.if-not-is_valid.ensures.0 refl;
+  formatted = λ image left. let r = c.in_default-format.ensures.ok tt image left in
+      record { stands = r.0; clean = r.1 };
+}
 
-pub returns-clause-part : goal.returns-clause-part
-returns-clause-part g c = OnErr-one c.serve_disk.result.result (λ stopped. elim stopped [
-  | inl unserved ↦ inl unserved.kept
-  | inr served ↦ inr (record {
-    before = c.format.new.disk;
-    after = c.serve_disk.result.disk;
-    begun = record {
-      valid = c.if-not-is_valid.ensures.0 refl;
-      formatted = λ image left. let r = c.in_ok-format.ensures.ok tt image left in
-          record { stands = r.0; clean = r.1 };
-    };
-    served = served;
-  })
-]) c.serve_disk.ensures.part
+pub returns-clause-done : goal.returns-clause-done
+returns-clause-done g c = OnOk-one c.serve_disk-ended.result.result (λ served. record {
+  first = c.format.new.disk;
+  begun = begun g c;
+  since = served;
+}) c.serve_disk-ended.ensures.done
+
+pub returns-clause-refused : goal.returns-clause-refused
+returns-clause-refused g c = IfErr-one c.serve_disk-ended.result.result (λ r stopped. inr (record {
+  first = c.format.new.disk;
+  begun = begun g c;
+  since = stopped;
+})) c.serve_disk-ended.ensures.refused

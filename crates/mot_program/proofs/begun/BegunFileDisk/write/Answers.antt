@@ -1,0 +1,13 @@
+use Rattle.disk_store.specs.File.{calls_on}
+use Rattle.mot_program.proofs.Handed.{begins_after, one_or_failed}
+use Rattle.mot_program.proofs.begun.BegunFileDisk.write.Goals as goal
+
+pub invariant_of-self : goal.invariant_of-self
+invariant_of-self g c =
+    let old = c.args.self.now.disk in
+    let new = c.write.new.self in
+    let calls = c.write.ensures in
+    record {
+      begins = begins_after g.K.Beginning.is_new old new c.args.self.now.begins calls.keeps.len
+          (one_or_failed c.write.result (calls_on old) (calls_on new) _ _ calls.noted calls.noted_failure);
+    }

@@ -1,0 +1,11 @@
+-- A file's disk from its opening on, as a disk.
+use Rattle.disk_store.specs.Disk.{State}
+use Rattle.disk_store.specs.File.{file_state}
+use Rattle.disk_store.specs.declared.file.start.Start as start
+use Rattle.mot_program.specs.declared.begun.Beginning as beginning
+use Rattle.mot_program.specs.declared.begun.BegunFile.{BegunFile}
+
+-- all that contracts know of it as a disk
+abbrev pub begun_state : {S K : Type 0} {s : start.Ghosts S} {k : beginning.Ghosts K}
+    → BegunFile S K s k → State
+begun_state file = file_state file.disk
