@@ -93,30 +93,40 @@ fn only_a_file_that_may_be_written_is_opened(rt: HostRuntime) -> Result<(), Fail
     Ok(())
 }
 
-// Why a file is not opened.
-fn reason(rt: &HostRuntime, path: &str) -> Result<String, Fail> {
+// Whether a file is not opened for this reason.
+fn is_refused(rt: &HostRuntime, path: &str, reason: &str) -> Result<bool, Fail> {
     match FileDiskFrom::open_from(rt, path, Unknown) {
-        Ok(_) => Err("it is opened".into()),
-        Err(unopened) => Ok(format!(in rt.alloc(); "{}", unopened.fault)?),
+        Ok(_) => Ok(false),
+        Err(unopened) => Ok(format!(in rt.alloc(); "{}", unopened.fault)?.as_str() == reason),
     }
+}
+
+// The same of a new file that stands open.
+fn is_refused_while_open(rt: &HostRuntime, path: &str, reason: &str) -> Result<bool, Fail> {
+    let held = FileDisk::create(rt, path, 8)?;
+    let is_refused = is_refused(rt, path, reason);
+    drop(held);
+    is_refused
+}
+
+// The same of a pipe.
+fn is_pipe_refused(rt: &HostRuntime, reason: &str) -> Result<bool, Fail> {
+    let (reader, _writer) = io::pipe(rt)?;
+    let path = format!(in rt.alloc(); "/proc/self/fd/{}", reader.as_raw_fd())?;
+    is_refused(rt, path.as_str(), reason)
 }
 
 // The reason is told in the system's words, and a pipe is told from a file whose sync fails.
 #[test]
 fn why_a_file_is_not_opened(rt: HostRuntime) -> Result<(), Fail> {
     make_empty_folder(&rt, "reason.test")?;
-    let missing = reason(&rt, "reason.test/missing")?;
-    assert_eq!(rt; missing.as_str(), "No such file or directory");
-    assert_eq!(rt; reason(&rt, "reason.test")?.as_str(), "Is a directory");
     let no_disk = "neither a regular file nor a block device";
-    assert_eq!(rt; reason(&rt, "/dev/null")?.as_str(), no_disk);
-    let (reader, _writer) = io::pipe(&rt)?;
-    let pipe = format!(in rt.alloc(); "/proc/self/fd/{}", reader.as_raw_fd())?;
-    assert_eq!(rt; reason(&rt, pipe.as_str())?.as_str(), no_disk);
-    let path = "reason.test/disk";
-    let held = FileDisk::create(&rt, path, 8)?;
-    assert_eq!(rt; reason(&rt, path)?.as_str(), "in use by another program");
-    drop(held);
+    assert!(rt; is_refused(&rt, "reason.test/none", "No such file or directory")?);
+    assert!(rt; is_refused(&rt, "reason.test", "Is a directory")?);
+    assert!(rt; is_refused(&rt, "/dev/null", no_disk)?);
+    assert!(rt; is_pipe_refused(&rt, no_disk)?);
+    let in_use = "in use by another program";
+    assert!(rt; is_refused_while_open(&rt, "reason.test/disk", in_use)?);
     fs::remove_dir_all(&rt, "reason.test")?;
     Ok(())
 }
@@ -128,17 +138,21 @@ fn room_of_new(rt: &HostRuntime, path: &str, len: u64) -> Result<(u64, u64), Fai
     Ok((room, FileDisk::open(rt, path)?.len()))
 }
 
+// Whether each byte of a file is zero.
+fn is_zeros(rt: &HostRuntime, path: &str) -> Result<bool, Fail> {
+    Ok(fs::read(rt, path)?.iter().all(|&byte| byte == 0))
+}
+
 // Each byte of a new file has its place on the device, and is zero.
 #[test]
 fn a_new_file_has_no_holes(rt: HostRuntime) -> Result<(), Fail> {
     make_empty_folder(&rt, "new.test")?;
+    let path = "new.test/disk";
     for len in [1, 16_384, 16_385, 100_000] {
-        let path = "new.test/disk";
         let (room, found) = room_of_new(&rt, path, len)?;
-        assert_eq!(rt; found, len);
         assert!(rt; room >= len);
-        let bytes = fs::read(&rt, path)?;
-        assert!(rt; bytes.iter().all(|&byte| byte == 0));
+        assert_eq!(rt; found, len);
+        assert!(rt; is_zeros(&rt, path)?);
         fs::remove_file(&rt, path)?;
     }
     fs::remove_dir_all(&rt, "new.test")?;
