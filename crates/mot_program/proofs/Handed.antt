@@ -78,8 +78,8 @@ one_more (Err e) old new call noted none = ([], none ∙ sym (append-nil old))
 pub one_or_failed : {T E : Type 0} (r : Result T E) (old new : List Call) (call failed : Call)
     → OnOk r (new ≡ old ++ call ∷ []) → OnErr r ((new ≡ old ++ failed ∷ []) ⊎ (new ≡ old))
     → (more : List Call) × (new ≡ old ++ more)
-one_or_failed (Ok x) old new call failed noted none = (call ∷ [], noted)
-one_or_failed (Err e) old new call failed noted none = elim none [
+one_or_failed Never (Ok x) old new call failed noted none = (call ∷ [], noted)
+one_or_failed Never (Err e) old new call failed noted none = elim none [
   | inl is ↦ (failed ∷ [], is)
   | inr is ↦ ([], is ∙ sym (append-nil old))
 ]

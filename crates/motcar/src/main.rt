@@ -4,6 +4,7 @@
 use disk_store::Unknown;
 use mot_base::Refusal;
 use mot_program::run_program;
+use std::fs::File;
 use std::io::{BufWriter, ErrorKind};
 use std::process::ExitCode;
 use std::{env, io};
@@ -20,6 +21,10 @@ fn main(rt: HostRuntime) -> ExitCode {
 
 /// Runs the program on its words and the real streams.
 fn run(rt: &HostRuntime) -> io::Result<u8> {
+    let Ok(_streams) = hold_streams(rt) else {
+        let _ = eprintln!(rt; "motcar: {}", Refusal::DeviceFault);
+        return Ok(1);
+    };
     let alloc = rt.alloc();
     let words: Vec<String> = env::args(rt)?.skip(1).collect(alloc)?;
     let mut reader = rt.reader();
@@ -34,6 +39,16 @@ fn run(rt: &HostRuntime) -> io::Result<u8> {
         &mut writer,
         &mut errors,
     ))
+}
+
+/// Takes the numbers of the standard streams that are closed, so that no file which is opened later
+/// gets one and is printed to. They are opened for reading alone: an input that is closed is empty,
+/// and what can't be printed is a fault.
+fn hold_streams(rt: &HostRuntime) -> io::Result<[File; 3]> {
+    let first = File::open(rt, "/dev/null")?;
+    let second = File::open(rt, "/dev/null")?;
+    let third = File::open(rt, "/dev/null")?;
+    Ok([first, second, third])
 }
 
 /// Prints why the program did not begin: there was no memory, or a word was no UTF-8.

@@ -9,5 +9,5 @@ invariant_of-self g c =
     let calls = c.write.ensures in
     record {
       begins = begins_after g.K.Beginning.is_new old new c.args.self.now.begins calls.keeps.len
-          (one_or_failed c.write.result (calls_on old) (calls_on new) _ _ calls.noted calls.noted_failure);
+          (one_or_failed _ c.write.result (calls_on old) (calls_on new) _ _ calls.noted calls.noted_failure);
     }
