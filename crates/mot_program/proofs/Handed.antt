@@ -67,21 +67,16 @@ BeginWith-more first calls more begins =
     subst (BeginWith first) (sym (ap (λ l. l ++ more) whole ∙ append_assoc first later more))
     (take-append_seam first (later ++ more))
 
--- one call more, or none
-pub one_more : {T E : Type 0} (r : Result T E) (old new : List Call) (call : Call)
-    → OnOk r (new ≡ old ++ call ∷ []) → OnErr r (new ≡ old)
-    → (more : List Call) × (new ≡ old ++ more)
-one_more (Ok x) old new call noted none = (call ∷ [], noted)
-one_more (Err e) old new call noted none = ([], none ∙ sym (append-nil old))
-
--- the same where a call that failed may be noted
-pub one_or_failed : {T E : Type 0} (r : Result T E) (old new : List Call) (call failed : Call)
-    → OnOk r (new ≡ old ++ call ∷ []) → OnErr r ((new ≡ old ++ failed ∷ []) ⊎ (new ≡ old))
+-- one call more, with its answer, or none
+pub one_or_failed : {T E : Type 0} (Never : Type 0) (r : Result T E) (old new : List Call)
+    (call failed : Call)
+    → OnOk r (new ≡ old ++ call ∷ [])
+    → OnErr r ((new ≡ old ++ failed ∷ []) ⊎ (new ≡ old) × Never)
     → (more : List Call) × (new ≡ old ++ more)
 one_or_failed Never (Ok x) old new call failed noted none = (call ∷ [], noted)
 one_or_failed Never (Err e) old new call failed noted none = elim none [
   | inl is ↦ (failed ∷ [], is)
-  | inr is ↦ ([], is ∙ sym (append-nil old))
+  | inr is ↦ ([], is.0 ∙ sym (append-nil old))
 ]
 
 -- whatever is called on it, its first calls stay

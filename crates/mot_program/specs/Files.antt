@@ -1,7 +1,7 @@
 -- A file that the program opened or made, as a disk.
 use Rattle.std.specs.Prelude.{◌≡◌, ℕ, Bool, true, false, List, [], ◌∷◌, length, take}
-use Rattle.disk_store.specs.Calls.{AreRight, Call, Locked, Made, Opened, after_call, content_after}
-use Rattle.disk_store.specs.Calls.{no_content}
+use Rattle.disk_store.specs.Calls.{AreRight, Call, after_call, content_after, making_calls}
+use Rattle.disk_store.specs.Calls.{no_content, opening_calls}
 use Rattle.disk_store.specs.Content.{replayed_state}
 use Rattle.disk_store.specs.Disk.{IsNew, State}
 use Rattle.disk_store.specs.File.{calls_on, file_state}
@@ -10,8 +10,8 @@ use Rattle.disk_store.specs.declared.file.FileDiskFrom.{FileDiskFrom}
 
 -- the calls that make a disk of a new file, and of one that was there
 abbrev pub first_calls : Bool → ℕ → List Call
-first_calls true len = Locked ∷ Made len ∷ []
-first_calls false len = Locked ∷ Opened len ∷ []
+first_calls true len = making_calls len
+first_calls false len = opening_calls len
 
 -- these calls begin with those
 abbrev pub BeginWith : List Call → List Call → Type 0

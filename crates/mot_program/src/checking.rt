@@ -18,13 +18,11 @@ use mot_base::Refusal;
 use mot_journal::Layout;
 use mot_server::Server;
 use std::alloc::Global;
-use std::fs::File;
 use std::io::Write;
-use std::rt::Files;
 
 /// Prints what the disk of the file at the path keeps, whether it is clean, and its layout.
-pub(crate) fn check_file<T: Files<File = File>, S: Start, W: Write>(
-    rt: &T,
+pub(crate) fn check_file<S: Start, W: Write>(
+    rt: &HostRuntime,
     alloc: Global,
     path: &str,
     start: S,

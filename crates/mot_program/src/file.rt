@@ -5,13 +5,11 @@ ghost use Rattle.mot_program.specs.Files.{IsFirst};
 
 use crate::begun::{BegunFile, WasMade, WasThere};
 use disk_store::{FileDiskFrom, Start, Unopened};
-use std::fs::File;
 use std::marker::PhantomData;
-use std::rt::Files;
 
 /// Opens the file at the path as a disk.
-pub(crate) fn open_file<T: Files<File = File>, S: Start>(
-    rt: &T,
+pub(crate) fn open_file<S: Start>(
+    rt: &HostRuntime,
     path: &str,
     start: S,
 ) -> Result<BegunFile<S, WasThere>, Unopened<S>>
@@ -25,8 +23,8 @@ pub(crate) fn open_file<T: Files<File = File>, S: Start>(
 }
 
 /// Makes a new file of so many zeros, as a disk.
-pub(crate) fn make_file<T: Files<File = File>, S: Start>(
-    rt: &T,
+pub(crate) fn make_file<S: Start>(
+    rt: &HostRuntime,
     path: &str,
     len: u64,
     start: S,

@@ -13,14 +13,12 @@ use disk_store::{Disk, Start};
 use mot_base::{Geometry, Refusal};
 use mot_journal::format;
 use std::fs;
-use std::fs::File;
 use std::io::Write;
-use std::rt::Files;
 
 /// Makes a disk of the file at the path, which is made where it can't be opened, and taken away
 /// again where the disk could not be made of it. No file is touched for a geometry out of range.
-pub(crate) fn format_file<T: Files<File = File>, S: Start, W: Write>(
-    rt: &T,
+pub(crate) fn format_file<S: Start, W: Write>(
+    rt: &HostRuntime,
     path: &str,
     start: S,
     geometry: Geometry,
@@ -47,8 +45,8 @@ pub(crate) fn format_file<T: Files<File = File>, S: Start, W: Write>(
 }
 
 /// Makes a new file, and a disk of it. Where it can't be formatted, it is taken away again.
-fn format_new_file<T: Files<File = File>, S: Start, W: Write>(
-    rt: &T,
+fn format_new_file<S: Start, W: Write>(
+    rt: &HostRuntime,
     path: &str,
     start: S,
     geometry: Geometry,

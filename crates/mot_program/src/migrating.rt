@@ -11,14 +11,12 @@ use crate::printing::write_last;
 use disk_store::{Disk, Start};
 use mot_server::Server;
 use std::alloc::Global;
-use std::fs::File;
 use std::io::Write;
-use std::rt::Files;
 
 /// Rewrites the disk of the file at the path into layout 2, and prints whether there was anything
 /// to do.
-pub(crate) fn migrate_file<T: Files<File = File>, S: Start, W: Write>(
-    rt: &T,
+pub(crate) fn migrate_file<S: Start, W: Write>(
+    rt: &HostRuntime,
     alloc: Global,
     path: &str,
     start: S,

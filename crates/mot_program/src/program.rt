@@ -19,14 +19,12 @@ use disk_store::Start;
 use mot_base::Refusal;
 use std::alloc::{AllocError, Global};
 use std::convert::AsStr;
-use std::fs::File;
 use std::io::{Read, Write};
-use std::rt::Files;
 
 /// Does what the words after the program's own name ask for, and answers the exit status, as
 /// `run_on` does.
-pub fn run_program<T: Files<File = File>, S: AsStr, B: Start, R: Read, W: Write, E: Write>(
-    rt: &T,
+pub fn run_program<S: AsStr, B: Start, R: Read, W: Write, E: Write>(
+    rt: &HostRuntime,
     alloc: Global,
     words: &[S],
     start: B,
@@ -54,8 +52,8 @@ pub fn run_program<T: Files<File = File>, S: AsStr, B: Start, R: Read, W: Write,
 /// on. What went wrong is printed to `errors`.
 ///
 /// `start` is for clauses alone: what the file that is opened held then. A program gives `Unknown`.
-pub fn run_on<T: Files<File = File>, S: AsStr, B: Start, R: Read, W: Write, E: Write>(
-    rt: &T,
+pub fn run_on<S: AsStr, B: Start, R: Read, W: Write, E: Write>(
+    rt: &HostRuntime,
     alloc: Global,
     words: &[S],
     start: B,
@@ -104,8 +102,8 @@ pub fn run_on<T: Files<File = File>, S: AsStr, B: Start, R: Read, W: Write, E: W
 }
 
 /// Does a task.
-fn execute<T: Files<File = File>, B: Start, R: Read, W: Write>(
-    rt: &T,
+fn execute<B: Start, R: Read, W: Write>(
+    rt: &HostRuntime,
     alloc: Global,
     task: Task<'_>,
     start: B,

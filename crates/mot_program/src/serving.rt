@@ -14,9 +14,7 @@ use mot_journal::format;
 use mot_server::Server;
 use mot_session::serve;
 use std::alloc::Global;
-use std::fs::File;
 use std::io::{Read, Write};
-use std::rt::Files;
 
 /// How many reads the program gives its input.
 pub const READS: u64 = 4_294_967_296;
@@ -58,8 +56,8 @@ pub(crate) fn serve_memory<S: Start, R: Read, W: Write>(
 
 /// Serves the reader's lines from the disk of the file at the path; answers what ended it before
 /// the input's end.
-pub(crate) fn serve_file<T: Files<File = File>, S: Start, R: Read, W: Write>(
-    rt: &T,
+pub(crate) fn serve_file<S: Start, R: Read, W: Write>(
+    rt: &HostRuntime,
     alloc: Global,
     path: &str,
     start: S,

@@ -5,11 +5,9 @@ mod files;
 use disk_store::Unknown;
 use mot_program::run_program;
 use std::alloc::AllocError;
-use std::fs::File;
 use std::io;
 use std::io::Write;
 use std::process::Abort;
-use std::rt::Files;
 use std::test::Fail;
 
 const HELLO: &str = "raw 4 2 68656c6c6f\n";
@@ -20,7 +18,7 @@ const HELLO_PACKET: &str = "packet 0c011074008000120002000568656c6c6f34cf0000008
 
 /// Runs the program on these words and this input; gives its status.
 fn run<W: Write>(
-    rt: &(impl AllocGlobal + Files<File = File>),
+    rt: &HostRuntime,
     words: &str,
     input: &str,
     writer: &mut W,
@@ -42,7 +40,7 @@ fn run<W: Write>(
 
 /// What the program writes to its output, run on these words and this input.
 fn output(
-    rt: &(impl AllocGlobal + Files<File = File>),
+    rt: &HostRuntime,
     words: &str,
     input: &str,
 ) -> Result<Vec<u8>, AllocError> {
@@ -58,7 +56,7 @@ type Row<'a> = (&'a str, &'a str, u8, &'a str);
 
 /// Runs the program as each row says.
 fn expect_rows(
-    rt: &(impl Abort + AllocGlobal + Files<File = File>),
+    rt: &HostRuntime,
     rows: &[Row<'_>],
 ) -> Result<(), AllocError> {
     for row in rows {
@@ -69,7 +67,7 @@ fn expect_rows(
 
 /// Runs the program as a row says.
 fn expect_row(
-    rt: &(impl Abort + AllocGlobal + Files<File = File>),
+    rt: &HostRuntime,
     row: Row<'_>,
 ) -> Result<(), AllocError> {
     let (words, input, status, text) = row;
@@ -85,7 +83,7 @@ fn expect_row(
 
 /// Looks whether each of these words is refused so, and nothing else is printed.
 fn expect_refusals(
-    rt: &(impl Abort + AllocGlobal + Files<File = File>),
+    rt: &HostRuntime,
     lines: &[&str],
     refusal: &str,
 ) -> Result<(), AllocError> {
@@ -128,7 +126,7 @@ fn refused_geometries(rt: HostRuntime) -> Result<(), Fail> {
 
 /// Runs the program, and looks whether it printed to the output or to the errors alone.
 fn expect_text(
-    rt: &(impl Abort + AllocGlobal + Files<File = File>),
+    rt: &HostRuntime,
     words: &str,
     status: u8,
 ) -> Result<(), AllocError> {
@@ -161,7 +159,7 @@ fn wrong_words_and_help(rt: HostRuntime) -> Result<(), Fail> {
 
 /// Looks whether the help of these words has this line.
 fn expect_line(
-    rt: &(impl Abort + AllocGlobal + Files<File = File>),
+    rt: &HostRuntime,
     words: &str,
     line: &str,
 ) -> Result<(), AllocError> {
@@ -239,7 +237,7 @@ impl Write for FailingWriter {
 
 /// Looks whether the program answers that this output failed.
 fn expect_fault<W: Write>(
-    rt: &(impl Abort + AllocGlobal + Files<File = File>),
+    rt: &HostRuntime,
     words: &str,
     writer: &mut W,
 ) -> Result<(), AllocError> {

@@ -87,7 +87,7 @@ returns-in-Some-clause-refused g c =
             (λ before after.
             Stopped (state new.disk) before after (whole_lines r.0) count old written)
             g.met.D.Disk.sound opens.keeps opens.opened opens.still opens.going opens.at_start
-            calls.keeps led)
+            calls.keeps led.0)
         | inr led ↦ inr (
           led.0,
           opens_to state c.args.disk server new

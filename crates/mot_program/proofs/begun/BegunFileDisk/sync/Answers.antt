@@ -1,5 +1,5 @@
 use Rattle.disk_store.specs.File.{calls_on}
-use Rattle.mot_program.proofs.Handed.{begins_after, one_more}
+use Rattle.mot_program.proofs.Handed.{begins_after, one_or_failed}
 use Rattle.mot_program.proofs.begun.BegunFileDisk.sync.Goals as goal
 
 pub invariant_of-self : goal.invariant_of-self
@@ -9,5 +9,6 @@ invariant_of-self g c =
     let calls = c.sync.ensures in
     record {
       begins = begins_after g.K.Beginning.is_new old new c.args.self.now.begins calls.keeps.len
-          (one_more c.sync.result (calls_on old) (calls_on new) _ calls.noted calls.unnoted);
+          (one_or_failed _ c.sync.result (calls_on old) (calls_on new) _ _ calls.noted
+          calls.noted_failure);
     }
