@@ -44,9 +44,10 @@ pub(crate) fn serve_memory<S: Start, R: Read, W: Write>(
     let Some(mut disk) = RamDisk::new(alloc, geometry.length()) else {
         return Finished::untouched(Refusal::OutOfMemory, start);
     };
-    if let Err(refusal) = format(&mut disk, &geometry) {
-        return Finished::untouched(refusal, start);
-    }
+    // A disk of zeros that is long enough is refused for nothing else.
+    let Ok(()) = format(&mut disk, &geometry) else {
+        return Finished::untouched(Refusal::DeviceFault, start);
+    };
     let ended = serve_disk(alloc, disk, reader, writer);
     Finished {
         result: ended.result,
