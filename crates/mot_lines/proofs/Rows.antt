@@ -8,7 +8,7 @@ use Rattle.mot_base.specs.declared.refusal.Refusal.TheVariants.{BadLine, BadType
 use Rattle.mot_base.specs.declared.refusal.Refusal.TheVariants.{BadBody, EmptyBody}
 use Rattle.mot_lines.specs.declared.line.Line.TheVariants.{Raw}
 use Rattle.mot_lines.specs.declared.line.Line.TheVariants as asks
-use Rattle.mot_lines.specs.declared.line.TheConstants.{MAX_LINE}
+use Rattle.mot_lines.specs.declared.line.TheConstants.{MAX_LINE, MAX_PACKETS}
 use Rattle.mot_lines.specs.Line.{raw_of, request_of, line_of}
 use Rattle.mot_lines.specs.Lines.{whole_lines, rest_of, lines_of}
 use Rattle.mot_lines.specs.Text.{refusal_line}
@@ -60,3 +60,6 @@ list_line = refl
 
 max_line : MAX_LINE ≡ 530000
 max_line = refl
+
+max_packets : MAX_PACKETS ≡ 100000
+max_packets = refl
