@@ -27,8 +27,9 @@ impl<S: Start> From<Unopened<S>> for DiskFault {
 
 impl FileDiskFrom<Unknown> {
     /// Opens a file or a block device that is there, and reads nothing of it but its length. What
-    /// it gives is synced. It fails where the path names nothing or anything else, where the file
-    /// may not be read and written, and where another opening of it lives.
+    /// it gives is synced, and comes from the device. It fails where the path names nothing or
+    /// anything else, where the file may not be read and written or has a second name, and where
+    /// another opening of it lives.
     pub fn open(rt: &HostRuntime, path: &str) -> Result<FileDisk, DiskFault>
         ensures new { IfOk result (λ disk. IsNew (file_state disk).bytes (file_state disk)) }
         ensures can_sync { IfOk result CanSync }
@@ -42,8 +43,8 @@ impl FileDiskFrom<Unknown> {
     }
 
     /// Makes a new file of so many zeros, and opens it. It fails where the path names anything, and
-    /// then leaves that as it is; where it fails later, it takes the file away again. No zero is
-    /// written or read: that the system gives them is part of what honest means.
+    /// then leaves that as it is; where it fails later, it takes the file away again. Each zero is
+    /// written, so that the file has no holes.
     pub fn create(
         rt: &HostRuntime,
         path: &str,
