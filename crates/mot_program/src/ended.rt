@@ -1,9 +1,9 @@
 //! How a task ends, and the disk that it leaves.
-ghost use Rattle.std.specs.Prelude.{◌≡◌, Err, None};
+ghost use Rattle.std.specs.Prelude.{◌≡◌, Err, None, Some};
 ghost use Rattle.mot_program.specs.declared.ended.UsedDisk.TheVariants.{OfFile, Untouched};
 
 use crate::begun::{Beginning, BegunFile};
-use disk_store::{Disk, FileDiskFrom, RamDisk, Start, Unopened};
+use disk_store::{Disk, FileDiskFrom, OpenFault, RamDisk, Start, Unopened};
 use mot_base::Refusal;
 use mot_server::Refused;
 
@@ -49,16 +49,23 @@ impl<S: Start> Exit<S> {
 pub(crate) struct Finished<S: Start> {
     pub(crate) result: Result<(), Refusal>,
     pub(crate) disk: UsedDisk<S>,
+    /// Why the file was not opened or made.
+    pub(crate) fault: Option<OpenFault>,
 }
 
 impl<S: Start> Finished<S> {
     /// Refused before a file was opened or made.
     pub(crate) fn untouched(refusal: Refusal, start: S) -> Self
-        ensures { result ≡ record { result = Err refusal; disk = Untouched start } }
+        ensures { result ≡ record {
+          result = Err refusal;
+          disk = Untouched start;
+          fault = None;
+        } }
     {
         Finished {
             result: Err(refusal),
             disk: UsedDisk::Untouched(start),
+            fault: None,
         }
     }
 
@@ -67,18 +74,28 @@ impl<S: Start> Finished<S> {
         ensures { result ≡ record {
           result = Err Refusal.DeviceFault;
           disk = Untouched unopened.start;
+          fault = Some unopened.fault;
         } }
     {
-        Finished::untouched(Refusal::DeviceFault, unopened.start)
+        Finished {
+            result: Err(Refusal::DeviceFault),
+            disk: UsedDisk::Untouched(unopened.start),
+            fault: Some(unopened.fault),
+        }
     }
 
     /// On the disk of a file.
     pub(crate) fn of_file<K: Beginning>(ended: Ended<BegunFile<S, K>>) -> Self
-        ensures { result ≡ record { result = ended.result; disk = OfFile ended.disk.disk } }
+        ensures { result ≡ record {
+          result = ended.result;
+          disk = OfFile ended.disk.disk;
+          fault = None;
+        } }
     {
         Finished {
             result: ended.result,
             disk: UsedDisk::OfFile(ended.disk.disk),
+            fault: None,
         }
     }
 }

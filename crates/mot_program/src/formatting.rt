@@ -9,7 +9,7 @@ ghost use Rattle.mot_program.specs.Report.{Formats, StopsFormatting, formatted_l
 
 use crate::ended::{Ended, Finished};
 use crate::file::{make_file, open_file};
-use disk_store::{Disk, Start};
+use disk_store::{Disk, Start, Unopened};
 use mot_base::{Geometry, Refusal};
 use mot_journal::format;
 use std::fs;
@@ -40,7 +40,7 @@ pub(crate) fn format_file<S: Start, W: Write>(
             let result = format_disk(&mut disk, &geometry, writer);
             Finished::of_file(Ended { disk, result })
         }
-        Err(unopened) => format_new_file(rt, path, unopened.start, geometry, writer),
+        Err(unopened) => format_new_file(rt, path, unopened, geometry, writer),
     }
 }
 
@@ -48,7 +48,7 @@ pub(crate) fn format_file<S: Start, W: Write>(
 fn format_new_file<S: Start, W: Write>(
     rt: &HostRuntime,
     path: &str,
-    start: S,
+    unopened: Unopened<S>,
     geometry: Geometry,
     writer: &mut W,
 ) -> Finished<S>
@@ -61,9 +61,9 @@ fn format_new_file<S: Start, W: Write>(
         ⊎ OnOpenedOrMade geometry (StopsFormatting geometry r
         (W.contents writer.old) (W.contents writer.new)) result.disk) }
 {
-    let mut disk = match make_file(rt, path, geometry.length(), start) {
+    let mut disk = match make_file(rt, path, geometry.length(), unopened.start) {
         Ok(disk) => disk,
-        Err(unopened) => return Finished::unopened(unopened),
+        Err(unmade) => return Finished::unopened(unmade.behind(unopened.fault)),
     };
     let result = format_disk(&mut disk, &geometry, writer);
     if is_unformatted(&result) {

@@ -12,6 +12,7 @@ mod options;
 mod printing;
 mod program;
 mod serving;
+mod subject;
 mod task;
 
 pub use ended::{Exit, UsedDisk};

@@ -7,6 +7,7 @@ ghost use Rattle.mot_base.specs.declared.refusal.Refusal.TheVariants.{OutOfMemor
 ghost use Rattle.mot_program.specs.declared.ended.UsedDisk.TheVariants.{Untouched};
 ghost use Rattle.mot_lines.specs.Inner.Listing.{listing_text_beside, object_line_beside};
 
+use crate::subject::{BadNumber, Subject};
 use crate::ended::{Exit, UsedDisk};
 use clap::Error;
 use clap::error::ErrorKind;
@@ -84,27 +85,39 @@ pub(crate) fn explain<S: Start, W: Write, E: Write>(
     let kind = error.kind();
     let disk = UsedDisk::Untouched(start);
     if kind == ErrorKind::OutOfMemory {
-        return refuse(errors, Refusal::OutOfMemory, disk);
+        return refuse(errors, Refusal::OutOfMemory, Subject::Nothing, disk);
     }
     if kind != ErrorKind::DisplayHelp {
         let _ = write!(errors, "{error}");
         return Exit::unrefused(2, disk);
     }
     if write!(writer, "{error}").is_err() || writer.flush().is_err() {
-        return refuse(errors, Refusal::WriteFault, disk);
+        return refuse(errors, Refusal::WriteFault, Subject::Nothing, disk);
     }
     Exit::unrefused(0, disk)
 }
 
-/// Ends a run by a refusal that is no line's reply, and prints it.
+/// Ends a run by a refusal that is no line's reply, and prints it, and on a second line what it is
+/// about.
 pub(crate) fn refuse<S: Start, E: Write>(
     errors: &mut E,
     refusal: Refusal,
+    subject: Subject<'_>,
     disk: UsedDisk<S>,
 ) -> Exit<S>
     ensures { result ≡ record { status = 1; refusal = Some refusal; disk = disk } }
 {
     let _ = writeln!(errors, "motcar: {refusal}");
+    match subject {
+        Subject::Nothing => {}
+        Subject::File { path, fault } => {
+            let _ = writeln!(errors, "motcar: {path}: {fault}");
+        }
+        Subject::Number { option, number } => {
+            let BadNumber { name, range } = option;
+            let _ = writeln!(errors, "motcar: --{name} {number}: {range}");
+        }
+    }
     Exit {
         status: 1,
         refusal: Some(refusal),

@@ -14,6 +14,7 @@ use crate::formatting::format_file;
 use crate::migrating::migrate_file;
 use crate::printing::{explain, refuse};
 use crate::serving::{serve_file, serve_memory};
+use crate::subject::{Subject, subject_of};
 use crate::task::task_of;
 use disk_store::Start;
 use mot_base::Refusal;
@@ -81,7 +82,12 @@ pub fn run_on<S: AsStr, B: Start, R: Read, W: Write, E: Write>(
     let command = match command(alloc) {
         Ok(command) => command,
         Err(AllocError) => {
-            return refuse(errors, Refusal::OutOfMemory, UsedDisk::Untouched(start));
+            return refuse(
+                errors,
+                Refusal::OutOfMemory,
+                Subject::Nothing,
+                UsedDisk::Untouched(start),
+            );
         }
     };
     let matches = match command.try_get_matches_from(words) {
@@ -92,12 +98,22 @@ pub fn run_on<S: AsStr, B: Start, R: Read, W: Write, E: Write>(
         return Exit::unrefused(2, UsedDisk::Untouched(start));
     };
     let Some(task) = task_of(name, rest) else {
-        return refuse(errors, Refusal::BadGeometry, UsedDisk::Untouched(start));
+        let subject = subject_of(Refusal::BadGeometry, rest, None);
+        return refuse(
+            errors,
+            Refusal::BadGeometry,
+            subject,
+            UsedDisk::Untouched(start),
+        );
     };
-    let Finished { result, disk } = execute(rt, alloc, task, start, reader, writer);
+    let Finished {
+        result,
+        disk,
+        fault,
+    } = execute(rt, alloc, task, start, reader, writer);
     match result {
         Ok(()) => Exit::unrefused(0, disk),
-        Err(refusal) => refuse(errors, refusal, disk),
+        Err(refusal) => refuse(errors, refusal, subject_of(refusal, rest, fault), disk),
     }
 }
 

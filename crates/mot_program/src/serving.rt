@@ -52,6 +52,7 @@ pub(crate) fn serve_memory<S: Start, R: Read, W: Write>(
     Finished {
         result: ended.result,
         disk: UsedDisk::InMemory(ended.disk, start),
+        fault: None,
     }
 }
 

@@ -10,6 +10,7 @@ use crate::DiskFault;
 use crate::call_count::CallCount;
 use std::fs;
 use std::fs::{File, OpenOptions};
+use std::io::ErrorKind;
 use std::marker::PhantomData;
 
 /// A file that was not opened or made as a disk, and the value that opening it would have used up.
@@ -17,6 +18,23 @@ use std::marker::PhantomData;
 pub struct Unopened<S: Start> {
     pub start: S,
     pub fault: OpenFault,
+}
+
+impl<S: Start> Unopened<S> {
+    /// A file that was not made either, where it could not be opened for this reason. That is the
+    /// reason to tell, unless there was nothing to open.
+    pub fn behind(self, first: OpenFault) -> Unopened<S>
+        ensures { result.start ≡ self.start }
+    {
+        let fault = match first {
+            OpenFault::System(error) if error.kind() == ErrorKind::NotFound => self.fault,
+            _ => first,
+        };
+        Unopened {
+            start: self.start,
+            fault,
+        }
+    }
 }
 
 impl<S: Start> From<Unopened<S>> for DiskFault {
