@@ -28,13 +28,13 @@ abbrev IsFailure : Result Done Refusal → Type 0
 IsFailure (Ok done) = ⊥
 IsFailure (Err refusal) = Unit {0}
 
-not_ok : (done : Done) (refusal : Refusal) → Err refusal ≡ Ok done → ⊥
+pub not_ok : (done : Done) (refusal : Refusal) → Err refusal ≡ Ok done → ⊥
 not_ok done refusal e = subst IsFailure e tt
 
 abbrev failure : Refusal → Result Done Refusal
 failure refusal = Err refusal
 
-error_is : (refusal : Refusal) → failure refusal ≡ failure DeviceFault → refusal ≡ DeviceFault
+pub error_is : (refusal : Refusal) → failure refusal ≡ failure DeviceFault → refusal ≡ DeviceFault
 error_is refusal e = cc
 
 abbrev Yes : Bool → Type 0

@@ -8,6 +8,7 @@ pub mod Laws
 pub mod Openings
 pub mod Places
 pub mod Read
+pub mod RunAnswered
 pub mod Runs
 pub mod Survival
 pub mod Turns

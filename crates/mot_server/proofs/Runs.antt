@@ -28,7 +28,7 @@ abbrev Missing : Option Command → Type 0
 Missing None = Unit {0}
 Missing (Some command) = ⊥
 
-not_there : (command : Command) → None ≡ Some command → ⊥
+pub not_there : (command : Command) → None ≡ Some command → ⊥
 not_there command e = subst Missing e tt
 
 abbrev Yes : Bool → Type 0
@@ -38,7 +38,7 @@ Yes false = ⊥
 not_both : true ≡ false → ⊥
 not_both e = subst Yes e tt
 
-same : (c command : Command) → Some c ≡ Some command → c ≡ command
+pub same : (c command : Command) → Some c ≡ Some command → c ≡ command
 same c command e = cc
 
 -- one mark more, where the command was accepted

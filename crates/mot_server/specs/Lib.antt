@@ -3,6 +3,7 @@ pub mod History
 pub mod Inner
 pub mod Marks
 pub mod Playing
+pub mod RunAnswers
 pub mod RunEnds
 pub mod Runs
 pub mod Server

@@ -1,6 +1,7 @@
 //! The headline: what a crash leaves of a run of commands, opened and played.
-ghost use Rattle.std.specs.Prelude.{◌≡◌, ◌++◌, ℕ, List, length, take, vec_len, IfOk, IfErr};
+ghost use Rattle.std.specs.Prelude.{◌≡◌, ◌≤◌, ◌++◌, ℕ, List, length, take, vec_len, IfOk, IfErr};
 ghost use Rattle.std.specs.Prelude.{IfSome, IfNone};
+ghost use Rattle.disk_store.specs.Disk.{Keeps};
 ghost use Rattle.mot_base.specs.declared.geometry.Geometry.{Geometry};
 ghost use Rattle.mot_journal.specs.Image.{Standing};
 ghost use Rattle.mot_player.specs.Reading.{ReadsAs};
@@ -8,6 +9,7 @@ ghost use Rattle.mot_repository.specs.Opening.{IsPassing};
 ghost use Rattle.mot_repository.specs.Repository.{IsOf, Holds};
 ghost use Rattle.mot_server.specs.History.{IsHistory};
 ghost use Rattle.mot_server.specs.Playing.{bytes_of_packets};
+ghost use Rattle.mot_server.specs.RunAnswers.{RunAnswers};
 ghost use Rattle.mot_server.specs.RunEnds.{IsRunFault, RunLeaves};
 ghost use Rattle.mot_server.specs.Runs.{accepted_commands, commands_in_flight};
 ghost use Rattle.mot_server.specs.Runs.{IsAfter, IsAfterSome};
@@ -74,6 +76,10 @@ pub fn run_and_restart<D: Disk, E: Disk>(
         × ReadsAs (bytes_of_packets r.packets.items) last.carousel last.geometry.segment_size) }
 
     // the commands were run, and marked as they stand
+    ensures keeps { Keeps (D.state server.old.disk) (D.state server.new.disk) }
+    ensures later { (D.state server.old.disk).failures ≤ (D.state server.new.disk).failures }
+    ensures answers { RunAnswers server.old.view server.new.view commands.now
+        result.end.done.items result.end.fault }
     ensures whole { IfNone result.end.fault (vec_len result.end.done ≡ length commands.now) }
     ensures fault { IfSome result.end.fault (λ refusal. IsRunFault server.old.view server.new.view
         (D.state server.old.disk) (D.state server.new.disk) refusal) }
@@ -90,6 +96,16 @@ pub fn run_and_restart<D: Disk, E: Disk>(
         ++ take count (accepted_commands commands.now result.end.done.items
         ++ commands_in_flight commands.now result.end.done.items result.end.fault)) last
         × Holds r.server.view last (E.state r.server.disk)) }
+
+    // and a crash once the call has returned keeps each command that it accepted
+    ensures in_a_row_after { (g : Geometry) (before : List Command) (now : Standing)
+        → IsHistory g before now → Holds server.old.view now (D.state server.old.disk)
+        → (D.state server.new.disk).MayLeave (E.state left).bytes
+        → IfOk result.restarted (λ r. (E.state r.server.disk).IsHonest
+        → (count : ℕ) × (last : Standing)
+        × IsHistory g (before ++ accepted_commands commands.now result.end.done.items
+        ++ take count (commands_in_flight commands.now result.end.done.items result.end.fault))
+        last × Holds r.server.view last (E.state r.server.disk)) }
 
     // it opens, but for want of memory or a failure of the disk that was left
     ensures opens { (now : Standing) → Holds server.old.view now (D.state server.old.disk)

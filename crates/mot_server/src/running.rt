@@ -1,6 +1,7 @@
 //! Commands in a row, up to the first that can't be answered.
-ghost use Rattle.std.specs.Prelude.{◌≡◌, ◌≤◌, [], length, vec_len, Some, IfSome, IfNone, IsTrue};
-ghost use Rattle.mot_base.specs.declared.refusal.Refusal.TheVariants.{Halted};
+ghost use Rattle.std.specs.Prelude.{◌≡◌, ◌≤◌, ◌<◌, [], length, vec_len, Some, IfSome, IfNone};
+ghost use Rattle.std.specs.Prelude.{IsTrue};
+ghost use Rattle.mot_base.specs.declared.refusal.Refusal.TheVariants.{DeviceFault, Halted};
 ghost use Rattle.mot_server.specs.RunEnds.{is_run_ending};
 
 use crate::Server;
@@ -22,6 +23,7 @@ impl<D: Disk> Server<D> {
     ghost use Rattle.disk_store.specs.Disk.{Keeps};
     ghost use Rattle.mot_journal.specs.Image.{Standing};
     ghost use Rattle.mot_repository.specs.Repository.{Holds};
+    ghost use Rattle.mot_server.specs.RunAnswers.{RunAnswers};
     ghost use Rattle.mot_server.specs.RunEnds.{IsRunFault, RunLeaves, place_behind};
     ghost use Rattle.mot_server.specs.Runs.{accepted_commands, IsAfter};
     ghost use Rattle.mot_server.specs.Server.{place_in};
@@ -39,6 +41,14 @@ impl<D: Disk> Server<D> {
         // A server that is halted does nothing.
         ensures halted { IsTrue self.old.view.halted → (self.new ≡ self.old)
             × (result.done.items ≡ []) × (result.fault ≡ Some Halted) }
+
+        // On every disk each mark is right, a fault is that of the command behind the marks, and
+        // what is kept in memory is what the accepted commands made of it.
+        ensures answers { RunAnswers self.old.view self.new.view commands.now
+            result.done.items result.fault }
+        ensures layout { self.new.view.journal.layout ≡ self.old.view.journal.layout }
+        ensures in_flight { result.fault ≡ Some DeviceFault
+            → vec_len result.done < length commands.now }
 
         // The marks, the carousel, and what a crash leaves at each moment and at the end.
         ensures leaves { (s : Standing) → Holds self.old.view s (D.state self.old.disk)

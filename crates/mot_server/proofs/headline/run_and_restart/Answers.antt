@@ -1,4 +1,5 @@
 use Rattle.std.proofs.Common.{[], ◌++◌}
+use Rattle.mot_server.specs.History.{one_more}
 use Rattle.mot_server.specs.Runs.{accepted_commands, commands_in_flight}
 use Rattle.mot_server.proofs.Survival.{after_history, after_history_none, passing, if_both_ok, if_ok, if_err}
 use Rattle.mot_server.proofs.Histories.{goes_on}
@@ -57,3 +58,17 @@ returns-clause-opens g c = λ now holds left.
     if_err _ _ c.restart-restarted.result
     (λ e why honest. passing (g.E.Disk.state c.args.left) (g.E.Disk.state e.disk) stands.last e.refusal honest stands.image_is why)
     c.restart-restarted.ensures.refused
+
+pub returns-clause-in_a_row_after : goal.returns-clause-in_a_row_after
+returns-clause-in_a_row_after g c = λ geometry before now history holds left.
+    let leaves = c.run-end.ensures.leaves now holds in
+    let stands = leaves.at_end (g.E.Disk.state c.args.left).bytes left in
+    let done = c.run-end.result.done.items in
+    let sure = accepted_commands c.args.commands.now done in
+    let flight = commands_in_flight c.args.commands.now done c.run-end.result.fault in
+    if_ok _ _ c.restart-restarted.result (λ r opened honest. (
+      stands.after.count,
+      stands.last,
+      one_more before sure flight now stands.last history stands.after,
+      opened honest,
+    )) (c.restart-restarted.ensures.holds stands.last stands.image_is)

@@ -10,6 +10,10 @@ use Rattle.mot_server.specs.Server.{place_in}
 use Rattle.mot_server.proofs.Places.{none_done, stays_there, turns_there}
 use Rattle.mot_server.proofs.Runs.{Reached, begins, rests, one_longer, marks_after, accepted-true, accepted-false}
 use Rattle.mot_server.proofs.Calls.{keeps_all_on}
+use Rattle.mot_server.specs.RunAnswers.{AreAnswered}
+use Rattle.mot_server.proofs.RunAnswered.{answered_true, answered_false, answered_end}
+use Rattle.mot_server.proofs.RunAnswered.{answered_halted, answered_no_memory, answered_whole}
+use Rattle.mot_server.proofs.RunAnswered.{keeps_layout}
 use Rattle.mot_server.proofs.Answered.{goes_on_true, goes_on_false, ends_here, run_fault, as_halted, no_fault_in, no_fault_of}
 use Rattle.mot_server.proofs.server.Server.run.Goals as goal
 use Rattle.mot_server.proofs.server.Server.run.Goals.{in-Ok-execute, in-Err+else-ends_run}
@@ -43,6 +47,8 @@ loop-command-init g c = record {
   keeps = search rules;
   later = search rules;
   halted = refl;
+  answered = subst (λ l. AreAnswered c.args.self.now.view c.args.commands.now l
+      c.args.self.now.view) (sym c.in-Ok.ensures.items) refl;
   index = search rules;
   room = search rules;
   plays = λ s last holds after. none_done c.args.self.now c.args.commands.now c.in-Ok.done.items c.in-Ok.ensures.items s last after;
@@ -67,6 +73,13 @@ loop-command-preserved g c =
             keeps = keeps_all_on (state c.args.self.now.disk) (state c.loop-command.self.disk) (state c.execute.new.self.disk) c.loop-command.invariant.keeps run.keeps;
             later = omega (arith, c.loop-command.invariant.later, run.later);
             halted = as_halted c.loop-command.self.view c.execute.new.self.view (state c.loop-command.self.disk) (state c.execute.new.self.disk) c.command-item.result (Ok w.in-Ok-execute.field-0) (no_fault_in w.in-Ok-execute.field-0) run.answered ∙ c.loop-command.invariant.halted;
+            answered = subst (λ l. AreAnswered c.args.self.now.view c.args.commands.now l
+                c.execute.new.self.view) (sym now)
+                (answered_true c.args.self.now.view c.loop-command.self.view
+                c.execute.new.self.view (state c.loop-command.self.disk)
+                (state c.execute.new.self.disk) c.args.commands.now c.loop-command.done.items
+                c.command-item.result at c.loop-command.invariant.answered
+                w.in-Ok-execute.field-0 run.answered);
             index = one_longer c.loop-command.done.items c.match-execute.done.items true c.loop-command.command-index now index;
             room = subst (λ n. length c.args.commands.now ≤ n) (sym (ap (λ (v : Vec Bool). vec_capacity v) w.done-is ∙ w.push_reserved.ensures.capacity)) c.loop-command.invariant.room;
             plays = λ s last holds after.
@@ -92,6 +105,13 @@ loop-command-preserved g c =
             keeps = keeps_all_on (state c.args.self.now.disk) (state c.loop-command.self.disk) (state c.execute.new.self.disk) c.loop-command.invariant.keeps run.keeps;
             later = omega (arith, c.loop-command.invariant.later, run.later);
             halted = as_halted c.loop-command.self.view c.execute.new.self.view (state c.loop-command.self.disk) (state c.execute.new.self.disk) c.command-item.result (Err w.in-Err.refusal) (no_fault_of w.in-Err.refusal (sym w.ends_run.ensures ∙ w.if-ends_run.false)) run.answered ∙ c.loop-command.invariant.halted;
+            answered = subst (λ l. AreAnswered c.args.self.now.view c.args.commands.now l
+                c.execute.new.self.view) (sym now)
+                (answered_false c.args.self.now.view c.loop-command.self.view
+                c.execute.new.self.view (state c.loop-command.self.disk)
+                (state c.execute.new.self.disk) c.args.commands.now c.loop-command.done.items
+                c.command-item.result at c.loop-command.invariant.answered
+                w.in-Err.refusal (sym w.ends_run.ensures ∙ w.if-ends_run.false) run.answered);
             index = one_longer c.loop-command.done.items c.match-execute.done.items false c.loop-command.command-index now index;
             room = subst (λ n. length c.args.commands.now ≤ n) (sym (ap (λ (v : Vec Bool). vec_capacity v) w.done-is ∙ w.push_reserved-in-Err.ensures.capacity)) c.loop-command.invariant.room;
             plays = λ s last holds after.
@@ -123,3 +143,38 @@ pub returns-then-ends_run-clause-fault : goal.returns-then-ends_run-clause-fault
 returns-then-ends_run-clause-fault g c =
     let state = g.D.Disk.state in
     run_fault c.args.self.now.view c.loop-command.self.view c.execute.new.self.view (state c.args.self.now.disk) (state c.loop-command.self.disk) (state c.execute.new.self.disk) c.command-item.result c.in-Err.refusal c.loop-command.invariant.later c.in-Err.ensures.later c.loop-command.invariant.halted (sym c.ends_run.ensures ∙ c.if-ends_run.true) c.in-Err.ensures.answered
+
+pub returns-then-halted-clause-answers : goal.returns-then-halted-clause-answers
+returns-then-halted-clause-answers g c = answered_halted c.args.self.now.view
+    c.args.commands.now _ c.new.ensures.items (search rules)
+
+pub returns-in_default-clause-answers : goal.returns-in_default-clause-answers
+returns-in_default-clause-answers g c = answered_no_memory c.args.self.now.view
+    c.args.commands.now _ c.new-in_default.ensures.items (search rules)
+
+pub returns-then-ends_run-clause-answers : goal.returns-then-ends_run-clause-answers
+returns-then-ends_run-clause-answers g c =
+    let state = g.D.Disk.state in
+    let index = c.loop-command.invariant.index in
+    let read = slice_get_read c.args.commands.now _ c.loop-command.command-index
+    c.command-item.result refl c.loop-command-test.true c.command-item.is in
+    let at = subst (λ i. slice_get c.args.commands.now i ≡ Some c.command-item.result)
+    (sym index) read in
+    answered_end c.args.self.now.view c.loop-command.self.view c.execute.new.self.view
+    (state c.loop-command.self.disk) (state c.execute.new.self.disk) c.args.commands.now
+    c.loop-command.done.items c.command-item.result at c.loop-command.invariant.answered
+    c.in-Err.refusal (sym c.ends_run.ensures ∙ c.if-ends_run.true) c.in-Err.ensures.answered
+
+pub returns-clause-answers : goal.returns-clause-answers
+returns-clause-answers g c = answered_whole c.args.self.now.view c.loop-command.self.view
+    c.args.commands.now c.loop-command.done.items (search rules)
+    c.loop-command.invariant.answered
+
+pub returns-then-ends_run-clause-layout : goal.returns-then-ends_run-clause-layout
+returns-then-ends_run-clause-layout g c = keeps_layout c.args.self.now.view
+    c.execute.new.self.view c.args.commands.now c.loop-command.done.items (Some c.in-Err.refusal)
+    (returns-then-ends_run-clause-answers g c)
+
+pub returns-clause-layout : goal.returns-clause-layout
+returns-clause-layout g c = keeps_layout c.args.self.now.view c.loop-command.self.view
+    c.args.commands.now c.loop-command.done.items None (returns-clause-answers g c)

@@ -3,6 +3,7 @@ use Rattle.std.specs.Prelude.{vec_capacity}
 use Rattle.disk_store.specs.Disk.{Keeps}
 use Rattle.mot_journal.specs.Image.{Standing}
 use Rattle.mot_repository.specs.Repository.{Holds}
+use Rattle.mot_server.specs.RunAnswers.{AreAnswered}
 use Rattle.mot_server.specs.RunEnds.{place_behind}
 use Rattle.mot_server.specs.Runs.{accepted_commands, IsAfter}
 use Rattle.mot_server.specs.Server.{place_in}
@@ -16,6 +17,7 @@ invariant-loop-command g l =
       keeps : Keeps (state l.fn.self.disk) (state l.self.disk);
       later : (state l.fn.self.disk).failures ≤ (state l.self.disk).failures;
       halted : l.self.view.halted ≡ l.fn.self.view.halted;
+      answered : AreAnswered l.fn.self.view l.commands l.done.items l.self.view;
       index : length l.done.items ≡ l.command-index;
       room : length l.commands ≤ vec_capacity l.done;
       plays : (s last : Standing) → Holds l.fn.self.view s (state l.fn.self.disk) → IsAfter s (accepted_commands l.commands l.done.items) last
