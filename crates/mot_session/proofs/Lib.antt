@@ -1,7 +1,9 @@
 pub mod Answered
+pub mod Anyhow
 pub mod Continued
 pub mod Crashes
 pub mod Faults
+pub mod Each
 pub mod Fronts
 pub mod Joined
 pub mod Laws

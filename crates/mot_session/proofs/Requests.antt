@@ -13,7 +13,8 @@ use Rattle.mot_server.specs.Inner.Unread.{is_unchanged}
 use Rattle.mot_server.specs.Server.{ServerView, place_in}
 use Rattle.mot_server.proofs.Laws.{holds_still, keeps_on, unchanged_on}
 use Rattle.mot_session.specs.declared.serving.writing.WriteFault.{WriteFault}
-use Rattle.mot_session.specs.Inner.Writes.{AnswersOne, GoesOn, OnlyReads, Writes, sends}
+use Rattle.mot_session.specs.Inner.Writes.{AnswersOne, OnlyReads, Writes, sends}
+use Rattle.mot_session.specs.LineByLine.{GoesOn}
 use Rattle.mot_session.specs.State.{KeepsCarousel, ServerState, StandsFor, state_of}
 
 module _ {D : Type 0} (old new : ServerView D) (start now : State)

@@ -1,3 +1,4 @@
+pub mod Anyhow
 pub mod Decision
 pub mod InHand
 pub mod Writes

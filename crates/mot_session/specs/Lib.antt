@@ -1,5 +1,7 @@
 pub mod Inner
 pub mod Laws
+pub mod LineByLine
+pub mod OnAnyDisk
 pub mod Played
 pub mod Raw
 pub mod Served

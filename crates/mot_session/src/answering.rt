@@ -3,6 +3,7 @@ ghost use Rattle.disk_store.specs.Disk.{IsUnchanged, KeepsLength, Throughout};
 ghost use Rattle.mot_journal.specs.Image.{Standing};
 ghost use Rattle.mot_repository.specs.Repository.{Holds};
 ghost use Rattle.mot_server.specs.Runs.{StandsAfterSome};
+ghost use Rattle.mot_session.specs.Inner.Anyhow.{DecidesAnyhow};
 ghost use Rattle.mot_session.specs.Inner.Decision.{Decides, written_by};
 ghost use Rattle.mot_session.specs.State.{Leads};
 
@@ -43,6 +44,10 @@ pub(crate) fn answer<D: Disk>(
     ensures decides { Leads D.state server.old server.new
         (λ before after. Decides before request result after) }
 
+    // On every disk it is right for what is kept in memory.
+    ensures anyhow { DecidesAnyhow server.old.view server.new.view
+        (D.state server.old.disk).failures (D.state server.new.disk).failures request result }
+
     // At each moment a crash leaves the carousel from before, or after the request's command.
     ensures crosses { (s : Standing) → Holds server.old.view s (D.state server.old.disk)
         → Throughout (D.state server.old.disk) (D.state server.new.disk)
@@ -62,6 +67,9 @@ pub(crate) fn answer<D: Disk>(
 fn answer_request<D: Disk>(alloc: Global, request: &Line, server: &mut Server<D>) -> Decision
     ensures decides { Leads D.state server.old server.new
         (λ before after. Decides before (Ok request.now) result after) }
+    ensures anyhow { DecidesAnyhow server.old.view server.new.view
+        (D.state server.old.disk).failures (D.state server.new.disk).failures
+        (Ok request.now) result }
     ensures crosses { (s : Standing) → Holds server.old.view s (D.state server.old.disk)
         → Throughout (D.state server.old.disk) (D.state server.new.disk)
         (StandsAfterSome s [] (written_by result (Ok request.now))) }
@@ -98,6 +106,9 @@ fn show<D: Disk>(server: &Server<D>, decision: Decision) -> Decision
 fn answer_command<D: Disk>(alloc: Global, command: &Command, server: &mut Server<D>) -> Decision
     ensures decides { Leads D.state server.old server.new
         (λ before after. Decides before (Ok (Line.Command command.now)) result after) }
+    ensures anyhow { DecidesAnyhow server.old.view server.new.view
+        (D.state server.old.disk).failures (D.state server.new.disk).failures
+        (Ok (Line.Command command.now)) result }
     ensures crosses { (s : Standing) → Holds server.old.view s (D.state server.old.disk)
         → Throughout (D.state server.old.disk) (D.state server.new.disk)
         (StandsAfterSome s [] (written_by result (Ok (Line.Command command.now)))) }

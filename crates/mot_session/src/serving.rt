@@ -1,14 +1,17 @@
 ghost use Rattle.std.specs.Prelude.{◌≡◌, ℕ, ◌+◌, ◌-◌, ◌^◌, ◌≤◌, ◌<◌, ◌⊎◌, Option, List, ◌++◌};
 ghost use Rattle.std.specs.Prelude.{length, OnOk, OnErr, None, Some, IsTrue};
-ghost use Rattle.std.specs.Io.KnownBytes.{Keeps, IsAtEnd};
+ghost use Rattle.std.specs.Io.KnownBytes.{Appends, Keeps, IsAtEnd};
 ghost use Rattle.disk_store.specs.Disk.{IsUnchanged, KeepsLength};
 ghost use Rattle.mot_base.specs.declared.refusal.Refusal.TheVariants.{OutOfMemory, ReadFault};
+ghost use Rattle.mot_lines.specs.Line.{line_of};
 ghost use Rattle.mot_lines.specs.Lines.{whole_lines, lines_of};
 ghost use Rattle.mot_session.specs.Inner.InHand.{InHand};
-ghost use Rattle.mot_session.specs.Inner.Writes.{GoesOn};
+ghost use Rattle.mot_session.specs.LineByLine.{GoesOn, ServesEach, ServesSome};
 ghost use Rattle.mot_session.specs.Laws.{SessionLaws};
 ghost use Rattle.mot_session.specs.Served.{TakesInput, Served, Stopped, EndsServing};
-ghost use Rattle.mot_session.specs.Served.{ServedLine, StoppedLine};
+ghost use Rattle.mot_session.specs.OnAnyDisk.{AnswersAnyhow, BeginsAnyhow};
+ghost use Rattle.mot_session.specs.Served.{ServedLine, StoppedLine, WritesFront};
+ghost use Rattle.mot_server.specs.Server.{ServerView};
 ghost use Rattle.mot_session.specs.State.{Leads, ServerState};
 
 mod reply;
@@ -47,7 +50,9 @@ pub struct ServeEnd {
 ///
 /// What is promised of replies, of what a crash leaves, and of the server afterwards has as its
 /// premise that the server stood for something (`StandsFor`: every server does that was opened on a
-/// disk formatted here), and that the disk is honest to the end.
+/// disk formatted here), and that the disk is honest to the end; of each line it is promised where
+/// the disk is honest up to that line, whatever a later one reads (`ServesEach`). Which reply a line
+/// gets is right on every disk for what the server keeps in memory.
 pub fn serve<R: Read, W: Write, D: Disk>(
     alloc: Global,
     reader: &mut R,
@@ -63,26 +68,34 @@ pub fn serve<R: Read, W: Write, D: Disk>(
         × TakesInput reads (R.remaining reader.old) (R.remaining reader.new) input
         × IsAtEnd (R.remaining reader.new) × (result.lines ≡ length (lines_of input))
         × Leads D.state server.old server.new (λ before after. Served (D.state server.new.disk)
-        before after (lines_of input) (W.contents writer.old) (W.contents writer.new)) }
+        before after (lines_of input) (W.contents writer.old) (W.contents writer.new))
+        × ServesEach D.state server.old (lines_of input) server.new
+        (W.contents writer.old) (W.contents writer.new) }
 
     // Each line whose end was read was answered; all that was told is stored.
     ensures unread { result.fault ≡ Some ReadFault → (input : List ℕ)
         × TakesInput reads (R.remaining reader.old) (R.remaining reader.new) input
         × (result.lines ≡ length (whole_lines input))
         × Leads D.state server.old server.new (λ before after. Served (D.state server.new.disk)
-        before after (whole_lines input) (W.contents writer.old) (W.contents writer.new)) }
+        before after (whole_lines input) (W.contents writer.old) (W.contents writer.new))
+        × ServesEach D.state server.old (whole_lines input) server.new
+        (W.contents writer.old) (W.contents writer.new) }
 
     // The first lines were answered, and the reply to the next was broken off; all that was told is
     // stored. What follows the last line end is a line only where the input has ended.
     ensures unwritten { result.fault ≡ Some Refusal.WriteFault → (input : List ℕ)
         × TakesInput reads (R.remaining reader.old) (R.remaining reader.new) input
-        × (Leads D.state server.old server.new (λ before after. Stopped (D.state server.new.disk)
+        × ((Leads D.state server.old server.new (λ before after. Stopped (D.state server.new.disk)
         before after (whole_lines input) result.lines
+        (W.contents writer.old) (W.contents writer.new))
+        × ServesSome D.state server.old (whole_lines input) result.lines server.new
         (W.contents writer.old) (W.contents writer.new))
         ⊎ (IsAtEnd (R.remaining reader.new)
         × Leads D.state server.old server.new (λ before after. Stopped (D.state server.new.disk)
         before after (lines_of input) result.lines
-        (W.contents writer.old) (W.contents writer.new)))) }
+        (W.contents writer.old) (W.contents writer.new))
+        × ServesSome D.state server.old (lines_of input) result.lines server.new
+        (W.contents writer.old) (W.contents writer.new))) }
 
     // Nothing was done.
     ensures none { result.fault ≡ Some OutOfMemory → (result.lines ≡ 0) × (server.new ≡ server.old)
@@ -143,6 +156,15 @@ pub fn serve_line<W: Write, D: Disk>(
     ensures broken { OnErr result (Leads D.state server.old server.new (λ before after.
         StoppedLine (D.state server.old.disk) (D.state server.new.disk) before line.now after
         (W.contents writer.old) (W.contents writer.new))) }
+
+    // On every disk the reply is right for what is kept in memory.
+    ensures anyhow { OnOk result ((text : List ℕ) × AnswersAnyhow server.old.view server.new.view
+        (D.state server.old.disk).failures (D.state server.new.disk).failures (line_of line.now)
+        text × Appends (W.contents writer.old) (W.contents writer.new) text) }
+    ensures anyhow_broken { OnErr result ((text : List ℕ)
+        × BeginsAnyhow server.old.view server.new.view
+        (D.state server.old.disk).failures (D.state server.new.disk).failures (line_of line.now)
+        text × WritesFront text (W.contents writer.old) (W.contents writer.new)) }
     ensures keeps { KeepsLength (D.state server.old.disk) (D.state server.new.disk) }
     ensures later { (D.state server.old.disk).failures ≤ (D.state server.new.disk).failures }
 
@@ -191,6 +213,17 @@ fn answer_last<W: Write, D: Disk>(
         (W.contents writer.old)
         → Stopped (D.state server.new.disk) before after (lines_of input) result.lines old
         (W.contents writer.new)) }
+    ensures each { result.fault ≡ None
+        → (first : ServerView D) (old : Option (List ℕ)) (input : List ℕ)
+        → InHand input hand.now lines
+        → ServesEach D.state first (whole_lines input) server.old old (W.contents writer.old)
+        → ServesEach D.state first (lines_of input) server.new old (W.contents writer.new) }
+    ensures some { result.fault ≡ Some Refusal.WriteFault
+        → (first : ServerView D) (old : Option (List ℕ)) (input : List ℕ)
+        → InHand input hand.now lines
+        → ServesEach D.state first (whole_lines input) server.old old (W.contents writer.old)
+        → ServesSome D.state first (lines_of input) result.lines server.new old
+        (W.contents writer.new) }
     ensures goes { GoesOn server.old server.new
         (D.state server.old.disk) (D.state server.new.disk) }
 {
@@ -231,6 +264,16 @@ fn answer_chunk<W: Write, D: Disk>(
         (W.contents writer.old)
         → Stopped (D.state server.new.disk) before after (whole_lines (input ++ chunk.now))
         lines.new old (W.contents writer.new))) }
+    ensures each { OnOk result ((first : ServerView D) (old : Option (List ℕ)) (input : List ℕ)
+        → InHand input hand.old lines.old
+        → ServesEach D.state first (whole_lines input) server.old old (W.contents writer.old)
+        → ServesEach D.state first (whole_lines (input ++ chunk.now)) server.new old
+        (W.contents writer.new)) }
+    ensures some { OnErr result ((first : ServerView D) (old : Option (List ℕ)) (input : List ℕ)
+        → InHand input hand.old lines.old
+        → ServesEach D.state first (whole_lines input) server.old old (W.contents writer.old)
+        → ServesSome D.state first (whole_lines (input ++ chunk.now)) lines.new server.new old
+        (W.contents writer.new)) }
     ensures goes { GoesOn server.old server.new
         (D.state server.old.disk) (D.state server.new.disk) }
 {

@@ -85,14 +85,6 @@ pub data AnswersOne (result : Result (Option Bool) WriteFault) (before after : S
   fails : FailsToSend before after → IfOk result (λ shown. shown ≡ None)
       → Writes result (refusal_line DeviceFault) old new → AnswersOne result before after old new
 
--- Whatever was asked, the disk's length stays and its failures do not fall, and a halted server
--- changes nothing.
-pub record GoesOn {D : Type 0} (old new : ServerView D) (before now : State) : Type 0 where
-  pub keeps : KeepsLength before now
-  pub later : before.failures ≤ now.failures
-  pub halted : IsTrue old.view.halted → (new.view ≡ old.view)
-      × (now.IsHonest → IsUnchanged before now)
-
 -- the disk was only read, and nothing was stored or halted
 pub record OnlyReads {D : Type 0} (old new : ServerView D) (before now : State) : Type 0 where
   pub view : new.view ≡ old.view

@@ -1,4 +1,5 @@
-ghost use Rattle.std.specs.Prelude.{◌≡◌, ◌<◌, ℕ, List, Result, Ok, Some, false, IfOk};
+ghost use Rattle.std.specs.Prelude.{◌≡◌, ◌<◌, ℕ, List, Result, Ok, Some, false, IfOk, OnOk, OnErr};
+ghost use Rattle.std.specs.Prelude.{IsFalse};
 ghost use Rattle.std.specs.List.{flat_map};
 ghost use Rattle.mot_base.specs.Geometry.{IsValid};
 ghost use Rattle.mot_journal.specs.Image.{Standing};
@@ -8,10 +9,12 @@ ghost use Rattle.mot_lines.specs.Text.{packet_line};
 ghost use Rattle.mot_lines.specs.Inner.Hand.{bytes_in_hand};
 ghost use Rattle.mot_lines.specs.declared.line.Line.TheVariants as asks;
 ghost use Rattle.mot_player.specs.Laws.{bytes_left};
-ghost use Rattle.mot_repository.specs.Repository.{Holds};
+ghost use Rattle.mot_repository.specs.Repository.{Holds, RepositoryView};
+ghost use Rattle.mot_session.specs.Inner.Anyhow.{AnswersWithAnyhow, DecidesAnyhow, ShowsOne};
 ghost use Rattle.mot_session.specs.Inner.Decision.{Decides, may_be_done};
 ghost use Rattle.mot_session.specs.Inner.Writes.{Writes, AnswersLine, AnswersOne, AnswersRequest};
-ghost use Rattle.mot_session.specs.Inner.Writes.{GoesOn, OnlyReads};
+ghost use Rattle.mot_session.specs.Inner.Writes.{OnlyReads};
+ghost use Rattle.mot_session.specs.LineByLine.{BreaksOff, GoesOn, ServesOne};
 ghost use Rattle.mot_session.specs.Raw.{packets_at};
 ghost use Rattle.mot_session.specs.State.{Leads, ServerState, StandsFor, state_of};
 
@@ -41,6 +44,12 @@ pub(super) fn answer_line<W: Write, D: Disk>(
         → Leads D.state server.old server.new (λ before after. AnswersLine result
         (D.state server.old.disk) (D.state server.new.disk) before line after
         (W.contents writer.old) (W.contents writer.new)) }
+    ensures serves { OnOk result ((line : List ℕ) → hand.now ≡ bytes_in_hand line
+        → ServesOne D.state server.old line server.new
+        (W.contents writer.old) (W.contents writer.new)) }
+    ensures breaks { OnErr result ((line : List ℕ) → hand.now ≡ bytes_in_hand line
+        → BreaksOff D.state server.old line server.new
+        (W.contents writer.old) (W.contents writer.new)) }
     ensures goes { GoesOn server.old server.new
         (D.state server.old.disk) (D.state server.new.disk) }
 {
@@ -59,6 +68,10 @@ pub(super) fn respond<W: Write, D: Disk>(
         → Leads D.state server.old server.new (λ before after. AnswersLine result
         (D.state server.old.disk) (D.state server.new.disk) before line after
         (W.contents writer.old) (W.contents writer.new)) }
+    ensures anyhow { (line : List ℕ) → IsParsed request (line_of line)
+        → AnswersWithAnyhow result server.old.view server.new.view
+        (D.state server.old.disk).failures (D.state server.new.disk).failures (line_of line)
+        (W.contents writer.old) (W.contents writer.new) }
     ensures goes { GoesOn server.old server.new
         (D.state server.old.disk) (D.state server.new.disk) }
 {
@@ -81,6 +94,11 @@ fn write_reply<W: Write, D: Disk>(
         → Decides before request decision.now (state_of server.old s (D.state server.old.disk))
         → AnswersRequest result (may_be_done decision.now) before request
         (state_of server.new s (D.state server.new.disk))
+        (W.contents writer.old) (W.contents writer.new) }
+    ensures anyhow { (old : RepositoryView) (before : ℕ) (request : Result Line Refusal)
+        → DecidesAnyhow old server.old.view before (D.state server.old.disk).failures request
+        decision.now → AnswersWithAnyhow result old server.new.view before
+        (D.state server.new.disk).failures request
         (W.contents writer.old) (W.contents writer.new) }
 {
     match decision {
@@ -107,6 +125,10 @@ fn write_next<W: Write, D: Disk>(
         (state_of server.old s (D.state server.old.disk)) (Ok (asks.Next count))
         (state_of server.new s (D.state server.new.disk))
         (W.contents writer.old) (W.contents writer.new) }
+    ensures anyhow { IsFalse server.old.view.halted
+        → AnswersWithAnyhow result server.old.view server.new.view
+        (D.state server.old.disk).failures (D.state server.new.disk).failures (Ok (asks.Next count))
+        (W.contents writer.old) (W.contents writer.new) }
 {
     let mut line = PacketLine::new();
     for _ in 0..count {
@@ -126,6 +148,10 @@ fn write_turn<W: Write, D: Disk>(writer: &mut W, server: &mut Server<D>) -> Resu
         → (D.state server.new.disk).IsHonest → AnswersRequest result false
         (state_of server.old s (D.state server.old.disk)) (Ok asks.Turn)
         (state_of server.new s (D.state server.new.disk))
+        (W.contents writer.old) (W.contents writer.new) }
+    ensures anyhow { IsFalse server.old.view.halted
+        → AnswersWithAnyhow result server.old.view server.new.view
+        (D.state server.old.disk).failures (D.state server.new.disk).failures (Ok asks.Turn)
         (W.contents writer.old) (W.contents writer.new) }
 {
     let mut line = PacketLine::new();
@@ -152,6 +178,9 @@ fn write_next_packet<W: Write, D: Disk>(
         → (D.state server.new.disk).IsHonest → AnswersOne result
         (state_of server.old s (D.state server.old.disk))
         (state_of server.new s (D.state server.new.disk))
+        (W.contents writer.old) (W.contents writer.new) }
+    ensures anyhow { IsFalse server.old.view.halted → ShowsOne result
+        (D.state server.old.disk).failures (D.state server.new.disk).failures
         (W.contents writer.old) (W.contents writer.new) }
     ensures nearer { IfOk result (λ shown. shown ≡ Some false
         → bytes_left server.new.player < bytes_left server.old.player) }

@@ -1,5 +1,7 @@
 use Rattle.mot_session.proofs.Answered.{Answers-refused, crosses-none}
 use Rattle.mot_session.specs.State.{state_of}
+use Rattle.std.proofs.Common.{refl}
+use Rattle.mot_session.specs.OnAnyDisk.{no_request}
 use Rattle.mot_session.proofs.answering.answer.Goals as goal
 
 pub returns-in-Ok-clause-crosses : goal.returns-in-Ok-clause-crosses
@@ -17,3 +19,9 @@ pub returns-in-Err-clause-crosses : goal.returns-in-Err-clause-crosses
 returns-in-Err-clause-crosses g c = λ s holds.
     crosses-none c.args.server.now.view s (g.D.Disk.state c.args.server.now.disk) _
     (g.met.D.Disk.sound c.args.server.now.disk holds.journal.honest) holds
+
+pub returns-in-Ok-clause-anyhow : goal.returns-in-Ok-clause-anyhow
+returns-in-Ok-clause-anyhow g c = rw c.in-Ok.is c.answer_request.ensures.anyhow
+
+pub returns-in-Err-clause-anyhow : goal.returns-in-Err-clause-anyhow
+returns-in-Err-clause-anyhow g c = rw c.in-Err.is (no_request c.in-Err.refusal refl refl refl)

@@ -1,6 +1,7 @@
 use Rattle.mot_session.proofs.Answered.{Answers-accepted, Answers-refused_command}
 use Rattle.mot_session.proofs.Answered.{crosses-accepted, crosses-refused, stays_halted}
 use Rattle.mot_server.proofs.Laws.{not_halted}
+use Rattle.mot_session.proofs.Anyhow.{anyhow-accepted, anyhow-refused}
 use Rattle.mot_session.proofs.answering.answer_command.Goals as goal
 
 pub returns-in-Ok-clause-decides : goal.returns-in-Ok-clause-decides
@@ -46,3 +47,17 @@ returns-in-Err-clause-halted g c = λ is.
     let state = g.D.Disk.state in
     stays_halted c.args.server.now.view c.execute.new.self.view (state c.args.server.now.disk)
     (state c.execute.new.self.disk) c.args.command.now c.in-Err.refusal is c.in-Err.ensures.answered
+
+pub returns-in-Ok-clause-anyhow : goal.returns-in-Ok-clause-anyhow
+returns-in-Ok-clause-anyhow g c =
+    let state = g.D.Disk.state in
+    anyhow-accepted c.args.server.now.view c.execute.new.self.view (state c.args.server.now.disk)
+    (state c.execute.new.self.disk) c.args.command.now c.in-Ok.done c.in-Ok.ensures.going
+    c.in-Ok.ensures.answered
+
+pub returns-in-Err-clause-anyhow : goal.returns-in-Err-clause-anyhow
+returns-in-Err-clause-anyhow g c =
+    let state = g.D.Disk.state in
+    anyhow-refused c.args.server.now.view c.execute.new.self.view (state c.args.server.now.disk)
+    (state c.execute.new.self.disk) c.args.command.now c.in-Err.refusal
+    c.in-Err.ensures.answered

@@ -4,6 +4,12 @@ use Rattle.mot_lines.specs.declared.line.Line.TheVariants as asks
 use Rattle.mot_session.specs.declared.answering.Decision.TheVariants as decision
 use Rattle.mot_session.specs.State.{state_of}
 use Rattle.mot_session.proofs.Answered.{Answers-list, Answers-raw, Decides-shown, crosses-none}
+use Rattle.std.proofs.Common.{ap}
+use Rattle.std.specs.List.{flat_map}
+use Rattle.mot_lines.specs.Text.{packet_line}
+use Rattle.mot_session.specs.Raw.{packets_at}
+use Rattle.mot_session.specs.OnAnyDisk.{listed, no_memory, raw}
+use Rattle.mot_session.proofs.Anyhow.{anyhow-shown}
 use Rattle.mot_session.proofs.answering.answer_request.Goals as goal
 
 pub returns-in-Command-clause-crosses : goal.returns-in-Command-clause-crosses
@@ -69,3 +75,31 @@ pub returns-in-Turn-clause-crosses : goal.returns-in-Turn-clause-crosses
 returns-in-Turn-clause-crosses g c = λ s holds.
     crosses-none c.args.server.now.view s (g.D.Disk.state c.args.server.now.disk) _
     (g.met.D.Disk.sound c.args.server.now.disk holds.journal.honest) holds
+
+pub returns-in-Command-clause-anyhow : goal.returns-in-Command-clause-anyhow
+returns-in-Command-clause-anyhow g c = rw c.in-Command.is c.answer_command.ensures.anyhow
+
+pub returns-in-Ok-clause-anyhow : goal.returns-in-Ok-clause-anyhow
+returns-in-Ok-clause-anyhow g c = rw c.in-Raw.is (raw c.in-Raw.kind c.in-Raw.tid
+    c.in-Raw.body refl refl (ap (λ l. flat_map packet_line
+    (packets_at c.args.server.now.view.journal.geometry l)) c.in-Ok.ensures))
+
+pub returns-in-Err-clause-anyhow : goal.returns-in-Err-clause-anyhow
+returns-in-Err-clause-anyhow g c = rw c.in-Raw.is (no_memory tt refl refl)
+
+pub returns-in-List-clause-anyhow : goal.returns-in-List-clause-anyhow
+returns-in-List-clause-anyhow g c = rw c.in-List.is (
+    anyhow-shown c.args.server.now.view _ (Ok asks.List) decision.Listing c.show.result tt
+    c.show.ensures.halted c.show.ensures.going (λ going. listed refl going refl refl))
+
+pub returns-in-Next-clause-anyhow : goal.returns-in-Next-clause-anyhow
+returns-in-Next-clause-anyhow g c = rw c.in-Next.is (
+    anyhow-shown c.args.server.now.view _ (Ok (asks.Next c.in-Next.count))
+    (decision.Next c.in-Next.count) c.show-in-Next.result tt c.show-in-Next.ensures.halted
+    c.show-in-Next.ensures.going (λ going. (refl, going, refl, refl)))
+
+pub returns-in-Turn-clause-anyhow : goal.returns-in-Turn-clause-anyhow
+returns-in-Turn-clause-anyhow g c = rw c.in-Turn.is (
+    anyhow-shown c.args.server.now.view _ (Ok asks.Turn) decision.Turn c.show-in-Turn.result tt
+    c.show-in-Turn.ensures.halted c.show-in-Turn.ensures.going
+    (λ going. (refl, going, refl, refl)))

@@ -9,6 +9,8 @@ use Rattle.mot_session.specs.State.{state_of}
 use Rattle.mot_session.proofs.Outcomes.{later-answers, later-begins}
 use Rattle.mot_session.proofs.Requests.{goes_on-more, goes_on-none}
 use Rattle.mot_session.proofs.Runs.{InHand-end, InHand-within, Served-push, Stopped-here}
+use Rattle.mot_session.specs.LineByLine.{ServesEach}
+use Rattle.mot_session.proofs.Each.{each-more, some-here}
 use Rattle.mot_session.proofs.serving.answer_chunk.Goals as goal
 
 -- a line and its end, taken from what is left
@@ -54,6 +56,9 @@ loop-line-init g c =
               (whole_lines xs) old
               (g.W.Write.contents c.args.writer.now)) (sym (append-nil input)) served,
         ),
+        λ first old input is each. subst (λ xs. ServesEach g.D.Disk.state first (whole_lines xs)
+            c.args.server.now old (g.W.Write.contents c.args.writer.now))
+            (sym (append-nil input)) each,
       );
     }
 
@@ -120,6 +125,20 @@ loop-line-preserved g c =
                   (sym (whole_lines-within xs line c.in-Some.ensures.first)) (f.2 served))
                   later.moment told.reply told.answers told.crosses)),
             ),
+        λ before old input is each.
+            let xs : List ℕ = input ++ so_far.0 in
+            let h0 = so_far.2 input is in
+            let h1 = InHand-within xs c.loop-line.hand c.loop-line.lines h0 line c.add.new.self
+            c.in-Some.ensures.first (c.add.ensures (rest_of xs) h0.rest) in
+            subst (λ l. ServesEach state before (whole_lines l) new old
+            (g.W.Write.contents c.answer_line.new.writer)) (joined input so_far.0 line)
+            (subst (λ l. ServesEach state before l new old
+            (g.W.Write.contents c.answer_line.new.writer)) (sym (whole_lines-end (xs ++ line)))
+            (each-more state before mid new (whole_lines (xs ++ line)) (rest_of (xs ++ line)) old
+            _ _ (subst (λ l. ServesEach state before l mid old
+            (g.W.Write.contents c.loop-line.writer))
+            (sym (whole_lines-within xs line c.in-Some.ensures.first))
+            (so_far.4 before old input is each)) (one.serves (rest_of (xs ++ line)) h1.rest))),
       );
     }
 
@@ -193,3 +212,41 @@ returns-clause-ok g c = λ before old input is s stands honest.
           (sym (whole_lines-within xs c.loop-line.rest.now c.in_default.ensures.none))
           (f.2 served)),
     )
+
+pub returns-in_err-answer_line-clause-some : goal.returns-in_err-answer_line-clause-some
+returns-in_err-answer_line-clause-some g c =
+    let o = err_from_is_err_and c.from_residual.result c.from_residual.ensures.1 in
+    let so_far = c.loop-line.invariant.taken in
+    let line : List ℕ = c.in-Some.line.now in
+    let rest : List ℕ = c.in-Some.next.now in
+    let taken : ((so_far.0 ++ line) ++ 10 ∷ []) ++ rest ≡ c.args.chunk.now =
+    line_taken so_far.0 line rest c.loop-line.rest.now c.args.chunk.now so_far.1
+    (sym c.in-Some.ensures.parts) in
+    rw o.1 (λ first old input is each.
+    let xs : List ℕ = input ++ so_far.0 in
+    let h0 = so_far.2 input is in
+    let h1 = InHand-within xs c.loop-line.hand c.loop-line.lines h0 line c.add.new.self
+    c.in-Some.ensures.first (c.add.ensures (rest_of xs) h0.rest) in
+    let whole : ((xs ++ line) ++ 10 ∷ []) ++ rest ≡ input ++ c.args.chunk.now =
+    ap (λ l. l ++ rest) (joined input so_far.0 line)
+    ∙ append_assoc input ((so_far.0 ++ line) ++ 10 ∷ []) rest ∙ ap (λ l. input ++ l) taken in
+    let lines = lines_at_end (xs ++ line) rest (input ++ c.args.chunk.now) whole in
+    some-here g.D.Disk.state first c.loop-line.server c.answer_line.new.server
+    (whole_lines (xs ++ line)) (rest_of (xs ++ line)) lines.0
+    (whole_lines (input ++ c.args.chunk.now)) c.loop-line.lines old _ _ lines.1 h1.counted
+    (subst (λ l. ServesEach g.D.Disk.state first l c.loop-line.server old
+    (g.W.Write.contents c.loop-line.writer))
+    (sym (whole_lines-within xs line c.in-Some.ensures.first)) (so_far.4 first old input is each))
+    (c.in_err-answer_line.ensures.breaks (rest_of (xs ++ line)) h1.rest))
+
+pub returns-clause-each : goal.returns-clause-each
+returns-clause-each g c = λ first old input is each.
+    let so_far = c.loop-line.invariant.taken in
+    let xs : List ℕ = input ++ so_far.0 in
+    subst (λ l. ServesEach g.D.Disk.state first (whole_lines l) c.loop-line.server old
+    (g.W.Write.contents c.loop-line.writer))
+    (append_assoc input so_far.0 c.loop-line.rest.now ∙ ap (λ l. input ++ l) so_far.1)
+    (subst (λ l. ServesEach g.D.Disk.state first l c.loop-line.server old
+    (g.W.Write.contents c.loop-line.writer))
+    (sym (whole_lines-within xs c.loop-line.rest.now c.in_default.ensures.none))
+    (so_far.4 first old input is each))

@@ -1,9 +1,10 @@
 use Rattle.std.proofs.Common.{◌≡◌, ℕ, ◌+◌, ◌≤◌, List, ◌++◌, length, Option}
 use Rattle.mot_lines.specs.Lines.{whole_lines}
 use Rattle.mot_session.specs.Inner.InHand.{InHand}
-use Rattle.mot_session.specs.Inner.Writes.{GoesOn}
+use Rattle.mot_session.specs.LineByLine.{GoesOn}
 use Rattle.mot_session.specs.Served.{Served}
 use Rattle.mot_session.specs.State.{Leads, ServerState}
+use Rattle.mot_session.proofs.Each.{GoesOnBy}
 use Rattle.mot_session.proofs.serving.answer_chunk.Given as goal
 
 abbrev pub invariant-loop-line : goal.invariant-loop-line
@@ -20,7 +21,9 @@ invariant-loop-line g l =
           Served (state l.initial.server.disk) before between (whole_lines input) old
           (g.W.Write.contents l.initial.writer)
           → Served (state l.server.disk) before after (whole_lines (input ++ front)) old
-          (g.W.Write.contents l.writer)));
+          (g.W.Write.contents l.writer)))
+          × GoesOnBy state l.initial.server l.server l.initial.hand l.initial.lines front
+          (g.W.Write.contents l.initial.writer) (g.W.Write.contents l.writer);
     }
 
 abbrev pub decreases-loop-line : goal.decreases-loop-line

@@ -7,6 +7,8 @@ use Rattle.mot_session.specs.Served.{Served}
 use Rattle.mot_session.specs.State.{state_of}
 use Rattle.mot_session.proofs.Outcomes.{later-answers, later-begins}
 use Rattle.mot_session.proofs.Runs.{Served-push, Stopped-here}
+use Rattle.mot_session.specs.LineByLine.{ServesEach}
+use Rattle.mot_session.proofs.Each.{each-more, some-here}
 use Rattle.mot_session.proofs.serving.answer_last.Goals as goal
 
 pub returns-then-is_empty-clause-lines : goal.returns-then-is_empty-clause-lines
@@ -78,3 +80,27 @@ returns-in-Err-clause-unwritten g c = λ fault before old input is.
           (rest_of input) old _ _ served later.moment told.reply told.answers told.crosses
           c.args.lines is.counted (lines_of input) [] (lines_of-begun input some),
     ))
+
+pub returns-then-is_empty-clause-each : goal.returns-then-is_empty-clause-each
+returns-then-is_empty-clause-each g c = λ none first old input is each.
+    let e = lines_of-ended input
+    ((c.is_empty.ensures (rest_of input) is.rest).0 c.if-is_empty.true) in
+    subst (λ l. ServesEach g.D.Disk.state first l c.args.server.now old
+    (g.W.Write.contents c.args.writer.now)) (sym e) each
+
+pub returns-in-Ok-clause-each : goal.returns-in-Ok-clause-each
+returns-in-Ok-clause-each g c = λ none first old input is each.
+    let some : rest_of input ≡ [] → ⊥ = λ h. both_ways _ c.if-is_empty.false
+    ((c.is_empty.ensures (rest_of input) is.rest).1 h) in
+    subst (λ l. ServesEach g.D.Disk.state first l c.answer_line.new.server old
+    (g.W.Write.contents c.answer_line.new.writer)) (sym (lines_of-begun input some))
+    (each-more g.D.Disk.state first c.args.server.now c.answer_line.new.server (whole_lines input)
+    (rest_of input) old _ _ each (c.in-Ok.ensures.serves (rest_of input) is.rest))
+
+pub returns-in-Err-clause-some : goal.returns-in-Err-clause-some
+returns-in-Err-clause-some g c = λ fault first old input is each.
+    let some : rest_of input ≡ [] → ⊥ = λ h. both_ways _ c.if-is_empty.false
+    ((c.is_empty.ensures (rest_of input) is.rest).1 h) in
+    rw c.ended.ensures (some-here g.D.Disk.state first c.args.server.now c.answer_line.new.server
+    (whole_lines input) (rest_of input) [] (lines_of input) c.args.lines old _ _
+    (lines_of-begun input some) is.counted each (c.in-Err.ensures.breaks (rest_of input) is.rest))

@@ -6,6 +6,7 @@ use Rattle.mot_session.specs.declared.serving.TheConstants.{READ_SIZE}
 use Rattle.mot_session.specs.Served.{TakesInput}
 use Rattle.mot_session.specs.State.{state_of}
 use Rattle.mot_session.proofs.SessionLaws.{session-laws}
+use Rattle.mot_session.proofs.Each.{each-none}
 use Rattle.mot_session.proofs.Requests.{goes_on-more, goes_on-none}
 use Rattle.mot_session.proofs.Runs.{InHand-none, Served-none}
 use Rattle.mot_session.proofs.serving.serve.Goals as goal
@@ -50,6 +51,7 @@ loop-init g c =
           Served-none server s state (g.W.Write.contents c.args.writer.now) stands
               (λ so. g.met.D.Disk.sound server.disk so) honest,
         ),
+        each-none g.D.Disk.state server (g.W.Write.contents c.args.writer.now),
       );
     }
 
@@ -72,6 +74,7 @@ returns-then-count-eq0-clause-ended g c = λ none.
           let last = c.answer_last.ensures.ended none (state_of first s (state first.disk))
           (g.W.Write.contents c.args.writer.now) t.0 t.2 mid.0 mid.1 honest in
           (last.0, last.1, last.2 mid.2),
+      c.answer_last.ensures.each none first (g.W.Write.contents c.args.writer.now) t.0 t.2 t.4,
     )
 
 pub returns-then-count-eq0-clause-unwritten : goal.returns-then-count-eq0-clause-unwritten
@@ -93,6 +96,7 @@ returns-then-count-eq0-clause-unwritten g c = λ fault.
             let last = c.answer_last.ensures.unwritten fault (state_of first s (state first.disk))
             (g.W.Write.contents c.args.writer.now) t.0 t.2 mid.0 mid.1 honest in
             (last.0, last.1, last.2 mid.2),
+        c.answer_last.ensures.some fault first (g.W.Write.contents c.args.writer.now) t.0 t.2 t.4,
       ),
     )
 
@@ -110,12 +114,16 @@ returns-in_default-answer_chunk-clause-unwritten g c = λ fault.
       read_more c.loop.counter c.args.reads _ _ _ t.0 (take c.in-Ok-read.count c.read.new.buf)
           (omega (arith, more))
           (omega (arith, length-take c.in-Ok-read.count c.read.new.buf, m.0, m.1)) t.1 r.0,
-      inl (λ s stands honest.
-          let was = c.in_default-answer_chunk.ensures.goes.keeps.was_honest honest in
-          let mid = t.3 s stands was in
-          let last = c.in_default-answer_chunk.ensures.err (state_of first s (state first.disk))
-          (g.W.Write.contents c.args.writer.now) t.0 t.2 mid.0 mid.1 honest in
-          (last.0, last.1, last.2 mid.2)),
+      inl (
+        λ s stands honest.
+            let was = c.in_default-answer_chunk.ensures.goes.keeps.was_honest honest in
+            let mid = t.3 s stands was in
+            let last = c.in_default-answer_chunk.ensures.err (state_of first s (state first.disk))
+            (g.W.Write.contents c.args.writer.now) t.0 t.2 mid.0 mid.1 honest in
+            (last.0, last.1, last.2 mid.2),
+        c.in_default-answer_chunk.ensures.some first (g.W.Write.contents c.args.writer.now)
+            t.0 t.2 t.4,
+      ),
     )
 
 pub loop-preserved : goal.loop-preserved
@@ -148,6 +156,7 @@ loop-preserved g c =
             let last = one.ok (state_of first s (state first.disk))
             (g.W.Write.contents c.args.writer.now) t.0 t.2 mid.0 mid.1 honest in
             (last.0, last.1, last.2 mid.2),
+        one.each first (g.W.Write.contents c.args.writer.now) t.0 t.2 t.4,
       );
     }
 

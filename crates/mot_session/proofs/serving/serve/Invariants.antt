@@ -2,7 +2,7 @@ use Rattle.std.proofs.Common.{ℕ, ◌*◌, ◌≤◌, List}
 use Rattle.mot_lines.specs.Lines.{whole_lines}
 use Rattle.mot_session.specs.declared.serving.TheConstants.{READ_SIZE}
 use Rattle.mot_session.specs.Inner.InHand.{InHand}
-use Rattle.mot_session.specs.Inner.Writes.{GoesOn}
+use Rattle.mot_session.specs.LineByLine.{GoesOn, ServesEach}
 use Rattle.mot_session.specs.Served.{Served, TakesInput}
 use Rattle.mot_session.specs.State.{Leads}
 use Rattle.mot_session.proofs.serving.serve.Given as goal
@@ -19,5 +19,7 @@ invariant-loop g l =
           × Leads (g.D.Disk.state) l.fn.server l.server
           (λ before after. Served (state l.server.disk)
           before after (whole_lines input) (g.W.Write.contents l.fn.writer)
-          (g.W.Write.contents l.writer));
+          (g.W.Write.contents l.writer))
+          × ServesEach (g.D.Disk.state) l.fn.server (whole_lines input) l.server
+          (g.W.Write.contents l.fn.writer) (g.W.Write.contents l.writer);
     }

@@ -4,6 +4,7 @@ use Rattle.mot_session.specs.State.{state_of}
 use Rattle.mot_session.proofs.Answered.{Crosses-line, Decides-parsed}
 use Rattle.mot_session.proofs.Requests.{stands-read}
 use Rattle.mot_session.proofs.Written.{AnswersWith-kept}
+use Rattle.mot_session.proofs.Anyhow.{anyhow-kept, anyhow-parsed}
 use Rattle.mot_session.proofs.serving.reply.respond.Goals as goal
 
 pub returns-in_err-write_reply-clause-answers : goal.returns-in_err-write_reply-clause-answers
@@ -64,3 +65,17 @@ returns-clause-answers g c = λ line parsed s stands honest.
             (c.answer-decision.ensures.crosses s) (λ is. (c.answer-decision.ensures.halted is).1);
       },
     )
+
+pub returns-in_err-write_reply-clause-anyhow : goal.returns-in_err-write_reply-clause-anyhow
+returns-in_err-write_reply-clause-anyhow g c = λ line parsed.
+    let p = err_from_is_err_and c.from_residual.result c.from_residual.ensures.1 in
+    rw p.1 (c.in_err-write_reply.ensures.anyhow c.args.server.now.view _ (line_of line)
+    (anyhow-parsed _ _ _ _ c.answer-decision.result c.args.request (line_of line) parsed
+    c.answer-decision.ensures.anyhow))
+
+pub returns-clause-anyhow : goal.returns-clause-anyhow
+returns-clause-anyhow g c = λ line parsed.
+    anyhow-kept _ _ _ _ c.map_err.result (line_of line) _ _ _
+    (c.in_ok-write_reply.ensures.anyhow c.args.server.now.view _ (line_of line)
+    (anyhow-parsed _ _ _ _ c.answer-decision.result c.args.request (line_of line) parsed
+    c.answer-decision.ensures.anyhow)) c.flush.ensures.bytes

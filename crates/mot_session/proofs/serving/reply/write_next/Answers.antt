@@ -6,6 +6,10 @@ use Rattle.mot_session.specs.State.{state_of}
 use Rattle.mot_session.proofs.Replies.{next-broken, next-cut, next-more}
 use Rattle.mot_session.proofs.Requests.{holds-read, reads-more, reads-none}
 use Rattle.mot_session.proofs.Written.{Answered-next, Sends-none}
+use Rattle.std.proofs.Common.{◌<◌, ◌+◌, ◌∷◌, ◌++◌, ◌∙◌, ap, length-append, refl, sym}
+use Rattle.mot_repository.specs.Repository.{RepositoryView}
+use Rattle.mot_session.specs.OnAnyDisk.{next, shown_lines}
+use Rattle.mot_session.proofs.Anyhow.{next-broken as next-broken_anyhow, next-cut as next-cut_anyhow, one-more}
 use Rattle.mot_session.proofs.serving.reply.write_next.Goals as goal
 
 pub loop-init : goal.loop-init
@@ -17,6 +21,7 @@ loop-init g c =
         Sends-none (state_of c.args.server.now s state),
         Appends-nil (g.W.Write.contents c.args.writer.now),
       );
+      shown = λ going. ([], refl, Appends-nil (g.W.Write.contents c.args.writer.now), refl);
     }
 
 pub returns-in_err-write_next_packet-clause-answers :
@@ -69,6 +74,17 @@ loop-preserved g c =
           (state_of new s (state new.disk)) holds.going _ _ _ c.loop.counter sent.0 sent.2
           c.in_ok-write_next_packet.field-0
           (one.answers s held honest) c.in-Some.field-0 c.in-Some.is sent.1;
+      shown = λ going.
+          let shown = so_far.shown going in
+          let halted = ap (λ (v : RepositoryView). v.halted) so_far.reads.view ∙ going in
+          let more = one-more first.view new.view (one.reads.view ∙ so_far.reads.view) going
+          _ _ _ shown.3 _ _ _ shown.0 shown.2 c.in_ok-write_next_packet.field-0
+          c.in-Some.field-0 (one.anyhow halted) c.in-Some.is in (
+            shown.0 ++ more.0 ∷ [],
+            length-append shown.0 (more.0 ∷ []) ∙ ap (λ n. n + 1) shown.1,
+            more.3,
+            more.2,
+          );
     }
 
 pub returns-clause-answers : goal.returns-clause-answers
@@ -86,3 +102,36 @@ returns-clause-answers g c = λ s holds honest.
     (subst (λ n. Sends (state_of first s (state first.disk)) n so_far.0
     (state_of mid s (state mid.disk))) all so_far.1)
     so_far.2
+
+pub returns-in_err-write_next_packet-clause-anyhow :
+    goal.returns-in_err-write_next_packet-clause-anyhow
+returns-in_err-write_next_packet-clause-anyhow g c = λ going.
+    let p = err_from_is_err_and c.from_residual.result c.from_residual.ensures.1 in
+    let so_far = c.loop.invariant.shown going in
+    let view = c.in_err-write_next_packet.ensures.reads.view ∙ c.loop.invariant.reads.view in
+    let mid = ap (λ (v : RepositoryView). v.halted) c.loop.invariant.reads.view ∙ going in
+    rw p.1 (next-broken_anyhow c.args.server.now.view c.write_next_packet.new.server.view view going _ _ _
+    so_far.3 _ _ _ so_far.0 so_far.2 _ c.args.count
+    (c.in_err-write_next_packet.ensures.anyhow mid)
+    (subst (λ n. n < c.args.count) (sym so_far.1) c.loop-test.true))
+
+pub returns-in_default-clause-anyhow : goal.returns-in_default-clause-anyhow
+returns-in_default-clause-anyhow g c = λ going.
+    let so_far = c.loop.invariant.shown going in
+    let view = c.in_ok-write_next_packet.ensures.reads.view ∙ c.loop.invariant.reads.view in
+    let mid = ap (λ (v : RepositoryView). v.halted) c.loop.invariant.reads.view ∙ going in
+    next-cut_anyhow c.args.server.now.view c.write_next_packet.new.server.view view going _ _ _
+    so_far.3 _ _ _ so_far.0 so_far.2 c.in_ok-write_next_packet.field-0 c.args.count
+    (c.in_ok-write_next_packet.ensures.anyhow mid) c.in_default.is
+    (subst (λ n. n < c.args.count) (sym so_far.1) c.loop-test.true)
+
+pub returns-clause-anyhow : goal.returns-clause-anyhow
+returns-clause-anyhow g c = λ going.
+    let so_far = c.loop.invariant.shown going in
+    let last = c.loop-test.false in
+    let bound = c.loop.auto.counter-end in
+    let all : c.loop.counter ≡ c.args.count = omega (arith, last, bound) in (
+      shown_lines so_far.0,
+      next c.args.count so_far.0 refl going c.loop.invariant.reads.view (so_far.1 ∙ all) refl,
+      so_far.2,
+    )

@@ -1,9 +1,11 @@
-use Rattle.std.proofs.Common.{List}
+use Rattle.std.proofs.Common.{◌≡◌, List, length}
+use Rattle.std.specs.Prelude.{IsFalse}
 use Rattle.std.specs.Io.KnownBytes.{Appends}
 use Rattle.mot_journal.specs.Image.{Standing}
 use Rattle.mot_player.specs.Place.{Sent}
 use Rattle.mot_repository.specs.Repository.{Holds}
 use Rattle.mot_session.specs.Inner.Writes.{OnlyReads}
+use Rattle.mot_session.specs.OnAnyDisk.{Shown, shown_lines}
 use Rattle.mot_session.specs.Played.{Sends, sent_lines}
 use Rattle.mot_session.specs.State.{state_of}
 use Rattle.mot_session.proofs.serving.reply.write_next.Given as goal
@@ -19,4 +21,10 @@ invariant-loop g l = record {
       (state_of l.server s (g.D.Disk.state l.server.disk))
       × Appends (g.W.Write.contents l.initial.writer) (g.W.Write.contents l.writer)
       (sent_lines sents);
+  shown : IsFalse l.initial.server.view.halted
+      → (shown : List Shown) × (length shown ≡ l.counter)
+      × Appends (g.W.Write.contents l.initial.writer) (g.W.Write.contents l.writer)
+      (shown_lines shown)
+      × ((g.D.Disk.state l.server.disk).failures
+      ≡ (g.D.Disk.state l.initial.server.disk).failures);
 }

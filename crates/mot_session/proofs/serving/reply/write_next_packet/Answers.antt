@@ -1,6 +1,7 @@
 use Rattle.std.proofs.Common.{◌∙◌, refl, Ok, Err, Some}
 use Rattle.std.proofs.lemmas.Result.{err_from_is_err_and}
 use Rattle.mot_session.proofs.Requests.{AnswersOne-sent}
+use Rattle.mot_session.specs.Inner.Anyhow.{shows}
 use Rattle.mot_session.proofs.serving.reply.write_next_packet.Goals as goal
 
 pub returns-in_err-write_whole-in-Ok-clause-answers :
@@ -30,3 +31,18 @@ returns-in_ok-write_whole-in-Ok-clause-answers g c = λ s holds honest.
     (Ok (Some c.in-Ok.field-0.ends_turn)) refl
     c.as_slice.result.now (c.as_slice.ensures.value ∙ c.set_played_text.ensures) _ _
     c.in_ok-write_whole-in-Ok.ensures
+
+pub returns-in_err-write_whole-in-Ok-clause-anyhow :
+    goal.returns-in_err-write_whole-in-Ok-clause-anyhow
+returns-in_err-write_whole-in-Ok-clause-anyhow g c = λ going.
+    let p = err_from_is_err_and c.from_residual.result c.from_residual.ensures.1 in
+    rw p.1 (shows c.in-Ok.field-0.packet.items c.in-Ok.field-0.ends_turn c.in-Ok.ensures.no_fault
+    tt (rw (c.as_slice.ensures.value, c.set_played_text.ensures) at
+    c.in_err-write_whole-in-Ok.ensures))
+
+pub returns-in_ok-write_whole-in-Ok-clause-anyhow :
+    goal.returns-in_ok-write_whole-in-Ok-clause-anyhow
+returns-in_ok-write_whole-in-Ok-clause-anyhow g c = λ going.
+    shows c.in-Ok.field-0.packet.items c.in-Ok.field-0.ends_turn c.in-Ok.ensures.no_fault
+    refl (rw (c.as_slice.ensures.value, c.set_played_text.ensures) at
+    c.in_ok-write_whole-in-Ok.ensures)

@@ -10,6 +10,9 @@ use Rattle.mot_session.specs.Raw.{packets_at}
 use Rattle.mot_session.specs.Session.{accepted, listing, packets, refused, text_of}
 use Rattle.mot_session.specs.State.{state_of}
 use Rattle.mot_session.proofs.Written.{AnswersRequest-written}
+use Rattle.mot_lines.specs.declared.line.Line.TheVariants as asks
+use Rattle.mot_repository.specs.Repository.{RepositoryView}
+use Rattle.mot_session.proofs.Anyhow.{anyhow-played, anyhow-written}
 use Rattle.mot_session.proofs.serving.reply.write_reply.Goals as goal
 
 pub returns-in-Refused-clause-answers : goal.returns-in-Refused-clause-answers
@@ -55,3 +58,42 @@ returns-in-Packets-clause-answers g c = rw c.in-Packets.is (λ before request s 
     (subst (λ (h : Geometry). Writes c.write_packets.result
     (flat_map packet_line (packets_at h c.in-Packets.group.items))
     (g.W.Write.contents c.args.writer.now) (g.W.Write.contents c.write_packets.new.writer)) same w))
+
+pub returns-in-Refused-clause-anyhow : goal.returns-in-Refused-clause-anyhow
+returns-in-Refused-clause-anyhow g c = rw c.in-Refused.is (λ old before request d.
+    anyhow-written old c.args.server.now.view before _ c.write_whole.result request _ _ _ d
+    (rw (c.as_slice.ensures.value, c.refusal_text.ensures) at c.write_whole.ensures))
+
+pub returns-in-Accepted-clause-anyhow : goal.returns-in-Accepted-clause-anyhow
+returns-in-Accepted-clause-anyhow g c = rw c.in-Accepted.is (λ old before request d.
+    anyhow-written old c.args.server.now.view before _ c.write_whole-in-Accepted.result request
+    _ _ _ d (rw (c.as_slice-in-Accepted.ensures.value, c.done_text.ensures) at
+    c.write_whole-in-Accepted.ensures))
+
+pub returns-in-Listing-clause-anyhow : goal.returns-in-Listing-clause-anyhow
+returns-in-Listing-clause-anyhow g c = rw c.in-Listing.is (λ old before request d.
+    anyhow-written old c.args.server.now.view before _ c.write_carousel.result request _ _ _ d
+    (subst (λ t. Writes c.write_carousel.result t
+    (g.W.Write.contents c.args.writer.now) (g.W.Write.contents c.write_carousel.new.writer))
+    (ap listing_text_beside c.carousel.ensures.value) c.write_carousel.ensures))
+
+pub returns-in-Packets-clause-anyhow : goal.returns-in-Packets-clause-anyhow
+returns-in-Packets-clause-anyhow g c = rw c.in-Packets.is (λ old before request d.
+    let w = rw c.deref.ensures.value at c.write_packets.ensures in
+    anyhow-written old c.args.server.now.view before _ c.write_packets.result request _ _ _ d
+    (subst (λ (h : Geometry). Writes c.write_packets.result
+    (flat_map packet_line (packets_at h c.in-Packets.group.items))
+    (g.W.Write.contents c.args.writer.now) (g.W.Write.contents c.write_packets.new.writer))
+    c.geometry.ensures.value w))
+
+pub returns-in-Next-clause-anyhow : goal.returns-in-Next-clause-anyhow
+returns-in-Next-clause-anyhow g c = rw c.in-Next.is (λ old before request d.
+    anyhow-played c.write_next.result old c.args.server.now.view c.write_next.new.server.view
+    before _ _ (asks.Next c.in-Next.count) request _ _ d.0 d.2 d.3
+    (c.write_next.ensures.anyhow (ap (λ (v : RepositoryView). v.halted) d.2 ∙ d.1)))
+
+pub returns-in-Turn-clause-anyhow : goal.returns-in-Turn-clause-anyhow
+returns-in-Turn-clause-anyhow g c = rw c.in-Turn.is (λ old before request d.
+    anyhow-played c.write_turn.result old c.args.server.now.view c.write_turn.new.server.view
+    before _ _ asks.Turn request _ _ d.0 d.2 d.3
+    (c.write_turn.ensures.anyhow (ap (λ (v : RepositoryView). v.halted) d.2 ∙ d.1)))

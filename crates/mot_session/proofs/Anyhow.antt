@@ -1,0 +1,316 @@
+-- What is answered on every disk, whatever it holds.
+use Rattle.std.proofs.Common.{◌≡◌, ℕ, ◌+◌, ◌<◌, Bool, true, false, List, [], ◌∷◌, ◌++◌}
+use Rattle.std.proofs.Common.{length, Option, Some, None, Result, Ok, Err, refl, sym, ap, ◌∙◌}
+use Rattle.std.proofs.Common.{subst, arith, append-nil, length-append, inl, inr}
+use Rattle.std.specs.Prelude.{replicate, OnOk, OnErr, IsTrue, IsFalse}
+use Rattle.std.specs.Io.KnownBytes.{Appends, Keeps}
+use Rattle.std.proofs.KnownBytes.{Appends-kept, Appends-trans}
+use Rattle.std.proofs.lemmas.List.{map-append, replicate_more}
+use Rattle.std.proofs.lemmas.List.Concat.{flat_map-append}
+use Rattle.disk_store.specs.Disk.{State, Rises}
+use Rattle.mot_base.specs.declared.refusal.Refusal.{Refusal}
+use Rattle.mot_base.specs.declared.refusal.Refusal.TheVariants.{OutOfMemory, DeviceFault, Halted}
+use Rattle.mot_carousel.specs.declared.command.Command.{Command}
+use Rattle.mot_carousel.specs.declared.command.Done.{Done}
+use Rattle.mot_lines.specs.declared.line.Line.{Line}
+use Rattle.mot_lines.specs.declared.line.Line.TheVariants as asks
+use Rattle.mot_lines.specs.Line.{IsParsed, NeedsMemory}
+use Rattle.mot_lines.specs.Text.{done_line, played_line, refusal_line}
+use Rattle.mot_repository.specs.Answers.{IsAnswered, accepted, refused, failed}
+use Rattle.mot_repository.specs.Repository.{RepositoryView}
+use Rattle.mot_session.specs.declared.answering.Decision.{Decision}
+use Rattle.mot_session.specs.declared.answering.Decision.TheVariants.{Refused, Accepted, Listing}
+use Rattle.mot_session.specs.declared.answering.Decision.TheVariants.{Packets, Next, Turn}
+use Rattle.mot_session.specs.declared.serving.writing.WriteFault.{WriteFault}
+use Rattle.mot_session.specs.Inner.Anyhow.{AnswersWithAnyhow, DecidesAnyhow, ShowsOne, fails, shows}
+use Rattle.mot_session.specs.Inner.Writes.{Writes}
+use Rattle.mot_session.specs.OnAnyDisk.{AnswersAnyhow, AreWithinTurn, BeginsAnyhow, Shown}
+use Rattle.mot_session.specs.OnAnyDisk.{shown_lines}
+use Rattle.mot_session.specs.OnAnyDisk as anyhow
+use Rattle.mot_session.specs.Served.{WritesFront}
+use Rattle.mot_session.specs.Session.{NeedsCarousel}
+use Rattle.mot_session.proofs.Fronts.{WritesFront-after, WritesFront-all}
+
+-- ---- commands
+
+abbrev IsFailure : Result Done Refusal → Type 0
+IsFailure (Ok done) = ⊥
+IsFailure (Err refusal) = Unit {0}
+
+not_ok : (done : Done) (refusal : Refusal) → Err refusal ≡ Ok done → ⊥
+not_ok done refusal e = subst IsFailure e tt
+
+abbrev failure : Refusal → Result Done Refusal
+failure refusal = Err refusal
+
+same_refusal : (r was : Refusal) → failure r ≡ failure was → was ≡ r
+same_refusal r was e = cc
+
+abbrev success : Done → Result Done Refusal
+success done = Ok done
+
+same_done : (d done : Done) → success done ≡ success d → d ≡ done
+same_done d done e = cc
+
+module _ (view view' : RepositoryView) (state state' : State) (c : Command) where
+  pub anyhow-accepted : (done : Done) → IsFalse view.halted
+      → IsAnswered view view' state state' c (Ok done)
+      → AnswersAnyhow view view' state.failures state'.failures (Ok (asks.Command c))
+      (done_line done)
+  anyhow-accepted done going (accepted d e changed) =
+      anyhow.accepted c d refl going changed (ap done_line (sym (same_done d done e)))
+  anyhow-accepted done going (refused r e why same still) = absurd (not_ok done r (sym e))
+  anyhow-accepted done going (failed e was rises halts) = absurd (not_ok done DeviceFault (sym e))
+
+  pub anyhow-refused : (refusal : Refusal) → IsAnswered view view' state state' c (Err refusal)
+      → AnswersAnyhow view view' state.failures state'.failures (Ok (asks.Command c))
+      (refusal_line refusal)
+  anyhow-refused refusal (accepted d e changed) = absurd (not_ok d refusal e)
+  anyhow-refused refusal (refused r e why same still) =
+      anyhow.refused c r refl why same (ap refusal_line (sym (same_refusal refusal r e)))
+  anyhow-refused refusal (failed e was rises halts) =
+      anyhow.failed c refl was rises halts
+      (ap refusal_line (sym (same_refusal refusal DeviceFault e)))
+
+-- ---- requests
+
+-- what is shown or played is decided so, unless the server is halted
+pub anyhow-shown : (view : RepositoryView) (count : ℕ) (request : Result Line Refusal)
+    (decision result : Decision) → NeedsCarousel request
+    → (IsTrue view.halted → result ≡ Refused Halted) → (IsFalse view.halted → result ≡ decision)
+    → (IsFalse view.halted → DecidesAnyhow view view count count request decision)
+    → DecidesAnyhow view view count count request result
+anyhow-shown view count request decision result needs is isnt decides = by_case view.halted refl
+  where
+    by_case : (b : Bool) → view.halted ≡ b → DecidesAnyhow view view count count request result
+    by_case true e = subst (λ d. DecidesAnyhow view view count count request d) (sym (is e))
+        (anyhow.halted e needs refl refl)
+    by_case false e = subst (λ d. DecidesAnyhow view view count count request d) (sym (isnt e))
+        (decides e)
+
+abbrev asked_wrong : Result Line Refusal
+asked_wrong = Err OutOfMemory
+
+module _ (old new : RepositoryView) (before now : ℕ) where
+  -- the line was parsed, or there was no memory for it
+  answers-unparsed : (text : List ℕ) (request asked : Result Line Refusal)
+      → request ≡ asked_wrong → NeedsMemory asked
+      → AnswersAnyhow old new before now request text
+      → AnswersAnyhow old new before now asked text
+  answers-unparsed text request asked wrong needs (anyhow.no_request r e same t) =
+      let is : OutOfMemory ≡ r = cc in
+      anyhow.no_memory needs same (t ∙ ap refusal_line (sym is))
+  answers-unparsed text request asked wrong needs (anyhow.accepted c done e going changed t) =
+      absurd (cc)
+  answers-unparsed text request asked wrong needs (anyhow.refused c r e why same t) = absurd (cc)
+  answers-unparsed text request asked wrong needs (anyhow.failed c e going rises halts t) =
+      absurd (cc)
+  answers-unparsed text request asked wrong needs (anyhow.listed e going same t) = absurd (cc)
+  answers-unparsed text request asked wrong needs (anyhow.raw kind tid body e same t) =
+      absurd (cc)
+  answers-unparsed text request asked wrong needs (anyhow.next count shown e going same n t) =
+      absurd (cc)
+  answers-unparsed text request asked wrong needs
+      (anyhow.next_cut count shown e going same n rises t) = absurd (cc)
+  answers-unparsed text request asked wrong needs
+      (anyhow.turn count shown last e going same ends t) = absurd (cc)
+  answers-unparsed text request asked wrong needs
+      (anyhow.turn_cut count shown e going same ends rises t) = absurd (cc)
+  answers-unparsed text request asked wrong needs (anyhow.halted is n same t) =
+      absurd (subst NeedsCarousel wrong n)
+  answers-unparsed text request asked wrong needs (anyhow.no_memory n same t) =
+      anyhow.no_memory needs same t
+
+  answers-parsed : (text : List ℕ) (request asked : Result Line Refusal)
+      → IsParsed request asked → AnswersAnyhow old new before now request text
+      → AnswersAnyhow old new before now asked text
+  answers-parsed text request asked (inl e) a =
+      subst (λ r. AnswersAnyhow old new before now r text) e a
+  answers-parsed text request asked (inr e) a =
+      answers-unparsed text request asked e.0 e.1 a
+
+  plays-parsed : (line : Line) (request asked : Result Line Refusal) → IsParsed request asked
+      → request ≡ Ok line → asked ≡ Ok line
+  plays-parsed line request asked (inl e) h = sym e ∙ h
+  plays-parsed line request asked (inr e) h = let failed = e.0 in absurd (cc)
+
+  pub anyhow-parsed : (decision : Decision) (request asked : Result Line Refusal)
+      → IsParsed request asked → DecidesAnyhow old new before now request decision
+      → DecidesAnyhow old new before now asked decision
+  anyhow-parsed (Refused r) request asked o d = answers-parsed _ request asked o d
+  anyhow-parsed (Accepted a) request asked o d = answers-parsed _ request asked o d
+  anyhow-parsed Listing request asked o d = answers-parsed _ request asked o d
+  anyhow-parsed (Packets group) request asked o d = answers-parsed _ request asked o d
+  anyhow-parsed (Next count) request asked o d =
+      (plays-parsed (asks.Next count) request asked o d.0, d.1, d.2, d.3)
+  anyhow-parsed Turn request asked o d =
+      (plays-parsed asks.Turn request asked o d.0, d.1, d.2, d.3)
+
+  -- ---- what was written
+
+  pub anyhow-written : {T : Type 0} (result : Result T WriteFault)
+      (request : Result Line Refusal) (text : List ℕ) (written then : Option (List ℕ))
+      → AnswersAnyhow old new before now request text → Writes result text written then
+      → AnswersWithAnyhow result old new before now request written then
+  anyhow-written (Ok done) request text written then a w = (text, a, w)
+  anyhow-written (Err fault) request text written then a w = (text, anyhow.whole a, w)
+
+  -- a flush keeps what was written, and may fail after all of it
+  pub anyhow-kept : {T : Type 0} (result : Result T WriteFault) (request : Result Line Refusal)
+      (written mid then : Option (List ℕ))
+      → ((text : List ℕ) × AnswersAnyhow old new before now request text
+      × Appends written mid text) → Keeps mid then
+      → AnswersWithAnyhow result old new before now request written then
+  anyhow-kept (Ok done) request written mid then a k =
+      (a.0, a.1, Appends-kept written mid then a.0 a.2 k)
+  anyhow-kept (Err fault) request written mid then a k = (
+    a.0,
+    anyhow.whole a.1,
+    WritesFront-all a.0 written then (Appends-kept written mid then a.0 a.2 k),
+  )
+
+-- what was played is of the request and of what was kept before
+pub anyhow-played : {T : Type 0} (result : Result T WriteFault) (old mid new : RepositoryView)
+    (before between now : ℕ) (line : Line) (request : Result Line Refusal)
+    (written then : Option (List ℕ)) → request ≡ Ok line → mid ≡ old → between ≡ before
+    → AnswersWithAnyhow result mid new between now (Ok line) written then
+    → AnswersWithAnyhow result old new before now request written then
+anyhow-played result old mid new before between now line request written then e same count a =
+    subst (λ (r : Result Line Refusal).
+    AnswersWithAnyhow result old new before now r written then) (sym e)
+    (subst (λ n. AnswersWithAnyhow result old new n now (Ok line) written then) count
+    (subst (λ v. AnswersWithAnyhow result v new between now (Ok line) written then) same a))
+
+-- ---- packets, one after the other
+
+shown-more : (shown : List Shown) (p : Shown)
+    → shown_lines (shown ++ p ∷ []) ≡ shown_lines shown ++ played_line p.0 p.1
+shown-more shown p = flat_map-append (λ (q : Shown). played_line q.0 q.1) shown (p ∷ [])
+    ∙ ap (λ l. shown_lines shown ++ l) (append-nil (played_line p.0 p.1))
+
+within-more : (count : ℕ) (shown : List Shown) (p : Shown) → AreWithinTurn count shown
+    → p.1 ≡ false → AreWithinTurn (count + 1) (shown ++ p ∷ [])
+within-more count shown p w e =
+    map-append (λ (q : Shown). q.1) shown (p ∷ [])
+    ∙ ap (λ l. l ++ p.1 ∷ []) w ∙ ap (λ b. replicate count false ++ b ∷ []) e
+    ∙ replicate_more count false
+
+not-both : (a b : Bool) → Some a ≡ Some b → a ≡ b
+not-both a b e = cc
+
+module _ (view view' : RepositoryView) (same : view' ≡ view) (going : IsFalse view.halted)
+    (before mid now : ℕ) (calm : mid ≡ before) (written so_far then : Option (List ℕ))
+    (shown : List Shown) (appended : Appends written so_far (shown_lines shown)) where
+  -- one packet more
+  pub one-more : (value : Option Bool) (ends : Bool)
+      → ShowsOne (Ok value) mid now so_far then → value ≡ Some ends
+      → (p : Shown) × (p.1 ≡ ends) × (now ≡ before)
+      × Appends written then (shown_lines (shown ++ p ∷ []))
+  one-more value ends (shows packet last calm' is w) e = (
+    (packet, last),
+    not-both last ends (sym is ∙ e),
+    calm' ∙ calm,
+    subst (Appends written then) (sym (shown-more shown (packet, last)))
+        (Appends-trans written so_far then (shown_lines shown) (played_line packet last)
+        appended w),
+  )
+  one-more value ends (fails rises is w) e = let none = is in absurd (cc)
+
+  -- the request behind them failed
+  cut : (value : Option Bool) → ShowsOne (Ok value) mid now so_far then → value ≡ None
+      → Rises before now
+      × Appends written then (shown_lines shown ++ refusal_line DeviceFault)
+  cut value (shows packet last calm' is w) e = let some = is in absurd (cc)
+  cut value (fails rises is w) e = (
+    subst (λ n. Rises n now) calm rises,
+    Appends-trans written so_far then (shown_lines shown) (refusal_line DeviceFault) appended w,
+  )
+
+  pub next-cut : (value : Option Bool) (count : ℕ) → ShowsOne (Ok value) mid now so_far then
+      → value ≡ None → length shown < count
+      → AnswersWithAnyhow {T = Unit {0}} (Ok tt) view view' before now (Ok (asks.Next count))
+      written then
+  next-cut value count one e few = let c = cut value one e in
+      (_, anyhow.next_cut count shown refl going same few c.0 refl, c.1)
+
+  pub turn-cut : (value : Option Bool) (count : ℕ) → ShowsOne (Ok value) mid now so_far then
+      → value ≡ None → AreWithinTurn count shown
+      → AnswersWithAnyhow {T = Unit {0}} (Ok tt) view view' before now (Ok asks.Turn)
+      written then
+  turn-cut value count one e within = let c = cut value one e in
+      (_, anyhow.turn_cut count shown refl going same within c.0 refl, c.1)
+
+  pub turn-ended : (value : Option Bool) (count : ℕ) → ShowsOne (Ok value) mid now so_far then
+      → value ≡ Some true → AreWithinTurn count shown
+      → AnswersWithAnyhow {T = Unit {0}} (Ok tt) view view' before now (Ok asks.Turn)
+      written then
+  turn-ended value count (shows packet last calm' is w) e within =
+      let ends : last ≡ true = not-both last true (sym is ∙ e) in (
+        shown_lines shown ++ played_line packet true,
+        anyhow.turn count shown packet refl going same within refl,
+        Appends-trans written so_far then (shown_lines shown) (played_line packet true) appended
+            (subst (λ b. Appends so_far then (played_line packet b)) ends w),
+      )
+  turn-ended value count (fails rises is w) e within = let none = is in absurd (cc)
+
+  -- the line of the packet behind them, or of the fault, was broken off
+  pub next-broken : (fault : WriteFault) (count : ℕ)
+      → ShowsOne (Err fault) mid now so_far then → length shown < count
+      → AnswersWithAnyhow {T = Unit {0}} (Err fault) view view' before now
+      (Ok (asks.Next count)) written then
+  next-broken fault count (shows packet last calm' is w) few = (
+    shown_lines (shown ++ (packet, last) ∷ []),
+    anyhow.next_begun count (shown ++ (packet, last) ∷ []) refl going same
+        (omega (arith, few, length-append shown ((packet, last) ∷ []))) refl,
+    subst (λ l. WritesFront l written then) (sym (shown-more shown (packet, last)))
+        (WritesFront-after (shown_lines shown) (played_line packet last) written so_far then
+        appended w),
+  )
+  next-broken fault count (fails rises is w) few = (
+    _,
+    anyhow.whole (anyhow.next_cut count shown refl going same few
+        (subst (λ n. Rises n now) calm rises) refl),
+    WritesFront-after (shown_lines shown) (refusal_line DeviceFault) written so_far then
+        appended w,
+  )
+
+  pub turn-broken : (fault : WriteFault) (count : ℕ)
+      → ShowsOne (Err fault) mid now so_far then → AreWithinTurn count shown
+      → AnswersWithAnyhow {T = Unit {0}} (Err fault) view view' before now (Ok asks.Turn)
+      written then
+  turn-broken fault count (shows packet last calm' is w) within = (
+    _,
+    anyhow.turn_begun count shown (packet, last) refl going same within refl,
+    WritesFront-after (shown_lines shown) (played_line packet last) written so_far then
+        appended w,
+  )
+  turn-broken fault count (fails rises is w) within = (
+    _,
+    anyhow.whole (anyhow.turn_cut count shown refl going same within
+        (subst (λ n. Rises n now) calm rises) refl),
+    WritesFront-after (shown_lines shown) (refusal_line DeviceFault) written so_far then
+        appended w,
+  )
+
+-- one more packet that does not end the turn
+pub within-one-more : (count : ℕ) (shown : List Shown) (p : Shown) → AreWithinTurn count shown
+    → p.1 ≡ false → AreWithinTurn (count + 1) (shown ++ p ∷ [])
+within-one-more count shown p within e = within-more count shown p within e
+
+-- ---- on each way out
+
+module _ (old new : RepositoryView) (before now : ℕ) (asked : Result Line Refusal)
+    (written then : Option (List ℕ)) where
+  pub OnOk-anyhow : {T : Type 0} (result : Result T WriteFault)
+      → AnswersWithAnyhow result old new before now asked written then
+      → OnOk result ((text : List ℕ) × AnswersAnyhow old new before now asked text
+      × Appends written then text)
+  OnOk-anyhow (Ok done) a = a
+  OnOk-anyhow (Err fault) a = tt
+
+  pub OnErr-anyhow : {T : Type 0} (result : Result T WriteFault)
+      → AnswersWithAnyhow result old new before now asked written then
+      → OnErr result ((text : List ℕ) × BeginsAnyhow old new before now asked text
+      × WritesFront text written then)
+  OnErr-anyhow (Ok done) a = tt
+  OnErr-anyhow (Err fault) a = a

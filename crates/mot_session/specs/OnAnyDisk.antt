@@ -1,0 +1,87 @@
+-- What a request is answered on every disk, whatever the disk holds and however it fails: told of
+-- what the server keeps in memory.
+use Rattle.std.specs.Prelude.{ℕ, ◌≡◌, ◌<◌, ◌≤◌, Bool, true, false, List, ◌++◌, length, map}
+use Rattle.std.specs.Prelude.{replicate, Result, Ok, Err, IsTrue, IsFalse}
+use Rattle.std.specs.List.{flat_map}
+use Rattle.disk_store.specs.Disk.{Rises}
+use Rattle.mot_base.specs.declared.group_kind.GroupKind.{GroupKind}
+use Rattle.mot_base.specs.declared.refusal.Refusal.{Refusal}
+use Rattle.mot_base.specs.declared.refusal.Refusal.TheVariants.{OutOfMemory, DeviceFault, Halted}
+use Rattle.mot_carousel.specs.declared.command.Command as command
+use Rattle.mot_carousel.specs.declared.command.Done.{Done}
+use Rattle.mot_lines.specs.declared.line.Line.{Line}
+use Rattle.mot_lines.specs.declared.line.Line.TheVariants.{Command, Raw, Next, Turn}
+use Rattle.mot_lines.specs.declared.line.Line.TheVariants as asks
+use Rattle.mot_lines.specs.Inner.Listing.{listing_text_beside}
+use Rattle.mot_lines.specs.Line.{NeedsMemory}
+use Rattle.mot_lines.specs.Text.{done_line, packet_line, played_line, refusal_line}
+use Rattle.mot_repository.specs.Answers.{IsChanged, IsHalted, IsRefusal}
+use Rattle.mot_repository.specs.Repository.{RepositoryView}
+use Rattle.mot_session.specs.Raw.{raw_packets}
+use Rattle.mot_session.specs.Session.{NeedsCarousel}
+
+-- a packet that was played, and whether it ends the turn
+abbrev pub Shown : Type 0
+Shown = List ℕ × Bool
+
+-- a line for each
+abbrev pub shown_lines : List Shown → List ℕ
+shown_lines shown = flat_map (λ (p : Shown). played_line p.0 p.1) shown
+
+-- none of so many packets ends a turn
+abbrev pub AreWithinTurn : ℕ → List Shown → Type 0
+AreWithinTurn count shown = map (λ (p : Shown). p.1) shown ≡ replicate count false
+
+-- What was kept in memory was old and is new, the disk had failed so many times before and now, and
+-- the text is the whole reply.
+pub data AnswersAnyhow (old new : RepositoryView) (before now : ℕ) (request : Result Line Refusal)
+    (text : List ℕ) : Type 0 where
+  no_request : (r : Refusal) → request ≡ Err r → new ≡ old → text ≡ refusal_line r
+      → AnswersAnyhow old new before now request text
+  accepted : (c : command.Command) (done : Done) → request ≡ Ok (Command c)
+      → IsFalse old.halted → IsChanged old c done new → text ≡ done_line done
+      → AnswersAnyhow old new before now request text
+  refused : (c : command.Command) (r : Refusal) → request ≡ Ok (Command c) → IsRefusal old c r
+      → new ≡ old → text ≡ refusal_line r → AnswersAnyhow old new before now request text
+  failed : (c : command.Command) → request ≡ Ok (Command c) → IsFalse old.halted
+      → Rises before now → IsHalted old new → text ≡ refusal_line DeviceFault
+      → AnswersAnyhow old new before now request text
+  listed : request ≡ Ok asks.List → IsFalse old.halted → new ≡ old
+      → text ≡ listing_text_beside old.carousel → AnswersAnyhow old new before now request text
+  raw : (kind : GroupKind) (tid : ℕ) (body : List ℕ) → request ≡ Ok (Raw kind tid body)
+      → new ≡ old
+      → text ≡ flat_map packet_line (raw_packets old.journal.geometry kind tid body)
+      → AnswersAnyhow old new before now request text
+  next : (count : ℕ) (shown : List Shown) → request ≡ Ok (Next count) → IsFalse old.halted
+      → new ≡ old → length shown ≡ count → text ≡ shown_lines shown
+      → AnswersAnyhow old new before now request text
+  next_cut : (count : ℕ) (shown : List Shown) → request ≡ Ok (Next count) → IsFalse old.halted
+      → new ≡ old → length shown < count → Rises before now
+      → text ≡ shown_lines shown ++ refusal_line DeviceFault
+      → AnswersAnyhow old new before now request text
+  turn : (count : ℕ) (shown : List Shown) (last : List ℕ) → request ≡ Ok Turn
+      → IsFalse old.halted → new ≡ old → AreWithinTurn count shown
+      → text ≡ shown_lines shown ++ played_line last true
+      → AnswersAnyhow old new before now request text
+  turn_cut : (count : ℕ) (shown : List Shown) → request ≡ Ok Turn → IsFalse old.halted
+      → new ≡ old → AreWithinTurn count shown → Rises before now
+      → text ≡ shown_lines shown ++ refusal_line DeviceFault
+      → AnswersAnyhow old new before now request text
+  halted : IsTrue old.halted → NeedsCarousel request → new ≡ old → text ≡ refusal_line Halted
+      → AnswersAnyhow old new before now request text
+  no_memory : NeedsMemory request → new ≡ old → text ≡ refusal_line OutOfMemory
+      → AnswersAnyhow old new before now request text
+
+-- the whole reply was made; or some first packets of a `next` or a `turn` line's, and no more were
+-- asked for
+pub data BeginsAnyhow (old new : RepositoryView) (before now : ℕ) (request : Result Line Refusal)
+    (text : List ℕ) : Type 0 where
+  whole : AnswersAnyhow old new before now request text
+      → BeginsAnyhow old new before now request text
+  next_begun : (count : ℕ) (shown : List Shown) → request ≡ Ok (Next count) → IsFalse old.halted
+      → new ≡ old → length shown ≤ count → text ≡ shown_lines shown
+      → BeginsAnyhow old new before now request text
+  turn_begun : (count : ℕ) (shown : List Shown) (last : Shown) → request ≡ Ok Turn
+      → IsFalse old.halted → new ≡ old → AreWithinTurn count shown
+      → text ≡ shown_lines shown ++ played_line last.0 last.1
+      → BeginsAnyhow old new before now request text
