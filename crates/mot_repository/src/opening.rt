@@ -1,6 +1,7 @@
 // A disk opened: its records folded into a carousel, whose bodies stay where they lie.
-ghost use Rattle.std.specs.Prelude.{◌≡◌, ◌≤◌, false, IfOk, IfErr, IsFalse};
-ghost use Rattle.disk_store.specs.Disk.{KeepsLength, IsStill, IsUnchanged};
+ghost use Rattle.std.specs.Prelude.{◌≡◌, ◌≤◌, ◌+◌, ◌⊎◌, false, IfOk, IfErr, IsFalse, MatchResult};
+ghost use Rattle.disk_store.specs.Disk.{KeepsLength, Costs, IsStill, IsUnchanged};
+ghost use Rattle.mot_base.specs.declared.refusal.Refusal.TheVariants.{DeviceFault};
 ghost use Rattle.mot_repository.specs.Inner.InOrder.{IsInOrder};
 ghost use Rattle.mot_repository.specs.Inner.Loaded.{IsLoaded};
 ghost use Rattle.mot_repository.specs.Opening.{IsOpened, IsOpeningRefusal};
@@ -43,6 +44,17 @@ impl<D: Disk> Repository<D> {
             → IsOpened (D.state disk) (D.state r.disk) r.view) }
         ensures refused { IfErr result
             (λ e. IsOpeningRefusal (D.state disk) (D.state e.disk) e.refusal) }
+
+        // The disk has failed where a device fault is told, and nowhere else.
+        ensures calm { MatchResult result
+            (λ r. (D.state r.disk).failures ≡ (D.state disk).failures)
+            (λ e. (e.refusal ≡ DeviceFault)
+            ⊎ ((D.state e.disk).failures ≡ (D.state disk).failures)) }
+
+        // a sync, a read of the head, and a read of the selected half
+        ensures cost { MatchResult result
+            (λ r. (D.state r.disk).calls ≡ (D.state disk).calls + 3)
+            (λ e. (D.state e.disk).calls ≤ (D.state disk).calls + 3) }
         ensures keeps_refused { IfErr result (λ e. KeepsLength (D.state disk) (D.state e.disk)) }
         ensures later_refused { IfErr result
             (λ e. (D.state disk).failures ≤ (D.state e.disk).failures) }
@@ -76,6 +88,11 @@ fn load_inventory<D: Disk>(alloc: Global, disk: &mut D) -> Result<(Journal, Inve
         (λ l. IsLoaded (D.state disk.old).bytes l.0 l.1.carousel l.1.extents.items) }
     ensures refused { IfErr result
         (λ refusal. IsOpeningRefusal (D.state disk.old) (D.state disk.new) refusal) }
+    ensures calm { MatchResult result
+        (λ l. (D.state disk.new).failures ≡ (D.state disk.old).failures)
+        (λ refusal. (refusal ≡ DeviceFault)
+        ⊎ ((D.state disk.new).failures ≡ (D.state disk.old).failures)) }
+    ensures cost { Costs 2 (D.state disk.old) (D.state disk.new) result }
 {
     let loaded = load(alloc, disk)?;
     let geometry = loaded.journal.geometry();

@@ -42,7 +42,7 @@ impl<D: Disk> Model for Repository<D> {
 }
 
 impl<D: Disk> Repository<D> {
-    ghost use Rattle.disk_store.specs.Disk.{Keeps, KeepsLength, HasCause, IsUnchanged};
+    ghost use Rattle.disk_store.specs.Disk.{Keeps, KeepsLength, HasCause, Costs, IsUnchanged};
     ghost use Rattle.disk_store.specs.Disk.{Throughout};
     ghost use Rattle.mot_base.specs.declared.refusal.Refusal.TheVariants.{DeviceFault};
     ghost use Rattle.mot_base.specs.Geometry.{area_start};
@@ -51,9 +51,11 @@ impl<D: Disk> Repository<D> {
     ghost use Rattle.mot_journal.specs.Geometry.{is_valid};
     ghost use Rattle.mot_journal.specs.Image.{Standing, stands_for, IsClean, IsInLayoutTwo};
     ghost use Rattle.mot_journal.specs.Journal.{StandsWhere};
+    ghost use Rattle.mot_journal.specs.Slot.{slot_count};
     ghost use Rattle.mot_repository.specs.Answers.{HasRoomForName, IsRefusal, IsChanged};
     ghost use Rattle.mot_repository.specs.Answers.{IsAnswered};
     ghost use Rattle.mot_repository.specs.Answers.{IsHalted, IsMigrationRefusal};
+    ghost use Rattle.mot_repository.specs.Cost.{calls_of_command};
     ghost use Rattle.mot_repository.specs.Extents.{ArePaired};
     ghost use Rattle.mot_repository.specs.Inner.InOrder.{IsInOrder};
     ghost use Rattle.mot_repository.specs.OnDisk.{OnDisk, extent_at, body_on, IsCheckRefusal};
@@ -152,6 +154,7 @@ impl<D: Disk> Repository<D> {
 
         ensures keeps { KeepsLength (D.state self.old.disk) (D.state self.new.disk) }
         ensures cause { HasCause (D.state self.old.disk) (D.state self.new.disk) result }
+        ensures cost { Costs 1 (D.state self.old.disk) (D.state self.new.disk) result }
         ensures fault { IfErr result (λ refusal. refusal ≡ DeviceFault) }
         ensures view { self.new.view ≡ self.old.view }
         ensures unchanged { (D.state self.old.disk).IsHonest
@@ -212,6 +215,9 @@ impl<D: Disk> Repository<D> {
 
         ensures keeps { Keeps (D.state self.old.disk) (D.state self.new.disk) }
         ensures cause { HasCause (D.state self.old.disk) (D.state self.new.disk) result }
+        ensures cost { (command : Command) → IsPrepared self.old.view command prepared
+            → Costs (calls_of_command self.old.view.journal command)
+            (D.state self.old.disk) (D.state self.new.disk) result }
         ensures fault { IfErr result (λ refusal. refusal ≡ DeviceFault) }
         ensures halted { OnErr result (IsHalted self.old.view self.new.view) }
         ensures changed { (command : Command) → IsPrepared self.old.view command prepared
@@ -265,6 +271,8 @@ impl<D: Disk> Repository<D> {
             ((D.state self.new.disk).failures ≡ (D.state self.old.disk).failures) }
         ensures untouched { IfErr result
             (λ refusal. (refusal ≡ DeviceFault) ⊎ (self.new ≡ self.old)) }
+        ensures cost { Costs (calls_of_command self.old.view.journal command.now)
+            (D.state self.old.disk) (D.state self.new.disk) result }
 
         // At each moment a crash leaves what the disk stood for before the command, or what it
         // stands for after it.
@@ -290,6 +298,10 @@ impl<D: Disk> Repository<D> {
     pub fn is_clean(&mut self) -> Result<bool, Refusal>
         ensures keeps { KeepsLength (D.state self.old.disk) (D.state self.new.disk) }
         ensures later { (D.state self.old.disk).failures ≤ (D.state self.new.disk).failures }
+        ensures cost { (D.state self.new.disk).calls ≤ (D.state self.old.disk).calls
+            + slot_count self.old.view.journal.layout self.old.view.journal.geometry }
+        ensures calm { OnOk result
+            ((D.state self.new.disk).failures ≡ (D.state self.old.disk).failures) }
         ensures view { self.new.view ≡ self.old.view }
         ensures unchanged { (D.state self.new.disk).IsHonest
             → IsUnchanged (D.state self.old.disk) (D.state self.new.disk) }
@@ -337,6 +349,9 @@ impl<D: Disk> Repository<D> {
             (D.state self.old.disk) (D.state self.new.disk) refusal) }
         ensures untouched { IfErr result
             (λ refusal. (refusal ≡ DeviceFault) ⊎ (self.new ≡ self.old)) }
+        ensures cost { self.old.view.journal.layout ≡ One
+            → Costs (slot_count Two self.old.view.journal.geometry + 3)
+            (D.state self.old.disk) (D.state self.new.disk) result }
 
         // At each moment a crash leaves the same carousel, clean, and so does a crash now.
         ensures any_moment { (s : Standing) → Holds self.old.view s (D.state self.old.disk)
