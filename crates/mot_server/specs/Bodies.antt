@@ -19,10 +19,11 @@ bytes_in g image extent =
 abbrev pub bodies_on : Geometry → List (ℕ × ℕ) → List ℕ → List (List ℕ)
 bodies_on g extents image = map (bytes_in g image) extents
 
--- only reads of bodies have come between: what is kept in memory stays, and on the disk nothing
--- changes
+-- At most one read of a body has come between: what is kept in memory stays, and on the disk
+-- nothing changes.
 pub record HasRead (old new : RepositoryView) (before now : State) : Type 0 where
   pub view : new ≡ old
   pub keeps : KeepsLength before now
   pub later : before.failures ≤ now.failures
   pub unchanged : before.IsHonest → IsUnchanged before now
+  pub cost : now.calls ≤ before.calls + 1

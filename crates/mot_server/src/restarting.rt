@@ -1,5 +1,6 @@
 //! A disk opened, and its first turn played.
-ghost use Rattle.std.specs.Prelude.{◌≡◌, ◌≤◌, Ok, IfOk, IfErr};
+ghost use Rattle.std.specs.Prelude.{◌≡◌, ◌≤◌, ◌⊎◌, Ok, IfOk, IfErr, MatchResult};
+ghost use Rattle.mot_base.specs.declared.refusal.Refusal.TheVariants.{DeviceFault};
 ghost use Rattle.disk_store.specs.Disk.{KeepsLength, IsStill};
 ghost use Rattle.mot_base.specs.Geometry.{packet_room};
 ghost use Rattle.mot_journal.specs.Image.{Standing};
@@ -59,6 +60,12 @@ pub fn restart<D: Disk>(alloc: Global, disk: D) -> Result<Restarted<D>, Refused<
 
     ensures refused { IfErr result
         (λ e. IsOpeningRefusal (D.state disk) (D.state e.disk) e.refusal) }
+
+    // The disk has failed where a device fault is told, and nowhere else.
+    ensures calm { MatchResult result
+        (λ r. (D.state r.server.disk).failures ≡ (D.state disk).failures)
+        (λ e. (e.refusal ≡ DeviceFault)
+        ⊎ ((D.state e.disk).failures ≡ (D.state disk).failures)) }
     ensures keeps_refused { IfErr result (λ e. KeepsLength (D.state disk) (D.state e.disk)) }
     ensures later_refused { IfErr result
         (λ e. (D.state disk).failures ≤ (D.state e.disk).failures) }

@@ -1,7 +1,9 @@
 //! The server: a repository, and a player of what it keeps.
 ghost use Rattle.std.specs.Prelude.{◌≡◌, ◌<◌, ◌≤◌, ◌↔◌, ℕ, List, true, false, Ok, OnOk, OnErr};
-ghost use Rattle.std.specs.Prelude.{IfOk, IfErr, IsTrue, IsFalse};
-ghost use Rattle.disk_store.specs.Disk.{Keeps, KeepsLength, IsStill, IsUnchanged, Throughout};
+ghost use Rattle.std.specs.Prelude.{◌+◌, ◌⊎◌, vec_len, IfOk, IfErr, IsTrue, IsFalse, MatchResult};
+ghost use Rattle.disk_store.specs.Disk.{Keeps, KeepsLength, Costs, IsStill, IsUnchanged};
+ghost use Rattle.disk_store.specs.Disk.{Throughout};
+ghost use Rattle.mot_base.specs.declared.refusal.Refusal.TheVariants.{DeviceFault};
 ghost use Rattle.mot_base.specs.Geometry.{packet_room};
 ghost use Rattle.mot_journal.specs.Image as journal;
 ghost use Rattle.mot_player.specs.Place.{change_turn, opened_place};
@@ -58,6 +60,8 @@ impl<D: Disk> Server<D> {
     ghost use Rattle.mot_player.specs.Reading.{ReadsAs};
     ghost use Rattle.mot_player.specs.Standing.{AreBodiesFor, place_of};
     ghost use Rattle.mot_repository.specs.Answers.{IsAnswered, IsMigrationRefusal};
+    ghost use Rattle.mot_journal.specs.Slot.{slot_count};
+    ghost use Rattle.mot_repository.specs.Cost.{calls_of_command};
     ghost use Rattle.mot_repository.specs.Opening.{IsOpened, IsOpeningRefusal};
     ghost use Rattle.mot_server.specs.Inner.Plays.{Plays};
     ghost use Rattle.mot_server.specs.Playing.{HasPlayed, HasPlayedTurn, bytes_of_packets};
@@ -80,6 +84,17 @@ impl<D: Disk> Server<D> {
         ensures still { IfOk result (λ server. (D.state server.disk).IsHonest
             → IsStill (D.state disk) (D.state server.disk)) }
         ensures going { IfOk result (λ server. IsFalse server.view.halted) }
+
+        // The disk has failed where a device fault is told, and nowhere else.
+        ensures calm { MatchResult result
+            (λ server. (D.state server.disk).failures ≡ (D.state disk).failures)
+            (λ e. (e.refusal ≡ DeviceFault)
+            ⊎ ((D.state e.disk).failures ≡ (D.state disk).failures)) }
+
+        // a sync, a read of the head, and a read of the selected half
+        ensures cost { MatchResult result
+            (λ server. (D.state server.disk).calls ≡ (D.state disk).calls + 3)
+            (λ e. (D.state e.disk).calls ≤ (D.state disk).calls + 3) }
 
         // What is kept is what the disk stands for, and no position of it is loose.
         ensures opened { IfOk result (λ server. (D.state server.disk).IsHonest
@@ -168,6 +183,12 @@ impl<D: Disk> Server<D> {
         ensures keeps { Keeps (D.state self.old.disk) (D.state self.new.disk) }
         ensures later { (D.state self.old.disk).failures ≤ (D.state self.new.disk).failures }
         ensures going { OnOk result (IsFalse self.old.view.halted) }
+        ensures calm { OnOk result
+            ((D.state self.new.disk).failures ≡ (D.state self.old.disk).failures) }
+        ensures cost { Costs (calls_of_command self.old.view.journal command.now)
+            (D.state self.old.disk) (D.state self.new.disk) result }
+        ensures untouched { IfErr result
+            (λ refusal. (refusal ≡ DeviceFault) ⊎ (self.new ≡ self.old)) }
         ensures answered { IsAnswered self.old.view self.new.view
             (D.state self.old.disk) (D.state self.new.disk) command.now result }
 
@@ -205,6 +226,9 @@ impl<D: Disk> Server<D> {
         ensures view { self.new.view ≡ self.old.view }
         ensures unchanged { (D.state self.new.disk).IsHonest
             → IsUnchanged (D.state self.old.disk) (D.state self.new.disk) }
+
+        // a part of a body at most
+        ensures cost { (D.state self.new.disk).calls ≤ (D.state self.old.disk).calls + 1 }
 
         // It is the next packet of what the disk stands for.
         ensures sent { (s : journal.Standing) → Holds self.old.view s (D.state self.old.disk)
@@ -254,6 +278,16 @@ impl<D: Disk> Server<D> {
         ensures going { OnOk result (IsFalse self.old.view.halted) }
         ensures refused { IfErr result (λ refusal. IsTurnRefusal self.old self.new
             (D.state self.old.disk).failures (D.state self.new.disk).failures refusal) }
+
+        // The disk has failed where a device fault is told, and nowhere else.
+        ensures calm { MatchResult result
+            (λ packets. (D.state self.new.disk).failures ≡ (D.state self.old.disk).failures)
+            (λ refusal. (refusal ≡ DeviceFault)
+            ⊎ ((D.state self.new.disk).failures ≡ (D.state self.old.disk).failures)) }
+
+        // a part of a body at most for each packet
+        ensures cost { IfOk result (λ packets.
+            (D.state self.new.disk).calls ≤ (D.state self.old.disk).calls + vec_len packets) }
     {
         if self.halted() {
             return Err(Refusal::Halted);
@@ -277,6 +311,10 @@ impl<D: Disk> Server<D> {
         ensures later { (D.state self.old.disk).failures ≤ (D.state self.new.disk).failures }
         ensures view { self.new.view ≡ self.old.view }
         ensures player { self.new.player ≡ self.old.player }
+        ensures cost { (D.state self.new.disk).calls ≤ (D.state self.old.disk).calls
+            + slot_count self.old.view.journal.layout self.old.view.journal.geometry }
+        ensures calm { OnOk result
+            ((D.state self.new.disk).failures ≡ (D.state self.old.disk).failures) }
         ensures unchanged { (D.state self.new.disk).IsHonest
             → IsUnchanged (D.state self.old.disk) (D.state self.new.disk) }
         ensures going { OnOk result (IsFalse self.old.view.halted) }
@@ -311,6 +349,13 @@ impl<D: Disk> Server<D> {
             × (IsFalse self.old.view.halted → result ≡ Ok false) }
         ensures refused { IfErr result (λ refusal. IsMigrationRefusal self.old.view self.new.view
             (D.state self.old.disk) (D.state self.new.disk) refusal) }
+        ensures calm { OnOk result
+            ((D.state self.new.disk).failures ≡ (D.state self.old.disk).failures) }
+        ensures untouched { IfErr result
+            (λ refusal. (refusal ≡ DeviceFault) ⊎ (self.new ≡ self.old)) }
+        ensures cost { self.old.view.journal.layout ≡ One
+            → Costs (slot_count Two self.old.view.journal.geometry + 3)
+            (D.state self.old.disk) (D.state self.new.disk) result }
 
         // At each moment a crash leaves the same carousel, clean.
         ensures any_moment { (s : journal.Standing)

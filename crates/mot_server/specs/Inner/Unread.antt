@@ -1,6 +1,6 @@
 -- Where no read has come, all stays.
 use Rattle.std.specs.Prelude.{refl}
-use Rattle.std.proofs.Common.{inl}
+use Rattle.std.proofs.Common.{inl, le-add_right}
 use Rattle.std.proofs.Math.Nat.{le_refl}
 use Rattle.disk_store.specs.Disk.{State, IsUnchanged}
 use Rattle.mot_repository.specs.Repository.{RepositoryView}
@@ -24,4 +24,5 @@ unread view state = record {
   keeps = record { len = refl; was_honest = λ honest. honest };
   later = le_refl state.failures;
   unchanged = λ honest. is_unchanged state;
+  cost = le-add_right state.calls 1;
 }

@@ -1,4 +1,4 @@
-use Rattle.std.proofs.Common.{ℕ, suc, List, [], ◌∷◌, ◌++◌, length, refl, sym, ap, ◌∙◌, subst, arith}
+use Rattle.std.proofs.Common.{ℕ, suc, List, [], ◌∷◌, ◌++◌, length, length-append, refl, sym, ap, ◌∙◌, subst, arith}
 use Rattle.mot_player.specs.Standing as player
 use Rattle.mot_server.specs.Inner.Going.{IsGoing}
 use Rattle.mot_server.specs.Inner.Unread.{is_unchanged}
@@ -14,6 +14,8 @@ loop-packets-init g c = record {
   view = refl;
   keeps = record { len = refl; was_honest = λ honest. honest };
   later = omega arith;
+  calm = refl;
+  cost = omega arith;
   unchanged = λ honest. is_unchanged (g.D.Disk.state c.args.self.now.disk);
   going = λ s holds honest. subst (λ (xs : List (List ℕ)). IsGoing (place_in c.args.self.now s) xs (place_in c.args.self.now s))
       (sym (ap bytes_of_packets c.new-packets.ensures.items)) (IsGoing-none (place_in c.args.self.now s));
@@ -87,6 +89,12 @@ loop-packets-preserved g c =
       view = c.next_packet.ensures.view ∙ is.view;
       keeps = keeps_on (state start.disk) (state mid.disk) (state now.disk) is.keeps c.next_packet.ensures.keeps;
       later = omega (arith, later, further);
+      calm = c.in_ok-packet.ensures.no_fault ∙ is.calm;
+      cost =
+          let so_far = is.cost in
+          let one = c.next_packet.ensures.cost in
+          omega (arith, so_far, one, ap length c.in_ok-push.ensures.items,
+          length-append c.loop-packets.packets.items (c.in_ok-packet.field-0.packet ∷ []));
       unchanged = λ honest. unchanged_on (state start.disk) (state mid.disk) (state now.disk)
           (is.unchanged (c.next_packet.ensures.keeps.was_honest honest)) (c.next_packet.ensures.unchanged honest);
       going = λ s holds honest.

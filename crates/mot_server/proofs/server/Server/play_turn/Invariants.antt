@@ -1,4 +1,4 @@
-use Rattle.std.proofs.Common.{◌≡◌, ◌≤◌}
+use Rattle.std.proofs.Common.{◌≡◌, ◌≤◌, ◌+◌, length}
 use Rattle.disk_store.specs.Disk.{KeepsLength, IsUnchanged}
 use Rattle.mot_journal.specs.Image.{Standing}
 use Rattle.mot_player.specs.Laws.{bytes_left}
@@ -13,6 +13,9 @@ invariant-loop-packets g l = record {
   view : l.self.view ≡ l.fn.self.view;
   keeps : KeepsLength (g.D.Disk.state l.fn.self.disk) (g.D.Disk.state l.self.disk);
   later : (g.D.Disk.state l.fn.self.disk).failures ≤ (g.D.Disk.state l.self.disk).failures;
+  calm : (g.D.Disk.state l.self.disk).failures ≡ (g.D.Disk.state l.fn.self.disk).failures;
+  cost : (g.D.Disk.state l.self.disk).calls
+      ≤ (g.D.Disk.state l.fn.self.disk).calls + length l.packets.items;
   unchanged : (g.D.Disk.state l.self.disk).IsHonest → IsUnchanged (g.D.Disk.state l.fn.self.disk) (g.D.Disk.state l.self.disk);
   going : (s : Standing) → Holds l.fn.self.view s (g.D.Disk.state l.fn.self.disk) → (g.D.Disk.state l.self.disk).IsHonest
       → IsGoing (place_in l.fn.self s) (bytes_of_packets l.packets.items) (place_in l.self s);
