@@ -105,7 +105,7 @@ known-push (x ∷ names) n m e f =
     let p = or_parts (bytes_eq m x) (is_known names m) e in
     or_from (bytes_eq m x) (is_known (names ++ n ∷ []) m) p.0 (known-push names n m p.1 f)
 
-names-push : (names : List (List ℕ)) (n : List ℕ) → are_names_distinct names ≡ true
+pub names-push : (names : List (List ℕ)) (n : List ℕ) → are_names_distinct names ≡ true
     → is_known names n ≡ false → are_names_distinct (names ++ n ∷ []) ≡ true
 names-push [] n d e = refl
 names-push (m ∷ names) n d e =
