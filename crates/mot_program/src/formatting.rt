@@ -9,10 +9,9 @@ ghost use Rattle.mot_program.specs.Report.{Formats, StopsFormatting, formatted_l
 
 use crate::ended::{Ended, Finished};
 use crate::file::{make_file, open_file};
-use disk_store::{Disk, Start, Unopened};
+use disk_store::{Disk, Start, Unopened, take_away};
 use mot_base::{Geometry, Refusal};
 use mot_journal::format;
-use std::fs;
 use std::io::Write;
 
 /// Makes a disk of the file at the path, which is made where it can't be opened, and taken away
@@ -67,7 +66,7 @@ fn format_new_file<S: Start, W: Write>(
     };
     let result = format_disk(&mut disk, &geometry, writer);
     if is_unformatted(&result) {
-        let _ = fs::remove_file(rt, path);
+        let _ = take_away(rt, path);
     }
     Finished::of_file(Ended { disk, result })
 }

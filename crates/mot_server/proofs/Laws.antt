@@ -14,3 +14,18 @@ pub use Rattle.mot_server.proofs.Runs.{still_agrees}
 pub use Rattle.mot_server.proofs.Turns.{valid_is}
 -- a halted server refuses, and nothing changes
 pub use Rattle.mot_server.proofs.Answered.{not_halted}
+-- runs one after the other, and calls that only read
+pub use Rattle.mot_server.proofs.Joins.{runs_join, reads_leave, reads_leave_of, accepted-join}
+-- packets, request by request
+use Rattle.mot_server.proofs.Going.{HasPlayed-none, HasPlayed-more}
+use Rattle.std.proofs.Common.{ℕ, suc, Bool, List, [], ◌∷◌, ◌++◌}
+use Rattle.mot_player.specs.Laws.{IsStep}
+use Rattle.mot_player.specs.Place.{Place}
+use Rattle.mot_server.specs.Playing.{HasPlayed}
+
+pub played_none : (place : Place) → HasPlayed place 0 [] place
+played_none place = HasPlayed-none place
+
+pub played_more : (old mid new : Place) (n : ℕ) (packets : List (List ℕ)) → HasPlayed old n packets mid →
+    (packet : List ℕ) (ends : Bool) → IsStep mid packet ends new → HasPlayed old (suc n) (packets ++ packet ∷ []) new
+played_more old mid new n packets played packet ends step = HasPlayed-more old mid new n packets played packet ends step

@@ -4,6 +4,7 @@ pub mod Calls
 pub mod Extents
 pub mod Going
 pub mod Histories
+pub mod Joins
 pub mod Laws
 pub mod Openings
 pub mod Places

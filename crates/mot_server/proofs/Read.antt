@@ -9,7 +9,7 @@ use Rattle.mot_carousel.specs.Stands.{AreBodiesOf}
 use Rattle.mot_journal.specs.Image.{Standing}
 use Rattle.mot_repository.specs.Extents.{ArePaired}
 use Rattle.mot_repository.specs.OnDisk.{extent_at, body_on}
-use Rattle.mot_repository.specs.Repository.{RepositoryView, Holds, body_at}
+use Rattle.mot_repository.specs.Repository.{RepositoryView, Agrees, Holds, body_at}
 use Rattle.mot_repository.proofs.Laws.{body_held}
 use Rattle.mot_server.specs.Bodies.{bodies_on}
 use Rattle.mot_server.specs.Server.{bodies_of}
@@ -58,6 +58,20 @@ bodies_held view s state sound holds paired =
     body_at-filled g extents i image below
     ∙ filled_up-whole (extent_at extents i).1 (body_on g extents i image) (sym (ap length held) ∙ size)
     ∙ sym held)
+
+-- the length of a body is that of its extent
+pub body_length : (view : RepositoryView) (s : Standing) → Agrees view s → ArePaired view.carousel view.extents
+    → (i : ℕ) → i < length view.extents → length (body_at s.carousel.objects i) ≡ (extent_at view.extents i).1
+body_length view s agrees paired i below =
+    let extents : List (ℕ × ℕ) = view.extents in
+    let bodies : List (List ℕ) = bodies_of s.carousel in
+    let kept = bodies_kept view s agrees in
+    let sizes : map length bodies ≡ map (λ (e : ℕ × ℕ). e.1) extents = kept.0 ∙ sym paired in
+    let many : length bodies ≡ length extents = length-same length (λ (e : ℕ × ℕ). e.1) bodies extents sizes in
+    let within : i < length bodies = omega (arith, below, many) in
+    ap length (body_at-bodies s.carousel.objects i)
+    ∙ sym (get_or-map length bodies i [] 0 within) ∙ ap (λ (l : List ℕ). get_or l i 0) sizes
+    ∙ get_or-map (λ (e : ℕ × ℕ). e.1) extents i (0, 0) 0 below
 
 -- two calls that change nothing
 

@@ -1,3 +1,4 @@
+pub mod Attempts
 pub mod Bodies
 pub mod History
 pub mod Inner

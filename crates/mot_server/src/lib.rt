@@ -3,6 +3,7 @@
 
 mod beginning;
 mod bodies;
+mod comparing;
 mod headline;
 mod playing;
 mod restarting;
@@ -13,7 +14,7 @@ pub use beginning::{Beginning, format_and_restart};
 pub use headline::{Aftermath, run_and_restart};
 pub use mot_repository::Refused;
 pub use restarting::{Restarted, restart};
-pub use running::RunEnd;
+pub use running::{Attempt, RunEnd};
 pub use server::Server;
 
 #[cfg(test)]

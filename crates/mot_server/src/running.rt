@@ -1,13 +1,13 @@
 //! Commands in a row, up to the first that can't be answered.
-ghost use Rattle.std.specs.Prelude.{◌≡◌, ◌≤◌, ◌<◌, [], length, vec_len, Some, IfSome, IfNone};
-ghost use Rattle.std.specs.Prelude.{IsTrue};
+ghost use Rattle.std.specs.Prelude.{◌≡◌, ◌≤◌, ◌<◌, [], ◌∷◌, length, vec_len, Some, IfSome, IfNone};
+ghost use Rattle.std.specs.Prelude.{IfErr, IsTrue};
 ghost use Rattle.mot_base.specs.declared.refusal.Refusal.TheVariants.{DeviceFault, Halted};
 ghost use Rattle.mot_server.specs.RunEnds.{is_run_ending};
 
 use crate::Server;
 use disk_store::Disk;
 use mot_base::Refusal;
-use mot_carousel::Command;
+use mot_carousel::{Command, Done};
 use std::alloc::Global;
 
 /// What a run of commands came to.
@@ -19,10 +19,21 @@ pub struct RunEnd {
     pub fault: Option<Refusal>,
 }
 
+/// What one command came to that was answered.
+#[derive(Clone, Copy, Debug, PartialEq, Eq)]
+pub enum Attempt {
+    /// It was accepted, and took these ids.
+    Accepted(Done),
+    /// It was refused, and nothing changed.
+    Refused(Refusal),
+}
+
 impl<D: Disk> Server<D> {
     ghost use Rattle.disk_store.specs.Disk.{Keeps};
     ghost use Rattle.mot_journal.specs.Image.{Standing};
     ghost use Rattle.mot_repository.specs.Repository.{Holds};
+    ghost use Rattle.mot_repository.specs.Answers.{IsAnswered};
+    ghost use Rattle.mot_server.specs.Attempts.{answer_of, fault_of, marks_of};
     ghost use Rattle.mot_server.specs.RunAnswers.{RunAnswers};
     ghost use Rattle.mot_server.specs.RunEnds.{IsRunFault, RunLeaves, place_behind};
     ghost use Rattle.mot_server.specs.Runs.{accepted_commands, IsAfter};
@@ -89,6 +100,38 @@ impl<D: Disk> Server<D> {
             }
         }
         RunEnd { done, fault: None }
+    }
+
+    /// Does one command, as a run of it alone: what would be marked false is an answer, and what
+    /// would end the run is the error. Unlike a run it tells the ids, and why it was refused.
+    pub fn attempt(&mut self, alloc: Global, command: &Command) -> Result<Attempt, Refusal>
+        ensures keeps { Keeps (D.state self.old.disk) (D.state self.new.disk) }
+        ensures later { (D.state self.old.disk).failures ≤ (D.state self.new.disk).failures }
+        ensures layout { self.new.view.journal.layout ≡ self.old.view.journal.layout }
+        ensures fault { IfErr result (λ refusal. IsRunFault self.old.view self.new.view
+            (D.state self.old.disk) (D.state self.new.disk) refusal) }
+
+        // On every disk the ids and the refusal are those of the command.
+        ensures answered { IsAnswered self.old.view self.new.view
+            (D.state self.old.disk) (D.state self.new.disk) command.now (answer_of result) }
+        ensures leaves { (s : Standing) → Holds self.old.view s (D.state self.old.disk)
+            → RunLeaves self.old.view self.new.view (D.state self.old.disk)
+            (D.state self.new.disk) s (command.now ∷ []) (marks_of result) (fault_of result) }
+        ensures place { (s last : Standing) → Holds self.old.view s (D.state self.old.disk)
+            → IsAfter s (accepted_commands (command.now ∷ []) (marks_of result)) last
+            → place_in self.new last
+            ≡ place_behind (accepted_commands (command.now ∷ []) (marks_of result)) last
+            (place_in self.old s) }
+    {
+        match self.execute(alloc, command) {
+            Ok(done) => Ok(Attempt::Accepted(done)),
+            Err(refusal) => {
+                if ends_run(refusal) {
+                    return Err(refusal);
+                }
+                Ok(Attempt::Refused(refusal))
+            }
+        }
     }
 }
 

@@ -1,6 +1,7 @@
 //! The server: a repository, and a player of what it keeps.
 ghost use Rattle.std.specs.Prelude.{◌≡◌, ◌<◌, ◌≤◌, ◌↔◌, ℕ, List, true, false, Ok, OnOk, OnErr};
-ghost use Rattle.std.specs.Prelude.{◌+◌, ◌⊎◌, vec_len, IfOk, IfErr, IsTrue, IsFalse, MatchResult};
+ghost use Rattle.std.specs.Prelude.{◌+◌, ◌⊎◌, length, slice_range, vec_len, IfOk, IfErr, IsTrue};
+ghost use Rattle.std.specs.Prelude.{IsFalse, MatchResult};
 ghost use Rattle.disk_store.specs.Disk.{Keeps, KeepsLength, Costs, IsStill, IsUnchanged};
 ghost use Rattle.disk_store.specs.Disk.{Throughout};
 ghost use Rattle.mot_base.specs.declared.refusal.Refusal.TheVariants.{DeviceFault};
@@ -8,10 +9,12 @@ ghost use Rattle.mot_base.specs.Geometry.{packet_room};
 ghost use Rattle.mot_journal.specs.Image as journal;
 ghost use Rattle.mot_player.specs.Place.{change_turn, opened_place};
 ghost use Rattle.mot_player.specs.Turn.{turn_of_carousel};
+ghost use Rattle.mot_repository.specs.OnDisk.{extent_at};
 ghost use Rattle.mot_repository.specs.Repository.{Agrees, Holds, IsNext, IsBeforeOrAfter};
-ghost use Rattle.mot_repository.specs.Repository.{IsOf};
+ghost use Rattle.mot_repository.specs.Repository.{IsOf, body_at};
 
 use crate::bodies::DiskBodies;
+use crate::comparing::is_body;
 use crate::playing::player_of;
 use disk_store::Disk;
 use mot_base::{Geometry, Refusal, SegmentSize};
@@ -302,6 +305,76 @@ impl<D: Disk> Server<D> {
                 return Ok(packets);
             }
         }
+    }
+
+    /// The length of the body of the object at this place.
+    pub fn body_length(&self, place: usize) -> usize
+        requires { place < vec_len self.now.view.carousel.objects }
+        ensures value { result ≡ (extent_at self.now.view.extents place).1 }
+
+        // It is the length of the body in what the disk stands for.
+        ensures body { (s : journal.Standing) → Agrees self.now.view s
+            → result ≡ length (body_at s.carousel.objects place) }
+    {
+        let count = self.bodies.repository.body_count();
+        prove!(place < count);
+        self.bodies.repository.body_length(place) as usize
+    }
+
+    /// Reads a part of the body of the object at this place. Its refusals are `DeviceFault`, which
+    /// does not halt the server, and `Halted`.
+    pub fn read_body(&mut self, place: usize, from: usize, out: &mut [u8]) -> Result<(), Refusal>
+        requires place { place < vec_len self.old.view.carousel.objects }
+        requires within { from + length out.old ≤ (extent_at self.old.view.extents place).1 }
+        ensures keeps { KeepsLength (D.state self.old.disk) (D.state self.new.disk) }
+        ensures later { (D.state self.old.disk).failures ≤ (D.state self.new.disk).failures }
+        ensures view { self.new.view ≡ self.old.view }
+        ensures player { self.new.player ≡ self.old.player }
+        ensures cost { (D.state self.new.disk).calls ≤ (D.state self.old.disk).calls + 1 }
+        ensures unchanged { (D.state self.new.disk).IsHonest
+            → IsUnchanged (D.state self.old.disk) (D.state self.new.disk) }
+        ensures going { OnOk result (IsFalse self.old.view.halted) }
+        ensures refused { IfErr result (λ refusal. IsReadRefusal self.old self.new
+            (D.state self.old.disk).failures (D.state self.new.disk).failures refusal) }
+
+        // They are bytes of the body in what the disk stands for.
+        ensures bytes { (s : journal.Standing) → Holds self.old.view s (D.state self.old.disk)
+            → (D.state self.new.disk).IsHonest → OnOk result
+            (out.new ≡ slice_range (body_at s.carousel.objects place) from
+            (from + length out.old)) }
+    {
+        if self.halted() {
+            return Err(Refusal::Halted);
+        }
+        let _ = self.bodies.repository.body_count();
+        self.bodies.repository.read_body(place, from, out)
+    }
+
+    /// Whether the body of the object at this place has exactly these bytes. It only reads, a piece
+    /// at a time, and nothing where the lengths differ. Its refusals are `DeviceFault`, which does
+    /// not halt the server, and `Halted`.
+    pub fn body_is(&mut self, place: usize, bytes: &[u8]) -> Result<bool, Refusal>
+        requires { place < vec_len self.old.view.carousel.objects }
+        ensures keeps { KeepsLength (D.state self.old.disk) (D.state self.new.disk) }
+        ensures later { (D.state self.old.disk).failures ≤ (D.state self.new.disk).failures }
+        ensures view { self.new.view ≡ self.old.view }
+        ensures player { self.new.player ≡ self.old.player }
+        ensures unchanged { (D.state self.new.disk).IsHonest
+            → IsUnchanged (D.state self.old.disk) (D.state self.new.disk) }
+        ensures going { OnOk result (IsFalse self.old.view.halted) }
+        ensures refused { IfErr result (λ refusal. IsReadRefusal self.old self.new
+            (D.state self.old.disk).failures (D.state self.new.disk).failures refusal) }
+
+        // It is the body of what the disk stands for.
+        ensures exact { (s : journal.Standing) → Holds self.old.view s (D.state self.old.disk)
+            → (D.state self.new.disk).IsHonest → IfOk result
+            (λ same. IsTrue same ↔ (body_at s.carousel.objects place ≡ bytes.now)) }
+    {
+        if self.halted() {
+            return Err(Refusal::Halted);
+        }
+        let _ = self.bodies.repository.body_count();
+        is_body(&mut self.bodies.repository, place, bytes)
     }
 
     /// Whether no gate of the selected half is open behind a closed one. It only reads. Its

@@ -4,11 +4,10 @@ ghost use Rattle.disk_store.specs.Calls.{content_after, HasBegun, opening_calls,
 ghost use Rattle.disk_store.specs.Disk.{IsNew, LeavesAll};
 ghost use Rattle.disk_store.specs.File.{file_state, calls_on, CanSync};
 
-use super::system::HeldFile;
+use super::system::{HeldFile, take_away};
 use super::{FileDisk, FileDiskFrom, OpenFault, Start, Unknown};
 use crate::DiskFault;
 use crate::call_count::CallCount;
-use std::fs;
 use std::fs::{File, OpenOptions};
 use std::io::ErrorKind;
 use std::marker::PhantomData;
@@ -160,7 +159,7 @@ impl<S: Start> FileDiskFrom<S> {
         match FileDiskFrom::fill(file, rt, path, len) {
             Ok(disk) => Ok(disk),
             Err(fault) => {
-                let _ = fs::remove_file(rt, path);
+                let _ = take_away(rt, path);
                 Err(fault)
             }
         }

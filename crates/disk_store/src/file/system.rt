@@ -141,17 +141,15 @@ fn write_zeros(file: &File, len: u64) -> io::Result<()> {
 }
 
 // No call of std drops a file's cached pages. The opening of the kit's SQLite does, of the file of a
-// path, once it has synced the file and its folder; nothing else is asked of what it opens. A block
-// device's pages are dropped with its last handle.
+// path, once it has synced the file and its folder; nothing else is asked of what it opens. It wants
+// an empty file beside, which it makes where there is none: that stays, so that a disk opens on a
+// file system that has become full. A block device's pages are dropped with its last handle.
 fn drop_cached_pages(rt: &HostRuntime, file: &File, path: &str) -> io::Result<()> {
     if file.metadata()?.file_type().is_block_device() {
         return Ok(());
     }
     let real = fs::canonicalize(rt, path)?;
-    let log = format!(in rt.alloc(); "{}-wal", real.as_str())?;
-    let opened = sqlite_std_file::open(rt, real.as_str(), sqlite_std_file::Unknown);
-    remove_empty(rt, log.as_str())?;
-    match opened {
+    match sqlite_std_file::open(rt, real.as_str(), sqlite_std_file::Unknown) {
         Ok(_) => Ok(()),
         Err(OpenError::Io(error)) => Err(error),
         Err(OpenError::OutOfMemory) => Err(io::ErrorKind::OutOfMemory.into()),
@@ -160,7 +158,15 @@ fn drop_cached_pages(rt: &HostRuntime, file: &File, path: &str) -> io::Result<()
     }
 }
 
-// Takes away the file that the opening has made beside, and nobody else's.
+/// Takes a file away that was made and is of no use, and the empty one beside it. It fails where
+/// that can't be done.
+pub fn take_away(rt: &HostRuntime, path: &str) -> io::Result<()> {
+    let beside = format!(in rt.alloc(); "{path}-wal")?;
+    remove_empty(rt, beside.as_str())?;
+    fs::remove_file(rt, path)
+}
+
+// Takes away what an opening has made beside a file, and nobody else's file.
 fn remove_empty(rt: &HostRuntime, path: &str) -> io::Result<()> {
     match fs::symlink_metadata(rt, path) {
         Ok(found) if found.is_file() && found.len() == 0 => fs::remove_file(rt, path),

@@ -241,17 +241,21 @@ fn names_in(rt: &HostRuntime, path: &str) -> Result<usize, Fail> {
     Ok(count)
 }
 
-// An opening leaves nothing beside the file, and takes nobody's file away.
+// An opening makes an empty file beside the disk, changes nobody else's, and a file that is not made
+// leaves none.
 #[test]
-fn nothing_is_left_beside_a_file(rt: HostRuntime) -> Result<(), Fail> {
+fn an_empty_file_stands_beside(rt: HostRuntime) -> Result<(), Fail> {
     make_empty_folder(&rt, "beside.test")?;
     let path = "beside.test/disk";
     drop(FileDisk::create(&rt, path, 8)?);
     drop(FileDisk::open(&rt, path)?);
-    assert_eq!(rt; names_in(&rt, "beside.test")?, 1);
+    assert_eq!(rt; names_in(&rt, "beside.test")?, 2);
+    assert_eq!(rt; fs::read(&rt, "beside.test/disk-wal")?.len(), 0);
     fs::write(&rt, "beside.test/disk-wal", b"mine")?;
     drop(FileDisk::open(&rt, path)?);
     assert_eq!(rt; fs::read(&rt, "beside.test/disk-wal")?.as_slice(), b"mine".as_slice());
+    assert!(rt; FileDisk::create(&rt, "beside.test/other", u64::MAX).is_err());
+    assert_eq!(rt; names_in(&rt, "beside.test")?, 2);
     fs::remove_dir_all(&rt, "beside.test")?;
     Ok(())
 }

@@ -1,0 +1,35 @@
+-- Writes that were added to known ones.
+use Rattle.std.proofs.Common.{◌≡◌, ℕ, ◌<◌, List, [], ◌∷◌, ◌++◌, length, take, Option, Some, None}
+use Rattle.std.proofs.Common.{refl, sym, ap, ◌∙◌, subst, append_assoc, append-nil}
+use Rattle.mot_feed.specs.Writing.{Grows, GrowsPart, whole, failed, short}
+
+pub grows_nil : (a : Option (List (List ℕ))) → Grows a a []
+grows_nil None = tt
+grows_nil (Some x) = sym (append-nil x)
+
+pub grows_trans : (a b c : Option (List (List ℕ))) (xs ys : List (List ℕ)) → Grows a b xs
+    → Grows b c ys → Grows a c (xs ++ ys)
+grows_trans None b c xs ys p q = tt
+grows_trans (Some x) None c xs ys p q = absurd p
+grows_trans (Some x) (Some y) None xs ys p q = absurd q
+grows_trans (Some x) (Some y) (Some z) xs ys p q =
+    q ∙ ap (λ l. l ++ ys) p ∙ append_assoc x xs ys
+
+-- nothing more was written
+pub grows_kept : (a b c : Option (List (List ℕ))) (xs : List (List ℕ)) → Grows a b xs
+    → Grows b c [] → Grows a c xs
+grows_kept a b c xs p q = subst (Grows a c) (append-nil xs) (grows_trans a b c xs [] p q)
+
+-- a part behind what was written
+pub part_after : (front packets : List (List ℕ)) (a b c : Option (List (List ℕ)))
+    → Grows a b front → GrowsPart packets b c → GrowsPart (front ++ packets) a c
+part_after front packets a b c p (whole q) = whole (grows_trans a b c front packets p q)
+part_after front packets a b c p (failed others last is q) =
+    failed (front ++ others) last
+    (ap (λ l. front ++ l) is ∙ sym (append_assoc front others (last ∷ [])))
+    (grows_trans a b c front others p q)
+part_after front packets a b c p (short others last count is lt q) =
+    short (front ++ others) last count
+    (ap (λ l. front ++ l) is ∙ sym (append_assoc front others (last ∷ []))) lt
+    (subst (Grows a c) (sym (append_assoc front others (take count last ∷ [])))
+    (grows_trans a b c front (others ++ take count last ∷ []) p q))

@@ -1,0 +1,39 @@
+use Rattle.std.proofs.Common.{◌≡◌, ◌∙◌, ℕ, ◌<◌, ◌≤◌, List, [], ◌∷◌, take, length, refl, sym, ap, subst}
+use Rattle.std.proofs.lemmas.List.{take_all}
+use Rattle.mot_feed.specs.Sending.{whole, short, failed, none}
+use Rattle.mot_feed.specs.Writing.{Grows}
+use Rattle.mot_feed.proofs.Grown.{grows_nil}
+use Rattle.mot_feed.proofs.Sent.{same_error, same_place}
+use Rattle.mot_feed.proofs.sending.send_one.Goals as goal
+
+pub returns-in_err-packet-clause-sent : goal.returns-in_err-packet-clause-sent
+returns-in_err-packet-clause-sent g c = λ s holds honest.
+    none c.in_err-packet.field-0.0
+    (same_error c.from_residual.result c.in_err-packet.field-0.0 c.from_residual.ensures.1)
+    (same_place c.args.server.now c.next_packet.new.self s c.in_err-packet.ensures.stays)
+    (grows_nil (g.O.Outlet.writes c.args.outlet.now))
+
+pub returns-then-count-bytes-clause-sent : goal.returns-then-count-bytes-clause-sent
+returns-then-count-bytes-clause-sent g c = λ s holds honest.
+    let p = c.in_ok-packet.field-0 in
+    let same = c.as_slice-bytes.ensures.value in
+    short p.packet.items p.ends_turn c.in-Ok.count refl (c.in_ok-packet.ensures.sent s holds honest)
+    (subst (λ l. c.in-Ok.count < length l) same c.if-count-bytes.true)
+    (subst (λ l. Grows (g.O.Outlet.writes c.args.outlet.now)
+    (g.O.Outlet.writes c.write_once.new.self) (take c.in-Ok.count l ∷ [])) same
+    c.in-Ok.ensures.one)
+
+pub returns-else-count-bytes-clause-sent : goal.returns-else-count-bytes-clause-sent
+returns-else-count-bytes-clause-sent g c = λ s holds honest.
+    let p = c.in_ok-packet.field-0 in
+    let same = take_all c.in-Ok.count c.as_slice-bytes.result.now c.if-count-bytes.false
+    ∙ c.as_slice-bytes.ensures.value in
+    whole p.packet.items p.ends_turn refl (c.in_ok-packet.ensures.sent s holds honest)
+    (subst (λ l. Grows (g.O.Outlet.writes c.args.outlet.now)
+    (g.O.Outlet.writes c.write_once.new.self) (l ∷ [])) same c.in-Ok.ensures.one)
+
+pub returns-in-Err-clause-sent : goal.returns-in-Err-clause-sent
+returns-in-Err-clause-sent g c = λ s holds honest.
+    let p = c.in_ok-packet.field-0 in
+    failed p.packet.items p.ends_turn refl (c.in_ok-packet.ensures.sent s holds honest)
+    c.in-Err.ensures.one

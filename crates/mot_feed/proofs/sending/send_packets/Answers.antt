@@ -1,0 +1,64 @@
+use Rattle.std.proofs.Common.{◌≡◌, ◌∙◌, refl, sym, ap, subst, arith, Ok, Err}
+use Rattle.std.specs.Prelude.{Result, OnErr}
+use Rattle.disk_store.specs.Disk.{IsUnchanged}
+use Rattle.mot_server.proofs.Laws.{holds_still, keeps_on, unchanged_on}
+use Rattle.mot_feed.specs.Sending.{Sends}
+use Rattle.mot_server.specs.Server.{place_in}
+use Rattle.mot_feed.proofs.Sent.{on_err, sends_more, sends_none, sends_part, stays_same}
+use Rattle.mot_feed.proofs.sending.send_packets.Goals as goal
+
+pub loop-init : goal.loop-init
+loop-init g c =
+    let state = g.D.Disk.state c.args.server.now.disk in
+    record {
+      keeps = record { len = refl; was_honest = λ honest. honest };
+      later = omega arith;
+      view = refl;
+      unchanged = λ honest. stays_same state;
+      sent = λ s holds honest. sends_none (place_in c.args.server.now s) (g.O.Outlet.writes c.args.outlet.now);
+    }
+
+pub returns-in_err-send_one-clause-part : goal.returns-in_err-send_one-clause-part
+returns-in_err-send_one-clause-part g c = λ s holds honest.
+    let state = g.D.Disk.state in
+    let old = c.args.server.now in
+    let mid = c.loop.server in
+    let new = c.send_one.new.server in
+    let is = c.loop.invariant in
+    let one = c.in_err-send_one.ensures in
+    let was = one.keeps.was_honest honest in
+    let held = holds_still old.view mid.view s (state old.disk) (state mid.disk) holds was (is.unchanged was) is.view in
+    on_err c.from_residual.result _
+    (sends_part (place_in old s) (place_in mid s) (place_in new s) c.loop.counter c.args.count
+    _ _ _ c.in_err-send_one.field-0.0 c.loop-test.true (is.sent s holds was) (one.sent s held honest))
+
+pub loop-preserved : goal.loop-preserved
+loop-preserved g c =
+    let state = g.D.Disk.state in
+    let old = c.args.server.now in
+    let mid = c.loop.server in
+    let new = c.send_one.new.server in
+    let is = c.loop.invariant in
+    let one = c.in_ok-send_one.ensures in
+    record {
+      keeps = keeps_on (state old.disk) (state mid.disk) (state new.disk) is.keeps one.keeps;
+      later = omega (arith, is.later, one.later);
+      view = one.view ∙ is.view;
+      unchanged = λ honest.
+          let was = one.keeps.was_honest honest in
+          unchanged_on (state old.disk) (state mid.disk) (state new.disk) (is.unchanged was) (one.unchanged honest);
+      sent = λ s holds honest.
+          let was = one.keeps.was_honest honest in
+          let held = holds_still old.view mid.view s (state old.disk) (state mid.disk) holds was (is.unchanged was) is.view in
+          sends_more (place_in old s) (place_in mid s) (place_in new s) c.loop.counter _ _ _ c.in_ok-send_one.field-0
+          (is.sent s holds was) (one.sent s held honest);
+    }
+
+pub returns-clause-sent : goal.returns-clause-sent
+returns-clause-sent g c = λ s holds honest.
+    let old = c.args.server.now in
+    let last = c.loop-test.false in
+    let bound = c.loop.auto.counter-end in
+    let all : c.loop.counter ≡ c.args.count = omega (arith, last, bound) in
+    subst (λ n. Sends (place_in old s) n (place_in c.loop.server s) (g.O.Outlet.writes c.args.outlet.now) (g.O.Outlet.writes c.loop.outlet)) all
+    (c.loop.invariant.sent s holds honest)

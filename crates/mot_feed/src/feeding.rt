@@ -1,0 +1,70 @@
+//! Taking turns between updating the carousel and sending its packets.
+ghost use Rattle.std.specs.Prelude.{◌≡◌, ◌≤◌, OnErr, OnOk};
+ghost use Rattle.disk_store.specs.Disk.{KeepsLength};
+ghost use Rattle.mot_feed.specs.Feeding.{FedPacketsAreContinuous, Feeds, FeedsPart};
+ghost use Rattle.mot_feed.specs.Feeding.{IsUpdating, fault_of};
+ghost use Rattle.mot_journal.specs.Image.{Standing};
+ghost use Rattle.mot_repository.specs.Repository.{Holds};
+
+use crate::Outlet;
+use crate::sending::send_one;
+use disk_store::Disk;
+use mot_base::Refusal;
+use mot_server::Server;
+use std::alloc::Global;
+
+/// What changes a carousel between its packets, by commands.
+pub trait Update {
+    /// Does what is to be done now: before the first packet, and then behind each packet, which
+    /// ended a turn or not. What would end a run of commands is the error, as is a body that can't
+    /// be read.
+    fn update<D: Disk>(
+        &mut self,
+        server: &mut Server<D>,
+        alloc: Global,
+        between_turns: bool,
+    ) -> Result<(), Refusal>
+        ensures keeps { KeepsLength (D.state server.old.disk) (D.state server.new.disk) }
+        ensures later { (D.state server.old.disk).failures ≤ (D.state server.new.disk).failures }
+        ensures run { (s : Standing) → Holds server.old.view s (D.state server.old.disk)
+            → (D.state server.new.disk).IsHonest
+            → IsUpdating server.old server.new (D.state server.old.disk)
+            (D.state server.new.disk) s (fault_of result) };
+}
+
+/// Sends packets, each in one write, with updates before the first and behind each, until so many
+/// turns have ended: with `u64::MAX` for as good as ever. The errors are those of the updates and
+/// of `send_packets`.
+pub fn feed<D: Disk, O: Outlet, U: Update>(
+    server: &mut Server<D>,
+    alloc: Global,
+    update: &mut U,
+    outlet: &mut O,
+    turns: u64,
+) -> Result<(), Refusal>
+    ensures keeps { KeepsLength (D.state server.old.disk) (D.state server.new.disk) }
+    ensures later { (D.state server.old.disk).failures ≤ (D.state server.new.disk).failures }
+    ensures fed { (s : Standing) → Holds server.old.view s (D.state server.old.disk)
+        → (D.state server.new.disk).IsHonest
+        → OnOk result (Feeds server.old server.new (D.state server.old.disk)
+        (D.state server.new.disk) s (O.writes outlet.old) (O.writes outlet.new)) }
+    ensures part { (s : Standing) → Holds server.old.view s (D.state server.old.disk)
+        → (D.state server.new.disk).IsHonest
+        → OnErr result (FeedsPart server.old server.new (D.state server.old.disk)
+        (D.state server.new.disk) s (O.writes outlet.old) (O.writes outlet.new)) }
+    ensures continuous { FedPacketsAreContinuous }
+{
+    let mut left = turns;
+    let mut between_turns = true;
+    for _ in 0..u64::MAX {
+        if left == 0 {
+            return Ok(());
+        }
+        update.update(server, alloc, between_turns)?;
+        between_turns = send_one(server, outlet)?;
+        if between_turns {
+            left -= 1;
+        }
+    }
+    Ok(())
+}

@@ -1,0 +1,69 @@
+//! Packets, each in one write.
+ghost use Rattle.std.specs.Prelude.{◌≡◌, ◌≤◌, OnErr, OnOk};
+ghost use Rattle.disk_store.specs.Disk.{IsUnchanged, KeepsLength};
+ghost use Rattle.mot_feed.specs.Sending.{Sends, SendsOne, SendsPart};
+ghost use Rattle.mot_journal.specs.Image.{Standing};
+ghost use Rattle.mot_repository.specs.Repository.{Holds};
+ghost use Rattle.mot_server.specs.Server.{place_in};
+
+use crate::Outlet;
+use disk_store::Disk;
+use mot_base::Refusal;
+use mot_player::Played;
+use mot_server::Server;
+
+/// Sends so many packets by the order of sending, each in one write, before the next is asked for.
+/// The refusals are `WriteFault`, where the outlet failed or took less than a packet, and those of
+/// `Server::next_packet`, after which the packets before it were written. The disk is only read.
+pub fn send_packets<D: Disk, O: Outlet>(
+    server: &mut Server<D>,
+    outlet: &mut O,
+    count: u64,
+) -> Result<(), Refusal>
+    ensures keeps { KeepsLength (D.state server.old.disk) (D.state server.new.disk) }
+    ensures later { (D.state server.old.disk).failures ≤ (D.state server.new.disk).failures }
+    ensures view { server.new.view ≡ server.old.view }
+    ensures unchanged { (D.state server.new.disk).IsHonest
+        → IsUnchanged (D.state server.old.disk) (D.state server.new.disk) }
+    ensures sent { (s : Standing) → Holds server.old.view s (D.state server.old.disk)
+        → (D.state server.new.disk).IsHonest
+        → OnOk result (Sends (place_in server.old s) count (place_in server.new s)
+        (O.writes outlet.old) (O.writes outlet.new)) }
+    ensures part { (s : Standing) → Holds server.old.view s (D.state server.old.disk)
+        → (D.state server.new.disk).IsHonest
+        → OnErr result (SendsPart (place_in server.old s) count (place_in server.new s)
+        (O.writes outlet.old) (O.writes outlet.new)) }
+{
+    for _ in 0..count {
+        send_one(server, outlet)?;
+    }
+    Ok(())
+}
+
+/// Sends the next packet; whether it ends a turn.
+pub(crate) fn send_one<D: Disk, O: Outlet>(
+    server: &mut Server<D>,
+    outlet: &mut O,
+) -> Result<bool, Refusal>
+    ensures keeps { KeepsLength (D.state server.old.disk) (D.state server.new.disk) }
+    ensures later { (D.state server.old.disk).failures ≤ (D.state server.new.disk).failures }
+    ensures view { server.new.view ≡ server.old.view }
+    ensures unchanged { (D.state server.new.disk).IsHonest
+        → IsUnchanged (D.state server.old.disk) (D.state server.new.disk) }
+    ensures sent { (s : Standing) → Holds server.old.view s (D.state server.old.disk)
+        → (D.state server.new.disk).IsHonest
+        → SendsOne result (place_in server.old s) (place_in server.new s)
+        (O.writes outlet.old) (O.writes outlet.new) }
+{
+    let Played { packet, ends_turn } = server.next_packet()?;
+    let bytes = packet.as_slice();
+    match outlet.write_once(bytes) {
+        Ok(count) => {
+            if count < bytes.len() {
+                return Err(Refusal::WriteFault);
+            }
+            Ok(ends_turn)
+        }
+        Err(_) => Err(Refusal::WriteFault),
+    }
+}

@@ -1,0 +1,11 @@
+use Rattle.std.proofs.Common.{◌≡◌, ◌-◌, ◌≤◌, length}
+use Rattle.mot_folder.proofs.folder.FolderSource.next.Given as goal
+
+abbrev pub invariant-loop-self : goal.invariant-loop-self
+invariant-loop-self g l = record {
+  names : l.self.names.names.items ≡ l.initial.self.names.names.items;
+  goes : l.initial.self.place ≤ l.self.place;
+}
+
+abbrev pub decreases-loop-self : goal.decreases-loop-self
+decreases-loop-self g l = length l.self.names.names.items - l.self.place

@@ -1,0 +1,152 @@
+//! A folder of files, as a source of wanted objects.
+ghost use Rattle.std.specs.Prelude.{◌≡◌, ◌<◌, ◌≤◌, Some, IfOk, length, slice_get, vec_len};
+
+use crate::listing::{FileNames, joined, list};
+use crate::report::Report;
+use crate::suffix::kind_of_name;
+use mot_base::Refusal;
+use mot_carousel::{Body, Content, MAX_BODY, Mime, Name};
+use mot_server::Attempt;
+use mot_update::{Settled, Source, Wanted};
+use std::alloc::Global;
+use std::fs::{File, OpenOptions};
+use std::io::{self, Read};
+use std::rt::Files;
+use std::str::from_utf8;
+
+/// The files of a folder as they were listed. Each is read when its turn comes; one that can't be
+/// taken is told, and its object stays as it is.
+#[derive(Drop)]
+pub struct Folder<'a, T: Files<File = File>> {
+    rt: &'a T,
+    path: &'a str,
+    names: FileNames,
+    place: usize,
+    /// What is told of it.
+    pub report: Report,
+}
+
+impl<'a, T: Files<File = File>> Folder<'a, T> {
+    /// Lists the folder at the path.
+    pub fn list(
+        rt: &'a T,
+        alloc: Global,
+        path: &'a str,
+        mut report: Report,
+    ) -> io::Result<Folder<'a, T>> {
+        let names = list(rt, alloc, path, &mut report)?;
+        Ok(Folder {
+            rt,
+            path,
+            names,
+            place: 0,
+            report,
+        })
+    }
+
+    /// Reads the file of the name at this place.
+    fn read(&self, alloc: Global, place: usize) -> Result<Wanted, Refusal>
+        requires { place < vec_len self.now.names.names }
+        ensures { IfOk result
+            (λ wanted. slice_get self.now.names.names.items place ≡ Some wanted.name) }
+    {
+        let name = self.names.names[place].clone()?;
+        let Ok(text) = from_utf8(name.as_bytes()) else {
+            return Err(Refusal::BadName);
+        };
+        let Some(kind) = kind_of_name(name.as_bytes()) else {
+            return Err(Refusal::BadName);
+        };
+        let content = Content::new(kind.content_type, kind.subtype)?;
+        let mime = Mime::new(Vec::from_slice(alloc, kind.mime.as_bytes())?)?;
+        let path = joined(alloc, self.path, text)?;
+        let body = read_body(self.rt, alloc, path.as_str())?;
+        Ok(Wanted {
+            name,
+            content,
+            mime: Some(mime),
+            body,
+        })
+    }
+}
+
+impl<'a, T: Files<File = File>> Source for Folder<'a, T> {
+    ghost names = { λ folder. folder.names.names.items };
+
+    ghost place = { λ folder. folder.place };
+
+    fn knows(&self, name: &Name) -> bool {
+        self.names.has(name)
+    }
+
+    fn next(&mut self, alloc: Global) -> Option<Wanted> {
+        while self.place < self.names.names.len() {
+            let place = self.place;
+            self.place += 1;
+            match self.read(alloc, place) {
+                Ok(wanted) => return Some(wanted),
+                Err(refusal) => tell_refused(&mut self.report, &self.names, place, refusal),
+            }
+        }
+        None
+    }
+
+    fn withdrew(&mut self, name: &Name, attempt: Attempt) {
+        self.report.answered("withdraw", name.as_bytes(), attempt);
+    }
+
+    fn settled(&mut self, settled: Settled) {
+        tell_settled(&mut self.report, &self.names, self.place, settled);
+    }
+}
+
+/// Tells that the file of the name at this place could not be taken.
+fn tell_refused(report: &mut Report, names: &FileNames, place: usize, refusal: Refusal) {
+    if place < names.names.len() {
+        report.refused("read", names.names[place].as_bytes(), refusal);
+    }
+}
+
+/// Tells what became of the object of the name before this place.
+fn tell_settled(report: &mut Report, names: &FileNames, place: usize, settled: Settled) {
+    if place == 0 || place > names.names.len() {
+        return;
+    }
+    let name = names.names[place - 1].as_bytes();
+    match settled {
+        Settled::Right => {}
+        Settled::Put(attempt) => report.answered("put", name, attempt),
+        Settled::Replaced(attempt) => report.answered("replace", name, attempt),
+    }
+}
+
+/// The bytes of the file, as a body; `ReadFault` where they can't be read, or were changed while
+/// they were.
+fn read_body<T: Files<File = File>>(rt: &T, alloc: Global, path: &str) -> Result<Body, Refusal> {
+    let before = length_of(rt, path)?;
+    let Ok(file) = OpenOptions::new().read(true).open(rt, path) else {
+        return Err(Refusal::ReadFault);
+    };
+    let mut bytes = Vec::new(alloc);
+    let Ok(count) = file.take(MAX_BODY as u64 + 1).read_to_end(&mut bytes) else {
+        return Err(Refusal::ReadFault);
+    };
+    let after = length_of(rt, path)?;
+    if count <= MAX_BODY as usize && (before != after || count as u64 != after) {
+        return Err(Refusal::ReadFault);
+    }
+    Body::new(bytes)
+}
+
+/// The length of the regular file at the path.
+fn length_of<T: Files<File = File>>(rt: &T, path: &str) -> Result<u64, Refusal> {
+    match rt.symlink_metadata(path) {
+        Ok(metadata) => {
+            if metadata.is_file() {
+                return Ok(metadata.len());
+            }
+            Err(Refusal::ReadFault)
+        }
+        Err(_) => Err(Refusal::ReadFault),
+    }
+}

@@ -1,0 +1,121 @@
+//! The files of a folder that are objects.
+ghost use Rattle.std.specs.Prelude.{◌≡◌, true};
+ghost use Rattle.mot_carousel.specs.Carousel.{are_names_distinct};
+ghost use Rattle.mot_update.specs.Updating.{is_known};
+
+use crate::report::Report;
+use crate::suffix::kind_of_name;
+use mot_base::Refusal;
+use mot_carousel::Name;
+use std::alloc::{AllocError, Global};
+use std::fs::File;
+use std::io::{self, ErrorKind, Read};
+use std::rt::Files;
+use std::str::from_utf8;
+
+/// Room for the names that one read of a folder gives.
+const ROOM: usize = 16_384;
+
+/// Names of files, each once.
+#[derive(Drop)]
+pub struct FileNames {
+    /// The names, as the folder gave them.
+    pub names: Vec<Name>,
+    pub ghost differ: { are_names_distinct names.items ≡ true },
+}
+
+impl FileNames {
+    /// No names.
+    pub fn new(alloc: Global) -> FileNames {
+        FileNames {
+            names: Vec::new(alloc),
+        }
+    }
+
+    /// Whether it is one of them.
+    pub fn has(&self, name: &Name) -> bool
+        ensures { result ≡ is_known self.now.names.items name.now }
+    {
+        let name = name.as_bytes();
+        self.names.iter().any(|other| name == other.as_bytes())
+    }
+
+    /// One more, where it is not one of them already.
+    pub fn add(&mut self, name: Name) -> Result<(), AllocError> {
+        if !self.has(&name) {
+            self.names.push(name)?;
+        }
+        Ok(())
+    }
+}
+
+/// The names of the regular files directly in the folder that have a known suffix and begin with no
+/// dot. One that is no name of an object is told, and left out.
+pub(crate) fn list<T: Files<File = File>>(
+    rt: &T,
+    alloc: Global,
+    path: &str,
+    report: &mut Report,
+) -> io::Result<FileNames> {
+    let mut names = FileNames::new(alloc);
+    let mut dir = rt.open_dir(path)?;
+    let mut room = Vec::from_elem(alloc, 0u8, ROOM)?;
+    for _ in 0..u64::MAX {
+        let count = dir.read(&mut room)?;
+        if count == 0 {
+            return Ok(names);
+        }
+        add_all(rt, alloc, path, &room[..count], &mut names, report)?;
+    }
+    Ok(names)
+}
+
+/// Adds those of the names, each ended by a zero byte, that are objects.
+fn add_all<T: Files<File = File>>(
+    rt: &T,
+    alloc: Global,
+    path: &str,
+    bytes: &[u8],
+    names: &mut FileNames,
+    report: &mut Report,
+) -> io::Result<()> {
+    for name in bytes.split(|byte| *byte == 0) {
+        if kind_of_name(name).is_none() || !is_file(rt, alloc, path, name)? {
+            continue;
+        }
+        match Name::new(Vec::from_slice(alloc, name)?) {
+            Ok(name) => names.add(name)?,
+            Err(refusal) => report.refused("read", name, refusal),
+        }
+    }
+    Ok(())
+}
+
+/// Whether there is a regular file of this name in the folder. A link is none.
+fn is_file<T: Files<File = File>>(
+    rt: &T,
+    alloc: Global,
+    path: &str,
+    name: &[u8],
+) -> io::Result<bool> {
+    let Ok(name) = from_utf8(name) else {
+        return Ok(false);
+    };
+    match rt.symlink_metadata(joined(alloc, path, name)?.as_str()) {
+        Ok(metadata) => Ok(metadata.is_file()),
+        Err(error) => {
+            if error.kind() == ErrorKind::NotFound {
+                return Ok(false);
+            }
+            Err(error)
+        }
+    }
+}
+
+/// The path of a file in the folder.
+pub(crate) fn joined(alloc: Global, path: &str, name: &str) -> Result<String, AllocError> {
+    let mut whole = String::from_str(alloc, path)?;
+    whole.push('/')?;
+    whole.push_str(name)?;
+    Ok(whole)
+}

@@ -1,0 +1,21 @@
+-- What one command came to, told as a run of it alone.
+use Rattle.std.specs.Prelude.{Bool, true, false, List, [], ◌∷◌, Option, Some, None, Result, Ok, Err}
+use Rattle.mot_base.specs.declared.refusal.Refusal.{Refusal}
+use Rattle.mot_carousel.specs.declared.command.Done.{Done}
+use Rattle.mot_server.specs.declared.running.Attempt.{Attempt}
+use Rattle.mot_server.specs.declared.running.Attempt.TheVariants.{Accepted, Refused}
+
+abbrev pub marks_of : Result Attempt Refusal → List Bool
+marks_of (Ok (Accepted done)) = true ∷ []
+marks_of (Ok (Refused refusal)) = false ∷ []
+marks_of (Err refusal) = []
+
+abbrev pub fault_of : Result Attempt Refusal → Option Refusal
+fault_of (Ok answer) = None
+fault_of (Err refusal) = Some refusal
+
+-- the command's own answer
+abbrev pub answer_of : Result Attempt Refusal → Result Done Refusal
+answer_of (Ok (Accepted done)) = Ok done
+answer_of (Ok (Refused refusal)) = Err refusal
+answer_of (Err refusal) = Err refusal

@@ -1,0 +1,464 @@
+-- Looks: names that differ, objects settled one after the other, and what is not known withdrawn.
+use Rattle.std.proofs.Common.{◌≡◌, ℕ, zero, suc, ◌+◌, ◌<◌, ◌≤◌, Bool, true, false, not, ◌||◌, List, []}
+use Rattle.std.proofs.Common.{◌∷◌, ◌++◌, length, map, take, Option, Some, None, refl, sym, ap, ◌∙◌}
+use Rattle.std.proofs.Common.{subst, arith, append_assoc, append-nil, cond, drop, get_or, Result, Ok, Err}
+use Rattle.std.proofs.Common.{take-append-drop}
+use Rattle.std.specs.Prelude.{IsErr}
+use Rattle.std.proofs.lemmas.List.{take_all, take_more}
+use Rattle.std.specs.Prelude.{bytes_eq, slice_get, filter}
+use Rattle.std.specs.List.{flat_map, list_any, AllByRecursion}
+use Rattle.std.proofs.lemmas.Bool.{and_parts, and_from, or_parts, or_from, not-true, not_from_false}
+use Rattle.std.proofs.lemmas.Grind.{flat_map-append}
+use Rattle.std.proofs.lemmas.List.{map-append}
+use Rattle.std.proofs.lemmas.List.Concat.{flat_map-cons}
+use Rattle.disk_store.specs.Disk.{State, IsHonestDisk, IsUnchanged}
+use Rattle.mot_base.specs.declared.refusal.Refusal.{Refusal}
+use Rattle.mot_carousel.specs.Carousel.{Carousel, are_names_distinct, carousel_after}
+use Rattle.mot_carousel.specs.Carousel as whole
+use Rattle.mot_carousel.specs.Stands.{object_of, objects_of}
+use Rattle.mot_carousel.specs.declared.command.Command.{Command}
+use Rattle.mot_carousel.specs.declared.command.Command.TheVariants.{Withdraw}
+use Rattle.mot_carousel.specs.declared.object.Object.{Object}
+use Rattle.mot_journal.specs.Image.{Standing}
+use Rattle.mot_repository.specs.Repository.{RepositoryView, Agrees, Holds}
+use Rattle.mot_server.specs.Runs.{accepted_commands}
+use Rattle.mot_server.specs.Server.{ServerView}
+use Rattle.mot_update.specs.declared.wanted.Wanted.{Wanted}
+use Rattle.mot_update.specs.HasRun.{HasRun}
+use Rattle.mot_update.specs.Laws.{IsUpdate, names_of}
+use Rattle.mot_update.specs.Looking.{Gives, HasLooked, HasSettled, RunsThrough, unknown_names}
+use Rattle.mot_update.specs.Looking.{withdraw_all}
+use Rattle.mot_update.specs.Updating.{is_known, settling, settling_of, updating, withdrawal}
+use Rattle.mot_update.specs.Updating.{withdrawals}
+use Rattle.mot_update.proofs.Found.{from_no, not_both, own_name, same_name, turned}
+use Rattle.mot_update.proofs.Made.{IsOfOther, settlings-others, untouched, withdrawals-others}
+use Rattle.mot_update.proofs.Runs.{has_read, join, not_none}
+
+-- ---- names that differ
+
+some_is : (a b : List ℕ) → Some a ≡ Some b → a ≡ b
+some_is a b e = cc
+
+abbrev IsThere : Option (List ℕ) → Type 0
+IsThere None = ⊥
+IsThere (Some n) = Unit {0}
+
+nowhere : (n : List ℕ) → None ≡ Some n → ⊥
+nowhere n e = subst IsThere (sym e) tt
+
+pub known_at : (names : List (List ℕ)) (i : ℕ) (n : List ℕ) → slice_get names i ≡ Some n
+    → is_known names n ≡ true
+known_at [] i n at = absurd (nowhere n at)
+known_at (x ∷ names) zero n at =
+    ap (λ t. t || is_known names n)
+    (subst (λ y. bytes_eq n y ≡ true) (sym (some_is x n at)) (own_name n))
+known_at (x ∷ names) (suc i) n at = either_known (bytes_eq n x) (known_at names i n at)
+  where
+    either_known : (t : Bool) → is_known names n ≡ true → (t || is_known names n) ≡ true
+    either_known true e = refl
+    either_known false e = e
+
+apart : (names : List (List ℕ)) (i j : ℕ) (n m : List ℕ) → are_names_distinct names ≡ true
+    → i < j → slice_get names i ≡ Some n → slice_get names j ≡ Some m → bytes_eq n m ≡ false
+apart [] i j n m d lt at also = absurd (nowhere n at)
+apart (x ∷ names) i zero n m d lt at also = absurd (omega (arith, lt))
+apart (x ∷ names) zero (suc j) n m d lt at also =
+    let p = and_parts (not (is_known names x)) (are_names_distinct names) d in
+    from_no (bytes_eq n m) (λ e. not_both (is_known names m) (known_at names j m also)
+    (subst (λ y. is_known names y ≡ false) (some_is x n at ∙ same_name n m e)
+    (not-true (is_known names x) p.0)))
+apart (x ∷ names) (suc i) (suc j) n m d lt at also =
+    let p = and_parts (not (is_known names x)) (are_names_distinct names) d in
+    apart names i j n m p.1 (omega (arith, lt)) at also
+
+-- the name of an object that was given is one of those before this place
+abbrev pub IsBelow : List (List ℕ) → ℕ → Wanted → Type 0
+IsBelow names place w = (i : ℕ) × (i < place) × (slice_get names i ≡ Some w.name)
+
+fresh : (names : List (List ℕ)) (place i : ℕ) (w : Wanted) (wanted : List Wanted)
+    → are_names_distinct names ≡ true → place ≤ i → slice_get names i ≡ Some w.name
+    → AllByRecursion (IsBelow names place) wanted → is_known (names_of wanted) w.name ≡ false
+fresh names place i w [] d le at below = refl
+fresh names place i w (v ∷ wanted) d le at below =
+    let b = below.0 in
+    let lt : b.0 < place = b.1 in
+    or_from (bytes_eq w.name v.name) (is_known (names_of wanted) w.name)
+    (turned v.name w.name (apart names b.0 i v.name w.name d (omega (arith, lt, le)) b.2 at))
+    (fresh names place i w wanted d le at below.1)
+
+all-push : (P : Wanted → Type 0) (wanted : List Wanted) (w : Wanted) → AllByRecursion P wanted
+    → P w → AllByRecursion P (wanted ++ w ∷ [])
+all-push P [] w all p = (p, tt)
+all-push P (v ∷ wanted) w all p = (all.0, all-push P wanted w all.1 p)
+
+below_more : (names : List (List ℕ)) (place further : ℕ) (wanted : List Wanted) → place ≤ further
+    → AllByRecursion (IsBelow names place) wanted → AllByRecursion (IsBelow names further) wanted
+below_more names place further [] le all = tt
+below_more names place further (w ∷ wanted) le all =
+    let lt : all.0.0 < place = all.0.1 in
+    ((all.0.0, omega (arith, lt, le), all.0.2), below_more names place further wanted le all.1)
+
+known-push : (names : List (List ℕ)) (n m : List ℕ) → is_known names m ≡ false
+    → bytes_eq m n ≡ false → is_known (names ++ n ∷ []) m ≡ false
+known-push [] n m e f = or_from (bytes_eq m n) false f refl
+known-push (x ∷ names) n m e f =
+    let p = or_parts (bytes_eq m x) (is_known names m) e in
+    or_from (bytes_eq m x) (is_known (names ++ n ∷ []) m) p.0 (known-push names n m p.1 f)
+
+pub names-push : (names : List (List ℕ)) (n : List ℕ) → are_names_distinct names ≡ true
+    → is_known names n ≡ false → are_names_distinct (names ++ n ∷ []) ≡ true
+names-push [] n d e = refl
+names-push (m ∷ names) n d e =
+    let p = and_parts (not (is_known names m)) (are_names_distinct names) d in
+    let q = or_parts (bytes_eq n m) (is_known names n) e in
+    and_from (not (is_known (names ++ n ∷ []) m)) (are_names_distinct (names ++ n ∷ []))
+    (not_from_false _ (known-push names n m (not-true _ p.0) (turned n m q.0)))
+    (names-push names n p.1 q.1)
+
+-- ---- what was given
+
+pub gives_nil : (a : Option (List Wanted)) → Gives a a []
+gives_nil None = tt
+gives_nil (Some x) = sym (append-nil x)
+
+pub gives_trans : (a b c : Option (List Wanted)) (xs ys : List Wanted) → Gives a b xs
+    → Gives b c ys → Gives a c (xs ++ ys)
+gives_trans None b c xs ys p q = tt
+gives_trans (Some x) None c xs ys p q = absurd p
+gives_trans (Some x) (Some y) None xs ys p q = absurd q
+gives_trans (Some x) (Some y) (Some z) xs ys p q =
+    q ∙ ap (λ l. l ++ ys) p ∙ append_assoc x xs ys
+
+-- nothing more was given
+pub gives_kept : (a b c : Option (List Wanted)) (xs : List Wanted) → Gives a b xs → Gives b c []
+    → Gives a c xs
+gives_kept a b c xs p q = subst (Gives a c) (append-nil xs) (gives_trans a b c xs [] p q)
+
+-- ---- settling one after the other
+
+settles_on : (old last : Carousel) (limit : ℕ) (done : List Wanted) (marks : List Bool) (w : Wanted)
+    → is_known (names_of done) w.name ≡ false
+    → carousel_after old limit (accepted_commands (flat_map (settling old.objects) done) marks)
+    ≡ Some last → settling last.objects w ≡ settling old.objects w
+settles_on old last limit done marks w unwanted e =
+    ap (λ r. settling_of r w) (untouched w.name old last limit
+    (flat_map (settling old.objects) done) marks
+    (settlings-others w.name old.objects done unwanted) e)
+
+flat_map-push : (f : Wanted → List Command) (wanted : List Wanted) (w : Wanted)
+    → flat_map f (wanted ++ w ∷ []) ≡ flat_map f wanted ++ f w
+flat_map-push f wanted w =
+    flat_map-append f wanted (w ∷ [])
+    ∙ ap (λ l. flat_map f wanted ++ l) (flat_map-cons f w [] ∙ append-nil (f w))
+
+-- objects settled so far, and how many of the names were gone over
+pub record SettledSoFar {D : Type 0} (old new : ServerView D) (start now : State) (s : Standing)
+    (names : List (List ℕ)) (place : ℕ) (before after : Option (List Wanted)) : Type 0 where
+  pub wanted : List Wanted
+  pub gives : Gives before after wanted
+  pub known : AllByRecursion (λ (w : Wanted). is_known names w.name ≡ true) wanted
+  pub distinct : are_names_distinct (names_of wanted) ≡ true
+  pub below : AllByRecursion (IsBelow names place) wanted
+  pub marks : List Bool
+  pub run : HasRun old new start now s (flat_map (settling s.carousel.objects) wanted) marks None
+
+pub settled_none : {D : Type 0} (old : ServerView D) (start : State) (s : Standing)
+    (names : List (List ℕ)) (place : ℕ) (given : Option (List Wanted)) → IsHonestDisk start
+    → start.IsHonest → IsUnchanged start start → Holds old.view s start
+    → SettledSoFar old old start start s names place given given
+settled_none old start s names place given sound honest still holds = record {
+  wanted = [];
+  gives = gives_nil given;
+  known = tt;
+  distinct = refl;
+  below = tt;
+  marks = [];
+  run = (has_read old old start start s None sound refl refl honest still holds).0;
+}
+
+module _ {D : Type 0} (old mid new : ServerView D) (start between now : State) (s : Standing)
+    (names : List (List ℕ)) (place further : ℕ) (before after then_given last : Option (List Wanted))
+    (w : Wanted) (distinct : are_names_distinct names ≡ true)
+    (is : (i : ℕ) × (place ≤ i) × (i < further) × (slice_get names i ≡ Some w.name))
+    (one_given : Gives after then_given (w ∷ [])) (rest_given : Gives then_given last [])
+    (so_far : SettledSoFar old mid start between s names place before after) where
+  new_name : is_known (names_of so_far.wanted) w.name ≡ false
+  new_name = fresh names place is.0 w so_far.wanted distinct is.1 is.3 so_far.below
+
+  run_more : (marks : List Bool) (fault : Option Refusal)
+      → ((t : Standing) → Holds mid.view t between
+      → HasRun mid new between now t (settling t.carousel.objects w) marks fault)
+      → HasRun old new start now s (flat_map (settling s.carousel.objects) (so_far.wanted ++ w ∷ []))
+      (so_far.marks ++ marks) fault
+  run_more marks fault run =
+      let f : Wanted → List Command = settling s.carousel.objects in
+      let t : Standing = so_far.run.leaves.last in
+      let two = run t (so_far.run.leaves.going refl) in
+      let same : settling t.carousel.objects w ≡ f w =
+      settles_on s.carousel t.carousel s.geometry.objects so_far.wanted so_far.marks w new_name
+      so_far.run.leaves.after.carousel in
+      subst (λ l. HasRun old new start now s l (so_far.marks ++ marks) fault)
+      (sym (flat_map-push f so_far.wanted w))
+      (join old mid new start between now s (flat_map f so_far.wanted) (f w) so_far.marks marks
+      fault so_far.run (subst (λ l. HasRun mid new between now t l marks fault) same two))
+
+  gives_more : Gives before last (so_far.wanted ++ w ∷ [])
+  gives_more = gives_trans before after last so_far.wanted (w ∷ []) so_far.gives
+      (gives_kept after then_given last (w ∷ []) one_given rest_given)
+
+  known_more : AllByRecursion (λ (v : Wanted). is_known names v.name ≡ true)
+      (so_far.wanted ++ w ∷ [])
+  known_more = all-push (λ (v : Wanted). is_known names v.name ≡ true) so_far.wanted w so_far.known
+      (known_at names is.0 w.name is.3)
+
+  distinct_more : are_names_distinct (names_of (so_far.wanted ++ w ∷ [])) ≡ true
+  distinct_more = subst (λ l. are_names_distinct l ≡ true)
+      (sym (map-append (λ (v : Wanted). v.name) so_far.wanted (w ∷ [])))
+      (names-push (names_of so_far.wanted) w.name so_far.distinct new_name)
+
+  -- one more was settled
+  pub settled_more : (marks : List Bool)
+      → ((t : Standing) → Holds mid.view t between
+      → HasRun mid new between now t (settling t.carousel.objects w) marks None)
+      → SettledSoFar old new start now s names further before last
+  settled_more marks run = record {
+    wanted = so_far.wanted ++ w ∷ [];
+    gives = gives_more;
+    known = known_more;
+    distinct = distinct_more;
+    below = all-push (IsBelow names further) so_far.wanted w
+        (below_more names place further so_far.wanted
+        (let a = is.1 in let b = is.2 in omega (arith, a, b)) so_far.below)
+        (is.0, is.2, is.3);
+    marks = so_far.marks ++ marks;
+    run = run_more marks None run;
+  }
+
+  -- a fault came in settling it
+  pub settled_fault : (marks : List Bool) (refusal : Refusal)
+      → ((t : Standing) → Holds mid.view t between
+      → HasRun mid new between now t (settling t.carousel.objects w) marks (Some refusal))
+      → HasSettled old new start now s names before last (Some refusal)
+  settled_fault marks refusal run = record {
+    wanted = so_far.wanted ++ w ∷ [];
+    gives = gives_more;
+    is_update = record { distinct = distinct_more; known = known_more };
+    runs = record {
+      commands = flat_map (settling s.carousel.objects) (so_far.wanted ++ w ∷ []);
+      others = [];
+      split = sym (append-nil (flat_map (settling s.carousel.objects) (so_far.wanted ++ w ∷ [])));
+      whole = λ e. refl;
+      marks = so_far.marks ++ marks;
+      run = run_more marks (Some refusal) run;
+    };
+  }
+
+-- all were settled
+pub settled_all : {D : Type 0} (old new : ServerView D) (start now : State) (s : Standing)
+    (names : List (List ℕ)) (place : ℕ) (before after last : Option (List Wanted))
+    → SettledSoFar old new start now s names place before after → Gives after last []
+    → HasSettled old new start now s names before last None
+settled_all old new start now s names place before after last so_far gives = record {
+  wanted = so_far.wanted;
+  gives = gives_kept before after last so_far.wanted so_far.gives gives;
+  is_update = record { distinct = so_far.distinct; known = so_far.known };
+  runs = record {
+    commands = flat_map (settling s.carousel.objects) so_far.wanted;
+    others = [];
+    split = sym (append-nil (flat_map (settling s.carousel.objects) so_far.wanted));
+    whole = λ e. refl;
+    marks = so_far.marks;
+    run = so_far.run;
+  };
+}
+
+-- ---- withdrawing one after the other
+
+-- a fault came before the next command
+cut_fault : {D : Type 0} (old mid : ServerView D) (start between : State) (s : Standing)
+    (all commands others : List Command) (marks : List Bool) (refusal : Refusal)
+    → all ≡ commands ++ others → IsHonestDisk between → between.IsHonest
+    → IsUnchanged between between → HasRun old mid start between s commands marks None
+    → RunsThrough old mid start between s all (Some refusal)
+cut_fault old mid start between s all commands others marks refusal split sound honest still one =
+    let t : Standing = one.leaves.last in
+    let two = (has_read mid mid between between t (Some refusal) sound refl refl honest still
+    (one.leaves.going refl)).0 in
+    record {
+      commands = commands ++ [];
+      others = others;
+      split = split ∙ ap (λ l. l ++ others) (sym (append-nil commands));
+      whole = λ e. absurd (not_none refusal e);
+      marks = marks ++ [];
+      run = join old mid mid start between between s commands [] marks [] (Some refusal) one two;
+    }
+
+module _ {D : Type 0} (old mid : ServerView D) (start between : State) (s : Standing)
+    (names : List (List ℕ)) (i : ℕ) (marks : List Bool)
+    (one : HasRun old mid start between s (withdraw_all (take i names)) marks None) where
+  pub withdrew_cut : (refusal : Refusal) → IsHonestDisk between → between.IsHonest
+      → IsUnchanged between between
+      → RunsThrough old mid start between s (withdraw_all names) (Some refusal)
+  withdrew_cut refusal sound honest still =
+      cut_fault old mid start between s (withdraw_all names) (withdraw_all (take i names))
+      (withdraw_all (drop i names)) marks refusal
+      (ap withdraw_all (sym (take-append-drop i names))
+      ∙ map-append Withdraw (take i names) (drop i names))
+      sound honest still one
+
+  pub withdrew_all : length names ≤ i → RunsThrough old mid start between s (withdraw_all names) None
+  withdrew_all le = record {
+    commands = withdraw_all (take i names);
+    others = [];
+    split = ap withdraw_all (sym (take_all i names le)) ∙ sym (append-nil _);
+    whole = λ e. refl;
+    marks = marks;
+    run = one;
+  }
+
+  module _ (new : ServerView D) (now : State) (n : List ℕ) (there : i < length names)
+      (is : n ≡ get_or names i n) where
+    next-is : withdraw_all (take (i + 1) names) ≡ withdraw_all (take i names) ++ Withdraw n ∷ []
+    next-is = ap withdraw_all (take_more names i n there
+        ∙ ap (λ m. take i names ++ m ∷ []) (sym is)) ∙ map-append Withdraw (take i names) (n ∷ [])
+
+    run_next : (others : List Bool) (fault : Option Refusal)
+        → ((t : Standing) → Holds mid.view t between
+        → HasRun mid new between now t (Withdraw n ∷ []) others fault)
+        → HasRun old new start now s (withdraw_all (take i names) ++ Withdraw n ∷ [])
+        (marks ++ others) fault
+    run_next others fault run =
+        join old mid new start between now s (withdraw_all (take i names)) (Withdraw n ∷ []) marks
+        others fault one (run one.leaves.last (one.leaves.going refl))
+
+    pub withdrew_next : (others : List Bool) → ((t : Standing) → Holds mid.view t between
+        → HasRun mid new between now t (Withdraw n ∷ []) others None)
+        → (all : List Bool) × HasRun old new start now s (withdraw_all (take (i + 1) names)) all None
+    withdrew_next others run = (
+      marks ++ others,
+      subst (λ l. HasRun old new start now s l (marks ++ others) None)
+          (sym next-is) (run_next others None run),
+    )
+
+    pub withdrew_fault : (others : List Bool) (refusal : Refusal)
+        → ((t : Standing) → Holds mid.view t between
+        → HasRun mid new between now t (Withdraw n ∷ []) others (Some refusal))
+        → RunsThrough old new start now s (withdraw_all names) (Some refusal)
+    withdrew_fault others refusal run = record {
+      commands = withdraw_all (take i names) ++ Withdraw n ∷ [];
+      others = withdraw_all (drop (i + 1) names);
+      split = ap withdraw_all (sym (take-append-drop (i + 1) names))
+          ∙ map-append Withdraw (take (i + 1) names) (drop (i + 1) names)
+          ∙ ap (λ l. l ++ withdraw_all (drop (i + 1) names)) next-is;
+      whole = λ e. absurd (not_none refusal e);
+      marks = marks ++ others;
+      run = run_next others (Some refusal) run;
+    }
+
+pub withdrew_none : {D : Type 0} (old : ServerView D) (start : State) (s : Standing)
+    → IsHonestDisk start → start.IsHonest → IsUnchanged start start → Holds old.view s start
+    → (marks : List Bool) × HasRun old old start start s [] marks None
+withdrew_none old start s sound honest still holds =
+    ([], (has_read old old start start s None sound refl refl honest still holds).0)
+
+-- ---- the look
+
+cut-cases : (t : Bool) (n : List ℕ) (rest : List Command) (names : List (List ℕ))
+    → rest ≡ withdraw_all names
+    → cond t [] (Withdraw n ∷ []) ++ rest ≡ withdraw_all (cond (not t) (n ∷ names) names)
+cut-cases true n rest names e = e
+cut-cases false n rest names e = ap (λ l. Withdraw n ∷ l) e
+
+withdrawals-by : (names : List (List ℕ)) (os : List Object) (bodies : List (List ℕ))
+    → map length bodies ≡ map (λ (o : Object). o.length) os
+    → withdrawals names (objects_of os bodies) ≡ withdraw_all (unknown_names names os)
+withdrawals-by names [] bodies e = refl
+withdrawals-by names (o ∷ os) [] e = cc
+withdrawals-by names (o ∷ os) (b ∷ bodies) e =
+    let tail : map length bodies ≡ map (λ (x : Object). x.length) os = cc in
+    flat_map-cons (withdrawal names) (object_of o b) (objects_of os bodies)
+    ∙ cut-cases (is_known names o.name) o.name (withdrawals names (objects_of os bodies))
+    (unknown_names names os) (withdrawals-by names os bodies tail)
+
+pub withdrawals-are : (names : List (List ℕ)) (view : RepositoryView) (s : Standing) → Agrees view s
+    → withdrawals names s.carousel.objects
+    ≡ withdraw_all (unknown_names names view.carousel.objects.items)
+withdrawals-are names view s agrees =
+    ap (λ (c : Carousel). withdrawals names c.objects) agrees.carousel
+    ∙ withdrawals-by names view.carousel.objects.items agrees.bodies agrees.are_bodies
+
+same_settlings : (names : List (List ℕ)) (old last : Carousel) (limit : ℕ)
+    (commands : List Command) (marks : List Bool) (wanted : List Wanted)
+    → commands ≡ withdrawals names old.objects
+    → carousel_after old limit (accepted_commands commands marks) ≡ Some last
+    → AllByRecursion (λ (w : Wanted). is_known names w.name ≡ true) wanted
+    → flat_map (settling last.objects) wanted ≡ flat_map (settling old.objects) wanted
+same_settlings names old last limit commands marks [] is e known = refl
+same_settlings names old last limit commands marks (w ∷ wanted) is e known =
+    let others = subst (AllByRecursion (IsOfOther w.name)) (sym is)
+    (withdrawals-others names w.name old.objects known.0) in
+    let same : settling last.objects w ≡ settling old.objects w =
+    ap (λ r. settling_of r w) (untouched w.name old last limit commands marks others e) in
+    flat_map-cons (settling last.objects) w wanted
+    ∙ ap (λ l. l ++ flat_map (settling last.objects) wanted) same
+    ∙ ap (λ l. settling old.objects w ++ l)
+    (same_settlings names old last limit commands marks wanted is e known.1)
+    ∙ sym (flat_map-cons (settling old.objects) w wanted)
+
+-- a fault came while the names were gathered, or in withdrawing
+pub look_cut : {D : Type 0} (old new : ServerView D) (start now : State) (s : Standing)
+    (names gone : List (List ℕ)) (before after : Option (List Wanted)) (refusal : Refusal)
+    → withdrawals names s.carousel.objects ≡ withdraw_all gone → Gives before after []
+    → RunsThrough old new start now s (withdraw_all gone) (Some refusal)
+    → HasLooked old new start now s names before after (Some refusal)
+look_cut old new start now s names gone before after refusal are gives runs = record {
+  wanted = [];
+  gives = gives;
+  is_update = record { distinct = refl; known = tt };
+  runs = record {
+    commands = runs.commands;
+    others = runs.others;
+    split = append-nil (withdrawals names s.carousel.objects) ∙ are ∙ runs.split;
+    whole = runs.whole;
+    marks = runs.marks;
+    run = runs.run;
+  };
+}
+
+-- all were withdrawn, and then what was given was settled
+pub look_on : {D : Type 0} (old mid new : ServerView D) (start between now : State) (s : Standing)
+    (names gone : List (List ℕ)) (before after last : Option (List Wanted)) (fault : Option Refusal)
+    → withdrawals names s.carousel.objects ≡ withdraw_all gone → Gives before after []
+    → RunsThrough old mid start between s (withdraw_all gone) None
+    → ((t : Standing) → Holds mid.view t between
+    → HasSettled mid new between now t names after last fault)
+    → HasLooked old new start now s names before last fault
+look_on old mid new start between now s names gone before after last fault are gives one settled =
+    let t : Standing = one.run.leaves.last in
+    let two = settled t (one.run.leaves.going refl) in
+    let gone_all : one.commands ≡ withdrawals names s.carousel.objects =
+    sym (append-nil one.commands) ∙ ap (λ l. one.commands ++ l) (sym (one.whole refl))
+    ∙ sym one.split ∙ sym are in
+    let same = same_settlings names s.carousel t.carousel s.geometry.objects one.commands one.marks
+    two.wanted gone_all one.run.leaves.after.carousel two.is_update.known in
+    record {
+      wanted = two.wanted;
+      gives = gives_trans before after last [] two.wanted gives two.gives;
+      is_update = two.is_update;
+      runs = record {
+        commands = one.commands ++ two.runs.commands;
+        others = two.runs.others;
+        split = ap (λ l. l ++ flat_map (settling s.carousel.objects) two.wanted) (sym gone_all)
+            ∙ ap (λ l. one.commands ++ l) (sym same ∙ two.runs.split)
+            ∙ sym (append_assoc one.commands two.runs.commands two.runs.others);
+        whole = two.runs.whole;
+        marks = one.marks ++ two.runs.marks;
+        run = join old mid new start between now s one.commands two.runs.commands one.marks
+            two.runs.marks fault one.run two.runs.run;
+      };
+    }
+
+-- the fault that a result tells
+pub err_of : {T : Type 0} (r : Result T Refusal) → IsErr r → (e : Refusal) × (r ≡ Err e)
+err_of (Ok x) is = absurd (not_both false is refl)
+err_of (Err e) is = (e, refl)

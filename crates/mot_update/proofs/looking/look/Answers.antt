@@ -1,0 +1,66 @@
+use Rattle.std.proofs.Common.{◌≡◌, ◌∙◌, List, [], None, Some, Err, refl, sym, ap, subst}
+use Rattle.mot_carousel.specs.declared.carousel.Carousel.{Carousel}
+use Rattle.mot_update.specs.HasRun.{fault_of}
+use Rattle.mot_update.specs.Looking.{HasLooked, HasSettled, withdraw_all, unknown_names}
+use Rattle.mot_update.specs.Updating.{withdrawals}
+use Rattle.mot_update.proofs.Looks.{err_of, gives_nil, look_cut, look_on, withdrawals-are}
+use Rattle.mot_update.proofs.Looks.{withdrew_cut, withdrew_none}
+use Rattle.mot_update.proofs.Runs.{same_error}
+use Rattle.mot_update.proofs.Still.{stays_same}
+use Rattle.mot_update.proofs.looking.look.Goals as goal
+
+pub returns-in_err-names-clause-looked : goal.returns-in_err-names-clause-looked
+returns-in_err-names-clause-looked g c = λ s holds honest.
+    let state = g.D.Disk.state c.args.server.now.disk in
+    let old = c.args.server.now in
+    let names = g.S.Source.names c.args.source.now in
+    let given = g.S.Source.given c.args.source.now in
+    let gone = unknown_names names old.view.carousel.objects.items in
+    let sound = g.met.D.Disk.sound old.disk honest in
+    let e = err_of c.from_residual.result c.from_residual.ensures.0 in
+    let none = withdrew_none old state s sound honest (stays_same state) holds in
+    rw e.1
+    (look_cut old old state state s names gone given given e.0
+    (withdrawals-are names old.view s holds.agrees) (gives_nil given)
+    (withdrew_cut old old state state s gone 0 none.0 none.1 e.0 sound honest (stays_same state)))
+
+pub returns-in_err-withdraw_these-clause-looked : goal.returns-in_err-withdraw_these-clause-looked
+returns-in_err-withdraw_these-clause-looked g c = λ s holds honest.
+    let state = g.D.Disk.state in
+    let old = c.args.server.now in
+    let new = c.withdraw_these.new.server in
+    let names = g.S.Source.names c.args.source.now in
+    let two = c.in_err-withdraw_these.ensures in
+    let are = withdrawals-are names old.view s holds.agrees
+    ∙ ap (λ (k : Carousel). withdraw_all (unknown_names names k.objects.items))
+    (sym c.carousel.ensures.value)
+    ∙ ap withdraw_all (sym c.in_ok-names.ensures ∙ sym c.deref.ensures.value) in
+    let same = same_error c.from_residual-in_err-withdraw_these.result
+    c.in_err-withdraw_these.field-0.0 c.from_residual-in_err-withdraw_these.ensures.1 in
+    rw same
+    (look_cut old new (state old.disk) (state new.disk) s names c.deref.result.now
+    (g.S.Source.given c.args.source.now) (g.S.Source.given c.withdraw_these.new.source)
+    c.in_err-withdraw_these.field-0.0 are two.gives (two.runs s holds honest))
+
+pub returns-clause-looked : goal.returns-clause-looked
+returns-clause-looked g c = λ s holds honest.
+    let state = g.D.Disk.state in
+    let given = g.S.Source.given in
+    let old = c.args.server.now in
+    let mid = c.withdraw_these.new.server in
+    let new = c.settle_all.new.server in
+    let names = g.S.Source.names c.args.source.now in
+    let one = c.in_ok-withdraw_these.ensures in
+    let two = c.settle_all.ensures in
+    let was = two.keeps.was_honest honest in
+    let are = withdrawals-are names old.view s holds.agrees
+    ∙ ap (λ (k : Carousel). withdraw_all (unknown_names names k.objects.items))
+    (sym c.carousel.ensures.value)
+    ∙ ap withdraw_all (sym c.in_ok-names.ensures ∙ sym c.deref.ensures.value) in
+    look_on old mid new (state old.disk) (state mid.disk) (state new.disk) s names
+    c.deref.result.now (given c.args.source.now) (given c.withdraw_these.new.source)
+    (given c.settle_all.new.source) (fault_of c.settle_all.result) are one.gives
+    (one.runs s holds was)
+    (λ t held. subst (λ n. HasSettled mid new (state mid.disk) (state new.disk) t n
+    (given c.withdraw_these.new.source) (given c.settle_all.new.source)
+    (fault_of c.settle_all.result)) one.same (two.settled t held honest))

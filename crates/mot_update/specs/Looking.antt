@@ -1,0 +1,58 @@
+-- What a look at a source of wanted objects does.
+use Rattle.std.specs.Prelude.{◌≡◌, ℕ, Bool, not, List, [], ◌∷◌, ◌++◌, map, filter, Option, Some, None}
+use Rattle.std.specs.Prelude.{⊤}
+use Rattle.std.specs.List.{flat_map}
+use Rattle.disk_store.specs.Disk.{State}
+use Rattle.mot_base.specs.declared.refusal.Refusal.{Refusal}
+use Rattle.mot_carousel.specs.declared.command.Command.{Command}
+use Rattle.mot_carousel.specs.declared.command.Command.TheVariants.{Withdraw}
+use Rattle.mot_carousel.specs.declared.object.Object.{Object}
+use Rattle.mot_journal.specs.Image.{Standing}
+use Rattle.mot_server.specs.Server.{ServerView}
+use Rattle.mot_update.specs.HasRun.{HasRun}
+use Rattle.mot_update.specs.Laws.{IsUpdate}
+use Rattle.mot_update.specs.Updating.{is_known, settling, updating}
+use Rattle.mot_update.specs.declared.wanted.Wanted.{Wanted}
+
+-- the objects that were given, where they are told, go on by these
+abbrev pub Gives : Option (List Wanted) → Option (List Wanted) → List Wanted → Type 0
+Gives None new more = ⊤
+Gives (Some known) None more = ⊥
+Gives (Some known) (Some new) more = new ≡ known ++ more
+
+-- the names that are not known, of a carousel's objects
+abbrev pub unknown_names : List (List ℕ) → List Object → List (List ℕ)
+unknown_names names objects =
+    filter (λ n. not (is_known names n)) (map (λ (o : Object). o.name) objects)
+
+abbrev pub withdraw_all : List (List ℕ) → List Command
+withdraw_all names = map Withdraw names
+
+-- a beginning of these commands was run, and all of them where no fault came
+pub record RunsThrough {D : Type 0} (old new : ServerView D) (start now : State) (s : Standing)
+    (all : List Command) (fault : Option Refusal) : Type 0 where
+  pub commands : List Command
+  pub others : List Command
+  pub split : all ≡ commands ++ others
+  pub whole : fault ≡ None → others ≡ []
+  pub marks : List Bool
+  pub run : HasRun old new start now s commands marks fault
+
+-- objects of these names were given, and settled one after the other
+pub record HasSettled {D : Type 0} (old new : ServerView D) (start now : State) (s : Standing)
+    (names : List (List ℕ)) (before after : Option (List Wanted))
+    (fault : Option Refusal) : Type 0 where
+  pub wanted : List Wanted
+  pub gives : Gives before after wanted
+  pub is_update : IsUpdate names wanted
+  pub runs : RunsThrough old new start now s (flat_map (settling s.carousel.objects) wanted) fault
+
+-- The carousel was updated to what was given: the commands are those of the update, or, up to a
+-- fault, a beginning of them.
+pub record HasLooked {D : Type 0} (old new : ServerView D) (start now : State) (s : Standing)
+    (names : List (List ℕ)) (before after : Option (List Wanted))
+    (fault : Option Refusal) : Type 0 where
+  pub wanted : List Wanted
+  pub gives : Gives before after wanted
+  pub is_update : IsUpdate names wanted
+  pub runs : RunsThrough old new start now s (updating s.carousel names wanted) fault

@@ -1,0 +1,103 @@
+//! A look at a source: what it gives, made of a server's carousel.
+ghost use Rattle.std.specs.Prelude.{◌≡◌, ◌≤◌, [], true, IfOk};
+ghost use Rattle.disk_store.specs.Disk.{KeepsLength};
+ghost use Rattle.mot_carousel.specs.Carousel.{are_names_distinct};
+ghost use Rattle.mot_journal.specs.Image.{Standing};
+ghost use Rattle.mot_repository.specs.Repository.{Holds};
+ghost use Rattle.mot_update.specs.HasRun.{fault_of};
+ghost use Rattle.mot_update.specs.Looking.{Gives, HasLooked, HasSettled, RunsThrough};
+ghost use Rattle.mot_update.specs.Looking.{unknown_names, withdraw_all};
+
+use crate::{Source, settle, withdraw};
+use disk_store::Disk;
+use mot_base::Refusal;
+use mot_carousel::{Carousel, Name};
+use mot_server::Server;
+use std::alloc::Global;
+
+/// Makes the carousel have what the source gives: objects whose names it does not know are
+/// withdrawn, and then each object that it gives is settled. A refused command is told to the
+/// source, and the look goes on. The error is what would end a run of commands, `OutOfMemory`, and
+/// `DeviceFault` where a body on the disk can't be read, which does not halt the server.
+pub fn look<D: Disk, S: Source>(
+    server: &mut Server<D>,
+    alloc: Global,
+    source: &mut S,
+) -> Result<(), Refusal>
+    requires { are_names_distinct (S.names source.old) ≡ true }
+    ensures keeps { KeepsLength (D.state server.old.disk) (D.state server.new.disk) }
+    ensures later { (D.state server.old.disk).failures ≤ (D.state server.new.disk).failures }
+    ensures looked { (s : Standing) → Holds server.old.view s (D.state server.old.disk)
+        → (D.state server.new.disk).IsHonest
+        → HasLooked server.old server.new (D.state server.old.disk) (D.state server.new.disk) s
+        (S.names source.old) (S.given source.old) (S.given source.new) (fault_of result) }
+{
+    let names = names_to_withdraw(alloc, server.carousel(), source)?;
+    withdraw_these(server, alloc, source, &names)?;
+    settle_all(server, alloc, source)
+}
+
+/// The names of the objects that the source does not know.
+fn names_to_withdraw<S: Source>(
+    alloc: Global,
+    carousel: &Carousel,
+    source: &S,
+) -> Result<Vec<Name>, Refusal>
+    ensures { IfOk result
+        (λ names. names.items ≡ unknown_names (S.names source.now) carousel.now.objects.items) }
+{
+    let mut names = Vec::new(alloc);
+    for object in &carousel.objects {
+        if !source.knows(&object.name) {
+            names.push(object.name.clone()?)?;
+        }
+    }
+    Ok(names)
+}
+
+/// Withdraws the objects of these names.
+fn withdraw_these<D: Disk, S: Source>(
+    server: &mut Server<D>,
+    alloc: Global,
+    source: &mut S,
+    names: &[Name],
+) -> Result<(), Refusal>
+    ensures keeps { KeepsLength (D.state server.old.disk) (D.state server.new.disk) }
+    ensures later { (D.state server.old.disk).failures ≤ (D.state server.new.disk).failures }
+    ensures same { S.names source.new ≡ S.names source.old }
+    ensures gives { Gives (S.given source.old) (S.given source.new) [] }
+    ensures runs { (s : Standing) → Holds server.old.view s (D.state server.old.disk)
+        → (D.state server.new.disk).IsHonest
+        → RunsThrough server.old server.new (D.state server.old.disk) (D.state server.new.disk) s
+        (withdraw_all names.now) (fault_of result) }
+{
+    for name in names {
+        let attempt = withdraw(server, alloc, name.clone()?)?;
+        source.withdrew(name, attempt);
+    }
+    Ok(())
+}
+
+/// Settles each object that the source gives.
+fn settle_all<D: Disk, S: Source>(
+    server: &mut Server<D>,
+    alloc: Global,
+    source: &mut S,
+) -> Result<(), Refusal>
+    requires { are_names_distinct (S.names source.old) ≡ true }
+    ensures keeps { KeepsLength (D.state server.old.disk) (D.state server.new.disk) }
+    ensures later { (D.state server.old.disk).failures ≤ (D.state server.new.disk).failures }
+    ensures settled { (s : Standing) → Holds server.old.view s (D.state server.old.disk)
+        → (D.state server.new.disk).IsHonest
+        → HasSettled server.old server.new (D.state server.old.disk) (D.state server.new.disk) s
+        (S.names source.old) (S.given source.old) (S.given source.new) (fault_of result) }
+{
+    for _ in 0..u64::MAX {
+        let Some(wanted) = source.next(alloc) else {
+            return Ok(());
+        };
+        let settled = settle(server, alloc, wanted)?;
+        source.settled(settled);
+    }
+    Ok(())
+}

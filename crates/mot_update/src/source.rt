@@ -1,0 +1,50 @@
+//! Where wanted objects come from.
+ghost use Rattle.std.specs.Prelude.{◌≡◌, ◌<◌, ◌≤◌, [], ◌∷◌, ℕ, List, Option, Some, None, IfSome};
+ghost use Rattle.std.specs.Prelude.{MatchOption, slice_get};
+ghost use Rattle.mot_update.specs.Looking.{Gives};
+ghost use Rattle.mot_update.specs.Updating.{is_known};
+ghost use Rattle.mot_update.specs.declared.wanted.Wanted.{Wanted};
+
+use crate::{Settled, Wanted};
+use mot_carousel::Name;
+use mot_server::Attempt;
+use std::alloc::Global;
+
+/// What an updated carousel is to have: names, all of them known at the beginning, and then the
+/// objects of these names one after the other. Of a name no object may come: then the one that the
+/// carousel has of it stays as it is. It is told what became of each.
+pub trait Source {
+    // The names that are known.
+    ghost names: { Self → List (List ℕ) };
+
+    // How many of them were gone over.
+    ghost place: { Self → ℕ };
+
+    // The objects that it gave, where that is told.
+    ghost given: { Self → Option (List Wanted) } = { λ _. None };
+
+    /// Whether the name is known.
+    fn knows(&self, name: &Name) -> bool
+        ensures { result ≡ is_known (names self.now) name.now };
+
+    /// The next object, of a further one of the names; none where there is no further one.
+    fn next(&mut self, alloc: Global) -> Option<Wanted>
+        ensures same { names self.new ≡ names self.old }
+        ensures goes { place self.old ≤ place self.new }
+        ensures gives { MatchOption result (Gives (given self.old) (given self.new) [])
+            (λ wanted. Gives (given self.old) (given self.new) (wanted ∷ [])) }
+        ensures named { IfSome result (λ wanted. (i : ℕ) × (place self.old ≤ i)
+            × (i < place self.new) × (slice_get (names self.old) i ≡ Some wanted.name)) };
+
+    /// What became of an object that is not known.
+    fn withdrew(&mut self, name: &Name, attempt: Attempt)
+        ensures same { names self.new ≡ names self.old }
+        ensures stays { place self.new ≡ place self.old }
+        ensures gives { Gives (given self.old) (given self.new) [] };
+
+    /// What became of the object that it gave last.
+    fn settled(&mut self, settled: Settled)
+        ensures same { names self.new ≡ names self.old }
+        ensures stays { place self.new ≡ place self.old }
+        ensures gives { Gives (given self.old) (given self.new) [] };
+}
