@@ -7,7 +7,6 @@ use mot_program::run_program;
 use std::alloc::AllocError;
 use std::io;
 use std::io::Write;
-use std::process::Abort;
 use std::test::Fail;
 
 const HELLO: &str = "raw 4 2 68656c6c6f\n";
@@ -39,26 +38,19 @@ fn run<W: Write>(
 }
 
 /// What the program writes to its output, run on these words and this input.
-fn output(
-    rt: &HostRuntime,
-    words: &str,
-    input: &str,
-) -> Result<Vec<u8>, AllocError> {
+fn output(rt: &HostRuntime, words: &str, input: &str) -> Result<Vec<u8>, AllocError> {
     let mut written = Vec::new(rt.alloc());
     let mut errors = Vec::new(rt.alloc());
     run(rt, words, input, &mut written, &mut errors)?;
     Ok(written)
 }
 
-/// Words, an input, the status, and all that is printed: to the output where the status is 0, to
-/// the errors where it is not.
+/// Words, an input, the status, and what is printed: all of the output where the status is 0, and
+/// where it is not the first lines of the errors.
 type Row<'a> = (&'a str, &'a str, u8, &'a str);
 
 /// Runs the program as each row says.
-fn expect_rows(
-    rt: &HostRuntime,
-    rows: &[Row<'_>],
-) -> Result<(), AllocError> {
+fn expect_rows(rt: &HostRuntime, rows: &[Row<'_>]) -> Result<(), AllocError> {
     for row in rows {
         expect_row(rt, *row)?;
     }
@@ -66,10 +58,7 @@ fn expect_rows(
 }
 
 /// Runs the program as a row says.
-fn expect_row(
-    rt: &HostRuntime,
-    row: Row<'_>,
-) -> Result<(), AllocError> {
+fn expect_row(rt: &HostRuntime, row: Row<'_>) -> Result<(), AllocError> {
     let (words, input, status, text) = row;
     let mut written = Vec::new(rt.alloc());
     let mut errors = Vec::new(rt.alloc());
@@ -77,16 +66,13 @@ fn expect_row(
     let (output, complaints) = if status == 0 { (text, "") } else { ("", text) };
     assert_eq!(rt; answer, status, "{words}");
     assert_eq!(rt; written.as_slice(), output.as_bytes(), "{words}");
-    assert_eq!(rt; errors.as_slice(), complaints.as_bytes(), "{words}");
+    assert!(rt; errors.starts_with(complaints.as_bytes()), "{words}");
+    assert!(rt; status != 0 || errors.is_empty(), "{words}");
     Ok(())
 }
 
 /// Looks whether each of these words is refused so, and nothing else is printed.
-fn expect_refusals(
-    rt: &HostRuntime,
-    lines: &[&str],
-    refusal: &str,
-) -> Result<(), AllocError> {
+fn expect_refusals(rt: &HostRuntime, lines: &[&str], refusal: &str) -> Result<(), AllocError> {
     for words in lines {
         expect_row(rt, (*words, HELLO, 1, refusal))?;
     }
@@ -100,6 +86,8 @@ fn served_geometries(rt: HostRuntime) -> Result<(), Fail> {
         ("memory", HELLO, 0, HELLO_PACKET),
         ("memory --packet=0048", HELLO, 0, HELLO_PACKET),
         ("memory --address 1023", HELLO, 0, far),
+        ("memory --data 65537", HELLO, 0, HELLO_PACKET),
+        ("memory --objects 3", HELLO, 0, HELLO_PACKET),
     ];
     expect_rows(&rt, rows.as_slice())?;
     Ok(())
@@ -121,15 +109,13 @@ fn refused_geometries(rt: HostRuntime) -> Result<(), Fail> {
         "memory --address 1024",
     ];
     expect_refusals(&rt, lines.as_slice(), "motcar: 21 BadGeometry\n")?;
+    let told = "motcar: 21 BadGeometry\nmotcar: --packet 25: 24, 48, 72 or 96\n";
+    expect_refusals(&rt, &["memory --objects 3 --packet 25"], told)?;
     Ok(())
 }
 
 /// Runs the program, and looks whether it printed to the output or to the errors alone.
-fn expect_text(
-    rt: &HostRuntime,
-    words: &str,
-    status: u8,
-) -> Result<(), AllocError> {
+fn expect_text(rt: &HostRuntime, words: &str, status: u8) -> Result<(), AllocError> {
     let mut written = Vec::new(rt.alloc());
     let mut errors = Vec::new(rt.alloc());
     let answer = run(rt, words, HELLO, &mut written, &mut errors)?;
@@ -158,11 +144,7 @@ fn wrong_words_and_help(rt: HostRuntime) -> Result<(), Fail> {
 }
 
 /// Looks whether the help of these words has this line.
-fn expect_line(
-    rt: &HostRuntime,
-    words: &str,
-    line: &str,
-) -> Result<(), AllocError> {
+fn expect_line(rt: &HostRuntime, words: &str, line: &str) -> Result<(), AllocError> {
     let text = output(rt, words, "")?;
     let has_line = text
         .split(|byte| *byte == b'\n')
@@ -236,11 +218,7 @@ impl Write for FailingWriter {
 }
 
 /// Looks whether the program answers that this output failed.
-fn expect_fault<W: Write>(
-    rt: &HostRuntime,
-    words: &str,
-    writer: &mut W,
-) -> Result<(), AllocError> {
+fn expect_fault<W: Write>(rt: &HostRuntime, words: &str, writer: &mut W) -> Result<(), AllocError> {
     let mut errors = Vec::new(rt.alloc());
     let status = run(rt, words, HELLO, writer, &mut errors)?;
     assert_eq!(rt; status, 1, "{words}");

@@ -1,6 +1,6 @@
 //! Rows of commands on files. Each test makes a folder of its own where it runs, and takes it away
 //! again.
-use super::{expect_fault, expect_refusals, expect_rows, output};
+use super::{FailingWriter, expect_fault, expect_refusals, expect_rows, output};
 use std::alloc::{AllocError, Global};
 use std::fs;
 use std::test::Fail;
@@ -186,7 +186,7 @@ fn what_is_not_served(rt: HostRuntime) -> Result<(), Fail> {
             "serve unserved.test/missing",
             "list\n",
             1,
-            "motcar: 15 DeviceFault\n",
+            "motcar: 15 DeviceFault\nmotcar: unserved.test/missing: No such file or directory\n",
         ),
         (
             "serve unserved.test/short",
@@ -209,5 +209,19 @@ fn a_full_device(rt: HostRuntime) -> Result<(), Fail> {
         expect_fault(&rt, words.as_str(), &mut fs::create(&rt, "/dev/full")?)?;
     }
     fs::remove_dir_all(&rt, "full.test")?;
+    Ok(())
+}
+
+// A flush that fails behind the last line is told, though all was done.
+#[test]
+fn flushes_that_fail(rt: HostRuntime) -> Result<(), Fail> {
+    make_empty_folder(&rt, "flush.test")?;
+    for command in ["format", "check", "migrate", "serve"] {
+        let words = format!(in rt.alloc(); "{command} flush.test/disk")?;
+        let taken = Vec::new(rt.alloc());
+        let room = 100_000;
+        expect_fault(&rt, words.as_str(), &mut FailingWriter { taken, room })?;
+    }
+    fs::remove_dir_all(&rt, "flush.test")?;
     Ok(())
 }
