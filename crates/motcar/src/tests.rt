@@ -49,8 +49,16 @@ fn output(rt: &HostRuntime, words: &str, input: &str) -> Result<Vec<u8>, AllocEr
 /// where it is not the first lines of the errors.
 type Row<'a> = (&'a str, &'a str, u8, &'a str);
 
+/// Fails, and names the words, where this does not hold.
+fn expect(holds: bool, words: &str) -> Result<(), Fail> {
+    if holds {
+        return Ok(());
+    }
+    Err(Fail::new(format_args!("not as it should be: {words}")))
+}
+
 /// Runs the program as each row says.
-fn expect_rows(rt: &HostRuntime, rows: &[Row<'_>]) -> Result<(), AllocError> {
+fn expect_rows(rt: &HostRuntime, rows: &[Row<'_>]) -> Result<(), Fail> {
     for row in rows {
         expect_row(rt, *row)?;
     }
@@ -58,21 +66,23 @@ fn expect_rows(rt: &HostRuntime, rows: &[Row<'_>]) -> Result<(), AllocError> {
 }
 
 /// Runs the program as a row says.
-fn expect_row(rt: &HostRuntime, row: Row<'_>) -> Result<(), AllocError> {
+fn expect_row(rt: &HostRuntime, row: Row<'_>) -> Result<(), Fail> {
     let (words, input, status, text) = row;
     let mut written = Vec::new(rt.alloc());
     let mut errors = Vec::new(rt.alloc());
     let answer = run(rt, words, input, &mut written, &mut errors)?;
     let (output, complaints) = if status == 0 { (text, "") } else { ("", text) };
-    assert_eq!(rt; answer, status, "{words}");
-    assert_eq!(rt; written.as_slice(), output.as_bytes(), "{words}");
-    assert!(rt; errors.starts_with(complaints.as_bytes()), "{words}");
-    assert!(rt; status != 0 || errors.is_empty(), "{words}");
-    Ok(())
+    let is_printed = written.as_slice() == output.as_bytes();
+    let is_refused = errors.starts_with(complaints.as_bytes());
+    let is_silent = status != 0 || errors.is_empty();
+    expect(
+        answer == status && is_printed && is_refused && is_silent,
+        words,
+    )
 }
 
 /// Looks whether each of these words is refused so, and nothing else is printed.
-fn expect_refusals(rt: &HostRuntime, lines: &[&str], refusal: &str) -> Result<(), AllocError> {
+fn expect_refusals(rt: &HostRuntime, lines: &[&str], refusal: &str) -> Result<(), Fail> {
     for words in lines {
         expect_row(rt, (*words, HELLO, 1, refusal))?;
     }
@@ -115,14 +125,12 @@ fn refused_geometries(rt: HostRuntime) -> Result<(), Fail> {
 }
 
 /// Runs the program, and looks whether it printed to the output or to the errors alone.
-fn expect_text(rt: &HostRuntime, words: &str, status: u8) -> Result<(), AllocError> {
+fn expect_text(rt: &HostRuntime, words: &str, status: u8) -> Result<(), Fail> {
     let mut written = Vec::new(rt.alloc());
     let mut errors = Vec::new(rt.alloc());
     let answer = run(rt, words, HELLO, &mut written, &mut errors)?;
-    assert_eq!(rt; answer, status, "{words}");
-    assert_eq!(rt; written.is_empty(), status == 2, "{words}");
-    assert_eq!(rt; errors.is_empty(), status == 0, "{words}");
-    Ok(())
+    let is_printed = written.is_empty() == (status == 2) && errors.is_empty() == (status == 0);
+    expect(answer == status && is_printed, words)
 }
 
 #[test]
@@ -144,13 +152,12 @@ fn wrong_words_and_help(rt: HostRuntime) -> Result<(), Fail> {
 }
 
 /// Looks whether the help of these words has this line.
-fn expect_line(rt: &HostRuntime, words: &str, line: &str) -> Result<(), AllocError> {
+fn expect_line(rt: &HostRuntime, words: &str, line: &str) -> Result<(), Fail> {
     let text = output(rt, words, "")?;
     let has_line = text
         .split(|byte| *byte == b'\n')
         .any(|part| part == line.as_bytes());
-    assert!(rt; has_line, "{line}");
-    Ok(())
+    expect(has_line, line)
 }
 
 #[test]
@@ -218,16 +225,11 @@ impl Write for FailingWriter {
 }
 
 /// Looks whether the program answers that this output failed.
-fn expect_fault<W: Write>(rt: &HostRuntime, words: &str, writer: &mut W) -> Result<(), AllocError> {
+fn expect_fault<W: Write>(rt: &HostRuntime, words: &str, writer: &mut W) -> Result<(), Fail> {
     let mut errors = Vec::new(rt.alloc());
     let status = run(rt, words, HELLO, writer, &mut errors)?;
-    assert_eq!(rt; status, 1, "{words}");
-    assert_eq!(rt;
-        errors.as_slice(),
-        b"motcar: 23 WriteFault\n".as_slice(),
-        "{words}"
-    );
-    Ok(())
+    let is_told = errors.as_slice() == b"motcar: 23 WriteFault\n".as_slice();
+    expect(status == 1 && is_told, words)
 }
 
 // A write that fails, and a flush that fails after all was written.
