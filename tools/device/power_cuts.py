@@ -195,11 +195,26 @@ def judged(room, life, program, count, seed, notes):
     return faults
 
 
+def is_superblock_torn(life, image, moment):
+    """Whether the file system keeps no copy of its superblock in this image as it ever wrote it: then it is lost by itself,
+    whatever its files are."""
+    with open(image, "rb") as file:
+        for place in life.system.superblocks:
+            file.seek(place)
+            kept = file.read(systems.SUPERBLOCK)
+            if any(kind == "W" and (at, data) == (place, kept) for kind, at, data in life.log[:moment]):
+                return False
+    return bool(life.system.superblocks)
+
+
 def wrong_in(life, program, image, folder, moment, choices, notes):
     told = sum(it <= moment for it in life.told)
     given = told + (told < len(life.sent) and life.sent[told] <= moment)
     with judge.opened(life.system, image, folder, notes) as disk:
         if disk is None:
+            if is_superblock_torn(life, image, moment):
+                notes["no superblock whole"] += 1
+                return None
             return f"{judge.LOST}: the file system can't be mounted"
         if moment < life.formatted:
             return wrong_before(program, disk, notes)

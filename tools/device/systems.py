@@ -5,6 +5,7 @@ import subprocess
 import time
 
 MIB = 1 << 20
+SUPERBLOCK = 4_096  # bytes of each copy
 
 
 @dataclasses.dataclass(frozen=True)
@@ -15,6 +16,7 @@ class System:
     options: str = ""  # for mount
     is_mended: bool = False  # looked over before each mount, as a boot does
     is_held: bool = False  # another program has the device open all the time
+    superblocks: tuple = ()  # where its copies are, if a device that tears one may tear them all
 
 
 SYSTEMS = {
@@ -25,8 +27,8 @@ SYSTEMS = {
     "ext4-nojournal": System("ext4", 48 * MIB, ("-O", "^has_journal"), "", is_mended=True),
     "xfs": System("xfs", 64 * MIB),
     "xfs-1k": System("xfs", 64 * MIB, ("-b", "size=1024")),
-    "btrfs": System("btrfs", 128 * MIB, (), "commit=1"),
-    "btrfs-nodatacow": System("btrfs", 128 * MIB, (), "commit=1,nodatacow"),
+    "btrfs": System("btrfs", 128 * MIB, (), "commit=1", superblocks=(64 << 10, 64 * MIB)),
+    "btrfs-nodatacow": System("btrfs", 128 * MIB, (), "commit=1,nodatacow", superblocks=(64 << 10, 64 * MIB)),
     "bare": System("bare", 2 * MIB),
     "bare-held": System("bare", 2 * MIB, is_held=True),
     # these lose by themselves (docs/DISK_MODEL.md)

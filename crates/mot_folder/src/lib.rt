@@ -9,4 +9,3 @@ mod suffix;
 pub use folder::Folder;
 pub use report::Report;
 pub use suffix::{Kind, kind_of_name};
-

@@ -87,5 +87,7 @@ fn add_line(lines: &mut Vec<u8>, what: &str, name: &[u8], reply: &[u8]) {
 
 /// Whether the line, without its end, is one of the lines.
 fn has_line(lines: &[u8], line: &[u8]) -> bool {
-    lines.split(|byte| *byte == b'\n').any(|other| other == line)
+    lines
+        .split(|byte| *byte == b'\n')
+        .any(|other| other == line)
 }

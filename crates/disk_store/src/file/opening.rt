@@ -62,11 +62,7 @@ impl FileDiskFrom<Unknown> {
     /// Makes a new file of so many zeros, and opens it. It fails where the path names anything, and
     /// then leaves that as it is; where it fails later, it takes the file away again. Each zero is
     /// written, so that the file has no holes.
-    pub fn create(
-        rt: &HostRuntime,
-        path: &str,
-        len: u64,
-    ) -> Result<FileDisk, DiskFault>
+    pub fn create(rt: &HostRuntime, path: &str, len: u64) -> Result<FileDisk, DiskFault>
         ensures new { IfOk result (λ disk. IsNew (replicate len 0) (file_state disk)) }
         ensures can_sync { IfOk result CanSync }
         ensures order { IfOk result (λ disk. calls_on disk ≡ making_calls len) }
@@ -78,11 +74,7 @@ impl FileDiskFrom<Unknown> {
 impl<S: Start> FileDiskFrom<S> {
     /// Opens a file that held what `S` says, as `open` does. The value of `S` is used up, so that
     /// code over any `S` opens or makes one file; it comes back where none was opened.
-    pub fn open_from(
-        rt: &HostRuntime,
-        path: &str,
-        start: S,
-    ) -> Result<FileDiskFrom<S>, Unopened<S>>
+    pub fn open_from(rt: &HostRuntime, path: &str, start: S) -> Result<FileDiskFrom<S>, Unopened<S>>
         ensures new { IfOk result (λ disk. IsNew (file_state disk).bytes (file_state disk)) }
         ensures first_bytes { IfOk result (λ disk. (file_state disk).len ≡ length S.Start.bytes
             → (file_state disk).bytes ≡ S.Start.bytes) }
@@ -125,9 +117,7 @@ impl<S: Start> FileDiskFrom<S> {
         ensures order { IfOk result (λ disk.
             calls_on disk ≡ opening_calls (file_state disk).len) }
     {
-        let mut file = HeldFile::lock(
-            OpenOptions::new().read(true).write(true).open(rt, path)?,
-        )?;
+        let mut file = HeldFile::lock(OpenOptions::new().read(true).write(true).open(rt, path)?)?;
         if !file.is_disk()? {
             return Err(OpenFault::NoDisk);
         }
@@ -141,11 +131,7 @@ impl<S: Start> FileDiskFrom<S> {
     }
 
     // Makes what the path names nothing for yet, and takes it away again where that fails.
-    fn make_path(
-        rt: &HostRuntime,
-        path: &str,
-        len: u64,
-    ) -> Result<FileDiskFrom<S>, OpenFault>
+    fn make_path(rt: &HostRuntime, path: &str, len: u64) -> Result<FileDiskFrom<S>, OpenFault>
         ensures new { IfOk result (λ disk. IsNew (replicate len 0) (file_state disk)) }
         ensures can_sync { IfOk result CanSync }
         ensures all { IfOk result (λ disk. LeavesAll (file_state disk)) }

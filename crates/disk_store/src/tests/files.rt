@@ -253,7 +253,10 @@ fn an_empty_file_stands_beside(rt: HostRuntime) -> Result<(), Fail> {
     assert_eq!(rt; fs::read(&rt, "beside.test/disk-wal")?.len(), 0);
     fs::write(&rt, "beside.test/disk-wal", b"mine")?;
     drop(FileDisk::open(&rt, path)?);
-    assert_eq!(rt; fs::read(&rt, "beside.test/disk-wal")?.as_slice(), b"mine".as_slice());
+    assert_eq!(rt;
+        fs::read(&rt, "beside.test/disk-wal")?.as_slice(),
+        b"mine".as_slice()
+    );
     assert!(rt; FileDisk::create(&rt, "beside.test/other", u64::MAX).is_err());
     assert_eq!(rt; names_in(&rt, "beside.test")?, 2);
     fs::remove_dir_all(&rt, "beside.test")?;

@@ -44,11 +44,7 @@ fn a_read_that_fails_once(rt: HostRuntime) -> Result<(), Fail> {
 
 /// How serving ends, how many writes it makes and how many bytes are taken, where the write of this
 /// number fails.
-fn end_of_writes(
-    alloc: Global,
-    server: &mut Server,
-    fails_at: usize,
-) -> (ServeEnd, usize, usize) {
+fn end_of_writes(alloc: Global, server: &mut Server, fails_at: usize) -> (ServeEnd, usize, usize) {
     let mut writer = OnceFailingWriter {
         taken: Vec::new(alloc),
         fails_at,
@@ -108,7 +104,11 @@ fn each_reply_is_flushed(rt: HostRuntime) -> Result<(), Fail> {
         "bogus\n",
     ];
     for line in lines {
-        assert_eq!(rt; lines_given(alloc, &mut server, line.as_bytes()), 5, "{line}");
+        assert_eq!(rt;
+            lines_given(alloc, &mut server, line.as_bytes()),
+            5,
+            "{line}"
+        );
     }
     Ok(())
 }

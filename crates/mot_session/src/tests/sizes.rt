@@ -55,11 +55,7 @@ fn names_of_each_length(rt: HostRuntime) -> Result<(), Fail> {
 }
 
 /// Puts one object more, opens the disk again, and tells how its list begins.
-fn with_one_more(
-    alloc: Global,
-    server: Server,
-    number: u16,
-) -> Result<(Server, Vec<u8>), Fail> {
+fn with_one_more(alloc: Global, server: Server, number: u16) -> Result<(Server, Vec<u8>), Fail> {
     let mut server = server;
     let put = put_line(alloc, format!(in alloc; "n{number}")?.as_bytes(), b"x")?;
     let mut all = answers(alloc, &mut server, &put)?;
@@ -78,8 +74,10 @@ fn each_number_of_objects(rt: HostRuntime) -> Result<(), Fail> {
         let (next, told) = with_one_more(alloc, server, number)?;
         let id = u32::from(number) * 2;
         let directory = id + 1;
-        let wanted = format!(in alloc; "done object {id} directory {directory}\n\
-            carousel 0 {directory} {directory} {number}")?;
+        let wanted = format!(in alloc;
+            "done object {id} directory {directory}\n\
+            carousel 0 {directory} {directory} {number}"
+        )?;
         assert_eq!(rt; told.as_slice(), wanted.as_bytes());
         server = next;
     }
@@ -119,7 +117,10 @@ fn bodies_around_powers_of_two(rt: HostRuntime) -> Result<(), Fail> {
     let alloc = rt.alloc();
     let mut server = new_server(alloc, &geometry_of(1_024))?;
     for size in sizes(alloc, 1, 262_144)? {
-        assert!(rt; is_received(alloc, &mut server, size)?, "a body of {size} bytes");
+        assert!(rt;
+            is_received(alloc, &mut server, size)?,
+            "a body of {size} bytes"
+        );
     }
     Ok(())
 }

@@ -93,8 +93,13 @@ loop-packets-preserved g c =
       cost =
           let so_far = is.cost in
           let one = c.next_packet.ensures.cost in
-          omega (arith, so_far, one, ap length c.in_ok-push.ensures.items,
-          length-append c.loop-packets.packets.items (c.in_ok-packet.field-0.packet ∷ []));
+          omega (
+            arith,
+            so_far,
+            one,
+            ap length c.in_ok-push.ensures.items,
+            length-append c.loop-packets.packets.items (c.in_ok-packet.field-0.packet ∷ []),
+          );
       unchanged = λ honest. unchanged_on (state start.disk) (state mid.disk) (state now.disk)
           (is.unchanged (c.next_packet.ensures.keeps.was_honest honest)) (c.next_packet.ensures.unchanged honest);
       going = λ s holds honest.
