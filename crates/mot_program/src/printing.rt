@@ -7,8 +7,8 @@ ghost use Rattle.mot_base.specs.declared.refusal.Refusal.TheVariants.{OutOfMemor
 ghost use Rattle.mot_program.specs.declared.ended.UsedDisk.TheVariants.{Untouched};
 ghost use Rattle.mot_lines.specs.Inner.Listing.{listing_text_beside, object_line_beside};
 
-use crate::subject::{BadNumber, Subject};
 use crate::ended::{Exit, UsedDisk};
+use crate::subject::{BadNumber, Subject};
 use clap::Error;
 use clap::error::ErrorKind;
 use disk_store::Start;
