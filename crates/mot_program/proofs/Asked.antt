@@ -32,6 +32,13 @@ found_together : {X A B : Type 0} (f : X → A) (h : X → B) (o : Option X) (a 
 found_together f h None a b e k = absurd (cc)
 found_together f h (Some x) a b e k = cc
 
+Some-inj : {A : Type 0} {x y : A} → Some x ≡ Some y → x ≡ y
+Some-inj e = cc
+
+same_task : {a b : Text × List Row} → a ≡ b → (task : Task) → IsTask a.0 a.1 task
+    → IsTask b.0 b.1 task
+same_task e task is = subst (λ (p : Text × List Row). IsTask p.0 p.1 task) e is
+
 module _ (words : List Text) (command : Command) (app : app_of command ≡ program_app) where
   -- ---- what was matched
   rows_matched : (m : ArgMatches) → HasMatchesOf (app_of command) words m
@@ -51,6 +58,19 @@ module _ (words : List Text) (command : Command) (app : app_of command ≡ progr
         (out-ArgMatches m).subcommand name rows n r;
     is_task = is;
   }
+
+  -- a name and rows that no task is behind
+  pub AskFor-none : (m : ArgMatches) (name : Text) (rows : List Row)
+      → HasMatchesOf (app_of command) words m → Some name ≡ subcommand_name_of m
+      → Some rows ≡ option_map (λ p. p.1) (subcommand_rows_of m)
+      → ((task : Task) → IsTask name rows task → ⊥) → (task : Task) → AskFor words task → ⊥
+  AskFor-none m name rows h n r none task asked =
+      let found : subcommand_of program_app words ≡ Some (name, rows) =
+      sym (rows_matched m h)
+      ∙ found_together (λ b. (out-SubCommand (box_value b)).name.now)
+      (λ b. rows_of (found_of (out-SubCommand (box_value b)).matches))
+      (out-ArgMatches m).subcommand name rows n r in
+      none task (same_task (Some-inj (sym asked.matched ∙ found)) task asked.is_task)
 
   pub AreWrong-none : (m : ArgMatches) → HasMatchesOf (app_of command) words m
       → None ≡ subcommand_rows_of m → AreWrong words

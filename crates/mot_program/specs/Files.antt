@@ -1,5 +1,5 @@
 -- A file that the program opened or made, as a disk.
-use Rattle.std.specs.Prelude.{◌≡◌, ℕ, Bool, true, false, List, [], ◌∷◌, length, take}
+use Rattle.std.specs.Prelude.{◌≡◌, ℕ, Bool, true, false, List, length, take}
 use Rattle.disk_store.specs.Calls.{AreRight, Call, after_call, content_after, making_calls}
 use Rattle.disk_store.specs.Calls.{no_content, opening_calls}
 use Rattle.disk_store.specs.Content.{replayed_state}

@@ -1,16 +1,22 @@
 -- The numbers of the command line, and the geometry that they make.
-use Rattle.std.specs.Prelude.{ℕ, ◌≡◌, nat_le, if◌then◌else◌, List, Option, Some, None, unwrap_or}
-use Rattle.std.specs.Prelude.{codes}
-use Rattle.std.specs.Str.Parse.{digits_value, without_leading_plus}
+use Rattle.std.specs.Prelude.{ℕ, ◌≡◌, ◌<◌, ◌^◌, nat_le, if◌then◌else◌, List, Option, Some, None}
+use Rattle.std.specs.Prelude.{codes, unwrap_or}
+use Rattle.std.specs.Str.Parse.{IsNumeral, digits_value, without_leading_plus}
 use Rattle.clap.specs.Words.{Row, first_of}
 use Rattle.mot_base.specs.Reading.{◌>>=◌}
 use Rattle.mot_base.specs.declared.geometry.Geometry.{Geometry}
 use Rattle.mot_program.specs.declared.options.Options.{Options}
 
+-- the text writes a number of 32 bits
+abbrev pub IsNumberOf32Bits : List ℕ → Type 0
+IsNumberOf32Bits text = IsNumeral 10 (without_leading_plus text)
+    × (digits_value 10 (without_leading_plus text) < 2 ^ 32)
+
 -- the number that the text of an option writes, where the option was given
 abbrev pub IsGiven : Option (List ℕ) → Option ℕ → Type 0
 IsGiven None number = number ≡ None
-IsGiven (Some text) number = number ≡ Some (digits_value 10 (without_leading_plus text))
+IsGiven (Some text) number =
+    IsNumberOf32Bits text × (number ≡ Some (digits_value 10 (without_leading_plus text)))
 
 -- these are the numbers that the words give
 pub record AreGiven (rows : List Row) (o : Options) : Type 0 where

@@ -123,8 +123,9 @@ module _ {S : Type 0} {start : Ghosts S} (words : List Text) where
     -- before it could be told what the words ask for
     no_memory : refusal ≡ OutOfMemory → IsUntold used old new → Keeps unread left
         → IsRefused refusal used unread left old new
-    -- a number of theirs fits no geometry
-    no_task : refusal ≡ BadGeometry → IsUntold used old new → Keeps unread left
+    -- a number of theirs fits no field of a geometry, so that they ask for no task
+    no_task : refusal ≡ BadGeometry → ((task : Task) → AskFor words task → ⊥)
+        → IsUntold used old new → Keeps unread left
         → IsRefused refusal used unread left old new
     -- the help could not be printed
     no_help : AskForHelp words → refusal ≡ WriteFault → IsUntouched used → Keeps unread left

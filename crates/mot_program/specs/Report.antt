@@ -10,7 +10,8 @@ use Rattle.mot_base.specs.declared.refusal.Refusal.{Refusal}
 use Rattle.mot_base.specs.declared.refusal.Refusal.TheVariants.{AlreadyFormatted, DeviceFault}
 use Rattle.mot_base.specs.declared.refusal.Refusal.TheVariants.{DiskTooSmall, WriteFault}
 use Rattle.mot_journal.specs.Geometry.{has_magic}
-use Rattle.mot_journal.specs.Image.{DiskRecords, Standing, records_of, stands_for, IsClean}
+use Rattle.mot_journal.specs.Image.{DiskRecords, Standing, records_of, stands_for}
+use Rattle.mot_journal.specs.Image.{IsClean, IsInLayoutTwo}
 use Rattle.mot_journal.specs.Journal.{NoneOrNew, new_standing}
 use Rattle.mot_journal.specs.declared.layout.Layout.{Layout}
 use Rattle.mot_journal.specs.declared.layout.Layout.TheVariants.{One, Two}
@@ -35,11 +36,12 @@ pub record IsUnderFormat (g : Geometry) (start now : State) : Type 0 where
       → ((image : List ℕ) → start.MayLeave image → has_magic image ≡ false)
       → Throughout start now (NoneOrNew g)
 
--- it is the new disk of this geometry, and was none before
+-- it is the new disk of this geometry, in layout 2, and was none before
 pub record IsFormatted (g : Geometry) (start now : State) : Type 0 where
   pub under : IsUnderFormat g start now
   pub was_none : now.IsHonest → has_magic start.bytes ≡ false
-  pub is_new : now.IsHonest → (image : List ℕ) → now.MayLeave image → IsOf (new_standing g) image
+  pub is_new : now.IsHonest → (image : List ℕ) → now.MayLeave image
+      → IsOf (new_standing g) image × IsInLayoutTwo image
 
 -- it is, and that was printed
 pub record Formats (g : Geometry) (old new : Option (List ℕ)) (start now : State) : Type 0 where
@@ -116,11 +118,6 @@ IsUnderMigration start now =
     (s : Standing) → now.IsHonest → ((image : List ℕ) → start.MayLeave image → IsOf s image)
     → Throughout start now (IsOf s)
 
--- the image is of layout 2
-abbrev pub IsOfLayoutTwo : List ℕ → Type 0
-IsOfLayoutTwo image =
-    (journal : DiskRecords) × (records_of image ≡ Ok journal) × (journal.layout ≡ Two)
-
 -- what the line tells of a disk of these bytes: true where it was of layout 1
 abbrev pub IsRewritten : Bool → List ℕ → Type 0
 IsRewritten done bytes =
@@ -133,7 +130,7 @@ pub record IsMigrated (done : Bool) (start now : State) : Type 0 where
   pub rewritten : now.IsHonest → IsRewritten done start.bytes
   pub is_two : (s : Standing) → now.IsHonest
       → ((image : List ℕ) → start.MayLeave image → IsOf s image)
-      → (image : List ℕ) → now.MayLeave image → IsOf s image × IsOfLayoutTwo image
+      → (image : List ℕ) → now.MayLeave image → IsOf s image × IsInLayoutTwo image
 
 -- it does, and that was printed
 pub record Migrates (old new : Option (List ℕ)) (start now : State) : Type 0 where

@@ -1,6 +1,8 @@
-ghost use Rattle.std.specs.Prelude.{◌≡◌, IfSome};
+ghost use Rattle.std.specs.Prelude.{ℕ, ◌≡◌, IfNone, IfSome, Option};
 ghost use Rattle.clap.specs.Words.{first_of, found_of, rows_of};
+ghost use Rattle.mot_base.specs.declared.geometry.Geometry.{Geometry};
 ghost use Rattle.mot_program.specs.Options.{AreGiven, GiveGeometry, IsGiven, field_in};
+ghost use Rattle.mot_program.specs.declared.options.Options.{Options};
 
 use clap::ArgMatches;
 use mot_base::Geometry;
@@ -51,14 +53,18 @@ fn field(number: Option<u32>, default: u16) -> Option<u16>
 
 /// The geometry that the words give; `None` where a number does not fit its field.
 pub(crate) fn geometry_of(matches: &ArgMatches<'_>) -> Option<Geometry>
-    ensures { IfSome result (GiveGeometry (rows_of (found_of matches.now))) }
+    ensures some { IfSome result (GiveGeometry (rows_of (found_of matches.now))) }
+    ensures none { IfNone result ((geometry : Geometry)
+        → GiveGeometry (rows_of (found_of matches.now)) geometry → ⊥) }
 {
     options_of(matches)?.geometry()
 }
 
 /// The numbers of the options that were given; `None` where one is no number.
 fn options_of(matches: &ArgMatches<'_>) -> Option<Options>
-    ensures { IfSome result (AreGiven (rows_of (found_of matches.now))) }
+    ensures some { IfSome result (AreGiven (rows_of (found_of matches.now))) }
+    ensures none { IfNone result ((options : Options)
+        → AreGiven (rows_of (found_of matches.now)) options → ⊥) }
 {
     Some(Options {
         objects: number_of(matches, "objects")?,
@@ -72,7 +78,9 @@ fn options_of(matches: &ArgMatches<'_>) -> Option<Options>
 /// The number of an option, if it was given; `None` where it is no number.
 #[tactic(auto, using(crate::proofs::Values::first_found))]
 fn number_of(matches: &ArgMatches<'_>, name: &str) -> Option<Option<u32>>
-    ensures { IfSome result (IsGiven (first_of name.now (rows_of (found_of matches.now)))) }
+    ensures some { IfSome result (IsGiven (first_of name.now (rows_of (found_of matches.now)))) }
+    ensures none { IfNone result ((number : Option ℕ)
+        → IsGiven (first_of name.now (rows_of (found_of matches.now))) number → ⊥) }
 {
     match matches.get_str(name) {
         Some(text) => match text.parse::<u32>() {

@@ -1,7 +1,8 @@
 //! What the words of the command line ask for.
-ghost use Rattle.std.specs.Prelude.{IfSome};
-ghost use Rattle.clap.specs.Words.{found_of, rows_of};
+ghost use Rattle.std.specs.Prelude.{IfNone, IfSome};
+ghost use Rattle.clap.specs.Words.{Text, found_of, rows_of};
 ghost use Rattle.mot_program.specs.Task.{IsTask, NameDisk};
+ghost use Rattle.mot_program.specs.declared.task.Task.{Task};
 
 use crate::options::geometry_of;
 use clap::ArgMatches;
@@ -29,7 +30,9 @@ pub enum Task<'a> {
 
 /// The task of a command and the words behind it; `None` where a number does not fit its field.
 pub(crate) fn task_of<'a>(name: &str, words: &ArgMatches<'a>) -> Option<Task<'a>>
-    ensures { IfSome result (IsTask name.now (rows_of (found_of words.now))) }
+    ensures some { IfSome result (IsTask name.now (rows_of (found_of words.now))) }
+    ensures none { IfNone result ((task : Task)
+        → IsTask name.now (rows_of (found_of words.now)) task → ⊥) }
 {
     match name {
         "memory" => Some(Task::Memory(geometry_of(words)?)),
@@ -47,7 +50,9 @@ pub(crate) fn task_of<'a>(name: &str, words: &ArgMatches<'a>) -> Option<Task<'a>
 /// The path that names the disk.
 #[tactic(auto, using(crate::proofs::Values::first_found))]
 fn disk_of<'a>(words: &ArgMatches<'a>) -> Option<&'a str>
-    ensures { IfSome result (λ path. NameDisk (rows_of (found_of words.now)) path.now) }
+    ensures some { IfSome result (λ path. NameDisk (rows_of (found_of words.now)) path.now) }
+    ensures none { IfNone result ((path : Text)
+        → NameDisk (rows_of (found_of words.now)) path → ⊥) }
 {
     words.get_str("DISK")
 }

@@ -38,7 +38,7 @@ formatted g c =
       };
       was_none = calls.not_over;
       is_new = λ honest image left. let r = calls.ok honest image left in
-          record { stands = r.0; clean = r.1 };
+          (record { stands = r.0; clean = r.1 }, calls.layout honest image left);
     }
 
 pub returns-in-Ok-clause-done : goal.returns-in-Ok-clause-done

@@ -7,7 +7,8 @@ use Rattle.mot_base.specs.declared.refusal.Refusal.TheVariants.{BadGeometry, Out
 use Rattle.mot_program.specs.Program.{Does, DoesInPart, IsBeginningRefusal, IsRefused, IsUntold}
 use Rattle.mot_program.specs.Program.{IsUntouched, Succeeds}
 use Rattle.mot_program.specs.Program.IsRefused.{begun, no_help, no_memory, no_task, unbegun}
-use Rattle.mot_program.proofs.Asked.{AskFor-matched, AskForHelp-shown, AreWrong-fault}
+use Rattle.mot_program.proofs.Asked.{AskFor-matched, AskFor-none, AskForHelp-shown}
+use Rattle.mot_program.proofs.Asked.{AreWrong-fault}
 use Rattle.mot_program.proofs.program.run_on.Goals as goal
 
 pub returns-in-Err-try_get_matches_from-clause-done :
@@ -60,7 +61,12 @@ returns-in_default-task_of-clause-refused g c =
     (sym c.refuse-in_default-task_of.ensures) (λ z. (
       BadGeometry,
       refl,
-      no_task refl (record { untouched = tt; silent = Keeps-refl _ }) (Keeps-refl _),
+      no_task refl (AskFor-none words c.in-Ok.command c.in-Ok.ensures
+          c.in-Ok-try_get_matches_from.matches c.in-Some.name.now
+          (rows_of (found_of c.in-Some.rest.now))
+          c.in-Ok-try_get_matches_from.ensures.matches c.in-Some.ensures.name
+          c.in-Some.ensures.rows c.in_default-task_of.ensures.none)
+          (record { untouched = tt; silent = Keeps-refl _ }) (Keeps-refl _),
     ))
 
 pub returns-in-Ok-result-clause-done : goal.returns-in-Ok-result-clause-done
@@ -78,7 +84,7 @@ returns-in-Ok-result-clause-done g c =
           c.in-Ok-try_get_matches_from.matches c.in-Some.name.now
           (rows_of (found_of c.in-Some.rest.now))
           task c.in-Ok-try_get_matches_from.ensures.matches c.in-Some.ensures.name
-          c.in-Some.ensures.rows c.in-Some-task_of.ensures,
+          c.in-Some.ensures.rows c.in-Some-task_of.ensures.some,
       subst (λ r. OnOk r (Does task c.execute-result.result.disk remains left old new))
           c.in-Ok-result.is c.execute-result.ensures.done,
     ))
@@ -96,7 +102,7 @@ returns-clause-refused g c =
     c.in-Ok-try_get_matches_from.matches c.in-Some.name.now
     (rows_of (found_of c.in-Some.rest.now))
     task c.in-Ok-try_get_matches_from.ensures.matches c.in-Some.ensures.name
-    c.in-Some.ensures.rows c.in-Some-task_of.ensures in
+    c.in-Some.ensures.rows c.in-Some-task_of.ensures.some in
     subst (λ (e : _). e.status ≡ 1 → (x : Refusal) × (e.refusal ≡ Some x)
     × IsRefused words x e.disk remains left old new) (sym c.refuse-in-Err-result.ensures) (λ z. (
       c.in-Err-result.refusal,

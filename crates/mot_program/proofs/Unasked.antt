@@ -1,0 +1,63 @@
+-- Words that give no geometry, and ask for no task.
+use Rattle.std.proofs.Common.{◌≡◌, ◌∙◌, ℕ, List, Option, Some, None, arith, ap, refl, sym}
+use Rattle.std.proofs.Common.{◌≢◌, slice_index}
+use Rattle.std.specs.Prelude.{IfNone, codes}
+use Rattle.clap.specs.Words.{Row, Text}
+use Rattle.mot_base.specs.declared.geometry.Geometry.{Geometry}
+use Rattle.mot_program.specs.declared.options.Options.{Options}
+use Rattle.mot_program.specs.declared.task.Task.{Task}
+use Rattle.mot_program.specs.declared.task.Task.TheVariants.{Memory, Format, Serve, Check, Migrate}
+use Rattle.mot_program.specs.Options.{AreGiven, GiveGeometry, IsGiven, geometry_of}
+use Rattle.mot_program.specs.Task.{IsTask}
+
+pub IfNone-always : {T P : Type 0} (o : Option T) → P → IfNone o P
+IfNone-always None p = p
+IfNone-always (Some x) p = tt
+
+-- texts that differ in a byte are not the same
+clash : (i m n : ℕ) (a b : Text) → slice_index a i ≡ m → slice_index b i ≡ n → m ≢ n → a ≡ b → ⊥
+clash i m n a b p q d e = d (sym p ∙ ap (λ t. slice_index t i) e ∙ q)
+
+given_same : (text : Option (List ℕ)) (m n : Option ℕ) → IsGiven text m → IsGiven text n → m ≡ n
+given_same None m n a b = a ∙ sym b
+given_same (Some text) m n a b = a.1 ∙ sym b.1
+
+geometry_same : (rows : List Row) (o p : Options) → AreGiven rows o → AreGiven rows p
+    → geometry_of o ≡ geometry_of p
+unfolding geometry_of
+geometry_same rows o p a b =
+    let objects = given_same _ o.objects p.objects a.objects b.objects in
+    let data_area = given_same _ o.data_area p.data_area a.data_area b.data_area in
+    let segment = given_same _ o.segment p.segment a.segment b.segment in
+    let address = given_same _ o.address p.address a.address b.address in
+    let packet = given_same _ o.packet p.packet a.packet b.packet in
+    rw (objects, data_area, segment, address, packet) refl
+
+pub no_geometry : (rows : List Row) (o : Options) → AreGiven rows o → (made : Option Geometry)
+    → made ≡ geometry_of o → IfNone made ((g : Geometry) → GiveGeometry rows g → ⊥)
+no_geometry rows o a (Some g) is = tt
+no_geometry rows o a None is = λ g gives. let same = geometry_same rows o gives.0 a gives.1 in
+    let none : None ≡ Some g = is ∙ same ∙ gives.2 in absurd (cc)
+
+module _ (rows : List Row) (none : (g : Geometry) → GiveGeometry rows g → ⊥) where
+  pub no_memory : (name : Text) → name ≡ codes "memory" → (task : Task) → IsTask name rows task → ⊥
+  no_memory name is (Memory g) t = none g t.1
+  no_memory name is (Format path g) t =
+      clash 0 109 102 (codes "memory") (codes "format") refl refl (omega arith) (sym is ∙ t.0)
+  no_memory name is (Serve path) t =
+      clash 0 109 115 (codes "memory") (codes "serve") refl refl (omega arith) (sym is ∙ t.0)
+  no_memory name is (Check path) t =
+      clash 0 109 99 (codes "memory") (codes "check") refl refl (omega arith) (sym is ∙ t.0)
+  no_memory name is (Migrate path) t =
+      clash 1 101 105 (codes "memory") (codes "migrate") refl refl (omega arith) (sym is ∙ t.0)
+
+  pub no_format : (name : Text) → name ≡ codes "format" → (task : Task) → IsTask name rows task → ⊥
+  no_format name is (Format path g) t = none g t.2
+  no_format name is (Memory g) t =
+      clash 0 102 109 (codes "format") (codes "memory") refl refl (omega arith) (sym is ∙ t.0)
+  no_format name is (Serve path) t =
+      clash 0 102 115 (codes "format") (codes "serve") refl refl (omega arith) (sym is ∙ t.0)
+  no_format name is (Check path) t =
+      clash 0 102 99 (codes "format") (codes "check") refl refl (omega arith) (sym is ∙ t.0)
+  no_format name is (Migrate path) t =
+      clash 0 102 109 (codes "format") (codes "migrate") refl refl (omega arith) (sym is ∙ t.0)
