@@ -5,13 +5,15 @@ use std::alloc::{AllocError, Global};
 pub(crate) fn command<'a>(alloc: Global) -> Result<Command<'a>, AllocError> {
     let play = play(alloc)?;
     let sync = sync(alloc)?;
+    let export = export(alloc)?;
     Command::new(alloc, "motcar")
         .bin_name("motcar")?
         .about("A data-service server for DAB digital radio")
         .no_binary_name(true)
         .subcommand_required(true)
         .subcommand(play)?
-        .subcommand(sync)
+        .subcommand(sync)?
+        .subcommand(export)
 }
 
 /// The command `play`.
@@ -41,6 +43,13 @@ fn sync<'a>(alloc: Global) -> Result<Command<'a>, AllocError> {
         .about("Make the carousel of a disk equal to a folder")
         .arg(word(alloc, "DISK", "The file of the disk, or a block device"))?
         .arg(word(alloc, "DIR", "The folder"))
+}
+
+/// The command `export`.
+fn export<'a>(alloc: Global) -> Result<Command<'a>, AllocError> {
+    Command::new(alloc, "export")
+        .about("Print the lines that rebuild the carousel of a disk")
+        .arg(word(alloc, "DISK", "The file of the disk, or a block device"))
 }
 
 /// A word that has to be given.

@@ -1,4 +1,5 @@
 use crate::command::command;
+use crate::exporting::export_disk;
 use crate::playing::{play_disk, sync_disk};
 use clap::ArgMatches;
 use disk_store::{FileDiskFrom, Unknown};
@@ -12,7 +13,7 @@ use std::rt::Files;
 
 /// Whether the word is one of these commands.
 pub fn is_air(word: &str) -> bool {
-    word == "play" || word == "sync"
+    word == "play" || word == "sync" || word == "export"
 }
 
 /// Does what the words after the program's own name ask for, and answers the exit status: 0 where
@@ -44,6 +45,7 @@ pub fn run_air<S: AsStr, W: Write + Drop, E: Write>(
     };
     let result = match name {
         "sync" => sync(rt, alloc, rest, &mut writer),
+        "export" => export(rt, alloc, rest, &mut writer),
         _ => play(rt, alloc, rest, writer),
     };
     match result {
@@ -70,6 +72,20 @@ fn sync<W: Write>(
         return Err(Refusal::BadLine);
     };
     sync_disk(rt, alloc, open(rt, disk)?, folder, writer)
+}
+
+/// Does `export`.
+fn export<W: Write>(
+    rt: &HostRuntime,
+    alloc: Global,
+    words: &ArgMatches<'_>,
+    writer: &mut W,
+) -> Result<bool, Refusal> {
+    let Some(disk) = words.get_str("DISK") else {
+        return Err(Refusal::BadLine);
+    };
+    export_disk(alloc, open(rt, disk)?, writer)?;
+    Ok(true)
 }
 
 /// Does `play`.
