@@ -1,12 +1,13 @@
 -- What a call that may fail leaves.
-use Rattle.std.proofs.Common.{◌≡◌, ◌∙◌, ℕ, ◌≤◌, Option, Some, Result, Ok, Err, inl, inr, arith}
+use Rattle.std.proofs.Common.{◌≡◌, ◌≢◌, ◌⊎◌, ◌∙◌, ℕ, ◌≤◌, Option, Some, Result, Ok, Err, inl, inr, arith}
 use Rattle.std.proofs.Common.{subst, sym}
 use Rattle.std.proofs.Math.Logic.{⊎_elim}
 use Rattle.std.proofs.Math.Nat.{eq-or-lt_of_le}
 use Rattle.std.specs.Prelude.{IfErr, OnOk, OnErr}
 use Rattle.disk_store.specs.Disk.{Elapses, IsStill, IsUnchanged, Nothing, Rises, State}
 use Rattle.mot_base.specs.declared.refusal.Refusal.{Refusal}
-use Rattle.mot_base.specs.declared.refusal.Refusal.TheVariants.{OutOfMemory, ReadFault, WriteFault}
+use Rattle.mot_base.specs.declared.refusal.Refusal.TheVariants.{DeviceFault, OutOfMemory}
+use Rattle.mot_base.specs.declared.refusal.Refusal.TheVariants.{ReadFault, WriteFault}
 use Rattle.mot_session.specs.Served.{EndsServing}
 
 pub OnOk-both : {T E P Q R : Type 0} (r : Result T E) → (P → Q → R) → OnOk r P → OnOk r Q
@@ -67,3 +68,9 @@ still_unchanged a b c first second = record {
   images = λ image left. first.images image ((second.images image).0 left);
   loose = λ k is. first.loose k ((second.loose k).0 is);
 }
+
+-- an opening that was refused, in the words of its own clause
+pub calm_refused : (refusal : Refusal) (m n : ℕ) → (refusal ≡ DeviceFault) ⊎ (m ≡ n)
+    → refusal ≢ DeviceFault → m ≡ n
+calm_refused refusal m n (inl is) other = absurd (other is)
+calm_refused refusal m n (inr same) other = same

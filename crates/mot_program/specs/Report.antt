@@ -22,6 +22,10 @@ use Rattle.mot_repository.specs.Repository.{IsOf}
 -- In all of these the disk was in a state start and is in a state now, and the writer's known bytes
 -- were old and are new.
 
+-- the disk has failed where a device fault is told, and nowhere else
+abbrev pub IsCalm : Refusal → State → State → Type 0
+IsCalm refusal start now = refusal ≢ DeviceFault → now.failures ≡ start.failures
+
 -- ---- `format`
 
 abbrev pub formatted_line : Geometry → List ℕ
@@ -96,7 +100,7 @@ pub record Checks (old new : Option (List ℕ)) (start now : State) : Type 0 whe
 -- it could not be read, and nothing was printed; or what it stands for could not be printed
 pub data IsUnreported (refusal : Refusal) (old new : Option (List ℕ)) (start now : State) :
     Type 0 where
-  unread : IsOpeningRefusal start now refusal → Keeps old new
+  unread : IsOpeningRefusal start now refusal → IsCalm refusal start now → Keeps old new
       → IsUnreported refusal old new start now
   unprinted : refusal ≡ WriteFault → IsUnreported refusal old new start now
 
@@ -141,8 +145,8 @@ pub record Migrates (old new : Option (List ℕ)) (start now : State) : Type 0 w
 -- it could not be brought to layout 2, and nothing was printed; or that it is could not be printed
 pub data StopsMigrating (refusal : Refusal) (old new : Option (List ℕ)) (start now : State) :
     Type 0 where
-  refused : IsOpeningRefusal start now refusal → IsUnderMigration start now
-      → (refusal ≢ DeviceFault → now.IsHonest → IsStill start now) → Keeps old new
+  refused : IsOpeningRefusal start now refusal → IsCalm refusal start now
+      → IsUnderMigration start now → (refusal ≢ DeviceFault → now.IsHonest → IsStill start now) → Keeps old new
       → StopsMigrating refusal old new start now
   unprinted : refusal ≡ WriteFault → (done : Bool) → IsMigrated done start now
       → StopsMigrating refusal old new start now

@@ -7,6 +7,7 @@ use Rattle.mot_base.specs.declared.refusal.Refusal.TheVariants.{OutOfMemory, Rea
 use Rattle.mot_journal.specs.Image.{Standing}
 use Rattle.mot_lines.specs.Lines.{whole_lines, lines_of}
 use Rattle.mot_program.specs.declared.serving.TheConstants.{READS}
+use Rattle.mot_program.specs.Report.{IsCalm}
 use Rattle.mot_repository.specs.Opening.{IsOpeningRefusal}
 use Rattle.mot_repository.specs.Repository.{IsOf}
 use Rattle.mot_session.specs.Served.{TakesInput, Served, Stopped}
@@ -71,9 +72,11 @@ pub record IsUnserved (unread left old new : Option (List ℕ)) (start now : Sta
 -- why serving ended before the input did, and what it had come to
 pub data StopsServing (refusal : Refusal) (unread left old new : Option (List ℕ))
     (start now : State) : Type 0 where
-  unopened : IsOpeningRefusal start now refusal → IsUnserved unread left old new start now
+  unopened : IsOpeningRefusal start now refusal → IsCalm refusal start now
+      → IsUnserved unread left old new start now
       → StopsServing refusal unread left old new start now
-  no_memory : refusal ≡ OutOfMemory → IsUnserved unread left old new start now
+  no_memory : refusal ≡ OutOfMemory → IsCalm refusal start now
+      → IsUnserved unread left old new start now
       → StopsServing refusal unread left old new start now
   unread : refusal ≡ ReadFault → ServesWholeLines unread left old new start now
       → StopsServing refusal unread left old new start now

@@ -10,7 +10,7 @@ use Rattle.mot_repository.specs.Opening.IsOpeningRefusal.{device}
 use Rattle.mot_repository.proofs.Laws.{stands_where}
 use Rattle.mot_program.specs.Report.{StopsChecking, clean_line, layout_line}
 use Rattle.mot_program.specs.Report.IsUnreported.{unprinted, unread}
-use Rattle.mot_program.proofs.Ends.{IfErr-one, OnOk-one, rises_later}
+use Rattle.mot_program.proofs.Ends.{IfErr-one, OnOk-one, calm_refused, rises_later}
 use Rattle.mot_program.proofs.Ends.{still_unchanged}
 use Rattle.mot_program.proofs.checking.check_disk.Given as given
 use Rattle.mot_program.proofs.checking.check_disk.Goals as goal
@@ -24,7 +24,7 @@ returns-in-Err-clause-refused g c =
     StopsChecking r old old (state c.args.disk) (state e.disk)))
     (sym c.unopened.ensures) (record {
       still = opens.still_refused;
-      unreported = unread opens.refused (Keeps-refl _);
+      unreported = unread opens.refused (calm_refused _ _ _ opens.calm) (Keeps-refl _);
     })
 
 -- nothing changed but that the disk was synced
@@ -51,7 +51,8 @@ returns-clause-refused g c =
         | inr failed ↦ unread (device failed.0
             (subst (λ d. Rises (state c.args.disk).failures (state d).failures)
             (sym c.into_disk.ensures)
-            (rises_later _ _ _ opens.later calls.later failed.1))) failed.2
+            (rises_later _ _ _ opens.later calls.later failed.1))) (λ other. absurd (other failed.0))
+            failed.2
       ];
     }) calls.silent
 

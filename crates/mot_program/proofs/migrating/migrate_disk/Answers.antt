@@ -1,4 +1,4 @@
-use Rattle.std.proofs.Common.{subst, sym}
+use Rattle.std.proofs.Common.{◌∙◌, ap, inl, inr, subst, sym}
 use Rattle.std.proofs.KnownBytes.{Keeps-refl}
 use Rattle.std.specs.Prelude.{IfErr}
 use Rattle.std.specs.Io.KnownBytes.{Appends}
@@ -6,9 +6,10 @@ use Rattle.mot_journal.specs.Journal.{with_records}
 use Rattle.mot_repository.specs.Answers.IsMigrationRefusal.{failed, halted, no_memory}
 use Rattle.mot_repository.specs.Opening.IsOpeningRefusal.{device, no_memory as no_room}
 use Rattle.mot_repository.specs.Repository.{IsOf}
-use Rattle.mot_program.specs.Report.{IsMigrated, StopsMigrating}
+use Rattle.mot_program.specs.Report.{IsCalm, IsMigrated, StopsMigrating}
 use Rattle.mot_program.specs.Report.StopsMigrating.{refused, unprinted}
-use Rattle.mot_program.proofs.Ends.{IfErr-one, OnOk-one, rises_later, still_unchanged}
+use Rattle.mot_program.proofs.Ends.{IfErr-one, OnOk-one, calm_refused, rises_later}
+use Rattle.mot_program.proofs.Ends.{still_unchanged}
 use Rattle.mot_program.proofs.Opened.{migrates_held, migrates_under, opened_throughout}
 use Rattle.mot_program.proofs.migrating.migrate_disk.Given as given
 use Rattle.mot_program.proofs.migrating.migrate_disk.Goals as goal
@@ -21,6 +22,7 @@ returns-in-Err-clause-refused g c =
     subst (λ (e : _). IfErr e.result (λ r.
     StopsMigrating r old old (state c.args.disk) (state e.disk)))
     (sym c.unopened.ensures) (refused opens.refused
+    (calm_refused _ _ _ opens.calm)
     (λ s honest each. opened_throughout (state c.args.disk) (state c.in-Err.refused.disk) (IsOf s)
     (g.met.D.Disk.sound c.args.disk (opens.keeps_refused.was_honest honest)) each
     (opens.still_refused honest))
@@ -81,13 +83,18 @@ returns-in-Err-migrate-clause-refused g c =
     let old = g.W.Write.contents c.args.writer.now in
     let under = migrates_under state c.args.disk server after g.met.D.Disk.sound opens.keeps
     opens.opened opens.still opens.going calls.keeps calls.any_moment in
+    let calm : IsCalm c.in-Err-migrate.refusal start (state after.disk) = λ other.
+    elim calls.untouched [
+      | inl is ↦ absurd (other is)
+      | inr same ↦ ap (λ s. (state s.disk).failures) same ∙ opens.calm
+    ] in
     subst (λ d. StopsMigrating c.in-Err-migrate.refusal old old start (state d))
     (sym c.into_disk-in-Err-migrate.ensures) (elim calls.refused [
       | halted on is view same ↦ absurd (cc (on, opens.going))
-      | no_memory off is view same ↦ refused (no_room is) under
+      | no_memory off is view same ↦ refused (no_room is) calm under
           (λ other honest. still_unchanged _ _ _ (opens.still (calls.keeps.was_honest honest)) same)
           (Keeps-refl _)
       | failed off is rises view ↦ refused
-          (device is (rises_later _ _ _ opens.later calls.later rises)) under
+          (device is (rises_later _ _ _ opens.later calls.later rises)) calm under
           (λ other. absurd (other is)) (Keeps-refl _)
     ])

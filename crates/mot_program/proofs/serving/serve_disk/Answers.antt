@@ -1,11 +1,11 @@
-use Rattle.std.proofs.Common.{ap, inl, inr, subst, sym}
+use Rattle.std.proofs.Common.{◌≡◌, ap, inl, inr, subst, sym}
 use Rattle.std.specs.Prelude.{IfErr}
 use Rattle.disk_store.specs.Disk.{IsStill}
 use Rattle.mot_lines.specs.Lines.{whole_lines, lines_of}
 use Rattle.mot_session.specs.Served.{Served, Stopped}
 use Rattle.mot_program.specs.Serving.{ServesInput, StopsServing}
 use Rattle.mot_program.specs.Serving.StopsServing.{no_memory, unopened, unread, unwritten}
-use Rattle.mot_program.proofs.Ends.{fault-cases}
+use Rattle.mot_program.proofs.Ends.{calm_refused, fault-cases}
 use Rattle.mot_program.proofs.Opened.{opens_to}
 use Rattle.mot_program.proofs.serving.serve_disk.Goals as goal
 use Rattle.std.proofs.KnownBytes.{Keeps-refl}
@@ -18,7 +18,7 @@ returns-in-Err-clause-refused g c =
     let old = g.W.Write.contents c.args.writer.now in
     subst (λ (e : _). IfErr e.result (λ r.
     StopsServing r remains remains old old (state c.args.disk) (state e.disk)))
-    (sym c.unopened.ensures) (unopened opens.refused (record {
+    (sym c.unopened.ensures) (unopened opens.refused (calm_refused _ _ _ opens.calm) (record {
       kept = Keeps-refl _;
       silent = Keeps-refl _;
       still = opens.still_refused;
@@ -62,7 +62,8 @@ returns-in-Some-clause-refused g c =
     (sym c.into_disk-disk.ensures)
     (fault-cases _ c.serve-fault.result.fault c.in-Some.refusal c.in-Some.is calls.faults
     (λ is e. let r = calls.none e in
-    no_memory is (record {
+    no_memory is (λ other. subst (λ (d : _). (state d).failures ≡ (state c.args.disk).failures)
+    (sym (ap (λ s. s.disk) r.1)) opens.calm) (record {
       kept = r.2;
       silent = r.3;
       still = subst (λ (d : _). (state d).IsHonest → IsStill (state c.args.disk) (state d))
