@@ -68,3 +68,18 @@ pub fn feed<D: Disk, O: Outlet, U: Update>(
     }
     Ok(())
 }
+
+/// No updates: the carousel is played as it is.
+#[derive(Clone, Copy, Debug)]
+pub struct NoUpdate;
+
+impl Update for NoUpdate {
+    fn update<D: Disk>(
+        &mut self,
+        _server: &mut Server<D>,
+        _alloc: Global,
+        _between_turns: bool,
+    ) -> Result<(), Refusal> {
+        Ok(())
+    }
+}

@@ -1,7 +1,7 @@
 //! A folder of files, as a source of wanted objects.
 ghost use Rattle.std.specs.Prelude.{◌≡◌, ◌<◌, ◌≤◌, Some, IfOk, length, slice_get, vec_len};
 
-use crate::listing::{FileNames, joined, list};
+use crate::listing::{FileNames, joined};
 use crate::report::Report;
 use crate::suffix::kind_of_name;
 use mot_base::Refusal;
@@ -10,38 +10,36 @@ use mot_server::Attempt;
 use mot_update::{Settled, Source, Wanted};
 use std::alloc::Global;
 use std::fs::{File, OpenOptions};
-use std::io::{self, Read};
+use std::io::Read;
 use std::rt::Files;
 use std::str::from_utf8;
 
 /// The files of a folder as they were listed. Each is read when its turn comes; one that can't be
 /// taken is told, and its object stays as it is.
 #[derive(Drop)]
-pub struct Folder<'a, T: Files<File = File>> {
+pub(crate) struct Folder<'a, T: Files<File = File>> {
     rt: &'a T,
     path: &'a str,
     names: FileNames,
     place: usize,
-    /// What is told of it.
-    pub report: Report,
+    report: Report,
 }
 
 impl<'a, T: Files<File = File>> Folder<'a, T> {
-    /// Lists the folder at the path.
-    pub fn list(
-        rt: &'a T,
-        alloc: Global,
-        path: &'a str,
-        mut report: Report,
-    ) -> io::Result<Folder<'a, T>> {
-        let names = list(rt, alloc, path, &mut report)?;
-        Ok(Folder {
+    /// The files of these names, none of which was read.
+    pub fn new(rt: &'a T, path: &'a str, names: FileNames, report: Report) -> Folder<'a, T> {
+        Folder {
             rt,
             path,
             names,
             place: 0,
             report,
-        })
+        }
+    }
+
+    /// What was told of it.
+    pub fn into_report(self) -> Report {
+        self.report
     }
 
     /// Reads the file of the name at this place.

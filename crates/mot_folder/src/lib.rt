@@ -3,9 +3,10 @@
 
 mod folder;
 mod listing;
+mod looking;
 mod report;
 mod suffix;
 
-pub use folder::Folder;
+pub use looking::{Looks, look_at_folder};
 pub use report::Report;
 pub use suffix::{Kind, kind_of_name};

@@ -11,6 +11,8 @@ use std::alloc::{AllocError, Global};
 const NOTES: &str = "\
 Options of memory and format: --objects N, --data N, --segment N, --address N, --packet N
 
+On air: motcar play DISK PACKETS, motcar sync DISK DIR, motcar export DISK (--help of each tells more)
+
 The lines that motcar reads and its replies are told in docs/FORMATS.md, how to run it in
 docs/OPERATING.md.
 Exit status: 0 where all was done that was asked for, 1 after a refusal that is printed to

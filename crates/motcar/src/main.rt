@@ -2,6 +2,7 @@
 #![tactic(auto)]
 
 use disk_store::Unknown;
+use mot_air::{is_air, run_air};
 use mot_base::Refusal;
 use mot_program::run_program;
 use std::fs::File;
@@ -30,6 +31,9 @@ fn run(rt: &HostRuntime) -> io::Result<u8> {
     let mut reader = rt.reader();
     let mut writer = BufWriter::with_capacity(alloc, BUFFER, io::writer(rt))?;
     let mut errors = rt.stderr();
+    if !words.is_empty() && is_air(words[0].as_str()) {
+        return Ok(run_air(rt, alloc, words.as_slice(), writer, &mut errors));
+    }
     Ok(run_program(
         rt,
         alloc,

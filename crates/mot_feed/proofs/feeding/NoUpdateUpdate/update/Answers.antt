@@ -1,0 +1,15 @@
+use Rattle.std.proofs.Common.{None, [], refl}
+use Rattle.mot_update.proofs.Runs.{has_read}
+use Rattle.mot_feed.proofs.Sent.{stays_same}
+use Rattle.mot_feed.proofs.feeding.NoUpdateUpdate.update.Goals as goal
+
+pub returns-clause-run : goal.returns-clause-run
+returns-clause-run g c = λ s holds honest.
+    let old = c.args._server.now in
+    let state = g.D.Disk.state old.disk in
+    record {
+      commands = [];
+      marks = [];
+      run = (has_read old old state state s None (g.met.D.Disk.sound old.disk honest) refl refl
+          honest (stays_same state) holds).0;
+    }

@@ -1,0 +1,47 @@
+use Rattle.std.proofs.Common.{◌≡◌, Option, None, [], refl, sym, subst}
+use Rattle.disk_store.specs.Disk.{State}
+use Rattle.mot_base.specs.declared.refusal.Refusal.{Refusal}
+use Rattle.mot_feed.specs.Feeding.{IsUpdating, fault_of}
+use Rattle.mot_folder.specs.Looked.{HasLookedAtFolder, listed, unlisted}
+use Rattle.mot_journal.specs.Image.{Standing}
+use Rattle.mot_server.specs.Server.{ServerView}
+use Rattle.mot_update.proofs.Runs.{has_read}
+use Rattle.mot_update.proofs.Still.{stays_same}
+use Rattle.mot_folder.proofs.looking.LooksUpdate.update.Goals as goal
+
+-- a look runs commands
+updating_by : {D : Type 0} (old new : ServerView D) (start now : State) (s : Standing)
+    (fault : Option Refusal) → HasLookedAtFolder old new start now s fault
+    → IsUpdating old new start now s fault
+updating_by old new start now s fault (unlisted none run) =
+    subst (λ f. IsUpdating old new start now s f) (sym none)
+    (record { commands = []; marks = []; run = run })
+updating_by old new start now s fault (listed names looked) =
+    record { commands = looked.runs.commands; marks = looked.runs.marks; run = looked.runs.run }
+
+pub returns-then-not-between_turns-clause-run : goal.returns-then-not-between_turns-clause-run
+returns-then-not-between_turns-clause-run g c = λ s holds honest.
+    let old = c.args.server.now in
+    let state = g.D.Disk.state old.disk in
+    record {
+      commands = [];
+      marks = [];
+      run = (has_read old old state state s None (g.met.D.Disk.sound old.disk honest) refl refl
+          honest (stays_same state) holds).0;
+    }
+
+pub returns-then-not-is_empty-clause-run : goal.returns-then-not-is_empty-clause-run
+returns-then-not-is_empty-clause-run g c = λ s holds honest.
+    let state = g.D.Disk.state in
+    let old = c.args.server.now in
+    let new = c.look_at_folder-result.new.server in
+    updating_by old new (state old.disk) (state new.disk) s
+    (fault_of c.look_at_folder-result.result) (c.look_at_folder-result.ensures.looked s holds honest)
+
+pub returns-else-not-is_empty-clause-run : goal.returns-else-not-is_empty-clause-run
+returns-else-not-is_empty-clause-run g c = λ s holds honest.
+    let state = g.D.Disk.state in
+    let old = c.args.server.now in
+    let new = c.look_at_folder-result.new.server in
+    updating_by old new (state old.disk) (state new.disk) s
+    (fault_of c.look_at_folder-result.result) (c.look_at_folder-result.ensures.looked s holds honest)
