@@ -1,3 +1,5 @@
+ghost use Rattle.std.specs.Prelude.{◌≡◌, ◌⊎◌, ◌↔◌, IsTrue, codes};
+
 use crate::command::command;
 use crate::exporting::export_disk;
 use crate::playing::{play_disk, sync_disk};
@@ -12,7 +14,10 @@ use std::io::Write;
 use std::rt::Files;
 
 /// Whether the word is one of these commands.
-pub fn is_air(word: &str) -> bool {
+pub fn is_air(word: &str) -> bool
+    ensures { IsTrue result ↔ (word.now ≡ codes "play") ⊎ (word.now ≡ codes "sync")
+        ⊎ (word.now ≡ codes "export") }
+{
     word == "play" || word == "sync" || word == "export"
 }
 
