@@ -1,10 +1,8 @@
 mod commands;
 mod failing;
 mod halting;
-mod once;
 mod playing;
 mod receiving;
-mod sizes;
 mod stops;
 mod streams;
 

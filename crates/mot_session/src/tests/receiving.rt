@@ -107,7 +107,7 @@ fn digit(number: u8) -> u8 {
 }
 
 /// The line that puts an object of these bytes.
-pub fn put_line(alloc: Global, name: &[u8], body: &[u8]) -> Result<Vec<u8>, Fail> {
+fn put_line(alloc: Global, name: &[u8], body: &[u8]) -> Result<Vec<u8>, Fail> {
     let mut line = Vec::from_slice(alloc, b"put ")?;
     line.extend_from_slice(name)?;
     line.extend_from_slice(b" 2 3 - ")?;
@@ -138,7 +138,7 @@ fn withdraw_line(alloc: Global, name: &[u8]) -> Result<Vec<u8>, Fail> {
 }
 
 /// So many bytes, of which neighbours differ.
-pub fn bytes_of(alloc: Global, count: u32) -> Result<Vec<u8>, Refusal> {
+fn bytes_of(alloc: Global, count: u32) -> Result<Vec<u8>, Refusal> {
     let mut bytes = Vec::new(alloc);
     for at in 0..count {
         bytes.push((at / 64 % 241 + at % 7) as u8)?;
