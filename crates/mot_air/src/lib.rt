@@ -3,10 +3,16 @@
 #![tactic(auto)]
 
 mod command;
+mod ended;
 mod exporting;
 mod playing;
 mod program;
+mod task;
+mod used;
 
+pub use ended::Ended;
 pub use exporting::export_disk;
-pub use playing::{play_disk, sync_disk};
-pub use program::{is_air, run_air};
+pub use playing::{play_disk, play_with, sync_disk};
+pub use program::{is_air, run_air, run_air_on};
+pub use task::Task;
+pub use used::{AirDisk, AirExit};

@@ -1,7 +1,16 @@
 //! Playing a disk, and making its carousel equal to a folder.
+ghost use Rattle.std.specs.Prelude.{◌≤◌, true, IfErr, IfOk, OnOk, MatchResult};
+ghost use Rattle.disk_store.specs.Disk.{KeepsLength};
+ghost use Rattle.mot_air.specs.Playing.{Plays, StopsPlaying};
+ghost use Rattle.mot_air.specs.Syncing.{StopsSyncing, Syncs};
+ghost use Rattle.mot_air.specs.Inner.Looked.{LooksAndTells};
+ghost use Rattle.mot_journal.specs.Image.{Standing};
+ghost use Rattle.mot_repository.specs.Repository.{Holds};
+
+use crate::Ended;
 use disk_store::Disk;
 use mot_base::Refusal;
-use mot_feed::{NoUpdate, Outlet, feed};
+use mot_feed::{NoUpdate, Outlet, Update, feed};
 use mot_folder::{Looks, Report, look_at_folder};
 use mot_server::Server;
 use std::alloc::Global;
@@ -11,7 +20,7 @@ use std::rt::Files;
 
 /// Opens the disk and plays it into the outlet, so many turns, with looks at the folder between
 /// turns where there is one. What is told of the looks is written to the log.
-pub fn play_disk<T: Files<File = File>, D: Disk + Drop, O: Outlet, L: Write + Drop>(
+pub fn play_disk<T: Files<File = File>, D: Disk, O: Outlet, L: Write + Drop>(
     rt: &T,
     alloc: Global,
     disk: D,
@@ -19,38 +28,97 @@ pub fn play_disk<T: Files<File = File>, D: Disk + Drop, O: Outlet, L: Write + Dr
     folder: Option<&str>,
     log: L,
     turns: u64,
-) -> Result<(), Refusal> {
-    let mut server = match Server::open(alloc, disk) {
-        Ok(server) => server,
-        Err(refused) => return Err(refused.refusal),
-    };
+) -> Ended<D, ()>
+    ensures keeps { KeepsLength (D.state disk) (D.state result.disk) }
+    ensures done { OnOk result.result (Plays true turns (O.writes outlet.old) (O.writes outlet.new)
+        (D.state disk) (D.state result.disk)) }
+    ensures refused { IfErr result.result (λ r. StopsPlaying r true
+        (O.writes outlet.old) (O.writes outlet.new) (D.state disk) (D.state result.disk)) }
+{
     match folder {
         Some(path) => {
             let mut looks = Looks::new(rt, alloc, path, log);
-            feed(&mut server, alloc, &mut looks, outlet, turns)
+            play_with(alloc, disk, &mut looks, outlet, turns)
         }
-        None => feed(&mut server, alloc, &mut NoUpdate, outlet, turns),
+        None => play_with(alloc, disk, &mut NoUpdate, outlet, turns),
+    }
+}
+
+/// Opens the disk and plays it into the outlet, so many turns, with these updates before the first
+/// packet and behind each.
+pub fn play_with<D: Disk, U: Update, O: Outlet>(
+    alloc: Global,
+    disk: D,
+    update: &mut U,
+    outlet: &mut O,
+    turns: u64,
+) -> Ended<D, ()>
+    ensures keeps { KeepsLength (D.state disk) (D.state result.disk) }
+    ensures done { OnOk result.result (Plays U.waits turns
+        (O.writes outlet.old) (O.writes outlet.new) (D.state disk) (D.state result.disk)) }
+    ensures refused { IfErr result.result (λ r. StopsPlaying r U.waits
+        (O.writes outlet.old) (O.writes outlet.new) (D.state disk) (D.state result.disk)) }
+{
+    let mut server = match Server::open(alloc, disk) {
+        Ok(server) => server,
+        Err(refused) => return Ended::unopened(refused),
+    };
+    // Its sizes are in their ranges: each packet has room.
+    let _ = server.geometry();
+    let result = feed(&mut server, alloc, update, outlet, turns);
+    Ended {
+        disk: server.into_disk(),
+        result,
     }
 }
 
 /// Opens the disk and makes its carousel equal to the folder; whether nothing was refused. What is
 /// told of the look is written to the log.
-pub fn sync_disk<T: Files<File = File>, D: Disk + Drop, L: Write>(
+pub fn sync_disk<T: Files<File = File>, D: Disk, L: Write>(
     rt: &T,
     alloc: Global,
     disk: D,
     folder: &str,
     log: &mut L,
-) -> Result<bool, Refusal> {
+) -> Ended<D, bool>
+    ensures keeps { KeepsLength (D.state disk) (D.state result.disk) }
+    ensures done { IfOk result.result (λ all. Syncs all (D.state disk) (D.state result.disk)) }
+    ensures refused { IfErr result.result (λ r.
+        StopsSyncing r (D.state disk) (D.state result.disk)) }
+{
     let mut server = match Server::open(alloc, disk) {
         Ok(server) => server,
-        Err(refused) => return Err(refused.refusal),
+        Err(refused) => return Ended::unopened(refused),
     };
+    // Its sizes are in their ranges.
+    let _ = server.geometry();
+    let result = look_and_tell(rt, alloc, &mut server, folder, log);
+    Ended {
+        disk: server.into_disk(),
+        result,
+    }
+}
+
+/// Looks at the folder once, and writes what is told of it to the log; whether nothing was refused.
+fn look_and_tell<T: Files<File = File>, D: Disk, L: Write>(
+    rt: &T,
+    alloc: Global,
+    server: &mut Server<D>,
+    folder: &str,
+    log: &mut L,
+) -> Result<bool, Refusal>
+    ensures keeps { KeepsLength (D.state server.old.disk) (D.state server.new.disk) }
+    ensures looked { (s : Standing) → Holds server.old.view s (D.state server.old.disk)
+        → (D.state server.new.disk).IsHonest
+        → LooksAndTells server.old server.new (D.state server.old.disk)
+        (D.state server.new.disk) s result }
+{
     let mut report = Report::new(alloc);
-    let result = look_at_folder(rt, alloc, &mut server, folder, &mut report);
-    if log.write_all(report.lines.as_slice()).is_err() || log.flush().is_err() {
+    let looked = look_at_folder(rt, alloc, server, folder, &mut report);
+    let told = log.write_all(report.lines.as_slice()).is_ok() && log.flush().is_ok();
+    looked?;
+    if !told {
         return Err(Refusal::WriteFault);
     }
-    result?;
     Ok(!report.any_refused)
 }

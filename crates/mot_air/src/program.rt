@@ -1,13 +1,30 @@
-ghost use Rattle.std.specs.Prelude.{◌≡◌, ◌⊎◌, ◌↔◌, IsTrue, codes};
+ghost use Rattle.std.specs.Prelude.{◌≡◌, ◌≢◌, ◌⊎◌, ◌↔◌, Option, map, true, false, IfErr, IfOk, IsTrue};
+ghost use Rattle.std.specs.Prelude.{None, Ok, Some, codes};
+ghost use Rattle.std.specs.Io.KnownBytes.{Keeps};
+ghost use Rattle.clap.specs.Words.{kind_of};
+ghost use Rattle.mot_air.specs.Exporting.{Exports, StopsExporting};
+ghost use Rattle.mot_air.specs.Playing.{Plays, StopsPlaying};
+ghost use Rattle.mot_air.specs.Program.{Does, DoesInPart, IsBeginningRefusal, IsRefused, IsUntold};
+ghost use Rattle.mot_air.specs.Program.{IsUntouched, OnOpened, Succeeds, turns_of};
+ghost use Rattle.mot_air.specs.Syncing.{StopsSyncing, Syncs};
+ghost use Rattle.mot_air.specs.Task.{AreWrong};
+ghost use Rattle.mot_air.specs.declared.used.AirDisk.{AirDisk};
+ghost use Rattle.mot_air.specs.declared.used.AirDisk.TheVariants.{Untouched};
+ghost use Rattle.mot_base.specs.declared.refusal.Refusal.{Refusal};
+ghost use Rattle.mot_base.specs.declared.refusal.Refusal.TheVariants.{DeviceFault, OutOfMemory};
+ghost use Rattle.mot_base.specs.declared.refusal.Refusal.TheVariants.{WriteFault};
 
 use crate::command::command;
 use crate::exporting::export_disk;
 use crate::playing::{play_disk, sync_disk};
-use clap::ArgMatches;
-use disk_store::{FileDiskFrom, Unknown};
+use crate::task::{Task, task_of};
+use crate::used::{AirDisk, AirExit, Finished};
+use clap::Error;
+use clap::error::ErrorKind;
+use disk_store::{FileDiskFrom, Start};
 use mot_base::Refusal;
 use mot_feed::Direct;
-use std::alloc::Global;
+use std::alloc::{AllocError, Global};
 use std::convert::AsStr;
 use std::fs::{File, OpenOptions};
 use std::io::Write;
@@ -21,109 +38,235 @@ pub fn is_air(word: &str) -> bool
     word == "play" || word == "sync" || word == "export"
 }
 
-/// Does what the words after the program's own name ask for, and answers the exit status: 0 where
-/// it was done, 1 after a refusal, 2 where a word is wrong. The log goes to `writer`.
-pub fn run_air<S: AsStr, W: Write + Drop, E: Write>(
+/// Does what the words after the program's own name ask for, and answers the exit status, as
+/// `run_air_on` does.
+pub fn run_air<S: AsStr, B: Start, W: Write, E: Write>(
     rt: &HostRuntime,
     alloc: Global,
     words: &[S],
-    mut writer: W,
+    start: B,
+    writer: &mut W,
     errors: &mut E,
-) -> u8 {
-    let Ok(command) = command(alloc) else {
-        return refused(errors, Refusal::OutOfMemory);
+) -> u8
+    ensures status { (result ≡ 0) ⊎ (result ≡ 1) ⊎ (result ≡ 2) }
+    ensures done { result ≡ 0 → (disk : AirDisk B B.Start) × Succeeds (map S.text words.now) disk
+        (W.contents writer.old) (W.contents writer.new) }
+    ensures refused { result ≡ 1 → (disk : AirDisk B B.Start) × (refusal : Option Refusal)
+        × IsRefused (map S.text words.now) refusal disk
+        (W.contents writer.old) (W.contents writer.new) }
+    ensures usage { result ≡ 2 → AreWrong (map S.text words.now)
+        × Keeps (W.contents writer.old) (W.contents writer.new) }
+{
+    run_air_on(rt, alloc, words, start, writer, errors).status
+}
+
+/// Does what the words after the program's own name ask for, and hands out the disk that it worked
+/// on. The log goes to `writer`; what went wrong is printed to `errors`.
+///
+/// `start` is for clauses alone: what the file of the disk held as it was opened. A program gives
+/// `Unknown`.
+pub fn run_air_on<S: AsStr, B: Start, W: Write, E: Write>(
+    rt: &HostRuntime,
+    alloc: Global,
+    words: &[S],
+    start: B,
+    writer: &mut W,
+    errors: &mut E,
+) -> AirExit<B>
+    ensures status { (result.status ≡ 0) ⊎ (result.status ≡ 1) ⊎ (result.status ≡ 2) }
+
+    // The words asked for a task, and it was done; or they asked for help.
+    ensures done { result.status ≡ 0 → Succeeds (map S.text words.now) result.disk
+        (W.contents writer.old) (W.contents writer.new) }
+
+    // What this refusal left of the disk that is handed out.
+    ensures refused { result.status ≡ 1 → IsRefused (map S.text words.now) result.refusal
+        result.disk (W.contents writer.old) (W.contents writer.new) }
+    ensures usage { result.status ≡ 2 → AreWrong (map S.text words.now)
+        × IsUntouched result.disk × Keeps (W.contents writer.old) (W.contents writer.new) }
+{
+    let command = match command(alloc) {
+        Ok(command) => command,
+        Err(AllocError) => {
+            return refuse(errors, Refusal::OutOfMemory, AirDisk::Untouched(start));
+        }
     };
     let matches = match command.try_get_matches_from(words) {
         Ok(matches) => matches,
-        Err(error) => {
-            if error.use_stderr() {
-                let _ = write!(errors, "{}", error);
-                return 2;
-            }
-            let _ = write!(writer, "{}", error);
-            let _ = writer.flush();
-            return 0;
-        }
+        Err(error) => return explain(writer, errors, &error, start),
     };
     let Some((name, rest)) = matches.subcommand() else {
-        return 2;
+        return AirExit::unrefused(2, AirDisk::Untouched(start));
     };
-    let result = match name {
-        "sync" => sync(rt, alloc, rest, &mut writer),
-        "export" => export(rt, alloc, rest, &mut writer),
-        _ => play(rt, alloc, rest, writer),
+    let Some(task) = task_of(name, rest) else {
+        return refuse(errors, Refusal::BadNumber, AirDisk::Untouched(start));
     };
+    let Finished { result, disk } = execute(rt, alloc, task, start, writer);
     match result {
-        Ok(true) => 0,
-        Ok(false) => 1,
-        Err(refusal) => refused(errors, refusal),
+        Ok(true) => AirExit::unrefused(0, disk),
+        Ok(false) => AirExit::unrefused(1, disk),
+        Err(refusal) => refuse(errors, refusal, disk),
     }
 }
 
-/// Prints why, and answers the status.
-fn refused<E: Write>(errors: &mut E, refusal: Refusal) -> u8 {
-    let _ = writeln!(errors, "motcar: {}", refusal);
-    1
-}
-
-/// Does `sync`.
-fn sync<W: Write>(
-    rt: &HostRuntime,
-    alloc: Global,
-    words: &ArgMatches<'_>,
+/// Prints what is wrong with the words, or the help that they ask for.
+fn explain<B: Start, W: Write, E: Write>(
     writer: &mut W,
-) -> Result<bool, Refusal> {
-    let (Some(disk), Some(folder)) = (words.get_str("DISK"), words.get_str("DIR")) else {
-        return Err(Refusal::BadLine);
-    };
-    sync_disk(rt, alloc, open(rt, disk)?, folder, writer)
+    errors: &mut E,
+    error: &Error,
+    start: B,
+) -> AirExit<B>
+    ensures status { (result.status ≡ 0) ⊎ (result.status ≡ 1) ⊎ (result.status ≡ 2) }
+    ensures untouched { result.disk ≡ Untouched start }
+    ensures help { result.status ≡ 0 → kind_of error.now ≡ ErrorKind.DisplayHelp }
+    ensures usage { result.status ≡ 2 → (kind_of error.now ≢ ErrorKind.DisplayHelp)
+        × (kind_of error.now ≢ ErrorKind.OutOfMemory)
+        × Keeps (W.contents writer.old) (W.contents writer.new) }
+    ensures refused { result.status ≡ 1
+        → ((result.refusal ≡ Some OutOfMemory)
+        × Keeps (W.contents writer.old) (W.contents writer.new))
+        ⊎ ((result.refusal ≡ Some WriteFault) × (kind_of error.now ≡ ErrorKind.DisplayHelp)) }
+{
+    let kind = error.kind();
+    let disk = AirDisk::Untouched(start);
+    if kind == ErrorKind::OutOfMemory {
+        return refuse(errors, Refusal::OutOfMemory, disk);
+    }
+    if kind != ErrorKind::DisplayHelp {
+        let _ = write!(errors, "{error}");
+        return AirExit::unrefused(2, disk);
+    }
+    if write!(writer, "{error}").is_err() || writer.flush().is_err() {
+        return refuse(errors, Refusal::WriteFault, disk);
+    }
+    AirExit::unrefused(0, disk)
 }
 
-/// Does `export`.
-fn export<W: Write>(
+/// Ends a run by a refusal, and prints it.
+fn refuse<B: Start, E: Write>(errors: &mut E, refusal: Refusal, disk: AirDisk<B>) -> AirExit<B>
+    ensures { result ≡ record { status = 1; refusal = Some refusal; disk = disk } }
+{
+    let _ = writeln!(errors, "motcar: {refusal}");
+    AirExit {
+        status: 1,
+        refusal: Some(refusal),
+        disk,
+    }
+}
+
+/// Does a task.
+fn execute<B: Start, W: Write>(
     rt: &HostRuntime,
     alloc: Global,
-    words: &ArgMatches<'_>,
+    task: Task<'_>,
+    start: B,
     writer: &mut W,
-) -> Result<bool, Refusal> {
-    let Some(disk) = words.get_str("DISK") else {
-        return Err(Refusal::BadLine);
-    };
-    export_disk(alloc, open(rt, disk)?, writer)?;
-    Ok(true)
+) -> Finished<B>
+    ensures done { result.result ≡ Ok true → Does task.entry result.disk
+        (W.contents writer.old) (W.contents writer.new) }
+    ensures told { result.result ≡ Ok false → DoesInPart task.entry None result.disk
+        (W.contents writer.old) (W.contents writer.new) }
+    ensures refused { IfErr result.result (λ r. (IsBeginningRefusal task.entry r
+        × IsUntold result.disk (W.contents writer.old) (W.contents writer.new))
+        ⊎ DoesInPart task.entry (Some r) result.disk
+        (W.contents writer.old) (W.contents writer.new)) }
+{
+    match task {
+        Task::Play {
+            disk,
+            packets,
+            folder,
+            turns,
+        } => play_file(rt, alloc, disk, packets, folder, turns, start, writer),
+        Task::Sync { disk, folder } => sync_file(rt, alloc, disk, folder, start, writer),
+        Task::Export(disk) => export_file(rt, alloc, disk, start, writer),
+    }
 }
 
-/// Does `play`.
-fn play<W: Write + Drop>(
+/// Plays the disk of the file at the path into the pipe or device at the other.
+fn play_file<B: Start, W: Write>(
     rt: &HostRuntime,
     alloc: Global,
-    words: &ArgMatches<'_>,
-    writer: W,
-) -> Result<bool, Refusal> {
-    let (Some(disk), Some(packets)) = (words.get_str("DISK"), words.get_str("PACKETS")) else {
-        return Err(Refusal::BadLine);
+    path: &str,
+    packets: &str,
+    folder: Option<&str>,
+    turns: Option<u32>,
+    start: B,
+    log: &mut W,
+) -> Finished<B>
+    ensures done { result.result ≡ Ok true
+        → OnOpened (Plays true (turns_of turns) None None) result.disk }
+    ensures told { result.result ≢ Ok false }
+    ensures refused { IfErr result.result (λ r. (((r ≡ DeviceFault) ⊎ (r ≡ WriteFault))
+        × IsUntold result.disk (W.contents log.old) (W.contents log.new))
+        ⊎ OnOpened (StopsPlaying r true None None) result.disk) }
+{
+    let Ok(writer) = open_packets(rt, packets) else {
+        return Finished::untouched(Refusal::WriteFault, start);
     };
-    let turns = match words.get_str("turns") {
-        Some(number) => match number.parse::<u32>() {
-            Ok(number) => number as u64,
-            Err(_) => return Err(Refusal::BadNumber),
-        },
+    let mut outlet = Direct { writer };
+    match FileDiskFrom::open_from(rt, path, start) {
+        Ok(disk) => Finished::done(play_disk(
+            rt,
+            alloc,
+            disk,
+            &mut outlet,
+            folder,
+            log,
+            turns_of(turns),
+        )),
+        Err(unopened) => Finished::untouched(Refusal::DeviceFault, unopened.start),
+    }
+}
+
+/// So many turns; as good as without end, where no number is given.
+fn turns_of(turns: Option<u32>) -> u64
+    ensures { result ≡ turns_of turns }
+{
+    match turns {
+        Some(turns) => turns as u64,
         None => u64::MAX,
-    };
-    let disk = open(rt, disk)?;
-    let mut outlet = Direct {
-        writer: open_packets(rt, packets)?,
-    };
-    let folder = words.get_str("folder");
-    play_disk(rt, alloc, disk, &mut outlet, folder, writer, turns)?;
-    Ok(true)
+    }
 }
 
-/// Opens the file of a disk.
-fn open(rt: &HostRuntime, path: &str) -> Result<FileDiskFrom<Unknown>, Refusal> {
-    match FileDiskFrom::open_from(rt, path, Unknown) {
-        Ok(disk) => Ok(disk),
-        Err(_) => Err(Refusal::DeviceFault),
+/// Makes the carousel of the disk of the file at the path equal to a folder.
+fn sync_file<B: Start, W: Write>(
+    rt: &HostRuntime,
+    alloc: Global,
+    path: &str,
+    folder: &str,
+    start: B,
+    log: &mut W,
+) -> Finished<B>
+    ensures done { IfOk result.result (λ all. OnOpened (Syncs all) result.disk) }
+    ensures refused { IfErr result.result (λ r. ((r ≡ DeviceFault)
+        × IsUntold result.disk (W.contents log.old) (W.contents log.new))
+        ⊎ OnOpened (StopsSyncing r) result.disk) }
+{
+    match FileDiskFrom::open_from(rt, path, start) {
+        Ok(disk) => Finished::of_file(sync_disk(rt, alloc, disk, folder, log)),
+        Err(unopened) => Finished::untouched(Refusal::DeviceFault, unopened.start),
+    }
+}
+
+/// Prints the carousel of the disk of the file at the path as lines.
+fn export_file<B: Start, W: Write>(
+    rt: &HostRuntime,
+    alloc: Global,
+    path: &str,
+    start: B,
+    writer: &mut W,
+) -> Finished<B>
+    ensures done { result.result ≡ Ok true
+        → OnOpened (Exports (W.contents writer.old) (W.contents writer.new)) result.disk }
+    ensures told { result.result ≢ Ok false }
+    ensures refused { IfErr result.result (λ r. ((r ≡ DeviceFault)
+        × IsUntold result.disk (W.contents writer.old) (W.contents writer.new))
+        ⊎ OnOpened (StopsExporting r (W.contents writer.old) (W.contents writer.new)) result.disk) }
+{
+    match FileDiskFrom::open_from(rt, path, start) {
+        Ok(disk) => Finished::done(export_disk(alloc, disk, writer)),
+        Err(unopened) => Finished::untouched(Refusal::DeviceFault, unopened.start),
     }
 }
 

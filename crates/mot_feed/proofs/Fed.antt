@@ -1,212 +1,586 @@
 -- Updates and packets, one after the other.
-use Rattle.std.proofs.Common.{◌≡◌, ℕ, Bool, List, [], ◌∷◌, ◌++◌, length, map, replicate, Option, Some, None, Result, Ok, Err, ◌+◌, refl, sym, ap, ◌∙◌, subst, arith, length-append, append-nil}
+use Rattle.std.proofs.Common.{◌≡◌, ℕ, zero, suc, ◌+◌, ◌-◌, Bool, true, false, ◌&&◌, List, []}
+use Rattle.std.proofs.Common.{◌∷◌, ◌++◌, length, map, Option, Some, None, Result, Ok, Err, refl, sym, ap}
+use Rattle.std.proofs.Common.{◌∙◌, subst, arith, length-append, append-nil, inl, inr}
 use Rattle.std.proofs.lemmas.List.{map-append}
+use Rattle.std.specs.Prelude.{◌⊎◌, if◌then◌else◌}
 use Rattle.disk_store.specs.Disk.{State, IsHonestDisk, IsUnchanged}
-use Rattle.mot_base.specs.Reading.{◌>>=◌, read_each}
+use Rattle.mot_base.specs.Reading.{◌>>=◌}
 use Rattle.mot_base.proofs.Laws.{read_each-append}
+use Rattle.mot_base.specs.declared.geometry.Geometry.{Geometry}
 use Rattle.mot_base.specs.declared.refusal.Refusal.{Refusal}
+use Rattle.mot_carousel.specs.Carousel.{Carousel, carousel_after, carousel_if_accepted, change}
 use Rattle.mot_carousel.specs.declared.command.Command.{Command}
-use Rattle.mot_feed.specs.Feeding.{FedPacketsAreContinuous, Feeds, FeedsPart, HasFed, HasSent, IsUpdating}
+use Rattle.mot_feed.specs.Feeding.{AreOf, Event, FedPacketsAreContinuous, Feeds, FeedsPart, Happen}
+use Rattle.mot_feed.specs.Feeding.{HasFed, IsUpdating, accepted_in, are_uncut, has_ended, may_change}
+use Rattle.mot_feed.specs.Feeding.{sents_in, turns_in}
+use Rattle.mot_feed.specs.Feeding.Event.{Accepted, Played}
 use Rattle.mot_feed.specs.Sending.{SendsOne}
 use Rattle.mot_feed.specs.Sending as one
 use Rattle.mot_feed.specs.Writing.{Grows, GrowsPart}
 use Rattle.mot_feed.specs.Writing as part
 use Rattle.mot_feed.proofs.Grown.{grows_nil, grows_trans, grows_kept, part_after}
-use Rattle.mot_feed.proofs.Sent.{sends_none, sends_more, sends_part}
+use Rattle.mot_feed.proofs.Sent.{not_fine}
 use Rattle.mot_journal.specs.Image.{Standing}
 use Rattle.mot_packets.specs.Packet.{PacketFields, read_packet}
 use Rattle.mot_packets.specs.Written.{bytes_of_packet}
 use Rattle.mot_player.proofs.Laws.{steps-are-continuous}
-use Rattle.mot_player.specs.Place.{Place, Sent, Step, Request, NewTurn, change_turn, request, sent_by}
+use Rattle.mot_player.specs.Laws.{AreSent, IsStep}
+use Rattle.mot_player.specs.Place.{Place, Sent, Step, Request, NewTurn, change_turn, opened_place}
+use Rattle.mot_player.specs.Place.{sent_by}
 use Rattle.mot_player.specs.Turn.{turn_of_carousel}
 use Rattle.mot_repository.specs.Repository.{Holds, RepositoryView}
-use Rattle.mot_server.specs.Playing.{HasPlayed}
-use Rattle.mot_server.specs.RunEnds.{RunLeaves, place_behind}
+use Rattle.mot_server.specs.RunEnds.{place_behind}
 use Rattle.mot_server.specs.Runs.{accepted_commands}
 use Rattle.mot_server.specs.Server.{ServerView, place_in}
-use Rattle.mot_server.proofs.Laws.{runs_join, reads_leave}
+use Rattle.mot_server.proofs.Laws.{accepted-join, reads_leave, runs_join}
 use Rattle.mot_update.specs.HasRun.{HasRun}
 
--- ---- steps
+-- ---- events in a row
 
-abbrev Sendings : Type 0
-Sendings = List Sent × Place
+happen-join : (limit size : ℕ) (c mid last : Carousel) (place between new : Place)
+    (events others : List Event) → Happen limit size c place events mid between
+    → Happen limit size mid between others last new
+    → Happen limit size c place (events ++ others) last new
+happen-join limit size c mid last place between new [] others one two =
+    subst (λ (p : Place). Happen limit size c p others last new) (sym one.1)
+    (subst (λ (k : Carousel). Happen limit size k between others last new) (sym one.0) two)
+happen-join limit size c mid last place between new (Played sent ∷ events) others one two =
+    (one.0, happen-join limit size c mid last sent.place between new events others one.1 two)
+happen-join limit size c mid last place between new (Accepted command ∷ events) others one two = (
+  one.0,
+  one.1,
+  happen-join limit size one.0 mid last (change_turn (turn_of_carousel one.0 size) place) between
+      new events others one.2 two,
+)
 
-abbrev with_first : Sent → Sendings → Option Sendings
-with_first s p = Some (s ∷ p.0, p.1)
+accepted_in-append : (events others : List Event)
+    → accepted_in (events ++ others) ≡ accepted_in events ++ accepted_in others
+accepted_in-append [] others = refl
+accepted_in-append (Played sent ∷ events) others = accepted_in-append events others
+accepted_in-append (Accepted command ∷ events) others =
+    ap (λ l. command ∷ l) (accepted_in-append events others)
 
-abbrev IsThere : Option Sendings → Type 0
-IsThere None = ⊥
-IsThere (Some p) = Unit {0}
+sents_in-append : (events others : List Event)
+    → sents_in (events ++ others) ≡ sents_in events ++ sents_in others
+sents_in-append [] others = refl
+sents_in-append (Played sent ∷ events) others = ap (λ l. sent ∷ l) (sents_in-append events others)
+sents_in-append (Accepted command ∷ events) others = sents_in-append events others
 
-not_there : (p : Sendings) → None ≡ Some p → ⊥
-not_there p e = subst IsThere (sym e) tt
+ended-append : (ended : Bool) (events others : List Event)
+    → has_ended ended (events ++ others) ≡ has_ended (has_ended ended events) others
+ended-append ended [] others = refl
+ended-append ended (Played sent ∷ events) others = ended-append sent.ends_turn events others
+ended-append ended (Accepted command ∷ events) others = ended-append ended events others
 
-same_some : (a b : Sendings) → Some a ≡ Some b → a ≡ b
-same_some a b e = cc
+uncut-cases : (ended rest all : Bool) → (ended && rest) ≡ true → (rest ≡ true → all ≡ true)
+    → (ended && all) ≡ true
+uncut-cases true rest all is f = f is
+uncut-cases false rest all is f = is
 
-tail-cases : (s : Sent) (t u : Option Sendings) (sents more : List Sent) (mid new : Place) → (t >>= with_first s) ≡ Some (sents, mid)
-    → ((tail : List Sent) → t ≡ Some (tail, mid) → u ≡ Some (tail ++ more, new)) → (u >>= with_first s) ≡ Some (sents ++ more, new)
-tail-cases s None u sents more mid new e h = absurd (not_there (sents, mid) e)
-tail-cases s (Some (tail, place)) u sents more mid new e h =
-    let same = same_some (s ∷ tail, place) (sents, mid) e in
-    ap (λ (o : Option Sendings). o >>= with_first s) (h tail (ap (λ (q : Place). Some (tail, q)) (ap (λ (p : Sendings). p.1) same)))
-    ∙ ap (λ (l : List Sent). Some (l ++ more, new)) (ap (λ (p : Sendings). p.0) same)
+uncut-append : (ended : Bool) (events others : List Event) → are_uncut ended events ≡ true
+    → are_uncut (has_ended ended events) others ≡ true → are_uncut ended (events ++ others) ≡ true
+uncut-append ended [] others one two = two
+uncut-append ended (Played sent ∷ events) others one two =
+    uncut-append sent.ends_turn events others one two
+uncut-append ended (Accepted command ∷ events) others one two =
+    uncut-cases ended (are_uncut ended events) (are_uncut ended (events ++ others)) one
+    (λ is. uncut-append ended events others is two)
 
-request-cases : (rest all : List Step) (o : Option Sent) (sents more : List Sent) (mid new : Place)
-    → (o >>= λ s. sent_by s.place rest >>= with_first s) ≡ Some (sents, mid)
-    → ((s : Sent) (tail : List Sent) → sent_by s.place rest ≡ Some (tail, mid) → sent_by s.place all ≡ Some (tail ++ more, new))
-    → (o >>= λ s. sent_by s.place all >>= with_first s) ≡ Some (sents ++ more, new)
-request-cases rest all None sents more mid new e h = absurd (not_there (sents, mid) e)
-request-cases rest all (Some s) sents more mid new e h =
-    tail-cases s (sent_by s.place rest) (sent_by s.place all) sents more mid new e (λ tail at. h s tail at)
-
-steps-join : (old mid new : Place) (steps others : List Step) (sents more : List Sent) → sent_by old steps ≡ Some (sents, mid)
-    → sent_by mid others ≡ Some (more, new) → sent_by old (steps ++ others) ≡ Some (sents ++ more, new)
-unfolding sent_by
-steps-join old mid new [] others sents more one two =
-    let same = same_some ([], old) (sents, mid) one in
-    ap (λ (p : Place). sent_by p others) (ap (λ (p : Sendings). p.1) same) ∙ two
-    ∙ ap (λ (l : List Sent). Some (l ++ more, new)) (ap (λ (p : Sendings). p.0) same)
-steps-join old mid new (Request ∷ steps) others sents more one two =
-    request-cases steps (steps ++ others) (request old) sents more mid new one (λ s tail e. steps-join s.place mid new steps others tail more e two)
-steps-join old mid new (NewTurn turn ∷ steps) others sents more one two = steps-join (change_turn turn old) mid new steps others sents more one two
+turns-append : (events others : List Event)
+    → turns_in (events ++ others) ≡ turns_in events + turns_in others
+turns-append [] others = omega arith
+turns-append (Played sent ∷ events) others =
+    omega (arith, turns-append events others)
+turns-append (Accepted command ∷ events) others = turns-append events others
 
 abbrev packet_of : Sent → List ℕ
 packet_of s = bytes_of_packet s.packet
 
-pub sent-join : (old mid new : Place) (packets others : List (List ℕ)) → HasSent old packets mid → HasSent mid others new
-    → HasSent old (packets ++ others) new
-sent-join old mid new packets others one two = record {
-  steps = one.steps ++ two.steps;
-  sents = one.sents ++ two.sents;
-  sent = steps-join old mid new one.steps two.steps one.sents two.sents one.sent two.sent;
-  bytes = ap (λ l. l ++ others) one.bytes ∙ ap (λ l. map packet_of one.sents ++ l) two.bytes ∙ sym (map-append packet_of one.sents two.sents);
-  read = read_each-append read_packet packets others (map (λ (s : Sent). s.packet) one.sents) (map (λ (s : Sent). s.packet) two.sents) one.read two.read
-      ∙ ap (λ (ps : List PacketFields). Some ps) (sym (map-append (λ (s : Sent). s.packet) one.sents two.sents));
-}
-
-pub sent-none : (place : Place) → HasSent place [] place
-unfolding sent_by
-sent-none place = record { steps = []; sents = []; sent = refl; bytes = refl; read = refl }
-
-sent-behind : (commands : List Command) (last : Standing) (place : Place) → HasSent place [] (place_behind commands last place)
-unfolding sent_by
-sent-behind [] last place = record { steps = []; sents = []; sent = refl; bytes = refl; read = refl }
-sent-behind (c ∷ commands) last place =
-    record { steps = NewTurn (turn_of_carousel last.carousel last.geometry.segment_size) ∷ []; sents = []; sent = refl; bytes = refl; read = refl }
-
-pub sent-played : (old new : Place) (count : ℕ) (packets : List (List ℕ)) → HasPlayed old count packets new → HasSent old packets new
-sent-played old new count packets p =
-    record { steps = replicate count Request; sents = p.sents; sent = p.steps; bytes = p.bytes; read = p.read }
-
--- ---- feeding
-
-pub fed-join : {D : Type 0} (old mid new : ServerView D) (start between now : State) (s : Standing) (fault : Option Refusal)
-    (packets others : List (List ℕ)) → (one : HasFed old mid start between s None packets)
-    → HasFed mid new between now one.leaves.last fault others → HasFed old new start now s fault (packets ++ others)
-fed-join old mid new start between now s fault packets others one two =
-    let joined = runs_join old.view mid.view new.view start between now s one.commands two.commands one.marks two.marks fault one.layout (one.whole refl) one.leaves two.leaves in
+pub are-append : (events others : List Event) (packets more : List (List ℕ)) → AreOf events packets
+    → AreOf others more → AreOf (events ++ others) (packets ++ more)
+are-append events others packets more one two =
+    let sents = sents_in events in
+    let rest = sents_in others in
+    let fields : List Sent → List PacketFields = map (λ (s : Sent). s.packet) in
+    let all = sym (sents_in-append events others) in
     record {
-      commands = one.commands ++ two.commands;
-      marks = one.marks ++ two.marks;
-      leaves = joined.0;
-      whole = λ e. length-append one.marks two.marks ∙ omega (arith, one.whole refl, two.whole e, length-append one.commands two.commands);
-      layout = two.layout ∙ one.layout;
-      sent = sent-join (place_in old s) (place_in mid one.leaves.last) (place_in new joined.0.last) packets others one.sent
-          (subst (λ (d : Standing). HasSent (place_in mid one.leaves.last) others (place_in new d)) (sym joined.1) two.sent);
+      bytes = ap (λ l. l ++ more) one.bytes ∙ ap (λ l. map packet_of sents ++ l) two.bytes
+          ∙ sym (map-append packet_of sents rest) ∙ ap (map packet_of) all;
+      read = subst (λ l. AreSent l (packets ++ more)) all
+          (read_each-append read_packet packets more (fields sents) (fields rest) one.read two.read
+          ∙ ap (λ (ps : List PacketFields). Some ps) (sym (map-append (λ (s : Sent). s.packet) sents rest)));
     }
 
-pub fed-run : {D : Type 0} (old new : ServerView D) (start now : State) (s : Standing) (fault : Option Refusal)
-    → IsUpdating old new start now s fault → HasFed old new start now s fault []
-fed-run old new start now s fault up = record {
-  commands = up.commands;
-  marks = up.marks;
-  leaves = up.run.leaves;
-  whole = up.run.whole;
-  layout = up.run.layout;
-  sent = subst (HasSent (place_in old s) []) (sym up.run.place)
-      (sent-behind (accepted_commands up.commands up.marks) up.run.leaves.last (place_in old s));
-}
+pub are-none : AreOf [] []
+are-none = record { bytes = refl; read = refl }
 
--- packets alone
-pub fed-sent : {D : Type 0} (old new : ServerView D) (start now : State) (s : Standing) (fault : Option Refusal) (packets : List (List ℕ))
-    → IsHonestDisk start → new.view ≡ old.view → now.IsHonest → IsUnchanged start now → Holds old.view s start
-    → HasSent (place_in old s) packets (place_in new s) → HasFed old new start now s fault packets
-fed-sent old new start now s fault packets sound view honest still holds sent =
-    let leaves = reads_leave old.view new.view start now s fault sound view honest still holds in
-    let last : leaves.last ≡ s = leaves.marked in
+-- ---- the commands of an update
+
+abbrev IsThere : Option Carousel → Type 0
+IsThere None = ⊥
+IsThere (Some c) = Unit {0}
+
+not_there : (c : Carousel) → None ≡ Some c → ⊥
+not_there c e = subst IsThere (sym e) tt
+
+same_carousel : (c d : Carousel) → Some c ≡ Some d → c ≡ d
+same_carousel c d e = cc
+
+-- where the player stands behind commands that were accepted
+abbrev behind : ℕ → List Command → Carousel → Place → Place
+behind size [] last place = place
+behind size (command ∷ commands) last place = change_turn (turn_of_carousel last size) place
+
+behind_next : (limit size : ℕ) (commands : List Command) (next last : Carousel) (place : Place)
+    → carousel_after next limit commands ≡ Some last
+    → behind size commands last (change_turn (turn_of_carousel next size) place)
+    ≡ change_turn (turn_of_carousel last size) place
+unfolding carousel_after change_turn
+behind_next limit size [] next last place e =
+    ap (λ (c : Carousel). change_turn (turn_of_carousel c size) place) (same_carousel next last e)
+behind_next limit size (command ∷ commands) next last place e = refl
+
+happen-cases : (limit size : ℕ) (command : Command) (commands : List Command) (c last : Carousel)
+    (place : Place) (o : Option Carousel) → carousel_if_accepted (change c limit command) ≡ o
+    → (o >>= λ next. carousel_after next limit commands) ≡ Some last
+    → ((next : Carousel) (p : Place) → carousel_after next limit commands ≡ Some last
+    → Happen limit size next p (map Accepted commands) last (behind size commands last p))
+    → Happen limit size c place (Accepted command ∷ map Accepted commands) last
+    (change_turn (turn_of_carousel last size) place)
+happen-cases limit size command commands c last place None is rest tail = absurd (not_there last rest)
+happen-cases limit size command commands c last place (Some next) is rest tail = (
+  next,
+  is,
+  subst (λ (p : Place). Happen limit size next (change_turn (turn_of_carousel next size) place)
+      (map Accepted commands) last p) (behind_next limit size commands next last place rest)
+      (tail next (change_turn (turn_of_carousel next size) place) rest),
+)
+
+happen-commands : (limit size : ℕ) (commands : List Command) (c last : Carousel) (place : Place)
+    → carousel_after c limit commands ≡ Some last
+    → Happen limit size c place (map Accepted commands) last (behind size commands last place)
+unfolding carousel_after
+happen-commands limit size [] c last place e = (same_carousel c last e, refl)
+happen-commands limit size (command ∷ commands) c last place e =
+    happen-cases limit size command commands c last place
+    (carousel_if_accepted (change c limit command)) refl e
+    (λ next p rest. happen-commands limit size commands next last p rest)
+
+behind-is : (commands : List Command) (last : Standing) (place : Place)
+    → place_behind commands last place
+    ≡ behind last.geometry.segment_size commands last.carousel place
+behind-is [] last place = refl
+behind-is (command ∷ commands) last place = refl
+
+accepted-map : (commands : List Command) → accepted_in (map Accepted commands) ≡ commands
+accepted-map [] = refl
+accepted-map (command ∷ commands) = ap (λ l. command ∷ l) (accepted-map commands)
+
+sents-map : (commands : List Command) → sents_in (map Accepted commands) ≡ []
+sents-map [] = refl
+sents-map (command ∷ commands) = sents-map commands
+
+ended-map : (ended : Bool) (commands : List Command) → has_ended ended (map Accepted commands) ≡ ended
+ended-map ended [] = refl
+ended-map ended (command ∷ commands) = ended-map ended commands
+
+turns-map : (commands : List Command) → turns_in (map Accepted commands) ≡ 0
+turns-map [] = refl
+turns-map (command ∷ commands) = turns-map commands
+
+uncut-map : (commands : List Command) → are_uncut true (map Accepted commands) ≡ true
+uncut-map [] = refl
+uncut-map (command ∷ commands) = uncut-map commands
+
+none-accepted : (marks : List Bool) → accepted_commands [] marks ≡ []
+none-accepted [] = refl
+none-accepted (mark ∷ marks) = refl
+
+-- one that waits runs no command within a turn
+uncut-update : (between : Bool) (commands : List Command) (marks : List Bool)
+    → (may_change true between ≡ false → commands ≡ [])
+    → are_uncut between (map Accepted (accepted_commands commands marks)) ≡ true
+uncut-update true commands marks waits = uncut-map (accepted_commands commands marks)
+uncut-update false commands marks waits =
+    let none : accepted_commands commands marks ≡ [] =
+    ap (λ l. accepted_commands l marks) (waits refl) ∙ none-accepted marks in
+    ap (λ l. are_uncut false (map Accepted l)) none
+
+-- commands bring no packet
+are-more : (events : List Event) (commands : List Command) (packets : List (List ℕ))
+    → AreOf events packets → AreOf (events ++ map Accepted commands) packets
+are-more events commands packets are =
+    let same : sents_in events ≡ sents_in (events ++ map Accepted commands) =
+    sym (sents_in-append events (map Accepted commands)
+    ∙ ap (λ l. sents_in events ++ l) (sents-map commands) ∙ append-nil (sents_in events)) in
     record {
-      commands = [];
-      marks = [];
-      leaves = leaves;
-      whole = λ e. refl;
-      layout = ap (λ (v : RepositoryView). v.journal.layout) view;
-      sent = subst (λ (d : Standing). HasSent (place_in old s) packets (place_in new d)) (sym last) sent;
+      bytes = are.bytes ∙ ap (map packet_of) same;
+      read = subst (λ l. AreSent l packets) same are.read;
     }
 
-pub feeds_none : {D : Type 0} (old : ServerView D) (start : State) (s : Standing) (contents : Option (List (List ℕ))) → IsHonestDisk start → start.IsHonest
-    → IsUnchanged start start → Holds old.view s start → Feeds old old start start s contents contents
-feeds_none old start s contents sound honest still holds = record {
-  packets = [];
-  fed = fed-sent old old start start s None [] sound refl honest still holds (sent-none (place_in old s));
-  written = grows_nil contents;
-}
+-- ---- counting turns
 
--- an update more; the packets stay
-pub updated : {D : Type 0} (old mid new : ServerView D) (start between now : State) (s : Standing) (before after : Option (List (List ℕ))) (fault : Option Refusal)
-    → (so_far : Feeds old mid start between s before after)
-    → ((t : Standing) → Holds mid.view t between → IsUpdating mid new between now t fault)
-    → HasFed old new start now s fault so_far.packets
-updated old mid new start between now s before after fault so_far up =
-    subst (HasFed old new start now s fault) (append-nil so_far.packets)
-    (fed-join old mid new start between now s fault so_far.packets [] so_far.fed
-    (fed-run mid new between now so_far.fed.leaves.last fault (up so_far.fed.leaves.last (so_far.fed.leaves.going refl))))
+same_ends : (a b : Bool) → ◌≡◌ {A = Result Bool Refusal} (Ok a) (Ok b) → a ≡ b
+same_ends a b e = cc
 
-pub update_fault : {D : Type 0} (old mid new : ServerView D) (start between now : State) (s : Standing) (before after : Option (List (List ℕ))) (refusal : Refusal)
-    → Feeds old mid start between s before after
-    → ((t : Standing) → Holds mid.view t between → IsUpdating mid new between now t (Some refusal))
-    → FeedsPart old new start now s before after
-update_fault old mid new start between now s before after refusal so_far up = record {
-  fault = Some refusal;
-  packets = so_far.packets;
-  fed = updated old mid new start between now s before after (Some refusal) so_far up;
-  written = part.whole so_far.written;
-}
+more_turns : (events : List Event) (sent : Sent) (ends : Bool) (rest left turns : ℕ)
+    → sent.ends_turn ≡ ends → rest + (if ends then 1 else 0) ≡ left
+    → left + turns_in events ≡ turns → rest + turns_in (events ++ Played sent ∷ []) ≡ turns
+more_turns events sent ends rest left turns same is counted =
+    let one : ◌≡◌ {A = ℕ} (if sent.ends_turn then 1 else 0) (if ends then 1 else 0) =
+    ap (λ b. if b then 1 else 0) same in
+    let all = turns-append events (Played sent ∷ []) in
+    omega (arith, one, all, is, counted)
 
-pub send_fault : {D : Type 0} (old mid new : ServerView D) (start between now : State) (s : Standing) (before after last : Option (List (List ℕ)))
-    (packets : List (List ℕ)) (refusal : Refusal) → Grows before after packets → HasFed old mid start between s None packets
-    → IsHonestDisk between → new.view ≡ mid.view → now.IsHonest → IsUnchanged between now
-    → ((t : Standing) → Holds mid.view t between → SendsOne (Err refusal) (place_in mid t) (place_in new t) after last)
-    → FeedsPart old new start now s before last
-send_fault old mid new start between now s before after last packets refusal written fed sound view honest still sends =
-    let t = fed.leaves.last in
-    let held = fed.leaves.going refl in
-    let some = sends_part (place_in mid t) (place_in mid t) (place_in new t) 0 1 after after last refusal (omega arith) (sends_none (place_in mid t) after) (sends t held) in
-    record {
+done-cases : (ends : Bool) (rest left : ℕ) → rest ≡ 0 → rest + (if ends then 1 else 0) ≡ left
+    → (left ≡ 0 → ⊥) → ends ≡ true
+done-cases true rest left none is some = refl
+done-cases false rest left none is some = absurd (some (omega (arith, none, is)))
+
+pub rest_then : (ends : Bool) (rest left : ℕ) → ends ≡ true → rest ≡ left - 1 → (left ≡ 0 → ⊥)
+    → rest + (if ends then 1 else 0) ≡ left
+rest_then true rest left is less some = not_zero left some less
+  where
+    not_zero : (n : ℕ) → (n ≡ 0 → ⊥) → rest ≡ n - 1 → rest + 1 ≡ n
+    not_zero zero some less = absurd (some refl)
+    not_zero (suc n) some less = omega (arith, less)
+rest_then false rest left is less some = absurd (cc)
+
+pub rest_else : (ends : Bool) (rest left : ℕ) → ends ≡ false → rest ≡ left
+    → rest + (if ends then 1 else 0) ≡ left
+rest_else true rest left is same = absurd (cc)
+rest_else false rest left is same = omega (arith, same)
+
+-- ---- one packet
+
+played : (limit size : ℕ) (c : Carousel) (old new : Place) (packet : List ℕ) (ends : Bool)
+    → (step : IsStep old packet ends new)
+    → Happen limit size c old (Played step.sent ∷ []) c new
+played limit size c old new packet ends step = (step.asked, (refl, sym step.place))
+
+are-one : (old new : Place) (packet : List ℕ) (ends : Bool) → (step : IsStep old packet ends new)
+    → AreOf (Played step.sent ∷ []) (packet ∷ [])
+are-one old new packet ends step =
+    record { bytes = ap (λ p. p ∷ []) step.bytes; read = rw step.reads refl }
+
+-- ---- what runs and packets leave
+
+module _ {D : Type 0} where
+  fed-join : (old mid new : ServerView D) (start between now : State) (s : Standing)
+      (fault : Option Refusal) (events others : List Event)
+      → (first : HasFed old mid start between s None events)
+      → HasFed mid new between now first.leaves.last fault others
+      → HasFed old new start now s fault (events ++ others)
+  fed-join old mid new start between now s fault events others first two =
+      let joined = runs_join old.view mid.view new.view start between now s first.commands
+      two.commands first.marks two.marks fault first.layout (first.whole refl) first.leaves
+      two.leaves in
+      let d : Standing = first.leaves.last in
+      let rest = subst (λ (g : Geometry). Happen g.objects g.segment_size d.carousel (place_in mid d)
+      others two.leaves.last.carousel (place_in new two.leaves.last)) first.leaves.after.geometry
+      two.happened in
+      record {
+        commands = first.commands ++ two.commands;
+        marks = first.marks ++ two.marks;
+        leaves = joined.0;
+        whole = λ e. length-append first.marks two.marks
+            ∙ omega (
+              arith,
+              first.whole refl,
+              two.whole e,
+              length-append first.commands two.commands,
+            );
+        layout = two.layout ∙ first.layout;
+        accepted = accepted_in-append events others
+            ∙ ap (λ l. l ++ accepted_in others) first.accepted
+            ∙ ap (λ l. accepted_commands first.commands first.marks ++ l) two.accepted
+            ∙ sym (accepted-join first.commands two.commands first.marks two.marks
+            (first.whole refl));
+        happened = subst (λ (l : Standing). Happen s.geometry.objects s.geometry.segment_size
+            s.carousel (place_in old s) (events ++ others) l.carousel (place_in new l))
+            (sym joined.1)
+            (happen-join s.geometry.objects s.geometry.segment_size s.carousel d.carousel
+            two.leaves.last.carousel (place_in old s) (place_in mid d)
+            (place_in new two.leaves.last) events others first.happened rest);
+      }
+
+  fed-run : (old new : ServerView D) (start now : State) (s : Standing) (fault : Option Refusal)
+      (commands : List Command) (marks : List Bool)
+      → HasRun old new start now s commands marks fault
+      → HasFed old new start now s fault (map Accepted (accepted_commands commands marks))
+  fed-run old new start now s fault commands marks run =
+      let done : List Command = accepted_commands commands marks in
+      let last : Standing = run.leaves.last in
+      let placed : place_in new last
+      ≡ behind s.geometry.segment_size done last.carousel (place_in old s) =
+      run.place ∙ behind-is done last (place_in old s)
+      ∙ ap (λ (g : Geometry). behind g.segment_size done last.carousel (place_in old s))
+      run.leaves.after.geometry in
+      record {
+        commands = commands;
+        marks = marks;
+        leaves = run.leaves;
+        whole = run.whole;
+        layout = run.layout;
+        accepted = accepted-map done;
+        happened = subst (λ (p : Place). Happen s.geometry.objects s.geometry.segment_size
+            s.carousel (place_in old s) (map Accepted done) last.carousel p) (sym placed)
+            (happen-commands s.geometry.objects s.geometry.segment_size done s.carousel
+            last.carousel (place_in old s) run.leaves.after.carousel);
+      }
+
+  -- nothing but packets
+  fed-read : (old new : ServerView D) (start now : State) (s : Standing) (fault : Option Refusal)
+      (events : List Event) → IsHonestDisk start → new.view ≡ old.view → now.IsHonest
+      → IsUnchanged start now → Holds old.view s start → accepted_in events ≡ []
+      → Happen s.geometry.objects s.geometry.segment_size s.carousel (place_in old s) events
+      s.carousel (place_in new s)
+      → HasFed old new start now s fault events
+  fed-read old new start now s fault events sound view honest still holds none happened =
+      let leaves = reads_leave old.view new.view start now s fault sound view honest still holds in
+      let last : leaves.last ≡ s = leaves.marked in
+      record {
+        commands = [];
+        marks = [];
+        leaves = leaves;
+        whole = λ e. refl;
+        layout = ap (λ (v : RepositoryView). v.journal.layout) view;
+        accepted = none;
+        happened = subst (λ (d : Standing). Happen s.geometry.objects s.geometry.segment_size
+            s.carousel (place_in old s) events d.carousel (place_in new d)) (sym last) happened;
+      }
+
+  -- ---- feeding
+
+  -- what was fed so far: so many turns are left, and so many packets were sent
+  pub record SoFar (old new : ServerView D) (start now : State) (s : Standing) (waits : Bool)
+      (turns left : ℕ) (between_turns : Bool) (count : ℕ)
+      (before after : Option (List (List ℕ))) : Type 0 where
+    pub events : List Event
+    pub fed : HasFed old new start now s None events
+    pub packets : List (List ℕ)
+    pub are : AreOf events packets
+    pub written : Grows before after packets
+    pub uncut : waits ≡ true → are_uncut true events ≡ true
+    pub ended : has_ended true events ≡ between_turns
+    pub counted : left + turns_in events ≡ turns
+    pub many : length packets ≡ count
+    pub done : left ≡ 0 → between_turns ≡ true
+
+  pub fed_none : (old : ServerView D) (start : State) (s : Standing) (waits : Bool) (turns : ℕ)
+      (contents : Option (List (List ℕ))) → IsHonestDisk start → start.IsHonest
+      → IsUnchanged start start → Holds old.view s start
+      → SoFar old old start start s waits turns turns true 0 contents contents
+  fed_none old start s waits turns contents sound honest still holds = record {
+    events = [];
+    fed = fed-read old old start start s None [] sound refl honest still holds refl (refl, refl);
+    packets = [];
+    are = are-none;
+    written = grows_nil contents;
+    uncut = λ w. refl;
+    ended = refl;
+    counted = omega arith;
+    many = refl;
+    done = λ e. refl;
+  }
+
+  -- all turns were fed, or too many packets
+  pub fed_all : (old new : ServerView D) (start now : State) (s : Standing) (waits : Bool)
+      (turns left : ℕ) (between_turns : Bool) (count : ℕ) (before after : Option (List (List ℕ)))
+      → SoFar old new start now s waits turns left between_turns count before after
+      → (left ≡ 0) ⊎ (count ≡ 18446744073709551615)
+      → Feeds old new start now s waits turns before after
+  fed_all old new start now s waits turns left between_turns count before after so_far (inl none) =
+      record {
+        events = so_far.events;
+        fed = so_far.fed;
+        packets = so_far.packets;
+        are = so_far.are;
+        written = so_far.written;
+        uncut = so_far.uncut;
+        ended = inl (
+          let all = so_far.counted in omega (arith, none, all),
+          so_far.ended ∙ so_far.done none,
+        );
+      }
+  fed_all old new start now s waits turns left between_turns count before after so_far (inr many) =
+      record {
+        events = so_far.events;
+        fed = so_far.fed;
+        packets = so_far.packets;
+        are = so_far.are;
+        written = so_far.written;
+        uncut = so_far.uncut;
+        ended = inr (so_far.many ∙ many);
+      }
+
+  -- an update more
+  module _ (old mid up : ServerView D) (start between then_state : State) (s : Standing)
+      (waits : Bool) (turns left : ℕ) (between_turns : Bool) (count : ℕ)
+      (before after : Option (List (List ℕ))) (fault : Option Refusal)
+      (so_far : SoFar old mid start between s waits turns left between_turns count before after)
+      (update : IsUpdating mid up between then_state so_far.fed.leaves.last
+      (may_change waits between_turns) fault) where
+    abbrev done_by : List Command
+    done_by = accepted_commands update.commands update.marks
+
+    abbrev pub updated_events : List Event
+    updated_events = so_far.events ++ map Accepted done_by
+
+    pub updated : HasFed old up start then_state s fault updated_events
+    updated = fed-join old mid up start between then_state s fault so_far.events
+        (map Accepted done_by) so_far.fed
+        (fed-run mid up between then_state so_far.fed.leaves.last fault update.commands
+        update.marks update.run)
+
+    pub updated_are : AreOf updated_events so_far.packets
+    updated_are = are-more so_far.events done_by so_far.packets so_far.are
+
+    pub updated_uncut : waits ≡ true → are_uncut true updated_events ≡ true
+    updated_uncut w = uncut-append true so_far.events (map Accepted done_by) (so_far.uncut w)
+        (subst (λ e. are_uncut e (map Accepted done_by) ≡ true) (sym so_far.ended)
+        (uncut-update between_turns update.commands update.marks
+        (λ e. update.waits (subst (λ b. may_change b between_turns ≡ false) (sym w) e))))
+
+    pub updated_ended : has_ended true updated_events ≡ between_turns
+    updated_ended = ended-append true so_far.events (map Accepted done_by)
+        ∙ ended-map (has_ended true so_far.events) done_by ∙ so_far.ended
+
+    pub updated_turns : turns_in updated_events ≡ turns_in so_far.events
+    updated_turns = turns-append so_far.events (map Accepted done_by)
+        ∙ omega (arith, turns-map done_by)
+
+    pub update_fault : FeedsPart old up start then_state s waits before after
+    update_fault = record {
+      fault = fault;
+      events = updated_events;
+      fed = updated;
+      packets = so_far.packets;
+      are = updated_are;
+      written = part.whole so_far.written;
+      uncut = updated_uncut;
+    }
+
+  -- a packet behind these events
+  module _ (old up new : ServerView D) (start then_state now : State) (s : Standing)
+      (waits : Bool) (before after last : Option (List (List ℕ))) (events : List Event)
+      (packets : List (List ℕ)) (fed : HasFed old up start then_state s None events)
+      (are : AreOf events packets) (written : Grows before after packets)
+      (uncut : waits ≡ true → are_uncut true events ≡ true)
+      (sound : IsHonestDisk then_state) (view : new.view ≡ up.view) (honest : now.IsHonest)
+      (still : IsUnchanged then_state now) where
+    abbrev t : Standing
+    t = fed.leaves.last
+
+    held : Holds up.view t then_state
+    held = fed.leaves.going refl
+
+    module _ (packet : List ℕ) (ends : Bool)
+        (step : IsStep (place_in up t) packet ends (place_in new t)) where
+      abbrev sent_events : List Event
+      sent_events = events ++ Played step.sent ∷ []
+
+      sent_fed : HasFed old new start now s None sent_events
+      sent_fed = fed-join old up new start then_state now s None events (Played step.sent ∷ []) fed
+          (fed-read up new then_state now t None (Played step.sent ∷ []) sound view honest still
+          held refl (played t.geometry.objects t.geometry.segment_size t.carousel (place_in up t)
+          (place_in new t) packet ends step))
+
+      sent_are : AreOf sent_events (packets ++ packet ∷ [])
+      sent_are = are-append events (Played step.sent ∷ []) packets (packet ∷ []) are
+          (are-one (place_in up t) (place_in new t) packet ends step)
+
+      sent_uncut : waits ≡ true → are_uncut true sent_events ≡ true
+      sent_uncut w = uncut-append true events (Played step.sent ∷ []) (uncut w) refl
+
+      cut_packet : GrowsPart (packet ∷ []) after last
+          → FeedsPart old new start now s waits before last
+      cut_packet part_written = record {
+        fault = None;
+        events = sent_events;
+        fed = sent_fed;
+        packets = packets ++ packet ∷ [];
+        are = sent_are;
+        written = part_after packets (packet ∷ []) before after last written part_written;
+        uncut = sent_uncut;
+      }
+
+    send_fault-cases : (refusal : Refusal)
+        → SendsOne (Err refusal) (place_in up t) (place_in new t) after last
+        → FeedsPart old new start now s waits before last
+    send_fault-cases refusal (one.whole packet e is step w) = absurd (not_fine e refusal (sym is))
+    send_fault-cases refusal (one.short packet e n is step lt w) =
+        cut_packet packet e step (part.short [] packet n refl lt w)
+    send_fault-cases refusal (one.failed packet e is step w) =
+        cut_packet packet e step (part.failed [] packet refl w)
+    send_fault-cases refusal (one.none r is same w) = record {
       fault = None;
-      packets = packets ++ some.packets;
-      fed = fed-join old mid new start between now s None packets some.packets fed
-          (fed-sent mid new between now t None some.packets sound view honest still held (sent-played (place_in mid t) (place_in new t) some.made some.packets some.played));
-      written = part_after packets some.packets before after last written some.written;
+      events = events ++ [];
+      fed = fed-join old up new start then_state now s None events [] fed
+          (fed-read up new then_state now t None [] sound view honest still held refl
+          (refl, sym same));
+      packets = packets;
+      are = subst (λ l. AreOf l packets) (sym (append-nil events)) are;
+      written = part.whole (grows_kept before after last packets written w);
+      uncut = λ w. subst (λ l. are_uncut true l ≡ true) (sym (append-nil events)) (uncut w);
     }
 
-pub feeds_more : {D : Type 0} (old mid new : ServerView D) (start between now : State) (s : Standing) (before after last : Option (List (List ℕ)))
-    (packets : List (List ℕ)) (ends : Bool) → Grows before after packets → HasFed old mid start between s None packets
-    → IsHonestDisk between → new.view ≡ mid.view → now.IsHonest → IsUnchanged between now
-    → ((t : Standing) → Holds mid.view t between → SendsOne (Ok ends) (place_in mid t) (place_in new t) after last)
-    → Feeds old new start now s before last
-feeds_more old mid new start between now s before after last packets ends written fed sound view honest still sends =
-    let t = fed.leaves.last in
-    let held = fed.leaves.going refl in
-    let all = sends_more (place_in mid t) (place_in mid t) (place_in new t) 0 after after last ends (sends_none (place_in mid t) after) (sends t held) in
-    record {
-      packets = packets ++ all.packets;
-      fed = fed-join old mid new start between now s None packets all.packets fed
-          (fed-sent mid new between now t None all.packets sound view honest still held (sent-played (place_in mid t) (place_in new t) (0 + 1) all.packets all.played));
-      written = grows_trans before after last packets all.packets written all.written;
-    }
+    pub send_fault : (refusal : Refusal)
+        → ((d : Standing) → Holds up.view d then_state
+        → SendsOne (Err refusal) (place_in up d) (place_in new d) after last)
+        → FeedsPart old new start now s waits before last
+    send_fault refusal sends = send_fault-cases refusal (sends t held)
+
+    -- one that was written whole
+    module _ (turns left : ℕ) (count : ℕ) (counted : left + turns_in events ≡ turns)
+        (many : length packets ≡ count) (some : left ≡ 0 → ⊥) where
+      sent_on-cases : (ends : Bool) (rest : ℕ) → rest + (if ends then 1 else 0) ≡ left
+          → SendsOne (Ok ends) (place_in up t) (place_in new t) after last
+          → SoFar old new start now s waits turns rest ends (count + 1) before last
+      sent_on-cases ends rest is_rest (one.whole packet e is step w) =
+          let same : step.sent.ends_turn ≡ ends = sym step.ends ∙ sym (same_ends ends e is) in
+          record {
+            events = sent_events packet e step;
+            fed = sent_fed packet e step;
+            packets = packets ++ packet ∷ [];
+            are = sent_are packet e step;
+            written = grows_trans before after last packets (packet ∷ []) written w;
+            uncut = sent_uncut packet e step;
+            ended = ended-append true events (Played step.sent ∷ []) ∙ same;
+            counted = more_turns events step.sent ends rest left turns same is_rest counted;
+            many = length-append packets (packet ∷ []) ∙ omega (arith, many);
+            done = λ none. done-cases ends rest left none is_rest some;
+          }
+      sent_on-cases ends rest is_rest (one.short packet e n is step lt w) =
+          absurd (not_fine ends _ is)
+      sent_on-cases ends rest is_rest (one.failed packet e is step w) = absurd (not_fine ends _ is)
+      sent_on-cases ends rest is_rest (one.none refusal is same w) =
+          absurd (not_fine ends refusal is)
+
+      pub sent_on : (ends : Bool) (rest : ℕ) → rest + (if ends then 1 else 0) ≡ left
+          → ((d : Standing) → Holds up.view d then_state
+          → SendsOne (Ok ends) (place_in up d) (place_in new d) after last)
+          → SoFar old new start now s waits turns rest ends (count + 1) before last
+      sent_on ends rest is_rest sends = sent_on-cases ends rest is_rest (sends t held)
+
+-- ---- continuity
+
+steps-of : (limit size : ℕ) (c last : Carousel) (place new : Place) (events : List Event)
+    → Happen limit size c place events last new
+    → (steps : List Step) × (sent_by place steps ≡ Some (sents_in events, new))
+unfolding sent_by
+steps-of limit size c last place new [] is = ([], ap (λ (p : Place). Some ([], p)) is.1)
+steps-of limit size c last place new (Played sent ∷ events) is =
+    let rest = steps-of limit size c last sent.place new events is.1 in
+    (Request ∷ rest.0, rw (is.0, rest.1) refl)
+steps-of limit size c last place new (Accepted command ∷ events) is =
+    let turn = turn_of_carousel is.0 size in
+    let rest = steps-of limit size is.0 last (change_turn turn place) new events is.2 in
+    (NewTurn turn ∷ rest.0, rest.1)
 
 pub continuous : FedPacketsAreContinuous
-continuous address room size turn packets new some sent =
-    steps-are-continuous address room size turn sent.steps sent.sents new packets some sent.sent sent.read
+continuous limit size c last address room turn events new packets some happened are =
+    let steps = steps-of limit size c last (opened_place address room size turn) new events happened in
+    steps-are-continuous address room size turn steps.0 (sents_in events) new packets some steps.1
+    are.read

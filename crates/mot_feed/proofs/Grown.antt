@@ -1,6 +1,6 @@
 -- Writes that were added to known ones.
-use Rattle.std.proofs.Common.{◌≡◌, ℕ, ◌<◌, List, [], ◌∷◌, ◌++◌, length, take, Option, Some, None}
-use Rattle.std.proofs.Common.{refl, sym, ap, ◌∙◌, subst, append_assoc, append-nil}
+use Rattle.std.proofs.Common.{ℕ, List, [], ◌∷◌, ◌++◌, take, Option, Some, None}
+use Rattle.std.proofs.Common.{sym, ap, ◌∙◌, subst, append_assoc, append-nil}
 use Rattle.mot_feed.specs.Writing.{Grows, GrowsPart, whole, failed, short}
 
 pub grows_nil : (a : Option (List (List ℕ))) → Grows a a []

@@ -1,6 +1,6 @@
 -- Packets in a row.
-use Rattle.std.proofs.Common.{◌≡◌, ℕ, suc, ◌+◌, ◌≤◌, ◌<◌, Bool, List, [], ◌∷◌, ◌++◌, Option, Some}
-use Rattle.std.proofs.Common.{None, Result, Ok, Err, take, length, refl, sym, ap, ◌∙◌, subst, arith}
+use Rattle.std.proofs.Common.{◌≡◌, ℕ, suc, ◌+◌, ◌<◌, Bool, List, [], ◌∷◌, ◌++◌, Option}
+use Rattle.std.proofs.Common.{Result, Ok, Err, take, refl, sym, ap, subst, arith}
 use Rattle.std.proofs.Common.{add-one}
 use Rattle.std.specs.Prelude.{OnErr, IsErrAnd}
 use Rattle.mot_journal.specs.Image.{Standing}
@@ -14,7 +14,6 @@ use Rattle.mot_feed.specs.Sending as one
 use Rattle.mot_feed.specs.Writing.{Grows, GrowsPart}
 use Rattle.mot_feed.specs.Writing as part
 use Rattle.mot_feed.proofs.Grown.{grows_nil, grows_trans, grows_kept}
-use Rattle.mot_player.specs.Laws.{IsStep}
 use Rattle.mot_player.specs.Place.{Place}
 use Rattle.mot_server.specs.Playing.{HasPlayed}
 use Rattle.mot_server.proofs.Laws.{played_none, played_more}
@@ -23,7 +22,7 @@ abbrev IsFine : {T : Type 0} → Result T Refusal → Type 0
 IsFine (Ok x) = Unit {0}
 IsFine (Err e) = ⊥
 
-not_fine : {T : Type 0} (x : T) (e : Refusal) → Ok x ≡ Err e → ⊥
+pub not_fine : {T : Type 0} (x : T) (e : Refusal) → Ok x ≡ Err e → ⊥
 not_fine x e same = subst IsFine same tt
 
 pub sends_none : (place : Place) (known : Option (List (List ℕ))) → Sends place 0 place known known

@@ -1,17 +1,20 @@
 -- What taking turns between updates and packets does.
-use Rattle.std.specs.Prelude.{ℕ, ◌≡◌, ◌<◌, Bool, List, length, map, Option, Some, None, Result}
-use Rattle.std.specs.Prelude.{Ok, Err}
+use Rattle.std.specs.Prelude.{ℕ, ◌≡◌, ◌⊎◌, ◌+◌, ◌<◌, Bool, true, false, not, ◌&&◌, ◌||◌}
+use Rattle.std.specs.Prelude.{if◌then◌else◌, List, [], ◌∷◌, length, map, Option, Some, None}
+use Rattle.std.specs.Prelude.{Result, Ok, Err}
 use Rattle.disk_store.specs.Disk.{State}
 use Rattle.mot_base.specs.declared.refusal.Refusal.{Refusal}
+use Rattle.mot_carousel.specs.Carousel.{Carousel, carousel_if_accepted, change}
 use Rattle.mot_carousel.specs.declared.command.Command.{Command}
 use Rattle.mot_feed.specs.Writing.{Grows, GrowsPart}
 use Rattle.mot_journal.specs.Image.{Standing}
 use Rattle.mot_packets.specs.Written.{bytes_of_packet}
-use Rattle.mot_player.specs.Laws.{AreSent}
-use Rattle.mot_player.specs.Place.{Place, Sent, Step, opened_place, sent_by}
 use Rattle.mot_player.specs.Continuity.{IsContinuous}
-use Rattle.mot_player.specs.Turn.{Turn}
+use Rattle.mot_player.specs.Laws.{AreSent}
+use Rattle.mot_player.specs.Place.{Place, Sent, change_turn, opened_place, request}
+use Rattle.mot_player.specs.Turn.{Turn, turn_of_carousel}
 use Rattle.mot_server.specs.RunEnds.{RunLeaves}
+use Rattle.mot_server.specs.Runs.{accepted_commands}
 use Rattle.mot_server.specs.Server.{ServerView, place_in}
 use Rattle.mot_update.specs.HasRun.{HasRun}
 
@@ -19,50 +22,111 @@ abbrev pub fault_of : {T : Type 0} → Result T Refusal → Option Refusal
 fault_of (Ok done) = None
 fault_of (Err refusal) = Some refusal
 
--- an update ran some commands
+-- whether an update may change the carousel: one that waits for a turn's end may only there
+abbrev pub may_change : Bool → Bool → Bool
+may_change waits between_turns = not waits || between_turns
+
+-- an update ran some commands, and none where it may not
 pub record IsUpdating {D : Type 0} (old new : ServerView D) (start now : State) (s : Standing)
-    (fault : Option Refusal) : Type 0 where
+    (may : Bool) (fault : Option Refusal) : Type 0 where
   pub commands : List Command
   pub marks : List Bool
   pub run : HasRun old new start now s commands marks fault
+  pub waits : may ≡ false → commands ≡ []
 
--- these packets are those of the requests among some steps, the others of which are changes of the
--- turn
-pub record HasSent (old : Place) (packets : List (List ℕ)) (new : Place) : Type 0 where
-  pub steps : List Step
-  pub sents : List Sent
-  pub sent : sent_by old steps ≡ Some (sents, new)
-  pub bytes : packets ≡ map (λ (s : Sent). bytes_of_packet s.packet) sents
-  pub read : AreSent sents packets
+-- what happens while a server is fed from: a command is accepted, or a packet is sent
+pub data Event : Type 0 where
+  Accepted : Command → Event
+  Played : Sent → Event
+
+-- the commands among these
+abbrev pub accepted_in : List Event → List Command
+accepted_in [] = []
+accepted_in (Accepted command ∷ events) = command ∷ accepted_in events
+accepted_in (Played sent ∷ events) = accepted_in events
+
+-- what was sent among these
+abbrev pub sents_in : List Event → List Sent
+sents_in [] = []
+sents_in (Accepted command ∷ events) = sents_in events
+sents_in (Played sent ∷ events) = sent ∷ sents_in events
+
+-- These happen, with so many objects at most and segments of this size, from a carousel and a place
+-- on, and lead to another: what is sent is what the player sends there, and each accepted command
+-- begins the turn of the carousel that it makes.
+abbrev pub Happen : ℕ → ℕ → Carousel → Place → List Event → Carousel → Place → Type 0
+Happen limit size c place [] last new = (c ≡ last) × (place ≡ new)
+Happen limit size c place (Played sent ∷ events) last new =
+    (request place ≡ Some sent) × Happen limit size c sent.place events last new
+Happen limit size c place (Accepted command ∷ events) last new =
+    (next : Carousel) × (carousel_if_accepted (change c limit command) ≡ Some next)
+    × Happen limit size next (change_turn (turn_of_carousel next size) place) events last new
+
+-- whether a turn has ended behind these, or none was begun
+abbrev pub has_ended : Bool → List Event → Bool
+has_ended ended [] = ended
+has_ended ended (Accepted command ∷ events) = has_ended ended events
+has_ended ended (Played sent ∷ events) = has_ended sent.ends_turn events
+
+-- no command comes between two packets of one turn
+abbrev pub are_uncut : Bool → List Event → Bool
+are_uncut ended [] = true
+are_uncut ended (Accepted command ∷ events) = ended && are_uncut ended events
+are_uncut ended (Played sent ∷ events) = are_uncut sent.ends_turn events
+
+-- how many turns end in these
+abbrev pub turns_in : List Event → ℕ
+turns_in [] = 0
+turns_in (Accepted command ∷ events) = turns_in events
+turns_in (Played sent ∷ events) = (if sent.ends_turn then 1 else 0) + turns_in events
+
+-- these packets are what was sent
+pub record AreOf (events : List Event) (packets : List (List ℕ)) : Type 0 where
+  pub bytes : packets ≡ map (λ (s : Sent). bytes_of_packet s.packet) (sents_in events)
+  pub read : AreSent (sents_in events) packets
 
 -- Commands were run, and what they leave is told as of one run of them all; and packets were sent
 -- between them.
 pub record HasFed {D : Type 0} (old new : ServerView D) (start now : State) (s : Standing)
-    (fault : Option Refusal) (packets : List (List ℕ)) : Type 0 where
+    (fault : Option Refusal) (events : List Event) : Type 0 where
   pub commands : List Command
   pub marks : List Bool
   pub leaves : RunLeaves old.view new.view start now s commands marks fault
   pub whole : fault ≡ None → length marks ≡ length commands
   pub layout : new.view.journal.layout ≡ old.view.journal.layout
-  pub sent : HasSent (place_in old s) packets (place_in new leaves.last)
+  pub accepted : accepted_in events ≡ accepted_commands commands marks
+  pub happened : Happen s.geometry.objects s.geometry.segment_size s.carousel (place_in old s)
+      events leaves.last.carousel (place_in new leaves.last)
 
+-- So many turns were fed; or else so many packets that their number fits no word of 64 bits. An
+-- update that waits cut none of them.
 pub record Feeds {D : Type 0} (old new : ServerView D) (start now : State) (s : Standing)
-    (before after : Option (List (List ℕ))) : Type 0 where
+    (waits : Bool) (turns : ℕ) (before after : Option (List (List ℕ))) : Type 0 where
+  pub events : List Event
+  pub fed : HasFed old new start now s None events
   pub packets : List (List ℕ)
-  pub fed : HasFed old new start now s None packets
+  pub are : AreOf events packets
   pub written : Grows before after packets
+  pub uncut : waits ≡ true → are_uncut true events ≡ true
+  pub ended : ((turns_in events ≡ turns) × (has_ended true events ≡ true))
+      ⊎ (length packets ≡ 18446744073709551615)
 
 -- a fault came in an update, in a packet or in writing it
 pub record FeedsPart {D : Type 0} (old new : ServerView D) (start now : State) (s : Standing)
-    (before after : Option (List (List ℕ))) : Type 0 where
+    (waits : Bool) (before after : Option (List (List ℕ))) : Type 0 where
   pub fault : Option Refusal
+  pub events : List Event
+  pub fed : HasFed old new start now s fault events
   pub packets : List (List ℕ)
-  pub fed : HasFed old new start now s fault packets
+  pub are : AreOf events packets
   pub written : GrowsPart packets before after
+  pub uncut : waits ≡ true → are_uncut true events ≡ true
 
 -- Of a server just opened all packets have their continuity indexes, whatever updates come between
 -- them.
 abbrev pub FedPacketsAreContinuous : Type 0
 FedPacketsAreContinuous =
-    (address room size : ℕ) (turn : Turn) (packets : List (List ℕ)) (new : Place) → 0 < room
-    → HasSent (opened_place address room size turn) packets new → IsContinuous packets
+    (limit size : ℕ) (c last : Carousel) (address room : ℕ) (turn : Turn) (events : List Event)
+    (new : Place) (packets : List (List ℕ)) → 0 < room
+    → Happen limit size c (opened_place address room size turn) events last new
+    → AreOf events packets → IsContinuous packets

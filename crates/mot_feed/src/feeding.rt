@@ -1,8 +1,8 @@
 //! Taking turns between updating the carousel and sending its packets.
-ghost use Rattle.std.specs.Prelude.{◌≡◌, ◌≤◌, OnErr, OnOk};
+ghost use Rattle.std.specs.Prelude.{◌≡◌, ◌≤◌, Bool, true, OnErr, OnOk};
 ghost use Rattle.disk_store.specs.Disk.{KeepsLength};
 ghost use Rattle.mot_feed.specs.Feeding.{FedPacketsAreContinuous, Feeds, FeedsPart};
-ghost use Rattle.mot_feed.specs.Feeding.{IsUpdating, fault_of};
+ghost use Rattle.mot_feed.specs.Feeding.{IsUpdating, fault_of, may_change};
 ghost use Rattle.mot_journal.specs.Image.{Standing};
 ghost use Rattle.mot_repository.specs.Repository.{Holds};
 
@@ -15,6 +15,9 @@ use std::alloc::Global;
 
 /// What changes a carousel between its packets, by commands.
 pub trait Update {
+    // Whether it changes the carousel between turns alone.
+    ghost waits: { Bool };
+
     /// Does what is to be done now: before the first packet, and then behind each packet, which
     /// ended a turn or not. What would end a run of commands is the error, as is a body that can't
     /// be read.
@@ -29,7 +32,7 @@ pub trait Update {
         ensures run { (s : Standing) → Holds server.old.view s (D.state server.old.disk)
             → (D.state server.new.disk).IsHonest
             → IsUpdating server.old server.new (D.state server.old.disk)
-            (D.state server.new.disk) s (fault_of result) };
+            (D.state server.new.disk) s (may_change waits between_turns) (fault_of result) };
 }
 
 /// Sends packets, each in one write, with updates before the first and behind each, until so many
@@ -47,11 +50,11 @@ pub fn feed<D: Disk, O: Outlet, U: Update>(
     ensures fed { (s : Standing) → Holds server.old.view s (D.state server.old.disk)
         → (D.state server.new.disk).IsHonest
         → OnOk result (Feeds server.old server.new (D.state server.old.disk)
-        (D.state server.new.disk) s (O.writes outlet.old) (O.writes outlet.new)) }
+        (D.state server.new.disk) s U.waits turns (O.writes outlet.old) (O.writes outlet.new)) }
     ensures part { (s : Standing) → Holds server.old.view s (D.state server.old.disk)
         → (D.state server.new.disk).IsHonest
         → OnErr result (FeedsPart server.old server.new (D.state server.old.disk)
-        (D.state server.new.disk) s (O.writes outlet.old) (O.writes outlet.new)) }
+        (D.state server.new.disk) s U.waits (O.writes outlet.old) (O.writes outlet.new)) }
     ensures continuous { FedPacketsAreContinuous }
 {
     let mut left = turns;
@@ -74,6 +77,8 @@ pub fn feed<D: Disk, O: Outlet, U: Update>(
 pub struct NoUpdate;
 
 impl Update for NoUpdate {
+    ghost waits = { true };
+
     fn update<D: Disk>(
         &mut self,
         _server: &mut Server<D>,

@@ -1,5 +1,7 @@
 //! A folder of files, as a source of wanted objects.
-ghost use Rattle.std.specs.Prelude.{◌≡◌, ◌<◌, ◌≤◌, Some, IfOk, length, slice_get, vec_len};
+ghost use Rattle.std.specs.Prelude.{◌≡◌, ◌<◌, ◌≤◌, Some, true, false, not, IfOk, length, slice_get};
+ghost use Rattle.std.specs.Prelude.{vec_len};
+ghost use Rattle.mot_update.specs.Looking.{was_settled};
 
 use crate::listing::{FileNames, joined};
 use crate::report::Report;
@@ -27,7 +29,11 @@ pub(crate) struct Folder<'a, T: Files<File = File>> {
 
 impl<'a, T: Files<File = File>> Folder<'a, T> {
     /// The files of these names, none of which was read.
-    pub fn new(rt: &'a T, path: &'a str, names: FileNames, report: Report) -> Folder<'a, T> {
+    pub fn new(rt: &'a T, path: &'a str, names: FileNames, report: Report) -> Folder<'a, T>
+        ensures names { result.names ≡ names }
+        ensures place { result.place ≡ 0 }
+        ensures report { result.report ≡ report }
+    {
         Folder {
             rt,
             path,
@@ -38,7 +44,9 @@ impl<'a, T: Files<File = File>> Folder<'a, T> {
     }
 
     /// What was told of it.
-    pub fn into_report(self) -> Report {
+    pub fn into_report(self) -> Report
+        ensures { result ≡ self.entry.report }
+    {
         self.report
     }
 
@@ -73,6 +81,8 @@ impl<'a, T: Files<File = File>> Source for Folder<'a, T> {
 
     ghost place = { λ folder. folder.place };
 
+    ghost is_fine = { λ folder. not folder.report.any_refused };
+
     fn knows(&self, name: &Name) -> bool {
         self.names.has(name)
     }
@@ -99,18 +109,26 @@ impl<'a, T: Files<File = File>> Source for Folder<'a, T> {
 }
 
 /// Tells that the file of the name at this place could not be taken.
-fn tell_refused(report: &mut Report, names: &FileNames, place: usize, refusal: Refusal) {
+fn tell_refused(report: &mut Report, names: &FileNames, place: usize, refusal: Refusal)
+    ensures told { report.new.any_refused ≡ true }
+{
+    report.refused("read", name_at(names, place), refusal);
+}
+
+/// The bytes of the name at this place; none where there is no such place.
+fn name_at(names: &FileNames, place: usize) -> &[u8] {
     if place < names.names.len() {
-        report.refused("read", names.names[place].as_bytes(), refusal);
+        return names.names[place].as_bytes();
     }
+    b""
 }
 
 /// Tells what became of the object of the name before this place.
-fn tell_settled(report: &mut Report, names: &FileNames, place: usize, settled: Settled) {
-    if place == 0 || place > names.names.len() {
-        return;
-    }
-    let name = names.names[place - 1].as_bytes();
+fn tell_settled(report: &mut Report, names: &FileNames, place: usize, settled: Settled)
+    ensures fine { report.new.any_refused ≡ false
+        → (report.old.any_refused ≡ false) × (was_settled settled ≡ true) }
+{
+    let name = name_at(names, place.saturating_sub(1));
     match settled {
         Settled::Right => {}
         Settled::Put(attempt) => report.answered("put", name, attempt),

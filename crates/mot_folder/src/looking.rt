@@ -1,5 +1,5 @@
 //! A look at a folder, and looks between the turns of a feed.
-ghost use Rattle.std.specs.Prelude.{◌≤◌};
+ghost use Rattle.std.specs.Prelude.{◌≤◌, not, true};
 ghost use Rattle.disk_store.specs.Disk.{KeepsLength};
 ghost use Rattle.mot_folder.specs.Looked.{HasLookedAtFolder};
 ghost use Rattle.mot_journal.specs.Image.{Standing};
@@ -37,7 +37,7 @@ pub fn look_at_folder<T: Files<File = File>, D: Disk>(
     ensures looked { (s : Standing) → Holds server.old.view s (D.state server.old.disk)
         → (D.state server.new.disk).IsHonest
         → HasLookedAtFolder server.old server.new (D.state server.old.disk)
-        (D.state server.new.disk) s (fault_of result) }
+        (D.state server.new.disk) s (not report.new.any_refused) (fault_of result) }
 {
     report.begin();
     let Ok(names) = list(rt, alloc, path, report) else {
@@ -78,6 +78,8 @@ impl<'a, T: Files<File = File>, W: Write + Drop> Looks<'a, T, W> {
 }
 
 impl<'a, T: Files<File = File>, W: Write + Drop> Update for Looks<'a, T, W> {
+    ghost waits = { true };
+
     fn update<D: Disk>(
         &mut self,
         server: &mut Server<D>,

@@ -1,4 +1,7 @@
 //! What is told of a look at a folder, line by line.
+ghost use Rattle.std.specs.Prelude.{◌≡◌, true, false};
+ghost use Rattle.mot_update.specs.Looking.{was_accepted};
+
 use mot_base::Refusal;
 use mot_carousel::Done;
 use mot_lines::{done_text, refusal_text};
@@ -20,7 +23,9 @@ pub struct Report {
 
 impl Report {
     /// Nothing was told.
-    pub fn new(alloc: Global) -> Report {
+    pub fn new(alloc: Global) -> Report
+        ensures fine { result.any_refused ≡ false }
+    {
         Report {
             lines: Vec::new(alloc),
             refused: Vec::new(alloc),
@@ -30,7 +35,9 @@ impl Report {
     }
 
     /// A further look begins.
-    pub fn begin(&mut self) {
+    pub fn begin(&mut self)
+        ensures fine { self.new.any_refused ≡ false }
+    {
         self.lines.clear();
         std::mem::swap(&mut self.refused, &mut self.before);
         self.refused.clear();
@@ -38,7 +45,10 @@ impl Report {
     }
 
     /// What became of a command on the object of this name.
-    pub fn answered(&mut self, what: &str, name: &[u8], attempt: Attempt) {
+    pub fn answered(&mut self, what: &str, name: &[u8], attempt: Attempt)
+        ensures fine { self.new.any_refused ≡ false
+            → (self.old.any_refused ≡ false) × (was_accepted attempt ≡ true) }
+    {
         match attempt {
             Attempt::Accepted(done) => self.done(what, name, done),
             Attempt::Refused(refusal) => self.refused(what, name, refusal),
@@ -46,14 +56,18 @@ impl Report {
     }
 
     /// It was done, with these ids.
-    fn done(&mut self, what: &str, name: &[u8], done: Done) {
+    fn done(&mut self, what: &str, name: &[u8], done: Done)
+        ensures same { self.new.any_refused ≡ self.old.any_refused }
+    {
         let text = done_text(done);
         add_line(&mut self.lines, what, name, text.as_slice());
         let _ = self.lines.push(b'\n');
     }
 
     /// It was refused.
-    pub fn refused(&mut self, what: &str, name: &[u8], refusal: Refusal) {
+    pub fn refused(&mut self, what: &str, name: &[u8], refusal: Refusal)
+        ensures told { self.new.any_refused ≡ true }
+    {
         self.any_refused = true;
         let text = refusal_text(refusal);
         let mut line = Vec::new(*self.lines.allocator());

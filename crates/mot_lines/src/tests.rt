@@ -131,9 +131,11 @@ fn refused_lines(rt: HostRuntime) {
 #[test]
 fn names_of_lines(rt: HostRuntime) -> Result<(), Fail> {
     let alloc = rt.alloc();
-    let longest = line_with(alloc, b"withdraw ", b'n', 255, b"")?;
+    for length in 1..=255 {
+        let line = line_with(alloc, b"withdraw ", b'n', length, b"")?;
+        assert_eq!(rt; refusal_of(alloc, line.as_slice()), None, "{length}");
+    }
     let longer = line_with(alloc, b"withdraw ", b'n', 256, b"")?;
-    assert_eq!(rt; refusal_of(alloc, longest.as_slice()), None);
     assert_eq!(rt;
         refusal_of(alloc, longer.as_slice()),
         Some(Refusal::BadName)

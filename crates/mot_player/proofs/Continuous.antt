@@ -20,7 +20,7 @@ use Rattle.mot_player.proofs.Indexes.{IsLast, IsLast-next, contents-append, kind
 use Rattle.mot_player.proofs.Requests.{>>=-some, FirstRequest, first_request, no_steps, packets_of, place_behind}
 
 -- a segment of a directory or of a body
-abbrev IsKind : Segment → Type 0
+abbrev pub IsKind : Segment → Type 0
 IsKind s = (s.kind ≡ 6) ⊎ (s.kind ≡ 4)
 
 AreKinds-numbered_segments : (kind tid number : ℕ) (ps : List (List ℕ)) → (kind ≡ 6) ⊎ (kind ≡ 4) →
@@ -39,7 +39,7 @@ AreKinds-bodies size (b ∷ bodies) =
     AreKinds-append (segments_of 4 b.0 size b.1) (segments_of_bodies size bodies)
     (AreKinds-numbered_segments 4 b.0 0 (pieces size b.1) (inr refl)) (AreKinds-bodies size bodies)
 
-AreKinds-turn : (turn : Turn) (size : ℕ) → AllByRecursion IsKind (segments_of_turn turn size)
+pub AreKinds-turn : (turn : Turn) (size : ℕ) → AllByRecursion IsKind (segments_of_turn turn size)
 AreKinds-turn turn size =
     AreKinds-append (segments_of 6 turn.tid size turn.directory) (segments_of_bodies size turn.bodies)
     (AreKinds-numbered_segments 6 turn.tid 0 (pieces size turn.directory) (inl refl)) (AreKinds-bodies size turn.bodies)
@@ -191,7 +191,7 @@ contents-test g true = ap (λ c. c ∷ []) (content_of-bytes_of_group g)
 contents-test g false = refl
 
 -- the contents of a type, with one more group
-contents-one : (kind : ℕ) (g : GroupFields) → g.segment.kind < 16 →
+pub contents-one : (kind : ℕ) (g : GroupFields) → g.segment.kind < 16 →
     contents kind (bytes_of_group g ∷ []) ≡ (if g.segment.kind == kind then segment_content g.segment ∷ [] else [])
 contents-one kind g k = rw (kind_of-group g k) (contents-test g (g.segment.kind == kind))
 
@@ -200,7 +200,7 @@ one_type : (s : Segment) → IsKind s → (xs ys : List (List ℕ)) →
 one_type s (inl six) xs ys = rw six refl
 one_type s (inr four) xs ys = rw four refl
 
-kind-fits : (s : Segment) → IsKind s → s.kind < 16
+pub kind-fits : (s : Segment) → IsKind s → s.kind < 16
 kind-fits s (inl six) = omega arith
 kind-fits s (inr four) = omega arith
 

@@ -11,7 +11,7 @@ use Rattle.mot_player.specs.Laws.{TurnsEnd, bytes_due, bytes_due_with, group_byt
 use Rattle.mot_player.specs.Place.{Place, Sent, UnderWay, first_sent, group_for, next_sent, packet_sent, request, to_send, with_begun}
 use Rattle.mot_player.specs.Turn.{segments_of_turn}
 
-length-group : (g : GroupFields) → length (bytes_of_group g) ≡ length g.segment.bytes + 11
+pub length-group : (g : GroupFields) → length (bytes_of_group g) ≡ length g.segment.bytes + 11
 unfolding bytes_of_group
 length-group g =
     let covered : List ℕ = (112 + g.segment.kind) ∷ (16 * g.index) ∷ segment_content g.segment in

@@ -4,6 +4,8 @@
 pub use Rattle.mot_player.proofs.WholeTurn.{turns_read_as_their_carousels}
 -- packets and groups have their continuity indexes, whatever comes between the requests
 pub use Rattle.mot_player.proofs.Continuous.{steps-are-continuous}
+-- the packets of the first sixteen turns can be sent round and round
+pub use Rattle.mot_player.proofs.Rounds.{rounds_are_continuous}
 -- one more request, and one more change, go on where the steps before left off
 pub use Rattle.mot_player.proofs.GoesOn.{requests-go_on, changes-go_on}
 -- and so do further steps

@@ -1,6 +1,7 @@
 pub mod Addresses
 pub mod Answered
 pub mod Continuous
+pub mod Cycles
 pub mod Ending
 pub mod GoesOn
 pub mod Indexes
@@ -10,7 +11,9 @@ pub mod Nearer
 pub mod NextSegment
 pub mod Plans
 pub mod Requests
+pub mod Rounds
 pub mod Rows
 pub mod Segments
+pub mod SomeBodies
 pub mod TurnReads
 pub mod WholeTurn

@@ -45,7 +45,7 @@ taken old new bodies p are next inside range same_turn same_size entity segment 
       waiting = rw (same_turn, same_size, entity, segment) refl;
     }
 
-blank-lengths : (plans : List BodyPlan) →
+pub blank-lengths : (plans : List BodyPlan) →
     map (length {A = ℕ}) (map (λ (b : BodyPlan). replicate {A = ℕ} b.length 0) plans)
     ≡ map (λ (b : BodyPlan). b.length) plans
 blank-lengths [] = refl
@@ -54,7 +54,7 @@ blank-lengths (b ∷ plans) =
     ap (λ (n : ℕ). n ∷ map (length {A = ℕ}) others) (length-replicate {A = ℕ} b.length 0)
     ∙ ap (λ ns. b.length ∷ ns) (blank-lengths plans)
 
-are-blank : (plan : TurnPlan) → AreBodiesFor plan (blank_bodies plan)
+pub are-blank : (plan : TurnPlan) → AreBodiesFor plan (blank_bodies plan)
 are-blank plan = blank-lengths plan.bodies
 
 -- a packet of the group that is under way

@@ -149,21 +149,21 @@ record SendsBehind (front group : List ℕ) (segments : List Segment) (packets :
   carry : map (λ (g : GroupFields). g.segment) groups ≡ segments
   are_groups : AllByRecursion IsGroup groups
 
-abbrev ends_of : List Sent → List Bool
+abbrev pub ends_of : List Sent → List Bool
 ends_of sents = map (λ (s : Sent). s.ends_turn) sents
 
 -- only the last of n + 1 packets ends the turn
-abbrev last_ends : ℕ → List Bool
+abbrev pub last_ends : ℕ → List Bool
 last_ends n = replicate n false ++ true ∷ []
 
 abbrev head_of : List Bool → Bool
 head_of [] = true
 head_of (b ∷ bs) = b
 
-head-false : (bs cs : List Bool) → false ∷ bs ≡ true ∷ cs → ⊥
+pub head-false : (bs cs : List Bool) → false ∷ bs ≡ true ∷ cs → ⊥
 head-false bs cs e = false≢true (ap head_of e)
 
-head-true : (bs cs : List Bool) → true ∷ bs ≡ false ∷ cs → ⊥
+pub head-true : (bs cs : List Bool) → true ∷ bs ≡ false ∷ cs → ⊥
 head-true bs cs e = false≢true (sym (ap head_of e))
 
 is_group : (index : ℕ) (s : Segment) → index < 16 → IsFit s → IsGroup (record { index = index; segment = s })

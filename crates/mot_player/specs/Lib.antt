@@ -1,8 +1,10 @@
+pub mod AnyBodies
 pub mod Bodies
 pub mod Continuity
 pub mod Inner
 pub mod Laws
 pub mod Place
 pub mod Reading
+pub mod Rounds
 pub mod Standing
 pub mod Turn

@@ -5,10 +5,12 @@ ghost use Rattle.mot_base.specs.declared.refusal.Refusal.TheVariants.{OutOfMemor
 ghost use Rattle.mot_packets.specs.Packet.{read_packet};
 ghost use Rattle.mot_player.specs.Bodies.{Rises};
 ghost use Rattle.mot_player.specs.Standing.{AreBodiesFor, place_of, turn_of};
+ghost use Rattle.mot_player.specs.AnyBodies.{IsStepOfSome};
 ghost use Rattle.mot_player.specs.Laws.{ChangesGoOn, IsPlace, IsStep, RequestsGoOn};
 ghost use Rattle.mot_player.specs.Laws.{StepsAreContinuous, bytes_left};
 ghost use Rattle.mot_player.specs.Laws.{TurnsEnd, TurnsReadAsTheirCarousels};
 ghost use Rattle.mot_player.specs.Place.{Sent, change_turn, opened_place, request};
+ghost use Rattle.mot_player.specs.Rounds.{RoundsAreContinuous};
 
 use crate::last_group::LastGroup;
 use crate::state::State;
@@ -59,6 +61,9 @@ impl Player {
         // The packets of a whole turn of a carousel read as exactly the carousel.
         ensures turns { OnOk result TurnsReadAsTheirCarousels }
         ensures turns_end { OnOk result TurnsEnd }
+
+        // The packets of the first sixteen turns can be sent round and round.
+        ensures rounds { OnOk result RoundsAreContinuous }
         ensures requests { OnOk result RequestsGoOn }
         ensures changes { OnOk result ChangesGoOn }
     {
@@ -114,6 +119,10 @@ impl Player {
         ensures sent { B.IsHonest bodies.new → IfOk result (λ played.
             IsStep (place_of self.old (B.bodies bodies.old)) played.packet.items played.ends_turn
             (place_of self.new (B.bodies bodies.old))) }
+
+        // Whatever bytes a read gave, it is the next packet of some bodies of the turn's lengths.
+        ensures sent_of_some { IfOk result (λ played. IsStepOfSome self.old
+            played.packet.items played.ends_turn self.new) }
         ensures turn { self.new.turn ≡ self.old.turn }
         ensures size { self.new.segment_size ≡ self.old.segment_size }
         ensures stays { OnErr result (self.new ≡ self.old) }

@@ -32,6 +32,10 @@ pub(crate) fn read_front<B: Bodies>(
     ensures bytes { B.IsHonest bodies.new → OnOk result
         (take len buffer.new.items
         ≡ take len (drop from (entity_bytes turn.now (B.bodies bodies.old) entity))) }
+
+    // The directory stands in the turn, and no read can change it.
+    ensures directory { entity ≡ 0 → OnOk result
+        (take len buffer.new.items ≡ take len (drop from turn.now.directory)) }
 {
     let (front, _) = buffer.as_mut_slice().split_at_mut(len);
     read_entity(turn, bodies, entity, from, front)
@@ -58,6 +62,8 @@ fn read_entity<B: Bodies>(
     ensures bytes { B.IsHonest bodies.new → OnOk result
         (out.new ≡ slice_range (entity_bytes turn.now (B.bodies bodies.old) entity) from
         (from + length out.old)) }
+    ensures directory { entity ≡ 0 → OnOk result
+        (out.new ≡ slice_range turn.now.directory from (from + length out.old)) }
 {
     if entity == 0 {
         out.copy_from_slice(&turn.directory()[from..from + out.len()]);

@@ -1,10 +1,10 @@
-ghost use Rattle.std.specs.Prelude.{◌≡◌, ℕ, ◌+◌, ◌<◌, ◌≤◌, List, length, map, vec_len, Some, IfErr};
-ghost use Rattle.std.specs.Prelude.{OnOk, OnErr};
+ghost use Rattle.std.specs.Prelude.{◌≡◌, ℕ, ◌+◌, ◌^◌, ◌<◌, ◌≤◌, List, length, map, take, drop};
+ghost use Rattle.std.specs.Prelude.{vec_len, Some, IfErr, OnOk, OnErr};
 ghost use Rattle.mot_base.specs.declared.refusal.Refusal.TheVariants.{DeviceFault};
 
 use crate::last::begin_group;
 use crate::last_group::LastGroup;
-use crate::part::part_at;
+use crate::part::{Part, part_at};
 use crate::reading::read_front;
 use crate::{Bodies, Turn};
 use mot_base::{Address, GroupKind, PacketLength, Refusal, SegmentSize};
@@ -46,7 +46,9 @@ impl State {
     ghost use Rattle.mot_player.specs.Place.{packet_sent};
     ghost use Rattle.mot_player.specs.Inner.Ready.{HasBegun, HasTaken, IsFitted, place_with};
     ghost use Rattle.mot_player.specs.Inner.Ready.{standing_of};
-    ghost use Rattle.mot_player.specs.Standing.{AreBodiesFor};
+    ghost use Rattle.mot_player.specs.Inner.Next.{IsNext};
+    ghost use Rattle.mot_player.specs.Standing.{AreBodiesFor, IsWithinTurn, entity_bytes};
+    ghost use Rattle.mot_player.specs.Standing.{entity_length};
 
     /// Begins the group of the next segment, of which no packet is sent yet. Where a read of the
     /// bodies fails, all stays as it was.
@@ -57,6 +59,10 @@ impl State {
         ensures fitted { IsFitted self.new }
         ensures begun { B.IsHonest bodies.new
             → OnOk result (HasBegun self.old self.new (B.bodies bodies.old)) }
+
+        // Whatever a read gave, it is the group of some bodies of those lengths.
+        ensures of_some { OnOk result ((some : List (List ℕ)) × AreBodiesFor self.old.turn some
+            × HasBegun self.old self.new some) }
         ensures taken { OnOk result ((bodies : List (List ℕ)) → AreBodiesFor self.old.turn bodies
             → HasTaken self.old self.new bodies) }
         ensures sent { self.new.sent ≡ 0 }
@@ -81,6 +87,34 @@ impl State {
             part.len,
             &mut self.buffer,
         )?;
+        self.begin_part(part);
+        Ok(())
+    }
+
+    /// Begins the group of a part, whose bytes are the front of the buffer.
+    fn begin_part(&mut self, part: Part)
+        requires fitted { IsFitted self.old }
+        requires sent { self.old.sent ≡ 0 }
+        requires entity { part.entity < length self.old.turn.bodies + 1 }
+        requires range { part.from + part.len ≤ entity_length self.old.turn part.entity }
+        requires len { (0 < part.len) × (part.len ≤ self.old.segment_size) }
+        requires number { part.number < 2 ^ 15 }
+        requires within { IsWithinTurn self.old.turn self.old.segment_size part.next_entity
+            part.next_segment }
+        requires next { IsNext self.old.turn self.old.segment_size self.old.entity
+            self.old.segment part }
+        ensures fitted { IsFitted self.new }
+        ensures begun { (bodies : List (List ℕ)) → AreBodiesFor self.old.turn bodies
+            → take part.len self.old.buffer.items
+            ≡ take part.len (drop part.from (entity_bytes self.old.turn bodies part.entity))
+            → HasBegun self.old self.new bodies }
+        ensures taken { (bodies : List (List ℕ)) → AreBodiesFor self.old.turn bodies
+            → HasTaken self.old self.new bodies }
+        ensures sent { self.new.sent ≡ 0 }
+        ensures some { 0 < vec_len self.new.group }
+        ensures turn { self.new.turn ≡ self.old.turn }
+        ensures size { self.new.segment_size ≡ self.old.segment_size }
+    {
         let tid = self.turn.entity_tid(part.entity);
         let bytes = &self.buffer.as_slice()[..part.len];
         if part.entity == 0 {
@@ -106,7 +140,6 @@ impl State {
         }
         self.entity = part.next_entity;
         self.segment = part.next_segment;
-        Ok(())
     }
 
     /// Sends the next packet of the group that was begun.

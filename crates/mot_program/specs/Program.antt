@@ -101,9 +101,13 @@ module _ {S : Type 0} {start : Ghosts S} where
 abbrev pub IsMakingRefusal : Geometry → Refusal → Type 0
 IsMakingRefusal g r = (r ≡ DeviceFault) ⊎ ((r ≡ BadGeometry) × (IsValid g → ⊥))
 
+-- The same of a disk in memory: no device is asked for.
+abbrev pub IsMemoryRefusal : Geometry → Refusal → Type 0
+IsMemoryRefusal g r = (r ≡ OutOfMemory) ⊎ ((r ≡ BadGeometry) × (IsValid g → ⊥))
+
 -- why a task is not begun
 abbrev pub IsBeginningRefusal : Task → Refusal → Type 0
-IsBeginningRefusal (Memory g) r = (r ≡ OutOfMemory) ⊎ IsMakingRefusal g r
+IsBeginningRefusal (Memory g) r = IsMemoryRefusal g r
 IsBeginningRefusal (Format path g) r = IsMakingRefusal g r
 IsBeginningRefusal (Serve path) r = r ≡ DeviceFault
 IsBeginningRefusal (Check path) r = r ≡ DeviceFault

@@ -2,8 +2,8 @@
 ghost use Rattle.std.specs.Prelude.{◌≡◌, ◌⊎◌, OnOk, IfErr};
 ghost use Rattle.std.specs.Io.KnownBytes.{Keeps};
 ghost use Rattle.disk_store.specs.Disk.{KeepsLength};
-ghost use Rattle.mot_base.specs.declared.refusal.Refusal.TheVariants.{DeviceFault, OutOfMemory};
-ghost use Rattle.mot_program.specs.Program.{IsMakingRefusal, IsUntold, OnMemory, OnOpened, SinceNew};
+ghost use Rattle.mot_base.specs.declared.refusal.Refusal.TheVariants.{DeviceFault};
+ghost use Rattle.mot_program.specs.Program.{IsMemoryRefusal, IsUntold, OnMemory, OnOpened, SinceNew};
 ghost use Rattle.mot_program.specs.Serving.{ServesInput, StopsServing};
 
 use crate::ended::{Ended, Finished, UsedDisk};
@@ -31,7 +31,7 @@ pub(crate) fn serve_memory<S: Start, R: Read, W: Write>(
     ensures done { OnOk result.result (OnMemory (SinceNew geometry (ServesInput
         (R.remaining reader.old) (R.remaining reader.new)
         (W.contents writer.old) (W.contents writer.new))) result.disk) }
-    ensures refused { IfErr result.result (λ r. (((r ≡ OutOfMemory) ⊎ IsMakingRefusal geometry r)
+    ensures refused { IfErr result.result (λ r. (IsMemoryRefusal geometry r
         × IsUntold result.disk (W.contents writer.old) (W.contents writer.new)
         × Keeps (R.remaining reader.old) (R.remaining reader.new))
         ⊎ OnMemory (SinceNew geometry (StopsServing r
@@ -44,9 +44,9 @@ pub(crate) fn serve_memory<S: Start, R: Read, W: Write>(
     let Some(mut disk) = RamDisk::new(alloc, geometry.length()) else {
         return Finished::untouched(Refusal::OutOfMemory, start);
     };
-    // A disk of zeros that is long enough is refused for nothing else.
+    // A disk of zeros that is long enough fails for nothing else.
     let Ok(()) = format(&mut disk, &geometry) else {
-        return Finished::untouched(Refusal::DeviceFault, start);
+        return Finished::untouched(Refusal::OutOfMemory, start);
     };
     let ended = serve_disk(alloc, disk, reader, writer);
     Finished {

@@ -1,15 +1,18 @@
 -- Playing, request by request.
 use Rattle.std.proofs.Common.{◌≡◌, ℕ, suc, zero, Bool, true, false, List, [], ◌∷◌, ◌++◌, length, map, replicate, Option, Some}
-use Rattle.std.proofs.Common.{refl, sym, ap, ◌∙◌, subst}
+use Rattle.std.proofs.Common.{refl, sym, ap, ◌∙◌, subst, inl, inr}
+use Rattle.std.proofs.lemmas.Bool.{false≢true}
 use Rattle.std.proofs.lemmas.List.{map-append}
-use Rattle.std.specs.Prelude.{Result, Ok, Err, OnErr}
+use Rattle.std.specs.Prelude.{◌⊎◌, Result, Ok, Err, OnErr, IsErr, MatchResult}
 use Rattle.arrayvec.specs.ArrayVec.{ArrayVec}
 use Rattle.mot_base.specs.Reading.{read_each}
 use Rattle.mot_base.proofs.Laws.{read_each-append}
 use Rattle.mot_packets.specs.Packet.{PacketFields, read_packet}
 use Rattle.mot_packets.specs.Written.{bytes_of_packet}
+use Rattle.mot_player.specs.AnyBodies.{IsStepOfSome, PlaysOn, PlaysToTheEnd}
 use Rattle.mot_player.specs.Laws.{AreSent, IsStep}
 use Rattle.mot_player.specs.Place.{Place, Sent, Request, sent_by}
+use Rattle.mot_player.specs.Standing as player
 use Rattle.mot_player.proofs.Laws.{requests-go_on}
 use Rattle.mot_server.specs.Inner.Going.{IsGoing}
 use Rattle.mot_server.specs.Playing.{HasPlayed, HasPlayedTurn, bytes_of_packets}
@@ -113,3 +116,32 @@ bytes_of_packets-more packets packet = map-append (λ (p : ArrayVec ℕ). p.item
 pub OnErr-always : {A E : Type 0} (r : Result A E) (P : Type 0) → P → OnErr r P
 OnErr-always (Ok x) P p = tt
 OnErr-always (Err e) P p = p
+
+-- one packet more, of some bodies
+pub PlaysOn-more : (old mid new : player.Standing) (packets : List (List ℕ)) (packet : List ℕ) →
+    PlaysOn old packets mid → IsStepOfSome mid packet false new →
+    PlaysOn old (packets ++ packet ∷ []) new
+PlaysOn-more old mid new [] packet on step =
+    (new, subst (λ (s : player.Standing). IsStepOfSome s packet false new) on step, refl)
+PlaysOn-more old mid new (p ∷ packets) packet on step =
+    (on.0, on.1, PlaysOn-more on.0 mid new packets packet on.2 step)
+
+-- and whether it ends the turn
+pub plays_one_more : (old mid new : player.Standing) (packets : List (List ℕ)) (packet : List ℕ)
+    (ends : Bool) → PlaysOn old packets mid → IsStepOfSome mid packet ends new →
+    PlaysOn old (packets ++ packet ∷ []) new ⊎ PlaysToTheEnd old (packets ++ packet ∷ []) new
+plays_one_more old mid new packets packet true on step = inr (record {
+  before = packets;
+  last = packet;
+  mid = mid;
+  all = refl;
+  goes_on = on;
+  ends = step;
+})
+plays_one_more old mid new packets packet false on step =
+    inl (PlaysOn-more old mid new packets packet on step)
+
+pub MatchResult-failed : {A E : Type 0} (r : Result A E) (P : A → Type 0) (Q : Type 0) → IsErr r →
+    Q → MatchResult r P (λ e. Q)
+MatchResult-failed (Ok x) P Q err q = absurd (false≢true err)
+MatchResult-failed (Err e) P Q err q = q

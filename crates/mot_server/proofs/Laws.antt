@@ -6,6 +6,9 @@ pub use Rattle.mot_server.proofs.Acceptance.{is_accepted, no_gap}
 pub use Rattle.mot_server.proofs.Runs.{after_none, after_one, after_both}
 pub use Rattle.mot_server.proofs.Runs.{more, less_sure, none_of, before_or_after}
 pub use Rattle.mot_server.proofs.Survival.{after_history_none}
+-- what was left of a disk that was formatted here
+pub use Rattle.mot_server.proofs.Lives.{plays_after, plays_new}
+pub use Rattle.mot_server.proofs.Survival.{passing, if_err}
 -- calls that change nothing, one after the other
 pub use Rattle.mot_server.proofs.Read.{holds_still, keeps_on, rises_on, unchanged_on}
 -- a device fault leaves the carousel in memory as it was

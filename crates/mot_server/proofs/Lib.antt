@@ -6,6 +6,7 @@ pub mod Going
 pub mod Histories
 pub mod Joins
 pub mod Laws
+pub mod Lives
 pub mod Openings
 pub mod Places
 pub mod Read

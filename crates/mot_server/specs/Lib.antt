@@ -2,6 +2,7 @@ pub mod Attempts
 pub mod Bodies
 pub mod History
 pub mod Inner
+pub mod Life
 pub mod Marks
 pub mod Playing
 pub mod RunAnswers

@@ -1,7 +1,7 @@
 -- The words of the headline: which commands of a run were accepted, which one was in flight, and
 -- what a carousel is after commands.
 use Rattle.std.specs.Prelude.{◌≡◌, ℕ, ◌≤◌, Bool, true, false, List, [], ◌∷◌, ◌++◌, length}
-use Rattle.std.specs.Prelude.{take, drop, Option, Some, None, if◌then◌else◌}
+use Rattle.std.specs.Prelude.{take, drop, Option, Some, if◌then◌else◌}
 use Rattle.mot_base.specs.declared.refusal.Refusal.{Refusal}
 use Rattle.mot_base.specs.declared.refusal.Refusal.TheVariants.{DeviceFault}
 use Rattle.mot_carousel.specs.declared.command.Command.{Command}
@@ -18,8 +18,7 @@ accepted_commands (command ∷ commands) (false ∷ marks) = accepted_commands c
 
 abbrev pub is_device_fault : Option Refusal → Bool
 is_device_fault (Some DeviceFault) = true
-is_device_fault (Some refusal) = false
-is_device_fault None = false
+is_device_fault fault = false
 
 -- where the run ended in a device fault, the one command after those that were marked
 abbrev pub commands_in_flight : List Command → List Bool → Option Refusal → List Command

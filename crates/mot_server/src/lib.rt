@@ -5,6 +5,7 @@ mod beginning;
 mod bodies;
 mod comparing;
 mod headline;
+mod life;
 mod playing;
 mod restarting;
 mod running;
@@ -12,6 +13,7 @@ mod server;
 
 pub use beginning::{Beginning, format_and_restart};
 pub use headline::{Aftermath, run_and_restart};
+pub use life::{FirstTurn, Life, first_turn, format_and_open, format_run_and_restart};
 pub use mot_repository::Refused;
 pub use restarting::{Restarted, restart};
 pub use running::{Attempt, RunEnd};

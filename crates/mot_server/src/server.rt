@@ -56,6 +56,7 @@ impl<D: Disk> Server<D> {
     ghost use Rattle.mot_journal.specs.Image.{stands_for, IsClean};
     ghost use Rattle.mot_journal.specs.Journal.{StandsWhere};
     ghost use Rattle.mot_journal.specs.declared.layout.Layout.TheVariants.{One, Two};
+    ghost use Rattle.mot_player.specs.AnyBodies.{IsStepOfSome, PlaysOn, PlaysToTheEnd};
     ghost use Rattle.mot_player.specs.Laws.{ChangesGoOn, IsStep, RequestsGoOn};
     ghost use Rattle.mot_player.specs.Laws.{StepsAreContinuous};
     ghost use Rattle.mot_player.specs.Laws.{TurnsEnd, TurnsReadAsTheirCarousels};
@@ -239,6 +240,10 @@ impl<D: Disk> Server<D> {
             (place_in self.old s) played.packet.items played.ends_turn (place_in self.new s)) }
         ensures stays { OnErr result (self.new.player ≡ self.old.player) }
 
+        // On every disk it is the next packet of some bodies of the turn's lengths.
+        ensures of_some { IfOk result (λ played. IsStepOfSome self.old.player
+            played.packet.items played.ends_turn self.new.player) }
+
         // On every disk, each packet brings the end of the turn nearer.
         ensures nearer { IfOk result (λ played. played.ends_turn ≡ false
             → bytes_left self.new.player < bytes_left self.old.player) }
@@ -278,6 +283,13 @@ impl<D: Disk> Server<D> {
             → (D.state self.new.disk).IsHonest → OnErr result ((count : ℕ)
             × (packets : List (List ℕ)) × HasPlayed (place_in self.old s) count packets
             (place_in self.new s)) }
+
+        // On every disk they are packets of some bodies of the turn's lengths.
+        ensures of_some { MatchResult result
+            (λ packets. PlaysToTheEnd self.old.player (bytes_of_packets packets.items)
+            self.new.player)
+            (λ refusal. (packets : List (List ℕ)) × (PlaysOn self.old.player packets
+            self.new.player ⊎ PlaysToTheEnd self.old.player packets self.new.player)) }
         ensures going { OnOk result (IsFalse self.old.view.halted) }
         ensures refused { IfErr result (λ refusal. IsTurnRefusal self.old self.new
             (D.state self.old.disk).failures (D.state self.new.disk).failures refusal) }

@@ -1,5 +1,7 @@
 //! What no clause says: that calls succeed where there is memory and the disk does not fail, and
 //! the headers of some packets.
+mod life;
+
 use super::*;
 use disk_store::{Disk, MemoryDisk};
 use mot_base::Refusal;

@@ -93,7 +93,7 @@ session-halted before [] after s is = subst (λ (a : ServerState). IsTrue a.halt
 session-halted before (x ∷ xs) after s is =
     session-halted x.after xs after s.1 (halted-on before x (outcome_of before x s.0) is)
 
-halted_or_not : (b : Bool) → IsTrue b ⊎ IsFalse b
+pub halted_or_not : (b : Bool) → IsTrue b ⊎ IsFalse b
 halted_or_not true = inl refl
 halted_or_not false = inr refl
 

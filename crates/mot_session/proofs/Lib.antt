@@ -7,6 +7,7 @@ pub mod Each
 pub mod Fronts
 pub mod Joined
 pub mod Laws
+pub mod Lives
 pub mod Outcomes
 pub mod Packets
 pub mod Replies
@@ -14,5 +15,6 @@ pub mod Requests
 pub mod Rows
 pub mod Runs
 pub mod SessionLaws
+pub mod Telling
 pub mod Told
 pub mod Written

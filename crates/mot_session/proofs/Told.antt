@@ -4,7 +4,7 @@ use Rattle.std.proofs.Common.{sym, ap, ◌∙◌, subst, arith, append_assoc, ap
 use Rattle.std.proofs.Math.Seq.{take-append-add}
 use Rattle.std.specs.Prelude.{IsFalse, OnOk, OnErr}
 use Rattle.disk_store.specs.Disk.{State, IsHonestDisk}
-use Rattle.disk_store.proofs.Laws.{at_end}
+use Rattle.disk_store.proofs.Laws.{at_end, weakens}
 use Rattle.mot_carousel.specs.declared.command.Command.{Command}
 use Rattle.mot_journal.specs.Image.{Standing}
 use Rattle.mot_lines.specs.Line.{line_of}
@@ -22,7 +22,7 @@ use Rattle.mot_session.proofs.Crashes.{behind, made}
 use Rattle.mot_session.proofs.Outcomes.{Outcome, nothing, one, halts, begun_outcome, outcome}
 
 -- some of what is sure may be told as what may be
-less_of_sure : (s : Standing) (sure done others : List Command) (image : List ℕ)
+pub less_of_sure : (s : Standing) (sure done others : List Command) (image : List ℕ)
     → StandsAfterSome s (sure ++ done) others image → StandsAfterSome s sure (done ++ others) image
 less_of_sure s sure done others image is =
     let count : ℕ = is.after.count in record {
@@ -75,7 +75,8 @@ module _ (start now : State) (before : ServerState) (x : Exchange) (sound : IsHo
   keeps = record {
     after = accepted_more;
     at_end = λ image left. leaves what image (sound.only_now image left);
-    any_moment = λ image left. came image ((crosses.going going).each image left);
+    any_moment = weakens start now (StandsAfterSome before.standing [] (accepted_in x ++ failed_in x))
+        (StandsAfterSome s acknowledged (accepted_in x ++ failed_in x)) (crosses.going going) came;
     earlier = λ moment sure others early parts stored image left.
         ⊎_elim {C = StandsAfterSome s sure (others ++ (accepted_in x ++ failed_in x)) image}
         (λ was. more s sure others (accepted_in x ++ failed_in x) image (stored image was))

@@ -1,5 +1,6 @@
 pub mod Inner
 pub mod Laws
+pub mod Life
 pub mod LineByLine
 pub mod OnAnyDisk
 pub mod Played

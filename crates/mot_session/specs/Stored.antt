@@ -2,7 +2,7 @@
 use Rattle.std.specs.Prelude.{ℕ, ◌≡◌, ◌≤◌, Bool, true, false, List, [], ◌∷◌, ◌++◌, Result, Ok, Err}
 use Rattle.std.specs.Prelude.{IsFalse, if◌then◌else◌}
 use Rattle.std.specs.List.{flat_map}
-use Rattle.disk_store.specs.Disk.{State}
+use Rattle.disk_store.specs.Disk.{State, Throughout}
 use Rattle.mot_base.specs.declared.refusal.Refusal.{Refusal}
 use Rattle.mot_base.specs.declared.refusal.Refusal.TheVariants.{DeviceFault}
 use Rattle.mot_carousel.specs.declared.command.Command as command
@@ -73,7 +73,8 @@ pub record KeepsAcknowledged (start now : State) (s : Standing)
   -- Now a crash leaves all of these, and at most the one that a device fault cut off.
   pub at_end : HoldsSince now now.moment s (acknowledged ++ accepted_in x) (failed_in x)
   -- Since the start one leaves all that were acknowledged before, and at most the line's command.
-  pub any_moment : HoldsSince now start.moment s acknowledged (accepted_in x ++ failed_in x)
+  pub any_moment :
+      Throughout start now (StandsAfterSome s acknowledged (accepted_in x ++ failed_in x))
   -- What was stored since an earlier moment stays stored.
   pub earlier : (moment : ℕ) (sure others : List command.Command) → moment ≤ start.moment
       → acknowledged ≡ sure ++ others → HoldsSince start moment s sure others

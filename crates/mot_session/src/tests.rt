@@ -1,6 +1,7 @@
 mod commands;
 mod failing;
 mod halting;
+mod life;
 mod playing;
 mod receiving;
 mod stops;

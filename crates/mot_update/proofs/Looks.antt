@@ -2,11 +2,11 @@
 use Rattle.std.proofs.Common.{◌≡◌, ℕ, zero, suc, ◌+◌, ◌<◌, ◌≤◌, Bool, true, false, not, ◌||◌, List, []}
 use Rattle.std.proofs.Common.{◌∷◌, ◌++◌, length, map, take, Option, Some, None, refl, sym, ap, ◌∙◌}
 use Rattle.std.proofs.Common.{subst, arith, append_assoc, append-nil, cond, drop, get_or, Result, Ok, Err}
-use Rattle.std.proofs.Common.{take-append-drop}
+use Rattle.std.proofs.Common.{add-one, take-append-drop}
 use Rattle.std.specs.Prelude.{IsErr}
 use Rattle.std.proofs.lemmas.List.{take_all, take_more}
-use Rattle.std.specs.Prelude.{bytes_eq, slice_get, filter}
-use Rattle.std.specs.List.{flat_map, list_any, AllByRecursion}
+use Rattle.std.specs.Prelude.{bytes_eq, slice_get}
+use Rattle.std.specs.List.{flat_map, AllByRecursion}
 use Rattle.std.proofs.lemmas.Bool.{and_parts, and_from, or_parts, or_from, not-true, not_from_false}
 use Rattle.std.proofs.lemmas.Grind.{flat_map-append}
 use Rattle.std.proofs.lemmas.List.{map-append}
@@ -14,7 +14,6 @@ use Rattle.std.proofs.lemmas.List.Concat.{flat_map-cons}
 use Rattle.disk_store.specs.Disk.{State, IsHonestDisk, IsUnchanged}
 use Rattle.mot_base.specs.declared.refusal.Refusal.{Refusal}
 use Rattle.mot_carousel.specs.Carousel.{Carousel, are_names_distinct, carousel_after}
-use Rattle.mot_carousel.specs.Carousel as whole
 use Rattle.mot_carousel.specs.Stands.{object_of, objects_of}
 use Rattle.mot_carousel.specs.declared.command.Command.{Command}
 use Rattle.mot_carousel.specs.declared.command.Command.TheVariants.{Withdraw}
@@ -25,10 +24,16 @@ use Rattle.mot_server.specs.Runs.{accepted_commands}
 use Rattle.mot_server.specs.Server.{ServerView}
 use Rattle.mot_update.specs.declared.wanted.Wanted.{Wanted}
 use Rattle.mot_update.specs.HasRun.{HasRun}
-use Rattle.mot_update.specs.Laws.{IsUpdate, names_of}
-use Rattle.mot_update.specs.Looking.{Gives, HasLooked, HasSettled, RunsThrough, unknown_names}
-use Rattle.mot_update.specs.Looking.{withdraw_all}
-use Rattle.mot_update.specs.Updating.{is_known, settling, settling_of, updating, withdrawal}
+use Rattle.mot_update.specs.Laws.{names_of}
+use Rattle.mot_server.specs.Attempts as attempts
+use Rattle.mot_server.specs.declared.running.Attempt.{Attempt}
+use Rattle.mot_server.specs.declared.running.Attempt.TheVariants.{Accepted, Refused}
+use Rattle.mot_update.specs.HasRun.{marks_of}
+use Rattle.mot_update.specs.Looking.{AreAccepted, Gives, HasLooked, HasSettled, RunsThrough}
+use Rattle.mot_update.specs.Looking.{unknown_names, was_accepted, was_settled, withdraw_all}
+use Rattle.mot_update.specs.declared.settling.Settled.{Settled}
+use Rattle.mot_update.specs.declared.settling.Settled.TheVariants.{Right, Put, Replaced}
+use Rattle.mot_update.specs.Updating.{is_known, settling, settling_of, withdrawal}
 use Rattle.mot_update.specs.Updating.{withdrawals}
 use Rattle.mot_update.proofs.Found.{from_no, not_both, own_name, same_name, turned}
 use Rattle.mot_update.proofs.Made.{IsOfOther, settlings-others, untouched, withdrawals-others}
@@ -115,6 +120,30 @@ names-push (m ∷ names) n d e =
     (not_from_false _ (known-push names n m (not-true _ p.0) (turned n m q.0)))
     (names-push names n p.1 q.1)
 
+-- ---- nothing was refused
+
+pub accepted-append : (marks others : List Bool) → AreAccepted marks → AreAccepted others
+    → AreAccepted (marks ++ others)
+accepted-append [] others all more = more
+accepted-append (mark ∷ marks) others all more = (all.0, accepted-append marks others all.1 more)
+
+pub accepted_one : (attempt : Attempt) → was_accepted attempt ≡ true
+    → AreAccepted (attempts.marks_of (Ok attempt))
+accepted_one (Accepted done) is = (refl, tt)
+accepted_one (Refused refusal) is = (is, tt)
+
+pub accepted_settled : (settled : Settled) → was_settled settled ≡ true
+    → AreAccepted (marks_of (Ok settled))
+accepted_settled Right is = tt
+accepted_settled (Put attempt) is = accepted_one attempt is
+accepted_settled (Replaced attempt) is = accepted_one attempt is
+
+take_next : (names : List (List ℕ)) (i : ℕ) (n : List ℕ) → slice_get names i ≡ Some n
+    → take (suc i) names ≡ take i names ++ n ∷ []
+take_next [] i n at = absurd (nowhere n at)
+take_next (x ∷ names) zero n at = ap (λ y. y ∷ []) (some_is x n at)
+take_next (x ∷ names) (suc i) n at = ap (λ l. x ∷ l) (take_next names i n at)
+
 -- ---- what was given
 
 pub gives_nil : (a : Option (List Wanted)) → Gives a a []
@@ -153,7 +182,8 @@ flat_map-push f wanted w =
 
 -- objects settled so far, and how many of the names were gone over
 pub record SettledSoFar {D : Type 0} (old new : ServerView D) (start now : State) (s : Standing)
-    (names : List (List ℕ)) (place : ℕ) (before after : Option (List Wanted)) : Type 0 where
+    (names : List (List ℕ)) (first place : ℕ) (before after : Option (List Wanted))
+    (fine : Bool) : Type 0 where
   pub wanted : List Wanted
   pub gives : Gives before after wanted
   pub known : AllByRecursion (λ (w : Wanted). is_known names w.name ≡ true) wanted
@@ -161,12 +191,14 @@ pub record SettledSoFar {D : Type 0} (old new : ServerView D) (start now : State
   pub below : AllByRecursion (IsBelow names place) wanted
   pub marks : List Bool
   pub run : HasRun old new start now s (flat_map (settling s.carousel.objects) wanted) marks None
+  pub every : fine ≡ true → take first names ++ names_of wanted ≡ take place names
+  pub accepted : fine ≡ true → AreAccepted marks
 
 pub settled_none : {D : Type 0} (old : ServerView D) (start : State) (s : Standing)
-    (names : List (List ℕ)) (place : ℕ) (given : Option (List Wanted)) → IsHonestDisk start
-    → start.IsHonest → IsUnchanged start start → Holds old.view s start
-    → SettledSoFar old old start start s names place given given
-settled_none old start s names place given sound honest still holds = record {
+    (names : List (List ℕ)) (place : ℕ) (given : Option (List Wanted)) (fine : Bool)
+    → IsHonestDisk start → start.IsHonest → IsUnchanged start start → Holds old.view s start
+    → SettledSoFar old old start start s names place place given given fine
+settled_none old start s names place given fine sound honest still holds = record {
   wanted = [];
   gives = gives_nil given;
   known = tt;
@@ -174,14 +206,16 @@ settled_none old start s names place given sound honest still holds = record {
   below = tt;
   marks = [];
   run = (has_read old old start start s None sound refl refl honest still holds).0;
+  every = λ e. append-nil (take place names);
+  accepted = λ e. tt;
 }
 
 module _ {D : Type 0} (old mid new : ServerView D) (start between now : State) (s : Standing)
-    (names : List (List ℕ)) (place further : ℕ) (before after then_given last : Option (List Wanted))
-    (w : Wanted) (distinct : are_names_distinct names ≡ true)
+    (names : List (List ℕ)) (first place further : ℕ)
+    (before after then_given last : Option (List Wanted)) (fine : Bool) (w : Wanted) (distinct : are_names_distinct names ≡ true)
     (is : (i : ℕ) × (place ≤ i) × (i < further) × (slice_get names i ≡ Some w.name))
     (one_given : Gives after then_given (w ∷ [])) (rest_given : Gives then_given last [])
-    (so_far : SettledSoFar old mid start between s names place before after) where
+    (so_far : SettledSoFar old mid start between s names first place before after fine) where
   new_name : is_known (names_of so_far.wanted) w.name ≡ false
   new_name = fresh names place is.0 w so_far.wanted distinct is.1 is.3 so_far.below
 
@@ -216,12 +250,27 @@ module _ {D : Type 0} (old mid new : ServerView D) (start between now : State) (
       (sym (map-append (λ (v : Wanted). v.name) so_far.wanted (w ∷ [])))
       (names-push (names_of so_far.wanted) w.name so_far.distinct new_name)
 
+  -- where none was passed over
+  every_more : fine ≡ true → further ≡ place + 1
+      → take first names ++ names_of (so_far.wanted ++ w ∷ []) ≡ take further names
+  every_more was next =
+      let low = is.1 in
+      let high = is.2 in
+      let at : is.0 ≡ place = omega (arith, low, high, next) in
+      let there : slice_get names place ≡ Some w.name = subst (λ i. slice_get names i ≡ Some w.name) at is.3 in
+      ap (λ l. take first names ++ l) (map-append (λ (v : Wanted). v.name) so_far.wanted (w ∷ []))
+      ∙ sym (append_assoc (take first names) (names_of so_far.wanted) (w.name ∷ []))
+      ∙ ap (λ l. l ++ w.name ∷ []) (so_far.every was)
+      ∙ sym (take_next names place w.name there)
+      ∙ ap (λ n. take n names) (sym (next ∙ add-one place))
+
   -- one more was settled
-  pub settled_more : (marks : List Bool)
+  pub settled_more : (marks : List Bool) (later : Bool)
       → ((t : Standing) → Holds mid.view t between
       → HasRun mid new between now t (settling t.carousel.objects w) marks None)
-      → SettledSoFar old new start now s names further before last
-  settled_more marks run = record {
+      → (later ≡ true → (fine ≡ true) × (further ≡ place + 1) × AreAccepted marks)
+      → SettledSoFar old new start now s names first further before last later
+  settled_more marks later run told = record {
     wanted = so_far.wanted ++ w ∷ [];
     gives = gives_more;
     known = known_more;
@@ -232,17 +281,21 @@ module _ {D : Type 0} (old mid new : ServerView D) (start between now : State) (
         (is.0, is.2, is.3);
     marks = so_far.marks ++ marks;
     run = run_more marks None run;
+    every = λ e. let t = told e in every_more t.0 t.1;
+    accepted = λ e. let t = told e in
+        accepted-append so_far.marks marks (so_far.accepted t.0) t.2;
   }
 
   -- a fault came in settling it
-  pub settled_fault : (marks : List Bool) (refusal : Refusal)
+  pub settled_fault : (marks : List Bool) (later : Bool) (refusal : Refusal)
       → ((t : Standing) → Holds mid.view t between
       → HasRun mid new between now t (settling t.carousel.objects w) marks (Some refusal))
-      → HasSettled old new start now s names before last (Some refusal)
-  settled_fault marks refusal run = record {
+      → HasSettled old new start now s names first before last later (Some refusal)
+  settled_fault marks later refusal run = record {
     wanted = so_far.wanted ++ w ∷ [];
     gives = gives_more;
     is_update = record { distinct = distinct_more; known = known_more };
+    every = λ e n. absurd (not_none refusal n);
     runs = record {
       commands = flat_map (settling s.carousel.objects) (so_far.wanted ++ w ∷ []);
       others = [];
@@ -250,18 +303,22 @@ module _ {D : Type 0} (old mid new : ServerView D) (start between now : State) (
       whole = λ e. refl;
       marks = so_far.marks ++ marks;
       run = run_more marks (Some refusal) run;
+      accepted = λ e n. absurd (not_none refusal n);
     };
   }
 
 -- all were settled
 pub settled_all : {D : Type 0} (old new : ServerView D) (start now : State) (s : Standing)
-    (names : List (List ℕ)) (place : ℕ) (before after last : Option (List Wanted))
-    → SettledSoFar old new start now s names place before after → Gives after last []
-    → HasSettled old new start now s names before last None
-settled_all old new start now s names place before after last so_far gives = record {
+    (names : List (List ℕ)) (first place : ℕ) (before after last : Option (List Wanted))
+    (fine later : Bool)
+    → SettledSoFar old new start now s names first place before after fine → Gives after last []
+    → (later ≡ true → (fine ≡ true) × (length names ≤ place))
+    → HasSettled old new start now s names first before last later None
+settled_all old new start now s names first place before after last fine later so_far gives told = record {
   wanted = so_far.wanted;
   gives = gives_kept before after last so_far.wanted so_far.gives gives;
   is_update = record { distinct = so_far.distinct; known = so_far.known };
+  every = λ e n. let t = told e in so_far.every t.0 ∙ take_all place names t.1;
   runs = record {
     commands = flat_map (settling s.carousel.objects) so_far.wanted;
     others = [];
@@ -269,6 +326,7 @@ settled_all old new start now s names place before after last so_far gives = rec
     whole = λ e. refl;
     marks = so_far.marks;
     run = so_far.run;
+    accepted = λ e n. so_far.accepted (told e).0;
   };
 }
 
@@ -276,11 +334,11 @@ settled_all old new start now s names place before after last so_far gives = rec
 
 -- a fault came before the next command
 cut_fault : {D : Type 0} (old mid : ServerView D) (start between : State) (s : Standing)
-    (all commands others : List Command) (marks : List Bool) (refusal : Refusal)
+    (all commands others : List Command) (marks : List Bool) (fine : Bool) (refusal : Refusal)
     → all ≡ commands ++ others → IsHonestDisk between → between.IsHonest
     → IsUnchanged between between → HasRun old mid start between s commands marks None
-    → RunsThrough old mid start between s all (Some refusal)
-cut_fault old mid start between s all commands others marks refusal split sound honest still one =
+    → RunsThrough old mid start between s all fine (Some refusal)
+cut_fault old mid start between s all commands others marks fine refusal split sound honest still one =
     let t : Standing = one.leaves.last in
     let two = (has_read mid mid between between t (Some refusal) sound refl refl honest still
     (one.leaves.going refl)).0 in
@@ -291,29 +349,32 @@ cut_fault old mid start between s all commands others marks refusal split sound 
       whole = λ e. absurd (not_none refusal e);
       marks = marks ++ [];
       run = join old mid mid start between between s commands [] marks [] (Some refusal) one two;
+      accepted = λ e n. absurd (not_none refusal n);
     }
 
 module _ {D : Type 0} (old mid : ServerView D) (start between : State) (s : Standing)
     (names : List (List ℕ)) (i : ℕ) (marks : List Bool)
     (one : HasRun old mid start between s (withdraw_all (take i names)) marks None) where
-  pub withdrew_cut : (refusal : Refusal) → IsHonestDisk between → between.IsHonest
+  pub withdrew_cut : (fine : Bool) (refusal : Refusal) → IsHonestDisk between → between.IsHonest
       → IsUnchanged between between
-      → RunsThrough old mid start between s (withdraw_all names) (Some refusal)
-  withdrew_cut refusal sound honest still =
+      → RunsThrough old mid start between s (withdraw_all names) fine (Some refusal)
+  withdrew_cut fine refusal sound honest still =
       cut_fault old mid start between s (withdraw_all names) (withdraw_all (take i names))
-      (withdraw_all (drop i names)) marks refusal
+      (withdraw_all (drop i names)) marks fine refusal
       (ap withdraw_all (sym (take-append-drop i names))
       ∙ map-append Withdraw (take i names) (drop i names))
       sound honest still one
 
-  pub withdrew_all : length names ≤ i → RunsThrough old mid start between s (withdraw_all names) None
-  withdrew_all le = record {
+  pub withdrew_all : (fine : Bool) → (fine ≡ true → AreAccepted marks) → length names ≤ i
+      → RunsThrough old mid start between s (withdraw_all names) fine None
+  withdrew_all fine accepted le = record {
     commands = withdraw_all (take i names);
     others = [];
     split = ap withdraw_all (sym (take_all i names le)) ∙ sym (append-nil _);
     whole = λ e. refl;
     marks = marks;
     run = one;
+    accepted = λ e n. accepted e;
   }
 
   module _ (new : ServerView D) (now : State) (n : List ℕ) (there : i < length names)
@@ -331,20 +392,24 @@ module _ {D : Type 0} (old mid : ServerView D) (start between : State) (s : Stan
         join old mid new start between now s (withdraw_all (take i names)) (Withdraw n ∷ []) marks
         others fault one (run one.leaves.last (one.leaves.going refl))
 
-    pub withdrew_next : (others : List Bool) → ((t : Standing) → Holds mid.view t between
+    pub withdrew_next : (others : List Bool) (later : Bool)
+        → ((t : Standing) → Holds mid.view t between
         → HasRun mid new between now t (Withdraw n ∷ []) others None)
+        → (later ≡ true → AreAccepted marks × AreAccepted others)
         → (all : List Bool) × HasRun old new start now s (withdraw_all (take (i + 1) names)) all None
-    withdrew_next others run = (
+        × (later ≡ true → AreAccepted all)
+    withdrew_next others later run told = (
       marks ++ others,
       subst (λ l. HasRun old new start now s l (marks ++ others) None)
           (sym next-is) (run_next others None run),
+      λ e. let t = told e in accepted-append marks others t.0 t.1,
     )
 
-    pub withdrew_fault : (others : List Bool) (refusal : Refusal)
+    pub withdrew_fault : (others : List Bool) (fine : Bool) (refusal : Refusal)
         → ((t : Standing) → Holds mid.view t between
         → HasRun mid new between now t (Withdraw n ∷ []) others (Some refusal))
-        → RunsThrough old new start now s (withdraw_all names) (Some refusal)
-    withdrew_fault others refusal run = record {
+        → RunsThrough old new start now s (withdraw_all names) fine (Some refusal)
+    withdrew_fault others fine refusal run = record {
       commands = withdraw_all (take i names) ++ Withdraw n ∷ [];
       others = withdraw_all (drop (i + 1) names);
       split = ap withdraw_all (sym (take-append-drop (i + 1) names))
@@ -353,13 +418,14 @@ module _ {D : Type 0} (old mid : ServerView D) (start between : State) (s : Stan
       whole = λ e. absurd (not_none refusal e);
       marks = marks ++ others;
       run = run_next others (Some refusal) run;
+      accepted = λ e n. absurd (not_none refusal n);
     }
 
 pub withdrew_none : {D : Type 0} (old : ServerView D) (start : State) (s : Standing)
     → IsHonestDisk start → start.IsHonest → IsUnchanged start start → Holds old.view s start
-    → (marks : List Bool) × HasRun old old start start s [] marks None
+    → (marks : List Bool) × HasRun old old start start s [] marks None × AreAccepted marks
 withdrew_none old start s sound honest still holds =
-    ([], (has_read old old start start s None sound refl refl honest still holds).0)
+    ([], (has_read old old start start s None sound refl refl honest still holds).0, tt)
 
 -- ---- the look
 
@@ -407,14 +473,16 @@ same_settlings names old last limit commands marks (w ∷ wanted) is e known =
 
 -- a fault came while the names were gathered, or in withdrawing
 pub look_cut : {D : Type 0} (old new : ServerView D) (start now : State) (s : Standing)
-    (names gone : List (List ℕ)) (before after : Option (List Wanted)) (refusal : Refusal)
+    (names gone : List (List ℕ)) (first : ℕ) (before after : Option (List Wanted)) (fine : Bool)
+    (refusal : Refusal)
     → withdrawals names s.carousel.objects ≡ withdraw_all gone → Gives before after []
-    → RunsThrough old new start now s (withdraw_all gone) (Some refusal)
-    → HasLooked old new start now s names before after (Some refusal)
-look_cut old new start now s names gone before after refusal are gives runs = record {
+    → RunsThrough old new start now s (withdraw_all gone) fine (Some refusal)
+    → HasLooked old new start now s names first before after fine (Some refusal)
+look_cut old new start now s names gone first before after fine refusal are gives runs = record {
   wanted = [];
   gives = gives;
   is_update = record { distinct = refl; known = tt };
+  every = λ e n. absurd (not_none refusal n);
   runs = record {
     commands = runs.commands;
     others = runs.others;
@@ -422,18 +490,21 @@ look_cut old new start now s names gone before after refusal are gives runs = re
     whole = runs.whole;
     marks = runs.marks;
     run = runs.run;
+    accepted = runs.accepted;
   };
 }
 
 -- all were withdrawn, and then what was given was settled
 pub look_on : {D : Type 0} (old mid new : ServerView D) (start between now : State) (s : Standing)
-    (names gone : List (List ℕ)) (before after last : Option (List Wanted)) (fault : Option Refusal)
+    (names gone : List (List ℕ)) (first : ℕ) (before after last : Option (List Wanted))
+    (fine later : Bool) (fault : Option Refusal)
     → withdrawals names s.carousel.objects ≡ withdraw_all gone → Gives before after []
-    → RunsThrough old mid start between s (withdraw_all gone) None
+    → RunsThrough old mid start between s (withdraw_all gone) fine None
+    → (later ≡ true → fine ≡ true)
     → ((t : Standing) → Holds mid.view t between
-    → HasSettled mid new between now t names after last fault)
-    → HasLooked old new start now s names before last fault
-look_on old mid new start between now s names gone before after last fault are gives one settled =
+    → HasSettled mid new between now t names first after last later fault)
+    → HasLooked old new start now s names first before last later fault
+look_on old mid new start between now s names gone first before after last fine later fault are gives one was settled =
     let t : Standing = one.run.leaves.last in
     let two = settled t (one.run.leaves.going refl) in
     let gone_all : one.commands ≡ withdrawals names s.carousel.objects =
@@ -445,6 +516,7 @@ look_on old mid new start between now s names gone before after last fault are g
       wanted = two.wanted;
       gives = gives_trans before after last [] two.wanted gives two.gives;
       is_update = two.is_update;
+      every = two.every;
       runs = record {
         commands = one.commands ++ two.runs.commands;
         others = two.runs.others;
@@ -455,6 +527,8 @@ look_on old mid new start between now s names gone before after last fault are g
         marks = one.marks ++ two.runs.marks;
         run = join old mid new start between now s one.commands two.runs.commands one.marks
             two.runs.marks fault one.run two.runs.run;
+        accepted = λ e n. accepted-append one.marks two.runs.marks (one.accepted (was e) refl)
+            (two.runs.accepted e n);
       };
     }
 

@@ -1,7 +1,7 @@
 -- What a look at a source of wanted objects does.
-use Rattle.std.specs.Prelude.{◌≡◌, ℕ, Bool, not, List, [], ◌∷◌, ◌++◌, map, filter, Option, Some, None}
-use Rattle.std.specs.Prelude.{⊤}
-use Rattle.std.specs.List.{flat_map}
+use Rattle.std.specs.Prelude.{◌≡◌, ℕ, Bool, true, false, not, List, [], ◌++◌, map, filter}
+use Rattle.std.specs.Prelude.{take, Option, Some, None, ⊤}
+use Rattle.std.specs.List.{flat_map, AllByRecursion}
 use Rattle.disk_store.specs.Disk.{State}
 use Rattle.mot_base.specs.declared.refusal.Refusal.{Refusal}
 use Rattle.mot_carousel.specs.declared.command.Command.{Command}
@@ -9,10 +9,28 @@ use Rattle.mot_carousel.specs.declared.command.Command.TheVariants.{Withdraw}
 use Rattle.mot_carousel.specs.declared.object.Object.{Object}
 use Rattle.mot_journal.specs.Image.{Standing}
 use Rattle.mot_server.specs.Server.{ServerView}
+use Rattle.mot_server.specs.declared.running.Attempt.{Attempt}
+use Rattle.mot_server.specs.declared.running.Attempt.TheVariants.{Accepted, Refused}
 use Rattle.mot_update.specs.HasRun.{HasRun}
-use Rattle.mot_update.specs.Laws.{IsUpdate}
+use Rattle.mot_update.specs.Laws.{IsUpdate, names_of}
 use Rattle.mot_update.specs.Updating.{is_known, settling, updating}
+use Rattle.mot_update.specs.declared.settling.Settled.{Settled}
+use Rattle.mot_update.specs.declared.settling.Settled.TheVariants.{Right, Put, Replaced}
 use Rattle.mot_update.specs.declared.wanted.Wanted.{Wanted}
+
+abbrev pub was_accepted : Attempt → Bool
+was_accepted (Accepted done) = true
+was_accepted (Refused refusal) = false
+
+-- what was to be done for an object, if anything was, is done
+abbrev pub was_settled : Settled → Bool
+was_settled Right = true
+was_settled (Put attempt) = was_accepted attempt
+was_settled (Replaced attempt) = was_accepted attempt
+
+-- each command that was answered was accepted
+abbrev pub AreAccepted : List Bool → Type 0
+AreAccepted marks = AllByRecursion (λ (mark : Bool). mark ≡ true) marks
 
 -- the objects that were given, where they are told, go on by these
 abbrev pub Gives : Option (List Wanted) → Option (List Wanted) → List Wanted → Type 0
@@ -28,31 +46,38 @@ unknown_names names objects =
 abbrev pub withdraw_all : List (List ℕ) → List Command
 withdraw_all names = map Withdraw names
 
+-- In the next three, `fine` is whether nothing was refused.
+
 -- a beginning of these commands was run, and all of them where no fault came
 pub record RunsThrough {D : Type 0} (old new : ServerView D) (start now : State) (s : Standing)
-    (all : List Command) (fault : Option Refusal) : Type 0 where
+    (all : List Command) (fine : Bool) (fault : Option Refusal) : Type 0 where
   pub commands : List Command
   pub others : List Command
   pub split : all ≡ commands ++ others
   pub whole : fault ≡ None → others ≡ []
   pub marks : List Bool
   pub run : HasRun old new start now s commands marks fault
+  pub accepted : fine ≡ true → fault ≡ None → AreAccepted marks
 
--- objects of these names were given, and settled one after the other
+-- Objects of these names were given, and settled one after the other. Where nothing was refused one
+-- of each name was given, behind the first so many.
 pub record HasSettled {D : Type 0} (old new : ServerView D) (start now : State) (s : Standing)
-    (names : List (List ℕ)) (before after : Option (List Wanted))
+    (names : List (List ℕ)) (first : ℕ) (before after : Option (List Wanted)) (fine : Bool)
     (fault : Option Refusal) : Type 0 where
   pub wanted : List Wanted
   pub gives : Gives before after wanted
   pub is_update : IsUpdate names wanted
-  pub runs : RunsThrough old new start now s (flat_map (settling s.carousel.objects) wanted) fault
+  pub every : fine ≡ true → fault ≡ None → take first names ++ names_of wanted ≡ names
+  pub runs : RunsThrough old new start now s (flat_map (settling s.carousel.objects) wanted)
+      fine fault
 
 -- The carousel was updated to what was given: the commands are those of the update, or, up to a
 -- fault, a beginning of them.
 pub record HasLooked {D : Type 0} (old new : ServerView D) (start now : State) (s : Standing)
-    (names : List (List ℕ)) (before after : Option (List Wanted))
+    (names : List (List ℕ)) (first : ℕ) (before after : Option (List Wanted)) (fine : Bool)
     (fault : Option Refusal) : Type 0 where
   pub wanted : List Wanted
   pub gives : Gives before after wanted
   pub is_update : IsUpdate names wanted
-  pub runs : RunsThrough old new start now s (updating s.carousel names wanted) fault
+  pub every : fine ≡ true → fault ≡ None → take first names ++ names_of wanted ≡ names
+  pub runs : RunsThrough old new start now s (updating s.carousel names wanted) fine fault

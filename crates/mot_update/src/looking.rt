@@ -30,7 +30,9 @@ pub fn look<D: Disk, S: Source>(
     ensures looked { (s : Standing) → Holds server.old.view s (D.state server.old.disk)
         → (D.state server.new.disk).IsHonest
         → HasLooked server.old server.new (D.state server.old.disk) (D.state server.new.disk) s
-        (S.names source.old) (S.given source.old) (S.given source.new) (fault_of result) }
+        (S.names source.old) (S.place source.old) (S.given source.old) (S.given source.new)
+        (S.is_fine source.new) (fault_of result) }
+    ensures fine { S.is_fine source.new ≡ true → S.is_fine source.old ≡ true }
 {
     let names = names_to_withdraw(alloc, server.carousel(), source)?;
     withdraw_these(server, alloc, source, &names)?;
@@ -65,11 +67,13 @@ fn withdraw_these<D: Disk, S: Source>(
     ensures keeps { KeepsLength (D.state server.old.disk) (D.state server.new.disk) }
     ensures later { (D.state server.old.disk).failures ≤ (D.state server.new.disk).failures }
     ensures same { S.names source.new ≡ S.names source.old }
+    ensures stays { S.place source.new ≡ S.place source.old }
     ensures gives { Gives (S.given source.old) (S.given source.new) [] }
     ensures runs { (s : Standing) → Holds server.old.view s (D.state server.old.disk)
         → (D.state server.new.disk).IsHonest
         → RunsThrough server.old server.new (D.state server.old.disk) (D.state server.new.disk) s
-        (withdraw_all names.now) (fault_of result) }
+        (withdraw_all names.now) (S.is_fine source.new) (fault_of result) }
+    ensures fine { S.is_fine source.new ≡ true → S.is_fine source.old ≡ true }
 {
     for name in names {
         let attempt = withdraw(server, alloc, name.clone()?)?;
@@ -90,14 +94,15 @@ fn settle_all<D: Disk, S: Source>(
     ensures settled { (s : Standing) → Holds server.old.view s (D.state server.old.disk)
         → (D.state server.new.disk).IsHonest
         → HasSettled server.old server.new (D.state server.old.disk) (D.state server.new.disk) s
-        (S.names source.old) (S.given source.old) (S.given source.new) (fault_of result) }
+        (S.names source.old) (S.place source.old) (S.given source.old) (S.given source.new)
+        (S.is_fine source.new) (fault_of result) }
+    ensures fine { S.is_fine source.new ≡ true → S.is_fine source.old ≡ true }
 {
-    for _ in 0..u64::MAX {
+    loop {
         let Some(wanted) = source.next(alloc) else {
             return Ok(());
         };
         let settled = settle(server, alloc, wanted)?;
         source.settled(settled);
     }
-    Ok(())
 }

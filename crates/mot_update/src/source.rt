@@ -1,7 +1,7 @@
 //! Where wanted objects come from.
-ghost use Rattle.std.specs.Prelude.{◌≡◌, ◌<◌, ◌≤◌, [], ◌∷◌, ℕ, List, Option, Some, None, IfSome};
-ghost use Rattle.std.specs.Prelude.{MatchOption, slice_get};
-ghost use Rattle.mot_update.specs.Looking.{Gives};
+ghost use Rattle.std.specs.Prelude.{◌≡◌, ◌+◌, ◌<◌, ◌≤◌, [], ◌∷◌, ℕ, Bool, true, List, Option, Some};
+ghost use Rattle.std.specs.Prelude.{None, IfSome, MatchOption, length, slice_get};
+ghost use Rattle.mot_update.specs.Looking.{Gives, was_accepted, was_settled};
 ghost use Rattle.mot_update.specs.Updating.{is_known};
 ghost use Rattle.mot_update.specs.declared.wanted.Wanted.{Wanted};
 
@@ -20,6 +20,9 @@ pub trait Source {
     // How many of them were gone over.
     ghost place: { Self → ℕ };
 
+    // Whether nothing was refused so far, of what it gave and of what it was told.
+    ghost is_fine: { Self → Bool };
+
     // The objects that it gave, where that is told.
     ghost given: { Self → Option (List Wanted) } = { λ _. None };
 
@@ -34,17 +37,27 @@ pub trait Source {
         ensures gives { MatchOption result (Gives (given self.old) (given self.new) [])
             (λ wanted. Gives (given self.old) (given self.new) (wanted ∷ [])) }
         ensures named { IfSome result (λ wanted. (i : ℕ) × (place self.old ≤ i)
-            × (i < place self.new) × (slice_get (names self.old) i ≡ Some wanted.name)) };
+            × (i < place self.new) × (slice_get (names self.old) i ≡ Some wanted.name)) }
+        ensures fine { is_fine self.new ≡ true → is_fine self.old ≡ true }
+
+        // Where nothing was refused, no name is passed over.
+        ensures every { is_fine self.new ≡ true → MatchOption result
+            (length (names self.old) ≤ place self.old)
+            (λ wanted. place self.new ≡ place self.old + 1) };
 
     /// What became of an object that is not known.
     fn withdrew(&mut self, name: &Name, attempt: Attempt)
         ensures same { names self.new ≡ names self.old }
         ensures stays { place self.new ≡ place self.old }
-        ensures gives { Gives (given self.old) (given self.new) [] };
+        ensures gives { Gives (given self.old) (given self.new) [] }
+        ensures fine { is_fine self.new ≡ true
+            → (is_fine self.old ≡ true) × (was_accepted attempt ≡ true) };
 
     /// What became of the object that it gave last.
     fn settled(&mut self, settled: Settled)
         ensures same { names self.new ≡ names self.old }
         ensures stays { place self.new ≡ place self.old }
-        ensures gives { Gives (given self.old) (given self.new) [] };
+        ensures gives { Gives (given self.old) (given self.new) [] }
+        ensures fine { is_fine self.new ≡ true
+            → (is_fine self.old ≡ true) × (was_settled settled ≡ true) };
 }

@@ -1,6 +1,8 @@
 //! The carousel server's program.
 #![tactic(auto)]
 
+mod version;
+
 use disk_store::Unknown;
 use mot_air::{is_air, run_air};
 use mot_base::Refusal;
@@ -9,6 +11,7 @@ use std::fs::File;
 use std::io::{BufWriter, ErrorKind};
 use std::process::ExitCode;
 use std::{env, io};
+use version::print_version;
 
 /// Room for the longest reply to a `raw` line, so that it goes out in one write.
 const BUFFER: usize = 65_536;
@@ -23,16 +26,28 @@ fn main(rt: HostRuntime) -> ExitCode {
 /// Runs the program on its words and the real streams.
 fn run(rt: &HostRuntime) -> io::Result<u8> {
     let Ok(_streams) = hold_streams(rt) else {
-        let _ = eprintln!(rt; "motcar: {}", Refusal::DeviceFault);
-        return Ok(1);
+        return Ok(refused(rt, Refusal::DeviceFault));
     };
     let alloc = rt.alloc();
     let words: Vec<String> = env::args(rt)?.skip(1).collect(alloc)?;
     let mut reader = rt.reader();
     let mut writer = BufWriter::with_capacity(alloc, BUFFER, io::writer(rt))?;
     let mut errors = rt.stderr();
+    if words.len() == 1 && words[0].as_str() == "--version" {
+        return match print_version(rt, &mut writer) {
+            Ok(()) => Ok(0),
+            Err(_) => Ok(refused(rt, Refusal::WriteFault)),
+        };
+    }
     if !words.is_empty() && is_air(words[0].as_str()) {
-        return Ok(run_air(rt, alloc, words.as_slice(), writer, &mut errors));
+        return Ok(run_air(
+            rt,
+            alloc,
+            words.as_slice(),
+            Unknown,
+            &mut writer,
+            &mut errors,
+        ));
     }
     Ok(run_program(
         rt,
@@ -53,6 +68,12 @@ fn hold_streams(rt: &HostRuntime) -> io::Result<[File; 3]> {
     let second = File::open(rt, "/dev/null")?;
     let third = File::open(rt, "/dev/null")?;
     Ok([first, second, third])
+}
+
+/// Prints the refusal, and answers its status.
+fn refused(rt: &impl Eprint, refusal: Refusal) -> u8 {
+    let _ = eprintln!(rt; "motcar: {}", refusal);
+    1
 }
 
 /// Prints why the program did not begin: there was no memory, or a word was no UTF-8.

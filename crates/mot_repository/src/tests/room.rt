@@ -29,6 +29,22 @@ fn bodies_go_where_the_first_gap_is(rt: HostRuntime) -> Result<(), Fail> {
     Ok(())
 }
 
+// From the last extent to the first, so that each is looked for among all: byte by byte it would
+// take minutes.
+#[test]
+fn the_gap_behind_many_extents_is_found_at_once(rt: HostRuntime) {
+    const MIB: u32 = 1_048_576;
+    let mut extents = [(0u32, MIB); 250];
+    for (place, extent) in extents.iter_mut().rev().enumerate() {
+        extent.0 = (place as u32).wrapping_mul(MIB);
+    }
+    assert_eq!(rt;
+        first_fit(&extents, 262_144, 268_435_456),
+        Some(262_144_000)
+    );
+    assert_eq!(rt; first_fit(&extents, 262_144, 262_144_000), None);
+}
+
 #[test]
 fn a_body_is_read_back(rt: HostRuntime) -> Result<(), Fail> {
     let alloc = rt.alloc();

@@ -89,7 +89,10 @@ fn disks_of_layout_1(rt: HostRuntime) -> Result<(), Fail> {
     fs::write(&rt, "layout.test/disk", &disk_of_layout_1(rt.alloc(), SET)?)?;
     let one = "carousel 0 3 3 1\nobject 2 0 2 3 5 a -\nclean\nlayout 1\n";
     let two = "carousel 0 3 3 1\nobject 2 0 2 3 5 a -\nclean\nlayout 2\n";
+    // A disk is served in the layout that it has.
+    let list = "carousel 0 3 3 1\nobject 2 0 2 3 5 a -\n";
     let rows = [
+        ("serve layout.test/disk", "list\n", 0, list),
         ("check layout.test/disk", "", 0, one),
         ("migrate layout.test/disk", "", 0, "migrated\n"),
         ("migrate layout.test/disk", "", 0, "already layout 2\n"),

@@ -1,11 +1,12 @@
-use Rattle.std.proofs.Common.{◌≡◌, ◌∙◌, refl, sym, ap, subst, arith, None, Some, Ok, Err, Result, Bool}
-use Rattle.mot_base.specs.declared.refusal.Refusal.{Refusal}
+use Rattle.std.proofs.Common.{◌≡◌, ◌∙◌, ◌+◌, ap, refl, arith, inl, inr, None, Some}
+use Rattle.std.specs.Prelude.{if◌then◌else◌}
 use Rattle.mot_server.proofs.Laws.{keeps_on}
-use Rattle.mot_server.specs.Server.{place_in}
-use Rattle.mot_feed.specs.Sending.{SendsOne}
-use Rattle.mot_feed.proofs.Fed.{continuous, feeds_more, feeds_none, send_fault, update_fault, updated}
+use Rattle.mot_feed.proofs.Fed.{continuous, fed_all, fed_none, rest_else, rest_then, send_fault}
+use Rattle.mot_feed.proofs.Fed.{sent_on, update_fault, updated, updated_are, updated_turns}
+use Rattle.mot_feed.proofs.Fed.{updated_uncut}
 use Rattle.mot_feed.proofs.Sent.{on_err, stays_same}
 use Rattle.mot_feed.proofs.feeding.feed.Goals as goal
+use Rattle.mot_feed.proofs.feeding.feed.Goals.{else-between_turns, then-between_turns}
 
 pub loop-init : goal.loop-init
 loop-init g c =
@@ -13,9 +14,30 @@ loop-init g c =
     record {
       keeps = record { len = refl; was_honest = λ honest. honest };
       later = omega arith;
-      fed = λ s holds honest. feeds_none c.args.server.now state s (g.O.Outlet.writes c.args.outlet.now)
+      fed = λ s holds honest. fed_none c.args.server.now state s g.U.Update.waits c.args.turns
+          (g.O.Outlet.writes c.args.outlet.now)
           (g.met.D.Disk.sound c.args.server.now.disk honest) honest (stays_same state) holds;
     }
+
+pub returns-then-left-eq0-clause-fed : goal.returns-then-left-eq0-clause-fed
+returns-then-left-eq0-clause-fed g c = λ s holds honest.
+    let state = g.D.Disk.state in
+    let old = c.args.server.now in
+    let mid = c.loop.server in
+    fed_all old mid (state old.disk) (state mid.disk) s g.U.Update.waits c.args.turns c.loop.left
+    c.loop.between_turns c.loop.counter (g.O.Outlet.writes c.args.outlet.now)
+    (g.O.Outlet.writes c.loop.outlet) (c.loop.invariant.fed s holds honest) (inl c.if-left-eq0.true)
+
+pub returns-clause-fed : goal.returns-clause-fed
+returns-clause-fed g c = λ s holds honest.
+    let state = g.D.Disk.state in
+    let old = c.args.server.now in
+    let mid = c.loop.server in
+    fed_all old mid (state old.disk) (state mid.disk) s g.U.Update.waits c.args.turns c.loop.left
+    c.loop.between_turns c.loop.counter (g.O.Outlet.writes c.args.outlet.now)
+    (g.O.Outlet.writes c.loop.outlet) (c.loop.invariant.fed s holds honest)
+    (inr (let last = c.loop-test.false in let bound = c.loop.auto.counter-end in
+    omega (arith, last, bound)))
 
 pub returns-in_err-update-clause-part : goal.returns-in_err-update-clause-part
 returns-in_err-update-clause-part g c = λ s holds honest.
@@ -24,10 +46,11 @@ returns-in_err-update-clause-part g c = λ s holds honest.
     let mid = c.loop.server in
     let new = c.update.new.server in
     let one = c.in_err-update.ensures in
-    let was = one.keeps.was_honest honest in
+    let so_far = c.loop.invariant.fed s holds (one.keeps.was_honest honest) in
     on_err c.from_residual.result _
-    (update_fault old mid new (state old.disk) (state mid.disk) (state new.disk) s _ _ c.in_err-update.field-0.0
-    (c.loop.invariant.fed s holds was) (λ t held. one.run t held honest))
+    (update_fault old mid new (state old.disk) (state mid.disk) (state new.disk) s g.U.Update.waits
+    c.args.turns c.loop.left c.loop.between_turns c.loop.counter _ _ (Some c.in_err-update.field-0.0)
+    so_far (one.run so_far.fed.leaves.last (so_far.fed.leaves.going refl) honest))
 
 pub returns-in_err-between_turns-clause-part : goal.returns-in_err-between_turns-clause-part
 returns-in_err-between_turns-clause-part g c = λ s holds honest.
@@ -36,14 +59,24 @@ returns-in_err-between_turns-clause-part g c = λ s holds honest.
     let mid = c.loop.server in
     let up = c.update.new.server in
     let new = c.send_one.new.server in
+    let waits = g.U.Update.waits in
     let one = c.in_ok-update.ensures in
     let two = c.in_err-between_turns.ensures in
     let then_honest = two.keeps.was_honest honest in
     let so_far = c.loop.invariant.fed s holds (one.keeps.was_honest then_honest) in
+    let t = so_far.fed.leaves.last in
+    let update = one.run t (so_far.fed.leaves.going refl) then_honest in
+    let fed = updated old mid up (state old.disk) (state mid.disk) (state up.disk) s waits
+    c.args.turns c.loop.left c.loop.between_turns c.loop.counter _ _ None so_far update in
     on_err c.from_residual-in_err-between_turns.result _
-    (send_fault old up new (state old.disk) (state up.disk) (state new.disk) s _ _ _ so_far.packets c.in_err-between_turns.field-0.0 so_far.written
-    (updated old mid up (state old.disk) (state mid.disk) (state up.disk) s _ _ None so_far (λ t held. one.run t held then_honest))
-    (g.met.D.Disk.sound up.disk then_honest) two.view honest (two.unchanged honest) (λ t held. two.sent t held honest))
+    (send_fault old up new (state old.disk) (state up.disk) (state new.disk) s waits _ _ _ _
+    so_far.packets fed
+    (updated_are old mid up (state old.disk) (state mid.disk) (state up.disk) s waits c.args.turns
+    c.loop.left c.loop.between_turns c.loop.counter _ _ None so_far update) so_far.written
+    (updated_uncut old mid up (state old.disk) (state mid.disk) (state up.disk) s waits c.args.turns
+    c.loop.left c.loop.between_turns c.loop.counter _ _ None so_far update)
+    (g.met.D.Disk.sound up.disk then_honest) two.view honest (two.unchanged honest)
+    c.in_err-between_turns.field-0.0 (λ d held. two.sent d held honest))
 
 pub loop-preserved : goal.loop-preserved
 loop-preserved g c =
@@ -52,9 +85,18 @@ loop-preserved g c =
     let mid = c.loop.server in
     let up = c.update.new.server in
     let new = c.send_one.new.server in
+    let waits = g.U.Update.waits in
     let is = c.loop.invariant in
     let one = c.in_ok-update.ensures in
     let two = c.in_ok-between_turns.ensures in
+    let left = c.loop.left in
+    let rest = c.if-between_turns.left in
+    let ends = c.in_ok-between_turns.between_turns in
+    let is_rest : rest + (if ends then 1 else 0) ≡ left = elim c.if-between_turns.branch [
+      | then-between_turns w ↦
+          rest_then ends rest left w.if-between_turns.true w.left-is c.if-left-eq0.false
+      | else-between_turns w ↦ rest_else ends rest left w.if-between_turns.false w.left-is
+    ] in
     record {
       keeps = keeps_on (state old.disk) (state up.disk) (state new.disk)
           (keeps_on (state old.disk) (state mid.disk) (state up.disk) is.keeps one.keeps) two.keeps;
@@ -62,9 +104,22 @@ loop-preserved g c =
       fed = λ s holds honest.
           let then_honest = two.keeps.was_honest honest in
           let so_far = is.fed s holds (one.keeps.was_honest then_honest) in
-          feeds_more old up new (state old.disk) (state up.disk) (state new.disk) s _ _ _ so_far.packets c.in_ok-between_turns.between_turns so_far.written
-          (updated old mid up (state old.disk) (state mid.disk) (state up.disk) s _ _ None so_far (λ t held. one.run t held then_honest))
-          (g.met.D.Disk.sound up.disk then_honest) two.view honest (two.unchanged honest) (λ t held. two.sent t held honest);
+          let t = so_far.fed.leaves.last in
+          let update = one.run t (so_far.fed.leaves.going refl) then_honest in
+          let fed = updated old mid up (state old.disk) (state mid.disk) (state up.disk) s waits
+          c.args.turns left c.loop.between_turns c.loop.counter _ _ None so_far update in
+          let same = updated_turns old mid up (state old.disk) (state mid.disk) (state up.disk) s
+          waits c.args.turns left c.loop.between_turns c.loop.counter _ _ None so_far update in
+          sent_on old up new (state old.disk) (state up.disk) (state new.disk) s waits _ _ _ _
+          so_far.packets fed
+          (updated_are old mid up (state old.disk) (state mid.disk) (state up.disk) s waits
+          c.args.turns left c.loop.between_turns c.loop.counter _ _ None so_far update)
+          so_far.written
+          (updated_uncut old mid up (state old.disk) (state mid.disk) (state up.disk) s waits
+          c.args.turns left c.loop.between_turns c.loop.counter _ _ None so_far update)
+          (g.met.D.Disk.sound up.disk then_honest) two.view honest (two.unchanged honest)
+          c.args.turns left c.loop.counter (ap (λ n. left + n) same ∙ so_far.counted) so_far.many
+          c.if-left-eq0.false ends rest is_rest (λ d held. two.sent d held honest);
     }
 
 pub returns-clause-continuous : goal.returns-clause-continuous

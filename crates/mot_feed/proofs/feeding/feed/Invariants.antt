@@ -1,6 +1,6 @@
-use Rattle.std.proofs.Common.{◌≤◌}
 use Rattle.disk_store.specs.Disk.{KeepsLength}
-use Rattle.mot_feed.specs.Feeding.{Feeds}
+use Rattle.std.proofs.Common.{◌≤◌}
+use Rattle.mot_feed.proofs.Fed.{SoFar}
 use Rattle.mot_journal.specs.Image.{Standing}
 use Rattle.mot_repository.specs.Repository.{Holds}
 use Rattle.mot_feed.proofs.feeding.feed.Given as goal
@@ -11,6 +11,7 @@ invariant-loop g l = record {
   later : (g.D.Disk.state l.initial.server.disk).failures ≤ (g.D.Disk.state l.server.disk).failures;
   fed : (s : Standing) → Holds l.initial.server.view s (g.D.Disk.state l.initial.server.disk)
       → (g.D.Disk.state l.server.disk).IsHonest
-      → Feeds l.initial.server l.server (g.D.Disk.state l.initial.server.disk) (g.D.Disk.state l.server.disk) s
+      → SoFar l.initial.server l.server (g.D.Disk.state l.initial.server.disk)
+      (g.D.Disk.state l.server.disk) s g.U.Update.waits l.turns l.left l.between_turns l.counter
       (g.O.Outlet.writes l.initial.outlet) (g.O.Outlet.writes l.outlet);
 }

@@ -1,4 +1,4 @@
-use Rattle.std.proofs.Common.{◌≡◌, ◌∙◌, ℕ, ◌<◌, ◌≤◌, List, [], ◌∷◌, take, length, refl, sym, ap, subst}
+use Rattle.std.proofs.Common.{◌∙◌, ◌<◌, [], ◌∷◌, take, length, refl, subst}
 use Rattle.std.proofs.lemmas.List.{take_all}
 use Rattle.mot_feed.specs.Sending.{whole, short, failed, none}
 use Rattle.mot_feed.specs.Writing.{Grows}

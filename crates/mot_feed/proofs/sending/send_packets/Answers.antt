@@ -1,6 +1,4 @@
-use Rattle.std.proofs.Common.{◌≡◌, ◌∙◌, refl, sym, ap, subst, arith, Ok, Err}
-use Rattle.std.specs.Prelude.{Result, OnErr}
-use Rattle.disk_store.specs.Disk.{IsUnchanged}
+use Rattle.std.proofs.Common.{◌≡◌, ◌∙◌, refl, subst, arith}
 use Rattle.mot_server.proofs.Laws.{holds_still, keeps_on, unchanged_on}
 use Rattle.mot_feed.specs.Sending.{Sends}
 use Rattle.mot_server.specs.Server.{place_in}

@@ -1,8 +1,7 @@
-use Rattle.std.proofs.Common.{◌≡◌, ◌∙◌, List, [], None, Some, Err, refl, sym, ap, subst}
+use Rattle.std.proofs.Common.{◌∙◌, sym, ap, subst}
 use Rattle.mot_carousel.specs.declared.carousel.Carousel.{Carousel}
 use Rattle.mot_update.specs.HasRun.{fault_of}
-use Rattle.mot_update.specs.Looking.{HasLooked, HasSettled, withdraw_all, unknown_names}
-use Rattle.mot_update.specs.Updating.{withdrawals}
+use Rattle.mot_update.specs.Looking.{HasSettled, withdraw_all, unknown_names}
 use Rattle.mot_update.proofs.Looks.{err_of, gives_nil, look_cut, look_on, withdrawals-are}
 use Rattle.mot_update.proofs.Looks.{withdrew_cut, withdrew_none}
 use Rattle.mot_update.proofs.Runs.{same_error}
@@ -20,9 +19,11 @@ returns-in_err-names-clause-looked g c = λ s holds honest.
     let e = err_of c.from_residual.result c.from_residual.ensures.0 in
     let none = withdrew_none old state s sound honest (stays_same state) holds in
     rw e.1
-    (look_cut old old state state s names gone given given e.0
+    (look_cut old old state state s names gone (g.S.Source.place c.args.source.now) given given
+    (g.S.Source.is_fine c.args.source.now) e.0
     (withdrawals-are names old.view s holds.agrees) (gives_nil given)
-    (withdrew_cut old old state state s gone 0 none.0 none.1 e.0 sound honest (stays_same state)))
+    (withdrew_cut old old state state s gone 0 none.0 none.1 (g.S.Source.is_fine c.args.source.now)
+    e.0 sound honest (stays_same state)))
 
 pub returns-in_err-withdraw_these-clause-looked : goal.returns-in_err-withdraw_these-clause-looked
 returns-in_err-withdraw_these-clause-looked g c = λ s holds honest.
@@ -39,7 +40,9 @@ returns-in_err-withdraw_these-clause-looked g c = λ s holds honest.
     c.in_err-withdraw_these.field-0.0 c.from_residual-in_err-withdraw_these.ensures.1 in
     rw same
     (look_cut old new (state old.disk) (state new.disk) s names c.deref.result.now
+    (g.S.Source.place c.args.source.now)
     (g.S.Source.given c.args.source.now) (g.S.Source.given c.withdraw_these.new.source)
+    (g.S.Source.is_fine c.withdraw_these.new.source)
     c.in_err-withdraw_these.field-0.0 are two.gives (two.runs s holds honest))
 
 pub returns-clause-looked : goal.returns-clause-looked
@@ -58,9 +61,15 @@ returns-clause-looked g c = λ s holds honest.
     (sym c.carousel.ensures.value)
     ∙ ap withdraw_all (sym c.in_ok-names.ensures ∙ sym c.deref.ensures.value) in
     look_on old mid new (state old.disk) (state mid.disk) (state new.disk) s names
-    c.deref.result.now (given c.args.source.now) (given c.withdraw_these.new.source)
-    (given c.settle_all.new.source) (fault_of c.settle_all.result) are one.gives
-    (one.runs s holds was)
-    (λ t held. subst (λ n. HasSettled mid new (state mid.disk) (state new.disk) t n
+    c.deref.result.now (g.S.Source.place c.args.source.now) (given c.args.source.now)
     (given c.withdraw_these.new.source) (given c.settle_all.new.source)
-    (fault_of c.settle_all.result)) one.same (two.settled t held honest))
+    (g.S.Source.is_fine c.withdraw_these.new.source) (g.S.Source.is_fine c.settle_all.new.source)
+    (fault_of c.settle_all.result) are one.gives (one.runs s holds was) two.fine
+    (λ t held. subst (λ p. HasSettled mid new (state mid.disk) (state new.disk) t names p
+    (given c.withdraw_these.new.source) (given c.settle_all.new.source)
+    (g.S.Source.is_fine c.settle_all.new.source) (fault_of c.settle_all.result)) one.stays
+    (subst (λ n. HasSettled mid new (state mid.disk) (state new.disk) t n
+    (g.S.Source.place c.withdraw_these.new.source)
+    (given c.withdraw_these.new.source) (given c.settle_all.new.source)
+    (g.S.Source.is_fine c.settle_all.new.source) (fault_of c.settle_all.result)) one.same
+    (two.settled t held honest)))

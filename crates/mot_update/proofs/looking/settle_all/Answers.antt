@@ -1,16 +1,14 @@
-use Rattle.std.proofs.Common.{◌≡◌, ◌∙◌, ◌≤◌, ◌<◌, ℕ, List, None, Some, refl, sym, ap, subst, arith}
+use Rattle.std.proofs.Common.{◌≡◌, ◌∙◌, ◌≤◌, ◌<◌, length, Some, refl, sym, subst, arith}
 use Rattle.std.specs.Prelude.{slice_get}
-use Rattle.mot_carousel.specs.Carousel.{are_names_distinct}
 use Rattle.mot_server.proofs.Laws.{keeps_on}
-use Rattle.mot_update.specs.HasRun.{fault_of}
-use Rattle.mot_update.specs.Looking.{HasSettled}
-use Rattle.mot_update.proofs.Looks.{gives_nil, settled_all, settled_fault, settled_more, settled_none}
+use Rattle.mot_update.proofs.Looks.{accepted_settled, gives_nil, settled_all, settled_fault}
+use Rattle.mot_update.proofs.Looks.{settled_more, settled_none}
 use Rattle.mot_update.proofs.Runs.{same_error}
 use Rattle.mot_update.proofs.Still.{stays_same}
 use Rattle.mot_update.proofs.looking.settle_all.Goals as goal
 
-pub loop-init : goal.loop-init
-loop-init g c =
+pub loop-wanted-init : goal.loop-wanted-init
+loop-wanted-init g c =
     let state = g.D.Disk.state c.args.server.now.disk in
     record {
       keeps = record { len = refl; was_honest = λ honest. honest };
@@ -19,17 +17,25 @@ loop-init g c =
       so_far = λ s holds honest.
           settled_none c.args.server.now state s (g.S.Source.names c.args.source.now)
           (g.S.Source.place c.args.source.now) (g.S.Source.given c.args.source.now)
-          (g.met.D.Disk.sound c.args.server.now.disk honest) honest (stays_same state) holds;
+          (g.S.Source.is_fine c.args.source.now) (g.met.D.Disk.sound c.args.server.now.disk honest) honest (stays_same state) holds;
+      fine = λ e. e;
     }
 
 pub returns-in_default-clause-settled : goal.returns-in_default-clause-settled
 returns-in_default-clause-settled g c = λ s holds honest.
     let state = g.D.Disk.state in
     let given = g.S.Source.given in
-    settled_all c.args.server.now c.loop.server (state c.args.server.now.disk)
-    (state c.loop.server.disk) s (g.S.Source.names c.args.source.now)
-    (g.S.Source.place c.loop.source) (given c.args.source.now) (given c.loop.source)
-    (given c.next.new.self) (c.loop.invariant.so_far s holds honest) c.in_default.ensures.gives
+    settled_all c.args.server.now c.loop-wanted.server (state c.args.server.now.disk)
+    (state c.loop-wanted.server.disk) s (g.S.Source.names c.args.source.now)
+    (g.S.Source.place c.args.source.now) (g.S.Source.place c.loop-wanted.source)
+    (given c.args.source.now) (given c.loop-wanted.source) (given c.next.new.self)
+    (g.S.Source.is_fine c.loop-wanted.source) (g.S.Source.is_fine c.next.new.self)
+    (c.loop-wanted.invariant.so_far s holds honest) c.in_default.ensures.gives
+    (λ e. (
+      c.in_default.ensures.fine e,
+      subst (λ l. length l ≤ g.S.Source.place c.loop-wanted.source)
+          c.loop-wanted.invariant.same (c.in_default.ensures.every e),
+    ))
 
 pub returns-in_err-settled-clause-settled : goal.returns-in_err-settled-clause-settled
 returns-in_err-settled-clause-settled g c = λ s holds honest.
@@ -37,30 +43,32 @@ returns-in_err-settled-clause-settled g c = λ s holds honest.
     let given = g.S.Source.given in
     let names = g.S.Source.names c.args.source.now in
     let old = c.args.server.now in
-    let mid = c.loop.server in
+    let mid = c.loop-wanted.server in
     let new = c.settle.new.server in
-    let is = c.loop.invariant in
+    let is = c.loop-wanted.invariant in
     let two = c.in_err-settled.ensures in
     let was = two.keeps.was_honest honest in
     let next = c.in-Some.ensures in
     let n = next.named in
     rw (same_error c.from_residual.result c.in_err-settled.field-0.0 c.from_residual.ensures.1)
     (settled_fault old mid new (state old.disk) (state mid.disk) (state new.disk) s names
-    (g.S.Source.place c.loop.source) (g.S.Source.place c.next.new.self) (given c.args.source.now)
-    (given c.loop.source) (given c.next.new.self) (given c.next.new.self) c.in-Some.wanted c.requires
+    (g.S.Source.place c.args.source.now) (g.S.Source.place c.loop-wanted.source)
+    (g.S.Source.place c.next.new.self) (given c.args.source.now) (given c.loop-wanted.source)
+    (given c.next.new.self) (given c.next.new.self) (g.S.Source.is_fine c.loop-wanted.source)
+    c.in-Some.wanted c.requires
     (n.0, n.1, n.2, subst (λ l. slice_get l n.0 ≡ Some c.in-Some.wanted.name) is.same n.3)
     next.gives (gives_nil (given c.next.new.self)) (is.so_far s holds was) _
-    c.in_err-settled.field-0.0 (λ t held. two.run t held honest))
+    (g.S.Source.is_fine c.next.new.self) c.in_err-settled.field-0.0 (λ t held. two.run t held honest))
 
-pub loop-preserved : goal.loop-preserved
-loop-preserved g c =
+pub loop-wanted-preserved : goal.loop-wanted-preserved
+loop-wanted-preserved g c =
     let state = g.D.Disk.state in
     let given = g.S.Source.given in
     let names = g.S.Source.names c.args.source.now in
     let old = c.args.server.now in
-    let mid = c.loop.server in
+    let mid = c.loop-wanted.server in
     let new = c.settle.new.server in
-    let is = c.loop.invariant in
+    let is = c.loop-wanted.invariant in
     let two = c.in_ok-settled.ensures in
     let next = c.in-Some.ensures in
     let told = c.settled.ensures in
@@ -72,23 +80,21 @@ loop-preserved g c =
       so_far = λ s holds honest.
           let was = two.keeps.was_honest honest in
           settled_more old mid new (state old.disk) (state mid.disk) (state new.disk) s names
-          (g.S.Source.place c.loop.source) (g.S.Source.place c.settled.new.self)
-          (given c.args.source.now) (given c.loop.source) (given c.next.new.self)
-          (given c.settled.new.self) c.in-Some.wanted c.requires (
+          (g.S.Source.place c.args.source.now) (g.S.Source.place c.loop-wanted.source)
+          (g.S.Source.place c.settled.new.self)
+          (given c.args.source.now) (given c.loop-wanted.source) (given c.next.new.self)
+          (given c.settled.new.self) (g.S.Source.is_fine c.loop-wanted.source) c.in-Some.wanted c.requires (
             n.0,
             n.1,
             subst (λ p. n.0 < p) (sym told.stays) n.2,
             subst (λ l. slice_get l n.0 ≡ Some c.in-Some.wanted.name) is.same n.3,
           )
-          next.gives told.gives (is.so_far s holds was) _ (λ t held. two.run t held honest);
+          next.gives told.gives (is.so_far s holds was) _ (g.S.Source.is_fine c.settled.new.self)
+          (λ t held. two.run t held honest)
+          (λ e. let f = told.fine e in (
+            next.fine f.0,
+            told.stays ∙ next.every f.0,
+            accepted_settled c.in_ok-settled.settled f.1,
+          ));
+      fine = λ e. is.fine (next.fine (told.fine e).0);
     }
-
-pub returns-clause-settled : goal.returns-clause-settled
-returns-clause-settled g c = λ s holds honest.
-    let state = g.D.Disk.state in
-    let given = g.S.Source.given in
-    settled_all c.args.server.now c.loop.server (state c.args.server.now.disk)
-    (state c.loop.server.disk) s (g.S.Source.names c.args.source.now)
-    (g.S.Source.place c.loop.source) (given c.args.source.now) (given c.loop.source)
-    (given c.loop.source) (c.loop.invariant.so_far s holds honest)
-    (gives_nil (given c.loop.source))

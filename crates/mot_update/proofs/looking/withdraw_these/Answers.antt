@@ -1,10 +1,10 @@
-use Rattle.std.proofs.Common.{◌≡◌, ◌∙◌, ◌≤◌, ◌<◌, ℕ, List, [], ◌∷◌, Ok, None, Some, Err, refl, sym, ap, subst, arith}
+use Rattle.std.proofs.Common.{◌∙◌, [], ◌∷◌, Ok, None, Some, refl, subst, arith}
 use Rattle.mot_carousel.specs.declared.command.Command.TheVariants.{Withdraw}
 use Rattle.mot_server.specs.Attempts.{marks_of}
 use Rattle.mot_server.proofs.Laws.{keeps_on}
-use Rattle.mot_update.specs.HasRun.{HasRun, fault_of}
-use Rattle.mot_update.specs.Looking.{RunsThrough, withdraw_all}
-use Rattle.mot_update.proofs.Looks.{err_of, gives_kept, gives_nil, withdrew_all, withdrew_cut}
+use Rattle.mot_update.specs.HasRun.{HasRun}
+use Rattle.mot_update.proofs.Looks.{accepted_one, err_of, gives_kept, gives_nil, withdrew_all}
+use Rattle.mot_update.proofs.Looks.{withdrew_cut}
 use Rattle.mot_update.proofs.Looks.{withdrew_fault, withdrew_next, withdrew_none}
 use Rattle.mot_update.proofs.Runs.{same_error}
 use Rattle.mot_update.proofs.Still.{stays_same}
@@ -19,8 +19,11 @@ loop-name-init g c =
       same = refl;
       gives = gives_nil (g.S.Source.given c.args.source.now);
       run = λ s holds honest.
-          withdrew_none c.args.server.now state s (g.met.D.Disk.sound c.args.server.now.disk honest)
-          honest (stays_same state) holds;
+          let none = withdrew_none c.args.server.now state s
+          (g.met.D.Disk.sound c.args.server.now.disk honest) honest (stays_same state) holds in
+          (none.0, none.1, λ e. none.2);
+      stays = refl;
+      fine = λ e. e;
     }
 
 pub returns-in_err-clone-clause-runs : goal.returns-in_err-clone-clause-runs
@@ -32,7 +35,8 @@ returns-in_err-clone-clause-runs g c = λ s holds honest.
     let e = err_of c.from_residual.result c.from_residual.ensures.0 in
     rw e.1
     (withdrew_cut old mid (state old.disk) (state mid.disk) s c.args.names.now c.loop-name.name-index
-    so_far.0 so_far.1 e.0 (g.met.D.Disk.sound mid.disk honest) honest (stays_same (state mid.disk)))
+    so_far.0 so_far.1 (g.S.Source.is_fine c.loop-name.source) e.0
+    (g.met.D.Disk.sound mid.disk honest) honest (stays_same (state mid.disk)))
 
 pub returns-in_err-attempt-clause-runs : goal.returns-in_err-attempt-clause-runs
 returns-in_err-attempt-clause-runs g c = λ s holds honest.
@@ -46,7 +50,8 @@ returns-in_err-attempt-clause-runs g c = λ s holds honest.
     c.from_residual-in_err-attempt.ensures.1)
     (withdrew_fault old mid (state old.disk) (state mid.disk) s c.args.names.now
     c.loop-name.name-index so_far.0 so_far.1 new (state new.disk) c.name-item.result
-    c.loop-name-test.true c.name-item.is [] c.in_err-attempt.field-0.0
+    c.loop-name-test.true c.name-item.is [] (g.S.Source.is_fine c.loop-name.source)
+    c.in_err-attempt.field-0.0
     (λ t held. subst (λ n. HasRun mid new (state mid.disk) (state new.disk) t (Withdraw n ∷ []) []
     (Some c.in_err-attempt.field-0.0)) c.in_ok-clone.ensures.cases (two.run t held)))
 
@@ -69,9 +74,14 @@ loop-name-preserved g c =
           withdrew_next old mid (state old.disk) (state mid.disk) s c.args.names.now
           c.loop-name.name-index so_far.0 so_far.1 new (state new.disk) c.name-item.result
           c.loop-name-test.true c.name-item.is (marks_of (Ok c.in_ok-attempt.attempt))
+          (g.S.Source.is_fine c.withdrew.new.self)
           (λ t held. subst (λ n. HasRun mid new (state mid.disk) (state new.disk) t
           (Withdraw n ∷ []) (marks_of (Ok c.in_ok-attempt.attempt)) None)
-          c.in_ok-clone.ensures.cases (two.run t held));
+          c.in_ok-clone.ensures.cases (two.run t held))
+          (λ e. let f = c.withdrew.ensures.fine e in
+          (so_far.2 f.0, accepted_one c.in_ok-attempt.attempt f.1));
+      stays = c.withdrew.ensures.stays ∙ is.stays;
+      fine = λ e. is.fine (c.withdrew.ensures.fine e).0;
     }
 
 pub returns-clause-runs : goal.returns-clause-runs
@@ -80,4 +90,4 @@ returns-clause-runs g c = λ s holds honest.
     let so_far = c.loop-name.invariant.run s holds honest in
     withdrew_all c.args.server.now c.loop-name.server (state c.args.server.now.disk)
     (state c.loop-name.server.disk) s c.args.names.now c.loop-name.name-index so_far.0 so_far.1
-    c.loop-name-test.false
+    (g.S.Source.is_fine c.loop-name.source) so_far.2 c.loop-name-test.false

@@ -1,10 +1,12 @@
-use Rattle.std.proofs.Common.{◌≡◌, ◌-◌, ◌≤◌, length}
+use Rattle.std.proofs.Common.{◌≡◌, ◌-◌, ◌≤◌, length, false}
 use Rattle.mot_folder.proofs.folder.FolderSource.next.Given as goal
 
 abbrev pub invariant-loop-self : goal.invariant-loop-self
 invariant-loop-self g l = record {
   names : l.self.names.names.items ≡ l.initial.self.names.names.items;
   goes : l.initial.self.place ≤ l.self.place;
+  fine : l.self.report.any_refused ≡ false
+      → (l.initial.self.report.any_refused ≡ false) × (l.self.place ≡ l.initial.self.place);
 }
 
 abbrev pub decreases-loop-self : goal.decreases-loop-self

@@ -1,4 +1,4 @@
-use Rattle.std.proofs.Common.{◌≡◌, ◌++◌, ◌∷◌, ℕ, List, [], Bool, true, false, cond, sym, subst, ◌∙◌}
+use Rattle.std.proofs.Common.{◌≡◌, ◌++◌, ◌∷◌, ℕ, List, [], Bool, true, false, cond, sym, subst}
 use Rattle.mot_carousel.specs.Carousel.{are_names_distinct}
 use Rattle.mot_update.specs.Updating.{is_known}
 use Rattle.mot_update.proofs.Looks.{names-push}

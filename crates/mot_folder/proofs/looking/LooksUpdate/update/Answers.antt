@@ -1,4 +1,4 @@
-use Rattle.std.proofs.Common.{◌≡◌, Option, None, [], refl, sym, subst}
+use Rattle.std.proofs.Common.{◌≡◌, Bool, true, false, not, Option, None, [], refl, sym, subst, ◌∙◌}
 use Rattle.disk_store.specs.Disk.{State}
 use Rattle.mot_base.specs.declared.refusal.Refusal.{Refusal}
 use Rattle.mot_feed.specs.Feeding.{IsUpdating, fault_of}
@@ -11,13 +11,18 @@ use Rattle.mot_folder.proofs.looking.LooksUpdate.update.Goals as goal
 
 -- a look runs commands
 updating_by : {D : Type 0} (old new : ServerView D) (start now : State) (s : Standing)
-    (fault : Option Refusal) → HasLookedAtFolder old new start now s fault
-    → IsUpdating old new start now s fault
-updating_by old new start now s fault (unlisted none run) =
-    subst (λ f. IsUpdating old new start now s f) (sym none)
-    (record { commands = []; marks = []; run = run })
-updating_by old new start now s fault (listed names looked) =
-    record { commands = looked.runs.commands; marks = looked.runs.marks; run = looked.runs.run }
+    (fine may : Bool) (fault : Option Refusal) → may ≡ true
+    → HasLookedAtFolder old new start now s fine fault
+    → IsUpdating old new start now s may fault
+updating_by old new start now s fine may fault is (unlisted refused none run) =
+    subst (λ f. IsUpdating old new start now s may f) (sym none)
+    (record { commands = []; marks = []; run = run; waits = λ e. refl })
+updating_by old new start now s fine may fault is (listed names looked) = record {
+  commands = looked.runs.commands;
+  marks = looked.runs.marks;
+  run = looked.runs.run;
+  waits = λ e. absurd (let t : true ≡ false = sym is ∙ e in cc);
+}
 
 pub returns-then-not-between_turns-clause-run : goal.returns-then-not-between_turns-clause-run
 returns-then-not-between_turns-clause-run g c = λ s holds honest.
@@ -28,6 +33,7 @@ returns-then-not-between_turns-clause-run g c = λ s holds honest.
       marks = [];
       run = (has_read old old state state s None (g.met.D.Disk.sound old.disk honest) refl refl
           honest (stays_same state) holds).0;
+      waits = λ e. refl;
     }
 
 pub returns-then-not-is_empty-clause-run : goal.returns-then-not-is_empty-clause-run
@@ -36,7 +42,7 @@ returns-then-not-is_empty-clause-run g c = λ s holds honest.
     let old = c.args.server.now in
     let new = c.look_at_folder-result.new.server in
     updating_by old new (state old.disk) (state new.disk) s
-    (fault_of c.look_at_folder-result.result) (c.look_at_folder-result.ensures.looked s holds honest)
+    (not c.look_at_folder-result.new.report.any_refused) _ (fault_of c.look_at_folder-result.result) c.if-not-between_turns.false (c.look_at_folder-result.ensures.looked s holds honest)
 
 pub returns-else-not-is_empty-clause-run : goal.returns-else-not-is_empty-clause-run
 returns-else-not-is_empty-clause-run g c = λ s holds honest.
@@ -44,4 +50,4 @@ returns-else-not-is_empty-clause-run g c = λ s holds honest.
     let old = c.args.server.now in
     let new = c.look_at_folder-result.new.server in
     updating_by old new (state old.disk) (state new.disk) s
-    (fault_of c.look_at_folder-result.result) (c.look_at_folder-result.ensures.looked s holds honest)
+    (not c.look_at_folder-result.new.report.any_refused) _ (fault_of c.look_at_folder-result.result) c.if-not-between_turns.false (c.look_at_folder-result.ensures.looked s holds honest)

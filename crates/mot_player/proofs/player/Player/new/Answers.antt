@@ -4,6 +4,7 @@ use Rattle.mot_player.proofs.Ending.{turns-end}
 use Rattle.mot_player.proofs.GoesOn.{changes-go_on, requests-go_on}
 use Rattle.mot_player.proofs.WholeTurn.{turns_read_as_their_carousels}
 use Rattle.mot_player.proofs.Segments.{segments_from-end}
+use Rattle.mot_player.proofs.Rounds.{rounds_are_continuous}
 use Rattle.mot_player.proofs.player.Player.new.Goals as goal
 
 pub returns-clause-opened : goal.returns-clause-opened
@@ -28,3 +29,6 @@ returns-clause-turns c = turns_read_as_their_carousels
 
 pub returns-clause-turns_end : goal.returns-clause-turns_end
 returns-clause-turns_end c = turns-end
+
+pub returns-clause-rounds : goal.returns-clause-rounds
+returns-clause-rounds c = rounds_are_continuous

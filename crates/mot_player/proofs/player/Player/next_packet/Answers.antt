@@ -1,13 +1,14 @@
 use Rattle.std.proofs.Common.{◌≡◌, ◌∙◌, ◌<◌, ℕ, List, Some, false, ap, arith, sym, subst}
 use Rattle.mot_packets.specs.Packet.{read_packet}
 use Rattle.mot_packets.specs.Written.{bytes_of_packet}
-use Rattle.mot_player.specs.Laws.{IsStep, bytes_due, bytes_left}
+use Rattle.mot_player.specs.AnyBodies.{IsStepOfSome}
+use Rattle.mot_player.specs.Laws.{IsStep, blank_bodies, bytes_due, bytes_left}
 use Rattle.mot_player.specs.Inner.Ready.{HasTaken, place_with, standing_of}
 use Rattle.mot_player.specs.Standing.{AreBodiesFor, Standing, TurnPlan, place_of}
 use Rattle.mot_player.specs.declared.player.Player.TheInside.{Inside}
 use Rattle.mot_player.specs.declared.state.State.{State}
 use Rattle.mot_player.proofs.Answered.{place_is, answers-under_way, answers-begun, sent_from}
-use Rattle.mot_player.proofs.Nearer.{left-less, nearer-begun, nearer-under_way}
+use Rattle.mot_player.proofs.Nearer.{are-blank, left-less, nearer-begun, nearer-under_way}
 use Rattle.mot_player.proofs.player.Player.next_packet.Goals as goal
 use Rattle.mot_player.proofs.player.Player.next_packet.Goals.{then-self-eq0+in_ok-begin, else-self-eq0}
 
@@ -82,4 +83,53 @@ returns-clause-nearer g c = λ goes_on.
           (λ bodies are. subst (λ (s : State). (sent_from s bodies).ends_turn ≡ false
           → bytes_due (sent_from s bodies).place < bytes_due (place_with old bodies)) (sym same)
           (nearer-under_way old bodies w.if-self-eq0.false (c.self.invariant.left some))) goes_on))
+    ]
+
+pub returns-clause-sent_of_some : goal.returns-clause-sent_of_some
+returns-clause-sent_of_some g c =
+    let old : State = c.self.inside.state in
+    let new : State = c.send.new.self in
+    let packet : List ℕ = c.send.result.packet.items in
+    let answered : Standing → Type 0 = λ s.
+    IsStepOfSome s packet c.send.result.ends_turn (standing_of new) in
+    elim c.if-self-eq0.branch [
+      | then-self-eq0+in_ok-begin w ↦ (
+          let mid : State = w.begin.new.self in
+          let some = w.in_ok-begin.ensures.of_some in
+          let bodies : List (List ℕ) = some.0 in
+          let same : c.if-self-eq0.self-inside.state ≡ mid = ap (λ (i : Inside). i.state) w.self-inside-is in
+          let are : AreBodiesFor mid.turn bodies =
+          subst (λ (t : TurnPlan). AreBodiesFor t bodies) (sym w.in_ok-begin.ensures.turn) some.1 in
+          let bytes = subst (λ (s : State). packet ≡ bytes_of_packet (sent_from s bodies).packet) same
+          (c.send.ensures.bytes bodies) in
+          let reads = subst (λ (s : State). read_packet packet ≡ Some (sent_from s bodies).packet) same
+          (c.send.ensures.packet bodies) in
+          let ends = subst (λ (s : State). c.send.result.ends_turn ≡ (sent_from s bodies).ends_turn) same
+          (c.send.ensures.ends_turn bodies (subst (λ (s : State). AreBodiesFor s.turn bodies) (sym same) are)) in
+          let place = subst (λ (s : State). place_with new bodies ≡ (sent_from s bodies).place) same
+          (c.send.ensures.place bodies) in
+          subst answered c.self.view_is (record {
+            bodies = bodies;
+            sized = some.1;
+            step = answers-begun old mid bodies packet c.send.result.ends_turn (place_with new bodies)
+                w.if-self-eq0.true w.in_ok-begin.ensures.sent some.2 bytes reads ends place;
+          }))
+      | else-self-eq0 w ↦ (
+          let bodies : List (List ℕ) = blank_bodies old.turn in
+          let are : AreBodiesFor old.turn bodies = are-blank old.turn in
+          let same : c.if-self-eq0.self-inside.state ≡ old = ap (λ (i : Inside). i.state) w.self-inside-is in
+          let bytes = subst (λ (s : State). packet ≡ bytes_of_packet (sent_from s bodies).packet) same
+          (c.send.ensures.bytes bodies) in
+          let reads = subst (λ (s : State). read_packet packet ≡ Some (sent_from s bodies).packet) same
+          (c.send.ensures.packet bodies) in
+          let ends = subst (λ (s : State). c.send.result.ends_turn ≡ (sent_from s bodies).ends_turn) same
+          (c.send.ensures.ends_turn bodies (subst (λ (s : State). AreBodiesFor s.turn bodies) (sym same) are)) in
+          let place = subst (λ (s : State). place_with new bodies ≡ (sent_from s bodies).place) same
+          (c.send.ensures.place bodies) in
+          subst answered c.self.view_is (record {
+            bodies = bodies;
+            sized = are;
+            step = answers-under_way old bodies packet c.send.result.ends_turn (place_with new bodies)
+                w.if-self-eq0.false bytes reads ends place;
+          }))
     ]

@@ -1,30 +1,35 @@
-use Rattle.std.proofs.Common.{◌≡◌, ℕ, ◌+◌, refl, ap, ◌∙◌, arith, length, length-take-le}
-use Rattle.std.proofs.Common.{take, vec_len}
-use Rattle.mot_player.specs.declared.state.State.{State}
-use Rattle.mot_player.proofs.Nearer.{taken}
+use Rattle.std.proofs.Common.{◌≡◌, ℕ, List, length, length-take-le, take, drop, sym, ap, ◌∙◌, arith}
+use Rattle.mot_player.specs.Standing.{TurnPlan, entity_bytes}
+use Rattle.mot_player.proofs.SomeBodies.{some_bodies}
 use Rattle.mot_player.proofs.state.State.begin.Goals as goal
-use Rattle.mot_player.proofs.state.State.begin.Goals.{then-part-eq0, else-part-eq0}
 
-pub returns-clause-taken : goal.returns-clause-taken
-returns-clause-taken g c = λ bodies are.
+pub returns-clause-of_some : goal.returns-clause-of_some
+returns-clause-of_some g c =
     let part = c.part_at-part in
-    let read : length (take part.result.len c.as_slice.result.now) ≡ part.result.len =
-    length-take-le part.result.len c.as_slice.result.now (omega (
+    let plan : TurnPlan = c.args.self.now.turn in
+    let buffer : List ℕ = c.read_front.new.buffer.items in
+    let bytes : List ℕ = take part.result.len buffer in
+    let long : length bytes ≡ part.result.len =
+    length-take-le part.result.len buffer (omega (
       arith,
-      c.as_slice.ensures.len,
       c.read_front.ensures.len,
       c.requires.fitted.buffer,
       part.ensures.len,
     )) in
-    let long = ap (λ (n : ℕ). n + 11) read in
-    elim c.if-part-eq0.branch [
-      | then-part-eq0 w ↦ taken c.args.self.now _ bodies part.result are part.ensures.next
-          part.ensures.entity part.ensures.range (ap (λ (s : State). s.turn) w.self-is)
-          (ap (λ (s : State). s.segment_size) w.self-is) refl refl
-          (ap (λ (s : State). vec_len s.group) w.self-is ∙ w.begin_group.ensures.len ∙ long)
-      | else-part-eq0 w ↦ taken c.args.self.now _ bodies part.result are part.ensures.next
-          part.ensures.entity part.ensures.range (ap (λ (s : State). s.turn) w.self-is)
-          (ap (λ (s : State). s.segment_size) w.self-is) refl refl
-          (ap (λ (s : State). vec_len s.group) w.self-is
-          ∙ w.begin_group-else-part-eq0.ensures.len ∙ long)
-    ]
+    let some = some_bodies plan part.result.entity part.result.from bytes part.ensures.entity
+    (omega (arith, long, part.ensures.range))
+    (λ first. c.in_ok-read_front.ensures.directory first
+    ∙ ap (λ (n : ℕ). take n (drop part.result.from plan.directory)) (sym long)) in
+    let begun = c.begin_part.ensures.begun some.0 some.1 (some.2
+    ∙ ap (λ (n : ℕ). take n (drop part.result.from
+    (entity_bytes plan some.0 part.result.entity))) long) in (
+      some.0,
+      some.1,
+      record {
+        segment = begun.segment;
+        others = begun.others;
+        next = begun.next;
+        group = begun.group;
+        place = begun.place;
+      },
+    )

@@ -1,10 +1,11 @@
-use Rattle.std.proofs.Common.{ℕ, suc, List, [], ◌∷◌, ◌++◌, length, length-append, refl, sym, ap, ◌∙◌, subst, arith}
+use Rattle.std.proofs.Common.{ℕ, Bool, inl, inr, suc, List, [], ◌∷◌, ◌++◌, length, length-append, refl, sym, ap, ◌∙◌, subst, arith}
+use Rattle.mot_player.specs.AnyBodies.{IsStepOfSome, PlaysOn, PlaysToTheEnd}
 use Rattle.mot_player.specs.Standing as player
 use Rattle.mot_server.specs.Inner.Going.{IsGoing}
 use Rattle.mot_server.specs.Inner.Unread.{is_unchanged}
 use Rattle.mot_server.specs.Playing.{HasPlayed, HasPlayedTurn, bytes_of_packets}
 use Rattle.mot_server.specs.Server.{bodies_of, place_in}
-use Rattle.mot_server.proofs.Going.{HasPlayed-more, HasPlayedTurn-ended, IsGoing-more, IsGoing-none, OnErr-always, bytes_of_packets-more}
+use Rattle.mot_server.proofs.Going.{HasPlayed-more, HasPlayedTurn-ended, IsGoing-more, IsGoing-none, MatchResult-failed, OnErr-always, PlaysOn-more, bytes_of_packets-more, plays_one_more}
 use Rattle.mot_server.proofs.Read.{holds_still, keeps_on, unchanged_on}
 use Rattle.mot_server.proofs.Whole.{turn_reads}
 use Rattle.mot_server.proofs.server.Server.play_turn.Goals as goal
@@ -19,7 +20,48 @@ loop-packets-init g c = record {
   unchanged = λ honest. is_unchanged (g.D.Disk.state c.args.self.now.disk);
   going = λ s holds honest. subst (λ (xs : List (List ℕ)). IsGoing (place_in c.args.self.now s) xs (place_in c.args.self.now s))
       (sym (ap bytes_of_packets c.new-packets.ensures.items)) (IsGoing-none (place_in c.args.self.now s));
+  of_some = subst (λ (xs : List (List ℕ)). PlaysOn c.args.self.now.player xs c.args.self.now.player)
+      (sym (ap bytes_of_packets c.new-packets.ensures.items)) refl;
 }
+
+pub returns-in_err-packet-clause-of_some : goal.returns-in_err-packet-clause-of_some
+returns-in_err-packet-clause-of_some g c =
+    let start = c.args.self.now.player in
+    let packets : List (List ℕ) = bytes_of_packets c.loop-packets.packets.items in
+    MatchResult-failed c.from_residual.result _ _ c.from_residual.ensures.0 (
+      packets,
+      inl (subst (λ (p : player.Standing). PlaysOn start packets p) (sym c.in_err-packet.ensures.stays)
+          c.loop-packets.invariant.of_some),
+    )
+
+pub returns-in_err-push-clause-of_some : goal.returns-in_err-push-clause-of_some
+returns-in_err-push-clause-of_some g c =
+    let packets : List (List ℕ) = bytes_of_packets c.loop-packets.packets.items in
+    let played = c.in_ok-packet.field-0 in
+    MatchResult-failed c.from_residual-in_err-push.result _ _ c.from_residual-in_err-push.ensures.0 (
+      packets ++ played.packet.items ∷ [],
+      plays_one_more c.args.self.now.player c.loop-packets.self.player c.next_packet.new.self.player packets
+          played.packet.items played.ends_turn c.loop-packets.invariant.of_some c.in_ok-packet.ensures.of_some,
+    )
+
+pub returns-then-ends_turn-clause-of_some : goal.returns-then-ends_turn-clause-of_some
+returns-then-ends_turn-clause-of_some g c =
+    let start = c.args.self.now.player in
+    let mid = c.loop-packets.self.player in
+    let now = c.next_packet.new.self.player in
+    let packets : List (List ℕ) = bytes_of_packets c.loop-packets.packets.items in
+    let played = c.in_ok-packet.field-0 in
+    let items = ap bytes_of_packets c.in_ok-push.ensures.items
+    ∙ bytes_of_packets-more c.loop-packets.packets.items played.packet in
+    subst (λ (xs : List (List ℕ)). PlaysToTheEnd start xs now) (sym items) (record {
+      before = packets;
+      last = played.packet.items;
+      mid = mid;
+      all = refl;
+      goes_on = c.loop-packets.invariant.of_some;
+      ends = subst (λ (e : Bool). IsStepOfSome mid played.packet.items e now) c.if-ends_turn.true
+          c.in_ok-packet.ensures.of_some;
+    })
 
 pub returns-in_err-packet-clause-stands : goal.returns-in_err-packet-clause-stands
 returns-in_err-packet-clause-stands g c = λ s holds honest.
@@ -109,4 +151,9 @@ loop-packets-preserved g c =
           (IsGoing-more (place_in start s) (place_in mid s) (place_in now s) (bytes_of_packets c.loop-packets.packets.items)
           (is.going s holds was) c.in_ok-packet.field-0.packet.items c.in_ok-packet.field-0.ends_turn
           (c.in_ok-packet.ensures.sent s held honest) c.if-ends_turn.false);
+      of_some = subst (λ (xs : List (List ℕ)). PlaysOn start.player xs now.player) (sym items)
+          (PlaysOn-more start.player mid.player now.player (bytes_of_packets c.loop-packets.packets.items)
+          c.in_ok-packet.field-0.packet.items is.of_some
+          (subst (λ (e : Bool). IsStepOfSome mid.player c.in_ok-packet.field-0.packet.items e now.player)
+          c.if-ends_turn.false c.in_ok-packet.ensures.of_some));
     }

@@ -1,6 +1,7 @@
 use Rattle.std.proofs.Common.{◌≡◌, ◌≤◌, ◌+◌, length}
 use Rattle.disk_store.specs.Disk.{KeepsLength, IsUnchanged}
 use Rattle.mot_journal.specs.Image.{Standing}
+use Rattle.mot_player.specs.AnyBodies.{PlaysOn}
 use Rattle.mot_player.specs.Laws.{bytes_left}
 use Rattle.mot_repository.specs.Repository.{Holds}
 use Rattle.mot_server.specs.Inner.Going.{IsGoing}
@@ -19,6 +20,7 @@ invariant-loop-packets g l = record {
   unchanged : (g.D.Disk.state l.self.disk).IsHonest → IsUnchanged (g.D.Disk.state l.fn.self.disk) (g.D.Disk.state l.self.disk);
   going : (s : Standing) → Holds l.fn.self.view s (g.D.Disk.state l.fn.self.disk) → (g.D.Disk.state l.self.disk).IsHonest
       → IsGoing (place_in l.fn.self s) (bytes_of_packets l.packets.items) (place_in l.self s);
+  of_some : PlaysOn l.fn.self.player (bytes_of_packets l.packets.items) l.self.player;
 }
 
 abbrev pub decreases-loop-packets : goal.decreases-loop-packets

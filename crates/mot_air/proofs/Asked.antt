@@ -1,0 +1,99 @@
+-- What the words ask for.
+use Rattle.std.proofs.Common.{◌≡◌, ◌≢◌, true, List, Option, Some, None, refl, sym, ap, ◌∙◌}
+use Rattle.std.proofs.Common.{subst, inl, inr}
+use Rattle.std.specs.Prelude.{option_map}
+use Rattle.std.specs.Box.{box_value}
+use Rattle.clap.specs.Words.{App, HasKind, HasMatchesOf, IsAmong, Row, Text, app_of, fault_of}
+use Rattle.clap.specs.Words.{found_of, is_simple, is_simple_and_free, kind_of, rows_of}
+use Rattle.clap.specs.Words.{subcommand_of, subcommand_name_of, subcommand_rows_of}
+use Rattle.clap.specs.declared.builder.Command.{Command}
+use Rattle.clap.specs.declared.error.Error.{Error}
+use Rattle.clap.specs.declared.error.ErrorKind.TheVariants.{DisplayHelp, OutOfMemory}
+use Rattle.clap.specs.declared.parser.matches.ArgMatches.{ArgMatches}
+use Rattle.clap.specs.declared.parser.matches.ArgMatches.TheViews.{out-ArgMatches, out-SubCommand}
+use Rattle.clap.proofs.OnLiterals.{clap_on_literals}
+use Rattle.mot_air.specs.declared.task.Task.{Task}
+use Rattle.mot_air.specs.Command.{air_app}
+use Rattle.mot_air.specs.Task.{AskFor, AskForHelp, AreWrong, IsTask}
+
+simple : is_simple air_app ≡ true
+unfolding clap_on_literals
+simple = refl
+
+free : is_simple_and_free air_app ≡ true
+unfolding clap_on_literals
+free = refl
+
+-- a name and rows that were found apart were found together
+found_together : {X A B : Type 0} (f : X → A) (h : X → B) (o : Option X) (a : A) (b : B)
+    → Some a ≡ option_map f o
+    → Some b ≡ option_map (λ (p : A × B). p.1) (option_map {U = A × B} (λ x. (f x, h x)) o)
+    → option_map {U = A × B} (λ x. (f x, h x)) o ≡ Some (a, b)
+found_together f h None a b e k = absurd (cc)
+found_together f h (Some x) a b e k = cc
+
+Some-inj : {A : Type 0} {x y : A} → Some x ≡ Some y → x ≡ y
+Some-inj e = cc
+
+same_task : {a b : Text × List Row} → a ≡ b → (task : Task) → IsTask a.0 a.1 task
+    → IsTask b.0 b.1 task
+same_task e task is = subst (λ (p : Text × List Row). IsTask p.0 p.1 task) e is
+
+module _ (words : List Text) (command : Command) (app : app_of command ≡ air_app) where
+  -- ---- what was matched
+  rows_matched : (m : ArgMatches) → HasMatchesOf (app_of command) words m
+      → subcommand_rows_of m ≡ subcommand_of air_app words
+  rows_matched m h = (h (ap is_simple app ∙ simple)).1 ∙ ap (λ (a : App). subcommand_of a words) app
+
+  pub AskFor-matched : (m : ArgMatches) (name : Text) (rows : List Row) (task : Task)
+      → HasMatchesOf (app_of command) words m → Some name ≡ subcommand_name_of m
+      → Some rows ≡ option_map (λ p. p.1) (subcommand_rows_of m) → IsTask name rows task
+      → AskFor words task
+  AskFor-matched m name rows task h n r is = record {
+    name = name;
+    rows = rows;
+    matched = sym (rows_matched m h)
+        ∙ found_together (λ b. (out-SubCommand (box_value b)).name.now)
+        (λ b. rows_of (found_of (out-SubCommand (box_value b)).matches))
+        (out-ArgMatches m).subcommand name rows n r;
+    is_task = is;
+  }
+
+  -- a name and rows that no task is behind
+  pub AskFor-none : (m : ArgMatches) (name : Text) (rows : List Row)
+      → HasMatchesOf (app_of command) words m → Some name ≡ subcommand_name_of m
+      → Some rows ≡ option_map (λ p. p.1) (subcommand_rows_of m)
+      → ((task : Task) → IsTask name rows task → ⊥) → (task : Task) → AskFor words task → ⊥
+  AskFor-none m name rows h n r none task asked =
+      let found : subcommand_of air_app words ≡ Some (name, rows) =
+      sym (rows_matched m h)
+      ∙ found_together (λ b. (out-SubCommand (box_value b)).name.now)
+      (λ b. rows_of (found_of (out-SubCommand (box_value b)).matches))
+      (out-ArgMatches m).subcommand name rows n r in
+      none task (same_task (Some-inj (sym asked.matched ∙ found)) task asked.is_task)
+
+  pub AreWrong-none : (m : ArgMatches) → HasMatchesOf (app_of command) words m
+      → None ≡ subcommand_rows_of m → AreWrong words
+  AreWrong-none m h r = inr (sym (r ∙ rows_matched m h))
+
+  module _ (e : Error)
+      (kinds : is_simple_and_free (app_of command) ≡ true
+      → HasKind (fault_of (app_of command) words) e) where
+    kinds_found : HasKind (fault_of air_app words) e
+    kinds_found = subst (λ (a : App). HasKind (fault_of a words) e) app
+        (kinds (ap is_simple_and_free app ∙ free))
+
+    help_asked : HasKind (fault_of air_app words) e → kind_of e ≡ DisplayHelp → AskForHelp words
+    help_asked (inl h) k = absurd (cc)
+    help_asked (inr h) k = subst (λ x. IsAmong x (fault_of air_app words)) k h
+
+    pub AskForHelp-shown : kind_of e ≡ DisplayHelp → AskForHelp words
+    AskForHelp-shown k = help_asked kinds_found k
+
+    fault_found : HasKind (fault_of air_app words) e → kind_of e ≢ DisplayHelp
+        → kind_of e ≢ OutOfMemory → AreWrong words
+    fault_found (inl h) k m = absurd (m h)
+    fault_found (inr h) k m = inl (kind_of e, k, h)
+
+    pub AreWrong-fault : kind_of e ≢ DisplayHelp → kind_of e ≢ OutOfMemory → AreWrong words
+    AreWrong-fault k m = fault_found kinds_found k m

@@ -1,0 +1,63 @@
+-- What holds since a file was opened is told of the disk that is handed out.
+use Rattle.std.proofs.Common.{◌≡◌, ◌∙◌, ◌⊎◌, inr, Bool, true, length, Result, Ok, Err, sym, subst}
+use Rattle.std.specs.Prelude.{IfErr, IfOk, OnOk}
+use Rattle.disk_store.specs.Calls.{opening_calls}
+use Rattle.disk_store.specs.Disk.{IsNew, State}
+use Rattle.disk_store.specs.File.{calls_on, file_state}
+use Rattle.disk_store.specs.declared.file.FileDiskFrom.{FileDiskFrom}
+use Rattle.disk_store.specs.declared.file.start.Start.{Ghosts}
+use Rattle.mot_air.specs.Program.{OnOpened, SinceOpened}
+use Rattle.mot_air.specs.declared.used.AirDisk.{AirDisk}
+use Rattle.mot_air.specs.declared.used.AirDisk.TheVariants.{Opened}
+use Rattle.mot_base.specs.declared.refusal.Refusal.{Refusal}
+
+pub since_opened : {S : Type 0} {start : Ghosts S} (first disk : FileDiskFrom S start)
+    (P : State → State → Type 0) → calls_on first ≡ opening_calls (file_state first).len
+    → IsNew (file_state first).bytes (file_state first)
+    → ((file_state first).len ≡ length start.bytes → (file_state first).bytes ≡ start.bytes)
+    → P (file_state first) (file_state disk) → SinceOpened P disk
+since_opened first disk P order new first_bytes since = record {
+  first = first;
+  order = order;
+  new = new;
+  first_bytes = first_bytes;
+  since = since;
+}
+
+pub IfOk-one : {T E : Type 0} {P Q : T → Type 0} (r : Result T E) → ((x : T) → P x → Q x)
+    → IfOk r P → IfOk r Q
+IfOk-one (Ok x) f p = f x p
+IfOk-one (Err e) f p = tt
+
+pub IfErr-one : {T E : Type 0} {P Q : E → Type 0} (r : Result T E) → ((e : E) → P e → Q e)
+    → IfErr r P → IfErr r Q
+IfErr-one (Ok x) f p = tt
+IfErr-one (Err e) f p = f e p
+
+abbrev IsFine : Result Bool Refusal → Type 0
+IsFine (Ok all) = Unit {0}
+IsFine (Err e) = ⊥
+
+-- done is told where it was
+pub done-is : {P : Type 0} (ended : Result Unit Refusal) (r : Result Bool Refusal) → OnOk ended P
+    → IfErr ended (λ e. r ≡ Err e) → r ≡ Ok true → P
+done-is (Ok x) r p failed is = p
+done-is (Err e) r p failed is = absurd (subst IsFine (sym is ∙ failed) tt)
+
+pub refused-is : (Q : Refusal → Type 0) (ended : Result Unit Refusal) (r : Result Bool Refusal)
+    → OnOk ended (r ≡ Ok true) → IfErr ended (λ e. r ≡ Err e) → IfErr ended Q → IfErr r Q
+refused-is Q (Ok x) r done failed why = subst (λ (t : Result Bool Refusal). IfErr t Q) (sym done) tt
+refused-is Q (Err e) r done failed why =
+    subst (λ (t : Result Bool Refusal). IfErr t Q) (sym failed) why
+
+-- a refusal is told with what it left
+pub part-is : {S : Type 0} {start : Ghosts S} (Q : Refusal → Type 0)
+    (P : Refusal → State → State → Type 0) (ended : Result Unit Refusal) (r : Result Bool Refusal)
+    (disk : FileDiskFrom S start) (used : AirDisk S start) → used ≡ Opened disk
+    → OnOk ended (r ≡ Ok true) → IfErr ended (λ e. r ≡ Err e)
+    → IfErr ended (λ e. SinceOpened (P e) disk) → IfErr r (λ e. Q e ⊎ OnOpened (P e) used)
+part-is Q P (Ok x) r disk used is done failed since =
+    subst (λ (t : Result Bool Refusal). IfErr t (λ e. Q e ⊎ OnOpened (P e) used)) (sym done) tt
+part-is Q P (Err e) r disk used is done failed since =
+    subst (λ (t : Result Bool Refusal). IfErr t (λ e. Q e ⊎ OnOpened (P e) used)) (sym failed)
+    (inr (subst (OnOpened (P e)) (sym is) since))

@@ -1,0 +1,50 @@
+-- A carousel printed as lines, from the disk's opening on.
+use Rattle.std.proofs.Common.{◌≤◌, ℕ, List, Option, Result, Ok, Err}
+use Rattle.std.proofs.Math.Logic.{⊎_elim}
+use Rattle.std.specs.Prelude.{IfErr, IsFalse, OnOk}
+use Rattle.std.specs.Io.KnownBytes.{Appends}
+use Rattle.disk_store.specs.Disk.{IsHonestDisk, IsStill, IsUnchanged, KeepsLength, State}
+use Rattle.mot_air.specs.Exporting.{Exports, StopsExporting, export_text, unprinted, unread}
+use Rattle.mot_air.specs.Inner.Printing.{IsPrintingFault}
+use Rattle.mot_air.proofs.Opened.{opened_holds, rises_later, still_unchanged}
+use Rattle.mot_base.specs.declared.refusal.Refusal.{Refusal}
+use Rattle.mot_journal.specs.Image.{Standing}
+use Rattle.mot_repository.specs.Opening.{IsOpened}
+use Rattle.mot_repository.specs.Repository.{Holds}
+use Rattle.mot_server.specs.Server.{ServerView}
+
+module _ {D : Type 0} (state : D → State) (disk : D) (server new : ServerView D)
+    (sound : (d : D) → (state d).IsHonest → IsHonestDisk (state d))
+    (opens : KeepsLength (state disk) (state server.disk))
+    (opened : (state server.disk).IsHonest → IsOpened (state disk) (state server.disk) server.view)
+    (still : (state server.disk).IsHonest → IsStill (state disk) (state server.disk))
+    (going : IsFalse server.view.halted) (keeps : KeepsLength (state server.disk) (state new.disk))
+    (unchanged : (state new.disk).IsHonest → IsUnchanged (state server.disk) (state new.disk))
+    (before after : Option (List ℕ)) where
+  still_all : (state new.disk).IsHonest → IsStill (state disk) (state new.disk)
+  still_all honest =
+      still_unchanged (state disk) (state server.disk) (state new.disk)
+      (still (keeps.was_honest honest)) (unchanged honest)
+
+  pub exports : (result : Result Unit Refusal)
+      → ((s : Standing) → Holds server.view s (state server.disk) → (state new.disk).IsHonest
+      → OnOk result (Appends before after (export_text s.carousel)))
+      → OnOk result (Exports before after (state disk) (state new.disk))
+  exports (Err refusal) written = tt
+  exports (Ok done) written = record {
+    still = still_all;
+    printed = λ s honest all.
+        let was = keeps.was_honest honest in
+        written s (opened_holds (state disk) (state server.disk) server.view s
+        (sound disk (opens.was_honest was)) all (opened was) was (sound server.disk was)
+        (still was) going) honest;
+  }
+
+  pub stops : (result : Result Unit Refusal) → (state disk).failures ≤ (state server.disk).failures
+      → (state server.disk).failures ≤ (state new.disk).failures
+      → IfErr result (λ r. IsPrintingFault r (state server.disk).failures (state new.disk).failures)
+      → IfErr result (λ r. StopsExporting r before after (state disk) (state new.disk))
+  stops (Ok done) first second why = tt
+  stops (Err refusal) first second why =
+      ⊎_elim (λ is. unprinted is still_all)
+      (λ failed. unread failed.0 (rises_later _ _ _ first second failed.1) still_all) why

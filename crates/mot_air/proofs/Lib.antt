@@ -1,0 +1,9 @@
+pub mod Asked
+pub mod Begun
+pub mod Exported
+pub mod Globals
+pub mod Opened
+pub mod Played
+pub mod Printed
+pub mod Synced
+pub mod Values

@@ -1,0 +1,117 @@
+-- What is known of a disk that was just opened.
+use Rattle.std.proofs.Common.{◌≡◌, ◌≢◌, ◌⊎◌, ◌∙◌, ℕ, List, [], ◌++◌, Bool, Option, Result, Ok, inl, inr}
+use Rattle.std.proofs.Common.{◌≤◌, arith, sym, subst}
+use Rattle.std.specs.Prelude.{IsFalse}
+use Rattle.std.proofs.Math.Logic.{⊎_elim}
+use Rattle.std.proofs.Math.Nat.{eq-or-lt_of_le}
+use Rattle.disk_store.specs.Disk.{Elapses, IsHonestDisk, IsStill, IsUnchanged, Nothing, Rises, State}
+use Rattle.disk_store.specs.Disk.{Throughout}
+use Rattle.disk_store.proofs.Laws.{only_bytes, begins, joins, stays}
+use Rattle.mot_air.specs.Opening.{IsUnopened, Leaves}
+use Rattle.mot_base.specs.declared.refusal.Refusal.{Refusal}
+use Rattle.mot_base.specs.declared.refusal.Refusal.TheVariants.{DeviceFault}
+use Rattle.mot_carousel.specs.declared.command.Command.{Command}
+use Rattle.mot_journal.specs.Image.{Standing, stands_for}
+use Rattle.mot_journal.specs.Journal.{HasRecords}
+use Rattle.mot_repository.specs.Opening.{IsOpened, IsOpeningRefusal}
+use Rattle.mot_repository.specs.Repository.{RepositoryView, Agrees, IsOf, Holds}
+use Rattle.mot_server.specs.RunEnds.{RunLeaves}
+use Rattle.mot_server.specs.Runs.{StandsAfterSome, accepted_commands, commands_in_flight}
+use Rattle.mot_server.proofs.Laws.{after_none, none_of}
+
+same-standing : (r : Result Standing Refusal) (a b : Standing) → r ≡ Ok a → r ≡ Ok b → a ≡ b
+same-standing r a b is was = let e : Ok a ≡ Ok b = sym is ∙ was in cc
+
+-- each image that a crash may leave stands for this
+abbrev pub AllAre : Standing → State → Type 0
+AllAre s state = (image : List ℕ) → state.MayLeave image → IsOf s image
+
+-- nothing is loose, so what it stands for holds
+pub opened_holds : (start old : State) (view : RepositoryView) (s : Standing)
+    → IsHonestDisk start → AllAre s start → IsOpened start old view → old.IsHonest
+    → IsHonestDisk old → IsStill start old → IsFalse view.halted → Holds view s old
+opened_holds start old view s before all opened honest sound still going =
+    let image = all start.bytes before.bytes in
+    let only : (c : List ℕ) → old.MayLeave c → start.bytes ≡ c =
+    λ c left. sym (only_bytes old sound opened.firm c left ∙ still.bytes) in
+    record {
+      going = going;
+      agrees = subst (λ d. Agrees view d)
+          (same-standing (stands_for start.bytes) opened.standing s opened.stands image.stands)
+          opened.agrees;
+      records = opened.records;
+      journal = record {
+        going = opened.unspent;
+        count = opened.count;
+        honest = honest;
+        each = λ c left. subst (λ d. HasRecords view.journal opened.records d) (only c left)
+            (record { read = opened.read; clean = image.clean });
+      };
+      each = λ c left. subst (λ d. IsOf s d) (only c left) image;
+    }
+
+-- no image came while it was opened
+pub opened_throughout : (start old : State) (P : List ℕ → Type 0) → IsHonestDisk start
+    → ((c : List ℕ) → start.MayLeave c → P c) → IsStill start old → Throughout start old P
+opened_throughout start old P sound here still =
+    stays start start old P (begins start P sound here) still.time
+
+-- what commands leave behind an opening
+pub opened_leaves : (start old now : State) (first last : RepositoryView) (s : Standing)
+    (commands : List Command) (marks : List Bool) (fault : Option Refusal) → IsHonestDisk start
+    → AllAre s start → IsStill start old
+    → RunLeaves first last old now s commands marks fault → Leaves s commands marks fault start now
+opened_leaves start old now first last s commands marks fault sound all still run =
+    let P = StandsAfterSome s []
+    (accepted_commands commands marks ++ commands_in_flight commands marks fault) in
+    record {
+      any_moment = joins start old now P P
+          (opened_throughout start old P sound
+          (λ image left. none_of s []
+          (accepted_commands commands marks ++ commands_in_flight commands marks fault) s image
+          (after_none s) (all image left)) still)
+          run.any_moment (λ image is. is);
+      at_end = run.at_end;
+    }
+
+-- no image comes in calls that bring none
+elapses_on : (a b c : State) → Elapses a b Nothing → Elapses b c Nothing → Elapses a c Nothing
+elapses_on a b c first second = record {
+  later = let l = first.later in let m = second.later in omega (arith, l, m);
+  nothing_else = λ t image le left.
+      let l = first.later in
+      ⊎_elim (λ was. first.nothing_else t image le was) (λ none. absurd none)
+      (second.nothing_else t image (omega (arith, l, le)) left);
+  keeps = λ t image le left.
+      let l = first.later in
+      second.keeps t image (omega (arith, l, le)) (first.keeps t image le left);
+}
+
+-- a disk that is only synced, and then left as it is
+pub still_unchanged : (a b c : State) → IsStill a b → IsUnchanged b c → IsStill a c
+still_unchanged a b c first second = record {
+  bytes = second.bytes ∙ first.bytes;
+  time = elapses_on a b c first.time second.time;
+  images = λ image left. first.images image ((second.images image).0 left);
+  loose = λ k is. first.loose k ((second.loose k).0 is);
+}
+
+-- a disk that fails after some calls has failed in all of them
+pub rises_later : (old mid new : ℕ) → old ≤ mid → mid ≤ new → Rises mid new → Rises old new
+rises_later old mid new first second rises =
+    ⊎_elim (λ e. subst (λ n. Rises n new) (sym e) rises) (λ lt. inl (omega (arith, lt, second)))
+    (eq-or-lt_of_le first)
+
+calm_refused : (refusal : Refusal) (m n : ℕ) → (refusal ≡ DeviceFault) ⊎ (m ≡ n)
+    → refusal ≢ DeviceFault → m ≡ n
+calm_refused refusal m n (inl is) other = absurd (other is)
+calm_refused refusal m n (inr same) other = same
+
+pub unopened_is : (refusal : Refusal) (start now : State) → IsOpeningRefusal start now refusal
+    → (refusal ≡ DeviceFault) ⊎ (now.failures ≡ start.failures)
+    → (now.IsHonest → IsStill start now) → IsUnopened refusal start now
+unopened_is refusal start now why calm still = record {
+  why = why;
+  calm = calm_refused refusal now.failures start.failures calm;
+  still = still;
+}

@@ -1,0 +1,130 @@
+-- The lines of a carousel, written one after the other.
+use Rattle.std.proofs.Common.{◌≡◌, ℕ, zero, suc, ◌+◌, ◌-◌, ◌/◌, ◌%◌, ◌<◌, ◌≤◌, List, [], ◌∷◌, ◌++◌, length, take, drop, get_or}
+use Rattle.std.proofs.Common.{Some, map, refl, sym, ap, ◌∙◌, subst, arith, add-one, append-nil}
+use Rattle.std.specs.Prelude.{OnOk, Result, Ok, Err, slice_get, slice_index, slice_range}
+use Rattle.std.specs.List.{flat_map}
+use Rattle.std.proofs.Math.Seq.{take-add}
+use Rattle.std.proofs.lemmas.List.{take_all}
+use Rattle.std.proofs.lemmas.List.Concat.{flat_map-append}
+use Rattle.hex.specs.Hex.{encode_lower, encode_with, lower_digits}
+use Rattle.mot_carousel.specs.declared.object.Object as beside
+use Rattle.mot_carousel.specs.Carousel.{Object}
+use Rattle.mot_carousel.specs.Carousel as whole
+use Rattle.mot_journal.specs.Image.{Standing}
+use Rattle.mot_carousel.specs.Stands.{object_of, objects_of}
+use Rattle.mot_repository.specs.Repository.{Agrees, RepositoryView, body_at}
+
+digits-append : (t xs ys : List ℕ) → encode_with t (xs ++ ys) ≡ encode_with t xs ++ encode_with t ys
+unfolding encode_with
+digits-append t [] ys = refl
+digits-append t (x ∷ xs) ys = ap (λ l. slice_index t (x / 16) ∷ slice_index t (x % 16) ∷ l) (digits-append t xs ys)
+
+pub digits-none : encode_lower [] ≡ []
+unfolding encode_with
+digits-none = refl
+
+-- one more piece of a body
+pub digits-more : (body piece : List ℕ) (from n : ℕ)
+    → piece ≡ slice_range body from (from + n)
+    → encode_lower (take (from + n) body) ≡ encode_lower (take from body) ++ encode_lower piece
+digits-more body piece from n is =
+    let size : from + n - from ≡ n = omega arith in
+    let same : take n (drop from body) ≡ piece =
+    ap (λ k. take k (drop from body)) (sym size) ∙ sym is in
+    ap encode_lower (take-add from n body ∙ ap (λ l. take from body ++ l) same)
+    ∙ digits-append lower_digits (take from body) piece
+
+same_some : {A : Type 0} (x y : A) → Some x ≡ Some y → x ≡ y
+same_some x y e = cc
+
+-- one more line
+take_next : {A : Type 0} (xs : List A) (i : ℕ) (x : A) → slice_get xs i ≡ Some x
+    → take (suc i) xs ≡ take i xs ++ x ∷ []
+take_next [] i x at = absurd (cc)
+take_next (y ∷ xs) zero x at = ap (λ z. z ∷ []) (same_some y x at)
+take_next (y ∷ xs) (suc i) x at = ap (λ l. y ∷ l) (take_next xs i x at)
+
+pub lines-more : {A : Type 0} (line : A → List ℕ) (xs : List A) (i : ℕ) (x : A)
+    → slice_get xs i ≡ Some x
+    → flat_map line (take (i + 1) xs) ≡ flat_map line (take i xs) ++ line x
+lines-more line xs i x at =
+    ap (λ n. flat_map line (take n xs)) (add-one i)
+    ∙ ap (flat_map line) (take_next xs i x at)
+    ∙ flat_map-append line (take i xs) (x ∷ [])
+    ∙ ap (λ t. flat_map line (take i xs) ++ t) (append-nil (line x))
+
+same_object : (x o : beside.Object) → Some x ≡ Some o → x ≡ o
+same_object x o e = cc
+
+-- the object at a place, from the one in memory and its body
+pub object_at : (os : List beside.Object) (bodies : List (List ℕ)) (i : ℕ) (o : beside.Object)
+    → map length bodies ≡ map (λ (x : beside.Object). x.length) os → slice_get os i ≡ Some o
+    → slice_get (objects_of os bodies) i ≡ Some (object_of o (body_at (objects_of os bodies) i))
+object_at [] bodies i o sized at = absurd (cc)
+object_at (x ∷ os) [] i o sized at = absurd (cc)
+object_at (x ∷ os) (b ∷ bodies) zero o sized at =
+    ap (λ (y : beside.Object). Some (object_of y b)) (same_object x o at)
+object_at (x ∷ os) (b ∷ bodies) (suc i) o sized at =
+    object_at os bodies i o (let e : map length bodies ≡ map (λ (y : beside.Object). y.length) os = cc in e) at
+
+few-objects : (os : List beside.Object) (bodies : List (List ℕ))
+    → length (objects_of os bodies) ≤ length os
+few-objects [] bodies = omega arith
+few-objects (o ∷ os) [] = omega arith
+few-objects (o ∷ os) (b ∷ bodies) = let rest = few-objects os bodies in omega (arith, rest)
+
+get-slice : {A : Type 0} (xs : List A) (i : ℕ) (d : A) → i < length xs
+    → slice_get xs i ≡ Some (get_or xs i d)
+get-slice [] i d lt = absurd (omega (arith, lt))
+get-slice (x ∷ xs) zero d lt = refl
+get-slice (x ∷ xs) (suc i) d lt = get-slice xs i d (omega (arith, lt))
+
+module _ (view : RepositoryView) (s : Standing) (agrees : Agrees view s) where
+  abbrev objects : List Object
+  objects = s.carousel.objects
+
+  whole_is : objects ≡ objects_of view.carousel.objects.items agrees.bodies
+  whole_is = ap (λ (c : whole.Carousel). c.objects) agrees.carousel
+
+  -- the object at this place
+  pub object_here : (i : ℕ) (x : beside.Object) → i < length view.carousel.objects.items
+      → x ≡ get_or view.carousel.objects.items i x
+      → slice_get objects i ≡ Some (object_of x (body_at objects i))
+  object_here i x lt is =
+      let here = get-slice view.carousel.objects.items i x lt ∙ ap (λ (o : beside.Object). Some o) (sym is) in
+      subst (λ (os : List Object). slice_get os i ≡ Some (object_of x (body_at os i))) (sym whole_is)
+      (object_at view.carousel.objects.items agrees.bodies i x agrees.are_bodies here)
+
+  pub object_is : (i : ℕ) (x : beside.Object) (o : Object)
+      → i < length view.carousel.objects.items → x ≡ get_or view.carousel.objects.items i x
+      → slice_get objects i ≡ Some o → object_of x (body_at objects i) ≡ o
+  object_is i x o lt is at = same_some _ o (sym (object_here i x lt is) ∙ at)
+
+  pub some_object : (i : ℕ) → i < length view.carousel.objects.items
+      → (o : Object) × (slice_get objects i ≡ Some o)
+  some_object i lt = first view.carousel.objects.items refl
+    where
+      first : (os : List beside.Object) → view.carousel.objects.items ≡ os
+          → (o : Object) × (slice_get objects i ≡ Some o)
+      first [] is = absurd (omega (arith, lt, ap length is))
+      first (x ∷ os) is = (
+        object_of (get_or view.carousel.objects.items i x) (body_at objects i),
+        subst (λ (os : List Object). slice_get os i
+            ≡ Some (object_of (get_or view.carousel.objects.items i x) (body_at os i)))
+            (sym whole_is)
+            (object_at view.carousel.objects.items agrees.bodies i
+            (get_or view.carousel.objects.items i x) agrees.are_bodies
+            (get-slice view.carousel.objects.items i x lt)),
+      )
+
+  -- all of them
+  pub all_objects : (i : ℕ) → length view.carousel.objects.items ≤ i → take i objects ≡ objects
+  all_objects i le =
+      let few = few-objects view.carousel.objects.items agrees.bodies in
+      let size : length objects ≡ length (objects_of view.carousel.objects.items agrees.bodies) =
+      ap length whole_is in
+      take_all i objects (omega (arith, few, size, le))
+
+pub OnOk-one : {T E P R : Type 0} (r : Result T E) → (P → R) → OnOk r P → OnOk r R
+OnOk-one (Ok x) f p = f p
+OnOk-one (Err e) f p = tt

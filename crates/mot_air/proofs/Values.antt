@@ -1,0 +1,45 @@
+-- The first value of an argument, in what a parse found and in its rows.
+use Rattle.std.proofs.Common.{◌≡◌, ◌∙◌, ℕ, Bool, true, false, cond, List, [], ◌∷◌, Option, Some}
+use Rattle.std.proofs.Common.{map, refl, sym, ap}
+use Rattle.std.specs.Prelude.{option_map, option_and_then, find, slice_get}
+use Rattle.std.specs.Borrow.{Bor}
+use Rattle.std.specs.Str.{bytes_eq}
+use Rattle.clap.specs.Words.{Row, first_of, first_value, rows_of}
+use Rattle.clap.specs.Walk.{row_of}
+use Rattle.clap.specs.declared.parser.matches.Found.{Found}
+use Rattle.clap.specs.declared.parser.matches.MatchedArg.{MatchedArg}
+
+first_text : (vals : List (Bor (List ℕ)))
+    → option_map (λ (s : Bor (List ℕ)). s.now) (slice_get vals 0)
+    ≡ slice_get (map (λ (s : Bor (List ℕ)). s.now) vals) 0
+first_text [] = refl
+first_text (v ∷ vals) = refl
+
+abbrev value_in : Option MatchedArg → Option (List ℕ)
+value_in = option_and_then (λ a.
+    option_map (λ (s : Bor (List ℕ)). s.now) (slice_get a.vals.items 0))
+
+abbrev value_of_row : Option Row → Option (List ℕ)
+value_of_row = option_and_then (λ (r : Row). slice_get r.values 0)
+
+module _ (id : List ℕ) where
+  first_step : (b : Bool) (e : Bor (List ℕ) × MatchedArg)
+      (found : Option (Bor (List ℕ) × MatchedArg)) (row : Row) (rows : Option Row)
+      → row.values ≡ map (λ (s : Bor (List ℕ)). s.now) e.1.vals.items
+      → value_in (option_map (λ (x : Bor (List ℕ) × MatchedArg). x.1) found) ≡ value_of_row rows
+      → value_in (option_map (λ (x : Bor (List ℕ) × MatchedArg). x.1) (cond b (Some e) found))
+      ≡ value_of_row (cond b (Some row) rows)
+  first_step true e found row rows v h = first_text e.1.vals.items ∙ ap (λ l. slice_get l 0) (sym v)
+  first_step false e found row rows v h = h
+
+  entries_value : (es : List (Bor (List ℕ) × MatchedArg))
+      → value_in (option_map (λ (x : Bor (List ℕ) × MatchedArg). x.1)
+      (find (λ (x : Bor (List ℕ) × MatchedArg). bytes_eq x.0.now id) es))
+      ≡ value_of_row (find (λ (r : Row). bytes_eq r.id id) (map row_of es))
+  entries_value [] = refl
+  entries_value (e ∷ es) = first_step (bytes_eq e.0.now id) e
+      (find (λ (x : Bor (List ℕ) × MatchedArg). bytes_eq x.0.now id) es) (row_of e)
+      (find (λ (r : Row). bytes_eq r.id id) (map row_of es)) refl (entries_value es)
+
+  pub first_found : (f : Found) → first_value f id ≡ first_of id (rows_of f)
+  first_found f = entries_value f.entries.items

@@ -1,0 +1,31 @@
+use Rattle.std.proofs.Common.{◌≡◌, ◌∙◌, ap₂, rules, false}
+use Rattle.std.proofs.lemmas.Result.{IfOk-weaker}
+use Rattle.std.specs.Prelude.{codes}
+use Rattle.clap.specs.Words.{app_of, new_app, with_rule}
+use Rattle.clap.specs.declared.builder.Command.TheViews.{out-Command}
+use Rattle.mot_air.proofs.Globals.{none}
+use Rattle.mot_air.proofs.command.play.Goals as goal
+
+pub returns-clause-app : goal.returns-clause-app
+returns-clause-app c =
+    let begun : app_of c.about.result ≡ new_app (codes "play") = search rules in
+    IfOk-weaker c.arg-4.result _ _ (λ command h.
+    h.shape c.turns-turns.ensures.local ∙ ap₂ with_rule
+    (c.in_ok-arg-3.ensures.shape c.folder-folder.ensures.local ∙ ap₂ with_rule
+    (c.in_ok-arg-2.ensures.shape c.word-packets.ensures.local ∙ ap₂ with_rule
+    (c.in_ok-arg.ensures.shape c.word-disk.ensures.local ∙ ap₂ with_rule
+    begun c.word-disk.ensures.rule) c.word-packets.ensures.rule)
+    c.folder-folder.ensures.rule) c.turns-turns.ensures.rule)
+    c.arg-4.ensures
+
+pub returns-clause-local : goal.returns-clause-local
+returns-clause-local c =
+    let begun : (out-Command c.about.result).has_globals ≡ false = search rules in
+    IfOk-weaker c.arg-4.result _ _ (λ command h.
+    none _ _ _ h.globals
+    (none _ _ _ c.in_ok-arg-3.ensures.globals
+    (none _ _ _ c.in_ok-arg-2.ensures.globals
+    (none _ _ _ c.in_ok-arg.ensures.globals begun
+    c.word-disk.ensures.local) c.word-packets.ensures.local) c.folder-folder.ensures.local)
+    c.turns-turns.ensures.local)
+    c.arg-4.ensures

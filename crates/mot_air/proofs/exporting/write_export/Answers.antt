@@ -1,0 +1,75 @@
+use Rattle.std.proofs.Common.{◌<◌, ◌∙◌, ap, refl, sym, subst, arith}
+use Rattle.std.specs.Prelude.{vec_len}
+use Rattle.std.specs.Io.KnownBytes.{Appends}
+use Rattle.std.specs.List.{flat_map}
+use Rattle.std.proofs.KnownBytes.{Appends-kept, Appends-nil, Appends-trans}
+use Rattle.mot_air.proofs.Printed.{all_objects, lines-more, some_object}
+use Rattle.mot_air.specs.Exporting.{period_line, put_line}
+use Rattle.mot_carousel.specs.Carousel as whole
+use Rattle.mot_carousel.specs.declared.carousel.Carousel.{Carousel}
+use Rattle.mot_repository.specs.Repository.{RepositoryView}
+use Rattle.mot_server.proofs.Laws.{holds_still, keeps_on, unchanged_on}
+use Rattle.mot_update.proofs.Still.{stays_same}
+use Rattle.mot_air.proofs.exporting.write_export.Goals as goal
+
+pub loop-place-init : goal.loop-place-init
+loop-place-init g c =
+    let state = g.D.Disk.state c.args.server.now.disk in
+    record {
+      keeps = record { len = refl; was_honest = λ honest. honest };
+      later = omega arith;
+      view = refl;
+      unchanged = λ honest. stays_same state;
+      written = λ s holds honest. Appends-nil (g.W.Write.contents c.args.writer.now);
+    }
+
+pub loop-place-preserved : goal.loop-place-preserved
+loop-place-preserved g c =
+    let state = g.D.Disk.state in
+    let known = g.W.Write.contents in
+    let old = c.args.server.now in
+    let mid = c.loop-place.server in
+    let new = c.write_object.new.server in
+    let is = c.loop-place.invariant in
+    let one = c.in_ok-write_object.ensures in
+    record {
+      keeps = keeps_on (state old.disk) (state mid.disk) (state new.disk) is.keeps one.keeps;
+      later = omega (arith, is.later, one.later);
+      view = one.view ∙ is.view;
+      unchanged = λ honest.
+          let was = one.keeps.was_honest honest in
+          unchanged_on (state old.disk) (state mid.disk) (state new.disk) (is.unchanged was)
+          (one.unchanged honest);
+      written = λ s holds honest.
+          let was = one.keeps.was_honest honest in
+          let held = holds_still old.view mid.view s (state old.disk) (state mid.disk) holds was
+          (is.unchanged was) is.view in
+          let count = c.len-place-end.ensures
+          ∙ ap (λ (k : Carousel). vec_len k.objects) c.carousel.ensures.value
+          ∙ old.view.carousel.objects.ok.0 in
+          let o = some_object old.view s holds.agrees c.loop-place.place
+          (subst (λ n. c.loop-place.place < n) count c.loop-place-test.true) in
+          subst (Appends (known c.args.writer.now) (known c.write_object.new.writer))
+          (sym (lines-more put_line s.carousel.objects c.loop-place.place o.0 o.1))
+          (Appends-trans _ _ _ _ _ (is.written s holds was) (one.written s o.0 held honest o.1));
+    }
+
+pub returns-in-Ok-clause-written : goal.returns-in-Ok-clause-written
+returns-in-Ok-clause-written g c = λ s holds honest.
+    let known = g.W.Write.contents in
+    let old = c.args.server.now in
+    let is = c.loop-place.invariant in
+    let first = known c.args.writer.now in
+    let mid = known c.loop-place.writer in
+    let count = c.len-place-end.ensures
+    ∙ ap (λ (k : Carousel). vec_len k.objects) c.carousel.ensures.value
+    ∙ old.view.carousel.objects.ok.0 in
+    let end = c.loop-place-test.false in
+    let all = all_objects old.view s holds.agrees c.loop-place.place (omega (arith, count, end)) in
+    let period = c.get.ensures.value ∙ ap (λ (k : Carousel). k.period) c.carousel-2.ensures.value
+    ∙ ap (λ (v : RepositoryView). v.carousel.period) is.view
+    ∙ sym (ap (λ (k : whole.Carousel). k.period) holds.agrees.carousel) in
+    let lines = subst (λ l. Appends first mid (flat_map put_line l)) all (is.written s holds honest) in
+    let last = subst (λ n. Appends mid (known c.write_period.new.writer) (period_line n)) period
+    c.in_ok-write_period.ensures.written in
+    Appends-kept _ _ _ _ (Appends-trans _ _ _ _ _ lines last) c.in-Ok.ensures.bytes

@@ -1,0 +1,26 @@
+use Rattle.std.proofs.Common.{◌≡◌, ◌⊎◌, inr, subst, sym}
+use Rattle.std.specs.Prelude.{IfErr, IfOk}
+use Rattle.mot_air.proofs.Begun.{IfErr-one, IfOk-one, since_opened}
+use Rattle.mot_air.specs.Program.{IsUntold, OnOpened}
+use Rattle.mot_air.specs.Syncing.{StopsSyncing, Syncs}
+use Rattle.mot_base.specs.declared.refusal.Refusal.TheVariants.{DeviceFault}
+use Rattle.mot_air.proofs.program.sync_file.Goals as goal
+
+pub returns-in-Ok-clause-done : goal.returns-in-Ok-clause-done
+returns-in-Ok-clause-done g c =
+    let opens = c.in-Ok.ensures in
+    let ended = c.sync_disk.result in
+    subst (λ (f : _). IfOk f.result (λ all. OnOpened (Syncs all) f.disk)) (sym c.of_file.ensures)
+    (IfOk-one ended.result (λ all p. since_opened c.in-Ok.disk ended.disk (Syncs all) opens.order
+    opens.new opens.first_bytes p) c.sync_disk.ensures.done)
+
+pub returns-in-Ok-clause-refused : goal.returns-in-Ok-clause-refused
+returns-in-Ok-clause-refused g c =
+    let opens = c.in-Ok.ensures in
+    let ended = c.sync_disk.result in
+    let old = g.W.Write.contents c.args.log.now in
+    let new = g.W.Write.contents c.sync_disk.new.log in
+    subst (λ (f : _). IfErr f.result (λ r. ((r ≡ DeviceFault) × IsUntold f.disk old new)
+    ⊎ OnOpened (StopsSyncing r) f.disk)) (sym c.of_file.ensures)
+    (IfErr-one ended.result (λ r p. inr (since_opened c.in-Ok.disk ended.disk (StopsSyncing r)
+    opens.order opens.new opens.first_bytes p)) c.sync_disk.ensures.refused)

@@ -1,0 +1,50 @@
+-- The command line of the commands on air, in the words of `clap`.
+use Rattle.std.specs.Prelude.{pos, true, [], Some, codes}
+use Rattle.clap.specs.Words.{App, Rule, Shape, Text, new_app, new_rule, with_rule, with_subcommand}
+use Rattle.clap.specs.declared.builder.ArgAction.TheVariants.{Set}
+use Rattle.clap.specs.declared.builder.value_parser.ValueParser.TheVariants.{Signed}
+
+-- a word that has to be there
+abbrev pub word_rule : Text → Rule
+word_rule name = record (new_rule name) { action = Some Set; required = true }
+
+abbrev pub folder_rule : Rule
+folder_rule = record (new_rule (codes "folder")) {
+  long = Some (codes "folder");
+  action = Some Set;
+  value_names = 1;
+}
+
+-- a number of 32 bits
+abbrev pub turns_rule : Rule
+turns_rule = record (new_rule (codes "turns")) {
+  long = Some (codes "turns");
+  action = Some Set;
+  value_names = 1;
+  parser = Some (Signed (pos 0) (pos 4294967295));
+}
+
+abbrev pub play_app : App
+play_app =
+    with_rule (with_rule (with_rule (with_rule (new_app (codes "play"))
+    (word_rule (codes "DISK"))) (word_rule (codes "PACKETS"))) folder_rule) turns_rule
+
+abbrev pub sync_app : App
+sync_app =
+    with_rule (with_rule (new_app (codes "sync")) (word_rule (codes "DISK")))
+    (word_rule (codes "DIR"))
+
+abbrev pub export_app : App
+export_app = with_rule (new_app (codes "export")) (word_rule (codes "DISK"))
+
+-- the program's words are those after its name, and the first of them is a command
+abbrev pub air_top : Shape
+air_top = record (new_app (codes "motcar")).top {
+  no_binary_name = true;
+  subcommand_required = true;
+}
+
+abbrev pub air_app : App
+air_app =
+    with_subcommand (with_subcommand (with_subcommand (record { top = air_top; subs = [] })
+    play_app.top) sync_app.top) export_app.top

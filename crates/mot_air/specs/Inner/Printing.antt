@@ -1,0 +1,10 @@
+-- Why the lines of a carousel could not be printed.
+use Rattle.std.specs.Prelude.{◌≡◌, ◌⊎◌, ℕ}
+use Rattle.disk_store.specs.Disk.{Rises}
+use Rattle.mot_base.specs.declared.refusal.Refusal.{Refusal}
+use Rattle.mot_base.specs.declared.refusal.Refusal.TheVariants.{DeviceFault, WriteFault}
+
+-- the writer failed; or the disk did, whose counts of failures are those before and after
+abbrev pub IsPrintingFault : Refusal → ℕ → ℕ → Type 0
+IsPrintingFault refusal before now =
+    (refusal ≡ WriteFault) ⊎ ((refusal ≡ DeviceFault) × Rises before now)

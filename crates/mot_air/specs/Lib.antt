@@ -1,0 +1,8 @@
+pub mod Command
+pub mod Exporting
+pub mod Inner
+pub mod Opening
+pub mod Playing
+pub mod Program
+pub mod Syncing
+pub mod Task

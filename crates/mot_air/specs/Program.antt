@@ -1,0 +1,104 @@
+-- What the commands on air do.
+use Rattle.std.specs.Prelude.{ℕ, ◌≡◌, ◌⊎◌, true, false, List, length, Option, Some, None}
+use Rattle.std.specs.Io.KnownBytes.{Keeps}
+use Rattle.clap.specs.Words.{Text}
+use Rattle.disk_store.specs.Calls.{opening_calls}
+use Rattle.disk_store.specs.Disk.{IsNew, State}
+use Rattle.disk_store.specs.File.{calls_on, file_state}
+use Rattle.disk_store.specs.declared.file.FileDiskFrom.{FileDiskFrom}
+use Rattle.disk_store.specs.declared.file.start.Start.{Ghosts}
+use Rattle.mot_air.specs.Exporting.{Exports, StopsExporting}
+use Rattle.mot_air.specs.Playing.{Plays, StopsPlaying}
+use Rattle.mot_air.specs.Syncing.{StopsSyncing, Syncs}
+use Rattle.mot_air.specs.Task.{AskFor, AskForHelp}
+use Rattle.mot_air.specs.declared.task.Task.{Task}
+use Rattle.mot_air.specs.declared.task.Task.TheVariants.{Play, Sync, Export}
+use Rattle.mot_air.specs.declared.used.AirDisk.{AirDisk}
+use Rattle.mot_air.specs.declared.used.AirDisk.TheVariants.{Opened, Untouched}
+use Rattle.mot_base.specs.declared.refusal.Refusal.{Refusal}
+use Rattle.mot_base.specs.declared.refusal.Refusal.TheVariants.{BadNumber, DeviceFault}
+use Rattle.mot_base.specs.declared.refusal.Refusal.TheVariants.{OutOfMemory, WriteFault}
+
+-- how many turns are played, where so many are asked for
+abbrev pub turns_of : Option ℕ → ℕ
+turns_of None = 18446744073709551615
+turns_of (Some turns) = turns
+
+-- The file held the bytes of `start` as it was opened. These are words of contracts alone: what
+-- holds for each `start` holds for what the file really held.
+module _ {S : Type 0} {start : Ghosts S} where
+  -- a file was opened, and this holds between what its disk was then and what it is
+  pub record SinceOpened (P : State → State → Type 0) (disk : FileDiskFrom S start) : Type 0 where
+    pub first : FileDiskFrom S start
+    pub order : calls_on first ≡ opening_calls (file_state first).len
+    pub new : IsNew (file_state first).bytes (file_state first)
+    pub first_bytes : (file_state first).len ≡ length start.bytes
+        → (file_state first).bytes ≡ start.bytes
+    pub since : P (file_state first) (file_state disk)
+
+  -- no file of a disk was opened
+  abbrev pub IsUntouched : AirDisk S start → Type 0
+  IsUntouched (Untouched value) = Unit {0}
+  IsUntouched (Opened disk) = ⊥
+
+  abbrev pub OnOpened : (State → State → Type 0) → AirDisk S start → Type 0
+  OnOpened P (Untouched value) = ⊥
+  OnOpened P (Opened disk) = SinceOpened P disk
+
+  -- In these the writer's known bytes were old and are new. Of what a pipe or a device takes no
+  -- contract tells.
+
+  -- the task was done
+  abbrev pub Does : Task → AirDisk S start → (old new : Option (List ℕ)) → Type 0
+  Does (Play disk packets folder turns) used old new =
+      OnOpened (Plays true (turns_of turns) None None) used
+  Does (Sync disk folder) used old new = OnOpened (Syncs true) used
+  Does (Export disk) used old new = OnOpened (Exports old new) used
+
+  -- the task was begun, and this refusal ended it; or a file was refused, with none
+  abbrev pub DoesInPart : Task → Option Refusal → AirDisk S start → (old new : Option (List ℕ))
+      → Type 0
+  DoesInPart (Play disk packets folder turns) None used old new = ⊥
+  DoesInPart (Play disk packets folder turns) (Some r) used old new =
+      OnOpened (StopsPlaying r true None None) used
+  DoesInPart (Sync disk folder) None used old new = OnOpened (Syncs false) used
+  DoesInPart (Sync disk folder) (Some r) used old new = OnOpened (StopsSyncing r) used
+  DoesInPart (Export disk) None used old new = ⊥
+  DoesInPart (Export disk) (Some r) used old new = OnOpened (StopsExporting r old new) used
+
+  -- no disk was opened, and nothing was printed
+  pub record IsUntold (used : AirDisk S start) (old new : Option (List ℕ)) : Type 0 where
+    pub untouched : IsUntouched used
+    pub silent : Keeps old new
+
+-- why a task is not begun: the disk, or what is to take the packets, can't be opened
+abbrev pub IsBeginningRefusal : Task → Refusal → Type 0
+IsBeginningRefusal (Play disk packets folder turns) r = (r ≡ DeviceFault) ⊎ (r ≡ WriteFault)
+IsBeginningRefusal (Sync disk folder) r = r ≡ DeviceFault
+IsBeginningRefusal (Export disk) r = r ≡ DeviceFault
+
+-- what a run came to, on this disk
+module _ {S : Type 0} {start : Ghosts S} (words : List Text) where
+  -- the task that the words ask for was done; or they ask for help
+  abbrev pub Succeeds : AirDisk S start → (old new : Option (List ℕ)) → Type 0
+  Succeeds used old new =
+      ((task : Task) × AskFor words task × Does task used old new)
+      ⊎ (AskForHelp words × IsUntouched used)
+
+  -- why it was refused
+  pub data IsRefused (refusal : Option Refusal) (used : AirDisk S start)
+      (old new : Option (List ℕ)) : Type 0 where
+    -- before it could be told what the words ask for
+    no_memory : refusal ≡ Some OutOfMemory → IsUntold used old new → IsRefused refusal used old new
+    -- a number of theirs is none, so that they ask for no task
+    no_task : refusal ≡ Some BadNumber → ((task : Task) → AskFor words task → ⊥)
+        → IsUntold used old new → IsRefused refusal used old new
+    -- the help could not be printed
+    no_help : AskForHelp words → refusal ≡ Some WriteFault → IsUntouched used
+        → IsRefused refusal used old new
+    -- the task was not begun
+    unbegun : (task : Task) (r : Refusal) → refusal ≡ Some r → AskFor words task
+        → IsBeginningRefusal task r → IsUntold used old new → IsRefused refusal used old new
+    -- the task was begun
+    begun : (task : Task) → AskFor words task → DoesInPart task refusal used old new
+        → IsRefused refusal used old new

@@ -1,0 +1,91 @@
+//! What the words of the command line ask for.
+ghost use Rattle.std.specs.Prelude.{◌≡◌, ℕ, Option, IfNone, IfSome, option_map};
+ghost use Rattle.std.specs.Borrow.{Bor};
+ghost use Rattle.clap.specs.Words.{Text, first_of, found_of, rows_of};
+ghost use Rattle.mot_air.specs.Task.{IsGiven, IsTask, NameWord};
+ghost use Rattle.mot_air.specs.declared.task.Task.{Task};
+
+use clap::ArgMatches;
+
+/// What a command on air is to do.
+#[derive(Clone, Copy, Debug)]
+pub enum Task<'a> {
+    /// Play a disk.
+    Play {
+        /// The path of the disk's file.
+        disk: &'a str,
+        /// The path of the pipe or device that takes the packets.
+        packets: &'a str,
+        /// The path of the folder that the carousel is made equal to, if one is given.
+        folder: Option<&'a str>,
+        /// How many whole turns; without end, where none is given.
+        turns: Option<u32>,
+    },
+    /// Make the carousel of a disk equal to a folder.
+    Sync {
+        /// The path of the disk's file.
+        disk: &'a str,
+        /// The path of the folder.
+        folder: &'a str,
+    },
+    /// Print the carousel of the disk of the file at this path.
+    Export(&'a str),
+}
+
+/// The task of a command and the words behind it; `None` where a number is none.
+pub(crate) fn task_of<'a>(name: &str, words: &ArgMatches<'a>) -> Option<Task<'a>>
+    ensures some { IfSome result (IsTask name.now (rows_of (found_of words.now))) }
+    ensures none { IfNone result ((task : Task)
+        → IsTask name.now (rows_of (found_of words.now)) task → ⊥) }
+{
+    match name {
+        "play" => Some(Task::Play {
+            disk: word_of(words, "DISK")?,
+            packets: word_of(words, "PACKETS")?,
+            folder: option_of(words, "folder"),
+            turns: number_of(words, "turns")?,
+        }),
+        "sync" => Some(Task::Sync {
+            disk: word_of(words, "DISK")?,
+            folder: word_of(words, "DIR")?,
+        }),
+        "export" => Some(Task::Export(word_of(words, "DISK")?)),
+        _ => None,
+    }
+}
+
+/// The word that was given for this one.
+#[tactic(auto, using(crate::proofs::Values::first_found))]
+fn word_of<'a>(words: &ArgMatches<'a>, name: &str) -> Option<&'a str>
+    ensures some { IfSome result
+        (λ word. NameWord (rows_of (found_of words.now)) name.now word.now) }
+    ensures none { IfNone result ((word : Text)
+        → NameWord (rows_of (found_of words.now)) name.now word → ⊥) }
+{
+    words.get_str(name)
+}
+
+/// The word of an option, if it was given.
+#[tactic(auto, using(crate::proofs::Values::first_found))]
+fn option_of<'a>(words: &ArgMatches<'a>, name: &str) -> Option<&'a str>
+    ensures { option_map (λ (word : Bor Text). word.now) result
+        ≡ first_of name.now (rows_of (found_of words.now)) }
+{
+    words.get_str(name)
+}
+
+/// The number of an option, if it was given; `None` where it is no number.
+#[tactic(auto, using(crate::proofs::Values::first_found))]
+fn number_of(words: &ArgMatches<'_>, name: &str) -> Option<Option<u32>>
+    ensures some { IfSome result (IsGiven (first_of name.now (rows_of (found_of words.now)))) }
+    ensures none { IfNone result ((number : Option ℕ)
+        → IsGiven (first_of name.now (rows_of (found_of words.now))) number → ⊥) }
+{
+    match words.get_str(name) {
+        Some(text) => match text.parse::<u32>() {
+            Ok(number) => Some(Some(number)),
+            Err(_) => None,
+        },
+        None => Some(None),
+    }
+}

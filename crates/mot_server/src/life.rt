@@ -1,0 +1,138 @@
+//! The life of a disk: formatted, opened, given commands; and what a crash at any moment of that
+//! left, opened and played. Nothing here is told in the words of the disk's format or of memory.
+ghost use Rattle.std.specs.Prelude.{◌≡◌, ◌⊎◌, ◌≤◌, ◌++◌, [], false, IfOk, IfErr};
+ghost use Rattle.disk_store.specs.Disk.{KeepsLength, Throughout};
+ghost use Rattle.mot_carousel.specs.Carousel.{new_carousel};
+ghost use Rattle.mot_journal.specs.Geometry.{has_magic};
+ghost use Rattle.mot_journal.specs.Image.{Standing};
+ghost use Rattle.mot_journal.specs.Journal.{NoneOrNew, new_standing};
+ghost use Rattle.mot_player.specs.Reading.{ReadsAs};
+ghost use Rattle.mot_repository.specs.Opening.{IsOpeningRefusal, IsPassing};
+ghost use Rattle.mot_repository.specs.Repository.{IsOf, Holds};
+ghost use Rattle.mot_server.specs.Life.{IsBlank, IsFormatRefusal, PlaysAfter};
+ghost use Rattle.mot_server.specs.Playing.{bytes_of_packets};
+ghost use Rattle.mot_server.specs.Runs.{accepted_commands, commands_in_flight};
+
+use crate::{Refused, Restarted, RunEnd, Server, restart};
+use disk_store::Disk;
+use mot_carousel::Command;
+use mot_journal::{Geometry, format};
+use mot_packets::Packet;
+use std::alloc::Global;
+
+/// A disk that was opened, and the first turn that was played of it.
+#[derive(Drop)]
+pub struct FirstTurn<D: Disk> {
+    /// The disk, as it stands.
+    pub disk: D,
+    /// The packets of the turn.
+    pub packets: Vec<Packet>,
+}
+
+/// What became of a disk that was formatted and given commands, and of what a crash left of it.
+#[derive(Drop)]
+pub struct Life<D: Disk, E: Disk> {
+    /// The disk, after the commands.
+    pub disk: D,
+    /// Which commands were accepted, and what ended the run.
+    pub end: RunEnd,
+    /// What was opened of that which the crash left.
+    pub after_crash: Result<FirstTurn<E>, Refused<E>>,
+}
+
+/// Formats a disk, opens it and does the commands. A crash comes at any moment of that, before or
+/// inside any call of the disk, or behind it; `left` is any disk that reads as an image which that
+/// crash may have left. It is opened, and its first turn is played.
+///
+/// The headline, whole: for every list of commands and a crash at any moment the packets of that
+/// turn read, by the standards' grammars, as exactly the carousel after a beginning of the accepted
+/// commands, with at most the one in flight; and behind the call that beginning holds each command
+/// that was accepted. Its premises: both disks keep the model to the end, and at first no image of
+/// the disk has the magic of a formatted one. Runs on a disk that was left go on from there as
+/// `run_and_restart` says.
+pub fn format_run_and_restart<D: Disk, E: Disk + Drop>(
+    disk: D,
+    alloc: Global,
+    geometry: &Geometry,
+    commands: &[Command],
+    left: E,
+) -> Result<Life<D, E>, Refused<D>>
+    // a crash at some moment since the call began
+    ensures headline { IfOk result (λ life. (D.state life.disk).IsHonest
+        → IsBlank (D.state disk)
+        → (D.state life.disk).LeftSince (D.state disk).moment (E.state left).bytes
+        → IfOk life.after_crash (λ first. (E.state first.disk).IsHonest
+        → PlaysAfter geometry.now []
+        (accepted_commands commands.now life.end.done.items
+        ++ commands_in_flight commands.now life.end.done.items life.end.fault)
+        (bytes_of_packets first.packets.items))) }
+
+    // a crash once the call has returned
+    ensures acknowledged { IfOk result (λ life. (D.state life.disk).IsHonest
+        → (D.state life.disk).MayLeave (E.state left).bytes
+        → IfOk life.after_crash (λ first. (E.state first.disk).IsHonest
+        → PlaysAfter geometry.now
+        (accepted_commands commands.now life.end.done.items)
+        (commands_in_flight commands.now life.end.done.items life.end.fault)
+        (bytes_of_packets first.packets.items))) }
+
+    // and then it opens, but for want of memory or a failure of the disk that was left
+    ensures opens { IfOk result (λ life. (D.state life.disk).IsHonest
+        → (D.state life.disk).MayLeave (E.state left).bytes
+        → IfErr life.after_crash (λ e. (E.state e.disk).IsHonest
+        → IsPassing (E.state left) (E.state e.disk) e.refusal)) }
+    ensures refused { IfErr result (λ e. (D.state e.disk).IsHonest
+        → IsFormatRefusal geometry.now (D.state disk) (D.state e.disk) e.refusal) }
+{
+    let mut server = format_and_open(alloc, disk, geometry)?;
+    let end = server.run(alloc, commands);
+    let after_crash = first_turn(alloc, left);
+    Ok(Life {
+        disk: server.into_disk(),
+        end,
+        after_crash,
+    })
+}
+
+/// A new disk, formatted and opened: it stands for the new carousel, and at each moment until then a
+/// crash leaves no magic, or an image that does.
+pub fn format_and_open<D: Disk>(
+    alloc: Global,
+    disk: D,
+    geometry: &Geometry,
+) -> Result<Server<D>, Refused<D>>
+    ensures keeps { IfOk result (λ server. KeepsLength (D.state disk) (D.state server.disk)) }
+    ensures later { IfOk result (λ server. (D.state disk).failures
+        ≤ (D.state server.disk).failures) }
+    ensures holds { IfOk result (λ server. (D.state server.disk).IsHonest
+        → Holds server.view (new_standing geometry.now) (D.state server.disk)) }
+    ensures any_moment { IfOk result (λ server. (D.state server.disk).IsHonest
+        → IsBlank (D.state disk)
+        → Throughout (D.state disk) (D.state server.disk) (NoneOrNew geometry.now)) }
+    ensures refused { IfErr result (λ e. (D.state e.disk).IsHonest
+        → IsFormatRefusal geometry.now (D.state disk) (D.state e.disk) e.refusal) }
+{
+    let mut disk = disk;
+    if let Err(refusal) = format(&mut disk, geometry) {
+        return Err(Refused { refusal, disk });
+    }
+    let server = Server::open(alloc, disk)?;
+    Ok(server)
+}
+
+/// Opens a disk, plays its first turn, and hands it out again.
+pub fn first_turn<E: Disk>(alloc: Global, left: E) -> Result<FirstTurn<E>, Refused<E>>
+    ensures reads { (s : Standing) → IsOf s (E.state left).bytes
+        → IfOk result (λ first. (E.state first.disk).IsHonest
+        → ReadsAs (bytes_of_packets first.packets.items) s.carousel s.geometry.segment_size) }
+    ensures blank { has_magic (E.state left).bytes ≡ false
+        → IfOk result (λ first. (E.state first.disk).IsHonest → ⊥) }
+    ensures refused { IfErr result
+        (λ e. IsOpeningRefusal (E.state left) (E.state e.disk) e.refusal) }
+{
+    let Restarted { server, packets } = restart(alloc, left)?;
+    Ok(FirstTurn {
+        disk: server.into_disk(),
+        packets,
+    })
+}

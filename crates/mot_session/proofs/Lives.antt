@@ -1,0 +1,691 @@
+-- A disk from its formatting on that is served lines: what a crash leaves of them, line by line.
+use Rattle.std.proofs.Common.{◌≡◌, ◌⊎◌, inl, inr, ⊎_elim, ℕ, ◌≤◌, Bool, true, false, List, [], ◌∷◌}
+use Rattle.std.proofs.Common.{◌++◌, length, map, Option, Result, Ok, Err, refl, sym, ap, ◌∙◌, subst}
+use Rattle.std.proofs.Common.{arith, append_assoc, append-nil}
+use Rattle.std.proofs.Common.{Some, None}
+use Rattle.std.proofs.KnownBytes.{Appends-trans, Appends-nil, Appends-kept, Keeps-refl}
+use Rattle.std.proofs.KnownBytes.{Consumes-kept, Consumes-nil}
+use Rattle.std.proofs.lemmas.List.{length-map}
+use Rattle.std.specs.Io.KnownBytes.{Appends, Keeps}
+use Rattle.std.specs.List.{flat_map}
+use Rattle.std.specs.Prelude.{IsTrue, IsFalse, IfOk, if◌then◌else◌}
+use Rattle.disk_store.specs.Disk.{State, IsHonestDisk, IsUnchanged, Throughout}
+use Rattle.mot_base.specs.declared.geometry.Geometry.{Geometry}
+use Rattle.mot_base.specs.declared.refusal.Refusal.{Refusal}
+use Rattle.mot_base.specs.declared.refusal.Refusal.TheVariants.{WriteFault}
+use Rattle.mot_carousel.specs.declared.command.Command as command
+use Rattle.mot_journal.specs.Geometry.{has_magic}
+use Rattle.mot_journal.specs.Image.{Standing}
+use Rattle.mot_journal.specs.Journal.{NoneOrNew, new_standing}
+use Rattle.mot_lines.specs.declared.line.Line.{Line}
+use Rattle.mot_lines.specs.declared.line.Line.TheVariants as asks
+use Rattle.mot_lines.specs.Line.{line_of}
+use Rattle.mot_lines.specs.Lines.{lines_of, whole_lines, rest_of, unless_empty}
+use Rattle.mot_player.specs.Reading.{ReadsAs}
+use Rattle.mot_repository.specs.Repository.{IsOf, Holds}
+use Rattle.mot_server.specs.Life.{PlaysAfter}
+use Rattle.mot_server.specs.Runs.{IsAfter, StandsAfterSome}
+use Rattle.mot_server.specs.Server.{ServerView}
+use Rattle.mot_server.proofs.Laws.{after_none, more, none_of, not_halted, plays_after, plays_new}
+use Rattle.mot_session.specs.Life.{IsKeptFrom, Told, commands_done, commands_failing, done_in}
+use Rattle.mot_session.specs.Life.{failing_in, Tells}
+use Rattle.mot_session.specs.LineByLine.{BreaksOff, ServesEach, ServesOne, ServesSome}
+use Rattle.mot_session.specs.Served.{TakesInput}
+use Rattle.mot_session.specs.Session.{Exchange, Reply, text_of}
+use Rattle.mot_session.specs.Session.{accepted, refused, listing, packets, played, cut_short}
+use Rattle.mot_session.specs.State.{ServerState, StandsFor, state_of}
+use Rattle.mot_session.specs.Stored.{HoldsSince, IsToldAndStored, accepted_in, command_in, failed_in}
+use Rattle.mot_session.specs.Stored.{is_accepting, is_failing}
+use Rattle.mot_session.proofs.Crashes.{halted_or_not}
+use Rattle.mot_session.proofs.Outcomes.{Outcome, nothing, one, halts, begun_outcome, outcome}
+use Rattle.mot_session.proofs.Telling.{done_told, failing_told}
+use Rattle.mot_session.proofs.Told.{less_of_sure}
+
+-- what a crash now leaves, where these commands are sure and those may be there besides
+pub record At (s : Standing) (now : State) (is_halted : Bool) (sure early : List command.Command) : Type 0
+  where
+    pub leaves : (image : List ℕ) → now.MayLeave image → StandsAfterSome s sure early image
+    pub going : IsFalse is_halted → early ≡ []
+    pub few : length early ≤ 1
+
+-- one line more, which brought commands that are done and ones that the disk cut off
+pub record Step (s : Standing) (old mid : State) (was is : Bool) (standing : Standing)
+    (sure early done failing : List command.Command) : Type 0 where
+  pub later : old.moment ≤ mid.moment
+  pub after : IsAfter s (sure ++ done) standing
+  pub leaves : (image : List ℕ) → mid.MayLeave image
+      → StandsAfterSome s (sure ++ done) (early ++ failing) image
+  pub going : IsFalse is → early ++ failing ≡ []
+  pub before : (t : ℕ) (image : List ℕ) → t ≤ old.moment → mid.LeftSince t image
+      → old.LeftSince t image ⊎ (IsFalse was × StandsAfterSome s sure (done ++ failing) image)
+  pub halted : IsTrue was → IsTrue is × (done ≡ []) × (failing ≡ [])
+  pub stops : (failing ≡ []) ⊎ ((done ≡ []) × IsTrue is)
+  pub few : length (early ++ failing) ≤ 1
+  pub few_all : length (early ++ (done ++ failing)) ≤ 1
+
+few_if : (b : Bool) (request : Result Line Refusal)
+    → length (if b then command_in request else []) ≤ 1
+few_if true (Err r) = omega arith
+few_if true (Ok (asks.Command c)) = omega arith
+few_if true (Ok asks.List) = omega arith
+few_if true (Ok (asks.Raw kind tid body)) = omega arith
+few_if true (Ok (asks.Next count)) = omega arith
+few_if true (Ok asks.Turn) = omega arith
+few_if false request = omega arith
+
+-- no reply accepts a command and tells a fault
+not_both : (reply : Reply) → (is_accepting reply ≡ false) ⊎ (is_failing reply ≡ false)
+not_both (accepted d) = inr refl
+not_both (refused r) = inl refl
+not_both (listing c) = inl refl
+not_both (packets ps) = inl refl
+not_both (played sents) = inl refl
+not_both (cut_short sents) = inl refl
+
+one_at_most : (b c : Bool) (l : List command.Command) → (b ≡ false) ⊎ (c ≡ false)
+    → ((if b then l else []) ++ (if c then l else []) ≡ [])
+    ⊎ ((if b then l else []) ++ (if c then l else []) ≡ l)
+one_at_most true true l (inl e) = cc
+one_at_most true true l (inr e) = cc
+one_at_most true false l e = inr (append-nil l)
+one_at_most false true l e = inr refl
+one_at_most false false l e = inl refl
+
+module _ (s : Standing) (start now : State) (before : ServerState) (x : Exchange)
+    (sound : IsHonestDisk now) (still : IsTrue before.halted → IsUnchanged start now)
+    (told : IsToldAndStored start now before x) (sure early : List command.Command)
+    (after : IsAfter s sure before.standing) (at : At s start before.halted sure early) where
+  abbrev Told-Outcome : Type 0
+  Told-Outcome = Outcome before x.after (accepted_in x) (failed_in x)
+
+  quiet : Told-Outcome → IsTrue before.halted → (accepted_in x ≡ []) × (failed_in x ≡ [])
+      × (x.after.standing ≡ before.standing) × IsTrue x.after.halted
+  quiet (nothing none fine standing same) is = (none, fine, standing, same ∙ is)
+  quiet (one c d e fine going same step) is = absurd (not_halted before.halted is going)
+  quiet (halts none going so standing) is = absurd (not_halted before.halted is going)
+
+  fine_behind : Told-Outcome → IsFalse x.after.halted → failed_in x ≡ []
+  fine_behind (nothing none fine standing same) going = fine
+  fine_behind (one c d e fine was same step) going = fine
+  fine_behind (halts none was so standing) going = absurd (not_halted x.after.halted so going)
+
+  stops_of : Told-Outcome → (failed_in x ≡ []) ⊎ ((accepted_in x ≡ []) × IsTrue x.after.halted)
+  stops_of (nothing none fine standing same) = inl fine
+  stops_of (one c d e fine was same step) = inl fine
+  stops_of (halts none was so standing) = inr (none, so)
+
+  few_done : length (accepted_in x) ≤ 1
+  few_done = few_if (is_accepting x.reply) (line_of x.line)
+
+  few_failed : length (failed_in x) ≤ 1
+  few_failed = few_if (is_failing x.reply) (line_of x.line)
+
+  few_both : (failed_in x ≡ []) ⊎ ((accepted_in x ≡ []) × IsTrue x.after.halted)
+      → length (accepted_in x ++ failed_in x) ≤ 1
+  few_both (inl none) = subst (λ l. length l ≤ 1)
+      (sym (ap (λ l. accepted_in x ++ l) none ∙ append-nil (accepted_in x))) few_done
+  few_both (inr (none, so)) =
+      subst (λ l. length l ≤ 1) (sym (ap (λ l. l ++ failed_in x) none)) few_failed
+
+  step_halted : Told-Outcome → IsTrue before.halted
+      → Step s start now before.halted x.after.halted x.after.standing sure early
+      (accepted_in x) (failed_in x)
+  step_halted what is =
+      let none = quiet what is in
+      let unchanged = still is in
+      let same_sure : sure ++ accepted_in x ≡ sure =
+      ap (λ l. sure ++ l) none.0 ∙ append-nil sure in
+      let same_early : early ++ failed_in x ≡ early =
+      ap (λ l. early ++ l) none.1 ∙ append-nil early in
+      record {
+        later = unchanged.time.later;
+        after = subst (λ l. IsAfter s l x.after.standing) (sym same_sure)
+            (subst (λ a. IsAfter s sure a) (sym none.2) after);
+        leaves = λ image left. subst (λ l. StandsAfterSome s l (early ++ failed_in x) image)
+            (sym same_sure) (subst (λ l. StandsAfterSome s sure l image) (sym same_early)
+            (at.leaves image ((unchanged.images image).0 left)));
+        going = λ going. absurd (not_halted x.after.halted none.3 going);
+        before = λ t image early_enough left. ⊎_elim {C = start.LeftSince t image ⊎ (IsFalse before.halted
+            × StandsAfterSome s sure (accepted_in x ++ failed_in x) image)}
+            (λ was. inl was) (λ never. absurd never)
+            (unchanged.time.nothing_else t image early_enough left);
+        halted = λ was. (none.3, none.0, none.1);
+        stops = inl none.1;
+        few = subst (λ l. length l ≤ 1) (sym same_early) at.few;
+        few_all = subst (λ l. length l ≤ 1)
+            (sym (ap (λ l. early ++ (l ++ failed_in x)) none.0 ∙ same_early)) at.few;
+      }
+
+  step_going : Told-Outcome → IsFalse before.halted
+      → Step s start now before.halted x.after.halted x.after.standing sure early
+      (accepted_in x) (failed_in x)
+  step_going what going =
+      let kept = told going s sure after in
+      let none = at.going going in
+      record {
+        later = kept.any_moment.later;
+        after = kept.after;
+        leaves = λ image left.
+            subst (λ l. StandsAfterSome s (sure ++ accepted_in x) (l ++ failed_in x) image) (sym none)
+            (kept.at_end image (sound.counts_now now.moment image (omega arith) left));
+        going = λ is. subst (λ l. l ++ failed_in x ≡ []) (sym none) (fine_behind what is);
+        before = λ t image early_enough left. ⊎_elim {C = start.LeftSince t image ⊎ (IsFalse before.halted
+            × StandsAfterSome s sure (accepted_in x ++ failed_in x) image)}
+            (λ was. inl was) (λ came. inr (going, came))
+            (kept.any_moment.before t image early_enough left);
+        halted = λ was. absurd (not_halted before.halted was going);
+        stops = stops_of what;
+        few = subst (λ l. length (l ++ failed_in x) ≤ 1) (sym none) few_failed;
+        few_all = subst (λ l. length (l ++ (accepted_in x ++ failed_in x)) ≤ 1) (sym none)
+            (few_both (stops_of what));
+      }
+
+  step_made : Told-Outcome
+      → Step s start now before.halted x.after.halted x.after.standing sure early
+      (accepted_in x) (failed_in x)
+  step_made what = ⊎_elim (step_halted what) (step_going what) (halted_or_not before.halted)
+
+-- What a crash leaves of lines that follow, with the commands that may be in flight behind them;
+-- early are those that were before. These are the commands of the line behind the last.
+pub record Kept (s : Standing) (now old : State) (was : Bool) (sure early next : List command.Command)
+    (told : List Told) (flight : List command.Command) : Type 0 where
+  pub before : (t : ℕ) (image : List ℕ) → t ≤ old.moment → now.LeftSince t image
+      → old.LeftSince t image
+      ⊎ (IsFalse was × StandsAfterSome s sure (commands_done told ++ flight) image)
+  pub since : IsKeptFrom (λ t sure others. HoldsSince now t s sure others) old.moment sure told
+      (early ++ flight)
+  pub at_end : (image : List ℕ) → now.MayLeave image
+      → StandsAfterSome s (sure ++ commands_done told) (early ++ flight) image
+  pub halted : IsTrue was → (commands_done told ≡ []) × (flight ≡ [])
+  pub few : length (early ++ flight) ≤ 1
+  pub which : (flight ≡ commands_failing told)
+      ⊎ ((commands_failing told ≡ []) × (flight ≡ next))
+
+-- no line
+kept_none : (s : Standing) (now : State) (was : Bool) (sure early : List command.Command)
+    → IsHonestDisk now → At s now was sure early → Kept s now now was sure early [] [] []
+unfolding IsKeptFrom
+kept_none s now was sure early sound at = record {
+  before = λ t image le left. inl left;
+  since = λ image left. subst (λ l. StandsAfterSome s sure l image) (sym (append-nil early))
+      (at.leaves image (sound.only_now image left));
+  at_end = λ image left. subst (λ l. StandsAfterSome s l (early ++ []) image)
+      (sym (append-nil sure)) (subst (λ l. StandsAfterSome s sure l image)
+      (sym (append-nil early)) (at.leaves image left));
+  halted = λ is. (refl, refl);
+  few = subst (λ l. length l ≤ 1) (sym (append-nil early)) at.few;
+  which = inl refl;
+}
+
+module _ (s : Standing) (now old mid : State) (was is : Bool) (standing : Standing)
+    (sure early : List command.Command) (sound_old : IsHonestDisk old)
+    (at : At s old was sure early) where
+  -- a line whose reply was broken off
+  kept_broken : (done failing next : List command.Command)
+      → Step s old now was is standing sure early done failing → IsHonestDisk now
+      → (done ++ failing ≡ []) ⊎ (done ++ failing ≡ next)
+      → Kept s now old was sure early next [] (done ++ failing)
+  unfolding IsKeptFrom
+  kept_broken done failing next step sound which = record {
+    before = step.before;
+    since = all;
+    at_end = λ image left.
+        subst (λ l. StandsAfterSome s l (early ++ (done ++ failing)) image) (sym (append-nil sure))
+        (all image (sound.counts_now old.moment image step.later left));
+    halted = λ h. let none = step.halted h in
+        (refl, ap (λ l. l ++ failing) none.1 ∙ none.2);
+    few = step.few_all;
+    which = ⊎_elim (λ none. inl none) (λ next. inr (refl, next)) which;
+  }
+    where
+      all : (image : List ℕ) → now.LeftSince old.moment image
+          → StandsAfterSome s sure (early ++ (done ++ failing)) image
+      all image left = ⊎_elim {C = StandsAfterSome s sure (early ++ (done ++ failing)) image}
+          (λ o. more s sure early (done ++ failing) image
+          (at.leaves image (sound_old.only_now image o)))
+          (λ came. subst (λ l. StandsAfterSome s sure (l ++ (done ++ failing)) image)
+          (sym (at.going came.0)) came.1)
+          (step.before old.moment image (omega arith) left)
+
+  -- one line, and those behind it
+  module _ (x : Told) (next : List command.Command) (told : List Told)
+      (flight : List command.Command)
+      (step : Step s old mid was is standing sure early (done_in x) (failing_in x))
+      (rest : Kept s now mid is (sure ++ done_in x) (early ++ failing_in x) next told flight) where
+    was_going : IsFalse is → IsFalse was
+    was_going going = ⊎_elim (λ h. absurd (not_halted is (step.halted h).0 going)) (λ g. g)
+        (halted_or_not was)
+
+    none_failing : IsFalse is → failing_in x ≡ []
+    none_failing going =
+        subst (λ l. l ++ failing_in x ≡ []) (at.going (was_going going)) (step.going going)
+
+    in_order : failing_in x ≡ [] → (done_in x ++ commands_done told) ++ (failing_in x ++ flight)
+        ≡ done_in x ++ (commands_done told ++ flight)
+    in_order none = ap (λ l. (done_in x ++ commands_done told) ++ (l ++ flight)) none
+        ∙ append_assoc (done_in x) (commands_done told) flight
+
+    -- an image that came with the line
+    wide : (image : List ℕ) → StandsAfterSome s sure (done_in x ++ failing_in x) image
+        → StandsAfterSome s sure
+        ((done_in x ++ commands_done told) ++ (failing_in x ++ flight)) image
+    wide image came = ⊎_elim
+        {C = StandsAfterSome s sure
+        ((done_in x ++ commands_done told) ++ (failing_in x ++ flight)) image}
+        (λ none. subst (λ l. StandsAfterSome s sure l image) (sym (in_order none))
+        (more s sure (done_in x) (commands_done told ++ flight) image
+        (subst (λ l. StandsAfterSome s sure l image)
+        (ap (λ l. done_in x ++ l) none ∙ append-nil (done_in x)) came)))
+        (λ stop. let none = rest.halted stop.1 in
+        subst (λ l. StandsAfterSome s sure l image)
+        (sym (ap (λ l. (done_in x ++ l) ++ (failing_in x ++ flight)) none.0
+        ∙ ap (λ l. (done_in x ++ []) ++ (failing_in x ++ l)) none.1
+        ∙ ap (λ l. l ++ (failing_in x ++ [])) (append-nil (done_in x))
+        ∙ ap (λ l. done_in x ++ l) (append-nil (failing_in x)))) came)
+        step.stops
+
+    -- one that came behind it
+    far : (image : List ℕ) → failing_in x ≡ []
+        → StandsAfterSome s (sure ++ done_in x) (commands_done told ++ flight) image
+        → StandsAfterSome s sure
+        ((done_in x ++ commands_done told) ++ (failing_in x ++ flight)) image
+    far image none came = subst (λ l. StandsAfterSome s sure l image) (sym (in_order none))
+        (less_of_sure s sure (done_in x) (commands_done told ++ flight) image came)
+
+    abbrev Comes : ℕ → List ℕ → Type 0
+    Comes t image = old.LeftSince t image ⊎ (IsFalse was × StandsAfterSome s sure
+        ((done_in x ++ commands_done told) ++ (failing_in x ++ flight)) image)
+
+    comes : (t : ℕ) (image : List ℕ) → t ≤ old.moment → now.LeftSince t image → Comes t image
+    comes t image le left =
+        let later = step.later in
+        ⊎_elim {C = Comes t image}
+        (λ by_mid. ⊎_elim {C = Comes t image} (λ o. inl o)
+        (λ came. inr (came.0, wide image came.1)) (step.before t image le by_mid))
+        (λ came. inr (was_going came.0, far image (none_failing came.0) came.1))
+        (rest.before t image (omega (arith, le, later)) left)
+
+    -- since the moment before the line
+    here : (image : List ℕ) → now.LeftSince old.moment image → StandsAfterSome s sure
+        ((done_in x ++ commands_done told) ++ (early ++ (failing_in x ++ flight))) image
+    here image left = ⊎_elim
+        {C = StandsAfterSome s sure
+        ((done_in x ++ commands_done told) ++ (early ++ (failing_in x ++ flight))) image}
+        (λ o. ⊎_elim
+        {C = StandsAfterSome s sure
+        ((done_in x ++ commands_done told) ++ (early ++ (failing_in x ++ flight))) image}
+        (λ h. let none = step.halted h in
+        let others = rest.halted none.0 in
+        subst (λ l. StandsAfterSome s sure l image)
+        (sym (ap (λ l. (l ++ commands_done told) ++ (early ++ (failing_in x ++ flight))) none.1
+        ∙ ap (λ l. l ++ (early ++ (failing_in x ++ flight))) others.0
+        ∙ ap (λ l. early ++ (l ++ flight)) none.2
+        ∙ ap (λ l. early ++ l) others.1 ∙ append-nil early))
+        (at.leaves image (sound_old.only_now image o)))
+        (λ g. more s sure []
+        ((done_in x ++ commands_done told) ++ (early ++ (failing_in x ++ flight))) image
+        (subst (λ l. StandsAfterSome s sure l image) (at.going g)
+        (at.leaves image (sound_old.only_now image o))))
+        (halted_or_not was))
+        (λ came. subst (λ l. StandsAfterSome s sure
+        ((done_in x ++ commands_done told) ++ (l ++ (failing_in x ++ flight))) image)
+        (sym (at.going came.0)) came.1)
+        (comes old.moment image (omega arith) left)
+
+    abbrev Which : Type 0
+    Which = (failing_in x ++ flight ≡ failing_in x ++ commands_failing told)
+        ⊎ ((failing_in x ++ commands_failing told ≡ []) × (failing_in x ++ flight ≡ next))
+
+    which_is : Which
+    which_is = ⊎_elim {C = Which} (λ same. inl (ap (λ l. failing_in x ++ l) same))
+        (λ other. ⊎_elim {C = Which}
+        (λ none. inr (
+          ap (λ l. l ++ commands_failing told) none ∙ other.0,
+          ap (λ l. l ++ flight) none ∙ other.1,
+        ))
+        (λ stop. inl (ap (λ l. failing_in x ++ l) ((rest.halted stop.1).1 ∙ sym other.0)))
+        step.stops) rest.which
+
+    kept_more : Kept s now old was sure early next (x ∷ told) (failing_in x ++ flight)
+    unfolding IsKeptFrom
+    kept_more = record {
+      before = comes;
+      since = (
+        here,
+        mid.moment,
+        step.later,
+        subst (λ l. IsKeptFrom (λ t sure others. HoldsSince now t s sure others) mid.moment
+            (sure ++ done_in x) told l) (append_assoc early (failing_in x) flight) rest.since,
+      );
+      at_end = λ image left.
+          subst (λ l. StandsAfterSome s l (early ++ (failing_in x ++ flight)) image)
+          (append_assoc sure (done_in x) (commands_done told))
+          (subst (λ l. StandsAfterSome s ((sure ++ done_in x) ++ commands_done told) l image)
+          (append_assoc early (failing_in x) flight) (rest.at_end image left));
+      halted = λ h. let none = step.halted h in
+          let others = rest.halted none.0 in
+          (ap (λ l. l ++ commands_done told) none.1 ∙ others.0, ap (λ l. l ++ flight) none.2 ∙ others.1);
+      few = subst (λ l. length l ≤ 1) (append_assoc early (failing_in x) flight) rest.few;
+      which = which_is;
+    }
+
+-- ---- lines that were served, from a server to a server
+
+abbrev lines_told : List Told → List (List ℕ)
+lines_told told = map (λ (t : Told). t.line) told
+
+line_more : (line : List ℕ) (told : List Told) (lines : List (List ℕ)) → lines_told told ≡ lines
+    → line ∷ lines_told told ≡ line ∷ lines
+line_more line told lines same = ap (λ (l : List (List ℕ)). line ∷ l) same
+
+abbrev texts_told : List Told → List ℕ
+texts_told told = flat_map (λ (t : Told). t.text) told
+
+module _ {D : Type 0} (state : D → State)
+    (sound : (disk : D) → (state disk).IsHonest → IsHonestDisk (state disk)) (s : Standing) where
+  pub each_honest : (old new : ServerView D) (lines : List (List ℕ)) (written now : Option (List ℕ))
+      → ServesEach state old lines new written now → (state new.disk).IsHonest
+      → (state old.disk).IsHonest
+  each_honest old new [] written now same honest =
+      subst (λ (v : ServerView D). (state v.disk).IsHonest) same.0 honest
+  each_honest old new (line ∷ lines) written now each honest =
+      each.2.goes.keeps.was_honest (each_honest each.0 new lines each.1 now each.3 honest)
+
+  -- what is kept of lines that were served from here, up to this state of the disk
+  abbrev pub KeptFrom : State → List command.Command → ServerView D → List (List ℕ)
+      → Option (List ℕ) → Option (List ℕ) → Type 0
+  KeptFrom last next old lines written now =
+      (standing : Standing) (sure early : List command.Command)
+      → StandsFor old.view standing (state old.disk) → IsAfter s sure standing
+      → At s (state old.disk) old.view.halted sure early
+      → (told : List Told) × (flight : List command.Command)
+      × (map (λ (t : Told). t.line) told ≡ lines)
+      × Appends written now (flat_map (λ (t : Told). t.text) told)
+      × Kept s last (state old.disk) old.view.halted sure early next told flight
+
+  pub kept_here : (server : ServerView D) (known : Option (List ℕ)) → (state server.disk).IsHonest
+      → KeptFrom (state server.disk) [] server [] known known
+  kept_here server known honest = λ standing sure early stands after at. (
+    [],
+    [],
+    refl,
+    Appends-nil known,
+    kept_none s (state server.disk) server.view.halted sure early (sound server.disk honest) at,
+  )
+
+  module _ (old mid : ServerView D) (line : List ℕ) (written between : Option (List ℕ))
+      (honest : (state mid.disk).IsHonest) (one_line : ServesOne state old line mid written between)
+      (last : State) (next : List command.Command) (lines : List (List ℕ)) (now : Option (List ℕ))
+      (rest : KeptFrom last next mid lines between now) where
+    kept_line : KeptFrom last next old (line ∷ lines) written now
+    kept_line = λ standing sure early stands after at.
+        let was_honest = one_line.goes.keeps.was_honest honest in
+        let led = one_line.answered standing stands honest in
+        let served = led.2 in
+        let before = state_of old standing (state old.disk) in
+        let behind = state_of mid led.0 (state mid.disk) in
+        let x : Exchange = record { line = line; reply = served.reply; after = behind } in
+        let t : Told = record { line = line; text = text_of served.reply } in
+        let made = step_made s (state old.disk) (state mid.disk) before x (sound mid.disk honest)
+        (λ h. (one_line.goes.halted h).1 honest) served.stored sure early after at
+        (outcome before behind (line_of line) served.reply served.answers) in
+        let told_done = done_told (line_of line) before behind served.reply served.answers in
+        let told_failing = failing_told (line_of line) before behind served.reply served.answers in
+        let step : Step s (state old.disk) (state mid.disk) old.view.halted mid.view.halted led.0
+        sure early (done_in t) (failing_in t) =
+        subst (λ l. Step s (state old.disk) (state mid.disk) old.view.halted mid.view.halted led.0
+        sure early (done_in t) l) (sym told_failing)
+        (subst (λ l. Step s (state old.disk) (state mid.disk) old.view.halted mid.view.halted led.0
+        sure early l (failed_in x)) (sym told_done) made) in
+        let others = rest led.0 (sure ++ done_in t) (early ++ failing_in t) led.1 step.after
+        (record { leaves = step.leaves; going = step.going; few = step.few }) in (
+          t ∷ others.0,
+          failing_in t ++ others.1,
+          line_more line others.0 lines others.2,
+          Appends-trans written between now (text_of served.reply)
+              (flat_map (λ (u : Told). u.text) others.0) served.appended others.3,
+          kept_more s last (state old.disk) (state mid.disk) old.view.halted mid.view.halted led.0
+              sure early (sound old.disk was_honest) at t next others.0 others.1 step others.4,
+        )
+
+  pub kept_each : (last : State) (next : List command.Command) (old mid : ServerView D)
+      (lines : List (List ℕ)) (written between : Option (List ℕ))
+      → ServesEach state old lines mid written between → (state mid.disk).IsHonest
+      → KeptFrom last next mid [] between between → KeptFrom last next old lines written between
+  kept_each last next old mid [] written between same honest end =
+      subst (λ k. KeptFrom last next old [] k between) same.1
+      (subst (λ (v : ServerView D). KeptFrom last next v [] between between) same.0 end)
+  kept_each last next old mid (line ∷ lines) written between each honest end =
+      kept_line old each.0 line written each.1
+      (each_honest each.0 mid lines each.1 between each.3 honest) each.2 last next lines between
+      (kept_each last next each.0 mid lines each.1 between each.3 honest end)
+
+  -- the line whose reply was broken off
+  pub kept_behind : (old new : ServerView D) (line : List ℕ) (written now known : Option (List ℕ))
+      → BreaksOff state old line new written now → (state new.disk).IsHonest
+      → KeptFrom (state new.disk) (command_in (line_of line)) old [] known known
+  kept_behind old new line written now known breaks honest =
+      λ standing sure early stands after at.
+      let was_honest = breaks.goes.keeps.was_honest honest in
+      let led = breaks.broken standing stands honest in
+      let stopped = led.2 in
+      let before = state_of old standing (state old.disk) in
+      let behind = state_of new led.0 (state new.disk) in
+      let x : Exchange = record { line = line; reply = stopped.reply; after = behind } in
+      let step = step_made s (state old.disk) (state new.disk) before x (sound new.disk honest)
+      (λ h. (breaks.goes.halted h).1 honest) stopped.stored sure early after at
+      (begun_outcome before behind (line_of line) stopped.reply stopped.broken.begins) in (
+        [],
+        accepted_in x ++ failed_in x,
+        refl,
+        Appends-nil known,
+        kept_broken s (state new.disk) (state old.disk) (state new.disk) old.view.halted
+            new.view.halted led.0 sure early (sound old.disk was_honest) at
+            (accepted_in x) (failed_in x) (command_in (line_of line)) step (sound new.disk honest)
+            (one_at_most (is_accepting stopped.reply) (is_failing stopped.reply)
+            (command_in (line_of line)) (not_both stopped.reply)),
+      )
+
+-- ---- from the formatting on
+
+module _ (P Q : ℕ → List command.Command → List command.Command → Type 0)
+    (turns : (t : ℕ) (sure others : List command.Command) → P t sure others → Q t sure others) where
+  kept_so : (t : ℕ) (sure : List command.Command) (told : List Told)
+      (flight : List command.Command) → IsKeptFrom P t sure told flight
+      → IsKeptFrom Q t sure told flight
+  unfolding IsKeptFrom
+  kept_so t sure [] flight kept = turns t sure flight kept
+  kept_so t sure (x ∷ told) flight kept = (
+    turns t sure (commands_done (x ∷ told) ++ flight) kept.0,
+    kept.1,
+    kept.2,
+    kept_so kept.1 (sure ++ done_in x) told flight kept.3,
+  )
+
+kept_from : (Q : ℕ → List command.Command → List command.Command → Type 0) (start opened : ℕ)
+    → start ≤ opened → (told : List Told) (flight : List command.Command)
+    → Q start [] (commands_done told ++ flight) → IsKeptFrom Q opened [] told flight
+    → IsKeptFrom Q start [] told flight
+unfolding IsKeptFrom
+kept_from Q start opened le [] flight all kept = all
+kept_from Q start opened le (x ∷ told) flight all kept =
+    let later = kept.2 in (all, kept.1, omega (arith, le, later), kept.3)
+
+module _ {A B : Type 0} (result : Result A B) (IsHonest : A → Type 0)
+    (packets_of : A → List (List ℕ)) (g : Geometry) (image : List ℕ)
+    (reads : (s : Standing) → IsOf s image
+    → IfOk result (λ a. IsHonest a → ReadsAs (packets_of a) s.carousel s.geometry.segment_size))
+    (now opened : State) (was : Bool) (next : List command.Command) (told : List Told)
+    (flight : List command.Command)
+    (kept : Kept (new_standing g) now opened was [] [] next told flight) where
+  abbrev Plays : List command.Command → List command.Command → Type 0
+  Plays sure others = IfOk result (λ a. IsHonest a → PlaysAfter g sure others (packets_of a))
+
+  -- a crash at some moment since the formatting began
+  pub life_kept : (start : State) (IsLeft : ℕ → Type 0)
+      → ((t : ℕ) → IsLeft t → now.LeftSince t image)
+      → (has_magic image ≡ false → IfOk result (λ a. IsHonest a → ⊥))
+      → Throughout start opened (NoneOrNew g)
+      → IsKeptFrom (λ t sure others. IsLeft t → Plays sure others) start.moment [] told flight
+  life_kept start IsLeft is_left blank time =
+      kept_from (λ t sure others. IsLeft t → Plays sure others) start.moment opened.moment time.later
+      told flight all
+      (kept_so (λ t sure others. HoldsSince now t (new_standing g) sure others)
+      (λ t sure others. IsLeft t → Plays sure others)
+      (λ t sure others holds left. plays_after result IsHonest packets_of g image reads sure others
+      (holds image (is_left t left)))
+      opened.moment [] told flight kept.since)
+    where
+      all : IsLeft start.moment → Plays [] (commands_done told ++ flight)
+      all left = ⊎_elim {C = Plays [] (commands_done told ++ flight)}
+          (λ by_then. plays_new result IsHonest packets_of g image reads
+          (commands_done told ++ flight) blank (time.each image by_then))
+          (λ came. plays_after result IsHonest packets_of g image reads []
+          (commands_done told ++ flight) came.1)
+          (kept.before start.moment image time.later (is_left start.moment left))
+
+  -- a crash behind it
+  pub life_after : now.MayLeave image → Plays (commands_done told) flight
+  life_after left = plays_after result IsHonest packets_of g image reads (commands_done told) flight
+      (kept.at_end image left)
+
+-- ---- what was told
+
+pub not_none : (r : Refusal) (o : Option Refusal) → o ≡ Some r → o ≡ None → ⊥
+not_none r o some none = let e : None ≡ Some r = sym none ∙ some in cc
+
+as_many : (lines : List (List ℕ)) (told : List Told) (count : ℕ) → lines_told told ≡ lines
+    → count ≡ length lines → count ≡ length told
+as_many lines told count same counted =
+    counted ∙ ap length (sym same) ∙ length-map told (λ (t : Told). t.line)
+
+module _ (input : List ℕ) (count : ℕ) (fault : Option Refusal) (told : List Told)
+    (flight : List command.Command) (old between new : Option (List ℕ))
+    (written : Appends old between (texts_told told)) (few : length flight ≤ 1) where
+  -- all that was served was answered, up to the end of the input or a fault that is none of replies
+  pub tells_all : (lines unanswered : List (List ℕ)) → lines_of input ≡ lines ++ unanswered
+      → lines_told told ≡ lines → count ≡ length lines → (fault ≡ None → unanswered ≡ [])
+      → Keeps between new
+      → (flight ≡ commands_failing told) ⊎ ((commands_failing told ≡ []) × (flight ≡ []))
+      → Tells input count fault told flight old new
+  tells_all lines unanswered split same counted whole keeps which = record {
+    unanswered = unanswered;
+    lines = split ∙ ap (λ l. l ++ unanswered) (sym same);
+    counted = as_many lines told count same counted;
+    whole = whole;
+    front = [];
+    written = subst (λ l. Appends old new l) (sym (append-nil (texts_told told)))
+        (Appends-kept old between new (texts_told told) written keeps);
+    few = few;
+    which = ⊎_elim (λ e. inl e) (λ both. inl (both.1 ∙ sym both.0)) which;
+  }
+
+  -- the reply to the line behind them was broken off
+  pub tells_some : (first : List (List ℕ)) (line : List ℕ) (others : List (List ℕ))
+      (front : List ℕ) → lines_of input ≡ first ++ line ∷ others → lines_told told ≡ first
+      → count ≡ length first → fault ≡ Some WriteFault → Appends between new front
+      → (flight ≡ commands_failing told)
+      ⊎ ((commands_failing told ≡ []) × (flight ≡ command_in (line_of line)))
+      → Tells input count fault told flight old new
+  tells_some first line others front split same counted is broken which = record {
+    unanswered = line ∷ others;
+    lines = split ∙ ap (λ l. l ++ line ∷ others) (sym same);
+    counted = as_many first told count same counted;
+    whole = λ none. absurd (not_none WriteFault fault is none);
+    front = front;
+    written = Appends-trans old between new (texts_told told) front written broken;
+    few = few;
+    which = ⊎_elim (λ e. inl e) (λ both. inr (is, both.1)) which;
+  }
+
+-- the lines that are whole come first
+pub lines_split : (input : List ℕ) → lines_of input ≡ whole_lines input ++ unless_empty (rest_of input)
+unfolding lines_of
+lines_split input = refl
+
+-- ---- a call of `serve` on a disk that was formatted here
+
+module _ {D : Type 0} (state : D → State)
+    (sound : (disk : D) → (state disk).IsHonest → IsHonestDisk (state disk)) (g : Geometry)
+    (opened new : ServerView D) (reads : ℕ) (unread left old now : Option (List ℕ)) (count : ℕ)
+    (fault : Option Refusal) (honest : (state new.disk).IsHonest)
+    (holds : Holds opened.view (new_standing g) (state opened.disk)) where
+  stands : StandsFor opened.view (new_standing g) (state opened.disk)
+  stands = record { agrees = holds.agrees; holds = λ going. holds }
+
+  at : At (new_standing g) (state opened.disk) opened.view.halted [] []
+  at = record {
+    leaves = λ image may. none_of (new_standing g) [] [] (new_standing g) image
+        (after_none (new_standing g)) (holds.each image may);
+    going = λ going. refl;
+    few = omega arith;
+  }
+
+  -- what was told, and what a crash leaves of it
+  abbrev pub ServedSo : Type 0
+  ServedSo = (input : List ℕ) × TakesInput reads unread left input
+      × (told : List Told) × (flight : List command.Command) × (next : List command.Command)
+      × Tells input count fault told flight old now
+      × Kept (new_standing g) (state new.disk) (state opened.disk) opened.view.halted [] [] next
+      told flight
+
+  pub all_served : (input : List ℕ) → TakesInput reads unread left input
+      → (lines unanswered : List (List ℕ)) → lines_of input ≡ lines ++ unanswered
+      → count ≡ length lines → (fault ≡ None → unanswered ≡ []) → (between : Option (List ℕ))
+      → Keeps between now
+      → KeptFrom state sound (new_standing g) (state new.disk) [] opened lines old between
+      → ServedSo
+  all_served input takes lines unanswered split counted whole between keeps kept =
+      let k = kept (new_standing g) [] [] stands (after_none (new_standing g)) at in (
+        input,
+        takes,
+        k.0,
+        k.1,
+        [],
+        tells_all input count fault k.0 k.1 old between now k.3 k.4.few lines unanswered split k.2
+            counted whole keeps k.4.which,
+        k.4,
+      )
+
+  pub each_served : (input : List ℕ) → TakesInput reads unread left input
+      → (lines unanswered : List (List ℕ)) → lines_of input ≡ lines ++ unanswered
+      → count ≡ length lines → (fault ≡ None → unanswered ≡ [])
+      → ServesEach state opened lines new old now → ServedSo
+  each_served input takes lines unanswered split counted whole each =
+      all_served input takes lines unanswered split counted whole now (Keeps-refl now)
+      (kept_each state sound (new_standing g) (state new.disk) [] opened new lines old now each honest
+      (kept_here state sound (new_standing g) new now honest))
+
+  -- nothing was read
+  pub none_served : new ≡ opened → count ≡ 0 → (fault ≡ None → ⊥) → Keeps unread left → Keeps old now
+      → ServedSo
+  none_served same none faulty kept keeps =
+      all_served []
+      (record { consumed = Consumes-kept unread unread left [] (Consumes-nil unread) kept; bounded = omega arith })
+      [] (lines_of []) refl none (λ fine. absurd (faulty fine)) old keeps
+      (subst (λ (v : ServerView D).
+      KeptFrom state sound (new_standing g) (state new.disk) [] v [] old old) same
+      (kept_here state sound (new_standing g) new old honest))
+
+  -- a reply was broken off
+  pub some_served : (input : List ℕ) → TakesInput reads unread left input
+      → (lines rest : List (List ℕ)) → lines_of input ≡ lines ++ rest → fault ≡ Some WriteFault
+      → ServesSome state opened lines count new old now → ServedSo
+  some_served input takes lines rest split is some =
+      let breaks = some.breaks in
+      let k = kept_each state sound (new_standing g) (state new.disk) (command_in (line_of some.line))
+      opened some.mid some.first old some.between some.each (breaks.goes.keeps.was_honest honest)
+      (kept_behind state sound (new_standing g) some.mid new some.line some.between now some.between
+      breaks honest) (new_standing g) [] [] stands (after_none (new_standing g)) at in (
+        input,
+        takes,
+        k.0,
+        k.1,
+        command_in (line_of some.line),
+        tells_some input count fault k.0 k.1 old some.between now k.3 k.4.few some.first some.line
+            (some.others ++ rest) breaks.front.written
+            (split ∙ ap (λ l. l ++ rest) some.split
+            ∙ append_assoc some.first (some.line ∷ some.others) rest) k.2
+            some.counted is breaks.front.appended k.4.which,
+        k.4,
+      )

@@ -1,0 +1,119 @@
+-- What the text of a reply tells of the command of its line.
+use Rattle.std.proofs.Common.{◌≡◌, ◌⊎◌, inl, inr, Bool, true, false, List, [], Result, Ok, Err}
+use Rattle.std.proofs.Common.{refl, sym, ap, ◌∙◌}
+use Rattle.std.specs.Prelude.{if◌then◌else◌}
+use Rattle.std.specs.Fmt.{digits}
+use Rattle.mot_base.specs.declared.refusal.Refusal.{Refusal}
+use Rattle.mot_base.specs.declared.refusal.Refusal.TheVariants as why
+use Rattle.mot_carousel.specs.declared.command.Command as command
+use Rattle.mot_carousel.specs.declared.command.Done.{Done}
+use Rattle.mot_lines.specs.declared.line.Line.{Line}
+use Rattle.mot_lines.specs.declared.line.Line.TheVariants as asks
+use Rattle.mot_session.specs.Life.{is_done, is_fault}
+use Rattle.mot_session.specs.Session.{Answers, decided, halted, no_memory, IsAnswer, IsCommandAnswer}
+use Rattle.mot_session.specs.Session.{Reply, accepted, refused, accepts, refuses, fails, text_of}
+use Rattle.mot_session.specs.State.{ServerState}
+use Rattle.mot_session.specs.Stored.{command_in, is_accepting, is_device_fault, is_failing}
+
+done_of_accepted : (d : Done) → is_done (text_of (accepted d)) ≡ true
+unfolding text_of
+done_of_accepted d = refl
+
+done_of_refused : (r : Refusal) → is_done (text_of (refused r)) ≡ false
+unfolding text_of
+done_of_refused r = refl
+
+fault_of_accepted : (d : Done) → is_fault (text_of (accepted d)) ≡ false
+unfolding text_of
+fault_of_accepted d = refl
+
+fault_of_refused : (r : Refusal) → is_fault (text_of (refused r)) ≡ is_device_fault r
+unfolding text_of digits
+fault_of_refused why.BadLine = refl
+fault_of_refused why.BadName = refl
+fault_of_refused why.BadType = refl
+fault_of_refused why.BadMime = refl
+fault_of_refused why.BadBody = refl
+fault_of_refused why.EmptyBody = refl
+fault_of_refused why.BodyTooLong = refl
+fault_of_refused why.BadNumber = refl
+fault_of_refused why.NameTaken = refl
+fault_of_refused why.NoSuchName = refl
+fault_of_refused why.TooManyObjects = refl
+fault_of_refused why.NoRoom = refl
+fault_of_refused why.OutOfMemory = refl
+fault_of_refused why.DeviceFault = refl
+fault_of_refused why.Halted = refl
+fault_of_refused why.NotFormatted = refl
+fault_of_refused why.AlreadyFormatted = refl
+fault_of_refused why.DiskTooSmall = refl
+fault_of_refused (why.Damaged slot) = refl
+fault_of_refused why.BadGeometry = refl
+fault_of_refused why.ReadFault = refl
+fault_of_refused why.WriteFault = refl
+
+-- a request that is a command is accepted or refused
+abbrev Kinds : Result Line Refusal → Reply → Type 0
+Kinds request reply = (command_in request ≡ [])
+    ⊎ (((d : Done) × (reply ≡ accepted d)) ⊎ ((r : Refusal) × (reply ≡ refused r)))
+
+commanded : (before after : ServerState) (c : command.Command) (reply : Reply)
+    → IsCommandAnswer before c reply after → Kinds (Ok (asks.Command c)) reply
+commanded before after c reply (accepts d e a) = inr (inl (d, e))
+commanded before after c reply (refuses r e reason stays) = inr (inr (r, e))
+commanded before after c reply (fails e h) = inr (inr (why.DeviceFault, e))
+
+answered : (before after : ServerState) (request : Result Line Refusal) (reply : Reply)
+    → IsAnswer before request reply after → Kinds request reply
+unfolding IsAnswer
+answered before after (Err r) reply a = inl refl
+answered before after (Ok (asks.Command c)) reply a = commanded before after c reply a
+answered before after (Ok asks.List) reply a = inl refl
+answered before after (Ok (asks.Raw kind tid body)) reply a = inl refl
+answered before after (Ok (asks.Next count)) reply a = inl refl
+answered before after (Ok asks.Turn) reply a = inl refl
+
+kinds : (before after : ServerState) (request : Result Line Refusal) (reply : Reply)
+    → Answers before request reply after → Kinds request reply
+kinds before after request reply (decided going a) = answered before after request reply a
+kinds before after request reply (halted is needs e s) = inr (inr (why.Halted, e))
+kinds before after request reply (no_memory needs e s) = inr (inr (why.OutOfMemory, e))
+
+no_matter : (b c : Bool) (l : List command.Command) → l ≡ []
+    → (if b then l else []) ≡ (if c then l else [])
+no_matter true true l e = refl
+no_matter true false l e = e
+no_matter false true l e = sym e
+no_matter false false l e = refl
+
+module _ (request : Result Line Refusal) where
+  abbrev where_so : Bool → List command.Command
+  where_so b = if b then command_in request else []
+
+  done_by_kind : (reply : Reply) → Kinds request reply
+      → where_so (is_done (text_of reply)) ≡ where_so (is_accepting reply)
+  done_by_kind reply (inl none) =
+      no_matter (is_done (text_of reply)) (is_accepting reply) (command_in request) none
+  done_by_kind reply (inr (inl (d, e))) = ap where_so
+      (ap (λ (r : Reply). is_done (text_of r)) e ∙ done_of_accepted d ∙ sym (ap is_accepting e))
+  done_by_kind reply (inr (inr (r, e))) = ap where_so
+      (ap (λ (r : Reply). is_done (text_of r)) e ∙ done_of_refused r ∙ sym (ap is_accepting e))
+
+  failing_by_kind : (reply : Reply) → Kinds request reply
+      → where_so (is_fault (text_of reply)) ≡ where_so (is_failing reply)
+  failing_by_kind reply (inl none) =
+      no_matter (is_fault (text_of reply)) (is_failing reply) (command_in request) none
+  failing_by_kind reply (inr (inl (d, e))) = ap where_so
+      (ap (λ (r : Reply). is_fault (text_of r)) e ∙ fault_of_accepted d ∙ sym (ap is_failing e))
+  failing_by_kind reply (inr (inr (r, e))) = ap where_so
+      (ap (λ (r : Reply). is_fault (text_of r)) e ∙ fault_of_refused r ∙ sym (ap is_failing e))
+
+  module _ (before after : ServerState) (reply : Reply) (answers : Answers before request reply after)
+    where
+      -- the text says `done` where the command was accepted
+      pub done_told : where_so (is_done (text_of reply)) ≡ where_so (is_accepting reply)
+      done_told = done_by_kind reply (kinds before after request reply answers)
+
+      -- and `refused 15` where the disk failed
+      pub failing_told : where_so (is_fault (text_of reply)) ≡ where_so (is_failing reply)
+      failing_told = failing_by_kind reply (kinds before after request reply answers)

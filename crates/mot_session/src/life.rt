@@ -1,0 +1,81 @@
+//! The life of a disk, told of lines: formatted, opened and served; and what a crash at any moment
+//! of that left, opened and played. Input bytes, output bytes and packets are all that is told.
+ghost use Rattle.std.specs.Prelude.{◌≡◌, ◌≤◌, ℕ, List, [], IfOk, IfErr};
+ghost use Rattle.mot_carousel.specs.declared.command.Command.{Command};
+ghost use Rattle.mot_repository.specs.Opening.{IsPassing};
+ghost use Rattle.mot_server.specs.Life.{IsBlank, IsFormatRefusal, PlaysAfter};
+ghost use Rattle.mot_server.specs.Playing.{bytes_of_packets};
+ghost use Rattle.mot_session.specs.Life.{IsKeptFrom, Told, Tells, commands_done};
+ghost use Rattle.mot_session.specs.Served.{TakesInput};
+
+use crate::{Geometry, MAX_READS, ServeEnd, serve};
+use disk_store::Disk;
+use mot_server::{FirstTurn, Refused, first_turn, format_and_open};
+use std::alloc::Global;
+use std::io::{Read, Write};
+
+/// What became of a disk that was formatted and served lines, and of what a crash left of it.
+#[derive(Drop)]
+pub struct ServedLife<D: Disk, E: Disk> {
+    /// The disk, after the last line that was served.
+    pub disk: D,
+    /// How serving ended.
+    pub end: ServeEnd,
+    /// What was opened of that which the crash left.
+    pub after_crash: Result<FirstTurn<E>, Refused<E>>,
+}
+
+/// Formats a disk, opens it and serves the reader's lines, as the program does. A crash comes at any
+/// moment of that, before or inside any call of the disk, or behind it; `left` is any disk that
+/// reads as an image which that crash may have left. It is opened, and its first turn is played.
+///
+/// What the operator is promised, whole: for every input the packets of that turn read, by the
+/// standards' grammars, as exactly the carousel after a beginning of the commands whose replies say
+/// `done`, with at most the one in flight. That beginning holds each command whose reply was made
+/// before a moment of the disk's clock, where the crash came since; and behind the call it holds all
+/// of them. So a command whose `done` was written is never lost.
+pub fn format_serve_and_restart<R: Read, W: Write, D: Disk, E: Disk + Drop>(
+    disk: D,
+    alloc: Global,
+    geometry: &Geometry,
+    reader: &mut R,
+    writer: &mut W,
+    reads: u64,
+    left: E,
+) -> Result<ServedLife<D, E>, Refused<D>>
+    requires { reads ≤ MAX_READS }
+
+    // The lines, their replies, and what a crash leaves of their commands: first one at some moment
+    // since the call began, then one that comes once it has returned.
+    ensures told { IfOk result (λ life. (D.state life.disk).IsHonest → (input : List ℕ)
+        × TakesInput reads (R.remaining reader.old) (R.remaining reader.new) input
+        × (told : List Told) × (in_flight : List Command)
+        × Tells input life.end.lines life.end.fault told in_flight
+        (W.contents writer.old) (W.contents writer.new)
+        × (IsBlank (D.state disk) → IsKeptFrom (λ moment sure others.
+        (D.state life.disk).LeftSince moment (E.state left).bytes
+        → IfOk life.after_crash (λ first. (E.state first.disk).IsHonest
+        → PlaysAfter geometry.now sure others (bytes_of_packets first.packets.items)))
+        (D.state disk).moment [] told in_flight)
+        × ((D.state life.disk).MayLeave (E.state left).bytes
+        → IfOk life.after_crash (λ first. (E.state first.disk).IsHonest
+        → PlaysAfter geometry.now (commands_done told) in_flight
+        (bytes_of_packets first.packets.items)))) }
+
+    // and then it opens, but for want of memory or a failure of the disk that was left
+    ensures opens { IfOk result (λ life. (D.state life.disk).IsHonest
+        → (D.state life.disk).MayLeave (E.state left).bytes
+        → IfErr life.after_crash (λ e. (E.state e.disk).IsHonest
+        → IsPassing (E.state left) (E.state e.disk) e.refusal)) }
+    ensures refused { IfErr result (λ e. (D.state e.disk).IsHonest
+        → IsFormatRefusal geometry.now (D.state disk) (D.state e.disk) e.refusal) }
+{
+    let mut server = format_and_open(alloc, disk, geometry)?;
+    let end = serve(alloc, reader, writer, &mut server, reads);
+    let after_crash = first_turn(alloc, left);
+    Ok(ServedLife {
+        disk: server.into_disk(),
+        end,
+        after_crash,
+    })
+}

@@ -1,0 +1,33 @@
+//! Which program this is.
+
+use std::env::current_exe;
+use std::fs::read_to_string;
+use std::io::{self, Write};
+
+/// The version, as it is printed.
+const VERSION: &str = "motcar 0.2.0\n";
+
+/// Where an installation notes the version, the commit and the toolchain that proved it: from the
+/// folder of the program on.
+const NOTE: &str = "../share/motcar/VERSION";
+
+/// Prints the version, and below it what the note of the installation tells of this version. No
+/// constant of the program could tell that, since it is known once the program was proved and built.
+pub(crate) fn print_version<W: Write>(rt: &HostRuntime, writer: &mut W) -> io::Result<()> {
+    if let Ok(note) = read_note(rt) {
+        if note.as_str().starts_with(VERSION) {
+            writer.write_all(note.as_str().as_bytes())?;
+            return writer.flush();
+        }
+    }
+    writer.write_all(VERSION.as_bytes())?;
+    writer.flush()
+}
+
+/// The note that stands beside the program.
+fn read_note(rt: &HostRuntime) -> io::Result<String> {
+    let mut path = current_exe(rt)?;
+    path.pop();
+    let path = path.join(rt.alloc(), NOTE)?;
+    read_to_string(rt, path.as_str())
+}
