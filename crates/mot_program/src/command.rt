@@ -10,6 +10,7 @@ use std::alloc::{AllocError, Global};
 /// What the top help says below the list of commands.
 const NOTES: &str = "\
 Options of memory and format: --objects N, --data N, --segment N, --address N, --packet N
+Option of format: --after N
 
 On air: motcar play DISK PACKETS, motcar sync DISK DIR, motcar export DISK (--help of each tells more)
 motcar --version tells the version, the commit and the toolchain that proved it.
@@ -64,7 +65,12 @@ fn format<'a>(alloc: Global) -> Result<Command<'a>, AllocError>
     ensures local { IfOk result (λ command. (out-Command command).has_globals ≡ false) }
 {
     let about = "Make a disk, and its file where there is none";
-    add_options(alloc, on_disk(alloc, "format", about)?)
+    let after = option(
+        alloc,
+        "after",
+        "Transport id behind which the ids begin, 0 to 65535 [default: 0]",
+    );
+    add_options(alloc, on_disk(alloc, "format", about)?)?.arg(after)
 }
 
 /// A command on the file of a disk.
