@@ -84,7 +84,7 @@ fn folder<'a>(alloc: Global) -> Arg<'a>
     Arg::new(alloc, "folder")
         .long("folder")
         .value_name("DIR")
-        .help("Make the carousel equal to this folder, at first and then every 1000 packets")
+        .help("Make the carousel equal to this folder, at first and then between turns")
         .action(ArgAction::Set)
 }
 

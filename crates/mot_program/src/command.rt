@@ -17,8 +17,8 @@ motcar --version tells the version, the commit and the toolchain that proved it.
 
 The lines that motcar reads and its replies are told in docs/FORMATS.md, how to run it in
 docs/OPERATING.md.
-Exit status: 0 where all was done that was asked for, 1 after a refusal that is printed to
-standard error, 2 where a word is wrong.";
+Exit status: 0 where all was done that was asked for, 1 after a refusal, which standard error or
+the log of sync tells, 2 where a word is wrong.";
 
 /// The program's command line.
 pub(crate) fn command<'a>(alloc: Global) -> Result<Command<'a>, AllocError>
