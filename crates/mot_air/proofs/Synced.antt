@@ -1,19 +1,20 @@
 -- Making a disk's carousel equal to a folder, from the disk's opening on.
 use Rattle.std.proofs.Common.{◌≡◌, ◌∙◌, ◌≤◌, ℕ, Bool, true, false, List, [], ◌∷◌, ◌++◌, length}
 use Rattle.std.proofs.Common.{Option, Some, None, Result, Ok, Err, refl, sym, ap, subst, arith, append-nil}
-use Rattle.std.specs.Prelude.{IfErr, IfOk, IsFalse}
+use Rattle.std.specs.Prelude.{IfErr, IfOk, IsFalse, OnOk}
 use Rattle.disk_store.specs.Disk.{State, IsHonestDisk, IsStill, KeepsLength}
 use Rattle.mot_air.specs.Inner.Looked.{LooksAndTells}
 use Rattle.mot_air.specs.Inner.Looked as looks
 use Rattle.mot_air.specs.Syncing.{HasSynced, HasUpdated, IsBrokenOff, IsEqual, StopsSyncing, Syncs}
 use Rattle.mot_air.specs.Syncing.{broken, untold, stopped}
 use Rattle.mot_air.specs.Syncing as synced
-use Rattle.mot_air.proofs.Opened.{AllAre, opened_holds, opened_leaves}
+use Rattle.mot_air.proofs.Opened.{AllAre, breaks_off, opened_holds, opened_leaves}
 use Rattle.mot_base.specs.declared.geometry.Geometry.{Geometry}
 use Rattle.mot_base.specs.declared.geometry.TheConstants.{MAX_OBJECTS}
 use Rattle.mot_base.specs.declared.refusal.Refusal.{Refusal}
 use Rattle.mot_carousel.specs.Carousel.{IsSound, carousel_after}
 use Rattle.mot_carousel.specs.declared.command.Command.{Command}
+use Rattle.mot_feed.specs.Feeding.{IsFeedFault}
 use Rattle.mot_folder.specs.Looked.{HasLookedAtFolder, listed, unlisted}
 use Rattle.mot_journal.specs.Geometry.{is_valid}
 use Rattle.mot_journal.specs.Image.{Standing}
@@ -24,6 +25,7 @@ use Rattle.mot_server.proofs.Laws.{valid_is}
 use Rattle.mot_server.specs.Runs.{accepted_commands}
 use Rattle.mot_server.specs.Server.{ServerView}
 use Rattle.mot_update.proofs.Made.{made}
+use Rattle.mot_update.specs.Faults.{IsCalm}
 use Rattle.mot_update.specs.Looking.{AreAccepted, HasLooked}
 use Rattle.mot_update.specs.Updating.{updating}
 
@@ -42,6 +44,7 @@ module _ {D : Type 0} (state : D → State) (disk : D) (server new : ServerView 
     (opens : KeepsLength (state disk) (state server.disk))
     (opened : (state server.disk).IsHonest → IsOpened (state disk) (state server.disk) server.view)
     (still : (state server.disk).IsHonest → IsStill (state disk) (state server.disk))
+    (calm : (state server.disk).failures ≡ (state disk).failures)
     (going : IsFalse server.view.halted) (valid : is_valid server.view.journal.geometry ≡ true)
     (keeps : KeepsLength (state server.disk) (state new.disk)) where
   holds_opened : (s : Standing) → (state new.disk).IsHonest → AllAre s (state disk)
@@ -138,12 +141,16 @@ module _ {D : Type 0} (state : D → State) (disk : D) (server new : ServerView 
   synced-cases s all honest each (looks.untold fine is look) = absurd (subst IsFine is tt)
 
   pub syncs : (result : Result Bool Refusal)
+      → OnOk result (IsCalm server new (state server.disk) (state new.disk))
       → ((s : Standing) → Holds server.view s (state server.disk) → (state new.disk).IsHonest
       → LooksAndTells server new (state server.disk) (state new.disk) s result)
       → IfOk result (λ all. Syncs all (state disk) (state new.disk))
-  syncs (Err refusal) looked = tt
-  syncs (Ok all) looked = λ s honest each.
-      synced-cases s all honest each (looked s (holds_opened s honest each) honest)
+  syncs (Err refusal) stays looked = tt
+  syncs (Ok all) stays looked = record {
+    calm = stays.failures ∙ calm;
+    synced = λ s honest each.
+        synced-cases s all honest each (looked s (holds_opened s honest each) honest);
+  }
 
   broken-cases : (s : Standing) (r : Refusal) → (state new.disk).IsHonest → AllAre s (state disk)
       → LooksAndTells server new (state server.disk) (state new.disk) s (Err r)
@@ -156,9 +163,12 @@ module _ {D : Type 0} (state : D → State) (disk : D) (server new : ServerView 
       untold fine (same_err r _ is) (has_synced s fine None honest each look)
 
   pub stops : (result : Result Bool Refusal)
+      → IfErr result (λ r. IsFeedFault server (state server.disk) (state new.disk) r)
       → ((s : Standing) → Holds server.view s (state server.disk) → (state new.disk).IsHonest
       → LooksAndTells server new (state server.disk) (state new.disk) s result)
       → IfErr result (λ r. StopsSyncing r (state disk) (state new.disk))
-  stops (Ok all) looked = tt
-  stops (Err r) looked = stopped (λ s honest each.
+  stops (Ok all) why looked = tt
+  stops (Err r) why looked = stopped
+      (breaks_off server (state disk) (state server.disk) (state new.disk) r going calm why)
+      (λ s honest each.
       broken-cases s r honest each (looked s (holds_opened s honest each) honest))

@@ -1,7 +1,7 @@
 -- What making a disk's carousel equal to a folder does.
 use Rattle.std.specs.Prelude.{◌≡◌, ℕ, Bool, true, false, List, ◌++◌, [], Option, Some, None}
 use Rattle.disk_store.specs.Disk.{State}
-use Rattle.mot_air.specs.Opening.{IsUnopened, Leaves, OfStanding}
+use Rattle.mot_air.specs.Opening.{IsBreak, IsUnopened, Leaves, OfStanding}
 use Rattle.mot_base.specs.declared.refusal.Refusal.{Refusal}
 use Rattle.mot_base.specs.declared.refusal.Refusal.TheVariants.{WriteFault}
 use Rattle.mot_carousel.specs.declared.command.Command.{Command}
@@ -42,9 +42,10 @@ pub data HasSynced (all : Bool) (fault : Option Refusal) (start now : State)
       → HasUpdated s names wanted fault start now
       → (all ≡ true → fault ≡ None → IsEqual s names wanted now) → HasSynced all fault start now s
 
--- a look came to its end; true where nothing was refused
-abbrev pub Syncs : Bool → State → State → Type 0
-Syncs all start now = OfStanding (HasSynced all None start now) start now
+-- a look came to its end, and the disk has not failed; true where nothing was refused
+pub record Syncs (all : Bool) (start now : State) : Type 0 where
+  pub calm : now.failures ≡ start.failures
+  pub synced : OfStanding (HasSynced all None start now) start now
 
 -- the look broke off, or what is told of it could not be written
 pub data IsBrokenOff (refusal : Refusal) (start now : State) (s : Standing) : Type 0 where
@@ -56,4 +57,5 @@ pub data IsBrokenOff (refusal : Refusal) (start now : State) (s : Standing) : Ty
 -- why there is no answer, and what the look had come to
 pub data StopsSyncing (refusal : Refusal) (start now : State) : Type 0 where
   unopened : IsUnopened refusal start now → StopsSyncing refusal start now
-  stopped : OfStanding (IsBrokenOff refusal start now) start now → StopsSyncing refusal start now
+  stopped : IsBreak refusal start now → OfStanding (IsBrokenOff refusal start now) start now
+      → StopsSyncing refusal start now

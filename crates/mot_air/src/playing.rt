@@ -4,8 +4,10 @@ ghost use Rattle.disk_store.specs.Disk.{KeepsLength};
 ghost use Rattle.mot_air.specs.Playing.{Plays, StopsPlaying};
 ghost use Rattle.mot_air.specs.Syncing.{StopsSyncing, Syncs};
 ghost use Rattle.mot_air.specs.Inner.Looked.{LooksAndTells};
+ghost use Rattle.mot_feed.specs.Feeding.{IsFeedFault};
 ghost use Rattle.mot_journal.specs.Image.{Standing};
 ghost use Rattle.mot_repository.specs.Repository.{Holds};
+ghost use Rattle.mot_update.specs.Faults.{IsCalm};
 
 use crate::Ended;
 use disk_store::Disk;
@@ -108,6 +110,10 @@ fn look_and_tell<T: Files<File = File>, D: Disk, L: Write>(
     log: &mut L,
 ) -> Result<bool, Refusal>
     ensures keeps { KeepsLength (D.state server.old.disk) (D.state server.new.disk) }
+    ensures calm { OnOk result
+        (IsCalm server.old server.new (D.state server.old.disk) (D.state server.new.disk)) }
+    ensures fault { IfErr result (λ r. IsFeedFault server.old
+        (D.state server.old.disk) (D.state server.new.disk) r) }
     ensures looked { (s : Standing) → Holds server.old.view s (D.state server.old.disk)
         → (D.state server.new.disk).IsHonest
         → LooksAndTells server.old server.new (D.state server.old.disk)

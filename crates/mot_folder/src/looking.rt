@@ -4,6 +4,7 @@ ghost use Rattle.disk_store.specs.Disk.{KeepsLength};
 ghost use Rattle.mot_folder.specs.Looked.{HasLookedAtFolder};
 ghost use Rattle.mot_journal.specs.Image.{Standing};
 ghost use Rattle.mot_repository.specs.Repository.{Holds};
+ghost use Rattle.mot_update.specs.Faults.{TellsFaults};
 ghost use Rattle.mot_update.specs.HasRun.{fault_of};
 
 use crate::folder::Folder;
@@ -34,6 +35,8 @@ pub fn look_at_folder<T: Files<File = File>, D: Disk>(
 ) -> Result<(), Refusal>
     ensures keeps { KeepsLength (D.state server.old.disk) (D.state server.new.disk) }
     ensures later { (D.state server.old.disk).failures ≤ (D.state server.new.disk).failures }
+    ensures faults { TellsFaults server.old server.new
+        (D.state server.old.disk) (D.state server.new.disk) result }
     ensures looked { (s : Standing) → Holds server.old.view s (D.state server.old.disk)
         → (D.state server.new.disk).IsHonest
         → HasLookedAtFolder server.old server.new (D.state server.old.disk)

@@ -22,8 +22,8 @@ returns-clause-done g c =
     subst (λ d. IfOk result (λ all. Syncs all (state c.args.disk) (state d)))
     (sym c.into_disk.ensures)
     (syncs state c.args.disk c.in-Ok.server c.look_and_tell-result.new.server g.met.D.Disk.sound
-    opens.keeps opens.opened opens.still opens.going c.geometry.ensures.valid looks.keeps result
-    looks.looked)
+    opens.keeps opens.opened opens.still opens.calm opens.going c.geometry.ensures.valid looks.keeps result
+    looks.calm looks.looked)
 
 pub returns-clause-refused : goal.returns-clause-refused
 returns-clause-refused g c =
@@ -34,5 +34,5 @@ returns-clause-refused g c =
     subst (λ d. IfErr result (λ r. StopsSyncing r (state c.args.disk) (state d)))
     (sym c.into_disk.ensures)
     (stops state c.args.disk c.in-Ok.server c.look_and_tell-result.new.server g.met.D.Disk.sound
-    opens.keeps opens.opened opens.still opens.going c.geometry.ensures.valid looks.keeps result
-    looks.looked)
+    opens.keeps opens.opened opens.still opens.calm opens.going c.geometry.ensures.valid looks.keeps result
+    looks.fault looks.looked)

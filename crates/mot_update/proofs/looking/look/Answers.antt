@@ -35,7 +35,7 @@ returns-in_err-withdraw_these-clause-looked g c = λ s holds honest.
     let are = withdrawals-are names old.view s holds.agrees
     ∙ ap (λ (k : Carousel). withdraw_all (unknown_names names k.objects.items))
     (sym c.carousel.ensures.value)
-    ∙ ap withdraw_all (sym c.in_ok-names.ensures ∙ sym c.deref.ensures.value) in
+    ∙ ap withdraw_all (sym c.in_ok-names.ensures.names ∙ sym c.deref.ensures.value) in
     let same = same_error c.from_residual-in_err-withdraw_these.result
     c.in_err-withdraw_these.field-0.0 c.from_residual-in_err-withdraw_these.ensures.1 in
     rw same
@@ -59,7 +59,7 @@ returns-clause-looked g c = λ s holds honest.
     let are = withdrawals-are names old.view s holds.agrees
     ∙ ap (λ (k : Carousel). withdraw_all (unknown_names names k.objects.items))
     (sym c.carousel.ensures.value)
-    ∙ ap withdraw_all (sym c.in_ok-names.ensures ∙ sym c.deref.ensures.value) in
+    ∙ ap withdraw_all (sym c.in_ok-names.ensures.names ∙ sym c.deref.ensures.value) in
     look_on old mid new (state old.disk) (state mid.disk) (state new.disk) s names
     c.deref.result.now (g.S.Source.place c.args.source.now) (given c.args.source.now)
     (given c.withdraw_these.new.source) (given c.settle_all.new.source)

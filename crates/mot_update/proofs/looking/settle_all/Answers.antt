@@ -1,6 +1,7 @@
 use Rattle.std.proofs.Common.{◌≡◌, ◌∙◌, ◌≤◌, ◌<◌, length, Some, refl, sym, subst, arith}
 use Rattle.std.specs.Prelude.{slice_get}
 use Rattle.mot_server.proofs.Laws.{keeps_on}
+use Rattle.mot_update.proofs.Faults.{calm_here, calm_on, fault_on}
 use Rattle.mot_update.proofs.Looks.{accepted_settled, gives_nil, settled_all, settled_fault}
 use Rattle.mot_update.proofs.Looks.{settled_more, settled_none}
 use Rattle.mot_update.proofs.Runs.{same_error}
@@ -13,6 +14,7 @@ loop-wanted-init g c =
     record {
       keeps = record { len = refl; was_honest = λ honest. honest };
       later = omega arith;
+      calm = calm_here c.args.server.now state;
       same = refl;
       so_far = λ s holds honest.
           settled_none c.args.server.now state s (g.S.Source.names c.args.source.now)
@@ -60,6 +62,20 @@ returns-in_err-settled-clause-settled g c = λ s holds honest.
     next.gives (gives_nil (given c.next.new.self)) (is.so_far s holds was) _
     (g.S.Source.is_fine c.next.new.self) c.in_err-settled.field-0.0 (λ t held. two.run t held honest))
 
+pub returns-in_default-clause-faults : goal.returns-in_default-clause-faults
+returns-in_default-clause-faults g c = c.loop-wanted.invariant.calm
+
+pub returns-in_err-settled-clause-faults : goal.returns-in_err-settled-clause-faults
+returns-in_err-settled-clause-faults g c =
+    let state = g.D.Disk.state in
+    let old = c.args.server.now in
+    let mid = c.loop-wanted.server in
+    let new = c.settle.new.server in
+    let refusal = c.in_err-settled.field-0.0 in
+    rw (same_error c.from_residual.result refusal c.from_residual.ensures.1)
+    (fault_on old mid (state old.disk) (state mid.disk) (state new.disk) refusal
+    c.loop-wanted.invariant.calm c.in_err-settled.ensures.faults)
+
 pub loop-wanted-preserved : goal.loop-wanted-preserved
 loop-wanted-preserved g c =
     let state = g.D.Disk.state in
@@ -76,6 +92,8 @@ loop-wanted-preserved g c =
     record {
       keeps = keeps_on (state old.disk) (state mid.disk) (state new.disk) is.keeps two.keeps;
       later = omega (arith, is.later, two.later);
+      calm = calm_on old mid new (state old.disk) (state mid.disk) (state new.disk) is.calm
+          two.faults;
       same = told.same ∙ next.same ∙ is.same;
       so_far = λ s holds honest.
           let was = two.keeps.was_honest honest in

@@ -1,8 +1,11 @@
 use Rattle.std.proofs.Common.{◌∙◌, [], ◌∷◌, Ok, None, Some, refl, subst, arith}
+use Rattle.mot_base.specs.declared.refusal.Refusal.TheVariants.{OutOfMemory}
 use Rattle.mot_carousel.specs.declared.command.Command.TheVariants.{Withdraw}
 use Rattle.mot_server.specs.Attempts.{marks_of}
 use Rattle.mot_server.proofs.Laws.{keeps_on}
+use Rattle.mot_update.specs.Faults.{no_memory}
 use Rattle.mot_update.specs.HasRun.{HasRun}
+use Rattle.mot_update.proofs.Faults.{calm_here, calm_on, fault_on}
 use Rattle.mot_update.proofs.Looks.{accepted_one, err_of, gives_kept, gives_nil, withdrew_all}
 use Rattle.mot_update.proofs.Looks.{withdrew_cut}
 use Rattle.mot_update.proofs.Looks.{withdrew_fault, withdrew_next, withdrew_none}
@@ -16,6 +19,7 @@ loop-name-init g c =
     record {
       keeps = record { len = refl; was_honest = λ honest. honest };
       later = omega arith;
+      calm = calm_here c.args.server.now state;
       same = refl;
       gives = gives_nil (g.S.Source.given c.args.source.now);
       run = λ s holds honest.
@@ -55,6 +59,30 @@ returns-in_err-attempt-clause-runs g c = λ s holds honest.
     (λ t held. subst (λ n. HasRun mid new (state mid.disk) (state new.disk) t (Withdraw n ∷ []) []
     (Some c.in_err-attempt.field-0.0)) c.in_ok-clone.ensures.cases (two.run t held)))
 
+pub returns-in_err-clone-clause-faults : goal.returns-in_err-clone-clause-faults
+returns-in_err-clone-clause-faults g c =
+    let state = g.D.Disk.state in
+    let old = c.args.server.now in
+    let mid = c.loop-name.server in
+    rw (same_error c.from_residual.result OutOfMemory c.from_residual.ensures.1)
+    (fault_on old mid (state old.disk) (state mid.disk) (state mid.disk) OutOfMemory
+    c.loop-name.invariant.calm (no_memory refl refl))
+
+pub returns-in_err-attempt-clause-faults : goal.returns-in_err-attempt-clause-faults
+returns-in_err-attempt-clause-faults g c =
+    let state = g.D.Disk.state in
+    let old = c.args.server.now in
+    let mid = c.loop-name.server in
+    let new = c.withdraw.new.server in
+    let refusal = c.in_err-attempt.field-0.0 in
+    rw (same_error c.from_residual-in_err-attempt.result refusal
+    c.from_residual-in_err-attempt.ensures.1)
+    (fault_on old mid (state old.disk) (state mid.disk) (state new.disk) refusal
+    c.loop-name.invariant.calm c.in_err-attempt.ensures.faults)
+
+pub returns-clause-faults : goal.returns-clause-faults
+returns-clause-faults g c = c.loop-name.invariant.calm
+
 pub loop-name-preserved : goal.loop-name-preserved
 loop-name-preserved g c =
     let state = g.D.Disk.state in
@@ -66,6 +94,8 @@ loop-name-preserved g c =
     record {
       keeps = keeps_on (state old.disk) (state mid.disk) (state new.disk) is.keeps two.keeps;
       later = omega (arith, is.later, two.later);
+      calm = calm_on old mid new (state old.disk) (state mid.disk) (state new.disk) is.calm
+          two.faults;
       same = c.withdrew.ensures.same ∙ is.same;
       gives = gives_kept (g.S.Source.given c.args.source.now) (g.S.Source.given c.loop-name.source)
           (g.S.Source.given c.withdrew.new.self) [] is.gives c.withdrew.ensures.gives;
