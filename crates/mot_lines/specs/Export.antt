@@ -8,6 +8,7 @@ use Rattle.mot_carousel.specs.Carousel.{Carousel, Object}
 use Rattle.mot_carousel.specs.Content.{ContentNumbers}
 use Rattle.mot_carousel.specs.Rebuilding.{rebuilding}
 use Rattle.mot_carousel.specs.Rules.{AllKeepRules}
+use Rattle.mot_carousel.specs.declared.command.Command as command
 use Rattle.mot_lines.specs.Line.{line_of}
 use Rattle.mot_lines.specs.Lines.{lines_of}
 use Rattle.mot_lines.specs.Listing.{mime_word}
@@ -40,9 +41,11 @@ period_line n = if n == 0 then [] else codes "period " ++ decimal n ++ 10 ∷ []
 abbrev pub export_text : Carousel → List ℕ
 export_text c = flat_map put_line c.objects ++ period_line c.period
 
--- read as the lines of an input, the text asks for the commands that rebuild the carousel, one a
--- line, in order, and for nothing else
+-- the lines of the input are these commands, one a line, in order, and nothing else
+abbrev pub AsksForJust : List ℕ → List command.Command → Type 0
+AsksForJust input commands = map line_of (lines_of input) ≡ map (λ k. Ok (Command k)) commands
+
+-- the text asks for the commands that rebuild the carousel
 abbrev pub ExportsAskForTheirCommands : Type 0
 ExportsAskForTheirCommands =
-    (c : Carousel) → AllKeepRules c
-    → map line_of (lines_of (export_text c)) ≡ map (λ k. Ok (Command k)) (rebuilding c)
+    (c : Carousel) → AllKeepRules c → AsksForJust (export_text c) (rebuilding c)
