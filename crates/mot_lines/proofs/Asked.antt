@@ -35,7 +35,7 @@ bound_ok x f v r (inr h) k = absurd (cc)
 
 -- ---- names
 
-name_given : (bytes : List ℕ) → IsName bytes → is_name bytes ≡ true
+pub name_given : (bytes : List ℕ) → IsName bytes → is_name bytes ≡ true
 name_given bytes n = rw (
   lt-ltb 0 (length bytes) n.some,
   le-leb (length bytes) 255 n.short,
@@ -67,7 +67,7 @@ name_answer bytes (Err r) v i e =
 
 -- ---- MIME types
 
-mime_given : (bytes : List ℕ) → IsMime bytes → is_mime bytes ≡ true
+pub mime_given : (bytes : List ℕ) → IsMime bytes → is_mime bytes ≡ true
 mime_given bytes m = rw (
   lt-ltb 0 (length bytes) m.some,
   le-leb (length bytes) 64 m.short,
