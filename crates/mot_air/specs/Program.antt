@@ -80,7 +80,7 @@ module _ {S : Type 0} {start : Ghosts S} where
   -- the task was done
   abbrev pub Does : Task → AirDisk S start → (old new : Option (List ℕ)) → Type 0
   Does (Play disk packets folder turns) used old new = PlaysTo packets.now turns used
-  Does (Sync disk folder) used old new = OnOpened (Syncs true) used
+  Does (Sync disk folder) used old new = OnOpened (Syncs true folder.now old new) used
   Does (Export disk) used old new = OnOpened (Exports old new) used
 
   -- the task was begun, and this refusal ended it; or a file was refused, with none
@@ -89,8 +89,10 @@ module _ {S : Type 0} {start : Ghosts S} where
   DoesInPart (Play disk packets folder turns) None used old new = ⊥
   DoesInPart (Play disk packets folder turns) (Some r) used old new =
       StopsPlayingTo packets.now turns r used
-  DoesInPart (Sync disk folder) None used old new = OnOpened (Syncs false) used
-  DoesInPart (Sync disk folder) (Some r) used old new = OnOpened (StopsSyncing r) used
+  DoesInPart (Sync disk folder) None used old new =
+      OnOpened (Syncs false folder.now old new) used
+  DoesInPart (Sync disk folder) (Some r) used old new =
+      OnOpened (StopsSyncing r folder.now) used
   DoesInPart (Export disk) None used old new = ⊥
   DoesInPart (Export disk) (Some r) used old new = OnOpened (StopsExporting r old new) used
 

@@ -218,10 +218,11 @@ fn sync_file<B: Start, W: Write>(
     start: B,
     log: &mut W,
 ) -> Finished<B>
-    ensures done { IfOk result.result (λ all. OnOpened (Syncs all) result.disk) }
+    ensures done { IfOk result.result (λ all. OnOpened (Syncs all folder.now
+        (W.contents log.old) (W.contents log.new)) result.disk) }
     ensures refused { IfErr result.result (λ r. ((r ≡ DeviceFault)
         × IsUntold result.disk (W.contents log.old) (W.contents log.new))
-        ⊎ OnOpened (StopsSyncing r) result.disk) }
+        ⊎ OnOpened (StopsSyncing r folder.now) result.disk) }
 {
     match FileDiskFrom::open_from(rt, path, start) {
         Ok(disk) => Finished::of_file(sync_disk(rt, alloc, disk, folder, log)),

@@ -9,6 +9,7 @@ ghost use Rattle.mot_update.specs.Faults.{TellsFaults};
 ghost use Rattle.mot_update.specs.HasRun.{fault_of};
 ghost use Rattle.mot_update.specs.Looking.{Gives, HasLooked, HasSettled, RunsThrough};
 ghost use Rattle.mot_update.specs.Looking.{unknown_names, withdraw_all};
+ghost use Rattle.mot_update.specs.Told.{Tells};
 
 use crate::{Source, settle, withdraw};
 use disk_store::Disk;
@@ -33,9 +34,11 @@ pub fn look<D: Disk, S: Source>(
         (D.state server.old.disk) (D.state server.new.disk) result }
     ensures looked { (s : Standing) → Holds server.old.view s (D.state server.old.disk)
         → (D.state server.new.disk).IsHonest
-        → HasLooked server.old server.new (D.state server.old.disk) (D.state server.new.disk) s
+        → (looked : HasLooked server.old server.new
+        (D.state server.old.disk) (D.state server.new.disk) s
         (S.names source.old) (S.place source.old) (S.given source.old) (S.given source.new)
-        (S.is_fine source.new) (fault_of result) }
+        (S.is_fine source.new) (fault_of result))
+        × Tells (S.was_told source.old) (S.was_told source.new) looked.runs.answers }
     ensures fine { S.is_fine source.new ≡ true → S.is_fine source.old ≡ true }
 {
     let names = names_to_withdraw(alloc, server.carousel(), source)?;
@@ -78,8 +81,10 @@ fn withdraw_these<D: Disk, S: Source>(
     ensures gives { Gives (S.given source.old) (S.given source.new) [] }
     ensures runs { (s : Standing) → Holds server.old.view s (D.state server.old.disk)
         → (D.state server.new.disk).IsHonest
-        → RunsThrough server.old server.new (D.state server.old.disk) (D.state server.new.disk) s
-        (withdraw_all names.now) (S.is_fine source.new) (fault_of result) }
+        → (runs : RunsThrough server.old server.new
+        (D.state server.old.disk) (D.state server.new.disk) s
+        (withdraw_all names.now) (S.is_fine source.new) (fault_of result))
+        × Tells (S.was_told source.old) (S.was_told source.new) runs.answers }
     ensures fine { S.is_fine source.new ≡ true → S.is_fine source.old ≡ true }
 {
     for name in names {
@@ -102,9 +107,11 @@ fn settle_all<D: Disk, S: Source>(
         (D.state server.old.disk) (D.state server.new.disk) result }
     ensures settled { (s : Standing) → Holds server.old.view s (D.state server.old.disk)
         → (D.state server.new.disk).IsHonest
-        → HasSettled server.old server.new (D.state server.old.disk) (D.state server.new.disk) s
+        → (settled : HasSettled server.old server.new
+        (D.state server.old.disk) (D.state server.new.disk) s
         (S.names source.old) (S.place source.old) (S.given source.old) (S.given source.new)
-        (S.is_fine source.new) (fault_of result) }
+        (S.is_fine source.new) (fault_of result))
+        × Tells (S.was_told source.old) (S.was_told source.new) settled.runs.answers }
     ensures fine { S.is_fine source.new ≡ true → S.is_fine source.old ≡ true }
 {
     loop {
