@@ -1,5 +1,5 @@
 -- The rules that all objects of a carousel keep, whatever commands made it (own profile).
-use Rattle.std.specs.Prelude.{⊤, ℕ, ◌<◌, ◌≤◌, All, length, MatchOption}
+use Rattle.std.specs.Prelude.{⊤, ◌<◌, ◌≤◌, All, length, MatchOption}
 use Rattle.std.specs.List.{AllByRecursion}
 use Rattle.mot_carousel.specs.Carousel.{Carousel, Object}
 use Rattle.mot_carousel.specs.Mime.{IsMime}

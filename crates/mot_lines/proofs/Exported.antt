@@ -1,7 +1,7 @@
 -- The lines that rebuild a carousel, read.
-use Rattle.std.proofs.Common.{◌≡◌, ℕ, zero, suc, ◌+◌, ◌^◌, ◌<◌, ◌≤◌, Bool, true, false, cond, List, [], ◌∷◌, ◌++◌, length, map}
+use Rattle.std.proofs.Common.{◌≡◌, ℕ, zero, suc, ◌^◌, ◌<◌, ◌≤◌, Bool, true, false, cond, List, [], ◌∷◌, ◌++◌, length, map}
 use Rattle.std.proofs.Common.{Option, Some, None, Result, Ok, refl, sym, ap, ◌∙◌, subst, arith, append_assoc, length-append, rules}
-use Rattle.std.proofs.lemmas.Bool.{le-leb, lt-leb, false_from_ne_true}
+use Rattle.std.proofs.lemmas.Bool.{le-leb, false_from_ne_true}
 use Rattle.std.proofs.lemmas.Bool.Decides.{nat_tests}
 use Rattle.std.proofs.lemmas.Fmt.{decimal_nonempty, length-decimal-le, digits_decimal, digits_value-decimal}
 use Rattle.std.proofs.lemmas.List.Elements.{All-append, All-cons, All-head, All-nil, All-tail, All-weaker}
@@ -12,25 +12,24 @@ use Rattle.std.proofs.lemmas.Str.Parse.{IsNumeralModel, numerals_by_weight}
 use Rattle.std.specs.Char.{is_ascii_digit}
 use Rattle.std.specs.Fmt.{decimal}
 use Rattle.std.specs.List.{AllByRecursion, flat_map, list_all}
-use Rattle.std.specs.Prelude.{◌&&◌, ◌==◌, ◌≢◌, ⊤, All, MatchOption, bytes_eq, codes, nat_eq, nat_le, nat_lt, not}
+use Rattle.std.specs.Prelude.{◌&&◌, ◌==◌, ⊤, All, MatchOption, bytes_eq, codes, nat_eq, nat_lt, not}
 use Rattle.hex.proofs.HexLemmas.{decode_of-encode_lower, decode_of-ok, length-encode_with}
 use Rattle.hex.specs.Hex.{IsBytes, decode_of, encode_lower, is_hex_digit, lower_digits}
-use Rattle.mot_base.specs.Reading.{is_empty}
 use Rattle.mot_base.specs.declared.refusal.Refusal.{Refusal}
-use Rattle.mot_carousel.specs.Carousel.{Carousel, Object}
+use Rattle.mot_carousel.specs.Carousel.{Object}
 use Rattle.mot_carousel.specs.Content.{ContentNumbers}
 use Rattle.mot_carousel.specs.Mime.{IsMime}
 use Rattle.mot_carousel.specs.Name.{IsName}
 use Rattle.mot_carousel.specs.Rebuilding.{put_again, set_period_again}
-use Rattle.mot_carousel.specs.Rules.{AllKeepRules, KeepsRules}
+use Rattle.mot_carousel.specs.Rules.{KeepsRules}
 use Rattle.mot_carousel.specs.declared.command.Command as command
-use Rattle.mot_carousel.specs.declared.command.Command.TheVariants.{Put, Period}
+use Rattle.mot_carousel.specs.declared.command.Command.TheVariants.{Period}
 use Rattle.mot_lines.specs.declared.line.Line.{Line}
 use Rattle.mot_lines.specs.declared.line.Line.TheVariants.{Command}
 use Rattle.mot_lines.specs.Export.{ExportsAskForTheirCommands, front_words, period_line, put_line}
-use Rattle.mot_lines.specs.Fields.{body_in, content_in, mime_in, name_in, period_in}
+use Rattle.mot_lines.specs.Fields.{body_in, content_in, mime_in, name_in}
 use Rattle.mot_lines.specs.Inner.LineEnd.{HasNoLineEnd}
-use Rattle.mot_lines.specs.Line.{◌>>=◌, description_of, line_of, period_of, put_of, request_of}
+use Rattle.mot_lines.specs.Line.{description_of, line_of, period_of, put_of, request_of}
 use Rattle.mot_lines.specs.Lines.{all_but_last, last_of, lines_of, pieces_between, rest_of, unless_empty, whole_lines}
 use Rattle.mot_lines.specs.Listing.{mime_word}
 use Rattle.mot_lines.specs.Words.{decimal_value, number_of_word, words_of}
@@ -206,10 +205,19 @@ module _ (o : Object) (is : KeepsRules o) where
   subtype-few = let h : o.content.subtype ≤ 511 = is.content.1 in omega (arith, h)
 
   put-printed : AllByRecursion IsPrinted (other_words o)
-  put-printed =
-      (name-printed o.name is.name, (number-printed o.content.content_type kind-few,
-      (number-printed o.content.subtype subtype-few, (mime-printed o.mime is.mime,
-      (body-printed o.body (bytes-at o.body is.bytes), tt)))))
+  put-printed = (
+    name-printed o.name is.name,
+    (
+      number-printed o.content.content_type kind-few,
+      (
+        number-printed o.content.subtype subtype-few,
+        (
+          mime-printed o.mime is.mime,
+          (body-printed o.body (bytes-at o.body is.bytes), tt),
+        ),
+      ),
+    ),
+  )
 
   put-words : words_of (put_words o) ≡ codes "put" ∷ other_words o
   put-words =

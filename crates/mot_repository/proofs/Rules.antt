@@ -1,16 +1,15 @@
 -- What an image stands for keeps the rules of objects.
-use Rattle.std.proofs.Common.{◌≡◌, ℕ, ◌+◌, ◌-◌, ◌<◌, ◌≤◌, List, [], ◌∷◌, length, take, drop, map, Ok, subst, arith}
+use Rattle.std.proofs.Common.{◌≡◌, ℕ, ◌+◌, ◌-◌, ◌<◌, ◌≤◌, List, [], ◌∷◌, length, drop, map, Ok, subst, arith}
 use Rattle.std.proofs.lemmas.List.{length-take, length-drop}
 use Rattle.std.proofs.lemmas.List.Elements.{All-drop, All-take}
 use Rattle.std.specs.List.{AllByRecursion}
 use Rattle.std.specs.Prelude.{All}
 use Rattle.mot_base.specs.Geometry.{area_start, length_of}
 use Rattle.mot_base.specs.declared.geometry.Geometry.{Geometry}
-use Rattle.mot_carousel.specs.Carousel.{Object}
 use Rattle.mot_carousel.specs.Rules.{AllKeepRules, KeepsRules}
 use Rattle.mot_carousel.specs.Stands.{object_of}
 use Rattle.mot_journal.proofs.Laws.{geometry_read}
-use Rattle.mot_journal.specs.Catalogue.{Catalogue, Placed, body_in, catalogue_after, catalogue_of, new_catalogue}
+use Rattle.mot_journal.specs.Catalogue.{Catalogue, Placed, body_in, catalogue_of, new_catalogue}
 use Rattle.mot_journal.specs.Image.{Standing, area_of, stands_for}
 use Rattle.mot_journal.specs.declared.layout.Layout.{Layout}
 use Rattle.mot_journal.specs.declared.record.Record.{Record}
