@@ -50,20 +50,25 @@ kept_record old next command start = record {
   action = kept_action old next command start;
 }
 
+-- no slot of the half is closed
+abbrev pub IsFull : JournalView → Type 0
+IsFull j = slot_count j.layout j.geometry ≤ j.count
+
 -- What is prepared for a command: the carousel after it, where its body goes, the record of it, and
--- the records that a full half is rewritten to.
+-- where the half is full the records that it is rewritten to.
 pub record IsPreparedFor (view : RepositoryView) (command : Command) (done : Done)
     (next : Carousel) (from : ℕ) (r : Record) (given : List Record) : Type 0 where
   pub changes : ChangesTo view.carousel view.journal.geometry.objects command next done
   pub lies : LiesAtLeastGap view command from
   pub record_is : r ≡ kept_record view.carousel next command from
-  pub given_is : given ≡ records_of_catalogue (catalogue_in view)
+  pub given_is : IsFull view.journal → given ≡ records_of_catalogue (catalogue_in view)
 
--- each image now has the records from before, or the given ones, and stands for what it stood for
-pub record HasRoom (s : Standing) (records given : List Record) (j : JournalView)
+-- each image now has the records from before, or where the half was full the given ones, and stands
+-- for what it stood for
+pub record HasRoom (s : Standing) (records given : List Record) (was j : JournalView)
     (state : State) : Type 0 where
   pub list : List Record
-  pub one : (list ≡ records) ⊎ (list ≡ given)
+  pub one : (list ≡ records) ⊎ ((list ≡ given) × IsFull was)
   pub holds : (view : RepositoryView) → view.journal ≡ j → IsFalse view.halted → Agrees view s
       → (now : Holds view s state) × (now.records ≡ list)
 
@@ -82,14 +87,8 @@ pub record IsPreparedChange (view : RepositoryView) (command : Command) (done : 
   pub prepared : IsPreparedFor view command done next from r given
   pub extents_are : extents ≡ extents_after (catalogue_in view).objects command from
 
--- what holds of a prepared change on any disk: that its records are sound, and that the body lies
--- on the disk
-pub record IsWritable (j : JournalView) (len at : ℕ) (body : List ℕ) (r : Record)
-    (given : List Record) : Type 0 where
-  pub going : IsFalse j.spent
-  pub long_enough : length_of j.geometry ≤ len
+-- these records can be written into the other half, and leave room there
+pub record CanBeGiven (j : JournalView) (given : List Record) : Type 0 where
   pub some : 0 < length given
   pub few : length given < slot_count j.layout j.geometry
-  pub sound_given : All (λ q. is_sound j.geometry j.layout q ≡ true) given
-  pub sound : is_sound j.geometry j.layout r ≡ true
-  pub within : at + length body ≤ len
+  pub sound : All (λ r. is_sound j.geometry j.layout r ≡ true) given

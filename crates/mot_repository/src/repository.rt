@@ -204,7 +204,8 @@ impl<D: Disk> Repository<D> {
         }
         let geometry = self.journal.geometry();
         let layout = self.journal.layout();
-        prepare_change(alloc, &geometry, layout, &self.inventory, command)
+        let is_full = self.journal.is_full();
+        prepare_change(alloc, &geometry, layout, is_full, &self.inventory, command)
     }
 
     /// Does what was prepared from this repository as it stands. It takes no memory. At
