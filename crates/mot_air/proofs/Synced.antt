@@ -15,7 +15,7 @@ use Rattle.mot_base.specs.declared.refusal.Refusal.{Refusal}
 use Rattle.mot_carousel.specs.Carousel.{IsSound, carousel_after}
 use Rattle.mot_carousel.specs.declared.command.Command.{Command}
 use Rattle.mot_folder.specs.Looked.{HasLookedAtFolder, listed, unlisted}
-use Rattle.mot_journal.specs.Geometry.{is_valid}
+use Rattle.mot_base.specs.Geometry.{is_valid}
 use Rattle.mot_journal.specs.Image.{Standing}
 use Rattle.mot_repository.proofs.Laws.{standings-are_sound}
 use Rattle.mot_repository.specs.Opening.{IsOpened}

@@ -3,7 +3,8 @@ use Rattle.std.specs.Prelude.{◌≡◌, ◌==◌, if◌then◌else◌, ℕ, Lis
 use Rattle.std.specs.Fmt.{decimal}
 use Rattle.std.specs.Io.KnownBytes.{Appends, Keeps}
 use Rattle.std.specs.List.{flat_map}
-use Rattle.disk_store.specs.Disk.{State, IsStill, Rises}
+use Rattle.disk_store.specs.Disk.{State, IsStill}
+use Rattle.disk_store.specs.Failures.{Rises}
 use Rattle.hex.specs.Hex.{encode_lower}
 use Rattle.mot_air.specs.Opening.{IsUnopened, OfStanding}
 use Rattle.mot_base.specs.declared.refusal.Refusal.{Refusal}

@@ -1,4 +1,5 @@
 pub mod Fields
+pub mod Hand
 pub mod Inner
 pub mod Line
 pub mod Lines

@@ -1,7 +1,6 @@
 -- What a change that is prepared for a command is, and what it writes.
-use Rattle.std.specs.Prelude.{◌≡◌, ◌⊎◌, ◌<◌, ◌≤◌, IsFalse, All, Bool, ℕ, ◌+◌, List, [], ◌∷◌, length}
-use Rattle.std.specs.Prelude.{Option, Some, None, true, bytes_eq, if◌then◌else◌}
-use Rattle.disk_store.specs.Disk.{State}
+use Rattle.std.specs.Prelude.{◌≡◌, Bool, ℕ, ◌+◌, List, [], ◌∷◌, length}
+use Rattle.std.specs.Prelude.{Option, Some, None, bytes_eq, if◌then◌else◌}
 use Rattle.mot_carousel.specs.declared.carousel.Carousel.{Carousel}
 use Rattle.mot_carousel.specs.declared.object.Object.{Object}
 use Rattle.mot_carousel.specs.declared.command.Command.{Command}
@@ -10,14 +9,12 @@ use Rattle.mot_carousel.specs.declared.command.Done.{Done}
 use Rattle.mot_journal.specs.declared.record.Record.{Record}
 use Rattle.mot_journal.specs.declared.record.Action.{Action}
 use Rattle.mot_journal.specs.declared.record.Action.TheVariants.{Nothing, Set, Remove}
-use Rattle.mot_base.specs.Geometry.{area_start, length_of}
-use Rattle.mot_journal.specs.Slot.{is_sound, slot_count}
+use Rattle.mot_base.specs.Geometry.{area_start}
 use Rattle.mot_repository.specs.Answers.{ChangesTo}
 use Rattle.mot_repository.specs.Extents.{body_of, LiesAtLeastGap, catalogue_in}
 use Rattle.mot_repository.specs.Laws.{records_of_catalogue, extents_after}
-use Rattle.mot_journal.specs.Image.{Standing}
 use Rattle.mot_journal.specs.Journal.{JournalView}
-use Rattle.mot_repository.specs.Repository.{RepositoryView, Agrees, Holds}
+use Rattle.mot_repository.specs.Repository.{RepositoryView}
 
 -- the first object of this name
 abbrev pub kept_object_named : List ℕ → List Object → Option Object
@@ -59,14 +56,6 @@ pub record IsPreparedFor (view : RepositoryView) (command : Command) (done : Don
   pub record_is : r ≡ kept_record view.carousel next command from
   pub given_is : given ≡ records_of_catalogue (catalogue_in view)
 
--- each image now has the records from before, or the given ones, and stands for what it stood for
-pub record HasRoom (s : Standing) (records given : List Record) (j : JournalView)
-    (state : State) : Type 0 where
-  pub list : List Record
-  pub one : (list ≡ records) ⊎ (list ≡ given)
-  pub holds : (view : RepositoryView) → view.journal ≡ j → IsFalse view.halted → Agrees view s
-      → (now : Holds view s state) × (now.records ≡ list)
-
 -- what a repository keeps in memory, by its parts
 abbrev pub view_with : JournalView → Carousel → List (ℕ × ℕ) → Bool → RepositoryView
 view_with j carousel extents halted =
@@ -81,15 +70,3 @@ pub record IsPreparedChange (view : RepositoryView) (command : Command) (done : 
   pub body_is : body ≡ body_of command
   pub prepared : IsPreparedFor view command done next from r given
   pub extents_are : extents ≡ extents_after (catalogue_in view).objects command from
-
--- what holds of a prepared change on any disk: that its records are sound, and that the body lies
--- on the disk
-pub record IsWritable (j : JournalView) (len at : ℕ) (body : List ℕ) (r : Record)
-    (given : List Record) : Type 0 where
-  pub going : IsFalse j.spent
-  pub long_enough : length_of j.geometry ≤ len
-  pub some : 0 < length given
-  pub few : length given < slot_count j.layout j.geometry
-  pub sound_given : All (λ q. is_sound j.geometry j.layout q ≡ true) given
-  pub sound : is_sound j.geometry j.layout r ≡ true
-  pub within : at + length body ≤ len

@@ -26,11 +26,11 @@ use Rattle.mot_repository.specs.Repository.{IsOf, Holds}
 use Rattle.mot_server.specs.Life.{PlaysAfter}
 use Rattle.mot_server.specs.Runs.{IsAfter, StandsAfterSome}
 use Rattle.mot_server.specs.Server.{ServerView}
-use Rattle.mot_server.proofs.Laws.{after_none, more, none_of, not_halted, plays_after, plays_new}
+use Rattle.mot_server.proofs.Laws.{more, none_of, not_halted, plays_after, plays_new}
 use Rattle.mot_session.specs.Life.{IsKeptFrom, Told, commands_done, commands_failing, done_in}
 use Rattle.mot_session.specs.Life.{failing_in, Tells}
 use Rattle.mot_session.specs.LineByLine.{BreaksOff, ServesEach, ServesOne, ServesSome}
-use Rattle.mot_session.specs.Lives.{LivesOn}
+use Rattle.mot_server.specs.Lives.{LivesOn}
 use Rattle.mot_session.specs.Served.{EndsServing, TakesInput}
 use Rattle.mot_session.specs.Session.{Exchange, Reply, text_of}
 use Rattle.mot_session.specs.Session.{accepted, refused, listing, packets, played, cut_short}

@@ -2,7 +2,6 @@ pub mod Inner
 pub mod Laws
 pub mod Life
 pub mod LineByLine
-pub mod Lives
 pub mod OnAnyDisk
 pub mod Played
 pub mod Raw

@@ -1,17 +1,14 @@
 //! The life of a disk, told of lines: formatted, opened and served; and what a crash at any moment
 //! of that left, opened and played. Input bytes, output bytes and packets are all that is told.
-ghost use Rattle.std.specs.Prelude.{◌≡◌, ◌≤◌, ℕ, List, [], IfOk, IfErr};
-ghost use Rattle.std.specs.Prelude.{◌++◌};
+ghost use Rattle.std.specs.Prelude.{◌≤◌, ◌++◌, ℕ, List, [], IfOk, IfErr};
 ghost use Rattle.disk_store.specs.Disk.{KeepsLength};
 ghost use Rattle.mot_base.specs.declared.geometry.Geometry.{Geometry};
 ghost use Rattle.mot_carousel.specs.declared.command.Command.{Command};
-ghost use Rattle.mot_journal.specs.Journal.{new_standing};
-ghost use Rattle.mot_repository.specs.Repository.{Holds};
 ghost use Rattle.mot_repository.specs.Opening.{IsPassing};
 ghost use Rattle.mot_server.specs.Life.{IsBlank, IsFormatRefusal, PlaysAfter};
+ghost use Rattle.mot_server.specs.Lives.{HasDone, LivesOn};
 ghost use Rattle.mot_server.specs.Playing.{bytes_of_packets};
 ghost use Rattle.mot_session.specs.Life.{IsKeptFrom, Told, Tells, commands_done};
-ghost use Rattle.mot_session.specs.Lives.{HasDone, LivesOn};
 ghost use Rattle.mot_session.specs.Served.{TakesInput};
 
 use crate::{Geometry, MAX_READS, ServeEnd, serve};
@@ -95,8 +92,8 @@ pub struct ServedOn<E: Disk> {
     pub restarted: Result<Restarted<E>, Refused<E>>,
 }
 
-/// One more life: serves the reader's lines on a disk that was formatted here, and that may have
-/// been served and crashed and opened before, any number of times. A crash comes at any moment, as
+/// One more life: serves the reader's lines on a disk that `format_and_open` made, and that may have
+/// been served and crashed and opened by this function since, any number of times. A crash comes at any moment, as
 /// in `format_serve_and_restart`; `left` is any disk that reads as an image which it may have left.
 /// It is opened, and its first turn is played: so it has another life before it.
 ///
@@ -113,11 +110,6 @@ pub fn serve_and_restart<R: Read, W: Write, D: Disk, E: Disk>(
     left: E,
 ) -> ServedOn<E>
     requires { reads ≤ MAX_READS }
-
-    // formatting and opening a disk begins it
-    ensures begins { (g : Geometry)
-        → Holds server.old.view (new_standing g) (D.state server.old.disk)
-        → HasDone D.state g [] server.old }
 
     // The lines, their replies, and what a crash leaves of their commands: first one at some moment
     // since the call began, then one that comes once it has returned.

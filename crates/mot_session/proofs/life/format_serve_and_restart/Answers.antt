@@ -1,8 +1,8 @@
-use Rattle.std.proofs.Common.{[], ap, subst}
+use Rattle.std.proofs.Common.{[], subst}
 use Rattle.mot_journal.specs.Journal.{new_standing}
 use Rattle.mot_server.specs.Playing.{bytes_of_packets}
 use Rattle.mot_server.proofs.Laws.{after_none, if_err, passing}
-use Rattle.mot_session.proofs.Lives.{life_after, life_kept, served_so, ServedSo, some_of}
+use Rattle.mot_session.proofs.Lives.{life_after, life_kept, served_so, some_of}
 use Rattle.mot_session.proofs.life.format_serve_and_restart.Goals as goal
 
 pub returns-clause-told : goal.returns-clause-told

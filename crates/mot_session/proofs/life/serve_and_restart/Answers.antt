@@ -1,17 +1,13 @@
-use Rattle.std.proofs.Common.{[], ◌++◌}
+use Rattle.std.proofs.Common.{◌++◌}
 use Rattle.mot_journal.specs.Journal.{new_standing}
 use Rattle.mot_server.specs.Playing.{bytes_of_packets}
-use Rattle.mot_server.proofs.Laws.{after_none, if_err, passing}
+use Rattle.mot_server.proofs.Laws.{if_err, passing}
 use Rattle.mot_session.specs.Life.{commands_done}
-use Rattle.mot_session.specs.Lives.{LivesOn}
+use Rattle.mot_server.specs.Lives.{LivesOn}
 use Rattle.mot_session.specs.Stored.{HoldsSince}
 use Rattle.mot_session.proofs.Lives.{kept_first, kept_so, lives_on, served_so, some_of}
 use Rattle.mot_session.proofs.life.serve_and_restart.Goals as goal
 use Rattle.std.specs.Prelude.{IfOk}
-
-pub returns-clause-begins : goal.returns-clause-begins
-returns-clause-begins g c = λ geometry holds.
-    record { standing = new_standing geometry; after = after_none (new_standing geometry); holds = holds }
 
 pub returns-clause-in_a_row : goal.returns-clause-in_a_row
 returns-clause-in_a_row g c = λ geometry done has honest.
