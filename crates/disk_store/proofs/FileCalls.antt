@@ -7,7 +7,8 @@ use Rattle.std.proofs.Math.Seq.{drop-append_seam, take-append_seam}
 use Rattle.std.proofs.lemmas.List.Elements.{All-append, All-take, All-drop, All-replicate}
 use Rattle.std.specs.List.{All}
 use Rattle.disk_store.specs.Content.{Content, at_start, after_overwrite, after_write, after_touch, after_sync, replay, IsLooseIn}
-use Rattle.disk_store.specs.Calls.{Call, opening_calls, making_calls, first_bytes, after_call, content_after, no_content, IsRight, AreRight, HasBegun}
+use Rattle.disk_store.specs.Calls.{Call, opening_calls, making_calls, first_bytes, after_call, content_after, no_content, IsRight, AreRight}
+use Rattle.disk_store.specs.Inner.Noting.{HasBegun}
 use Rattle.disk_store.proofs.Log.{replay_push}
 use Rattle.disk_store.proofs.Overwrite.{length-after_overwrite}
 

@@ -1,7 +1,7 @@
 -- The calls on a file and what they answered, and what the disk model makes of them.
-use Rattle.std.specs.Prelude.{◌≡◌, ℕ, zero, suc, ◌+◌, ◌<◌, List, [], ◌∷◌, ◌++◌, length, take}
-use Rattle.std.specs.Prelude.{replicate, true, All}
-use Rattle.std.specs.Prelude.{slice_index, slice_range}
+use Rattle.std.specs.Prelude.{◌≡◌, ℕ, ◌+◌, List, [], ◌∷◌, ◌++◌, length, take}
+use Rattle.std.specs.Prelude.{replicate, true}
+use Rattle.std.specs.Prelude.{slice_range}
 use Rattle.disk_store.specs.Content.{Content, at_start, after_write, after_touch, after_sync}
 use Rattle.disk_store.specs.Content.{replay}
 
@@ -37,24 +37,6 @@ opening_calls len = Locked ∷ Synced ∷ Dropped ∷ Opened len ∷ []
 -- the calls that make a new file of this length
 abbrev pub making_calls : ℕ → List Call
 making_calls len = Locked ∷ Made len ∷ Synced ∷ Dropped ∷ Named ∷ []
-
--- A call by a number for its kind, a position or a length, and bytes: so it is noted, since nothing
--- in memory is a call.
-abbrev pub call_of_kind : ℕ → ℕ → List ℕ → Call
-call_of_kind zero at bytes = Locked
-call_of_kind (suc zero) at bytes = Opened at
-call_of_kind (suc (suc zero)) at bytes = Made at
-call_of_kind (suc (suc (suc zero))) at bytes = Gave at bytes
-call_of_kind (suc (suc (suc (suc zero)))) at bytes = FailedRead at
-call_of_kind (suc (suc (suc (suc (suc zero))))) at bytes = Wrote at bytes
-call_of_kind (suc (suc (suc (suc (suc (suc zero)))))) at bytes = FailedWrite at bytes
-call_of_kind (suc (suc (suc (suc (suc (suc (suc zero))))))) at bytes = Synced
-call_of_kind (suc (suc (suc (suc (suc (suc (suc (suc zero)))))))) at bytes = FailedSync
-call_of_kind (suc (suc (suc (suc (suc (suc (suc (suc (suc zero))))))))) at bytes = Dropped
-call_of_kind (suc (suc (suc (suc (suc (suc (suc (suc (suc (suc more)))))))))) at bytes = Named
-
-abbrev pub call_of : List ℕ → List ℕ → Call
-call_of numbers bytes = call_of_kind (slice_index numbers 0) (slice_index numbers 1) bytes
 
 -- the first of these bytes, with zeros behind them where there are fewer
 abbrev pub first_bytes : ℕ → List ℕ → List ℕ
@@ -108,10 +90,3 @@ module _ (first : List ℕ) where
   -- what a file of the model holds after these calls
   abbrev pub content_after : List Call → Content
   content_after calls = replay after_call calls no_content
-
-  -- The file is this long, and nothing but its opening has happened.
-  pub record HasBegun (len : ℕ) (calls : List Call) : Type 0 where
-    pub firm : content_after calls ≡ at_start (content_after calls).bytes
-    pub len_is : length (content_after calls).bytes ≡ len
-    pub are_bytes : All (λ b. b < 256) (content_after calls).bytes
-    pub are_right : AreRight calls no_content

@@ -2,3 +2,4 @@
 pub mod FileSound
 pub mod Log
 pub mod MemorySound
+pub mod Noting

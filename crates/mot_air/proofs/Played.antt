@@ -12,7 +12,7 @@ use Rattle.mot_base.specs.declared.geometry.Geometry.{Geometry}
 use Rattle.mot_base.specs.declared.refusal.Refusal.{Refusal}
 use Rattle.mot_feed.specs.Feeding.{AreOf, Event, FedPacketsAreContinuous, Feeds, FeedsPart, Happen}
 use Rattle.mot_feed.specs.Feeding.{HasFed, IsFeedFault, are_uncut}
-use Rattle.mot_journal.specs.Geometry.{is_valid}
+use Rattle.mot_base.specs.Geometry.{is_valid}
 use Rattle.mot_journal.specs.Image.{Standing}
 use Rattle.mot_player.specs.Place.{Place}
 use Rattle.mot_player.specs.Turn.{turn_of_carousel}

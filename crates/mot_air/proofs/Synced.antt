@@ -21,7 +21,7 @@ use Rattle.mot_feed.specs.Feeding.{IsFeedFault}
 use Rattle.mot_folder.specs.Log.{Entry, HasTold}
 use Rattle.mot_folder.specs.Looked.{HasLookedAtFolder, listed, unlisted}
 use Rattle.mot_folder.specs.declared.report.Report.{Report}
-use Rattle.mot_journal.specs.Geometry.{is_valid}
+use Rattle.mot_base.specs.Geometry.{is_valid}
 use Rattle.mot_journal.specs.Image.{Standing}
 use Rattle.mot_repository.proofs.Laws.{standings-are_sound}
 use Rattle.mot_repository.specs.Opening.{IsOpened}

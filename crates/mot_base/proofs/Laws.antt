@@ -17,6 +17,8 @@ use Rattle.mot_base.specs.PacketLength.{room_of, code_of}
 use Rattle.mot_base.specs.Reading.{◌>>=◌, is_empty, read_each}
 use Rattle.mot_base.specs.declared.packet_length.PacketLength.{PacketLength}
 use Rattle.mot_base.specs.declared.packet_length.PacketLength.TheVariants.{P24, P48, P72, P96}
+-- a geometry that is valid, and its test
+pub use Rattle.mot_base.proofs.Valid.{valid_is, is_valid_of}
 
 -- ---- lists
 

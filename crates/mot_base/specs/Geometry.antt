@@ -4,12 +4,27 @@ use Rattle.mot_base.specs.PacketLength.{IsLength}
 use Rattle.mot_base.specs.declared.geometry.Geometry.{Geometry}
 use Rattle.mot_base.specs.declared.geometry.TheConstants.{MAX_OBJECTS, MAX_DATA_AREA}
 use Rattle.mot_base.specs.declared.numbers.TheConstants.{MAX_ADDRESS, MIN_SEGMENT, MAX_SEGMENT}
+use Rattle.std.specs.Prelude.{Bool, ◌&&◌, ◌||◌, ◌==◌, nat_le}
 
 abbrev pub IsValid : Geometry → Type 0
 IsValid g =
     (1 ≤ g.objects) × (g.objects ≤ MAX_OBJECTS) × (1 ≤ g.data_area) × (g.data_area ≤ MAX_DATA_AREA)
     × (MIN_SEGMENT ≤ g.segment_size) × (g.segment_size ≤ MAX_SEGMENT)
     × (1 ≤ g.address) × (g.address ≤ MAX_ADDRESS) × IsLength g.packet_length
+
+-- a number from the one to the other
+abbrev pub is_within : ℕ → ℕ → ℕ → Bool
+is_within low high n = nat_le low n && nat_le n high
+
+abbrev pub is_packet_length : ℕ → Bool
+is_packet_length n = n == 24 || n == 48 || n == 72 || n == 96
+
+-- the same as a test
+abbrev pub is_valid : Geometry → Bool
+is_valid g =
+    is_within 1 MAX_OBJECTS g.objects && is_within 1 MAX_DATA_AREA g.data_area
+    && is_within MIN_SEGMENT MAX_SEGMENT g.segment_size && is_within 1 MAX_ADDRESS g.address
+    && is_packet_length g.packet_length
 
 -- Where the parts of a disk lie (own format). A half has 2N + 4 slots of 256 bytes, or N + 2 of
 -- 512.

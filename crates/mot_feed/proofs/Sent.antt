@@ -7,7 +7,8 @@ use Rattle.mot_journal.specs.Image.{Standing}
 use Rattle.mot_player.specs.Standing as player
 use Rattle.mot_repository.specs.Repository.{RepositoryView}
 use Rattle.mot_server.specs.Server.{ServerView, bodies_of, place_in}
-use Rattle.disk_store.specs.Disk.{State, IsUnchanged, Rises}
+use Rattle.disk_store.specs.Disk.{State, IsUnchanged}
+use Rattle.disk_store.specs.Failures.{Rises}
 use Rattle.mot_server.specs.Inner.Unread.{is_unchanged}
 use Rattle.mot_base.specs.declared.refusal.Refusal.{Refusal}
 use Rattle.mot_base.specs.declared.refusal.Refusal.TheVariants.{DeviceFault, Halted, OutOfMemory, WriteFault}

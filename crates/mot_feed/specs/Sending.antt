@@ -1,7 +1,8 @@
 -- Packets sent, one write each.
 use Rattle.std.specs.Prelude.{ℕ, ◌≡◌, ◌≢◌, ◌≤◌, ◌<◌, Bool, List, [], ◌∷◌, length, take, Option}
 use Rattle.std.specs.Prelude.{Result, Ok, Err, IsTrue, IsFalse}
-use Rattle.disk_store.specs.Disk.{State, Rises}
+use Rattle.disk_store.specs.Disk.{State}
+use Rattle.disk_store.specs.Failures.{Rises}
 use Rattle.mot_base.specs.declared.refusal.Refusal.{Refusal}
 use Rattle.mot_base.specs.declared.refusal.Refusal.TheVariants.{DeviceFault, Halted, WriteFault}
 use Rattle.mot_feed.specs.Writing.{Grows, GrowsPart}

@@ -10,7 +10,8 @@ use Rattle.mot_base.specs.Geometry.{length_of}
 use Rattle.mot_journal.specs.declared.record.Record.{Record}
 use Rattle.mot_journal.specs.Slot.{is_open, read_slot, slot_size, slot_count, bytes_of_slot}
 use Rattle.mot_journal.specs.Inner.Steps.{IsBehindGate, IsWritten, IsGated}
-use Rattle.mot_journal.specs.Journal.{JournalView, place_of, HasRecords, HoldsRecords, FoldOf, WithoutOrWith, HasReadArea}
+use Rattle.mot_journal.specs.Journal.{JournalView, HasRecords, HoldsRecords, FoldOf, WithoutOrWith, HasReadArea}
+use Rattle.mot_journal.specs.Inner.Places.{place_of}
 use Rattle.mot_journal.proofs.NextSlot.{stays_closed, opens, same_area, gate_was_shut, gate_at, slot_some, slot_within}
 use Rattle.mot_journal.proofs.Parts.{HasParts, has_parts, parts_have}
 use Rattle.mot_journal.proofs.SlotWrite.{slot_rebuilt}

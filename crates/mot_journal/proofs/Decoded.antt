@@ -12,6 +12,7 @@ use Rattle.std.proofs.lemmas.Slice.Eq.{bytes_eq-Decides}
 use Rattle.mot_base.specs.Reading.{◌>>=◌}
 use Rattle.std.proofs.lemmas.Bool.Decides.{nat_tests}
 use Rattle.mot_carousel.specs.Name.{IsName}
+use Rattle.mot_carousel.proofs.Laws.{name_true, name_is, mime_true, mime_is}
 use Rattle.mot_carousel.specs.Mime.{IsMime}
 use Rattle.mot_base.specs.declared.geometry.Geometry.{Geometry}
 use Rattle.mot_journal.specs.declared.layout.Layout.{Layout}
@@ -19,8 +20,11 @@ use Rattle.mot_journal.specs.declared.layout.Layout.TheVariants.{One, Two}
 use Rattle.mot_journal.specs.declared.record.Record.{Record}
 use Rattle.mot_journal.specs.declared.record.Action.{Action}
 use Rattle.mot_journal.specs.declared.record.Action.TheVariants.{Nothing, Remove}
-use Rattle.mot_journal.specs.Geometry.{is_within, columns}
-use Rattle.mot_journal.specs.Slot.{is_name, is_mime, mime_in, read_slot, is_sound, is_sound_action, kind_base, slot_columns, record_in, action_in, longest_name}
+use Rattle.mot_journal.specs.Geometry.{columns}
+use Rattle.mot_base.specs.Geometry.{is_within}
+use Rattle.mot_journal.specs.Slot.{mime_in, read_slot, is_sound, is_sound_action, kind_base, slot_columns, record_in, action_in, longest_name}
+use Rattle.mot_carousel.specs.Mime.{is_mime}
+use Rattle.mot_carousel.specs.Name.{is_name}
 use Rattle.mot_journal.specs.Inner.Reading.{number_at, content_at, if_sound, set_of, action_of, sound_action_of, name_from, mime_from}
 
 abbrev pub act-of : Action → Option Action
@@ -48,67 +52,17 @@ abbrev pub text : List ℕ → Option (List ℕ)
 text bytes = Some bytes
 
 pub name_ok : (longest : ℕ) (bytes : List ℕ) → IsName bytes → length bytes ≤ longest → name_from longest bytes ≡ Some bytes
-name_ok longest bytes is short =
-    let within : is_within 1 longest (length bytes) ≡ true = both _ _ (le-leb 1 (length bytes) is.some) (le-leb (length bytes) longest short) in
-    let all : is_name longest bytes ≡ true =
-    both _ _ (both _ _ within (is_utf8-from_IsUtf8 bytes is.text)) (list_all-from_AllPass (λ b. nat_lt 32 b && not (b == 127)) bytes is.printed) in
-    ap (λ (b : Bool). if b then text bytes else None) all
+name_ok longest bytes is short = ap (λ (b : Bool). if b then text bytes else None) (name_true longest bytes is short)
 
 pub name_bad : (longest : ℕ) (bytes : List ℕ) → longest ≤ 255 → (IsName bytes → ⊥) → name_from longest bytes ≡ None
-name_bad longest bytes most bad = elim (true_or_false (is_name longest bytes)) [
-  | inl is ↦
-      let two = parts _ _ is in
-      let one = parts _ _ two.0 in
-      let within = parts _ _ one.0 in
-      absurd (bad (record {
-        some = leb-true 1 (length bytes) within.0;
-        short = omega (arith, leb-true (length bytes) longest within.1);
-        text = IsUtf8-from_is_utf8 bytes one.1;
-        printed = AllPass-from_list_all (λ b. nat_lt 32 b && not (b == 127)) bytes two.1;
-      }))
-  | inr isnt ↦ ap (λ (b : Bool). if b then text bytes else None) isnt
-]
+name_bad longest bytes most bad = ap (λ (b : Bool). if b then text bytes else None)
+    (false_from_ne_true (is_name longest bytes) (λ is. bad (name_is longest bytes most is)))
 
 pub name_long : (longest : ℕ) (bytes : List ℕ) → longest < length bytes → name_from longest bytes ≡ None
 name_long longest bytes long = elim (true_or_false (is_name longest bytes)) [
   | inl is ↦ absurd (omega (arith, leb-true (length bytes) longest (parts _ _ (parts _ _ (parts _ _ is).0).0).1))
   | inr isnt ↦ ap (λ (b : Bool). if b then text bytes else None) isnt
 ]
-
-element : (b : ℕ) → (nat_lt 32 b && nat_lt b 127) ≡ true → is_within 0x21 0x7E b ≡ true
-element b e =
-    let low : 32 < b = ltb-true 32 b (parts _ _ e).0 in
-    let high : b < 127 = ltb-true b 127 (parts _ _ e).1 in
-    both _ _ (le-leb 0x21 b (omega arith)) (le-leb b 0x7E (omega arith))
-
-element' : (b : ℕ) → is_within 0x21 0x7E b ≡ true → (nat_lt 32 b && nat_lt b 127) ≡ true
-element' b e =
-    let low : 33 ≤ b = leb-true 33 b (parts _ _ e).0 in
-    let high : b ≤ 126 = leb-true b 126 (parts _ _ e).1 in
-    both _ _ (lt-ltb 32 b (omega arith)) (lt-ltb b 127 (omega arith))
-
-mime_true : (bytes : List ℕ) → IsMime bytes → is_mime bytes ≡ true
-mime_true bytes is =
-    let within : is_within 1 64 (length bytes) ≡ true = both _ _ (le-leb 1 (length bytes) is.some) (le-leb (length bytes) 64 is.short) in
-    let all : list_all (is_within 0x21 0x7E) bytes ≡ true =
-    list_all-from_AllPass (is_within 0x21 0x7E) bytes
-    (All-weaker (λ b. (nat_lt 32 b && nat_lt b 127) ≡ true) (λ b. is_within 0x21 0x7E b ≡ true) element bytes is.printed) in
-    let other : bytes_eq bytes (45 ∷ []) ≡ false = false_from_ne_true (bytes_eq bytes (45 ∷ [])) (λ e. is.named ((bytes_eq-Decides bytes (45 ∷ [])).0 e)) in
-    both _ _ (both _ _ within all) (ap not other)
-
-mime_is : (bytes : List ℕ) → is_mime bytes ≡ true → IsMime bytes
-mime_is bytes e =
-    let two = parts _ _ e in
-    let one = parts _ _ two.0 in
-    let within = parts _ _ one.0 in
-    record {
-      some = leb-true 1 (length bytes) within.0;
-      short = leb-true (length bytes) 64 within.1;
-      printed = All-weaker (λ b. is_within 0x21 0x7E b ≡ true) (λ b. (nat_lt 32 b && nat_lt b 127) ≡ true) element' bytes
-          (AllPass-from_list_all (is_within 0x21 0x7E) bytes one.1);
-      named = λ is.
-          let wrong : false ≡ true = sym (ap not ((bytes_eq-Decides bytes (45 ∷ [])).1 is)) ∙ two.1 in cc;
-    }
 
 abbrev pub kept : Option (List ℕ) → Option (Option (List ℕ))
 kept m = Some m

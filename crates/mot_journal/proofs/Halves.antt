@@ -16,7 +16,8 @@ use Rattle.mot_journal.specs.declared.layout.Layout.TheVariants.{One, Two}
 use Rattle.mot_journal.specs.declared.record.Record.{Record}
 use Rattle.mot_journal.specs.declared.record.Action.{Action}
 use Rattle.mot_journal.specs.declared.record.Action.TheVariants.{Nothing, Set, Remove}
-use Rattle.mot_journal.specs.Geometry.{geometry_of, selected_half, has_magic, magic, is_valid, is_within}
+use Rattle.mot_journal.specs.Geometry.{geometry_of, selected_half, has_magic, magic}
+use Rattle.mot_base.specs.Geometry.{is_valid, is_within}
 use Rattle.mot_journal.specs.Slot.{is_open, layout_of, read_slot, slot_size, slot_count, bytes_of_slot, kind_base, kind_of}
 use Rattle.mot_journal.specs.Catalogue.{catalogue_of, or_damaged, result_then}
 use Rattle.mot_journal.specs.Image.{records_in, area_of, are_gates_clean}

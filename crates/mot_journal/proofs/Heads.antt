@@ -7,7 +7,8 @@ use Rattle.mot_base.specs.Fields.{number_in}
 use Rattle.mot_base.specs.Reading.{◌>>=◌}
 use Rattle.mot_base.specs.declared.geometry.Geometry.{Geometry}
 use Rattle.mot_base.specs.Geometry.{length_of}
-use Rattle.mot_journal.specs.Geometry.{geometry_of, geometry_in, has_magic, magic, is_valid}
+use Rattle.mot_journal.specs.Geometry.{geometry_of, geometry_in, has_magic, magic}
+use Rattle.mot_base.specs.Geometry.{is_valid}
 use Rattle.mot_journal.specs.Inner.Reading.{number_at}
 use Rattle.mot_journal.proofs.Decoded.{columns_from}
 

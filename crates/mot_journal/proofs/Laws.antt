@@ -8,7 +8,8 @@ use Rattle.mot_base.specs.Fields.{number_in}
 use Rattle.mot_base.specs.Reading.{◌>>=◌}
 use Rattle.mot_base.specs.declared.geometry.Geometry.{Geometry}
 use Rattle.mot_base.specs.Geometry.{half_size, half_start, area_start, length_of}
-use Rattle.mot_journal.specs.Geometry.{columns, geometry_in, geometry_of, is_valid, magic, selected_half}
+use Rattle.mot_journal.specs.Geometry.{columns, geometry_in, geometry_of, magic, selected_half}
+use Rattle.mot_base.specs.Geometry.{is_valid}
 use Rattle.mot_journal.specs.Catalogue.{result_then, Placed, Catalogue, catalogue_of, body_in, carousel_in, extents_of}
 use Rattle.mot_journal.specs.Image.{half_of, journal_in_half, or_not_formatted, records_of, slots_of, has_clean_gates, are_gates_clean, DiskRecords, Standing, area_of, stands_for, IsClean}
 use Rattle.mot_base.specs.declared.refusal.Refusal.{Refusal}
@@ -17,7 +18,7 @@ use Rattle.mot_carousel.specs.Carousel as whole
 use Rattle.mot_journal.specs.declared.layout.Layout.{Layout}
 use Rattle.mot_journal.specs.declared.record.Record.{Record}
 use Rattle.mot_journal.specs.Slot.{layout_of}
-use Rattle.mot_journal.specs.Gaps.{IsBeside, AreBeside, standing_of}
+use Rattle.mot_journal.specs.Inner.Gaps.{IsBeside, AreBeside, standing_of}
 
 abbrev total : List ℕ → ℕ
 total [] = 0

@@ -20,5 +20,4 @@ mod Setting
 mod SlotWrite
 mod Slots
 mod Turning
-mod Valid
 mod Written

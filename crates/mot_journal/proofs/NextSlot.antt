@@ -13,11 +13,13 @@ use Rattle.mot_journal.specs.declared.layout.Layout.TheVariants.{One, Two}
 use Rattle.mot_journal.specs.declared.record.Record.{Record}
 use Rattle.mot_journal.specs.declared.record.Action.{Action}
 use Rattle.mot_journal.specs.declared.record.Action.TheVariants.{Nothing, Set, Remove}
-use Rattle.mot_journal.specs.Geometry.{is_within, geometry_of, selected_half}
+use Rattle.mot_journal.specs.Geometry.{geometry_of, selected_half}
+use Rattle.mot_base.specs.Geometry.{is_within}
 use Rattle.mot_journal.specs.Slot.{is_open, layout_of, read_slot, slot_size, slot_count, bytes_of_slot, kind_base, kind_of}
 use Rattle.mot_journal.specs.Catalogue.{catalogue_of}
 use Rattle.mot_journal.specs.Image.{records_in, area_of}
-use Rattle.mot_journal.specs.Journal.{JournalView, place_of}
+use Rattle.mot_journal.specs.Journal.{JournalView}
+use Rattle.mot_journal.specs.Inner.Places.{place_of}
 use Rattle.mot_journal.proofs.Laws.{part, geometry_stays, half_selected_stays}
 use Rattle.mot_journal.proofs.OpenSlots.{AreShut, IsSplit, split_at, clean_of, length_read, shut_from}
 use Rattle.mot_journal.proofs.Parts.{half_at, slots_at, HasParts}

@@ -7,7 +7,8 @@ use Rattle.mot_base.specs.declared.refusal.Refusal.TheVariants.{Damaged}
 use Rattle.mot_base.specs.declared.geometry.Geometry.{Geometry}
 use Rattle.mot_journal.specs.declared.layout.Layout.{Layout}
 use Rattle.mot_journal.specs.declared.record.Record.{Record}
-use Rattle.mot_journal.specs.Slot.{FitsSlot, read_slot, bytes_of_slot, is_sound, is_open, layout_of}
+use Rattle.mot_journal.specs.Slot.{read_slot, bytes_of_slot, is_sound, is_open, layout_of}
+use Rattle.mot_journal.specs.Inner.Fitting.{FitsSlot}
 use Rattle.mot_journal.specs.Catalogue.{or_damaged, result_then}
 use Rattle.mot_journal.specs.Image.{DiskRecords, records_in, slots_of, journal_in_half}
 use Rattle.mot_journal.proofs.Written.{slot_reads_back, written_is_open}

@@ -10,7 +10,8 @@ use Rattle.mot_journal.specs.declared.layout.Layout.TheVariants.{One, Two}
 use Rattle.mot_journal.specs.declared.record.Record.{Record}
 use Rattle.mot_journal.specs.declared.record.Action.TheVariants.{Nothing, Set}
 use Rattle.mot_base.specs.Geometry.{length_of}
-use Rattle.mot_journal.specs.Geometry.{geometry_of, head_bytes}
+use Rattle.mot_journal.specs.Geometry.{geometry_of}
+use Rattle.mot_journal.specs.Inner.Format.{head_bytes}
 use Rattle.mot_journal.specs.Slot.{bytes_of_slot, read_slot}
 use Rattle.mot_journal.specs.Catalogue.{fold_from}
 use Rattle.mot_journal.specs.Image.{records_of, stands_for}

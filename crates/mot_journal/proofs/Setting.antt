@@ -10,7 +10,9 @@ use Rattle.mot_base.specs.declared.geometry.Geometry.{Geometry}
 use Rattle.mot_journal.specs.declared.layout.Layout.{Layout}
 use Rattle.mot_journal.specs.declared.record.Action.{Action}
 use Rattle.mot_journal.specs.declared.record.Action.TheVariants.{Set}
-use Rattle.mot_journal.specs.Slot.{is_name, is_mime, mime_in, is_sound_action, longest_name}
+use Rattle.mot_journal.specs.Slot.{mime_in, is_sound_action, longest_name}
+use Rattle.mot_carousel.specs.Mime.{is_mime}
+use Rattle.mot_carousel.specs.Name.{is_name}
 use Rattle.mot_journal.specs.Inner.Reading.{number_at, content_at, if_sound, set_of, name_from, mime_from}
 use Rattle.mot_journal.proofs.Decoded.{both, text, act-of, kept, and-false}
 

@@ -16,7 +16,7 @@ use Rattle.mot_journal.specs.Slot.{read_slot, is_sound, is_open, layout_of, slot
 use Rattle.mot_journal.specs.Geometry.{columns}
 use Rattle.mot_journal.specs.Catalogue.{result_then}
 use Rattle.mot_journal.specs.Image.{DiskRecords, records_in, slots_in, journal_in_half}
-use Rattle.mot_journal.specs.Inner.Loading.{HalfHas}
+use Rattle.mot_journal.specs.Loading.{HalfHas}
 use Rattle.mot_journal.proofs.Records.{AreOpen, open_front, open_then_shut, are_open_more, records_more, records_fault}
 
 times-suc : (i size : ℕ) → size + i * size ≡ suc i * size

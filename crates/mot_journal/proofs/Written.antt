@@ -14,7 +14,9 @@ use Rattle.mot_journal.specs.declared.layout.Layout.TheVariants.{One, Two}
 use Rattle.mot_journal.specs.declared.record.Record.{Record}
 use Rattle.mot_journal.specs.declared.record.Action.{Action}
 use Rattle.mot_journal.specs.declared.record.Action.TheVariants.{Nothing, Set, Remove}
-use Rattle.mot_journal.specs.Slot.{FitsAction, FitsSlot, action_bytes, kind_of, read_slot, bytes_of_slot, is_sound, is_sound_action, is_mime, longest_name, mime_in, mime_bytes, is_open, slot_size, kind_base}
+use Rattle.mot_journal.specs.Slot.{action_bytes, kind_of, read_slot, bytes_of_slot, is_sound, is_sound_action, longest_name, mime_in, mime_bytes, is_open, slot_size, kind_base}
+use Rattle.mot_carousel.specs.Mime.{is_mime}
+use Rattle.mot_journal.specs.Inner.Fitting.{FitsAction, FitsSlot}
 
 -- columns of one to four bytes
 number_1 : (n : ℕ) → n < 256 → number_in (n ∷ []) ≡ n

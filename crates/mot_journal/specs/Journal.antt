@@ -1,7 +1,8 @@
 -- What a journal keeps in memory, and what images have of it.
-use Rattle.std.specs.Prelude.{◌≡◌, ◌⊎◌, ℕ, ◌+◌, ◌*◌, ◌-◌, Bool, false, List, [], ◌∷◌, ◌++◌, length}
+use Rattle.std.specs.Prelude.{◌≡◌, ◌⊎◌, ℕ, ◌-◌, Bool, false, List, [], ◌∷◌, ◌++◌, length}
 use Rattle.std.specs.Prelude.{Some, Ok, Err, IsOk, IsFalse}
-use Rattle.disk_store.specs.Disk.{State, Rises}
+use Rattle.disk_store.specs.Disk.{State}
+use Rattle.disk_store.specs.Failures.{Rises}
 use Rattle.mot_base.specs.declared.refusal.Refusal.{Refusal}
 use Rattle.mot_base.specs.declared.refusal.Refusal.TheVariants.{OutOfMemory, DeviceFault}
 use Rattle.mot_base.specs.declared.refusal.Refusal.TheVariants.{NotFormatted, Damaged}
@@ -10,8 +11,7 @@ use Rattle.mot_base.specs.declared.geometry.Geometry.{Geometry}
 use Rattle.mot_journal.specs.declared.layout.Layout.{Layout}
 use Rattle.mot_journal.specs.declared.record.Record.{Record}
 use Rattle.mot_journal.specs.Geometry.{has_magic, geometry_of, selected_half}
-use Rattle.mot_base.specs.Geometry.{half_start}
-use Rattle.mot_journal.specs.Slot.{layout_of, slot_size}
+use Rattle.mot_journal.specs.Slot.{layout_of}
 use Rattle.mot_journal.specs.Catalogue.{catalogue_of}
 use Rattle.mot_journal.specs.Image.{DiskRecords, Standing, records_of, stands_for, half_of, area_of}
 use Rattle.mot_journal.specs.Image.{IsClean, IsInLayoutTwo, IsSecondHalfEmpty}
@@ -28,10 +28,6 @@ pub record JournalView : Type 0 where
 abbrev pub with_records : JournalView → List Record → DiskRecords
 with_records j records =
     record { geometry = j.geometry; half = j.half; layout = j.layout; records = records }
-
--- where a slot of the journal's half lies
-abbrev pub place_of : JournalView → ℕ → ℕ
-place_of j slot = half_start j.geometry j.half + slot * slot_size j.layout
 
 -- the same, in the other half
 abbrev pub in_other_half : JournalView → Layout → List Record → JournalView

@@ -1,7 +1,7 @@
 pub mod Catalogue
-pub mod Gaps
 pub mod Geometry
 pub mod Image
 pub mod Inner
 pub mod Journal
+pub mod Loading
 pub mod Slot

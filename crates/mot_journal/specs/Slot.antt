@@ -1,16 +1,13 @@
 -- A slot of the journal: a gate, and the record behind it (own format).
-use Rattle.std.specs.Prelude.{ℕ, ◌+◌, ◌*◌, ◌-◌, ◌^◌, ◌<◌, Bool, true, not, ◌&&◌, ◌==◌, nat_lt}
+use Rattle.std.specs.Prelude.{ℕ, ◌+◌, ◌*◌, ◌-◌, Bool, true, ◌&&◌, ◌==◌, nat_lt}
 use Rattle.std.specs.Prelude.{nat_le, if◌then◌else◌, List, [], ◌∷◌, ◌++◌, length, take, drop}
-use Rattle.std.specs.Prelude.{replicate, slice_index, Option, Some, None, bytes_eq, codes}
+use Rattle.std.specs.Prelude.{replicate, slice_index, Option, Some, None}
 use Rattle.std.specs.Int.{w16, w32, to_be_bytes, bytes_high_first}
-use Rattle.std.specs.List.{list_all}
 use Rattle.std.specs.Option.{option_map_or}
-use Rattle.std.specs.Str.{is_utf8}
 use Rattle.mot_base.specs.Reading.{◌>>=◌}
 use Rattle.mot_carousel.specs.Content.{ContentNumbers}
 use Rattle.mot_carousel.specs.declared.body.TheConstants.{MAX_BODY}
 use Rattle.mot_carousel.specs.declared.content.TheConstants.{MAX_SUBTYPE, MAX_TYPE}
-use Rattle.mot_carousel.specs.declared.mime.TheConstants.{MAX_MIME}
 use Rattle.mot_carousel.specs.declared.name.TheConstants.{MAX_NAME}
 use Rattle.mot_base.specs.declared.geometry.Geometry.{Geometry}
 use Rattle.mot_journal.specs.declared.layout.Layout.{Layout}
@@ -18,7 +15,12 @@ use Rattle.mot_journal.specs.declared.layout.Layout.TheVariants.{One, Two}
 use Rattle.mot_journal.specs.declared.record.Record.{Record}
 use Rattle.mot_journal.specs.declared.record.Action.{Action}
 use Rattle.mot_journal.specs.declared.record.Action.TheVariants.{Nothing, Set, Remove}
-use Rattle.mot_journal.specs.Geometry.{columns, is_within}
+use Rattle.mot_journal.specs.Geometry.{columns}
+use Rattle.mot_base.specs.Geometry.{is_within}
+use Rattle.std.specs.Prelude.{◌≡◌}
+use Rattle.std.specs.Prelude.{All}
+use Rattle.mot_carousel.specs.Name.{is_name}
+use Rattle.mot_carousel.specs.Mime.{is_mime}
 
 abbrev pub slot_size : Layout → ℕ
 slot_size One = 256
@@ -71,16 +73,6 @@ record_in layout texts (gate ∷ kind ∷ period ∷ directory ∷ cursor ∷ ti
       Some (record { period = period; directory = directory; cursor = cursor; action = action })
 record_in layout texts _ = None
 
-abbrev pub is_name : ℕ → List ℕ → Bool
-is_name longest bytes =
-    is_within 1 longest (length bytes) && is_utf8 bytes && list_all
-    (λ b. nat_lt 32 b && not (b == 127)) bytes
-
-abbrev pub is_mime : List ℕ → Bool
-is_mime bytes =
-    is_within 1 MAX_MIME (length bytes) && list_all (is_within 0x21 0x7E) bytes
-    && not (bytes_eq bytes (codes "-"))
-
 abbrev pub is_sound_action : Geometry → Layout → Action → Bool
 is_sound_action g layout Nothing = true
 is_sound_action g layout (Remove tid) = nat_lt 0 tid
@@ -125,16 +117,6 @@ bytes_of_slot layout r =
     ++ to_be_bytes w16 r.directory ++ to_be_bytes w16 r.cursor ++ action_bytes r.action in
     used ++ replicate (slot_size layout - length used) 0
 
--- the numbers of an action fit their columns
-abbrev pub FitsAction : Action → Type 0
-FitsAction Nothing = Unit {0}
-FitsAction (Remove tid) = tid < 2 ^ 16
-FitsAction (Set tid version content start size name mime) = (tid < 2 ^ 16) × (version < 256)
-    × (start < 2 ^ 32)
-
--- The numbers of a record fit their columns. Those of each record of the program do.
-pub record FitsSlot (r : Record) : Type 0 where
-  pub period : r.period < 2 ^ 24
-  pub directory : r.directory < 2 ^ 16
-  pub cursor : r.cursor < 2 ^ 16
-  pub action : FitsAction r.action
+-- no record has a fault of fields
+abbrev pub AreSound : Geometry → Layout → List Record → Type 0
+AreSound g layout given = All (λ r. is_sound g layout r ≡ true) given

@@ -6,8 +6,10 @@ ghost use Rattle.std.specs.Prelude.{Some};
 ghost use Rattle.arrayvec.specs.ArrayVec.{array_vec_len};
 ghost use Rattle.mot_base.specs.declared.geometry.Geometry.{Geometry as Sizes};
 ghost use Rattle.mot_journal.specs.Slot.{slot_size, bytes_of_slot, read_slot, is_sound, kind_of};
-ghost use Rattle.mot_journal.specs.Slot.{action_bytes, mime_bytes, FitsAction};
-ghost use Rattle.mot_journal.specs.Inner.Steps.{slot_from, IsReadable, AreSound};
+ghost use Rattle.mot_journal.specs.Slot.{action_bytes, mime_bytes};
+ghost use Rattle.mot_journal.specs.Inner.Fitting.{FitsAction};
+ghost use Rattle.mot_journal.specs.Inner.Steps.{slot_from, IsReadable};
+ghost use Rattle.mot_journal.specs.Slot.{AreSound};
 
 use crate::{Action, Layout, Record};
 use arrayvec::ArrayVec;

@@ -2,7 +2,8 @@
 ghost use Rattle.std.specs.Prelude.{◌≡◌, ◌⊎◌, ◌↔◌, ◌+◌, ◌-◌, ◌*◌, ◌<◌, ◌≤◌, ℕ, List, [], ◌∷◌};
 ghost use Rattle.std.specs.Prelude.{length, drop, MatchResult};
 ghost use Rattle.std.specs.Prelude.{true, false, Ok, OnOk, IfOk, IfErr, IsErrOf};
-ghost use Rattle.disk_store.specs.Disk.{Keeps, KeepsLength, HasCause, Rises, IsUnchanged, IsStill};
+ghost use Rattle.disk_store.specs.Disk.{Keeps, KeepsLength, IsUnchanged, IsStill};
+ghost use Rattle.disk_store.specs.Failures.{HasCause, Rises};
 ghost use Rattle.disk_store.specs.Disk.{Throughout, Costs, IsFirm};
 ghost use Rattle.mot_base.specs.Geometry.{IsValid, area_start, length_of};
 ghost use Rattle.mot_base.specs.declared.refusal.Refusal.TheVariants.{DeviceFault, BadGeometry};
@@ -144,7 +145,7 @@ pub fn format_from<D: Disk>(
 fn reads_magic<D: Disk>(disk: &mut D) -> Result<bool, DiskFault>
     requires { 8 ≤ (D.state disk.old).len }
     ensures keeps { KeepsLength (D.state disk.old) (D.state disk.new) }
-    ensures cause { HasCause (D.state disk.old) (D.state disk.new) result }
+    ensures cause { HasCause (D.state disk.old).failures (D.state disk.new).failures result }
     ensures still { (D.state disk.new).IsHonest → IsStill (D.state disk.old) (D.state disk.new) }
     ensures cost { Costs 2 (D.state disk.old) (D.state disk.new) result }
     ensures synced { (D.state disk.new).IsHonest → OnOk result (IsFirm (D.state disk.new)) }
@@ -162,7 +163,7 @@ fn make<D: Disk>(disk: &mut D, geometry: &Geometry, directory: TransportId) -> R
     requires valid { IsValid geometry.now }
     requires long_enough { length_of geometry.now ≤ (D.state disk.old).len }
     ensures keeps { Keeps (D.state disk.old) (D.state disk.new) }
-    ensures cause { HasCause (D.state disk.old) (D.state disk.new) result }
+    ensures cause { HasCause (D.state disk.old).failures (D.state disk.new).failures result }
     ensures cost { Costs (2 * slot_count Two geometry.now + 4)
         (D.state disk.old) (D.state disk.new) result }
     ensures any_moment { (D.state disk.old).IsHonest

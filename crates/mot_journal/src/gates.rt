@@ -1,7 +1,8 @@
 //! The gates of a half, as they are read.
 ghost use Rattle.std.specs.Prelude.{◌≡◌, ◌+◌, ◌<◌, ◌≤◌, ◌==◌, slice_index};
 ghost use Rattle.std.specs.Prelude.{IfOk, OnOk, IsErr};
-ghost use Rattle.disk_store.specs.Disk.{KeepsLength, HasCause, Costs, IsUnchanged, Rises};
+ghost use Rattle.disk_store.specs.Disk.{KeepsLength, Costs, IsUnchanged};
+ghost use Rattle.disk_store.specs.Failures.{HasCause, Rises};
 ghost use Rattle.mot_base.specs.Geometry.{length_of};
 ghost use Rattle.mot_journal.specs.Image.{are_gates_clean as gates_clean};
 ghost use Rattle.mot_journal.specs.Slot.{slot_count};
@@ -48,7 +49,7 @@ pub fn are_gates_clean<D: Disk>(
 fn is_gate_open<D: Disk>(disk: &mut D, place: u64) -> Result<bool, DiskFault>
     requires { place < (D.state disk.old).len }
     ensures keeps { KeepsLength (D.state disk.old) (D.state disk.new) }
-    ensures cause { HasCause (D.state disk.old) (D.state disk.new) result }
+    ensures cause { HasCause (D.state disk.old).failures (D.state disk.new).failures result }
     ensures cost { Costs 1 (D.state disk.old) (D.state disk.new) result }
     ensures unchanged { (D.state disk.new).IsHonest
         → IsUnchanged (D.state disk.old) (D.state disk.new) }

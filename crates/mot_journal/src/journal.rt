@@ -1,16 +1,19 @@
 ghost use Rattle.std.specs.Prelude.{◌≡◌, ◌≤◌, ◌<◌, ◌+◌, ◌^◌, ◌++◌, ℕ, List, [], ◌∷◌, length, true};
 ghost use Rattle.std.specs.Prelude.{◌⊎◌, Ok, OnOk, OnErr, MatchResult};
 ghost use Rattle.std.specs.Prelude.{◌↔◌, IfOk, IfErr, IsErr, IsTrue, IsFalse, All};
-ghost use Rattle.disk_store.specs.Disk.{Keeps, KeepsLength, HasCause, Costs, IsUnchanged, Rises};
+ghost use Rattle.disk_store.specs.Disk.{Keeps, KeepsLength, Costs, IsUnchanged};
+ghost use Rattle.disk_store.specs.Failures.{HasCause, Rises};
 ghost use Rattle.disk_store.specs.Disk.{Throughout};
 ghost use Rattle.mot_base.specs.Geometry.{length_of};
-ghost use Rattle.mot_journal.specs.Geometry.{is_valid, geometry_of};
+ghost use Rattle.mot_journal.specs.Geometry.{geometry_of};
+ghost use Rattle.mot_base.specs.Geometry.{is_valid};
 ghost use Rattle.mot_journal.specs.Slot.{is_sound, slot_count, slot_size};
 ghost use Rattle.mot_journal.specs.Image.{records_of, has_clean_gates};
-ghost use Rattle.mot_journal.specs.Journal.{JournalView, with_records, IsLoadRefusal, place_of};
+ghost use Rattle.mot_journal.specs.Journal.{JournalView, with_records, IsLoadRefusal};
+ghost use Rattle.mot_journal.specs.Inner.Places.{place_of};
 ghost use Rattle.mot_journal.specs.Journal.{HoldsRecords, FoldOf, WithoutOrWith, OnlyReadArea};
 ghost use Rattle.mot_journal.specs.Journal.{OldOrGiven, StandsWhere, in_other_half};
-ghost use Rattle.mot_journal.specs.Inner.Steps.{AreSound};
+ghost use Rattle.mot_journal.specs.Slot.{AreSound};
 ghost use Rattle.mot_base.specs.declared.refusal.Refusal.TheVariants.{DeviceFault};
 ghost use Rattle.mot_journal.specs.declared.layout.Layout.TheVariants.{One, Two};
 ghost use Rattle.mot_journal.specs.declared.record.Record.{Record};
@@ -189,7 +192,7 @@ impl Journal {
         requires sound { is_sound self.old.geometry self.old.layout entry.now ≡ true }
 
         ensures keeps { Keeps (D.state disk.old) (D.state disk.new) }
-        ensures cause { HasCause (D.state disk.old) (D.state disk.new) result }
+        ensures cause { HasCause (D.state disk.old).failures (D.state disk.new).failures result }
         ensures cost { Costs 4 (D.state disk.old) (D.state disk.new) result }
         ensures spent { OnErr result (self.new ≡ record self.old { spent = true }) }
         ensures added { OnOk result (self.new ≡ record self.old { count = self.old.count + 1 }) }
@@ -227,7 +230,7 @@ impl Journal {
         requires sound { AreSound self.old.geometry self.old.layout given.now }
 
         ensures keeps { Keeps (D.state disk.old) (D.state disk.new) }
-        ensures cause { HasCause (D.state disk.old) (D.state disk.new) result }
+        ensures cause { HasCause (D.state disk.old).failures (D.state disk.new).failures result }
         ensures cost { Costs (slot_count self.old.layout self.old.geometry + 3)
             (D.state disk.old) (D.state disk.new) result }
         ensures spent { OnErr result (self.new ≡ record self.old { spent = true }) }
@@ -259,7 +262,7 @@ impl Journal {
         requires sound { AreSound self.old.geometry Two given.now }
 
         ensures keeps { Keeps (D.state disk.old) (D.state disk.new) }
-        ensures cause { HasCause (D.state disk.old) (D.state disk.new) result }
+        ensures cause { HasCause (D.state disk.old).failures (D.state disk.new).failures result }
         ensures cost { Costs (slot_count Two self.old.geometry + 3)
             (D.state disk.old) (D.state disk.new) result }
         ensures spent { OnErr result (self.new ≡ record self.old { spent = true }) }
@@ -293,7 +296,7 @@ impl Journal {
         requires sound { AreSound self.old.geometry layout given.now }
 
         ensures keeps { Keeps (D.state disk.old) (D.state disk.new) }
-        ensures cause { HasCause (D.state disk.old) (D.state disk.new) result }
+        ensures cause { HasCause (D.state disk.old).failures (D.state disk.new).failures result }
         ensures cost { Costs (slot_count layout self.old.geometry + 3)
             (D.state disk.old) (D.state disk.new) result }
         ensures spent { OnErr result (self.new ≡ record self.old { spent = true }) }

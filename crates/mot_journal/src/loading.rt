@@ -3,10 +3,10 @@ ghost use Rattle.std.specs.Prelude.{◌≡◌, ◌<◌, ◌≤◌, ◌+◌, ◌*
 ghost use Rattle.std.specs.Prelude.{true, IfOk, IfErr, All};
 ghost use Rattle.mot_base.specs.Geometry.{half_size};
 ghost use Rattle.mot_base.specs.declared.geometry.TheConstants.{MAX_OBJECTS};
-ghost use Rattle.mot_journal.specs.Geometry.{is_valid as valid};
+ghost use Rattle.mot_base.specs.Geometry.{is_valid as valid};
 ghost use Rattle.mot_journal.specs.Geometry.{geometry_of};
 ghost use Rattle.mot_journal.specs.Slot.{is_sound, slot_size, slot_count, layout_of};
-ghost use Rattle.mot_journal.specs.Inner.Loading.{HalfHas, IsHalfRefusal};
+ghost use Rattle.mot_journal.specs.Loading.{HalfHas, IsHalfRefusal};
 
 use crate::decoding::{number, read_record};
 use crate::encoding::OPEN;

@@ -1,10 +1,12 @@
 //! The writes of the journal, as runs of calls of the disk.
 ghost use Rattle.std.specs.Prelude.{◌≡◌, ◌+◌, ◌*◌, ◌^◌, ◌<◌, ◌≤◌, ℕ, length, OnOk};
-ghost use Rattle.disk_store.specs.Disk.{Keeps, HasCause, Costs, Throughout};
+ghost use Rattle.disk_store.specs.Disk.{Keeps, Costs, Throughout};
+ghost use Rattle.disk_store.specs.Failures.{HasCause};
 ghost use Rattle.mot_base.specs.Geometry.{half_size, half_start as start_of_half, length_of};
 ghost use Rattle.mot_journal.specs.Slot.{slot_count, slot_size};
 ghost use Rattle.mot_journal.specs.Inner.Steps.{IsGated, LeavesWritten, HasCauseOf, ChangesWithin};
-ghost use Rattle.mot_journal.specs.Inner.Steps.{HasSlots, AreSound, Publishes};
+ghost use Rattle.mot_journal.specs.Inner.Steps.{HasSlots, Publishes};
+ghost use Rattle.mot_journal.specs.Slot.{AreSound};
 
 use crate::encoding::slot_or_zeros;
 use crate::places::half_start;
@@ -17,7 +19,7 @@ pub fn write_slot<D: Disk>(disk: &mut D, place: u64, slot: &[u8]) -> Result<(), 
     requires low { place < 2 ^ 62 }
     requires fits { place + length slot.now ≤ (D.state disk.old).len }
     ensures keeps { Keeps (D.state disk.old) (D.state disk.new) }
-    ensures cause { HasCause (D.state disk.old) (D.state disk.new) result }
+    ensures cause { HasCause (D.state disk.old).failures (D.state disk.new).failures result }
     ensures cost { Costs 4 (D.state disk.old) (D.state disk.new) result }
     ensures any_moment { (D.state disk.old).IsHonest
         → Throughout (D.state disk.old) (D.state disk.new)
@@ -80,7 +82,7 @@ pub fn publish<D: Disk>(disk: &mut D, place: u64, bytes: &[u8]) -> Result<(), Di
     requires some { 0 < length bytes.now }
     requires fits { place + length bytes.now ≤ (D.state disk.old).len }
     ensures keeps { Keeps (D.state disk.old) (D.state disk.new) }
-    ensures cause { HasCause (D.state disk.old) (D.state disk.new) result }
+    ensures cause { HasCause (D.state disk.old).failures (D.state disk.new).failures result }
     ensures cost { Costs 3 (D.state disk.old) (D.state disk.new) result }
     ensures any_moment { (D.state disk.old).IsHonest
         → Publishes place (length bytes.now) (D.state disk.old) (D.state disk.new) }

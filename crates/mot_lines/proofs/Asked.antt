@@ -1,6 +1,6 @@
 -- The fields of a line, and the steps by which they are read.
 use Rattle.std.proofs.Common.{◌≡◌, ℕ, true, false, ◌&&◌, List, [], ◌∷◌, length, Option, Some, None}
-use Rattle.std.proofs.Common.{Result, Ok, Err, refl, ap, ◌∙◌, inl, inr}
+use Rattle.std.proofs.Common.{Result, Ok, Err, refl, ap, ◌∙◌, inl, inr, arith}
 use Rattle.std.specs.Prelude.{nat_lt, nat_le, not, codes, bytes_eq, is_ok, IsOk, IfOk, IfErr, ◌==◌}
 use Rattle.std.specs.Prelude.{◌↔◌}
 use Rattle.std.specs.List.{list_all}
@@ -15,10 +15,14 @@ use Rattle.mot_base.specs.declared.refusal.Refusal.TheVariants.{OutOfMemory, Bad
 use Rattle.mot_carousel.specs.Content.{ContentNumbers}
 use Rattle.mot_carousel.specs.Name.{IsName}
 use Rattle.mot_carousel.specs.Mime.{IsMime}
+use Rattle.mot_carousel.proofs.Laws.{name_true, name_is, mime_true, mime_is}
 use Rattle.mot_lines.specs.declared.line.description.Description.{Description}
-use Rattle.mot_lines.specs.Fields.{is_name, name_in, content_in, is_mime, mime_in, body_in}
+use Rattle.mot_lines.specs.Fields.{name_in, content_in, mime_in, body_in}
+use Rattle.mot_carousel.specs.Mime.{is_mime}
+use Rattle.mot_carousel.specs.Name.{is_name}
 use Rattle.mot_lines.specs.Words.{number_of_word}
-use Rattle.mot_lines.specs.Line.{◌>>=◌, description_of, OrOutOfMemory}
+use Rattle.mot_lines.specs.Line.{◌>>=◌, description_of}
+use Rattle.mot_lines.specs.Inner.Words.{OrOutOfMemory}
 
 -- a refusal ends the reading
 pub bound_err : {A B : Type 0} (x : Result A Refusal) (f : A → Result B Refusal) (r : Refusal)
@@ -35,56 +39,16 @@ bound_ok x f v r (inr h) k = absurd (cc)
 
 -- ---- names
 
-pub name_given : (bytes : List ℕ) → IsName bytes → is_name bytes ≡ true
-name_given bytes n = rw (
-  lt-ltb 0 (length bytes) n.some,
-  le-leb (length bytes) 255 n.short,
-  is_utf8-from_IsUtf8 bytes n.text,
-  list_all-from_AllPass (λ b. nat_lt 32 b && not (b == 127)) bytes n.printed,
-) refl
-
-name_from : (bytes : List ℕ) → is_name bytes ≡ true → IsName bytes
-name_from bytes h =
-    let p = and_parts (nat_lt 0 (length bytes) && nat_le (length bytes) 255 && is_utf8 bytes)
-    (list_all (λ b. nat_lt 32 b && not (b == 127)) bytes) h in
-    let q = and_parts (nat_lt 0 (length bytes) && nat_le (length bytes) 255) (is_utf8 bytes) p.0 in
-    let r = and_parts (nat_lt 0 (length bytes)) (nat_le (length bytes) 255) q.0 in
-    record {
-      some = ltb-true 0 (length bytes) r.0;
-      short = leb-true (length bytes) 255 r.1;
-      text = IsUtf8-from_is_utf8 bytes q.1;
-      printed = AllPass-from_list_all (λ b. nat_lt 32 b && not (b == 127)) bytes p.1;
-    }
-
 pub name_answer : (bytes : List ℕ) (r : Result (List ℕ) Refusal) → (IsOk r ↔ IsName bytes)
     → IfOk r (λ n. n ≡ bytes) → IfErr r (λ e. e ≡ BadName) → r ≡ name_in bytes
 unfolding name_in
-name_answer bytes (Ok n) v i e = rw (name_given bytes (v.0 refl)) (ap (λ x. Ok x) i)
+name_answer bytes (Ok n) v i e = rw (name_true 255 bytes (v.0 refl) (v.0 refl).short) (ap (λ x. Ok x) i)
 name_answer bytes (Err r) v i e =
-    let other : is_name bytes ≡ false = false_from_ne_true (is_name bytes)
-    (λ t. let k : is_ok {T = List ℕ} (Err r) ≡ true = v.1 (name_from bytes t) in absurd (cc)) in
+    let other : is_name 255 bytes ≡ false = false_from_ne_true (is_name 255 bytes)
+    (λ t. let k : is_ok {T = List ℕ} (Err r) ≡ true = v.1 (name_is 255 bytes (omega arith) t) in absurd (cc)) in
     rw other (ap (λ x. Err x) e)
 
 -- ---- MIME types
-
-pub mime_given : (bytes : List ℕ) → IsMime bytes → is_mime bytes ≡ true
-mime_given bytes m = rw (
-  lt-ltb 0 (length bytes) m.some,
-  le-leb (length bytes) 64 m.short,
-  list_all-from_AllPass (λ b. nat_lt 32 b && nat_lt b 127) bytes m.printed,
-) refl
-
-mime_from : (bytes : List ℕ) → bytes_eq bytes (codes "-") ≡ false → is_mime bytes ≡ true → IsMime bytes
-mime_from bytes named h =
-    let p = and_parts (nat_lt 0 (length bytes) && nat_le (length bytes) 64)
-    (list_all (λ b. nat_lt 32 b && nat_lt b 127) bytes) h in
-    let q = and_parts (nat_lt 0 (length bytes)) (nat_le (length bytes) 64) p.0 in
-    record {
-      some = ltb-true 0 (length bytes) q.0;
-      short = leb-true (length bytes) 64 q.1;
-      printed = AllPass-from_list_all (λ b. nat_lt 32 b && nat_lt b 127) bytes p.1;
-      named = λ e. let t : bytes_eq bytes (codes "-") ≡ true = rw e refl in absurd (cc);
-    }
 
 pub mime_none : (bytes : List ℕ) → bytes_eq bytes (codes "-") ≡ true → mime_in bytes ≡ Ok None
 unfolding mime_in
@@ -94,15 +58,15 @@ module _ (bytes : List ℕ) (named : bytes_eq bytes (codes "-") ≡ false) (r : 
     (v : IsOk r ↔ IsMime bytes) where
   pub mime_some : (m : List ℕ) → r ≡ Ok m → m ≡ bytes → Ok (Some m) ≡ mime_in bytes
   unfolding mime_in
-  mime_some m w i = rw (named, mime_given bytes (v.0 (ap is_ok w))) (ap (λ x. Ok (Some x)) i)
+  mime_some m w i = rw (mime_true bytes (v.0 (ap is_ok w)), named) (ap (λ x. Ok (Some x)) i)
 
   pub mime_refused : (e : Refusal) → r ≡ Err e → e ≡ BadMime → Err e ≡ mime_in bytes
   unfolding mime_in
   mime_refused e w i =
       let other : is_mime bytes ≡ false = false_from_ne_true (is_mime bytes)
-      (λ t. let k : is_ok r ≡ true = v.1 (mime_from bytes named t) in let n : is_ok r ≡ false = ap is_ok w in
+      (λ t. let k : is_ok r ≡ true = v.1 (mime_is bytes t) in let n : is_ok r ≡ false = ap is_ok w in
       absurd (cc)) in
-      rw (named, other) (ap (λ x. Err x) i)
+      rw (other, named) (ap (λ x. Err x) i)
 
 -- ---- the words of a put or a replace
 

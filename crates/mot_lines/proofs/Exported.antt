@@ -28,12 +28,12 @@ use Rattle.mot_lines.specs.declared.line.Line.{Line}
 use Rattle.mot_lines.specs.declared.line.Line.TheVariants.{Command}
 use Rattle.mot_lines.specs.Export.{ExportsAskForTheirCommands, front_words, period_line, put_line}
 use Rattle.mot_lines.specs.Fields.{body_in, content_in, mime_in, name_in}
-use Rattle.mot_lines.specs.Inner.LineEnd.{HasNoLineEnd}
+use Rattle.mot_lines.specs.Lines.{HasNoLineEnd}
 use Rattle.mot_lines.specs.Line.{description_of, line_of, period_of, put_of, request_of}
 use Rattle.mot_lines.specs.Lines.{all_but_last, last_of, lines_of, pieces_between, rest_of, unless_empty, whole_lines}
 use Rattle.mot_lines.specs.Listing.{mime_word}
 use Rattle.mot_lines.specs.Words.{decimal_value, number_of_word, words_of}
-use Rattle.mot_lines.proofs.Asked.{mime_given, name_given}
+use Rattle.mot_carousel.proofs.Laws.{mime_true, name_true}
 use Rattle.mot_lines.proofs.Input.{some_piece}
 use Rattle.mot_lines.proofs.Numbers.{number_of_digits}
 use Rattle.mot_lines.proofs.Requests.{line_of-short, request_of-period, request_of-put}
@@ -149,7 +149,7 @@ tested word e =
 
 name-read : (name : List ℕ) → IsName name → name_in name ≡ Ok name
 unfolding name_in
-name-read name is = rw (name_given name is) refl
+name-read name is = rw (name_true 255 name is is.short) refl
 
 content-read : (c : ContentNumbers) → c.content_type ≤ 63 → c.subtype ≤ 511
     → content_in (number_of_word (decimal c.content_type)) (number_of_word (decimal c.subtype)) ≡ Ok c
@@ -166,8 +166,8 @@ unfolding mime_in
 mime-read None is = refl
 mime-read (Some mime) is =
     rw (
+      mime_true mime is,
       false_from_ne_true (bytes_eq mime (codes "-")) (λ e. is.named ((bytes_eq-Decides mime (45 ∷ [])).0 e)),
-      mime_given mime is,
     ) refl
 
 body-read : (body : List ℕ) → 1 ≤ length body → length body ≤ 262144 → IsBytes body

@@ -13,7 +13,9 @@ use Rattle.mot_carousel.specs.declared.body.TheConstants.{MAX_BODY}
 use Rattle.mot_carousel.specs.declared.content.TheConstants.{MAX_TYPE, MAX_SUBTYPE}
 use Rattle.mot_carousel.specs.declared.period.TheConstants.{MAX_PERIOD}
 use Rattle.mot_lines.specs.Fields.{kind_in, tid_in, segment_in, name_in, content_in, mime_in}
-use Rattle.mot_lines.specs.Fields.{body_in, period_in, count_in, is_name, is_mime}
+use Rattle.mot_lines.specs.Fields.{body_in, period_in, count_in}
+use Rattle.mot_carousel.specs.Mime.{is_mime}
+use Rattle.mot_carousel.specs.Name.{is_name}
 use Rattle.mot_lines.specs.Line.{◌>>=◌, raw_of, description_of, put_of, replace_of, withdraw_of}
 use Rattle.mot_lines.specs.Line.{period_of, list_of, next_of, turn_of, request_of, line_of}
 use Rattle.mot_lines.specs.declared.line.TheConstants.{MAX_LINE, MAX_PACKETS}
@@ -51,7 +53,7 @@ segment (Ok bytes) =
 
 name : (word : List ℕ) → IsNoFault (name_in word)
 unfolding name_in
-name word = either (is_name word) _ _ (value word) (λ e. cc)
+name word = either (is_name 255 word) _ _ (value word) (λ e. cc)
 
 content : (kind subtype : Option ℕ) → IsNoFault (content_in kind subtype)
 content None subtype = λ e. cc

@@ -5,7 +5,7 @@ use Rattle.std.specs.Prelude.{nat_eq}
 use Rattle.std.specs.List.{onto_first}
 use Rattle.mot_lines.specs.Lines.{pieces_between, all_but_last, last_of, whole_lines, rest_of}
 use Rattle.mot_lines.specs.Lines.{lines_of, unless_empty}
-use Rattle.mot_lines.specs.Inner.LineEnd.{HasNoLineEnd}
+use Rattle.mot_lines.specs.Lines.{HasNoLineEnd}
 use Rattle.std.proofs.lemmas.Bool.{eqb-true}
 use Rattle.std.proofs.lemmas.List.Elements.{All-head, All-tail}
 

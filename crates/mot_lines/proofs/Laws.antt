@@ -4,8 +4,8 @@ use Rattle.std.proofs.Common.{◌≡◌, ℕ, List, [], ◌∷◌, ◌++◌, Err
 use Rattle.mot_base.specs.declared.refusal.Refusal.TheVariants.{DeviceFault}
 use Rattle.mot_carousel.specs.declared.carousel.Carousel.{Carousel}
 use Rattle.mot_carousel.specs.Stands.{carousel_of, AreBodiesOf}
-use Rattle.mot_lines.specs.Inner.LineEnd.{HasNoLineEnd}
-use Rattle.mot_lines.specs.Inner.Listing.{listing_text_beside}
+use Rattle.mot_lines.specs.Lines.{HasNoLineEnd}
+use Rattle.mot_lines.specs.Listing.{listing_text_beside}
 use Rattle.mot_lines.specs.Line.{line_of}
 use Rattle.mot_lines.specs.Lines.{whole_lines, rest_of, lines_of}
 use Rattle.mot_lines.specs.Listing.{listing_text}

@@ -6,7 +6,7 @@ use Rattle.mot_carousel.specs.declared.carousel.Carousel.{Carousel}
 use Rattle.mot_carousel.specs.declared.object.Object.{Object}
 use Rattle.mot_carousel.specs.Stands.{objects_of, carousel_of, AreBodiesOf}
 use Rattle.mot_lines.specs.Listing.{numbers_line, object_words, object_line, listing_text}
-use Rattle.mot_lines.specs.Inner.Listing.{object_line_beside, listing_text_beside}
+use Rattle.mot_lines.specs.Listing.{object_line_beside, listing_text_beside}
 
 -- of bodies of the lengths that the objects give
 beside-counted : (objects : List Object) (bodies : List (List ℕ))

@@ -4,7 +4,7 @@ use Rattle.std.proofs.Common.{Some, None, Ok, Err, refl}
 use Rattle.std.specs.Prelude.{bytes_eq, codes, nat_le}
 use Rattle.std.proofs.lemmas.Bool.{lt-leb, le-leb, leb-false}
 use Rattle.mot_lines.specs.declared.line.TheConstants.{MAX_LINE}
-use Rattle.mot_lines.specs.Inner.Hand.{bytes_in_hand}
+use Rattle.mot_lines.specs.Hand.{bytes_in_hand}
 use Rattle.hex.specs.Hex.{decode_of}
 use Rattle.mot_base.specs.declared.group_kind.GroupKind.{GroupKind}
 use Rattle.mot_base.specs.declared.refusal.Refusal.{Refusal}

@@ -1,8 +1,6 @@
 -- The fields of lines, each by its word.
-use Rattle.std.specs.Prelude.{ℕ, Bool, ◌&&◌, ◌==◌, not, nat_lt, nat_le, if◌then◌else◌, List, length}
+use Rattle.std.specs.Prelude.{ℕ, ◌&&◌, ◌==◌, nat_lt, nat_le, if◌then◌else◌, List, length}
 use Rattle.std.specs.Prelude.{Option, Some, None, Result, Ok, Err, codes, bytes_eq}
-use Rattle.std.specs.List.{list_all}
-use Rattle.std.specs.Str.{is_utf8}
 use Rattle.hex.specs.declared.error.FromHexError.{FromHexError}
 use Rattle.mot_base.specs.Reading.{is_empty}
 use Rattle.mot_base.specs.declared.group_kind.GroupKind.{GroupKind}
@@ -14,11 +12,12 @@ use Rattle.mot_base.specs.declared.refusal.Refusal.TheVariants.{BodyTooLong}
 use Rattle.mot_carousel.specs.Content.{ContentNumbers}
 use Rattle.mot_carousel.specs.declared.body.TheConstants.{MAX_BODY}
 use Rattle.mot_carousel.specs.declared.content.TheConstants.{MAX_TYPE, MAX_SUBTYPE}
-use Rattle.mot_carousel.specs.declared.mime.TheConstants.{MAX_MIME}
-use Rattle.mot_carousel.specs.declared.name.TheConstants.{MAX_NAME}
 use Rattle.mot_carousel.specs.declared.period.TheConstants.{MAX_PERIOD}
 use Rattle.mot_groups.specs.SegmentBytes.{segment_of_bytes}
 use Rattle.mot_lines.specs.declared.line.TheConstants.{MAX_PACKETS}
+use Rattle.mot_carousel.specs.Name.{is_name}
+use Rattle.mot_carousel.specs.Mime.{is_mime}
+use Rattle.mot_carousel.specs.declared.name.TheConstants.{MAX_NAME}
 
 -- TYPE of a `raw` line: 4 is a body, 6 a directory
 abbrev pub kind_in : Option ℕ → Result GroupKind Refusal
@@ -35,15 +34,9 @@ abbrev pub segment_in : Result (List ℕ) FromHexError → Result (List ℕ) Ref
 segment_in (Err e) = Err BadBody
 segment_in (Ok bytes) = segment_of_bytes bytes
 
--- 1 to 255 bytes of UTF-8, with no byte up to 0x20 and no 0x7F
-abbrev pub is_name : List ℕ → Bool
-is_name bytes =
-    nat_lt 0 (length bytes) && nat_le (length bytes) MAX_NAME && is_utf8 bytes
-    && list_all (λ b. nat_lt 32 b && not (b == 127)) bytes
-
--- NAME
+-- NAME: 1 to 255 bytes of UTF-8, with no byte up to 0x20 and no 0x7F
 unfoldable pub name_in : List ℕ → Result (List ℕ) Refusal
-name_in word = if is_name word then Ok word else Err BadName
+name_in word = if is_name MAX_NAME word then Ok word else Err BadName
 
 -- TYPE and SUBTYPE of an object: 0 to 63, and 0 to 511
 abbrev pub content_in : Option ℕ → Option ℕ → Result ContentNumbers Refusal
@@ -53,13 +46,7 @@ content_in (Some t) (Some s) =
     if nat_le t MAX_TYPE && nat_le s MAX_SUBTYPE then Ok (record { content_type = t; subtype = s })
     else Err BadType
 
--- 1 to 64 bytes 0x21 to 0x7E
-abbrev pub is_mime : List ℕ → Bool
-is_mime bytes =
-    nat_lt 0 (length bytes) && nat_le (length bytes) MAX_MIME
-    && list_all (λ b. nat_lt 32 b && nat_lt b 127) bytes
-
--- MIME: `-` is none
+-- MIME: 1 to 64 bytes 0x21 to 0x7E; `-` is none
 unfoldable pub mime_in : List ℕ → Result (Option (List ℕ)) Refusal
 mime_in word =
     if bytes_eq word (codes "-") then Ok None

@@ -1,4 +1,1 @@
-pub mod Hand
-pub mod LineEnd
-pub mod Listing
 pub mod Words

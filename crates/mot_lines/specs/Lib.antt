@@ -1,5 +1,6 @@
 pub mod Export
 pub mod Fields
+pub mod Hand
 pub mod Inner
 pub mod Line
 pub mod Lines

@@ -112,7 +112,3 @@ NeedsMemory (Ok asks.Turn) = ⊥
 -- what a line asks for, but where that takes memory a growth that is refused may stand in its place
 abbrev pub IsParsed : Result Line Refusal → Result Line Refusal → Type 0
 IsParsed result request = (result ≡ request) ⊎ ((result ≡ Err OutOfMemory) × NeedsMemory request)
-
--- this answer, but a growth of memory that is refused may stand in its place
-abbrev pub OrOutOfMemory : {T : Type 0} → Result T Refusal → Result T Refusal → Type 0
-OrOutOfMemory result answer = (result ≡ answer) ⊎ (result ≡ Err OutOfMemory)

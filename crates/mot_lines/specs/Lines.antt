@@ -2,6 +2,7 @@
 -- is empty.
 use Rattle.std.specs.Prelude.{ℕ, ◌==◌, List, [], ◌∷◌, ◌++◌}
 use Rattle.std.specs.List.{slice_split}
+use Rattle.std.specs.Prelude.{◌≡◌, false, nat_eq, All}
 
 -- what stands between line ends; an input with none is one piece
 abbrev pub pieces_between : List ℕ → List (List ℕ)
@@ -34,3 +35,7 @@ unless_empty (b ∷ bs) = (b ∷ bs) ∷ []
 -- all lines
 unfoldable pub lines_of : List ℕ → List (List ℕ)
 lines_of input = whole_lines input ++ unless_empty (rest_of input)
+
+-- no byte ends a line
+abbrev pub HasNoLineEnd : List ℕ → Type 0
+HasNoLineEnd bytes = All (λ b. nat_eq b 10 ≡ false) bytes

@@ -5,6 +5,8 @@ use Rattle.std.specs.Fmt.{decimal}
 use Rattle.mot_carousel.specs.Carousel.{Object, Carousel}
 use Rattle.mot_carousel.specs.Content.{ContentNumbers}
 use Rattle.mot_lines.specs.Text.{field}
+use Rattle.mot_carousel.specs.declared.carousel.Carousel as kept
+use Rattle.mot_carousel.specs.declared.object.Object as one
 
 -- a carousel's numbers, and how many objects it has
 abbrev pub numbers_line : ℕ → ℕ → ℕ → ℕ → List ℕ
@@ -30,3 +32,12 @@ object_line o = object_words o.tid o.version o.content (length o.body) o.name o.
 abbrev pub listing_text : Carousel → List ℕ
 listing_text c =
     numbers_line c.period c.directory c.cursor (length c.objects) ++ flat_map object_line c.objects
+
+-- the same of a carousel whose bodies stand beside it
+abbrev pub object_line_beside : one.Object → List ℕ
+object_line_beside o = object_words o.tid o.version o.content o.length o.name o.mime
+
+abbrev pub listing_text_beside : kept.Carousel → List ℕ
+listing_text_beside c =
+    numbers_line c.period c.directory c.cursor (length c.objects.items)
+    ++ flat_map object_line_beside c.objects.items

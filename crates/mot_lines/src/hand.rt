@@ -26,7 +26,7 @@ impl Model for Hand {
 }
 
 impl Hand {
-    ghost use Rattle.mot_lines.specs.Inner.Hand.{bytes_in_hand};
+    ghost use Rattle.mot_lines.specs.Hand.{bytes_in_hand};
     ghost use Rattle.mot_lines.specs.Line.{line_of, IsParsed};
 
     /// An empty line.

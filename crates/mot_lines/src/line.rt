@@ -1,7 +1,8 @@
 ghost use Rattle.std.specs.Prelude.{◌≡◌, ◌∷◌};
 ghost use Rattle.mot_lines.specs.Line.{raw_of, put_of, replace_of, withdraw_of, period_of, list_of};
 ghost use Rattle.mot_lines.specs.Line.{next_of, turn_of, request_of, line_of};
-ghost use Rattle.mot_lines.specs.Line.{IsParsed, OrOutOfMemory};
+ghost use Rattle.mot_lines.specs.Line.{IsParsed};
+ghost use Rattle.mot_lines.specs.Inner.Words.{OrOutOfMemory};
 ghost use Rattle.mot_lines.specs.Inner.Words.{words_after};
 
 mod description;

@@ -1,5 +1,5 @@
 ghost use Rattle.std.specs.Prelude.{◌≡◌, ◌∷◌, ◌++◌, IfSome, IfNone};
-ghost use Rattle.mot_lines.specs.Inner.LineEnd.{HasNoLineEnd};
+ghost use Rattle.mot_lines.specs.Lines.{HasNoLineEnd};
 
 use memchr::memchr;
 

@@ -3,7 +3,7 @@ ghost use Rattle.std.specs.Prelude.{slice_index};
 ghost use Rattle.arrayvec.specs.ArrayVec.{array_vec_len};
 ghost use Rattle.hex.specs.Hex.{encode_lower, lower_digits};
 ghost use Rattle.mot_lines.specs.Listing.{numbers_line, mime_word};
-ghost use Rattle.mot_lines.specs.Inner.Listing.{object_line_beside};
+ghost use Rattle.mot_lines.specs.Listing.{object_line_beside};
 ghost use Rattle.mot_lines.specs.Text.{field, taken_words, done_line, packet_line, played_line};
 ghost use Rattle.mot_lines.specs.Text.{refusal_line};
 

@@ -12,11 +12,12 @@ use Rattle.mot_packets.specs.Written.{bytes_of_packet}
 use Rattle.mot_groups.specs.Group.{GroupFields, bytes_of_group}
 use Rattle.mot_player.specs.declared.state.State.{State}
 use Rattle.mot_player.specs.declared.last_group.LastGroup.{LastGroup}
-use Rattle.mot_player.specs.Inner.LastGroup.{last_of}
+use Rattle.mot_player.specs.LastGroup.{last_of}
 use Rattle.mot_player.specs.Laws.{IsPlace, IsStep}
 use Rattle.mot_player.specs.Standing.{AreBodiesFor, Standing, TurnPlan, place_of}
 use Rattle.mot_player.specs.Place.{Last, Place, Sent, UnderWay, first_sent, group_for, next_sent, packet_sent, request, with_begun}
-use Rattle.mot_player.specs.Inner.Ready.{HasBegun, IsFitted, IsReady, place_with, standing_of}
+use Rattle.mot_player.specs.Inner.Ready.{HasBegun, IsFitted, IsReady, place_with}
+use Rattle.mot_player.specs.State.{standing_of}
 use Rattle.mot_player.proofs.Plans.{is_playable}
 
 abbrev pub sent_from : State → List (List ℕ) → Sent

@@ -6,11 +6,13 @@ use Rattle.std.proofs.lemmas.Bool.{ne_eqb}
 use Rattle.std.proofs.lemmas.List.{length-replicate}
 use Rattle.std.specs.Prelude.{◌==◌, if◌then◌else◌, replicate}
 use Rattle.mot_player.specs.Inner.Next.{IsNext, segment_of}
-use Rattle.mot_player.specs.Inner.Ready.{HasTaken, place_with, standing_of}
+use Rattle.mot_player.specs.Inner.Ready.{HasTaken, place_with}
+use Rattle.mot_player.specs.State.{standing_of}
 use Rattle.mot_player.specs.Laws.{blank_bodies, bytes_due, bytes_left, group_bytes_of}
 use Rattle.mot_player.specs.Place.{UnderWay}
 use Rattle.mot_player.specs.Standing.{AreBodiesFor, BodyPlan, TurnPlan, entities_of}
-use Rattle.mot_player.specs.Standing.{entity_bytes, entity_length, segments_from, turn_of}
+use Rattle.mot_player.specs.Standing.{segments_from, turn_of}
+use Rattle.mot_player.specs.Inner.Entities.{entity_bytes, entity_length}
 use Rattle.mot_player.specs.declared.part.Part.{Part}
 use Rattle.mot_player.specs.declared.state.State.{State}
 use Rattle.mot_player.proofs.Answered.{room-some, sent_from}

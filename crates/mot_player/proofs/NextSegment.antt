@@ -12,7 +12,8 @@ use Rattle.mot_groups.specs.Entity.{first_pieces, numbered_segments}
 use Rattle.mot_groups.specs.Group.{Segment}
 use Rattle.mot_player.specs.Bodies.{body_at}
 use Rattle.mot_player.specs.Inner.Next.{due_from}
-use Rattle.mot_player.specs.Standing.{AreBodiesFor, BodyPlan, Entity, IsPlannable, IsWithinTurn, TurnPlan, entities_of, entity_bytes, entity_length, entity_tid, segments_from, segments_in, turn_of, with_bodies}
+use Rattle.mot_player.specs.Standing.{AreBodiesFor, BodyPlan, Entity, TurnPlan, entities_of, segments_from, segments_in, turn_of, with_bodies}
+use Rattle.mot_player.specs.Inner.Entities.{IsPlannable, IsWithinTurn, entity_bytes, entity_length, entity_tid}
 use Rattle.mot_player.specs.Turn.{segments_of_turn}
 use Rattle.mot_player.proofs.Segments.{body_entity, length-with_bodies, segments_from-end, segments_from-whole}
 

@@ -6,7 +6,8 @@ use Rattle.std.specs.List.{AllByRecursion}
 use Rattle.mot_carousel.specs.declared.object.Object.{Object}
 use Rattle.mot_carousel.specs.Stands.{objects_of}
 use Rattle.mot_player.specs.declared.planned_body.PlannedBody.{PlannedBody}
-use Rattle.mot_player.specs.Standing.{AreBodiesFor, BodyPlan, IsPlannable, TurnPlan, turn_of, with_bodies}
+use Rattle.mot_player.specs.Standing.{AreBodiesFor, BodyPlan, TurnPlan, turn_of, with_bodies}
+use Rattle.mot_player.specs.Inner.Entities.{IsPlannable}
 use Rattle.mot_player.specs.Turn.{IsPlayable, IsSendable, bodies_of}
 
 abbrev pub body_plan : PlannedBody → BodyPlan

@@ -6,7 +6,8 @@ use Rattle.std.proofs.lemmas.List.{length-replicate}
 use Rattle.std.specs.Prelude.{replicate, slice_index}
 use Rattle.mot_player.specs.Bodies.{body_at}
 use Rattle.mot_player.specs.Laws.{blank_bodies}
-use Rattle.mot_player.specs.Standing.{AreBodiesFor, BodyPlan, TurnPlan, entity_bytes, entity_length}
+use Rattle.mot_player.specs.Standing.{AreBodiesFor, BodyPlan, TurnPlan}
+use Rattle.mot_player.specs.Inner.Entities.{entity_bytes, entity_length}
 use Rattle.mot_player.proofs.Nearer.{are-blank, blank-lengths}
 
 -- so many bytes, with the given ones at a place

@@ -2,9 +2,12 @@ pub mod AnyBodies
 pub mod Bodies
 pub mod Continuity
 pub mod Inner
+pub mod LastGroup
 pub mod Laws
 pub mod Place
+pub mod Planned
 pub mod Reading
 pub mod Rounds
 pub mod Standing
+pub mod State
 pub mod Turn

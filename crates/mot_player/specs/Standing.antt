@@ -1,14 +1,9 @@
 -- Where the code of a player stands: the turn but for its bodies, and which of its segments comes
 -- next.
-use Rattle.std.specs.Prelude.{◌≡◌, ◌⊎◌, ℕ, zero, suc, ◌+◌, ◌*◌, ◌<◌, ◌≤◌, ◌==◌, if◌then◌else◌, List}
-use Rattle.std.specs.Prelude.{[], ◌∷◌, ◌++◌, length, drop, map, flat_map, ◌-◌, slice_index, Option}
-use Rattle.std.specs.List.{AllByRecursion}
-use Rattle.mot_base.specs.declared.geometry.TheConstants.{MAX_OBJECTS}
-use Rattle.mot_carousel.specs.declared.body.TheConstants.{MAX_BODY}
-use Rattle.mot_directory.specs.declared.directory.TheConstants.{MAX_DIRECTORY}
+use Rattle.std.specs.Prelude.{◌≡◌, ℕ, zero, suc, List}
+use Rattle.std.specs.Prelude.{[], ◌∷◌, ◌++◌, length, drop, map, flat_map, Option}
 use Rattle.mot_groups.specs.Entity.{segments_of}
 use Rattle.mot_groups.specs.Group.{Segment}
-use Rattle.mot_player.specs.Bodies.{body_at}
 use Rattle.mot_player.specs.Place.{Last, UnderWay, Place}
 use Rattle.mot_player.specs.Turn.{Turn}
 
@@ -22,13 +17,6 @@ pub record TurnPlan : Type 0 where
   pub tid : ℕ
   pub directory : List ℕ
   pub bodies : List BodyPlan
-
--- a turn of a carousel within its limits: how long its entities are, and how many
-pub record IsPlannable (plan : TurnPlan) : Type 0 where
-  pub some : 0 < length plan.directory
-  pub directory : length plan.directory ≤ MAX_DIRECTORY
-  pub bodies : AllByRecursion (λ (b : BodyPlan). (1 ≤ b.length) × (b.length ≤ MAX_BODY)) plan.bodies
-  pub few : length plan.bodies ≤ MAX_OBJECTS
 
 -- there is a body for each, of the length that it gives
 abbrev pub AreBodiesFor : TurnPlan → List (List ℕ) → Type 0
@@ -93,25 +81,3 @@ place_of s bodies = record {
   last_directory = s.last_directory;
   last_body = s.last_body;
 }
-
--- the transport id of an entity of a turn, and how many bytes it has
-abbrev pub entity_tid : TurnPlan → ℕ → ℕ
-entity_tid plan entity =
-    if entity == 0 then plan.tid
-    else slice_index (map (λ (b : BodyPlan). b.tid) plan.bodies) (entity - 1)
-
-abbrev pub entity_length : TurnPlan → ℕ → ℕ
-entity_length plan entity =
-    if entity == 0 then length plan.directory
-    else slice_index (map (λ (b : BodyPlan). b.length) plan.bodies) (entity - 1)
-
--- its bytes, with the bodies
-abbrev pub entity_bytes : TurnPlan → List (List ℕ) → ℕ → List ℕ
-entity_bytes plan bodies entity =
-    if entity == 0 then plan.directory else body_at bodies (entity - 1)
-
--- the next segment is one of the turn's, or nothing waits
-abbrev pub IsWithinTurn : TurnPlan → ℕ → ℕ → ℕ → Type 0
-IsWithinTurn plan size entity segment =
-    (entity < length plan.bodies + 1) × (segment * size < entity_length plan entity)
-    ⊎ (entity ≡ length plan.bodies + 1) × (segment ≡ 0)

@@ -1,7 +1,8 @@
 ghost use Rattle.std.specs.Prelude.{◌≡◌, ◌+◌, ◌<◌, ◌≤◌, List, ℕ, length, map, refl, slice_range};
 ghost use Rattle.std.specs.Prelude.{OnOk, IfErr};
 ghost use Rattle.mot_base.specs.declared.refusal.Refusal.TheVariants.{DeviceFault};
-ghost use Rattle.mot_player.specs.Bodies.{body_at, HasCause};
+ghost use Rattle.mot_player.specs.Bodies.{body_at};
+ghost use Rattle.disk_store.specs.Failures.{HasCause};
 
 use mot_base::Refusal;
 use mot_carousel::Body;

@@ -5,7 +5,7 @@ ghost use Rattle.mot_base.specs.declared.numbers.TheConstants.{MAX_SEGMENT};
 ghost use Rattle.mot_groups.specs.Group.{GroupFields, IsGroup, content_of, bytes_of_group};
 ghost use Rattle.mot_groups.specs.Group.{group_of};
 ghost use Rattle.mot_groups.specs.Group.{read_group, segment_content};
-ghost use Rattle.mot_player.specs.Inner.LastGroup.{last_of};
+ghost use Rattle.mot_player.specs.LastGroup.{last_of};
 ghost use Rattle.mot_player.specs.Place.{Last, next_index};
 
 use crate::last_group::LastGroup;

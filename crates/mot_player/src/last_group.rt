@@ -15,7 +15,7 @@ pub(crate) struct LastGroup {
 
 impl LastGroup {
     ghost use Rattle.std.specs.Prelude.{Some, None, ◌++◌, IfOk};
-    ghost use Rattle.mot_player.specs.Inner.LastGroup.{last_of};
+    ghost use Rattle.mot_player.specs.LastGroup.{last_of};
     ghost use Rattle.mot_player.specs.Place.{Last, next_index};
 
     /// None was begun. There is room for segments of so many bytes.

@@ -2,7 +2,7 @@ ghost use Rattle.std.specs.Prelude.{◌≡◌, ℕ, ◌+◌, ◌*◌, ◌^◌, �
 ghost use Rattle.std.specs.Prelude.{if◌then◌else◌};
 ghost use Rattle.mot_base.specs.declared.numbers.TheConstants.{MAX_SEGMENT};
 ghost use Rattle.mot_player.specs.Inner.Next.{IsNext};
-ghost use Rattle.mot_player.specs.Standing.{IsPlannable, IsWithinTurn, entity_length};
+ghost use Rattle.mot_player.specs.Inner.Entities.{IsPlannable, IsWithinTurn, entity_length};
 
 use crate::Turn;
 use mot_base::SegmentSize;

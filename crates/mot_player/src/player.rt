@@ -3,7 +3,7 @@ ghost use Rattle.std.specs.Prelude.{IfErr, OnOk, OnErr};
 ghost use Rattle.mot_base.specs.PacketLength.{room_of};
 ghost use Rattle.mot_base.specs.declared.refusal.Refusal.TheVariants.{OutOfMemory, DeviceFault};
 ghost use Rattle.mot_packets.specs.Packet.{read_packet};
-ghost use Rattle.mot_player.specs.Bodies.{Rises};
+ghost use Rattle.disk_store.specs.Failures.{Rises};
 ghost use Rattle.mot_player.specs.Standing.{AreBodiesFor, place_of, turn_of};
 ghost use Rattle.mot_player.specs.AnyBodies.{IsStepOfSome};
 ghost use Rattle.mot_player.specs.Laws.{ChangesGoOn, IsPlace, IsStep, RequestsGoOn};
@@ -30,7 +30,8 @@ impl Model for Player {
 
     ghost Value = { Standing };
 
-    ghost use Rattle.mot_player.specs.Inner.Ready.{IsReady, standing_of};
+    ghost use Rattle.mot_player.specs.Inner.Ready.{IsReady};
+    ghost use Rattle.mot_player.specs.State.{standing_of};
 
     ghost view = { λ player. standing_of player.state };
 

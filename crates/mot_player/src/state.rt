@@ -42,13 +42,14 @@ pub struct Played {
 impl State {
     ghost use Rattle.mot_packets.specs.Packet.{read_packet};
     ghost use Rattle.mot_packets.specs.Written.{bytes_of_packet};
-    ghost use Rattle.mot_player.specs.Bodies.{Rises};
+    ghost use Rattle.disk_store.specs.Failures.{Rises};
     ghost use Rattle.mot_player.specs.Place.{packet_sent};
     ghost use Rattle.mot_player.specs.Inner.Ready.{HasBegun, HasTaken, IsFitted, place_with};
-    ghost use Rattle.mot_player.specs.Inner.Ready.{standing_of};
+    ghost use Rattle.mot_player.specs.State.{standing_of};
     ghost use Rattle.mot_player.specs.Inner.Next.{IsNext};
-    ghost use Rattle.mot_player.specs.Standing.{AreBodiesFor, IsWithinTurn, entity_bytes};
-    ghost use Rattle.mot_player.specs.Standing.{entity_length};
+    ghost use Rattle.mot_player.specs.Standing.{AreBodiesFor};
+    ghost use Rattle.mot_player.specs.Inner.Entities.{IsWithinTurn, entity_bytes};
+    ghost use Rattle.mot_player.specs.Inner.Entities.{entity_length};
 
     /// Begins the group of the next segment, of which no packet is sent yet. Where a read of the
     /// bodies fails, all stays as it was.

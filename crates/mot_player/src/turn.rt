@@ -26,18 +26,20 @@ impl Model for Turn {
 
     ghost Value = { TurnPlan };
 
-    ghost use Rattle.mot_player.specs.Inner.Planned.{plan_of};
+    ghost use Rattle.mot_player.specs.Planned.{plan_of};
 
     ghost view = { plan_of };
 
-    ghost use Rattle.mot_player.specs.Standing.{IsPlannable};
+    ghost use Rattle.mot_player.specs.Inner.Entities.{IsPlannable};
 
     ghost invariant = { λ turn. IsPlannable (plan_of turn) };
 }
 
 impl Turn {
-    ghost use Rattle.mot_player.specs.Standing.{AreBodiesFor, IsPlannable, entity_length};
-    ghost use Rattle.mot_player.specs.Standing.{entity_tid, turn_of};
+    ghost use Rattle.mot_player.specs.Standing.{AreBodiesFor};
+    ghost use Rattle.mot_player.specs.Inner.Entities.{IsPlannable, entity_length};
+    ghost use Rattle.mot_player.specs.Standing.{turn_of};
+    ghost use Rattle.mot_player.specs.Inner.Entities.{entity_tid};
     ghost use Rattle.mot_player.specs.Turn.{IsTurnOf, turn_of_carousel};
 
     /// The turn of a carousel, in segments of this size. The only refusal is `OutOfMemory`.

@@ -2,11 +2,12 @@
 ghost use Rattle.std.specs.Prelude.{◌≡◌, ◌↔◌, ◌≤◌, ◌++◌, ℕ, Bool, List, IsTrue, IsFalse, Ok, OnOk};
 ghost use Rattle.std.specs.Prelude.{IfErr, ◌⊎◌};
 ghost use Rattle.std.specs.Io.KnownBytes.{Appends, Keeps};
-ghost use Rattle.disk_store.specs.Disk.{KeepsLength, IsUnchanged, Rises};
+ghost use Rattle.disk_store.specs.Disk.{KeepsLength, IsUnchanged};
+ghost use Rattle.disk_store.specs.Failures.{Rises};
 ghost use Rattle.mot_base.specs.declared.refusal.Refusal.TheVariants.{DeviceFault, WriteFault};
 ghost use Rattle.mot_journal.specs.Image.{Standing, stands_for, IsClean};
 ghost use Rattle.mot_journal.specs.Journal.{StandsWhere};
-ghost use Rattle.mot_lines.specs.Inner.Listing.{listing_text_beside};
+ghost use Rattle.mot_lines.specs.Listing.{listing_text_beside};
 ghost use Rattle.mot_program.specs.Program.{IsUntold, OnOpened};
 ghost use Rattle.mot_program.specs.Report.{Checks, StopsChecking, clean_line, layout_line};
 

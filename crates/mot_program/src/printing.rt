@@ -5,7 +5,7 @@ ghost use Rattle.std.specs.Io.KnownBytes.{Appends, Keeps};
 ghost use Rattle.clap.specs.Words.{kind_of};
 ghost use Rattle.mot_base.specs.declared.refusal.Refusal.TheVariants.{OutOfMemory, WriteFault};
 ghost use Rattle.mot_program.specs.declared.ended.UsedDisk.TheVariants.{Untouched};
-ghost use Rattle.mot_lines.specs.Inner.Listing.{listing_text_beside, object_line_beside};
+ghost use Rattle.mot_lines.specs.Listing.{listing_text_beside, object_line_beside};
 
 use crate::ended::{Exit, UsedDisk};
 use crate::subject::{BadNumber, Subject};

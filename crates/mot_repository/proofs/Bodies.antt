@@ -13,16 +13,16 @@ use Rattle.mot_carousel.specs.declared.object.Object.{Object}
 use Rattle.mot_carousel.specs.Carousel as whole
 use Rattle.mot_carousel.specs.Stands.{object_of}
 use Rattle.mot_journal.specs.declared.layout.Layout.{Layout}
-use Rattle.mot_journal.specs.Geometry.{is_valid, is_within, is_packet_length}
+use Rattle.mot_base.specs.Geometry.{is_valid, is_within, is_packet_length}
 use Rattle.mot_journal.specs.Catalogue.{Placed, body_in}
-use Rattle.mot_journal.specs.Gaps.{standing_of}
+use Rattle.mot_journal.specs.Inner.Gaps.{standing_of}
 use Rattle.mot_journal.specs.Image.{Standing, area_of}
 use Rattle.mot_journal.specs.Journal.{with_records}
 use Rattle.mot_journal.proofs.Laws.{stands_by_parts}
 use Rattle.mot_repository.specs.Extents.{objects_in, catalogue_with, ArePaired}
 use Rattle.mot_repository.specs.OnDisk.{extent_at, body_on}
 use Rattle.mot_repository.specs.Repository.{RepositoryView, body_at, Holds}
-use Rattle.mot_repository.specs.Inner.Whole.{IsSoundPlaced, IsWhole}
+use Rattle.mot_repository.specs.Whole.{IsSoundPlaced, IsWhole}
 use Rattle.mot_repository.proofs.Preparing.{kept}
 use Rattle.mot_repository.proofs.Soundness.{placed_in}
 

@@ -10,7 +10,7 @@ use Rattle.mot_journal.specs.Catalogue.{Catalogue, catalogue_of, carousel_in, ex
 use Rattle.mot_journal.specs.Image.{Standing, area_of}
 use Rattle.mot_journal.specs.Journal.{JournalView, with_records, HasRecords, HoldsRecords, WithoutOrWith, OldOrGiven, OnlyReadArea, in_other_half}
 use Rattle.mot_journal.proofs.Laws.{records_stay}
-use Rattle.mot_journal.specs.Gaps.{AreBeside, standing_of}
+use Rattle.mot_journal.specs.Inner.Gaps.{AreBeside, standing_of}
 use Rattle.mot_journal.proofs.Laws.{stands_by_parts, standing_stays, clean_stays, geometry_read}
 use Rattle.std.specs.Prelude.{IsFalse}
 use Rattle.mot_carousel.specs.declared.command.Command.{Command}

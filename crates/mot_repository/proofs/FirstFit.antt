@@ -1,6 +1,7 @@
 -- An answer that is a least gap is the one that the definition finds.
 use Rattle.std.proofs.Common.{◌≡◌, ℕ, ◌+◌, ◌<◌, ◌≤◌, true, List, Option, Some, None, refl, ap, arith}
-use Rattle.mot_repository.specs.Gap.{is_free, least_gap, IsLeastGap}
+use Rattle.mot_repository.specs.Gap.{is_free, least_gap}
+use Rattle.mot_repository.specs.Inner.LeastGap.{IsLeastGap}
 use Rattle.mot_repository.proofs.Gaps.{least_gap_is_least}
 
 only-one : (extents : List (ℕ × ℕ)) (n size : ℕ) (a b : Option ℕ) → IsLeastGap extents n size a

@@ -11,7 +11,7 @@ use Rattle.mot_journal.specs.declared.record.Record.{Record}
 use Rattle.mot_journal.specs.declared.record.Action.{Action}
 use Rattle.mot_journal.specs.declared.record.Action.TheVariants.{Nothing, Set, Remove}
 use Rattle.mot_journal.specs.Catalogue.{Placed, Catalogue, new_catalogue, put_in_place, objects_without, in_place_or_appended, objects_after, are_apart, are_all_apart, is_consistent, catalogue_after, or_damaged, result_then, fold_from, catalogue_of}
-use Rattle.mot_repository.specs.Inner.Whole.{placed_names, IsGood}
+use Rattle.mot_repository.specs.Whole.{placed_names, IsGood}
 
 -- ---- one object in the place of another of its name
 

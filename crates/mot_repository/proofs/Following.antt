@@ -19,7 +19,8 @@ use Rattle.mot_journal.specs.declared.record.Action.{Action}
 use Rattle.mot_journal.specs.declared.record.Action.TheVariants.{Nothing}
 use Rattle.mot_journal.specs.Catalogue.{Placed, Catalogue, put_in_place, objects_without, in_place_or_appended, objects_after, are_all_apart, is_consistent, catalogue_after, body_in, carousel_in, extents_of}
 use Rattle.mot_repository.specs.Gap.{is_beside}
-use Rattle.mot_repository.specs.Laws.{extent_of, extents_with, extents_without, extents_after, object_named, set_action, remove_action, record_of, IsPlaced, RecordsFollowCommands}
+use Rattle.mot_repository.specs.Laws.{extent_of, extents_with, extents_without, extents_after}
+use Rattle.mot_repository.specs.Inner.Following.{object_named, set_action, remove_action, record_of, IsPlaced, RecordsFollowCommands}
 use Rattle.mot_repository.proofs.Folding.{numbered, step_from, is_put, put_apart, push_apart, are_beside, is_gone, gone_apart}
 
 abbrev whole : List ℕ → Placed → Object

@@ -1,5 +1,5 @@
 -- What holds of the definitions, for the crates above.
-use Rattle.mot_repository.specs.Laws.{StandingsAreSound}
+use Rattle.mot_repository.specs.Inner.Following.{StandingsAreSound}
 use Rattle.mot_repository.proofs.Soundness.{keeps}
 -- an object's body lies where its extent says
 pub use Rattle.mot_repository.proofs.Bodies.{body_held}

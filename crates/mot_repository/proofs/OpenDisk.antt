@@ -3,7 +3,8 @@ use Rattle.std.proofs.Common.{◌≡◌, inl, inr, ⊎_elim, ℕ, ◌≤◌, tru
 use Rattle.std.specs.Prelude.{IsFalse, Result, IsErr, OnOk, is_err}
 use Rattle.std.proofs.Math.Nat.{eq-or-lt_of_le}
 use Rattle.std.specs.List.{AllByRecursion}
-use Rattle.disk_store.specs.Disk.{State, Rises, HasCause, IsStill, IsUnchanged, IsFirm, IsHonestDisk}
+use Rattle.disk_store.specs.Disk.{State, IsStill, IsUnchanged, IsFirm, IsHonestDisk}
+use Rattle.disk_store.specs.Failures.{Rises, HasCause}
 use Rattle.mot_base.specs.Geometry.{length_of}
 use Rattle.mot_base.specs.declared.geometry.Geometry.{Geometry}
 use Rattle.mot_base.specs.declared.refusal.Refusal.{Refusal}
@@ -13,7 +14,7 @@ use Rattle.mot_journal.specs.declared.layout.Layout.{Layout}
 use Rattle.mot_journal.specs.declared.record.Record.{Record}
 use Rattle.mot_journal.specs.declared.record.Action.{Action}
 use Rattle.mot_journal.specs.declared.record.Action.TheVariants.{Nothing, Set, Remove}
-use Rattle.mot_journal.specs.Geometry.{is_valid}
+use Rattle.mot_base.specs.Geometry.{is_valid}
 use Rattle.mot_journal.specs.Slot.{is_sound}
 use Rattle.mot_journal.specs.Catalogue.{Placed, catalogue_of, carousel_in, extents_of, result_then}
 use Rattle.mot_journal.specs.Image.{DiskRecords, records_of, stands_for, area_of}
@@ -149,7 +150,7 @@ no-err : {T E : Type 0} (r : Result T E) → is_err r ≡ false → IsErr r → 
 no-err (Ok x) e h = cc
 no-err (Err x) e h = cc
 
-pub refused_later : {T E : Type 0} (old mid new : State) (r : Result T E) (refusal : Refusal) → HasCause old mid r → is_err r ≡ false
+pub refused_later : {T E : Type 0} (old mid new : State) (r : Result T E) (refusal : Refusal) → HasCause old.failures mid.failures r → is_err r ≡ false
     → (new.IsHonest → mid.bytes ≡ old.bytes) → IsOpeningRefusal mid new refusal → IsOpeningRefusal old new refusal
 refused_later old mid new r refusal cause ok same (not_formatted is told) =
     not_formatted is (λ honest. ap stands_for (sym (same honest)) ∙ told honest)

@@ -16,6 +16,7 @@ use Rattle.mot_carousel.specs.Carousel.{change}
 use Rattle.mot_carousel.specs.Carousel as whole
 use Rattle.mot_carousel.specs.Mime.{IsMime}
 use Rattle.mot_carousel.specs.Name.{IsName}
+use Rattle.mot_carousel.proofs.Laws.{name_true, mime_true}
 use Rattle.mot_carousel.specs.Stands.{object_of, objects_of, carousel_of, bodies_after, IsPlan}
 use Rattle.mot_carousel.specs.declared.carousel.Carousel.{Carousel}
 use Rattle.mot_carousel.specs.declared.command.Command.{Command}
@@ -23,8 +24,10 @@ use Rattle.mot_carousel.specs.declared.command.Command.TheVariants.{Put, Replace
 use Rattle.mot_carousel.specs.declared.command.Done.{Done}
 use Rattle.mot_carousel.specs.declared.object.Object.{Object}
 use Rattle.mot_journal.specs.Catalogue.{Placed, Catalogue, body_in, carousel_in}
-use Rattle.mot_journal.specs.Geometry.{is_valid, is_within}
-use Rattle.mot_journal.specs.Slot.{is_sound, is_sound_action, is_name, is_mime, longest_name, slot_count}
+use Rattle.mot_base.specs.Geometry.{is_valid, is_within}
+use Rattle.mot_journal.specs.Slot.{is_sound, is_sound_action, longest_name, slot_count}
+use Rattle.mot_carousel.specs.Mime.{is_mime}
+use Rattle.mot_carousel.specs.Name.{is_name}
 use Rattle.mot_journal.specs.declared.layout.Layout.{Layout}
 use Rattle.mot_journal.specs.declared.layout.Layout.TheVariants.{One, Two}
 use Rattle.mot_journal.specs.declared.record.Action.{Action}
@@ -33,7 +36,7 @@ use Rattle.mot_journal.specs.declared.record.Record.{Record}
 use Rattle.mot_repository.specs.Answers.{ChangesTo, HasLongName, HasRoomForName, HasNoGap, IsRefusal}
 use Rattle.mot_repository.specs.Extents.{body_of, LiesAtLeastGap, objects_in, catalogue_in, catalogue_with, ArePaired}
 use Rattle.mot_repository.specs.Inner.Planned.{start_of, HasFields, IsTyped}
-use Rattle.mot_repository.specs.Inner.Whole.{IsWhole}
+use Rattle.mot_repository.specs.Whole.{IsWhole}
 use Rattle.mot_repository.specs.Laws.{extents_after, records_of_catalogue}
 use Rattle.mot_repository.specs.Prepared.{CanBeGiven, IsFull, IsPreparedFor, kept_object_named, kept_set, kept_remove, kept_action, kept_record}
 use Rattle.mot_repository.specs.Ready.{IsPrepared}
@@ -145,26 +148,9 @@ is_after view command done next from r given prepared valid is paired read =
 
 -- ---- the record of a command has no fault of fields
 
-letter : (b : ℕ) → (nat_lt 32 b && nat_lt b 127) ≡ true → is_within 0x21 0x7E b ≡ true
-letter b e =
-    let h = and_parts (nat_lt 32 b) (nat_lt b 127) e in
-    let low : 32 < b = ltb-true 32 b h.0 in
-    let high : b < 127 = ltb-true b 127 h.1 in
-    and_from _ _ (le-leb 0x21 b (omega arith)) (le-leb b 0x7E (omega arith))
-
 mime-is : (mime : Option (List ℕ)) → MatchOption mime (Unit {0}) IsMime → option_map_or is_mime mime true ≡ true
 mime-is None is = refl
-mime-is (Some bytes) is =
-    let letters : list_all (is_within 0x21 0x7E) bytes ≡ true = list_all-from_AllPass (is_within 0x21 0x7E) bytes
-    (All-weaker (λ b. (nat_lt 32 b && nat_lt b 127) ≡ true) (λ b. is_within 0x21 0x7E b ≡ true) letter bytes is.printed) in
-    let other : bytes_eq bytes (45 ∷ []) ≡ false =
-    false_from_ne_true (bytes_eq bytes (45 ∷ [])) (λ e. is.named ((bytes_eq-Decides bytes (45 ∷ [])).0 e)) in
-    and_from _ _ (and_from _ _ (and_from _ _ (le-leb 1 (length bytes) is.some) (le-leb (length bytes) 64 is.short)) letters) (ap not other)
-
-name-is : (longest : ℕ) (bytes : List ℕ) → IsName bytes → length bytes ≤ longest → is_name longest bytes ≡ true
-name-is longest bytes is short =
-    and_from _ _ (and_from _ _ (and_from _ _ (le-leb 1 (length bytes) is.some) (le-leb (length bytes) longest short)) (is_utf8-from_IsUtf8 bytes is.text))
-    (list_all-from_AllPass (λ b. nat_lt 32 b && not (b == 127)) bytes is.printed)
+mime-is (Some bytes) is = mime_true bytes is
 
 -- what an object that is set needs beside what its types keep
 abbrev Fits : Geometry → Layout → Action → Type 0
@@ -183,7 +169,7 @@ sound-action g layout (Set tid version content start size name mime) is fits =
     and_from _ _ (and_from _ _ (and_from _ _ (and_from _ _ (and_from _ _ (and_from _ _ (lt-ltb 0 tid is.id.0)
     (le-leb content.content_type 63 is.kind)) (le-leb content.subtype 511 is.subkind))
     (and_from _ _ (le-leb 1 size is.some) (le-leb size 262144 is.short))) (le-leb (start + size) g.data_area fits.0))
-    (name-is (longest_name layout) name is.is_name (short-name layout name is.is_name fits.1))) (mime-is mime is.is_mime)
+    (name_true (longest_name layout) name is.is_name (short-name layout name is.is_name fits.1))) (mime-is mime is.is_mime)
 
 -- a command's object is set under its name
 set-fits : (g : Geometry) (layout : Layout) (name : List ℕ) (from size : ℕ) (items : List Object) (o : Option Object) → kept_object_named name items ≡ o

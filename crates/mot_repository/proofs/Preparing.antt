@@ -19,23 +19,26 @@ use Rattle.mot_base.specs.declared.geometry.Geometry.{Geometry}
 use Rattle.mot_journal.specs.declared.record.Record.{Record}
 use Rattle.mot_journal.specs.declared.record.Action.{Action}
 use Rattle.mot_base.specs.Geometry.{area_start}
-use Rattle.mot_journal.specs.Geometry.{is_valid}
+use Rattle.mot_base.specs.Geometry.{is_valid}
 use Rattle.mot_journal.specs.Catalogue.{Placed, Catalogue, catalogue_of, catalogue_after, body_in, carousel_in, extents_of, fold_from, or_damaged, result_then}
-use Rattle.mot_journal.specs.Gaps.{AreBeside, standing_of}
+use Rattle.mot_journal.specs.Inner.Gaps.{AreBeside, standing_of}
 use Rattle.mot_journal.specs.Image.{DiskRecords, Standing, records_of, stands_for, area_of}
 use Rattle.mot_journal.specs.Journal.{JournalView, with_records, HasRecords}
 use Rattle.mot_journal.proofs.Laws.{stands_by_parts, geometry_read}
-use Rattle.mot_repository.specs.Gap.{is_beside, is_free, least_gap, IsLeastGap}
-use Rattle.mot_repository.specs.Laws.{IsPlaced, extents_after, object_named, set_action, remove_action, action_of, record_of, records_of_catalogue}
+use Rattle.mot_repository.specs.Gap.{is_beside, is_free, least_gap}
+use Rattle.mot_repository.specs.Inner.LeastGap.{IsLeastGap}
+use Rattle.mot_repository.specs.Laws.{extents_after, records_of_catalogue}
+use Rattle.mot_repository.specs.Inner.Following.{IsPlaced, object_named, set_action, remove_action, action_of, record_of}
 use Rattle.mot_repository.specs.Extents.{body_of, LiesAtLeastGap, objects_in, catalogue_in}
-use Rattle.mot_repository.specs.Opening.{KeepsCatalogue, IsOpened}
+use Rattle.mot_repository.specs.Opening.{IsOpened}
+use Rattle.mot_repository.specs.Inner.Kept.{KeepsCatalogue}
 use Rattle.mot_repository.specs.Prepared.{IsFull, IsPreparedFor, kept_object_named, kept_set, kept_remove, kept_action, kept_record}
 use Rattle.mot_repository.specs.Repository.{RepositoryView, Agrees, IsOf, Holds, IsNext}
 use Rattle.mot_repository.proofs.Following as following
 use Rattle.mot_repository.proofs.Gaps.{least_gap_is_least}
 use Rattle.mot_repository.proofs.Reading.{by_recursion, geometry_is, records_read}
 use Rattle.mot_repository.proofs.Rewriting as rewriting
-use Rattle.mot_repository.specs.Inner.Whole.{IsSoundPlaced, IsWhole}
+use Rattle.mot_repository.specs.Whole.{IsSoundPlaced, IsWhole}
 use Rattle.mot_repository.proofs.Soundness.{whole_fold, placed_in, few_objects, sound_carousel, is_folded, lie_beside}
 
 abbrev wholes : List ℕ → List Placed → List whole.Object

@@ -9,8 +9,9 @@ use Rattle.mot_carousel.specs.Ids.{contains, is_distinct}
 use Rattle.mot_journal.specs.declared.record.Record.{Record}
 use Rattle.mot_journal.specs.declared.record.Action.TheVariants.{Nothing, Set}
 use Rattle.mot_journal.specs.Catalogue.{Placed, Catalogue, new_catalogue, put_in_place, in_place_or_appended, objects_after, are_apart, are_all_apart, is_consistent, catalogue_after, or_damaged, result_then, fold_from, catalogue_of}
-use Rattle.mot_repository.specs.Laws.{records_of_objects, records_of_catalogue, RewritingKeepsTheCatalogue}
-use Rattle.mot_repository.specs.Inner.Whole.{placed_names, IsGood}
+use Rattle.mot_repository.specs.Laws.{records_of_objects, records_of_catalogue}
+use Rattle.mot_repository.specs.Inner.Following.{RewritingKeepsTheCatalogue}
+use Rattle.mot_repository.specs.Whole.{placed_names, IsGood}
 use Rattle.mot_repository.proofs.Folding.{step_from, good_fold}
 
 abbrev tids : List Placed → List ℕ

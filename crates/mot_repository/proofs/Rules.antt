@@ -16,7 +16,7 @@ use Rattle.mot_journal.specs.declared.record.Record.{Record}
 use Rattle.mot_repository.proofs.Folding.{fold_keeps, is_step}
 use Rattle.mot_repository.proofs.Reading.{by_recursion, geometry_is, records_read}
 use Rattle.mot_repository.proofs.Soundness.{is_folded, placed_in, whole_fold}
-use Rattle.mot_repository.specs.Inner.Whole.{IsSoundPlaced}
+use Rattle.mot_repository.specs.Whole.{IsSoundPlaced}
 
 area-length : (g : Geometry) (image : List ℕ) → length_of g ≤ length image → length (area_of g image) ≡ g.data_area
 area-length g image long =

@@ -23,14 +23,17 @@ use Rattle.mot_journal.specs.declared.layout.Layout.TheVariants.{One, Two}
 use Rattle.mot_journal.specs.declared.record.Record.{Record}
 use Rattle.mot_journal.specs.declared.record.Action.{Action}
 use Rattle.mot_journal.specs.declared.record.Action.TheVariants.{Nothing, Set, Remove}
-use Rattle.mot_journal.specs.Geometry.{is_valid, is_within, is_packet_length}
-use Rattle.mot_journal.specs.Slot.{is_sound, is_sound_action, is_name, is_mime, longest_name}
+use Rattle.mot_base.specs.Geometry.{is_valid, is_within, is_packet_length}
+use Rattle.mot_journal.specs.Slot.{is_sound, is_sound_action, longest_name}
+use Rattle.mot_carousel.specs.Mime.{is_mime}
+use Rattle.mot_carousel.specs.Name.{is_name}
 use Rattle.mot_journal.specs.Catalogue.{Placed, Catalogue, new_catalogue, catalogue_of, catalogue_after, are_all_apart, body_in, carousel_in, result_then}
-use Rattle.mot_journal.specs.Gaps.{AreBeside, standing_of}
+use Rattle.mot_journal.specs.Inner.Gaps.{AreBeside, standing_of}
 use Rattle.mot_journal.specs.Image.{DiskRecords, Standing, records_of, stands_for, area_of}
 use Rattle.mot_repository.specs.Gap.{is_beside}
-use Rattle.mot_repository.specs.Laws.{StandingsAreSound, records_of_objects, records_of_catalogue}
-use Rattle.mot_repository.specs.Inner.Whole.{placed_names, IsGood, IsSoundPlaced, IsWhole}
+use Rattle.mot_repository.specs.Laws.{records_of_objects, records_of_catalogue}
+use Rattle.mot_repository.specs.Inner.Following.{StandingsAreSound}
+use Rattle.mot_repository.specs.Whole.{placed_names, IsGood, IsSoundPlaced, IsWhole}
 use Rattle.mot_repository.proofs.Folding.{is_step, good_step, good_new, fold_keeps, SetHas, after_each}
 use Rattle.mot_repository.proofs.Reading.{by_recursion, IsRead, HasShortId, records_read}
 

@@ -1,6 +1,7 @@
 -- What the calls of a repository answer, and what they leave in memory.
 use Rattle.std.specs.Prelude.{◌≡◌, ℕ, ◌<◌, List, length, None, Result, Ok, Err, IsTrue, IsFalse}
-use Rattle.disk_store.specs.Disk.{State, Rises, IsUnchanged}
+use Rattle.disk_store.specs.Disk.{State, IsUnchanged}
+use Rattle.disk_store.specs.Failures.{Rises}
 use Rattle.mot_base.specs.declared.refusal.Refusal.{Refusal}
 use Rattle.mot_base.specs.declared.refusal.Refusal.TheVariants.{BadName, NoRoom, OutOfMemory}
 use Rattle.mot_base.specs.declared.refusal.Refusal.TheVariants.{DeviceFault, Halted}

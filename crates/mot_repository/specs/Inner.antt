@@ -1,6 +1,8 @@
 -- What only private contracts and proofs need.
 pub mod Fold
+pub mod Following
 pub mod InOrder
+pub mod Kept
+pub mod LeastGap
 pub mod Loaded
 pub mod Planned
-pub mod Whole

@@ -9,3 +9,4 @@ pub mod Opening
 pub mod Prepared
 pub mod Ready
 pub mod Repository
+pub mod Whole

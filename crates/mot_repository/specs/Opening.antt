@@ -1,22 +1,14 @@
 -- What an opening gives, and why a disk is not opened.
-use Rattle.std.specs.Prelude.{◌≡◌, ◌⊎◌, ℕ, List, length, map, Ok, Err, IsFalse}
-use Rattle.disk_store.specs.Disk.{State, Rises, IsFirm}
+use Rattle.std.specs.Prelude.{◌≡◌, ◌⊎◌, ℕ, List, length, Ok, Err, IsFalse}
+use Rattle.disk_store.specs.Disk.{State, IsFirm}
+use Rattle.disk_store.specs.Failures.{Rises}
 use Rattle.mot_base.specs.declared.refusal.Refusal.{Refusal}
 use Rattle.mot_base.specs.declared.refusal.Refusal.TheVariants.{OutOfMemory, DeviceFault}
 use Rattle.mot_base.specs.declared.refusal.Refusal.TheVariants.{NotFormatted, Damaged}
 use Rattle.mot_journal.specs.declared.record.Record.{Record}
-use Rattle.mot_journal.specs.Catalogue.{Placed, Catalogue, extents_of}
 use Rattle.mot_journal.specs.Image.{Standing, records_of, stands_for}
 use Rattle.mot_journal.specs.Journal.{with_records}
 use Rattle.mot_repository.specs.Repository.{RepositoryView, Agrees}
-
--- what is kept in memory is this catalogue
-pub record KeepsCatalogue (view : RepositoryView) (c : Catalogue) : Type 0 where
-  pub period : view.carousel.period ≡ c.period
-  pub directory : view.carousel.directory ≡ c.directory
-  pub cursor : view.carousel.cursor ≡ c.cursor
-  pub objects : view.carousel.objects.items ≡ map (λ (p : Placed). p.object) c.objects
-  pub extents : view.extents ≡ extents_of c
 
 -- An open repository keeps what the bytes stand for, and no position of the disk is loose.
 pub record IsOpened (old new : State) (view : RepositoryView) : Type 0 where

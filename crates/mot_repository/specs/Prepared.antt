@@ -1,7 +1,6 @@
 -- What a change that is prepared for a command is, and what it writes.
-use Rattle.std.specs.Prelude.{◌≡◌, ◌⊎◌, ◌<◌, ◌≤◌, IsFalse, All, Bool, ℕ, ◌+◌, List, [], ◌∷◌, length}
-use Rattle.std.specs.Prelude.{Option, Some, None, true, bytes_eq, if◌then◌else◌}
-use Rattle.disk_store.specs.Disk.{State}
+use Rattle.std.specs.Prelude.{◌≡◌, Bool, ℕ, ◌+◌, List, [], ◌∷◌, length}
+use Rattle.std.specs.Prelude.{Option, Some, None, bytes_eq, if◌then◌else◌}
 use Rattle.mot_carousel.specs.declared.carousel.Carousel.{Carousel}
 use Rattle.mot_carousel.specs.declared.object.Object.{Object}
 use Rattle.mot_carousel.specs.declared.command.Command.{Command}
@@ -10,14 +9,12 @@ use Rattle.mot_carousel.specs.declared.command.Done.{Done}
 use Rattle.mot_journal.specs.declared.record.Record.{Record}
 use Rattle.mot_journal.specs.declared.record.Action.{Action}
 use Rattle.mot_journal.specs.declared.record.Action.TheVariants.{Nothing, Set, Remove}
-use Rattle.mot_base.specs.Geometry.{area_start, length_of}
-use Rattle.mot_journal.specs.Slot.{is_sound, slot_count}
+use Rattle.mot_base.specs.Geometry.{area_start}
 use Rattle.mot_repository.specs.Answers.{ChangesTo}
 use Rattle.mot_repository.specs.Extents.{body_of, LiesAtLeastGap, catalogue_in}
 use Rattle.mot_repository.specs.Laws.{records_of_catalogue, extents_after}
-use Rattle.mot_journal.specs.Image.{Standing}
 use Rattle.mot_journal.specs.Journal.{JournalView}
-use Rattle.mot_repository.specs.Repository.{RepositoryView, Agrees, Holds}
+use Rattle.mot_repository.specs.Repository.{RepositoryView}
 
 -- the first object of this name
 abbrev pub kept_object_named : List ℕ → List Object → Option Object
@@ -62,15 +59,6 @@ pub record IsPreparedFor (view : RepositoryView) (command : Command) (done : Don
   pub lies : LiesAtLeastGap view command from
   pub record_is : r ≡ kept_record view.carousel next command from
   pub given_is : IsFull view.journal → given ≡ records_of_catalogue (catalogue_in view)
-
--- each image now has the records from before, or where the half was full the given ones, and stands
--- for what it stood for
-pub record HasRoom (s : Standing) (records given : List Record) (was j : JournalView)
-    (state : State) : Type 0 where
-  pub list : List Record
-  pub one : (list ≡ records) ⊎ ((list ≡ given) × IsFull was)
-  pub holds : (view : RepositoryView) → view.journal ≡ j → IsFalse view.halted → Agrees view s
-      → (now : Holds view s state) × (now.records ≡ list)
 
 -- what a repository keeps in memory, by its parts
 abbrev pub view_with : JournalView → Carousel → List (ℕ × ℕ) → Bool → RepositoryView

@@ -1,7 +1,8 @@
 //! A commit as a whole: room in the half, the body, and the record.
 ghost use Rattle.std.specs.Prelude.{◌≡◌, ◌+◌, ◌≤◌, ◌<◌, ℕ, List, true, length, Ok, OnOk, OnErr};
 ghost use Rattle.std.specs.Prelude.{All, IfErr, IsFalse};
-ghost use Rattle.disk_store.specs.Disk.{Keeps, HasCause, Costs, Throughout};
+ghost use Rattle.disk_store.specs.Disk.{Keeps, Costs, Throughout};
+ghost use Rattle.disk_store.specs.Failures.{HasCause};
 ghost use Rattle.mot_base.specs.declared.refusal.Refusal.TheVariants.{DeviceFault};
 ghost use Rattle.mot_base.specs.Geometry.{area_start, length_of};
 ghost use Rattle.mot_carousel.specs.declared.carousel.Carousel.{Carousel};
@@ -11,10 +12,12 @@ ghost use Rattle.mot_journal.specs.Slot.{is_sound, slot_count};
 ghost use Rattle.mot_journal.specs.Catalogue.{Catalogue, catalogue_of};
 ghost use Rattle.mot_journal.specs.Image.{Standing};
 ghost use Rattle.mot_repository.specs.Cost.{calls_for, calls_for_room};
-ghost use Rattle.mot_repository.specs.Laws.{extents_after, RecordsFollowCommands};
-ghost use Rattle.mot_repository.specs.Laws.{RewritingKeepsTheCatalogue, StandingsAreSound};
+ghost use Rattle.mot_repository.specs.Laws.{extents_after};
+ghost use Rattle.mot_repository.specs.Inner.Following.{RecordsFollowCommands};
+ghost use Rattle.mot_repository.specs.Inner.Following.{RewritingKeepsTheCatalogue, StandingsAreSound};
 ghost use Rattle.mot_repository.specs.Extents.{body_of, catalogue_in};
-ghost use Rattle.mot_repository.specs.Prepared.{CanBeGiven, IsFull, IsPreparedFor, HasRoom};
+ghost use Rattle.mot_repository.specs.Prepared.{CanBeGiven, IsFull, IsPreparedFor};
+ghost use Rattle.mot_repository.specs.Inner.Kept.{HasRoom};
 ghost use Rattle.mot_repository.specs.Repository.{RepositoryView, IsOf, Holds, IsNext};
 ghost use Rattle.mot_repository.specs.Repository.{IsBeforeOrAfter};
 
@@ -30,7 +33,7 @@ fn make_room<D: Disk>(journal: &mut Journal, disk: &mut D, given: &[Record]) -> 
     requires given { IsFull journal.old → CanBeGiven journal.old given.now }
 
     ensures keeps { Keeps (D.state disk.old) (D.state disk.new) }
-    ensures cause { OnErr result (HasCause (D.state disk.old) (D.state disk.new) result) }
+    ensures cause { OnErr result (HasCause (D.state disk.old).failures (D.state disk.new).failures result) }
     ensures calm { OnOk result ((D.state disk.new).failures ≡ (D.state disk.old).failures) }
     ensures cost { Costs (calls_for_room journal.old) (D.state disk.old) (D.state disk.new) result }
     ensures fault { IfErr result (λ refusal. refusal ≡ DeviceFault) }
@@ -77,7 +80,7 @@ pub fn commit_change<D: Disk>(
     requires within { at + length body.now ≤ (D.state disk.old).len }
 
     ensures keeps { Keeps (D.state disk.old) (D.state disk.new) }
-    ensures cause { HasCause (D.state disk.old) (D.state disk.new) result }
+    ensures cause { HasCause (D.state disk.old).failures (D.state disk.new).failures result }
     ensures cost { Costs (calls_for journal.old body.now)
         (D.state disk.old) (D.state disk.new) result }
     ensures fault { IfErr result (λ refusal. refusal ≡ DeviceFault) }

@@ -1,14 +1,15 @@
 ghost use Rattle.std.specs.Prelude.{◌≡◌, ◌≤◌, ◌+◌, ◌↔◌, true, IsTrue, IsFalse, IfOk, IfErr};
 ghost use Rattle.std.specs.Prelude.{OnOk};
 ghost use Rattle.mot_base.specs.Geometry as Sizes;
-ghost use Rattle.mot_journal.specs.Geometry.{is_valid};
+ghost use Rattle.mot_base.specs.Geometry.{is_valid};
 ghost use Rattle.mot_journal.specs.declared.layout.Layout.TheVariants.{One};
 ghost use Rattle.mot_repository.specs.Answers.{HasLongName, HasRoomForName, IsRefusal};
 ghost use Rattle.mot_repository.specs.Extents.{body_of, catalogue_with};
-ghost use Rattle.mot_repository.specs.Inner.Whole.{IsWhole};
 ghost use Rattle.mot_repository.specs.Laws.{records_of_catalogue};
 ghost use Rattle.mot_repository.specs.Prepared.{IsFull};
-ghost use Rattle.mot_repository.specs.Ready.{KeepsInventory, IsPrepared};
+ghost use Rattle.mot_repository.specs.Whole.{IsWhole};
+ghost use Rattle.mot_repository.specs.Ready.{IsPrepared};
+ghost use Rattle.mot_repository.specs.Inner.Kept.{KeepsInventory};
 ghost use Rattle.mot_repository.specs.Repository.{RepositoryView};
 
 use crate::inventory::Inventory;

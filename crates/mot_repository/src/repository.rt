@@ -42,13 +42,14 @@ impl<D: Disk> Model for Repository<D> {
 }
 
 impl<D: Disk> Repository<D> {
-    ghost use Rattle.disk_store.specs.Disk.{Keeps, KeepsLength, HasCause, Costs, IsUnchanged};
+    ghost use Rattle.disk_store.specs.Disk.{Keeps, KeepsLength, Costs, IsUnchanged};
+    ghost use Rattle.disk_store.specs.Failures.{HasCause};
     ghost use Rattle.disk_store.specs.Disk.{Throughout};
     ghost use Rattle.mot_base.specs.declared.refusal.Refusal.TheVariants.{DeviceFault};
     ghost use Rattle.mot_base.specs.Geometry.{area_start};
     ghost use Rattle.mot_carousel.specs.declared.command.Command.{Command};
     ghost use Rattle.mot_journal.specs.declared.layout.Layout.TheVariants.{One, Two};
-    ghost use Rattle.mot_journal.specs.Geometry.{is_valid};
+    ghost use Rattle.mot_base.specs.Geometry.{is_valid};
     ghost use Rattle.mot_journal.specs.Image.{Standing, stands_for, IsClean, IsInLayoutTwo};
     ghost use Rattle.mot_journal.specs.Journal.{StandsWhere};
     ghost use Rattle.mot_journal.specs.Slot.{slot_count};
@@ -153,7 +154,7 @@ impl<D: Disk> Repository<D> {
         requires within { from + length out.old ≤ (extent_at self.old.view.extents place).1 }
 
         ensures keeps { KeepsLength (D.state self.old.disk) (D.state self.new.disk) }
-        ensures cause { HasCause (D.state self.old.disk) (D.state self.new.disk) result }
+        ensures cause { HasCause (D.state self.old.disk).failures (D.state self.new.disk).failures result }
         ensures cost { Costs 1 (D.state self.old.disk) (D.state self.new.disk) result }
         ensures fault { IfErr result (λ refusal. refusal ≡ DeviceFault) }
         ensures view { self.new.view ≡ self.old.view }
@@ -215,7 +216,7 @@ impl<D: Disk> Repository<D> {
         requires prepared { (command : Command) × IsPrepared self.old.view command prepared }
 
         ensures keeps { Keeps (D.state self.old.disk) (D.state self.new.disk) }
-        ensures cause { HasCause (D.state self.old.disk) (D.state self.new.disk) result }
+        ensures cause { HasCause (D.state self.old.disk).failures (D.state self.new.disk).failures result }
         ensures cost { (command : Command) → IsPrepared self.old.view command prepared
             → Costs (calls_of_command self.old.view.journal command)
             (D.state self.old.disk) (D.state self.new.disk) result }

@@ -1,7 +1,8 @@
 //! What a commit writes where the half has room: the body into its gap, and then the record.
 ghost use Rattle.std.specs.Prelude.{◌≡◌, ◌+◌, ◌≤◌, ◌<◌, ◌++◌, [], ◌∷◌, ℕ, List, true, length};
 ghost use Rattle.std.specs.Prelude.{slice_range, Ok, OnOk, OnErr, IfErr, IsFalse};
-ghost use Rattle.disk_store.specs.Disk.{Keeps, HasCause, Costs, Throughout, Writes};
+ghost use Rattle.disk_store.specs.Disk.{Keeps, Costs, Throughout, Writes};
+ghost use Rattle.disk_store.specs.Failures.{HasCause};
 ghost use Rattle.mot_base.specs.declared.refusal.Refusal.TheVariants.{DeviceFault};
 ghost use Rattle.mot_base.specs.Geometry.{area_start, length_of};
 ghost use Rattle.mot_carousel.specs.declared.command.Command.{Command};
@@ -11,7 +12,7 @@ ghost use Rattle.mot_journal.specs.Slot.{is_sound, slot_count};
 ghost use Rattle.mot_journal.specs.Catalogue.{Catalogue, catalogue_of, extents_of};
 ghost use Rattle.mot_journal.specs.Image.{Standing};
 ghost use Rattle.mot_journal.specs.Journal.{HasRecords};
-ghost use Rattle.mot_journal.specs.Gaps.{AreBeside, standing_of};
+ghost use Rattle.mot_journal.specs.Inner.Gaps.{AreBeside, standing_of};
 ghost use Rattle.mot_repository.specs.Cost.{calls_for_body};
 ghost use Rattle.mot_repository.specs.Repository.{RepositoryView, Agrees, IsOf, Holds};
 ghost use Rattle.mot_repository.specs.Repository.{IsNext, IsBeforeOrAfter};
@@ -25,7 +26,7 @@ fn write_body<D: Disk>(disk: &mut D, at: u64, body: &[u8]) -> Result<(), Refusal
     requires within { at + length body.now ≤ (D.state disk.old).len }
 
     ensures keeps { Keeps (D.state disk.old) (D.state disk.new) }
-    ensures cause { OnErr result (HasCause (D.state disk.old) (D.state disk.new) result) }
+    ensures cause { OnErr result (HasCause (D.state disk.old).failures (D.state disk.new).failures result) }
     ensures calm { OnOk result ((D.state disk.new).failures ≡ (D.state disk.old).failures) }
     ensures cost { Costs (calls_for_body body.now) (D.state disk.old) (D.state disk.new) result }
     ensures fault { IfErr result (λ refusal. refusal ≡ DeviceFault) }
@@ -58,7 +59,7 @@ pub fn write_change<D: Disk>(
     requires within { at + length body.now ≤ (D.state disk.old).len }
 
     ensures keeps { Keeps (D.state disk.old) (D.state disk.new) }
-    ensures cause { HasCause (D.state disk.old) (D.state disk.new) result }
+    ensures cause { HasCause (D.state disk.old).failures (D.state disk.new).failures result }
     ensures cost { Costs (calls_for_body body.now + 4)
         (D.state disk.old) (D.state disk.new) result }
     ensures fault { IfErr result (λ refusal. refusal ≡ DeviceFault) }

@@ -6,7 +6,7 @@ use Rattle.mot_base.specs.Geometry.{area_start}
 use Rattle.mot_base.specs.declared.geometry.Geometry.{Geometry}
 use Rattle.mot_player.specs.Bodies.{body_at}
 use Rattle.mot_repository.specs.OnDisk.{extent_at, body_on}
-use Rattle.mot_server.specs.Bodies.{filled_up, bytes_in, bodies_on}
+use Rattle.mot_server.specs.Inner.Bodies.{filled_up, bytes_in, bodies_on}
 
 pub filled_up-length : (n : ℕ) (xs : List ℕ) → length (filled_up n xs) ≡ n
 filled_up-length n xs = omega (arith, length-take n (xs ++ replicate n 0), length-append xs (replicate n 0), length-replicate {A = ℕ} n 0)

@@ -6,7 +6,8 @@ use Rattle.mot_base.specs.declared.geometry.Geometry.{Geometry}
 use Rattle.mot_base.specs.Reading.{◌>>=◌}
 use Rattle.mot_base.specs.Geometry.{length_of}
 use Rattle.mot_carousel.specs.declared.command.Command.{Command}
-use Rattle.mot_journal.specs.Geometry.{columns, geometry_in, geometry_of, has_magic, is_valid}
+use Rattle.mot_journal.specs.Geometry.{columns, geometry_in, geometry_of, has_magic}
+use Rattle.mot_base.specs.Geometry.{is_valid}
 use Rattle.mot_journal.specs.Image.{Standing}
 use Rattle.mot_journal.specs.Journal.{new_standing, with_records}
 use Rattle.mot_journal.proofs.Laws.{geometry_read}

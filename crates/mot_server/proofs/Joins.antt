@@ -11,7 +11,9 @@ use Rattle.mot_journal.specs.Image.{Standing}
 use Rattle.mot_repository.specs.Repository.{RepositoryView, Holds}
 use Rattle.mot_server.specs.Marks.{AreMarks}
 use Rattle.mot_server.specs.RunEnds.{RunLeaves}
-use Rattle.mot_server.specs.Runs.{accepted_commands, commands_in_flight, is_device_fault, IsAfter, StandsAfterSome}
+use Rattle.mot_server.specs.Runs.{accepted_commands, commands_in_flight, IsAfter, StandsAfterSome}
+use Rattle.std.specs.Option.{option_map_or}
+use Rattle.mot_base.specs.Refusal.{is_device_fault}
 use Rattle.mot_server.proofs.Read.{holds_still}
 use Rattle.mot_server.proofs.Runs.{begins, rests, after_both, more, less_sure}
 
@@ -46,7 +48,7 @@ drop-join (c ∷ commands) others (mark ∷ marks) rest whole = drop-join comman
 flight-join : (commands others : List Command) (marks rest : List Bool) (fault : Option Refusal) → length marks ≡ length commands
     → commands_in_flight (commands ++ others) (marks ++ rest) fault ≡ commands_in_flight others rest fault
 flight-join commands others marks rest fault whole =
-    ap (λ l. if is_device_fault fault then take 1 l else []) (drop-join commands others marks rest whole)
+    ap (λ l. if option_map_or is_device_fault fault false then take 1 l else []) (drop-join commands others marks rest whole)
 
 -- ---- what runs leave
 

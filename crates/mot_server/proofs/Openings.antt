@@ -8,7 +8,8 @@ use Rattle.mot_base.specs.declared.geometry.Geometry.{Geometry}
 use Rattle.mot_base.specs.declared.refusal.Refusal.{Refusal}
 use Rattle.mot_base.specs.Geometry.{packet_room, length_of}
 use Rattle.mot_base.specs.Reading.{◌>>=◌}
-use Rattle.mot_journal.specs.Geometry.{columns, geometry_in, geometry_of, is_valid, has_magic}
+use Rattle.mot_journal.specs.Geometry.{columns, geometry_in, geometry_of, has_magic}
+use Rattle.mot_base.specs.Geometry.{is_valid}
 use Rattle.mot_journal.specs.Image.{Standing, stands_for}
 use Rattle.mot_journal.specs.Journal.{HasRecords, with_records}
 use Rattle.mot_journal.proofs.Laws.{geometry_read}

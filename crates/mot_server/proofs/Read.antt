@@ -2,7 +2,8 @@
 use Rattle.std.proofs.Common.{◌≡◌, false, true, inl, ⊎_elim, ℕ, zero, suc, ◌<◌, ◌≤◌, List, [], ◌∷◌, length, map, get_or, refl, sym, ap, ◌∙◌, subst, arith}
 use Rattle.std.proofs.Math.Nat.{eq-or-lt_of_le}
 use Rattle.std.proofs.lemmas.List.{ext_get_or, get_or-map}
-use Rattle.disk_store.specs.Disk.{State, IsHonestDisk, IsUnchanged, KeepsLength, Rises}
+use Rattle.disk_store.specs.Disk.{State, IsHonestDisk, IsUnchanged, KeepsLength}
+use Rattle.disk_store.specs.Failures.{Rises}
 use Rattle.mot_base.specs.declared.geometry.Geometry.{Geometry}
 use Rattle.mot_carousel.specs.Carousel as whole
 use Rattle.mot_carousel.specs.Stands.{AreBodiesOf}
@@ -11,7 +12,7 @@ use Rattle.mot_repository.specs.Extents.{ArePaired}
 use Rattle.mot_repository.specs.OnDisk.{extent_at, body_on}
 use Rattle.mot_repository.specs.Repository.{RepositoryView, Agrees, Holds, body_at}
 use Rattle.mot_repository.proofs.Laws.{body_held}
-use Rattle.mot_server.specs.Bodies.{bodies_on}
+use Rattle.mot_server.specs.Inner.Bodies.{bodies_on}
 use Rattle.mot_server.specs.Server.{bodies_of}
 use Rattle.mot_server.proofs.Extents.{bodies_on-lengths, body_at-filled, filled_up-whole}
 use Rattle.mot_server.proofs.Turns.{bodies_kept}

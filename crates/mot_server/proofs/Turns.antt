@@ -8,7 +8,7 @@ use Rattle.mot_carousel.specs.Carousel as whole
 use Rattle.mot_carousel.specs.Stands.{AreBodiesOf, carousel_of, objects_of}
 use Rattle.mot_carousel.specs.declared.carousel.Carousel.{Carousel}
 use Rattle.mot_carousel.specs.declared.object.Object.{Object}
-use Rattle.mot_journal.specs.Geometry.{is_valid}
+use Rattle.mot_base.specs.Geometry.{is_valid}
 use Rattle.mot_journal.specs.Image as journal
 use Rattle.mot_player.specs.Place.{change_turn, opened_place}
 use Rattle.mot_player.specs.Standing.{AreBodiesFor, Standing, TurnPlan, place_of, turn_of}
@@ -16,9 +16,6 @@ use Rattle.mot_player.specs.Turn.{IsTurnOf, Turn, turn_of_carousel}
 use Rattle.mot_repository.specs.Repository.{Agrees, RepositoryView}
 use Rattle.mot_server.specs.Inner.Plays.{Plays}
 use Rattle.mot_server.specs.Server.{bodies_of}
-
-pub valid_is : (g : Geometry) → is_valid g ≡ true → IsValid g
-valid_is g is = grind (arith, nat_tests)
 
 -- from two facts of an Ok a third
 pub if_ok_both : {A E : Type 0} (r : Result A E) (P Q R : A → Type 0) → ((a : A) → P a → Q a → R a)

@@ -1,3 +1,4 @@
+pub mod Bodies
 pub mod Going
 pub mod Plays
 pub mod Unread

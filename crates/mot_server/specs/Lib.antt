@@ -1,8 +1,8 @@
 pub mod Attempts
-pub mod Bodies
 pub mod History
 pub mod Inner
 pub mod Life
+pub mod Lives
 pub mod Marks
 pub mod Playing
 pub mod RunAnswers

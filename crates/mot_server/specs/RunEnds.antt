@@ -1,7 +1,8 @@
 -- How a run of commands ends, and what it leaves.
 use Rattle.std.specs.Prelude.{◌≡◌, ℕ, Bool, true, false, List, [], ◌∷◌, ◌++◌, Option, IsTrue}
 use Rattle.std.specs.Prelude.{IsFalse}
-use Rattle.disk_store.specs.Disk.{State, Rises, Throughout}
+use Rattle.disk_store.specs.Disk.{State, Throughout}
+use Rattle.disk_store.specs.Failures.{Rises}
 use Rattle.mot_base.specs.declared.refusal.Refusal.{Refusal}
 use Rattle.mot_base.specs.declared.refusal.Refusal.TheVariants.{OutOfMemory, DeviceFault, Halted}
 use Rattle.mot_carousel.specs.declared.command.Command.{Command}
@@ -10,7 +11,9 @@ use Rattle.mot_player.specs.Place.{Place, change_turn}
 use Rattle.mot_player.specs.Turn.{turn_of_carousel}
 use Rattle.mot_repository.specs.Repository.{RepositoryView, Agrees, Holds}
 use Rattle.mot_server.specs.Marks.{AreMarks}
-use Rattle.mot_server.specs.Runs.{accepted_commands, is_device_fault, commands_in_flight}
+use Rattle.mot_server.specs.Runs.{accepted_commands, commands_in_flight}
+use Rattle.std.specs.Option.{option_map_or}
+use Rattle.mot_base.specs.Refusal.{is_device_fault}
 use Rattle.mot_server.specs.Runs.{IsAfter, StandsAfterSome}
 
 -- the refusals that end a run; every other one marks its command false
@@ -38,7 +41,7 @@ pub record RunLeaves (old new : RepositoryView) (start now : State) (s : Standin
   -- that is the carousel at the end
   pub agrees : Agrees new last
   -- where no device fault ended the run, the disk stands for it too
-  pub going : is_device_fault fault ≡ false → Holds new last now
+  pub going : option_map_or is_device_fault fault false ≡ false → Holds new last now
   -- At each moment since the start a crash leaves the carousel after a beginning of the accepted
   -- commands, or after all of them and the one in flight.
   pub any_moment : Throughout start now (StandsAfterSome s []

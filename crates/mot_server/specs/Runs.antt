@@ -3,11 +3,12 @@
 use Rattle.std.specs.Prelude.{◌≡◌, ℕ, ◌≤◌, Bool, true, false, List, [], ◌∷◌, ◌++◌, length}
 use Rattle.std.specs.Prelude.{take, drop, Option, Some, if◌then◌else◌}
 use Rattle.mot_base.specs.declared.refusal.Refusal.{Refusal}
-use Rattle.mot_base.specs.declared.refusal.Refusal.TheVariants.{DeviceFault}
 use Rattle.mot_carousel.specs.declared.command.Command.{Command}
 use Rattle.mot_carousel.specs.Carousel.{carousel_after}
 use Rattle.mot_journal.specs.Image.{Standing}
 use Rattle.mot_repository.specs.Repository.{IsOf}
+use Rattle.std.specs.Option.{option_map_or}
+use Rattle.mot_base.specs.Refusal.{is_device_fault}
 
 -- the commands that were marked true
 abbrev pub accepted_commands : List Command → List Bool → List Command
@@ -16,14 +17,10 @@ accepted_commands [] (mark ∷ marks) = []
 accepted_commands (command ∷ commands) (true ∷ marks) = command ∷ accepted_commands commands marks
 accepted_commands (command ∷ commands) (false ∷ marks) = accepted_commands commands marks
 
-abbrev pub is_device_fault : Option Refusal → Bool
-is_device_fault (Some DeviceFault) = true
-is_device_fault fault = false
-
 -- where the run ended in a device fault, the one command after those that were marked
 abbrev pub commands_in_flight : List Command → List Bool → Option Refusal → List Command
 commands_in_flight commands marks fault =
-    if is_device_fault fault then take 1 (drop (length marks) commands) else []
+    if option_map_or is_device_fault fault false then take 1 (drop (length marks) commands) else []
 
 -- these commands, each accepted where it stands, make the one of the other
 pub record IsAfter (s : Standing) (commands : List Command) (last : Standing) : Type 0 where

@@ -1,7 +1,8 @@
 //! The beginning of every history: a disk formatted here.
 ghost use Rattle.std.specs.Prelude.{◌≡◌, ◌⊎◌, ◌↔◌, ◌<◌, ◌≤◌, ℕ, List, true, false, Ok, IfOk};
 ghost use Rattle.std.specs.Prelude.{IfErr, OnOk, IsErrOf};
-ghost use Rattle.disk_store.specs.Disk.{KeepsLength, Rises, IsUnchanged, IsStill, Throughout};
+ghost use Rattle.disk_store.specs.Disk.{KeepsLength, IsUnchanged, IsStill, Throughout};
+ghost use Rattle.disk_store.specs.Failures.{Rises};
 ghost use Rattle.mot_base.specs.Geometry.{IsValid, length_of};
 ghost use Rattle.mot_base.specs.declared.refusal.Refusal.TheVariants.{DeviceFault, BadGeometry};
 ghost use Rattle.mot_base.specs.declared.refusal.Refusal.TheVariants.{DiskTooSmall};

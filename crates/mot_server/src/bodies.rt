@@ -1,5 +1,5 @@
 // The bodies that a repository keeps on its disk, for the player to read.
-ghost use Rattle.mot_server.specs.Bodies.{bodies_on, HasRead};
+ghost use Rattle.mot_server.specs.Inner.Bodies.{bodies_on, HasRead};
 ghost use Rattle.mot_server.specs.Inner.Unread.{unread};
 
 use disk_store::Disk;

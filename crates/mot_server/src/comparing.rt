@@ -1,6 +1,7 @@
 // Whether a body on the disk has these bytes.
 ghost use Rattle.std.specs.Prelude.{◌≡◌, ◌<◌, ◌≤◌, ◌↔◌, length, IfOk, IfErr, IsTrue, OnErr, OnOk};
-ghost use Rattle.disk_store.specs.Disk.{IsUnchanged, KeepsLength, Rises};
+ghost use Rattle.disk_store.specs.Disk.{IsUnchanged, KeepsLength};
+ghost use Rattle.disk_store.specs.Failures.{Rises};
 ghost use Rattle.mot_base.specs.declared.refusal.Refusal.TheVariants.{DeviceFault};
 ghost use Rattle.mot_journal.specs.Image.{Standing};
 ghost use Rattle.mot_repository.specs.OnDisk.{extent_at};

@@ -10,6 +10,7 @@ ghost use Rattle.mot_player.specs.Reading.{ReadsAs};
 ghost use Rattle.mot_repository.specs.Opening.{IsOpeningRefusal, IsPassing};
 ghost use Rattle.mot_repository.specs.Repository.{IsOf, Holds};
 ghost use Rattle.mot_server.specs.Life.{IsBlank, IsFormatRefusal, PlaysAfter};
+ghost use Rattle.mot_server.specs.Lives.{HasDone};
 ghost use Rattle.mot_server.specs.Playing.{bytes_of_packets};
 ghost use Rattle.mot_server.specs.Runs.{accepted_commands, commands_in_flight};
 
@@ -109,6 +110,10 @@ pub fn format_and_open<D: Disk>(
     ensures any_moment { IfOk result (λ server. (D.state server.disk).IsHonest
         → IsBlank (D.state disk)
         → Throughout (D.state disk) (D.state server.disk) (NoneOrNew geometry.now)) }
+
+    // lives in a row begin so: no command is done
+    ensures begins { IfOk result (λ server. (D.state server.disk).IsHonest
+        → HasDone D.state geometry.now [] server) }
     ensures refused { IfErr result (λ e. (D.state e.disk).IsHonest
         → IsFormatRefusal geometry.now (D.state disk) (D.state e.disk) e.refusal) }
 {

@@ -52,7 +52,7 @@ impl<D: Disk> Model for Server<D> {
 }
 
 impl<D: Disk> Server<D> {
-    ghost use Rattle.mot_journal.specs.Geometry.{is_valid};
+    ghost use Rattle.mot_base.specs.Geometry.{is_valid};
     ghost use Rattle.mot_journal.specs.Image.{stands_for, IsClean};
     ghost use Rattle.mot_journal.specs.Journal.{StandsWhere};
     ghost use Rattle.mot_journal.specs.declared.layout.Layout.TheVariants.{One, Two};

@@ -1,6 +1,7 @@
 //! What no clause says: that calls succeed where there is memory and the disk does not fail, and
 //! the headers of some packets.
 mod life;
+mod restarts;
 
 use super::*;
 use disk_store::{Disk, MemoryDisk};

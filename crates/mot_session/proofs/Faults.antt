@@ -3,7 +3,7 @@ use Rattle.std.proofs.Common.{◌≡◌, ◌⊎◌, inl, inr, ℕ, ◌+◌, ◌�
 use Rattle.std.proofs.Common.{◌∷◌}
 use Rattle.std.proofs.Common.{Result, Ok, Err, refl, sym, ap, ◌∙◌, subst, arith}
 use Rattle.std.specs.Prelude.{if◌then◌else◌}
-use Rattle.disk_store.specs.Disk.{Rises, most_failures}
+use Rattle.disk_store.specs.Failures.{Rises, most_failures}
 use Rattle.mot_base.specs.declared.refusal.Refusal.{Refusal}
 use Rattle.mot_base.specs.declared.refusal.Refusal.TheVariants as refusal
 use Rattle.mot_carousel.specs.declared.command.Command.{Command}
@@ -17,7 +17,7 @@ use Rattle.mot_session.specs.Session.{IsCommandAnswer, accepts, refuses, fails, 
 use Rattle.mot_session.specs.Session.{IsTurnAnswer, all, cut}
 use Rattle.mot_session.specs.Session.{IsAnswer, Answers, decided, halted, no_memory, Session}
 use Rattle.mot_session.specs.State.{ServerState}
-use Rattle.mot_session.specs.Stored.{is_device_fault}
+use Rattle.mot_base.specs.Refusal.{is_device_fault}
 use Rattle.mot_server.proofs.Laws.{rises_on}
 use Rattle.mot_session.proofs.Crashes.{session-later}
 use Rattle.mot_session.proofs.Outcomes.{later-answers, refused-fine}

@@ -2,7 +2,7 @@
 use Rattle.std.proofs.Common.{◌≡◌, ◌⊎◌, inl, inr, ⊎_elim, ℕ, ◌≤◌, Bool, true, false, List, [], ◌∷◌}
 use Rattle.std.proofs.Common.{◌++◌, length, map, Option, Result, Ok, Err, refl, sym, ap, ◌∙◌, subst}
 use Rattle.std.proofs.Common.{arith, append_assoc, append-nil}
-use Rattle.std.proofs.Common.{Some, None}
+use Rattle.std.proofs.Common.{Some, None, take}
 use Rattle.std.proofs.KnownBytes.{Appends-trans, Appends-nil, Appends-kept, Keeps-refl}
 use Rattle.std.proofs.KnownBytes.{Consumes-kept, Consumes-nil}
 use Rattle.std.proofs.lemmas.List.{length-map}
@@ -12,7 +12,7 @@ use Rattle.std.specs.Prelude.{IsTrue, IsFalse, IfOk, if◌then◌else◌}
 use Rattle.disk_store.specs.Disk.{State, IsHonestDisk, IsUnchanged, Throughout}
 use Rattle.mot_base.specs.declared.geometry.Geometry.{Geometry}
 use Rattle.mot_base.specs.declared.refusal.Refusal.{Refusal}
-use Rattle.mot_base.specs.declared.refusal.Refusal.TheVariants.{WriteFault}
+use Rattle.mot_base.specs.declared.refusal.Refusal.TheVariants.{OutOfMemory, ReadFault, WriteFault}
 use Rattle.mot_carousel.specs.declared.command.Command as command
 use Rattle.mot_journal.specs.Geometry.{has_magic}
 use Rattle.mot_journal.specs.Image.{Standing}
@@ -26,11 +26,12 @@ use Rattle.mot_repository.specs.Repository.{IsOf, Holds}
 use Rattle.mot_server.specs.Life.{PlaysAfter}
 use Rattle.mot_server.specs.Runs.{IsAfter, StandsAfterSome}
 use Rattle.mot_server.specs.Server.{ServerView}
-use Rattle.mot_server.proofs.Laws.{after_none, more, none_of, not_halted, plays_after, plays_new}
+use Rattle.mot_server.proofs.Laws.{more, none_of, not_halted, plays_after, plays_new}
 use Rattle.mot_session.specs.Life.{IsKeptFrom, Told, commands_done, commands_failing, done_in}
 use Rattle.mot_session.specs.Life.{failing_in, Tells}
 use Rattle.mot_session.specs.LineByLine.{BreaksOff, ServesEach, ServesOne, ServesSome}
-use Rattle.mot_session.specs.Served.{TakesInput}
+use Rattle.mot_server.specs.Lives.{LivesOn}
+use Rattle.mot_session.specs.Served.{EndsServing, TakesInput}
 use Rattle.mot_session.specs.Session.{Exchange, Reply, text_of}
 use Rattle.mot_session.specs.Session.{accepted, refused, listing, packets, played, cut_short}
 use Rattle.mot_session.specs.State.{ServerState, StandsFor, state_of}
@@ -490,7 +491,7 @@ module _ {D : Type 0} (state : D → State)
 
 module _ (P Q : ℕ → List command.Command → List command.Command → Type 0)
     (turns : (t : ℕ) (sure others : List command.Command) → P t sure others → Q t sure others) where
-  kept_so : (t : ℕ) (sure : List command.Command) (told : List Told)
+  pub kept_so : (t : ℕ) (sure : List command.Command) (told : List Told)
       (flight : List command.Command) → IsKeptFrom P t sure told flight
       → IsKeptFrom Q t sure told flight
   unfolding IsKeptFrom
@@ -603,20 +604,20 @@ pub lines_split : (input : List ℕ) → lines_of input ≡ whole_lines input ++
 unfolding lines_of
 lines_split input = refl
 
--- ---- a call of `serve` on a disk that was formatted here
+-- ---- a call of `serve` on a disk on which commands are done
 
 module _ {D : Type 0} (state : D → State)
-    (sound : (disk : D) → (state disk).IsHonest → IsHonestDisk (state disk)) (g : Geometry)
+    (sound : (disk : D) → (state disk).IsHonest → IsHonestDisk (state disk)) (s : Standing)
+    (done : List command.Command) (standing : Standing) (after : IsAfter s done standing)
     (opened new : ServerView D) (reads : ℕ) (unread left old now : Option (List ℕ)) (count : ℕ)
     (fault : Option Refusal) (honest : (state new.disk).IsHonest)
-    (holds : Holds opened.view (new_standing g) (state opened.disk)) where
-  stands : StandsFor opened.view (new_standing g) (state opened.disk)
+    (holds : Holds opened.view standing (state opened.disk)) where
+  stands : StandsFor opened.view standing (state opened.disk)
   stands = record { agrees = holds.agrees; holds = λ going. holds }
 
-  at : At (new_standing g) (state opened.disk) opened.view.halted [] []
+  at : At s (state opened.disk) opened.view.halted done []
   at = record {
-    leaves = λ image may. none_of (new_standing g) [] [] (new_standing g) image
-        (after_none (new_standing g)) (holds.each image may);
+    leaves = λ image may. none_of s done [] standing image after (holds.each image may);
     going = λ going. refl;
     few = omega arith;
   }
@@ -626,17 +627,15 @@ module _ {D : Type 0} (state : D → State)
   ServedSo = (input : List ℕ) × TakesInput reads unread left input
       × (told : List Told) × (flight : List command.Command) × (next : List command.Command)
       × Tells input count fault told flight old now
-      × Kept (new_standing g) (state new.disk) (state opened.disk) opened.view.halted [] [] next
-      told flight
+      × Kept s (state new.disk) (state opened.disk) opened.view.halted done [] next told flight
 
-  pub all_served : (input : List ℕ) → TakesInput reads unread left input
+  all_served : (input : List ℕ) → TakesInput reads unread left input
       → (lines unanswered : List (List ℕ)) → lines_of input ≡ lines ++ unanswered
       → count ≡ length lines → (fault ≡ None → unanswered ≡ []) → (between : Option (List ℕ))
       → Keeps between now
-      → KeptFrom state sound (new_standing g) (state new.disk) [] opened lines old between
-      → ServedSo
+      → KeptFrom state sound s (state new.disk) [] opened lines old between → ServedSo
   all_served input takes lines unanswered split counted whole between keeps kept =
-      let k = kept (new_standing g) [] [] stands (after_none (new_standing g)) at in (
+      let k = kept standing done [] stands after at in (
         input,
         takes,
         k.0,
@@ -647,36 +646,35 @@ module _ {D : Type 0} (state : D → State)
         k.4,
       )
 
-  pub each_served : (input : List ℕ) → TakesInput reads unread left input
+  each_served : (input : List ℕ) → TakesInput reads unread left input
       → (lines unanswered : List (List ℕ)) → lines_of input ≡ lines ++ unanswered
       → count ≡ length lines → (fault ≡ None → unanswered ≡ [])
       → ServesEach state opened lines new old now → ServedSo
   each_served input takes lines unanswered split counted whole each =
       all_served input takes lines unanswered split counted whole now (Keeps-refl now)
-      (kept_each state sound (new_standing g) (state new.disk) [] opened new lines old now each honest
-      (kept_here state sound (new_standing g) new now honest))
+      (kept_each state sound s (state new.disk) [] opened new lines old now each honest
+      (kept_here state sound s new now honest))
 
   -- nothing was read
-  pub none_served : new ≡ opened → count ≡ 0 → (fault ≡ None → ⊥) → Keeps unread left → Keeps old now
+  none_served : new ≡ opened → count ≡ 0 → (fault ≡ None → ⊥) → Keeps unread left → Keeps old now
       → ServedSo
   none_served same none faulty kept keeps =
       all_served []
       (record { consumed = Consumes-kept unread unread left [] (Consumes-nil unread) kept; bounded = omega arith })
       [] (lines_of []) refl none (λ fine. absurd (faulty fine)) old keeps
-      (subst (λ (v : ServerView D).
-      KeptFrom state sound (new_standing g) (state new.disk) [] v [] old old) same
-      (kept_here state sound (new_standing g) new old honest))
+      (subst (λ (v : ServerView D). KeptFrom state sound s (state new.disk) [] v [] old old) same
+      (kept_here state sound s new old honest))
 
   -- a reply was broken off
-  pub some_served : (input : List ℕ) → TakesInput reads unread left input
+  some_served : (input : List ℕ) → TakesInput reads unread left input
       → (lines rest : List (List ℕ)) → lines_of input ≡ lines ++ rest → fault ≡ Some WriteFault
       → ServesSome state opened lines count new old now → ServedSo
   some_served input takes lines rest split is some =
       let breaks = some.breaks in
-      let k = kept_each state sound (new_standing g) (state new.disk) (command_in (line_of some.line))
+      let k = kept_each state sound s (state new.disk) (command_in (line_of some.line))
       opened some.mid some.first old some.between some.each (breaks.goes.keeps.was_honest honest)
-      (kept_behind state sound (new_standing g) some.mid new some.line some.between now some.between
-      breaks honest) (new_standing g) [] [] stands (after_none (new_standing g)) at in (
+      (kept_behind state sound s some.mid new some.line some.between now some.between
+      breaks honest) standing done [] stands after at in (
         input,
         takes,
         k.0,
@@ -689,3 +687,82 @@ module _ {D : Type 0} (state : D → State)
             some.counted is breaks.front.appended k.4.which,
         k.4,
       )
+
+  -- whatever ended it
+  pub served_so : EndsServing fault
+      → (fault ≡ None → (input : List ℕ) × TakesInput reads unread left input
+      × (count ≡ length (lines_of input)) × ServesEach state opened (lines_of input) new old now)
+      → (fault ≡ Some ReadFault → (input : List ℕ) × TakesInput reads unread left input
+      × (count ≡ length (whole_lines input))
+      × ServesEach state opened (whole_lines input) new old now)
+      → (fault ≡ Some WriteFault → (input : List ℕ) × TakesInput reads unread left input
+      × (ServesSome state opened (whole_lines input) count new old now
+      ⊎ ServesSome state opened (lines_of input) count new old now))
+      → (fault ≡ Some OutOfMemory
+      → (count ≡ 0) × (new ≡ opened) × Keeps unread left × Keeps old now) → ServedSo
+  served_so ends ended unended unwritten none = ⊎_elim {C = ServedSo}
+      (λ is. let e = ended is in
+      each_served e.0 e.1 (lines_of e.0) [] (sym (append-nil (lines_of e.0))) e.2 (λ fine. refl) e.3)
+      (⊎_elim {C = ServedSo}
+      (λ is. let e = none is in
+      none_served e.1 e.0 (not_none OutOfMemory fault is) e.2 e.3)
+      (⊎_elim {C = ServedSo}
+      (λ is. let e = unended is in
+      each_served e.0 e.1 (whole_lines e.0) (unless_empty (rest_of e.0)) (lines_split e.0) e.2
+      (λ fine. absurd (not_none ReadFault fault is fine)) e.3)
+      (λ is. let e = unwritten is in
+      ⊎_elim {C = ServedSo}
+      (λ some. some_served e.0 e.1 (whole_lines e.0) (unless_empty (rest_of e.0)) (lines_split e.0) is
+      some)
+      (λ some. some_served e.0 e.1 (lines_of e.0) [] (sym (append-nil (lines_of e.0))) is some)
+      e.2))) ends
+
+pub some_of : {A B C D E : Type 0} → (A × B) ⊎ (C × D × E) → B ⊎ E
+some_of (inl some) = inl some.1
+some_of (inr some) = inr some.2
+
+-- ---- lives in a row
+
+-- what is kept since the first moment
+pub kept_first : (P : ℕ → List command.Command → List command.Command → Type 0) (t : ℕ)
+    (sure : List command.Command) (told : List Told) (flight : List command.Command)
+    → IsKeptFrom P t sure told flight → P t sure (commands_done told ++ flight)
+unfolding IsKeptFrom
+kept_first P t sure [] flight kept = kept
+kept_first P t sure (x ∷ told) flight kept = kept.0
+
+both_ok : {A B : Type 0} (P Q R : A → Type 0) (result : Result A B)
+    → ((a : A) → P a → Q a → R a) → IfOk result P → IfOk result Q → IfOk result R
+both_ok P Q R (Ok a) f p q = f a p q
+both_ok P Q R (Err b) f p q = tt
+
+-- an image that commands have left, opened and played
+module _ {D A B : Type 0} (state : D → State) (result : Result A B) (server_of : A → ServerView D)
+    (packets_of : A → List (List ℕ)) (g : Geometry) (image : List ℕ)
+    (held : (s : Standing) → IsOf s image → IfOk result (λ a. (state (server_of a).disk).IsHonest
+    → Holds (server_of a).view s (state (server_of a).disk)))
+    (reads : (s : Standing) → IsOf s image → IfOk result (λ a. (state (server_of a).disk).IsHonest
+    → ReadsAs (packets_of a) s.carousel s.geometry.segment_size)) where
+  pub lives_on : (sure others : List command.Command)
+      → StandsAfterSome (new_standing g) sure others image
+      → IfOk result (λ a. (state (server_of a).disk).IsHonest
+      → LivesOn state g sure others (server_of a) (packets_of a))
+  lives_on sure others stands =
+      let last = stands.last in
+      let is = stands.after.after in
+      let all = sure ++ take stands.after.count others in
+      let none : IsAfter (new_standing g) (all ++ []) last =
+      subst (λ l. IsAfter (new_standing g) l last) (sym (append-nil all)) is in
+      both_ok _ _ _ result (λ a holds read honest. record {
+        count = stands.after.count;
+        few = stands.after.few;
+        done = record { standing = last; after = is; holds = holds honest };
+        plays = record {
+          count = 0;
+          few = omega arith;
+          carousel = last.carousel;
+          after = none.carousel;
+          reads = subst (λ (x : Geometry). ReadsAs (packets_of a) last.carousel x.segment_size)
+              is.geometry (read honest);
+        };
+      }) (held last stands.image_is) (reads last stands.image_is)

@@ -23,7 +23,8 @@ use Rattle.mot_session.specs.Served.{Begins, whole, next_begun, turn_begun}
 use Rattle.mot_session.specs.Session.{Answers, decided, halted, no_memory}
 use Rattle.mot_session.specs.Session as session
 use Rattle.mot_session.specs.State.{ServerState, IsLater}
-use Rattle.mot_session.specs.Stored.{command_in, is_accepting, is_device_fault, is_failing}
+use Rattle.mot_session.specs.Stored.{command_in, is_accepting, is_failing}
+use Rattle.mot_base.specs.Refusal.{is_device_fault}
 
 -- nothing is done; a command is done; or the disk fails, and the server is halted
 pub data Outcome (before after : ServerState) (done failed : List command.Command) : Type 0 where

@@ -6,8 +6,8 @@ use Rattle.std.specs.Io.KnownBytes.{Appends}
 use Rattle.std.proofs.KnownBytes.{Appends-trans, Appends-nil}
 use Rattle.std.proofs.lemmas.List.Concat.{flat_map-append}
 use Rattle.disk_store.specs.Disk.{State, IsHonestDisk}
-use Rattle.mot_lines.specs.Inner.Hand.{bytes_in_hand}
-use Rattle.mot_lines.specs.Inner.LineEnd.{HasNoLineEnd}
+use Rattle.mot_lines.specs.Hand.{bytes_in_hand}
+use Rattle.mot_lines.specs.Lines.{HasNoLineEnd}
 use Rattle.mot_lines.specs.Line.{line_of}
 use Rattle.mot_lines.specs.Lines.{whole_lines, rest_of}
 use Rattle.mot_lines.proofs.Laws.{whole_lines-none, rest_of-none, whole_lines-end, rest_of-end}

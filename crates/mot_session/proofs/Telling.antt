@@ -13,7 +13,8 @@ use Rattle.mot_session.specs.Life.{is_done, is_fault}
 use Rattle.mot_session.specs.Session.{Answers, decided, halted, no_memory, IsAnswer, IsCommandAnswer}
 use Rattle.mot_session.specs.Session.{Reply, accepted, refused, accepts, refuses, fails, text_of}
 use Rattle.mot_session.specs.State.{ServerState}
-use Rattle.mot_session.specs.Stored.{command_in, is_accepting, is_device_fault, is_failing}
+use Rattle.mot_session.specs.Stored.{command_in, is_accepting, is_failing}
+use Rattle.mot_base.specs.Refusal.{is_device_fault}
 
 done_of_accepted : (d : Done) → is_done (text_of (accepted d)) ≡ true
 unfolding text_of

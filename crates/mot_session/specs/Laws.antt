@@ -1,7 +1,7 @@
 -- What holds of every raw reply, and of every session.
 use Rattle.std.specs.Prelude.{ℕ, ◌≡◌, ◌+◌, ◌⊎◌, ◌<◌, ◌≤◌, Bool, true, false, List, [], ◌∷◌, ◌++◌}
 use Rattle.std.specs.Prelude.{length, if◌then◌else◌, Some, Result}
-use Rattle.disk_store.specs.Disk.{most_failures}
+use Rattle.disk_store.specs.Failures.{most_failures}
 use Rattle.mot_base.specs.Geometry.{IsValid}
 use Rattle.mot_base.specs.declared.geometry.Geometry.{Geometry}
 use Rattle.mot_base.specs.declared.group_kind.GroupKind.{GroupKind}
@@ -13,11 +13,10 @@ use Rattle.mot_packets.specs.Gather.{gather}
 use Rattle.mot_player.specs.Continuity.{IsContinuous}
 use Rattle.mot_session.specs.Raw.{raw_group, raw_packets}
 use Rattle.mot_session.specs.Served.{Begins}
-use Rattle.mot_session.specs.Session.{Exchange, Reply, Session, accepted, cut_short, listing}
-use Rattle.mot_session.specs.Session.{packets}
-use Rattle.mot_session.specs.Session.{packets_in, packets_played, played, refused}
+use Rattle.mot_session.specs.Session.{Exchange, Reply, Session, cut_short}
+use Rattle.mot_session.specs.Session.{packets_in, packets_played, refused}
 use Rattle.mot_session.specs.State.{HasJustOpened, ServerState}
-use Rattle.mot_session.specs.Stored.{is_device_fault}
+use Rattle.mot_base.specs.Refusal.{is_device_fault}
 
 -- a receiver gathers one group from the packets of a raw reply, and reads in it the segment that
 -- was asked for
@@ -48,11 +47,8 @@ StoppedSessionsAreContinuous =
 -- a reply that holds a device fault
 abbrev pub has_fault : Reply → Bool
 has_fault (refused r) = is_device_fault r
-has_fault (accepted d) = false
-has_fault (listing c) = false
-has_fault (packets ps) = false
-has_fault (played sents) = false
 has_fault (cut_short sents) = true
+has_fault reply = false
 
 -- how many replies hold one
 abbrev pub faults_in : List Exchange → ℕ

@@ -3,7 +3,7 @@
 use Rattle.std.specs.Prelude.{ℕ, ◌≡◌, ◌<◌, ◌≤◌, Bool, true, false, List, ◌++◌, length, map}
 use Rattle.std.specs.Prelude.{replicate, Result, Ok, Err, IsTrue, IsFalse}
 use Rattle.std.specs.List.{flat_map}
-use Rattle.disk_store.specs.Disk.{Rises}
+use Rattle.disk_store.specs.Failures.{Rises}
 use Rattle.mot_base.specs.declared.group_kind.GroupKind.{GroupKind}
 use Rattle.mot_base.specs.declared.refusal.Refusal.{Refusal}
 use Rattle.mot_base.specs.declared.refusal.Refusal.TheVariants.{OutOfMemory, DeviceFault, Halted}
@@ -12,7 +12,7 @@ use Rattle.mot_carousel.specs.declared.command.Done.{Done}
 use Rattle.mot_lines.specs.declared.line.Line.{Line}
 use Rattle.mot_lines.specs.declared.line.Line.TheVariants.{Command, Raw, Next, Turn}
 use Rattle.mot_lines.specs.declared.line.Line.TheVariants as asks
-use Rattle.mot_lines.specs.Inner.Listing.{listing_text_beside}
+use Rattle.mot_lines.specs.Listing.{listing_text_beside}
 use Rattle.mot_lines.specs.Line.{NeedsMemory}
 use Rattle.mot_lines.specs.Text.{done_line, packet_line, played_line, refusal_line}
 use Rattle.mot_repository.specs.Answers.{IsChanged, IsHalted, IsRefusal}

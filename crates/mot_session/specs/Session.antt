@@ -1,7 +1,7 @@
 -- What a server answers, line by line.
 use Rattle.std.specs.Prelude.{ℕ, ◌≡◌, ◌<◌, ⊤, List, [], ◌∷◌, ◌++◌, Result, Ok, Err, IsTrue, IsFalse}
 use Rattle.std.specs.List.{flat_map}
-use Rattle.disk_store.specs.Disk.{Rises}
+use Rattle.disk_store.specs.Failures.{Rises}
 use Rattle.mot_base.specs.declared.refusal.Refusal.{Refusal}
 use Rattle.mot_base.specs.declared.refusal.Refusal.TheVariants.{BadName, NoRoom, OutOfMemory}
 use Rattle.mot_base.specs.declared.refusal.Refusal.TheVariants.{DeviceFault, Halted}
@@ -146,10 +146,7 @@ Session before (x ∷ exchanges) after =
 abbrev pub packets_in : Reply → List (List ℕ)
 packets_in (played sents) = packets_sent sents
 packets_in (cut_short sents) = packets_sent sents
-packets_in (refused r) = []
-packets_in (accepted d) = []
-packets_in (listing c) = []
-packets_in (packets ps) = []
+packets_in reply = []
 
 abbrev pub packets_played : List Exchange → List (List ℕ)
 packets_played exchanges = flat_map (λ (x : Exchange). packets_in x.reply) exchanges

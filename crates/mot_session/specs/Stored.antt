@@ -1,49 +1,31 @@
 -- What a crash leaves of a session.
-use Rattle.std.specs.Prelude.{ℕ, ◌≡◌, ◌≤◌, Bool, true, false, List, [], ◌∷◌, ◌++◌, Result, Ok, Err}
+use Rattle.std.specs.Prelude.{ℕ, ◌≡◌, ◌≤◌, Bool, true, false, List, [], ◌∷◌, ◌++◌, Result, Ok}
 use Rattle.std.specs.Prelude.{IsFalse, if◌then◌else◌}
 use Rattle.std.specs.List.{flat_map}
 use Rattle.disk_store.specs.Disk.{State, Throughout}
 use Rattle.mot_base.specs.declared.refusal.Refusal.{Refusal}
-use Rattle.mot_base.specs.declared.refusal.Refusal.TheVariants.{DeviceFault}
 use Rattle.mot_carousel.specs.declared.command.Command as command
 use Rattle.mot_journal.specs.Image.{Standing}
 use Rattle.mot_lines.specs.declared.line.Line.{Line}
-use Rattle.mot_lines.specs.declared.line.Line.TheVariants.{Command, Raw, Next, Turn}
-use Rattle.mot_lines.specs.declared.line.Line.TheVariants as asks
+use Rattle.mot_lines.specs.declared.line.Line.TheVariants.{Command}
 use Rattle.mot_lines.specs.Line.{line_of}
 use Rattle.mot_server.specs.Runs.{IsAfter, StandsAfterSome}
-use Rattle.mot_session.specs.Session.{Exchange, Reply, accepted, refused, listing, packets, played}
-use Rattle.mot_session.specs.Session.{cut_short}
+use Rattle.mot_session.specs.Session.{Exchange, Reply, accepted, refused}
 use Rattle.mot_session.specs.State.{ServerState}
+use Rattle.mot_base.specs.Refusal.{is_device_fault}
 
 -- the command that a request is
 abbrev pub command_in : Result Line Refusal → List command.Command
-command_in (Err r) = []
 command_in (Ok (Command c)) = c ∷ []
-command_in (Ok asks.List) = []
-command_in (Ok (Raw kind tid body)) = []
-command_in (Ok (Next count)) = []
-command_in (Ok Turn) = []
+command_in request = []
 
 abbrev pub is_accepting : Reply → Bool
 is_accepting (accepted d) = true
-is_accepting (refused r) = false
-is_accepting (listing c) = false
-is_accepting (packets ps) = false
-is_accepting (played sents) = false
-is_accepting (cut_short sents) = false
-
-abbrev pub is_device_fault : Refusal → Bool
-is_device_fault DeviceFault = true
-is_device_fault refusal = false
+is_accepting reply = false
 
 abbrev pub is_failing : Reply → Bool
 is_failing (refused r) = is_device_fault r
-is_failing (accepted d) = false
-is_failing (listing c) = false
-is_failing (packets ps) = false
-is_failing (played sents) = false
-is_failing (cut_short sents) = false
+is_failing reply = false
 
 -- the commands that replies accept, and the one that a device fault cut off
 abbrev pub accepted_in : Exchange → List command.Command

@@ -1,16 +1,19 @@
 //! The life of a disk, told of lines: formatted, opened and served; and what a crash at any moment
 //! of that left, opened and played. Input bytes, output bytes and packets are all that is told.
-ghost use Rattle.std.specs.Prelude.{◌≡◌, ◌≤◌, ℕ, List, [], IfOk, IfErr};
+ghost use Rattle.std.specs.Prelude.{◌≤◌, ◌++◌, ℕ, List, [], IfOk, IfErr};
+ghost use Rattle.disk_store.specs.Disk.{KeepsLength};
+ghost use Rattle.mot_base.specs.declared.geometry.Geometry.{Geometry};
 ghost use Rattle.mot_carousel.specs.declared.command.Command.{Command};
 ghost use Rattle.mot_repository.specs.Opening.{IsPassing};
 ghost use Rattle.mot_server.specs.Life.{IsBlank, IsFormatRefusal, PlaysAfter};
+ghost use Rattle.mot_server.specs.Lives.{HasDone, LivesOn};
 ghost use Rattle.mot_server.specs.Playing.{bytes_of_packets};
 ghost use Rattle.mot_session.specs.Life.{IsKeptFrom, Told, Tells, commands_done};
 ghost use Rattle.mot_session.specs.Served.{TakesInput};
 
 use crate::{Geometry, MAX_READS, ServeEnd, serve};
 use disk_store::Disk;
-use mot_server::{FirstTurn, Refused, first_turn, format_and_open};
+use mot_server::{FirstTurn, Refused, Restarted, Server, first_turn, format_and_open, restart};
 use std::alloc::Global;
 use std::io::{Read, Write};
 
@@ -78,4 +81,64 @@ pub fn format_serve_and_restart<R: Read, W: Write, D: Disk, E: Disk + Drop>(
         end,
         after_crash,
     })
+}
+
+/// What became of lines that were served, and of what a crash left of the disk.
+#[derive(Drop)]
+pub struct ServedOn<E: Disk> {
+    /// How serving ended.
+    pub end: ServeEnd,
+    /// The server on what the crash left, and the first turn that it played.
+    pub restarted: Result<Restarted<E>, Refused<E>>,
+}
+
+/// One more life: serves the reader's lines on a disk that `format_and_open` made, and that may have
+/// been served and crashed and opened by this function since, any number of times. A crash comes at any moment, as
+/// in `format_serve_and_restart`; `left` is any disk that reads as an image which it may have left.
+/// It is opened, and its first turn is played: so it has another life before it.
+///
+/// Whatever the lives were, the packets of each first turn read as exactly the carousel that the
+/// commands done make of the new one: those done when the life before began, then those of its
+/// replies that say `done` and at most the one in flight, and none of these but at the end is left
+/// out. What was done stays done in each life to come.
+pub fn serve_and_restart<R: Read, W: Write, D: Disk, E: Disk>(
+    server: &mut Server<D>,
+    alloc: Global,
+    reader: &mut R,
+    writer: &mut W,
+    reads: u64,
+    left: E,
+) -> ServedOn<E>
+    requires { reads ≤ MAX_READS }
+
+    // The lines, their replies, and what a crash leaves of their commands: first one at some moment
+    // since the call began, then one that comes once it has returned.
+    ensures in_a_row { (g : Geometry) (done : List Command) → HasDone D.state g done server.old
+        → (D.state server.new.disk).IsHonest → (input : List ℕ)
+        × TakesInput reads (R.remaining reader.old) (R.remaining reader.new) input
+        × (told : List Told) × (in_flight : List Command)
+        × Tells input result.end.lines result.end.fault told in_flight
+        (W.contents writer.old) (W.contents writer.new)
+        × IsKeptFrom (λ moment sure others.
+        (D.state server.new.disk).LeftSince moment (E.state left).bytes
+        → IfOk result.restarted (λ r. (E.state r.server.disk).IsHonest
+        → LivesOn E.state g sure others r.server (bytes_of_packets r.packets.items)))
+        (D.state server.old.disk).moment done told in_flight
+        × ((D.state server.new.disk).MayLeave (E.state left).bytes
+        → IfOk result.restarted (λ r. (E.state r.server.disk).IsHonest
+        → LivesOn E.state g (done ++ commands_done told) in_flight r.server
+        (bytes_of_packets r.packets.items))) }
+
+    // it opens, but for want of memory or a failure of the disk that was left
+    ensures opens { (g : Geometry) (done : List Command) → HasDone D.state g done server.old
+        → (D.state server.new.disk).IsHonest
+        → (D.state server.new.disk).LeftSince (D.state server.old.disk).moment (E.state left).bytes
+        → IfErr result.restarted (λ e. (E.state e.disk).IsHonest
+        → IsPassing (E.state left) (E.state e.disk) e.refusal) }
+    ensures keeps { KeepsLength (D.state server.old.disk) (D.state server.new.disk) }
+    ensures later { (D.state server.old.disk).failures ≤ (D.state server.new.disk).failures }
+{
+    let end = serve(alloc, reader, writer, server, reads);
+    let restarted = restart(alloc, left);
+    ServedOn { end, restarted }
 }

@@ -2,6 +2,7 @@ mod commands;
 mod failing;
 mod halting;
 mod life;
+mod lives;
 mod playing;
 mod receiving;
 mod stops;

@@ -4,8 +4,10 @@ ghost use Rattle.std.specs.Prelude.{◌≡◌, ◌⊎◌, ◌+◌, ◌≤◌, []
 ghost use Rattle.std.specs.Prelude.{OnOk, OnErr, IsErr};
 ghost use Rattle.disk_store.specs.Calls.{Gave, FailedRead, Wrote, FailedWrite, Synced};
 ghost use Rattle.disk_store.specs.Calls.{FailedSync};
-ghost use Rattle.disk_store.specs.Disk.{Keeps, KeepsLength, HasCause, IsUnchanged, IsStill, Writes};
-ghost use Rattle.disk_store.specs.Disk.{IsMarked, IsFirm, LeavesAll, most_failures};
+ghost use Rattle.disk_store.specs.Disk.{Keeps, KeepsLength, IsUnchanged, IsStill, Writes};
+ghost use Rattle.disk_store.specs.Failures.{HasCause};
+ghost use Rattle.disk_store.specs.Disk.{IsMarked, IsFirm, LeavesAll};
+ghost use Rattle.disk_store.specs.Failures.{most_failures};
 
 use super::{FileDiskFrom, Start};
 use crate::{Disk, DiskFault};
@@ -25,7 +27,7 @@ impl<S: Start> Disk for FileDiskFrom<S> {
     fn read(&mut self, at: u64, out: &mut [u8]) -> Result<(), DiskFault>
         requires { at + length out.old ≤ (file_state self.old).len }
         ensures keeps { KeepsLength (file_state self.old) (file_state self.new) }
-        ensures cause { HasCause (file_state self.old) (file_state self.new) result }
+        ensures cause { HasCause (file_state self.old).failures (file_state self.new).failures result }
         ensures called { (file_state self.new).calls ≡ (file_state self.old).calls + 1 }
         ensures unchanged { (file_state self.old).IsHonest
             → IsUnchanged (file_state self.old) (file_state self.new) }
@@ -58,7 +60,7 @@ impl<S: Start> Disk for FileDiskFrom<S> {
     fn write(&mut self, at: u64, bytes: &[u8]) -> Result<(), DiskFault>
         requires { at + length bytes.now ≤ (file_state self.old).len }
         ensures keeps { Keeps (file_state self.old) (file_state self.new) }
-        ensures cause { HasCause (file_state self.old) (file_state self.new) result }
+        ensures cause { HasCause (file_state self.old).failures (file_state self.new).failures result }
         ensures called { (file_state self.new).calls ≡ (file_state self.old).calls + 1 }
         ensures range { (file_state self.old).IsHonest
             → Writes at (length bytes.now) (file_state self.old) (file_state self.new) }
@@ -94,7 +96,7 @@ impl<S: Start> Disk for FileDiskFrom<S> {
 
     fn sync(&mut self) -> Result<(), DiskFault>
         ensures keeps { Keeps (file_state self.old) (file_state self.new) }
-        ensures cause { HasCause (file_state self.old) (file_state self.new) result }
+        ensures cause { HasCause (file_state self.old).failures (file_state self.new).failures result }
         ensures called { (file_state self.new).calls ≡ (file_state self.old).calls + 1 }
         ensures still { (file_state self.old).IsHonest
             → IsStill (file_state self.old) (file_state self.new) }

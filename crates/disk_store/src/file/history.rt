@@ -3,7 +3,8 @@
 //! is noted that the system did not answer.
 ghost use Rattle.std.specs.Prelude.{◌≡◌, ℕ, List, [], ◌∷◌, ◌++◌, IfOk, OnOk, OnErr};
 ghost use Rattle.std.specs.Borrow.{ftrue};
-ghost use Rattle.disk_store.specs.Calls.{Call, call_of, Locked, Opened, Made, Gave, FailedRead};
+ghost use Rattle.disk_store.specs.Calls.{Call, Locked, Opened, Made, Gave, FailedRead};
+ghost use Rattle.disk_store.specs.Inner.Noting.{call_of};
 ghost use Rattle.disk_store.specs.Calls.{Wrote, FailedWrite, Synced, FailedSync, Dropped, Named};
 
 use std::fs::TryLockError;

@@ -1,6 +1,7 @@
 //! How a file is opened as a disk, and how a new one is made.
 ghost use Rattle.std.specs.Prelude.{◌≡◌, [], ◌∷◌, ◌++◌, length, replicate, IfOk, OnOk};
-ghost use Rattle.disk_store.specs.Calls.{content_after, HasBegun, opening_calls, making_calls};
+ghost use Rattle.disk_store.specs.Calls.{content_after, opening_calls, making_calls};
+ghost use Rattle.disk_store.specs.Inner.Noting.{HasBegun};
 ghost use Rattle.disk_store.specs.Disk.{IsNew, LeavesAll};
 ghost use Rattle.disk_store.specs.File.{file_state, calls_on, CanSync};
 

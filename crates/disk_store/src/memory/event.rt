@@ -1,7 +1,8 @@
 //! What a disk in memory records of its calls.
 ghost use Rattle.std.specs.Prelude.{◌≡◌, ◌≤◌, ◌+◌, [], ◌∷◌, ◌++◌, length, OnOk, OnErr};
 ghost use Rattle.std.specs.Vec.{vec_len, vec_capacity};
-ghost use Rattle.disk_store.specs.Inner.Log.{HasWriteMore, record_room};
+ghost use Rattle.disk_store.specs.Inner.Log.{HasWriteMore};
+ghost use Rattle.disk_store.specs.Memory.{record_room};
 
 use std::alloc::{AllocError, Global};
 

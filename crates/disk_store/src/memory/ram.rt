@@ -1,7 +1,8 @@
 //! A disk in memory to work on, none of whose calls is made to fail.
 ghost use Rattle.std.specs.Prelude.{◌≡◌, ◌+◌, ◌<◌, ◌≤◌, length, replicate, slice_range, IfSome, IsOk};
 ghost use Rattle.std.specs.Prelude.{OnErr};
-ghost use Rattle.disk_store.specs.Disk.{IsNew, most_failures};
+ghost use Rattle.disk_store.specs.Disk.{IsNew};
+ghost use Rattle.disk_store.specs.Failures.{most_failures};
 ghost use Rattle.disk_store.specs.Faults.{no_plan};
 ghost use Rattle.disk_store.specs.Memory.{plan_of};
 
@@ -30,7 +31,8 @@ impl RamDisk {
 }
 
 impl Disk for RamDisk {
-    ghost use Rattle.disk_store.specs.Disk.{Keeps, HasCause, IsUnchanged, IsStill, IsFirm, Writes};
+    ghost use Rattle.disk_store.specs.Disk.{Keeps, IsUnchanged, IsStill, IsFirm, Writes};
+    ghost use Rattle.disk_store.specs.Failures.{HasCause};
     ghost use Rattle.disk_store.specs.Disk.{IsMarked};
     ghost use Rattle.disk_store.specs.Ram.{ram_state};
     ghost use Rattle.disk_store.specs.Inner.MemorySound.{memory_sound};
@@ -47,7 +49,7 @@ impl Disk for RamDisk {
     fn read(&mut self, at: u64, out: &mut [u8]) -> Result<(), DiskFault>
         requires { at + length out.old ≤ (ram_state self.old).len }
         ensures keeps { Keeps (ram_state self.old) (ram_state self.new) }
-        ensures cause { HasCause (ram_state self.old) (ram_state self.new) result }
+        ensures cause { HasCause (ram_state self.old).failures (ram_state self.new).failures result }
         ensures called { (ram_state self.new).calls ≡ (ram_state self.old).calls + 1 }
         ensures honest { (ram_state self.new).IsHonest }
         ensures unchanged { IsUnchanged (ram_state self.old) (ram_state self.new) }

@@ -4,11 +4,20 @@ use Rattle.mot_base.specs.declared.geometry.Geometry.{Geometry}
 use Rattle.mot_journal.specs.declared.layout.Layout.TheVariants.{Two}
 use Rattle.mot_journal.specs.declared.record.Record.{Record}
 use Rattle.mot_journal.specs.declared.record.Action.TheVariants.{Nothing}
-use Rattle.mot_journal.specs.Geometry.{head_bytes}
 use Rattle.mot_journal.specs.Slot.{slot_count}
 use Rattle.mot_journal.specs.Image.{stands_for, IsClean, IsInLayoutTwo, IsSecondHalfEmpty}
 use Rattle.mot_journal.specs.Journal.{standing_from}
 use Rattle.mot_journal.specs.Inner.Steps.{HasSlots}
+use Rattle.std.specs.Prelude.{◌++◌, replicate}
+use Rattle.std.specs.Int.{w16, w32, to_be_bytes}
+use Rattle.mot_journal.specs.Geometry.{magic}
+
+-- the 64 bytes before the halves, as they are written
+abbrev pub head_bytes : Geometry → ℕ → List ℕ
+head_bytes g half =
+    magic ++ half ∷ replicate 7 0 ++ to_be_bytes w16 g.objects ++ to_be_bytes w16 g.segment_size
+    ++ to_be_bytes w16 g.address ++ to_be_bytes w16 g.packet_length ++ to_be_bytes w32 g.data_area
+    ++ replicate 36 0
 
 -- the record of a new disk, whose directory has this transport id
 abbrev pub first_record : ℕ → Record

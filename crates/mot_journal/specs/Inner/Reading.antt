@@ -9,7 +9,9 @@ use Rattle.mot_base.specs.declared.geometry.Geometry.{Geometry}
 use Rattle.mot_journal.specs.declared.layout.Layout.{Layout}
 use Rattle.mot_journal.specs.declared.record.Action.{Action}
 use Rattle.mot_journal.specs.declared.record.Action.TheVariants.{Set}
-use Rattle.mot_journal.specs.Slot.{kind_base, action_in, mime_in, is_mime, is_name, is_sound_action}
+use Rattle.mot_journal.specs.Slot.{kind_base, action_in, mime_in, is_sound_action}
+use Rattle.mot_carousel.specs.Mime.{is_mime}
+use Rattle.mot_carousel.specs.Name.{is_name}
 
 -- the number in so many bytes from a place on
 abbrev pub number_at : ℕ → ℕ → List ℕ → ℕ

@@ -1,15 +1,15 @@
 -- What a crash leaves during the steps of a call that writes.
-use Rattle.std.specs.Prelude.{◌≡◌, ◌⊎◌, ℕ, ◌+◌, ◌*◌, ◌<◌, ◌≤◌, true, List, length, take, drop}
+use Rattle.std.specs.Prelude.{◌≡◌, ◌⊎◌, ℕ, ◌+◌, ◌*◌, ◌<◌, ◌≤◌, List, length, take, drop}
 use Rattle.std.specs.Prelude.{replicate, slice_range, slice_get, Option, Some, None}
-use Rattle.std.specs.Prelude.{All}
 use Rattle.std.specs.Prelude.{Result, IsErr}
-use Rattle.disk_store.specs.Disk.{State, AgreeOutside, Rises, Torn, Throughout, most_failures}
+use Rattle.disk_store.specs.Disk.{State, AgreeOutside, Torn, Throughout}
+use Rattle.disk_store.specs.Failures.{Rises, most_failures}
 use Rattle.mot_base.specs.declared.geometry.Geometry.{Geometry}
 use Rattle.mot_base.specs.Geometry.{half_start, half_size}
 use Rattle.mot_journal.specs.declared.layout.Layout.{Layout}
 use Rattle.mot_journal.specs.declared.record.Record.{Record}
 use Rattle.mot_journal.specs.Image.{slots_in}
-use Rattle.mot_journal.specs.Slot.{slot_size, slot_count, bytes_of_slot, read_slot, is_sound}
+use Rattle.mot_journal.specs.Slot.{slot_size, slot_count, bytes_of_slot, read_slot}
 
 -- these bytes with this slot in them, but for its first byte, which may be any
 pub record IsBehindGate (at : ℕ) (slot bytes image : List ℕ) : Type 0 where
@@ -57,10 +57,6 @@ slot_from layout None = replicate (slot_size layout) 0
 abbrev pub IsReadable : Geometry → Layout → Option Record → Type 0
 IsReadable g layout (Some r) = read_slot g layout (bytes_of_slot layout r) ≡ Some r
 IsReadable g layout None = Unit {0}
-
--- no record has a fault of fields
-abbrev pub AreSound : Geometry → Layout → List Record → Type 0
-AreSound g layout given = All (λ r. is_sound g layout r ≡ true) given
 
 -- the first slots of the half, so many, are those of these records, and zeros behind them
 abbrev pub HasSlots : Geometry → ℕ → Layout → List Record → ℕ → List ℕ → Type 0

@@ -2,6 +2,10 @@
 use Rattle.std.specs.Prelude.{ℕ, ◌≡◌, ◌≢◌, List, [], ◌∷◌, length, Option, Some, None}
 use Rattle.std.specs.Borrow.{Bor}
 use Rattle.mot_lines.specs.Words.{words_of}
+use Rattle.std.specs.Prelude.{◌⊎◌, Result}
+use Rattle.std.specs.Prelude.{Err}
+use Rattle.mot_base.specs.declared.refusal.Refusal.{Refusal}
+use Rattle.mot_base.specs.declared.refusal.Refusal.TheVariants.{OutOfMemory}
 
 -- the words of what follows a word, if something does
 abbrev pub words_after : Option (Bor (List ℕ)) → List (List ℕ)
@@ -25,3 +29,7 @@ AreFive None words = length words ≢ 5
 abbrev pub IsOne : Option (Bor (List ℕ)) → List (List ℕ) → Type 0
 IsOne (Some found) words = words ≡ found.now ∷ []
 IsOne None words = length words ≢ 1
+
+-- this answer, but a growth of memory that is refused may stand in its place
+abbrev pub OrOutOfMemory : {T : Type 0} → Result T Refusal → Result T Refusal → Type 0
+OrOutOfMemory result answer = (result ≡ answer) ⊎ (result ≡ Err OutOfMemory)

@@ -2,7 +2,7 @@ ghost use Rattle.std.specs.Prelude.{◌≡◌};
 ghost use Rattle.hex.specs.Hex.{decode_of};
 ghost use Rattle.mot_lines.specs.Fields.{kind_in, tid_in, segment_in, name_in, content_in, mime_in};
 ghost use Rattle.mot_lines.specs.Fields.{body_in, period_in, count_in};
-ghost use Rattle.mot_lines.specs.Line.{OrOutOfMemory};
+ghost use Rattle.mot_lines.specs.Inner.Words.{OrOutOfMemory};
 ghost use Rattle.mot_lines.specs.Words.{number_of_word};
 
 use super::MAX_PACKETS;

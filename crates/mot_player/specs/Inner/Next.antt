@@ -3,7 +3,8 @@ use Rattle.std.specs.Prelude.{◌≡◌, ℕ, ◌==◌, if◌then◌else◌, Lis
 use Rattle.mot_base.specs.Reading.{is_empty}
 use Rattle.mot_groups.specs.Group.{Segment}
 use Rattle.mot_player.specs.declared.part.Part.{Part}
-use Rattle.mot_player.specs.Standing.{AreBodiesFor, TurnPlan, entities_of, entity_bytes, entity_tid}
+use Rattle.mot_player.specs.Standing.{AreBodiesFor, TurnPlan, entities_of}
+use Rattle.mot_player.specs.Inner.Entities.{entity_bytes, entity_tid}
 use Rattle.mot_player.specs.Standing.{segments_from, turn_of}
 use Rattle.mot_player.specs.Turn.{segments_of_turn}
 

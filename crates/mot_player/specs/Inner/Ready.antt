@@ -1,27 +1,13 @@
 -- What the state of a player stands for, and what holds of it between requests.
-use Rattle.std.specs.Prelude.{◌≡◌, ℕ, ◌+◌, ◌<◌, ◌≤◌, ◌==◌, if◌then◌else◌, List, ◌∷◌, Some, None}
+use Rattle.std.specs.Prelude.{◌≡◌, ℕ, ◌+◌, ◌<◌, ◌≤◌, List, ◌∷◌}
 use Rattle.std.specs.Prelude.{length, vec_len, vec_capacity}
-use Rattle.mot_base.specs.PacketLength.{room_of}
 use Rattle.mot_base.specs.declared.numbers.TheConstants.{MAX_SEGMENT}
 use Rattle.mot_groups.specs.Group.{Segment, bytes_of_group}
 use Rattle.mot_player.specs.declared.state.State.{State}
-use Rattle.mot_player.specs.Inner.LastGroup.{last_of}
 use Rattle.mot_player.specs.Place.{Place, group_for, to_send, with_begun}
-use Rattle.mot_player.specs.Standing.{IsPlannable, IsWithinTurn, Standing, place_of}
-
-abbrev pub standing_of : State → Standing
-standing_of p = record {
-  address = p.address;
-  room = room_of p.full_length;
-  segment_size = p.segment_size;
-  under_way = if p.sent == 0 then None else Some (record { group = p.group.items; sent = p.sent });
-  turn = p.turn;
-  entity = p.entity;
-  segment = p.segment;
-  index = p.index;
-  last_directory = last_of p.last_directory;
-  last_body = last_of p.last_body;
-}
+use Rattle.mot_player.specs.Standing.{place_of}
+use Rattle.mot_player.specs.Inner.Entities.{IsPlannable, IsWithinTurn}
+use Rattle.mot_player.specs.State.{standing_of}
 
 abbrev pub place_with : State → List (List ℕ) → Place
 place_with p bodies = place_of (standing_of p) bodies

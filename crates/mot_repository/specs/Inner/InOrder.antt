@@ -1,9 +1,9 @@
 -- What holds of every repository, whatever its disk does.
 use Rattle.std.specs.Prelude.{◌≡◌, ◌≤◌, ℕ, true, IsFalse}
 use Rattle.mot_base.specs.Geometry.{length_of}
-use Rattle.mot_journal.specs.Geometry.{is_valid}
+use Rattle.mot_base.specs.Geometry.{is_valid}
 use Rattle.mot_repository.specs.Extents.{ArePaired, catalogue_in}
-use Rattle.mot_repository.specs.Inner.Whole.{IsWhole}
+use Rattle.mot_repository.specs.Whole.{IsWhole}
 use Rattle.mot_repository.specs.Repository.{RepositoryView}
 
 -- The disk is long enough for a valid geometry, what is kept has no fault, and its journal can be

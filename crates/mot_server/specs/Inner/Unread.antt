@@ -4,7 +4,7 @@ use Rattle.std.proofs.Common.{inl, le-add_right}
 use Rattle.std.proofs.Math.Nat.{le_refl}
 use Rattle.disk_store.specs.Disk.{State, IsUnchanged}
 use Rattle.mot_repository.specs.Repository.{RepositoryView}
-use Rattle.mot_server.specs.Bodies.{HasRead}
+use Rattle.mot_server.specs.Inner.Bodies.{HasRead}
 
 pub is_unchanged : (state : State) → IsUnchanged state state
 is_unchanged state = record {

@@ -3,7 +3,7 @@
 use super::*;
 
 // A blank disk of the usual sizes, on which each device call from this one on fails.
-fn blank_disk(alloc: Global, stop: u64) -> Result<MemoryDisk, Refusal> {
+pub fn blank_disk(alloc: Global, stop: u64) -> Result<MemoryDisk, Refusal> {
     let mut disk = MemoryDisk::new(alloc, SMALL.length()).ok_or(Refusal::OutOfMemory)?;
     if stop > 0 {
         disk.stop_at(stop);

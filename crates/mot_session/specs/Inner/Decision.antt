@@ -10,7 +10,8 @@ use Rattle.mot_session.specs.declared.answering.Decision.TheVariants.{Packets, N
 use Rattle.mot_session.specs.Raw.{packets_at}
 use Rattle.mot_session.specs.Session.{refused, accepted, listing, packets, Answers}
 use Rattle.mot_session.specs.State.{ServerState}
-use Rattle.mot_session.specs.Stored.{command_in, is_device_fault}
+use Rattle.mot_session.specs.Stored.{command_in}
+use Rattle.mot_base.specs.Refusal.{is_device_fault}
 
 -- a decision answers the request, with the reply that it stands for on the server then; or it is to
 -- play packets, and nothing was done yet

@@ -1,6 +1,6 @@
 -- What of the input was cut into lines.
 use Rattle.std.specs.Prelude.{ℕ, ◌≡◌, List, length, Option}
-use Rattle.mot_lines.specs.Inner.Hand.{bytes_in_hand}
+use Rattle.mot_lines.specs.Hand.{bytes_in_hand}
 use Rattle.mot_lines.specs.Lines.{whole_lines, rest_of}
 
 -- the whole lines of the input so far were counted, and the rest is in hand

@@ -11,7 +11,7 @@ use std::alloc::Global;
 use std::test::Fail;
 
 /// Sizes for three objects.
-const THREE: Geometry = Geometry {
+pub const THREE: Geometry = Geometry {
     objects: 3,
     data_area: 300,
     segment_size: 64,
@@ -109,7 +109,7 @@ fn disturbed(alloc: Global, stop: u64, room: usize, choices: &[u8]) -> Result<Se
 }
 
 /// How many lines were written whole that begin so.
-fn lines_with(written: &[u8], front: &[u8]) -> usize {
+pub fn lines_with(written: &[u8], front: &[u8]) -> usize {
     let whole = written.split_inclusive(|byte| *byte == b'\n');
     whole
         .filter(|line| line.starts_with(front) && line.ends_with(b"\n"))

@@ -4,7 +4,8 @@ use Rattle.std.proofs.lemmas.Bool.{false_from_ne_true, le-leb, leb-true}
 use Rattle.std.proofs.lemmas.Slice.Eq.{bytes_eq-Decides}
 use Rattle.mot_base.specs.declared.geometry.Geometry.{Geometry}
 use Rattle.mot_base.specs.Geometry.{length_of}
-use Rattle.mot_journal.specs.Geometry.{magic, is_valid}
+use Rattle.mot_journal.specs.Geometry.{magic}
+use Rattle.mot_base.specs.Geometry.{is_valid}
 use Rattle.mot_journal.proofs.Heads.{geometry_from, all_three, first_false, second_false, third_false}
 use Rattle.mot_journal.proofs.loading.geometry_of_head.Goals as goal
 

@@ -1,6 +1,7 @@
 use Rattle.std.proofs.Common.{◌≡◌, ◌+◌, ◌*◌, ◌<◌, length, arith, sym, ap, ◌∙◌}
 use Rattle.mot_player.specs.Inner.Next.{due_from}
-use Rattle.mot_player.specs.Standing.{TurnPlan, entity_length}
+use Rattle.mot_player.specs.Standing.{TurnPlan}
+use Rattle.mot_player.specs.Inner.Entities.{entity_length}
 use Rattle.mot_player.specs.declared.part.Part.{Part}
 use Rattle.mot_player.proofs.NextSegment.{IsPart, is_next, is_next-whole, within-next, within-first, first-at-end, inside-turn}
 use Rattle.mot_player.proofs.part.part_at.Goals as goal

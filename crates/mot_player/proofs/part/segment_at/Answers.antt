@@ -1,7 +1,7 @@
 use Rattle.std.proofs.Common.{◌≡◌, ℕ, ◌+◌, ◌-◌, ◌*◌, ◌<◌, min, arith, ap, ◌∙◌}
 use Rattle.std.specs.Int.{div_ceil}
 use Rattle.std.specs.Prelude.{◌==◌}
-use Rattle.mot_player.specs.Standing.{entity_length}
+use Rattle.mot_player.specs.Inner.Entities.{entity_length}
 use Rattle.mot_player.proofs.NextSegment.{is_last-count}
 use Rattle.mot_player.proofs.part.segment_at.Goals as goal
 

@@ -1,7 +1,7 @@
 use Rattle.std.proofs.Common.{◌≡◌, ◌++◌, ◌∙◌, ap, subst}
 use Rattle.std.specs.Io.KnownBytes.{Appends}
 use Rattle.std.proofs.KnownBytes.{Appends-trans}
-use Rattle.mot_lines.specs.Inner.Listing.{listing_text_beside}
+use Rattle.mot_lines.specs.Listing.{listing_text_beside}
 use Rattle.mot_repository.specs.Repository.{RepositoryView}
 use Rattle.mot_program.specs.Report.{clean_line, layout_line}
 use Rattle.mot_program.proofs.Ends.{OnOk-one}

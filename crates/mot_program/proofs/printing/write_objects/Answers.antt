@@ -5,7 +5,7 @@ use Rattle.std.specs.Io.KnownBytes.{Appends}
 use Rattle.std.proofs.KnownBytes.{Appends-trans}
 use Rattle.std.proofs.lemmas.List.{take_more}
 use Rattle.std.proofs.lemmas.List.Concat.{flat_map-append}
-use Rattle.mot_lines.specs.Inner.Listing.{object_line_beside}
+use Rattle.mot_lines.specs.Listing.{object_line_beside}
 use Rattle.mot_program.proofs.printing.write_objects.Goals as goal
 
 -- one more line

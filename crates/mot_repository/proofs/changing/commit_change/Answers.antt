@@ -1,7 +1,7 @@
 use Rattle.std.proofs.Common.{◌≡◌, ◌∙◌, ◌+◌, inl, refl, sym, ap, subst, List, ℕ, length, slice_range}
 use Rattle.disk_store.proofs.Laws.{weakens, joins}
 use Rattle.mot_base.specs.Geometry.{area_start}
-use Rattle.mot_journal.specs.Gaps.{AreBeside}
+use Rattle.mot_journal.specs.Inner.Gaps.{AreBeside}
 use Rattle.mot_journal.specs.Journal.{JournalView}
 use Rattle.mot_repository.specs.Prepared.{IsFull}
 use Rattle.mot_repository.specs.Repository.{RepositoryView, IsOf, IsBeforeOrAfter}

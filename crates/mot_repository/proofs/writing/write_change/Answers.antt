@@ -2,7 +2,7 @@ use Rattle.std.proofs.Common.{◌≡◌, ◌++◌, [], ◌∷◌, ◌∙◌, inl
 use Rattle.std.specs.Prelude.{IsOk}
 use Rattle.disk_store.specs.Disk.{Writes, Throughout}
 use Rattle.disk_store.proofs.Laws.{weakens}
-use Rattle.mot_journal.specs.Gaps.{standing_of}
+use Rattle.mot_journal.specs.Inner.Gaps.{standing_of}
 use Rattle.mot_journal.specs.Journal.{JournalView, HoldsRecords, FoldOf, WithoutOrWith, OnlyReadArea}
 use Rattle.mot_repository.specs.Repository.{IsOf, IsBeforeOrAfter}
 use Rattle.mot_repository.proofs.Committing.{wrote_body, any_moment, holds_after}

@@ -1,6 +1,7 @@
 use Rattle.disk_store.proofs.Laws.{stays}
 use Rattle.mot_journal.specs.Journal.{NoneOrNew, new_standing}
 use Rattle.mot_server.proofs.Openings.{opened_holds}
+use Rattle.mot_server.proofs.Runs.{after_none}
 use Rattle.mot_server.proofs.life.format_and_open.Goals as goal
 
 pub returns-clause-holds : goal.returns-clause-holds
@@ -21,3 +22,10 @@ returns-clause-any_moment g c = λ honest blank.
     let was = opens.keeps.was_honest honest in
     stays (state c.args.disk) (state c.format.new.disk) (state c.in_ok-server.server.disk) (NoneOrNew c.args.geometry.now)
     (c.in_default.ensures.any_moment was blank) (opens.still honest).time
+
+pub returns-clause-begins : goal.returns-clause-begins
+returns-clause-begins g c = λ honest. record {
+  standing = new_standing c.args.geometry.now;
+  after = after_none (new_standing c.args.geometry.now);
+  holds = returns-clause-holds g c honest;
+}

@@ -2,7 +2,8 @@ use Rattle.std.proofs.Common.{◌≡◌, ℕ, ◌≤◌, true, List, ◌++◌, [
 use Rattle.disk_store.specs.Disk.{Throughout}
 use Rattle.mot_journal.specs.Slot.{is_sound, read_slot, slot_size, bytes_of_slot}
 use Rattle.mot_journal.specs.Image.{records_of}
-use Rattle.mot_journal.specs.Journal.{JournalView, with_records, place_of, HasRecords, HasReadArea}
+use Rattle.mot_journal.specs.Journal.{JournalView, with_records, HasRecords, HasReadArea}
+use Rattle.mot_journal.specs.Inner.Places.{place_of}
 use Rattle.mot_journal.specs.Inner.Steps.{IsGated, LeavesWritten}
 use Rattle.mot_journal.proofs.Written.{written_gate}
 use Rattle.mot_journal.proofs.Appending.{any_moment, with_slot}

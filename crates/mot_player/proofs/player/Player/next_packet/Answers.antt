@@ -3,7 +3,8 @@ use Rattle.mot_packets.specs.Packet.{read_packet}
 use Rattle.mot_packets.specs.Written.{bytes_of_packet}
 use Rattle.mot_player.specs.AnyBodies.{IsStepOfSome}
 use Rattle.mot_player.specs.Laws.{IsStep, blank_bodies, bytes_due, bytes_left}
-use Rattle.mot_player.specs.Inner.Ready.{HasTaken, place_with, standing_of}
+use Rattle.mot_player.specs.Inner.Ready.{HasTaken, place_with}
+use Rattle.mot_player.specs.State.{standing_of}
 use Rattle.mot_player.specs.Standing.{AreBodiesFor, Standing, TurnPlan, place_of}
 use Rattle.mot_player.specs.declared.player.Player.TheInside.{Inside}
 use Rattle.mot_player.specs.declared.state.State.{State}

@@ -5,7 +5,7 @@ use Rattle.mot_journal.specs.declared.layout.Layout.TheVariants.{One, Two}
 use Rattle.mot_journal.specs.Journal.{JournalView}
 use Rattle.mot_repository.specs.Extents.{catalogue_with}
 use Rattle.mot_repository.specs.Inner.InOrder.{IsInOrder}
-use Rattle.mot_repository.specs.Inner.Whole.{IsWhole}
+use Rattle.mot_repository.specs.Whole.{IsWhole}
 use Rattle.mot_repository.specs.Prepared.{view_with}
 use Rattle.mot_repository.specs.Repository.{RepositoryView, IsOf}
 use Rattle.mot_repository.proofs.Layouts.{migrates, whole_in_two}

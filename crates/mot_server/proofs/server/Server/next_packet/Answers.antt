@@ -5,7 +5,7 @@ use Rattle.mot_player.specs.Laws.{IsStep}
 use Rattle.mot_player.specs.Standing as player
 use Rattle.mot_player.specs.declared.state.Played.{Played}
 use Rattle.mot_repository.specs.Repository.{Holds}
-use Rattle.mot_server.specs.Bodies.{bodies_on}
+use Rattle.mot_server.specs.Inner.Bodies.{bodies_on}
 use Rattle.mot_server.specs.Server.{bodies_of}
 use Rattle.mot_server.proofs.Read.{are_bodies_on, bodies_held}
 use Rattle.mot_server.proofs.server.Server.next_packet.Goals as goal

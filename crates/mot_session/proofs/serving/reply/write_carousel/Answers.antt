@@ -1,7 +1,7 @@
 use Rattle.std.proofs.Common.{length}
 use Rattle.std.specs.List.{flat_map}
 use Rattle.std.proofs.lemmas.Result.{err_from_is_err_and}
-use Rattle.mot_lines.specs.Inner.Listing.{object_line_beside}
+use Rattle.mot_lines.specs.Listing.{object_line_beside}
 use Rattle.mot_lines.specs.Listing.{numbers_line}
 use Rattle.mot_session.proofs.Fronts.{WritesFront-before, Writes-after}
 use Rattle.mot_session.proofs.serving.reply.write_carousel.Goals as goal

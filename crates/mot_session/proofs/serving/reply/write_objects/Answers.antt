@@ -3,7 +3,7 @@ use Rattle.std.specs.List.{flat_map}
 use Rattle.std.specs.Io.KnownBytes.{Appends}
 use Rattle.std.proofs.KnownBytes.{Appends-trans}
 use Rattle.std.proofs.lemmas.Result.{err_from_is_err_and}
-use Rattle.mot_lines.specs.Inner.Listing.{object_line_beside}
+use Rattle.mot_lines.specs.Listing.{object_line_beside}
 use Rattle.mot_session.specs.Served.{WritesFront}
 use Rattle.mot_session.proofs.Fronts.{WritesFront-after, WritesFront-before}
 use Rattle.mot_session.proofs.Joined.{lines-more, lines-parts}

@@ -26,7 +26,7 @@ use denote.Triple.Spec.{Meets, triple_of}
 use denote.Triple.Table.{entered}
 use denote.Triple.Walked.{says, Stays, stay_ref, walk_of, AllGo, Goes-ref, Walks, ends_at, walked, walk_Meets}
 use Rattle.disk_store.specs.declared.file.history.History.{History}
-use Rattle.disk_store.specs.Calls.{call_of}
+use Rattle.disk_store.specs.Inner.Noting.{call_of}
 use Rattle.disk_store.specs.contracts.file.history.History as T
 use Rattle.disk_store.specs.contracts.file.history.History.note.Key.{name as #it}
 use Rattle.disk_store.specs.contracts.file.history.History.note as it

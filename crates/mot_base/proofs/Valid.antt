@@ -2,8 +2,7 @@
 use Rattle.std.proofs.Common.{◌≡◌, true, arith}
 use Rattle.std.proofs.lemmas.Bool.Decides.{nat_tests}
 use Rattle.mot_base.specs.declared.geometry.Geometry.{Geometry}
-use Rattle.mot_base.specs.Geometry.{IsValid}
-use Rattle.mot_journal.specs.Geometry.{is_valid}
+use Rattle.mot_base.specs.Geometry.{IsValid, is_valid}
 
 pub valid_is : (g : Geometry) → is_valid g ≡ true → IsValid g
 valid_is g is = grind (arith, nat_tests)

@@ -1,0 +1,9 @@
+-- Where a slot lies.
+use Rattle.std.specs.Prelude.{ℕ, ◌+◌, ◌*◌}
+use Rattle.mot_base.specs.Geometry.{half_start}
+use Rattle.mot_journal.specs.Slot.{slot_size}
+use Rattle.mot_journal.specs.Journal.{JournalView}
+
+-- where a slot of the journal's half lies
+abbrev pub place_of : JournalView → ℕ → ℕ
+place_of j slot = half_start j.geometry j.half + slot * slot_size j.layout

@@ -1,0 +1,20 @@
+-- What the state of a player stands for.
+use Rattle.std.specs.Prelude.{◌==◌, if◌then◌else◌, Some, None}
+use Rattle.mot_base.specs.PacketLength.{room_of}
+use Rattle.mot_player.specs.declared.state.State.{State}
+use Rattle.mot_player.specs.LastGroup.{last_of}
+use Rattle.mot_player.specs.Standing.{Standing}
+
+abbrev pub standing_of : State → Standing
+standing_of p = record {
+  address = p.address;
+  room = room_of p.full_length;
+  segment_size = p.segment_size;
+  under_way = if p.sent == 0 then None else Some (record { group = p.group.items; sent = p.sent });
+  turn = p.turn;
+  entity = p.entity;
+  segment = p.segment;
+  index = p.index;
+  last_directory = last_of p.last_directory;
+  last_body = last_of p.last_body;
+}

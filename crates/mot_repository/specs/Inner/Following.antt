@@ -1,0 +1,87 @@
+-- The laws that join the carousel's rules to the records on the disk.
+use Rattle.std.specs.Prelude.{◌≡◌, ℕ, ◌+◌, ◌<◌, ◌≤◌, All, true, List, [], ◌∷◌, length}
+use Rattle.std.specs.Prelude.{slice_range, Option, Some, None, Ok, if◌then◌else◌}
+use Rattle.std.specs.List.{AllByRecursion}
+use Rattle.mot_base.specs.declared.geometry.TheConstants.{MAX_OBJECTS}
+use Rattle.mot_carousel.specs.declared.command.Command.{Command}
+use Rattle.mot_carousel.specs.declared.command.Command.TheVariants.{Put, Replace, Withdraw, Period}
+use Rattle.mot_carousel.specs.declared.command.Done.{Done}
+use Rattle.mot_carousel.specs.Carousel.{Object, Carousel, change, has_name, IsSound}
+use Rattle.mot_journal.specs.declared.record.Record.{Record}
+use Rattle.mot_journal.specs.declared.record.Action.{Action}
+use Rattle.mot_journal.specs.declared.record.Action.TheVariants.{Nothing, Set, Remove}
+use Rattle.mot_journal.specs.Catalogue.{Catalogue, catalogue_of, catalogue_after}
+use Rattle.mot_journal.specs.Catalogue.{carousel_in, extents_of, is_consistent}
+use Rattle.mot_journal.specs.Image.{Standing, stands_for}
+use Rattle.mot_repository.specs.Gap.{is_free}
+use Rattle.mot_repository.specs.Laws.{extents_after, records_of_catalogue}
+
+-- the first object of this name
+abbrev pub object_named : List ℕ → List Object → Option Object
+object_named name [] = None
+object_named name (o ∷ objects) = if has_name name o then Some o else object_named name objects
+
+-- what is written of the object of this name, whose body lies here
+abbrev pub set_action : ℕ → ℕ → Option Object → Action
+set_action start size None = Nothing
+set_action start size (Some o) = Set o.tid o.version o.content start size o.name o.mime
+
+abbrev pub remove_action : Option Object → Action
+remove_action None = Nothing
+remove_action (Some o) = Remove o.tid
+
+abbrev pub action_of : Carousel → Carousel → Command → ℕ → Action
+action_of old next (Put name content mime body) start =
+    set_action start (length body) (object_named name next.objects)
+action_of old next (Replace name content mime body) start =
+    set_action start (length body) (object_named name next.objects)
+action_of old next (Withdraw name) start = remove_action (object_named name old.objects)
+action_of old next (Period period) start = Nothing
+
+-- the record of an accepted command: the carousel's numbers after it, and what it did
+abbrev pub record_of : Carousel → Carousel → Command → ℕ → Record
+record_of old next command start = record {
+  period = next.period;
+  directory = next.directory;
+  cursor = next.cursor;
+  action = action_of old next command start;
+}
+
+-- the command's body, if it brings one, lies in the area from this start on and meets no extent
+abbrev pub IsPlaced : List ℕ → List (ℕ × ℕ) → Command → ℕ → Type 0
+IsPlaced area extents (Put name content mime body) start =
+    (slice_range area start (start + length body) ≡ body)
+    × (is_free extents (length body) start ≡ true)
+IsPlaced area extents (Replace name content mime body) start =
+    (slice_range area start (start + length body) ≡ body)
+    × (is_free extents (length body) start ≡ true)
+IsPlaced area extents (Withdraw name) start = Unit {0}
+IsPlaced area extents (Period period) start = Unit {0}
+
+-- The record of an accepted command makes of the catalogue what the command makes of the carousel,
+-- and the extents of all other objects stay.
+abbrev pub RecordsFollowCommands : Type 0
+RecordsFollowCommands =
+    (limit start : ℕ) (area : List ℕ) (c : Catalogue) (next : Carousel)
+    (command : Command) (done : Done)
+    → limit ≤ MAX_OBJECTS → is_consistent c ≡ true → IsSound (carousel_in area c)
+    → change (carousel_in area c) limit command ≡ Ok (next, done)
+    → IsPlaced area (extents_of c) command start
+    → (after : Catalogue)
+    × (catalogue_after limit c (record_of (carousel_in area c) next command start) ≡ Some after)
+    × (carousel_in area after ≡ next) × (extents_of after ≡ extents_after c.objects command start)
+
+-- The records that a full half is rewritten to, or that it is migrated to, fold to the catalogue
+-- that they are of.
+abbrev pub RewritingKeepsTheCatalogue : Type 0
+RewritingKeepsTheCatalogue =
+    (limit : ℕ) (records : List Record) (c : Catalogue) → catalogue_of limit records ≡ Ok c
+    → catalogue_of limit (records_of_catalogue c) ≡ Ok c
+
+-- What an image of bytes stands for is a sound carousel of at most as many objects as the geometry
+-- has, whose bodies have at least one byte and lie in the data area.
+abbrev pub StandingsAreSound : Type 0
+StandingsAreSound =
+    (image : List ℕ) (s : Standing) → All (λ b. b < 256) image → stands_for image ≡ Ok s
+    → IsSound s.carousel × (length s.carousel.objects ≤ s.geometry.objects)
+    × AllByRecursion (λ (e : ℕ × ℕ). (1 ≤ e.1) × (e.0 + e.1 ≤ s.geometry.data_area)) s.extents
