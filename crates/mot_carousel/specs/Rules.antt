@@ -1,4 +1,4 @@
--- The rules that all objects of a carousel keep, whatever commands made it (own profile).
+-- The rules of the fields of objects, and of a carousel (own profile).
 use Rattle.std.specs.Prelude.{⊤, ◌<◌, ◌≤◌, All, length, MatchOption}
 use Rattle.std.specs.List.{AllByRecursion}
 use Rattle.mot_carousel.specs.Carousel.{Carousel, Object}
