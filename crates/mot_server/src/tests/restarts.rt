@@ -45,10 +45,10 @@ fn ran(
     (server.into_disk().crash(alloc, choices), marked, opened)
 }
 
-// A new disk that stops at this device call of a run, counted from the opening on.
+// A server on a new disk that stops at this device call, which is behind the opening's.
 fn server_that_stops(alloc: Global, stop: u64) -> Result<Server<MemoryDisk>, Refusal> {
     let mut disk = new_disk(alloc, &SMALL)?;
-    disk.stop_at(OPENING + stop);
+    disk.stop_at(stop.max(1));
     open(alloc, disk)
 }
 
@@ -109,7 +109,7 @@ fn a_crash_at_each_device_call_of_a_formatting(rt: HostRuntime) -> Result<(), Fa
 
 #[test]
 fn a_crash_at_each_device_call_of_a_run(rt: HostRuntime) -> Result<(), Fail> {
-    for stop in 1..40 {
+    for stop in OPENING + 1..40 {
         let left = left_of_run(rt.alloc(), stop, &[0x00, 0xFF, 0x5A])?;
         assert!(rt; is_marked(left));
     }
