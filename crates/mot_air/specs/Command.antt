@@ -8,9 +8,10 @@ use Rattle.clap.specs.declared.builder.value_parser.ValueParser.TheVariants.{Sig
 abbrev pub word_rule : Text → Rule
 word_rule name = record (new_rule name) { action = Some Set; required = true }
 
-abbrev pub folder_rule : Rule
-folder_rule = record (new_rule (codes "folder")) {
-  long = Some (codes "folder");
+-- an option that is a path
+abbrev pub path_rule : Text → Rule
+path_rule name = record (new_rule name) {
+  long = Some name;
   action = Some Set;
   value_names = 1;
 }
@@ -26,13 +27,14 @@ turns_rule = record (new_rule (codes "turns")) {
 
 abbrev pub play_app : App
 play_app =
-    with_rule (with_rule (with_rule (with_rule (new_app (codes "play"))
-    (word_rule (codes "DISK"))) (word_rule (codes "PACKETS"))) folder_rule) turns_rule
+    with_rule (with_rule (with_rule (with_rule (with_rule (new_app (codes "play"))
+    (word_rule (codes "DISK"))) (word_rule (codes "PACKETS"))) (path_rule (codes "folder")))
+    (path_rule (codes "types"))) turns_rule
 
 abbrev pub sync_app : App
 sync_app =
-    with_rule (with_rule (new_app (codes "sync")) (word_rule (codes "DISK")))
-    (word_rule (codes "DIR"))
+    with_rule (with_rule (with_rule (new_app (codes "sync")) (word_rule (codes "DISK")))
+    (word_rule (codes "DIR"))) (path_rule (codes "types"))
 
 abbrev pub export_app : App
 export_app = with_rule (new_app (codes "export")) (word_rule (codes "DISK"))

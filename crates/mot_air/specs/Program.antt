@@ -19,7 +19,9 @@ use Rattle.mot_air.specs.declared.used.AirDisk.{AirDisk}
 use Rattle.mot_air.specs.declared.used.AirDisk.TheVariants.{Opened, Untouched}
 use Rattle.mot_base.specs.declared.refusal.Refusal.{Refusal}
 use Rattle.mot_base.specs.declared.refusal.Refusal.TheVariants.{BadNumber, DeviceFault}
-use Rattle.mot_base.specs.declared.refusal.Refusal.TheVariants.{OutOfMemory, WriteFault}
+use Rattle.mot_base.specs.declared.refusal.Refusal.TheVariants.{OutOfMemory, ReadFault}
+use Rattle.mot_base.specs.declared.refusal.Refusal.TheVariants.{WriteFault}
+use Rattle.mot_folder.specs.Types.{IsTypesRefusal}
 
 -- how many turns are played, where so many are asked for; and else sixteen into a file, behind which
 -- its packets can begin anew, and as good as without end into all else
@@ -79,19 +81,19 @@ module _ {S : Type 0} {start : Ghosts S} where
 
   -- the task was done
   abbrev pub Does : Task → AirDisk S start → (old new : Option (List ℕ)) → Type 0
-  Does (Play disk packets folder turns) used old new = PlaysTo packets.now turns used
-  Does (Sync disk folder) used old new = OnOpened (Syncs true folder.now old new) used
+  Does (Play disk packets folder types turns) used old new = PlaysTo packets.now turns used
+  Does (Sync disk folder types) used old new = OnOpened (Syncs true folder.now old new) used
   Does (Export disk) used old new = OnOpened (Exports old new) used
 
   -- the task was begun, and this refusal ended it; or a file was refused, with none
   abbrev pub DoesInPart : Task → Option Refusal → AirDisk S start → (old new : Option (List ℕ))
       → Type 0
-  DoesInPart (Play disk packets folder turns) None used old new = ⊥
-  DoesInPart (Play disk packets folder turns) (Some r) used old new =
+  DoesInPart (Play disk packets folder types turns) None used old new = ⊥
+  DoesInPart (Play disk packets folder types turns) (Some r) used old new =
       StopsPlayingTo packets.now turns r used
-  DoesInPart (Sync disk folder) None used old new =
+  DoesInPart (Sync disk folder types) None used old new =
       OnOpened (Syncs false folder.now old new) used
-  DoesInPart (Sync disk folder) (Some r) used old new =
+  DoesInPart (Sync disk folder types) (Some r) used old new =
       OnOpened (StopsSyncing r folder.now) used
   DoesInPart (Export disk) None used old new = ⊥
   DoesInPart (Export disk) (Some r) used old new = OnOpened (StopsExporting r old new) used
@@ -101,10 +103,16 @@ module _ {S : Type 0} {start : Ghosts S} where
     pub untouched : IsUntouched used
     pub silent : Keeps old new
 
--- why a task is not begun: the disk, or what is to take the packets, can't be opened
+-- why there is no table of suffixes: the file that adds some can't be read, or a line of it is wrong
+abbrev pub IsUntyped : Refusal → Type 0
+IsUntyped r = (r ≡ ReadFault) ⊎ IsTypesRefusal r
+
+-- why a task is not begun: there is no table of suffixes, or the disk, or what is to take the
+-- packets, can't be opened
 abbrev pub IsBeginningRefusal : Task → Refusal → Type 0
-IsBeginningRefusal (Play disk packets folder turns) r = (r ≡ DeviceFault) ⊎ (r ≡ WriteFault)
-IsBeginningRefusal (Sync disk folder) r = r ≡ DeviceFault
+IsBeginningRefusal (Play disk packets folder types turns) r =
+    IsUntyped r ⊎ (r ≡ DeviceFault) ⊎ (r ≡ WriteFault)
+IsBeginningRefusal (Sync disk folder types) r = IsUntyped r ⊎ (r ≡ DeviceFault)
 IsBeginningRefusal (Export disk) r = r ≡ DeviceFault
 
 -- what a run came to, on this disk

@@ -24,16 +24,21 @@ IsGiven (Some text) number =
 abbrev pub NameWord : List Row → Text → Text → Type 0
 NameWord rows name word = first_of name rows ≡ Some word
 
+-- this word was given for an option, or none was
+abbrev pub NameOption : List Row → Text → Option (Bor Text) → Type 0
+NameOption rows name word =
+    option_map (λ (word : Bor Text). word.now) word ≡ first_of name rows
+
 -- a command of this name, with these words behind it, is this task
 abbrev pub IsTask : Text → List Row → Task → Type 0
-IsTask name rows (Play disk packets folder turns) =
+IsTask name rows (Play disk packets folder types turns) =
     (name ≡ codes "play") × NameWord rows (codes "DISK") disk.now
     × NameWord rows (codes "PACKETS") packets.now
-    × (option_map (λ (word : Bor Text). word.now) folder ≡ first_of (codes "folder") rows)
+    × NameOption rows (codes "folder") folder × NameOption rows (codes "types") types
     × IsGiven (first_of (codes "turns") rows) turns
-IsTask name rows (Sync disk folder) =
+IsTask name rows (Sync disk folder types) =
     (name ≡ codes "sync") × NameWord rows (codes "DISK") disk.now
-    × NameWord rows (codes "DIR") folder.now
+    × NameWord rows (codes "DIR") folder.now × NameOption rows (codes "types") types
 IsTask name rows (Export disk) = (name ≡ codes "export") × NameWord rows (codes "DISK") disk.now
 
 -- the words ask for this task

@@ -1,7 +1,7 @@
-ghost use Rattle.std.specs.Prelude.{◌≡◌, false, IfOk};
+ghost use Rattle.std.specs.Prelude.{◌≡◌, codes, false, IfOk};
 ghost use Rattle.clap.specs.Words.{app_of, rule_of};
 ghost use Rattle.clap.specs.declared.builder.Command.TheViews.{out-Command};
-ghost use Rattle.mot_air.specs.Command.{air_app, export_app, folder_rule, play_app, sync_app};
+ghost use Rattle.mot_air.specs.Command.{air_app, export_app, path_rule, play_app, sync_app};
 ghost use Rattle.mot_air.specs.Command.{turns_rule, word_rule};
 
 use clap::{Arg, ArgAction, Command, value_parser};
@@ -35,13 +35,20 @@ fn play<'a>(alloc: Global) -> Result<Command<'a>, AllocError>
         "PACKETS",
         "A named pipe, a device, a file, or - for standard output",
     );
-    let folder = folder(alloc);
+    let folder = path(
+        alloc,
+        "folder",
+        "DIR",
+        "Make the carousel equal to this folder, at first and then between turns",
+    );
+    let types = types(alloc);
     let turns = turns(alloc);
     Command::new(alloc, "play")
         .about("Play a disk into a pipe, a device or a file, each packet in one write")
         .arg(disk)?
         .arg(packets)?
         .arg(folder)?
+        .arg(types)?
         .arg(turns)
 }
 
@@ -52,10 +59,12 @@ fn sync<'a>(alloc: Global) -> Result<Command<'a>, AllocError>
 {
     let disk = word(alloc, "DISK", "The file of the disk, or a block device");
     let folder = word(alloc, "DIR", "The folder");
+    let types = types(alloc);
     Command::new(alloc, "sync")
         .about("Make the carousel of a disk equal to a folder")
         .arg(disk)?
-        .arg(folder)
+        .arg(folder)?
+        .arg(types)
 }
 
 /// The command `export`.
@@ -80,15 +89,24 @@ fn word<'a>(alloc: Global, name: &'a str, help: &'a str) -> Arg<'a>
         .required(true)
 }
 
-/// The option that names a folder.
-fn folder<'a>(alloc: Global) -> Arg<'a>
-    ensures rule { rule_of result ≡ folder_rule }
+/// The option that names a file of suffixes.
+fn types<'a>(alloc: Global) -> Arg<'a>
+    ensures rule { rule_of result ≡ path_rule (codes "types") }
     ensures local { result.global ≡ false }
 {
-    Arg::new(alloc, "folder")
-        .long("folder")
-        .value_name("DIR")
-        .help("Make the carousel equal to this folder, at first and then between turns")
+    let help = "Take files of these suffixes, too: lines SUFFIX TYPE SUBTYPE MIME";
+    path(alloc, "types", "FILE", help)
+}
+
+/// An option that is a path.
+fn path<'a>(alloc: Global, name: &'a str, value: &'a str, help: &'a str) -> Arg<'a>
+    ensures rule { rule_of result ≡ path_rule name.entry.now }
+    ensures local { result.global ≡ false }
+{
+    Arg::new(alloc, name)
+        .long(name)
+        .value_name(value)
+        .help(help)
         .action(ArgAction::Set)
 }
 

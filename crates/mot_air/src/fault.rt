@@ -19,11 +19,22 @@ pub(crate) enum PacketsFault {
     Cut,
 }
 
+/// What is wrong with a file that adds suffixes.
+#[derive(Clone, Copy, Debug)]
+pub(crate) enum TypesFault {
+    /// The system refused a call, for this reason.
+    System(io::Error),
+    /// A line is none.
+    Line,
+}
+
 /// Why a task could not be done: it is printed, and nothing is decided by it.
 #[derive(Clone, Copy, Debug)]
 pub(crate) enum Cause {
     /// The disk was not opened.
     Disk(OpenFault),
+    /// The file that adds suffixes was not read, or a line of it is wrong.
+    Types(TypesFault),
     /// What should take the packets was not opened, or did not take them.
     Packets(PacketsFault),
     /// The new file beside it was not written, or could not take its place.
@@ -44,6 +55,15 @@ impl Display for PacketsFault {
             PacketsFault::IsDisk => f.pad("the disk itself"),
             PacketsFault::NoFile => f.pad("a link, or no regular file"),
             PacketsFault::Cut => f.pad("a packet was cut"),
+        }
+    }
+}
+
+impl Display for TypesFault {
+    fn fmt<W: fmt::Write>(&self, f: &mut Formatter<W>) -> fmt::Result {
+        match self {
+            TypesFault::System(error) => OpenFault::System(*error).fmt(f),
+            TypesFault::Line => f.pad("a line is no SUFFIX TYPE SUBTYPE MIME"),
         }
     }
 }

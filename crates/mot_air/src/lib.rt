@@ -13,12 +13,13 @@ mod playing;
 mod program;
 mod subject;
 mod task;
+mod types;
 mod used;
 
 pub use ended::Ended;
 pub use exporting::export_disk;
 pub use packets::Target;
-pub use playing::{play_disk, play_with, sync_disk};
+pub use playing::{Followed, play_disk, play_with, sync_disk};
 pub use program::{is_air, run_air, run_air_on};
 pub use task::Task;
 pub use used::{AirDisk, AirExit};

@@ -9,7 +9,7 @@ use crate::Ended;
 use crate::beside::NewFile;
 use crate::fault::{Cause, PacketsFault};
 use crate::packets::{OpenPackets, PacketWriter, Target, open_packets};
-use crate::playing::play_disk;
+use crate::playing::{Followed, play_disk};
 use crate::used::Finished;
 use disk_store::{Disk, FileDiskFrom, Start};
 use mot_base::Refusal;
@@ -34,7 +34,7 @@ pub(crate) fn play_file<B: Start, W: Write, E: Write>(
     alloc: Global,
     path: &str,
     packets: &str,
-    folder: Option<&str>,
+    folder: Option<Followed<'_>>,
     turns: Option<u32>,
     start: B,
     writer: &mut W,
@@ -67,7 +67,7 @@ fn play_into<D: Disk, W: Write, E: Write>(
     alloc: Global,
     disk: D,
     opened: OpenPackets<'_>,
-    folder: Option<&str>,
+    folder: Option<Followed<'_>>,
     turns: Option<u32>,
     writer: &mut W,
     errors: &mut E,
@@ -99,7 +99,7 @@ fn play_writer<D: Disk, P: Write + Drop, L: Write>(
     alloc: Global,
     disk: D,
     packets: P,
-    folder: Option<&str>,
+    folder: Option<Followed<'_>>,
     log: &mut L,
     turns: u64,
 ) -> Played<D>
@@ -124,7 +124,7 @@ fn play_new_file<D: Disk, L: Write>(
     alloc: Global,
     disk: D,
     new: NewFile<'_>,
-    folder: Option<&str>,
+    folder: Option<Followed<'_>>,
     log: &mut L,
     turns: u64,
 ) -> Played<D>

@@ -15,12 +15,21 @@ use crate::Ended;
 use disk_store::Disk;
 use mot_base::Refusal;
 use mot_feed::{NoUpdate, Outlet, Update, feed};
-use mot_folder::{Looks, Report, look_at_folder};
+use mot_folder::{FileTypes, Looks, Report, look_at_folder};
 use mot_server::Server;
 use std::alloc::Global;
 use std::fs::File;
 use std::io::Write;
 use std::rt::Files;
+
+/// A folder that a carousel is made equal to, and which of its files are objects.
+#[derive(Clone, Copy)]
+pub struct Followed<'a> {
+    /// The folder.
+    pub path: &'a str,
+    /// The suffixes.
+    pub types: &'a FileTypes,
+}
 
 /// Opens the disk and plays it into the outlet, so many turns, with looks at the folder between
 /// turns where there is one. What is told of the looks is written to the log.
@@ -29,7 +38,7 @@ pub fn play_disk<T: Files<File = File>, D: Disk, O: Outlet, L: Write + Drop>(
     alloc: Global,
     disk: D,
     outlet: &mut O,
-    folder: Option<&str>,
+    folder: Option<Followed<'_>>,
     log: L,
     turns: u64,
 ) -> Ended<D, ()>
@@ -40,8 +49,8 @@ pub fn play_disk<T: Files<File = File>, D: Disk, O: Outlet, L: Write + Drop>(
         (O.writes outlet.old) (O.writes outlet.new) (D.state disk) (D.state result.disk)) }
 {
     match folder {
-        Some(path) => {
-            let mut looks = Looks::new(rt, alloc, path, log);
+        Some(Followed { path, types }) => {
+            let mut looks = Looks::new(rt, alloc, path, types, log);
             play_with(alloc, disk, &mut looks, outlet, turns)
         }
         None => play_with(alloc, disk, &mut NoUpdate, outlet, turns),
@@ -84,6 +93,7 @@ pub fn sync_disk<T: Files<File = File>, D: Disk, L: Write>(
     alloc: Global,
     disk: D,
     folder: &str,
+    types: &FileTypes,
     log: &mut L,
 ) -> Ended<D, bool>
     ensures keeps { KeepsLength (D.state disk) (D.state result.disk) }
@@ -98,7 +108,7 @@ pub fn sync_disk<T: Files<File = File>, D: Disk, L: Write>(
     };
     // Its sizes are in their ranges.
     let _ = server.geometry();
-    let result = look_and_tell(rt, alloc, &mut server, folder, log);
+    let result = look_and_tell(rt, alloc, &mut server, folder, types, log);
     Ended {
         disk: server.into_disk(),
         result,
@@ -111,6 +121,7 @@ fn look_and_tell<T: Files<File = File>, D: Disk, L: Write>(
     alloc: Global,
     server: &mut Server<D>,
     folder: &str,
+    types: &FileTypes,
     log: &mut L,
 ) -> Result<bool, Refusal>
     ensures keeps { KeepsLength (D.state server.old.disk) (D.state server.new.disk) }
@@ -124,7 +135,7 @@ fn look_and_tell<T: Files<File = File>, D: Disk, L: Write>(
         (D.state server.new.disk) s folder.now (L.contents log.old) (L.contents log.new) result }
 {
     let mut report = Report::new(alloc);
-    let looked = look_at_folder(rt, alloc, server, folder, &mut report);
+    let looked = look_at_folder(rt, alloc, server, folder, types, &mut report);
     let told = write_lines(log, report.lines.as_slice());
     looked?;
     told?;

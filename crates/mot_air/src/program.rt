@@ -4,7 +4,8 @@ ghost use Rattle.std.specs.Io.KnownBytes.{Keeps};
 ghost use Rattle.clap.specs.Words.{kind_of};
 ghost use Rattle.mot_air.specs.Exporting.{Exports, StopsExporting};
 ghost use Rattle.mot_air.specs.Program.{Does, DoesInPart, IsBeginningRefusal, IsRefused, IsUntold};
-ghost use Rattle.mot_air.specs.Program.{IsUntouched, OnOpened, Succeeds};
+ghost use Rattle.mot_air.specs.Program.{IsUntouched, IsUntyped, OnOpened, PlaysTo};
+ghost use Rattle.mot_air.specs.Program.{StopsPlayingTo, Succeeds};
 ghost use Rattle.mot_air.specs.Syncing.{StopsSyncing, Syncs};
 ghost use Rattle.mot_air.specs.Task.{AreWrong};
 ghost use Rattle.mot_air.specs.declared.used.AirDisk.{AirDisk};
@@ -16,14 +17,16 @@ ghost use Rattle.mot_base.specs.declared.refusal.Refusal.TheVariants.{WriteFault
 use crate::command::command;
 use crate::exporting::export_disk;
 use crate::on_air::play_file;
-use crate::playing::sync_disk;
+use crate::playing::{Followed, sync_disk};
 use crate::subject::{Subject, subject_of, tell, tell_folder};
 use crate::task::{Task, task_of};
+use crate::types::file_types;
 use crate::used::{AirDisk, AirExit, Finished};
 use clap::Error;
 use clap::error::ErrorKind;
 use disk_store::{FileDiskFrom, Start};
 use mot_base::Refusal;
+use mot_folder::FileTypes;
 use std::alloc::{AllocError, Global};
 use std::convert::AsStr;
 use std::io::Write;
@@ -200,12 +203,77 @@ fn execute<B: Start, W: Write, E: Write>(
             disk,
             packets,
             folder,
+            types,
             turns,
-        } => play_file(
-            rt, alloc, disk, packets, folder, turns, start, writer, errors,
+        } => play(
+            rt, alloc, disk, packets, folder, types, turns, start, writer, errors,
         ),
-        Task::Sync { disk, folder } => sync_file(rt, alloc, disk, folder, start, writer),
+        Task::Sync {
+            disk,
+            folder,
+            types,
+        } => sync(rt, alloc, disk, folder, types, start, writer),
         Task::Export(disk) => export_file(rt, alloc, disk, start, writer),
+    }
+}
+
+/// Plays the disk of the file at the path, with looks at the folder, if one is given, for files of the
+/// known suffixes and of those that a file adds.
+fn play<B: Start, W: Write, E: Write>(
+    rt: &HostRuntime,
+    alloc: Global,
+    path: &str,
+    packets: &str,
+    folder: Option<&str>,
+    types: Option<&str>,
+    turns: Option<u32>,
+    start: B,
+    writer: &mut W,
+    errors: &mut E,
+) -> Finished<B>
+    ensures done { result.result ≡ Ok true → PlaysTo packets.now turns result.disk }
+    ensures told { result.result ≢ Ok false }
+    ensures refused { IfErr result.result (λ r.
+        ((IsUntyped r ⊎ (r ≡ DeviceFault) ⊎ (r ≡ WriteFault))
+        × IsUntold result.disk (W.contents writer.old) (W.contents writer.new))
+        ⊎ StopsPlayingTo packets.now turns r result.disk) }
+{
+    let types = match file_types(rt, alloc, types) {
+        Ok(types) => types,
+        Err(untyped) => return Finished::untyped(untyped, start),
+    };
+    let folder = match folder {
+        Some(path) => Some(Followed {
+            path,
+            types: &types,
+        }),
+        None => None,
+    };
+    play_file(
+        rt, alloc, path, packets, folder, turns, start, writer, errors,
+    )
+}
+
+/// Makes the carousel of the disk of the file at the path equal to the files of a folder that have one
+/// of the known suffixes, or of those that a file adds.
+fn sync<B: Start, W: Write>(
+    rt: &HostRuntime,
+    alloc: Global,
+    path: &str,
+    folder: &str,
+    types: Option<&str>,
+    start: B,
+    log: &mut W,
+) -> Finished<B>
+    ensures done { IfOk result.result (λ all. OnOpened (Syncs all folder.now
+        (W.contents log.old) (W.contents log.new)) result.disk) }
+    ensures refused { IfErr result.result (λ r. ((IsUntyped r ⊎ (r ≡ DeviceFault))
+        × IsUntold result.disk (W.contents log.old) (W.contents log.new))
+        ⊎ OnOpened (StopsSyncing r folder.now) result.disk) }
+{
+    match file_types(rt, alloc, types) {
+        Ok(types) => sync_file(rt, alloc, path, folder, &types, start, log),
+        Err(untyped) => Finished::untyped(untyped, start),
     }
 }
 
@@ -215,6 +283,7 @@ fn sync_file<B: Start, W: Write>(
     alloc: Global,
     path: &str,
     folder: &str,
+    types: &FileTypes,
     start: B,
     log: &mut W,
 ) -> Finished<B>
@@ -225,7 +294,7 @@ fn sync_file<B: Start, W: Write>(
         ⊎ OnOpened (StopsSyncing r folder.now) result.disk) }
 {
     match FileDiskFrom::open_from(rt, path, start) {
-        Ok(disk) => Finished::of_file(sync_disk(rt, alloc, disk, folder, log)),
+        Ok(disk) => Finished::of_file(sync_disk(rt, alloc, disk, folder, types, log)),
         Err(unopened) => Finished::unopened(unopened),
     }
 }

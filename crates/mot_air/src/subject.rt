@@ -35,6 +35,7 @@ pub(crate) fn subject_of<'a>(
 ) -> Subject<'a> {
     let word = match cause {
         Some(Cause::Disk(_)) => "DISK",
+        Some(Cause::Types(_)) => "types",
         Some(_) => "PACKETS",
         None => "turns",
     };
@@ -63,6 +64,7 @@ pub(crate) fn tell<E: Write>(errors: &mut E, subject: Subject<'_>) {
 fn tell_file<E: Write>(errors: &mut E, path: &str, cause: Cause) {
     let _ = match cause {
         Cause::Disk(fault) => writeln!(errors, "motcar: {path}: {fault}"),
+        Cause::Types(fault) => writeln!(errors, "motcar: {path}: {fault}"),
         Cause::Packets(fault) if path == OUTPUT => {
             writeln!(errors, "motcar: standard output: {fault}")
         }

@@ -18,6 +18,8 @@ pub enum Task<'a> {
         packets: &'a str,
         /// The path of the folder that the carousel is made equal to, if one is given.
         folder: Option<&'a str>,
+        /// The path of the file that adds suffixes, if one is given.
+        types: Option<&'a str>,
         /// How many whole turns; where none is given, 16 into a file, and else without end.
         turns: Option<u32>,
     },
@@ -27,6 +29,8 @@ pub enum Task<'a> {
         disk: &'a str,
         /// The path of the folder.
         folder: &'a str,
+        /// The path of the file that adds suffixes, if one is given.
+        types: Option<&'a str>,
     },
     /// Print the carousel of the disk of the file at this path.
     Export(&'a str),
@@ -43,11 +47,13 @@ pub(crate) fn task_of<'a>(name: &str, words: &ArgMatches<'a>) -> Option<Task<'a>
             disk: word_of(words, "DISK")?,
             packets: word_of(words, "PACKETS")?,
             folder: option_of(words, "folder"),
+            types: option_of(words, "types"),
             turns: number_of(words, "turns")?,
         }),
         "sync" => Some(Task::Sync {
             disk: word_of(words, "DISK")?,
             folder: word_of(words, "DIR")?,
+            types: option_of(words, "types"),
         }),
         "export" => Some(Task::Export(word_of(words, "DISK")?)),
         _ => None,

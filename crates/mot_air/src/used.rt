@@ -6,6 +6,7 @@ ghost use Rattle.mot_base.specs.declared.refusal.Refusal.TheVariants.{DeviceFaul
 
 use crate::Ended;
 use crate::fault::Cause;
+use crate::types::Untyped;
 use disk_store::{FileDiskFrom, Start, Unopened};
 use mot_base::Refusal;
 
@@ -67,6 +68,22 @@ impl<S: Start> Finished<S> {
             result: Err(Refusal::DeviceFault),
             disk: AirDisk::Untouched(unopened.start),
             cause: Some(Cause::Disk(unopened.fault)),
+        }
+    }
+
+    /// There is no table of suffixes, and no disk was opened.
+    pub(crate) fn untyped(untyped: Untyped, start: S) -> Self
+        ensures result { result.result ≡ Err untyped.refusal }
+        ensures disk { result.disk ≡ Untouched start }
+    {
+        let cause = match untyped.fault {
+            Some(fault) => Some(Cause::Types(fault)),
+            None => None,
+        };
+        Finished {
+            result: Err(untyped.refusal),
+            disk: AirDisk::Untouched(start),
+            cause,
         }
     }
 

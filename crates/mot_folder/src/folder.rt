@@ -7,9 +7,9 @@ ghost use Rattle.mot_update.specs.Told.{Tells, answers_of};
 
 use crate::listing::{FileNames, joined};
 use crate::report::Report;
-use crate::suffix::kind_of_name;
+use crate::types::FileTypes;
 use mot_base::Refusal;
-use mot_carousel::{Body, Content, MAX_BODY, Mime, Name};
+use mot_carousel::{Body, MAX_BODY, Name};
 use mot_server::Attempt;
 use mot_update::{Settled, Source, Wanted};
 use std::alloc::Global;
@@ -24,6 +24,7 @@ use std::str::from_utf8;
 pub(crate) struct Folder<'a, T: Files<File = File>> {
     rt: &'a T,
     path: &'a str,
+    types: &'a FileTypes,
     names: FileNames,
     place: usize,
     report: Report,
@@ -31,7 +32,13 @@ pub(crate) struct Folder<'a, T: Files<File = File>> {
 
 impl<'a, T: Files<File = File>> Folder<'a, T> {
     /// The files of these names, none of which was read.
-    pub fn new(rt: &'a T, path: &'a str, names: FileNames, report: Report) -> Folder<'a, T>
+    pub fn new(
+        rt: &'a T,
+        path: &'a str,
+        types: &'a FileTypes,
+        names: FileNames,
+        report: Report,
+    ) -> Folder<'a, T>
         ensures names { result.names ≡ names }
         ensures place { result.place ≡ 0 }
         ensures report { result.report ≡ report }
@@ -39,6 +46,7 @@ impl<'a, T: Files<File = File>> Folder<'a, T> {
         Folder {
             rt,
             path,
+            types,
             names,
             place: 0,
             report,
@@ -62,11 +70,11 @@ impl<'a, T: Files<File = File>> Folder<'a, T> {
         let Ok(text) = from_utf8(name.as_bytes()) else {
             return Err(Refusal::BadName);
         };
-        let Some(kind) = kind_of_name(name.as_bytes()) else {
+        let Some(file_type) = self.types.of_name(name.as_bytes()) else {
             return Err(Refusal::BadName);
         };
-        let content = Content::new(kind.content_type, kind.subtype)?;
-        let mime = Mime::new(Vec::from_slice(alloc, kind.mime.as_bytes())?)?;
+        let content = file_type.content;
+        let mime = file_type.mime.clone()?;
         let path = joined(alloc, self.path, text)?;
         let body = read_body(self.rt, alloc, path.as_str())?;
         Ok(Wanted {

@@ -5,8 +5,8 @@ mod folder;
 mod listing;
 mod looking;
 mod report;
-mod suffix;
+mod types;
 
 pub use looking::{Looks, look_at_folder};
 pub use report::Report;
-pub use suffix::{Kind, kind_of_name};
+pub use types::{FileType, FileTypes};

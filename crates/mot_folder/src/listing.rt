@@ -6,7 +6,7 @@ ghost use Rattle.mot_update.specs.Told.{Tells};
 ghost use Rattle.mot_update.specs.Updating.{is_known};
 
 use crate::report::Report;
-use crate::suffix::kind_of_name;
+use crate::types::FileTypes;
 use mot_base::Refusal;
 use mot_carousel::Name;
 use std::alloc::{AllocError, Global};
@@ -51,12 +51,13 @@ impl FileNames {
     }
 }
 
-/// The names of the regular files directly in the folder that have a known suffix and begin with no
-/// dot. One that is no name of an object is told, and left out.
+/// The names of the regular files directly in the folder that have one of the suffixes and begin
+/// with no dot. One that is no name of an object is told, and left out.
 pub(crate) fn list<T: Files<File = File>>(
     rt: &T,
     alloc: Global,
     path: &str,
+    types: &FileTypes,
     report: &mut Report,
 ) -> io::Result<FileNames>
     ensures told { Tells (TellsAnswers report.old) (TellsAnswers report.new) [] }
@@ -69,7 +70,7 @@ pub(crate) fn list<T: Files<File = File>>(
         if count == 0 {
             return Ok(names);
         }
-        add_all(rt, alloc, path, &room[..count], &mut names, report)?;
+        add_all(rt, alloc, path, types, &room[..count], &mut names, report)?;
     }
     Ok(names)
 }
@@ -79,6 +80,7 @@ fn add_all<T: Files<File = File>>(
     rt: &T,
     alloc: Global,
     path: &str,
+    types: &FileTypes,
     bytes: &[u8],
     names: &mut FileNames,
     report: &mut Report,
@@ -87,7 +89,7 @@ fn add_all<T: Files<File = File>>(
 {
     let mut rest = bytes;
     while let Some(end) = rest.iter().position(|byte| *byte == 0) {
-        add_one(rt, alloc, path, &rest[..end], names, report)?;
+        add_one(rt, alloc, path, types, &rest[..end], names, report)?;
         rest = &rest[end + 1..];
     }
     Ok(())
@@ -98,13 +100,14 @@ fn add_one<T: Files<File = File>>(
     rt: &T,
     alloc: Global,
     path: &str,
+    types: &FileTypes,
     name: &[u8],
     names: &mut FileNames,
     report: &mut Report,
 ) -> io::Result<()>
     ensures told { Tells (TellsAnswers report.old) (TellsAnswers report.new) [] }
 {
-    if kind_of_name(name).is_none() || !is_file(rt, alloc, path, name)? {
+    if types.of_name(name).is_none() || !is_file(rt, alloc, path, name)? {
         return Ok(());
     }
     match Name::new(Vec::from_slice(alloc, name)?) {

@@ -11,6 +11,7 @@ ghost use Rattle.mot_update.specs.HasRun.{fault_of};
 use crate::folder::Folder;
 use crate::listing::list;
 use crate::report::Report;
+use crate::types::FileTypes;
 use disk_store::Disk;
 use mot_base::Refusal;
 use mot_feed::Update;
@@ -25,13 +26,14 @@ use std::rt::Files;
 /// How many packets come between two looks, and then those up to the end of a turn.
 const PACKETS: u64 = 1_000;
 
-/// Makes the carousel equal to the folder. A folder that can't be listed is told, and changes
+/// Makes the carousel equal to the files of the folder that have one of the suffixes. A folder that can't be listed is told, and changes
 /// nothing. The errors are those of `look`.
 pub fn look_at_folder<T: Files<File = File>, D: Disk>(
     rt: &T,
     alloc: Global,
     server: &mut Server<D>,
     path: &str,
+    types: &FileTypes,
     report: &mut Report,
 ) -> Result<(), Refusal>
     ensures keeps { KeepsLength (D.state server.old.disk) (D.state server.new.disk) }
@@ -44,12 +46,12 @@ pub fn look_at_folder<T: Files<File = File>, D: Disk>(
         (D.state server.new.disk) s path.now report.new (fault_of result) }
 {
     report.begin();
-    let Ok(names) = list(rt, alloc, path, report) else {
+    let Ok(names) = list(rt, alloc, path, types, report) else {
         report.refused("look", path.as_bytes(), Refusal::ReadFault);
         return Ok(());
     };
     let told = replace(report, Report::new(alloc));
-    let mut folder = Folder::new(rt, path, names, told);
+    let mut folder = Folder::new(rt, path, types, names, told);
     let result = look(server, alloc, &mut folder);
     *report = folder.into_report();
     result
@@ -63,6 +65,7 @@ pub struct Looks<'a, T: Files<File = File>, W: Write + Drop> {
     rt: &'a T,
     /// The folder.
     pub path: &'a str,
+    types: &'a FileTypes,
     log: W,
     /// What is told of the last look.
     pub report: Report,
@@ -74,13 +77,20 @@ pub struct Looks<'a, T: Files<File = File>, W: Write + Drop> {
 
 impl<'a, T: Files<File = File>, W: Write + Drop> Looks<'a, T, W> {
     /// No look yet.
-    pub fn new(rt: &'a T, alloc: Global, path: &'a str, log: W) -> Looks<'a, T, W>
+    pub fn new(
+        rt: &'a T,
+        alloc: Global,
+        path: &'a str,
+        types: &'a FileTypes,
+        log: W,
+    ) -> Looks<'a, T, W>
         ensures due { result.left ≡ 0 }
         ensures path { result.path.now ≡ path.now }
     {
         Looks {
             rt,
             path,
+            types,
             log,
             report: Report::new(alloc),
             before: Vec::new(alloc),
@@ -117,7 +127,7 @@ impl<'a, T: Files<File = File>, W: Write + Drop> Update for Looks<'a, T, W> {
             → HasLookedAtFolder server.old server.new (D.state server.old.disk)
             (D.state server.new.disk) s self.old.path.now self.new.report (fault_of result) }
     {
-        let path = self.path;
+        let (path, types) = (self.path, self.types);
         if self.left > 0 {
             self.left -= 1;
         }
@@ -126,7 +136,7 @@ impl<'a, T: Files<File = File>, W: Write + Drop> Update for Looks<'a, T, W> {
         }
         self.left = PACKETS;
         swap(&mut self.before, &mut self.report.lines);
-        let result = look_at_folder(self.rt, alloc, server, path, &mut self.report);
+        let result = look_at_folder(self.rt, alloc, server, path, types, &mut self.report);
         tell_new(
             &mut self.log,
             self.report.lines.as_slice(),

@@ -9,16 +9,18 @@ use Rattle.mot_air.proofs.command.sync.Goals as goal
 pub returns-clause-app : goal.returns-clause-app
 returns-clause-app c =
     let begun : app_of c.about.result ≡ new_app (codes "sync") = search rules in
-    IfOk-weaker c.arg-2.result _ _ (λ command h.
-    h.shape c.word-folder.ensures.local ∙ ap₂ with_rule
+    IfOk-weaker c.arg-3.result _ _ (λ command h.
+    h.shape c.types-types.ensures.local ∙ ap₂ with_rule
+    (c.in_ok-arg-2.ensures.shape c.word-folder.ensures.local ∙ ap₂ with_rule
     (c.in_ok-arg.ensures.shape c.word-disk.ensures.local ∙ ap₂ with_rule
-    begun c.word-disk.ensures.rule) c.word-folder.ensures.rule)
-    c.arg-2.ensures
+    begun c.word-disk.ensures.rule) c.word-folder.ensures.rule) c.types-types.ensures.rule)
+    c.arg-3.ensures
 
 pub returns-clause-local : goal.returns-clause-local
 returns-clause-local c =
     let begun : (out-Command c.about.result).has_globals ≡ false = search rules in
-    IfOk-weaker c.arg-2.result _ _ (λ command h.
-    none _ _ _ h.globals (none _ _ _ c.in_ok-arg.ensures.globals begun
-    c.word-disk.ensures.local) c.word-folder.ensures.local)
-    c.arg-2.ensures
+    IfOk-weaker c.arg-3.result _ _ (λ command h.
+    none _ _ _ h.globals (none _ _ _ c.in_ok-arg-2.ensures.globals
+    (none _ _ _ c.in_ok-arg.ensures.globals begun
+    c.word-disk.ensures.local) c.word-folder.ensures.local) c.types-types.ensures.local)
+    c.arg-3.ensures
