@@ -242,16 +242,18 @@ fn play<B: Start, W: Write, E: Write>(
         Ok(types) => types,
         Err(untyped) => return Finished::untyped(untyped, start),
     };
-    let folder = match folder {
-        Some(path) => Some(Followed {
-            path,
-            types: &types,
-        }),
-        None => None,
-    };
+    let folder = followed(folder, &types);
     play_file(
         rt, alloc, path, packets, folder, turns, start, writer, errors,
     )
+}
+
+/// The folder, if one is given, with what is known of suffixes.
+fn followed<'a>(folder: Option<&'a str>, types: &'a FileTypes) -> Option<Followed<'a>> {
+    match folder {
+        Some(path) => Some(Followed { path, types }),
+        None => None,
+    }
 }
 
 /// Makes the carousel of the disk of the file at the path equal to the files of a folder that have one
