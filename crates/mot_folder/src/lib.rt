@@ -10,3 +10,6 @@ mod suffix;
 pub use looking::{Looks, look_at_folder};
 pub use report::Report;
 pub use suffix::{Kind, kind_of_name};
+
+#[cfg(test)]
+mod tests;
