@@ -1,3 +1,4 @@
+pub mod Inner
 pub mod Log
 pub mod Looked
 pub mod Types

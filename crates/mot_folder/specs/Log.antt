@@ -1,6 +1,6 @@
 -- What is told of a look at a folder: a line for each command, and for each file that was not taken.
 use Rattle.std.specs.Prelude.{◌≡◌, ℕ, Bool, false, not, bytes_eq, List, [], ◌∷◌, ◌++◌, map, filter}
-use Rattle.std.specs.Prelude.{codes, Option, Some, None}
+use Rattle.std.specs.Prelude.{codes}
 use Rattle.std.specs.List.{flat_map}
 use Rattle.mot_folder.specs.declared.report.Report.{Report}
 use Rattle.mot_lines.specs.Text.{done_line, refusal_line}
@@ -52,8 +52,3 @@ pub record TellsAnswers (report : Report) (answers : List Answer) : Type 0 where
   pub entries : List Entry
   pub told : HasTold report entries
   pub are : of_look entries ≡ map entry_of answers
-
--- the name at this place, where there is one
-abbrev pub name_of : Option (List ℕ) → List ℕ
-name_of None = []
-name_of (Some name) = name

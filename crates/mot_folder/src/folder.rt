@@ -1,7 +1,8 @@
 //! A folder of files, as a source of wanted objects.
 ghost use Rattle.std.specs.Prelude.{◌≡◌, ◌<◌, ◌≤◌, ◌-◌, [], Some, true, false, not, IfOk, length};
 ghost use Rattle.std.specs.Prelude.{slice_get, vec_len};
-ghost use Rattle.mot_folder.specs.Log.{TellsAnswers, name_of};
+ghost use Rattle.mot_folder.specs.Inner.Names.{name_of};
+ghost use Rattle.mot_folder.specs.Log.{TellsAnswers};
 ghost use Rattle.mot_update.specs.Looking.{was_settled};
 ghost use Rattle.mot_update.specs.Told.{Tells, answers_of};
 

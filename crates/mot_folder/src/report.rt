@@ -17,7 +17,7 @@ pub struct Report {
     pub lines: Vec<u8>,
     /// Whether anything was refused.
     pub any_refused: bool,
-    /// Whether there was no memory for a line, of which then a part is there or none.
+    /// Whether there was no memory for a line, which is then left out.
     pub any_left_out: bool,
 }
 
@@ -62,7 +62,9 @@ impl Report {
         ensures told { TellsOne self.old self.new (entry what.now name.now (Accepted done)) }
     {
         let text = done_text(done);
+        let before = self.lines.len();
         let Ok(()) = add_line(&mut self.lines, what, name, text.as_slice()) else {
+            self.lines.truncate(before);
             self.any_left_out = true;
             return;
         };
@@ -75,7 +77,9 @@ impl Report {
     {
         self.any_refused = true;
         let text = refusal_text(refusal);
+        let before = self.lines.len();
         let Ok(()) = add_line(&mut self.lines, what, name, text.as_slice()) else {
+            self.lines.truncate(before);
             self.any_left_out = true;
             return;
         };
