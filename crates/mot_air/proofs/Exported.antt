@@ -8,6 +8,7 @@ use Rattle.mot_air.specs.Exporting.{Exports, RebuildsByLines, StopsExporting, un
 use Rattle.mot_air.specs.Inner.Printing.{IsPrintingFault}
 use Rattle.mot_air.proofs.Opened.{opened_holds, rises_later, still_unchanged}
 use Rattle.mot_base.specs.declared.refusal.Refusal.{Refusal}
+use Rattle.mot_carousel.specs.Carousel.{Carousel}
 use Rattle.mot_carousel.specs.Rebuilding.{rebuilding}
 use Rattle.mot_journal.specs.Image.{Standing, stands_for}
 use Rattle.mot_lines.proofs.Laws.{export_text-asks}
@@ -17,15 +18,16 @@ use Rattle.mot_repository.specs.Opening.{IsOpened}
 use Rattle.mot_repository.specs.Repository.{Holds}
 use Rattle.mot_server.specs.Server.{ServerView}
 use Rattle.mot_update.proofs.Exported.{exports_are_taken}
+use Rattle.mot_update.specs.Export.{IsEmpty}
 
 -- the text of what an image stands for rebuilds it
 rebuilds_by_lines : (image : List ℕ) (s : Standing) → All (λ b. b < 256) image → stands_for image ≡ Ok s
-    → (limit : ℕ) → length s.carousel.objects ≤ limit
-    → RebuildsByLines s.carousel limit (export_text s.carousel)
-rebuilds_by_lines image s bytes stands limit few = (
+    → (first : Carousel) (limit : ℕ) → IsEmpty first → length s.carousel.objects ≤ limit
+    → RebuildsByLines first limit (export_text s.carousel) s.carousel
+rebuilds_by_lines image s bytes stands first limit empty few = (
   rebuilding s.carousel,
   export_text-asks s.carousel (rules_kept image s bytes stands),
-  exports_are_taken s.carousel limit few (standings-are_sound image s bytes stands).0.names,
+  exports_are_taken s.carousel first limit empty few (standings-are_sound image s bytes stands).0.names,
 )
 
 module _ {D : Type 0} (state : D → State) (disk : D) (server new : ServerView D)

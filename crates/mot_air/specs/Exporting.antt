@@ -9,24 +9,25 @@ use Rattle.mot_base.specs.declared.refusal.Refusal.TheVariants.{DeviceFault, Wri
 use Rattle.mot_carousel.specs.Carousel.{Carousel}
 use Rattle.mot_carousel.specs.declared.command.Command.{Command}
 use Rattle.mot_lines.specs.Export.{AsksForJust, export_text}
-use Rattle.mot_update.specs.Export.{Rebuilds}
+use Rattle.mot_update.specs.Export.{IsEmpty, Rebuilds}
 
--- Each line of the text is a command, and these rebuild the carousel, where there is room for so
--- many objects.
-abbrev pub RebuildsByLines : Carousel → ℕ → List ℕ → Type 0
-RebuildsByLines c limit text =
-    (commands : List Command) × AsksForJust text commands × Rebuilds c limit commands
+-- Each line of the text is a command, and these make of the first carousel, with room for so many
+-- objects, what this one is.
+abbrev pub RebuildsByLines : Carousel → ℕ → List ℕ → Carousel → Type 0
+RebuildsByLines first limit text c =
+    (commands : List Command) × AsksForJust text commands × Rebuilds first limit commands c
 
 -- In these the disk was in a state start and is in a state now, and the writer's known bytes were
 -- old and are new.
 
--- The disk was only synced, and what it stood for, clean, was printed as lines that rebuild it,
--- wherever there is room for as many objects.
+-- The disk was only synced, and what it stood for, clean, was printed as lines that rebuild it of
+-- every empty carousel with room for as many objects.
 pub record Exports (old new : Option (List ℕ)) (start now : State) : Type 0 where
   pub still : now.IsHonest → IsStill start now
   pub printed : OfStanding (λ s. Appends old new (export_text s.carousel)) start now
-  pub rebuilds : OfStanding (λ s. (limit : ℕ) → length s.carousel.objects ≤ limit
-      → RebuildsByLines s.carousel limit (export_text s.carousel)) start now
+  pub rebuilds : OfStanding (λ s. (first : Carousel) (limit : ℕ) → IsEmpty first
+      → length s.carousel.objects ≤ limit
+      → RebuildsByLines first limit (export_text s.carousel) s.carousel) start now
 
 -- why it could not be; the disk was only synced all the same
 pub data StopsExporting (refusal : Refusal) (old new : Option (List ℕ)) (start now : State) :
