@@ -1,12 +1,9 @@
 -- What is prepared for a command in memory is that of the command, can be written, and leaves an inventory without faults.
 use Rattle.std.proofs.Common.{◌≡◌, ◌⊎◌, inl, inr, ⊎_elim, Bool, ℕ, ◌+◌, ◌<◌, ◌≤◌, true, false, List, [], ◌∷◌, length, map, Option, Some, None, Err, refl, sym, ap, ◌∙◌, subst, arith}
-use Rattle.std.proofs.lemmas.Bool.{and_parts, false≢true, and_from, le-leb, lt-ltb, ltb-true, false_from_ne_true}
-use Rattle.std.proofs.lemmas.List.Elements.{All-nil, All-cons, All-weaker}
-use Rattle.std.proofs.lemmas.List.Sums.{list_all-from_AllPass}
-use Rattle.std.proofs.lemmas.Slice.Eq.{bytes_eq-Decides}
-use Rattle.std.proofs.lemmas.Str.{is_utf8-from_IsUtf8}
-use Rattle.std.specs.Prelude.{All, IsFalse, IsTrue, ◌↔◌, MatchOption, ◌&&◌, ◌==◌, not, nat_lt, bytes_eq}
-use Rattle.std.specs.List.{AllByRecursion, list_all}
+use Rattle.std.proofs.lemmas.Bool.{false≢true, and_from, le-leb, lt-ltb}
+use Rattle.std.proofs.lemmas.List.Elements.{All-nil, All-cons}
+use Rattle.std.specs.Prelude.{All, IsFalse, IsTrue, ◌↔◌, MatchOption}
+use Rattle.std.specs.List.{AllByRecursion}
 use Rattle.std.specs.Option.{option_map_or}
 use Rattle.mot_base.specs.Geometry.{area_start}
 use Rattle.mot_base.specs.declared.geometry.Geometry.{Geometry}
@@ -24,7 +21,7 @@ use Rattle.mot_carousel.specs.declared.command.Command.TheVariants.{Put, Replace
 use Rattle.mot_carousel.specs.declared.command.Done.{Done}
 use Rattle.mot_carousel.specs.declared.object.Object.{Object}
 use Rattle.mot_journal.specs.Catalogue.{Placed, Catalogue, body_in, carousel_in}
-use Rattle.mot_base.specs.Geometry.{is_valid, is_within}
+use Rattle.mot_base.specs.Geometry.{is_valid}
 use Rattle.mot_journal.specs.Slot.{is_sound, is_sound_action, longest_name, slot_count}
 use Rattle.mot_carousel.specs.Mime.{is_mime}
 use Rattle.mot_carousel.specs.Name.{is_name}

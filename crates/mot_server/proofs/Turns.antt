@@ -1,14 +1,12 @@
 -- A server's player plays what its repository keeps.
-use Rattle.std.proofs.Common.{◌≡◌, ℕ, true, List, [], ◌∷◌, length, map, refl, sym, ap, ◌∙◌, subst, arith}
-use Rattle.std.proofs.lemmas.Bool.Decides.{nat_tests}
+use Rattle.std.proofs.Common.{◌≡◌, ℕ, List, [], ◌∷◌, length, map, refl, sym, ap, ◌∙◌, subst, arith}
 use Rattle.std.specs.Prelude.{Result, Ok, Err, IfOk, IsErrAnd}
-use Rattle.mot_base.specs.Geometry.{IsValid, packet_room}
+use Rattle.mot_base.specs.Geometry.{packet_room}
 use Rattle.mot_base.specs.declared.geometry.Geometry.{Geometry}
 use Rattle.mot_carousel.specs.Carousel as whole
 use Rattle.mot_carousel.specs.Stands.{AreBodiesOf, carousel_of, objects_of}
 use Rattle.mot_carousel.specs.declared.carousel.Carousel.{Carousel}
 use Rattle.mot_carousel.specs.declared.object.Object.{Object}
-use Rattle.mot_base.specs.Geometry.{is_valid}
 use Rattle.mot_journal.specs.Image as journal
 use Rattle.mot_player.specs.Place.{change_turn, opened_place}
 use Rattle.mot_player.specs.Standing.{AreBodiesFor, Standing, TurnPlan, place_of, turn_of}
