@@ -26,8 +26,8 @@ use std::rt::Files;
 /// How many packets come between two looks, and then those up to the end of a turn.
 const PACKETS: u64 = 1_000;
 
-/// Makes the carousel equal to the files of the folder that have one of the suffixes. A folder that can't be listed is told, and changes
-/// nothing. The errors are those of `look`.
+/// Makes the carousel equal to the files of the folder that have one of the suffixes. A folder that
+/// can't be listed is told, and changes nothing. The errors are those of `look`.
 pub fn look_at_folder<T: Files<File = File>, D: Disk>(
     rt: &T,
     alloc: Global,
