@@ -4,7 +4,7 @@ use Rattle.std.proofs.Common.{append-nil}
 use Rattle.std.specs.Prelude.{codes}
 use Rattle.std.proofs.lemmas.List.{map-append}
 use Rattle.std.proofs.lemmas.List.Elements.{filter-append}
-use Rattle.mot_folder.specs.Log.{Entry, HasTold, TellsAnswers, TellsOne, entry, entry_of, is_of_look}
+use Rattle.mot_folder.specs.Log.{HasTold, TellsAnswers, TellsOne, entry, entry_of, is_of_look}
 use Rattle.mot_folder.specs.Log.{of_look}
 use Rattle.mot_folder.specs.declared.report.Report.{Report}
 use Rattle.mot_server.specs.declared.running.Attempt.{Attempt}

@@ -1,14 +1,13 @@
 -- What is told of commands, one after the other.
-use Rattle.std.proofs.Common.{◌≡◌, ◌∙◌, ℕ, Bool, true, List, [], ◌∷◌, ◌++◌, length, Result, Ok, refl, sym, ap, subst, arith}
+use Rattle.std.proofs.Common.{◌≡◌, ℕ, Bool, List, [], ◌∷◌, ◌++◌, length, Ok, refl, sym, subst, arith}
 use Rattle.std.proofs.Common.{append_assoc, append-nil}
-use Rattle.mot_base.specs.declared.refusal.Refusal.{Refusal}
 use Rattle.mot_carousel.specs.declared.command.Command.{Command}
 use Rattle.mot_carousel.specs.declared.command.Command.TheVariants as command
 use Rattle.mot_server.specs.Attempts as attempts
 use Rattle.mot_server.specs.declared.running.Attempt.{Attempt}
 use Rattle.mot_server.specs.declared.running.Attempt.TheVariants.{Accepted, Refused}
 use Rattle.mot_update.specs.HasRun.{marks_of}
-use Rattle.mot_update.specs.Told.{Answer, AreAnswers, IsAnswer, Put, Replaced, Tells, Withdrew}
+use Rattle.mot_update.specs.Told.{Answer, AreAnswers, Tells, Withdrew}
 use Rattle.mot_update.specs.Told.{answers_of, commands_of}
 use Rattle.mot_update.specs.declared.settling.Settled.{Settled}
 use Rattle.mot_update.specs.declared.settling.Settled.TheVariants as settled

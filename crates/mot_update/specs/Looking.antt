@@ -1,5 +1,5 @@
 -- What a look at a source of wanted objects does.
-use Rattle.std.specs.Prelude.{◌≡◌, ℕ, Bool, true, false, not, List, [], ◌++◌, map, filter}
+use Rattle.std.specs.Prelude.{◌≡◌, ℕ, Bool, true, not, List, [], ◌++◌, map, filter}
 use Rattle.std.specs.Prelude.{take, Option, Some, None, ⊤}
 use Rattle.std.specs.List.{flat_map, AllByRecursion}
 use Rattle.disk_store.specs.Disk.{State}
