@@ -36,8 +36,9 @@ sync_app =
     with_rule (with_rule (with_rule (new_app (codes "sync")) (word_rule (codes "DISK")))
     (word_rule (codes "DIR"))) (path_rule (codes "types"))
 
-abbrev pub export_app : App
-export_app = with_rule (new_app (codes "export")) (word_rule (codes "DISK"))
+-- a command of one word, which names a disk
+abbrev pub disk_app : Text → App
+disk_app name = with_rule (new_app name) (word_rule (codes "DISK"))
 
 -- the program's words are those after its name, and the first of them is a command
 abbrev pub air_top : Shape
@@ -48,5 +49,6 @@ air_top = record (new_app (codes "motcar")).top {
 
 abbrev pub air_app : App
 air_app =
-    with_subcommand (with_subcommand (with_subcommand (record { top = air_top; subs = [] })
-    play_app.top) sync_app.top) export_app.top
+    with_subcommand (with_subcommand (with_subcommand (with_subcommand
+    (record { top = air_top; subs = [] })
+    play_app.top) sync_app.top) (disk_app (codes "export")).top) (disk_app (codes "inspect")).top

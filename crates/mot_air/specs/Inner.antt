@@ -1,3 +1,4 @@
+pub mod Inspected
 pub mod Looked
 pub mod Packets
 pub mod Printing

@@ -8,13 +8,14 @@ use Rattle.disk_store.specs.File.{calls_on, file_state}
 use Rattle.disk_store.specs.declared.file.FileDiskFrom.{FileDiskFrom}
 use Rattle.disk_store.specs.declared.file.start.Start.{Ghosts}
 use Rattle.mot_air.specs.Exporting.{Exports, StopsExporting}
+use Rattle.mot_air.specs.Inspecting.{Inspects, StopsInspecting}
 use Rattle.mot_air.specs.Playing.{Plays, StopsPlaying}
 use Rattle.mot_air.specs.Syncing.{StopsSyncing, Syncs}
 use Rattle.mot_air.specs.Task.{AskFor, AskForHelp}
 use Rattle.mot_air.specs.declared.packets.Target.{Target}
 use Rattle.mot_air.specs.declared.packets.Target.TheVariants.{File, Output, Stream}
 use Rattle.mot_air.specs.declared.task.Task.{Task}
-use Rattle.mot_air.specs.declared.task.Task.TheVariants.{Play, Sync, Export}
+use Rattle.mot_air.specs.declared.task.Task.TheVariants.{Play, Sync, Export, Inspect}
 use Rattle.mot_air.specs.declared.used.AirDisk.{AirDisk}
 use Rattle.mot_air.specs.declared.used.AirDisk.TheVariants.{Opened, Untouched}
 use Rattle.mot_base.specs.declared.refusal.Refusal.{Refusal}
@@ -84,6 +85,7 @@ module _ {S : Type 0} {start : Ghosts S} where
   Does (Play disk packets folder types turns) used old new = PlaysTo packets.now turns used
   Does (Sync disk folder types) used old new = OnOpened (Syncs true folder.now old new) used
   Does (Export disk) used old new = OnOpened (Exports old new) used
+  Does (Inspect disk) used old new = OnOpened (Inspects old new) used
 
   -- the task was begun, and this refusal ended it; or a file was refused, with none
   abbrev pub DoesInPart : Task → Option Refusal → AirDisk S start → (old new : Option (List ℕ))
@@ -97,6 +99,8 @@ module _ {S : Type 0} {start : Ghosts S} where
       OnOpened (StopsSyncing r folder.now) used
   DoesInPart (Export disk) None used old new = ⊥
   DoesInPart (Export disk) (Some r) used old new = OnOpened (StopsExporting r old new) used
+  DoesInPart (Inspect disk) None used old new = ⊥
+  DoesInPart (Inspect disk) (Some r) used old new = OnOpened (StopsInspecting r old new) used
 
   -- no disk was opened, and nothing was printed
   pub record IsUntold (used : AirDisk S start) (old new : Option (List ℕ)) : Type 0 where
@@ -114,6 +118,7 @@ IsBeginningRefusal (Play disk packets folder types turns) r =
     IsUntyped r ⊎ (r ≡ DeviceFault) ⊎ (r ≡ WriteFault)
 IsBeginningRefusal (Sync disk folder types) r = IsUntyped r ⊎ (r ≡ DeviceFault)
 IsBeginningRefusal (Export disk) r = r ≡ DeviceFault
+IsBeginningRefusal (Inspect disk) r = r ≡ DeviceFault
 
 -- what a run came to, on this disk
 module _ {S : Type 0} {start : Ghosts S} (words : List Text) where

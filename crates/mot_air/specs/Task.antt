@@ -7,7 +7,7 @@ use Rattle.clap.specs.declared.error.ErrorKind.{ErrorKind}
 use Rattle.clap.specs.declared.error.ErrorKind.TheVariants.{DisplayHelp}
 use Rattle.mot_air.specs.Command.{air_app}
 use Rattle.mot_air.specs.declared.task.Task.{Task}
-use Rattle.mot_air.specs.declared.task.Task.TheVariants.{Play, Sync, Export}
+use Rattle.mot_air.specs.declared.task.Task.TheVariants.{Play, Sync, Export, Inspect}
 
 -- the text writes a number of 32 bits
 abbrev pub IsNumberOf32Bits : List ℕ → Type 0
@@ -40,6 +40,7 @@ IsTask name rows (Sync disk folder types) =
     (name ≡ codes "sync") × NameWord rows (codes "DISK") disk.now
     × NameWord rows (codes "DIR") folder.now × NameOption rows (codes "types") types
 IsTask name rows (Export disk) = (name ≡ codes "export") × NameWord rows (codes "DISK") disk.now
+IsTask name rows (Inspect disk) = (name ≡ codes "inspect") × NameWord rows (codes "DISK") disk.now
 
 -- the words ask for this task
 pub record AskFor (words : List Text) (task : Task) : Type 0 where

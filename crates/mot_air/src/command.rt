@@ -1,7 +1,7 @@
 ghost use Rattle.std.specs.Prelude.{◌≡◌, codes, false, IfOk};
 ghost use Rattle.clap.specs.Words.{app_of, rule_of};
 ghost use Rattle.clap.specs.declared.builder.Command.TheViews.{out-Command};
-ghost use Rattle.mot_air.specs.Command.{air_app, export_app, path_rule, play_app, sync_app};
+ghost use Rattle.mot_air.specs.Command.{air_app, disk_app, path_rule, play_app, sync_app};
 ghost use Rattle.mot_air.specs.Command.{turns_rule, word_rule};
 
 use clap::{Arg, ArgAction, Command, value_parser};
@@ -13,7 +13,16 @@ pub(crate) fn command<'a>(alloc: Global) -> Result<Command<'a>, AllocError>
 {
     let play = play(alloc)?;
     let sync = sync(alloc)?;
-    let export = export(alloc)?;
+    let export = on_disk(
+        alloc,
+        "export",
+        "Print the lines that rebuild the carousel of a disk",
+    )?;
+    let inspect = on_disk(
+        alloc,
+        "inspect",
+        "Print the sizes of a disk, what is free of them, and how long a turn takes",
+    )?;
     Command::new(alloc, "motcar")
         .bin_name("motcar")?
         .about("A data-service server for DAB digital radio")
@@ -21,7 +30,8 @@ pub(crate) fn command<'a>(alloc: Global) -> Result<Command<'a>, AllocError>
         .subcommand_required(true)
         .subcommand(play)?
         .subcommand(sync)?
-        .subcommand(export)
+        .subcommand(export)?
+        .subcommand(inspect)
 }
 
 /// The command `play`.
@@ -67,15 +77,13 @@ fn sync<'a>(alloc: Global) -> Result<Command<'a>, AllocError>
         .arg(types)
 }
 
-/// The command `export`.
-fn export<'a>(alloc: Global) -> Result<Command<'a>, AllocError>
-    ensures app { IfOk result (λ command. app_of command ≡ export_app) }
+/// A command on a disk alone.
+fn on_disk<'a>(alloc: Global, name: &'a str, about: &'a str) -> Result<Command<'a>, AllocError>
+    ensures app { IfOk result (λ command. app_of command ≡ disk_app name.entry.now) }
     ensures local { IfOk result (λ command. (out-Command command).has_globals ≡ false) }
 {
     let disk = word(alloc, "DISK", "The file of the disk, or a block device");
-    Command::new(alloc, "export")
-        .about("Print the lines that rebuild the carousel of a disk")
-        .arg(disk)
+    Command::new(alloc, name).about(about).arg(disk)
 }
 
 /// A word that has to be given.

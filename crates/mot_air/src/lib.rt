@@ -1,5 +1,5 @@
 //! The commands that put a carousel on air: playing a disk into a pipe, and making it equal to a
-//! folder; and the one that writes it as lines.
+//! folder; and those that write it as lines, and tell its sizes.
 #![tactic(auto)]
 
 mod beside;
@@ -7,6 +7,7 @@ mod command;
 mod ended;
 mod exporting;
 mod fault;
+mod inspecting;
 mod on_air;
 mod packets;
 mod playing;
@@ -18,6 +19,7 @@ mod used;
 
 pub use ended::Ended;
 pub use exporting::export_disk;
+pub use inspecting::inspect_disk;
 pub use packets::Target;
 pub use playing::{Followed, play_disk, play_with, sync_disk};
 pub use program::{is_air, run_air, run_air_on};

@@ -3,6 +3,7 @@ ghost use Rattle.std.specs.Prelude.{None, Ok, Some, codes};
 ghost use Rattle.std.specs.Io.KnownBytes.{Keeps};
 ghost use Rattle.clap.specs.Words.{kind_of};
 ghost use Rattle.mot_air.specs.Exporting.{Exports, StopsExporting};
+ghost use Rattle.mot_air.specs.Inspecting.{Inspects, StopsInspecting};
 ghost use Rattle.mot_air.specs.Program.{Does, DoesInPart, IsBeginningRefusal, IsRefused, IsUntold};
 ghost use Rattle.mot_air.specs.Program.{IsUntouched, IsUntyped, OnOpened, PlaysTo};
 ghost use Rattle.mot_air.specs.Program.{StopsPlayingTo, Succeeds};
@@ -16,6 +17,7 @@ ghost use Rattle.mot_base.specs.declared.refusal.Refusal.TheVariants.{WriteFault
 
 use crate::command::command;
 use crate::exporting::export_disk;
+use crate::inspecting::inspect_disk;
 use crate::on_air::play_file;
 use crate::playing::{Followed, sync_disk};
 use crate::subject::{Subject, subject_of, tell, tell_folder};
@@ -34,9 +36,9 @@ use std::io::Write;
 /// Whether the word is one of these commands.
 pub fn is_air(word: &str) -> bool
     ensures { IsTrue result ↔ (word.now ≡ codes "play") ⊎ (word.now ≡ codes "sync")
-        ⊎ (word.now ≡ codes "export") }
+        ⊎ (word.now ≡ codes "export") ⊎ (word.now ≡ codes "inspect") }
 {
-    word == "play" || word == "sync" || word == "export"
+    word == "play" || word == "sync" || word == "export" || word == "inspect"
 }
 
 /// Does what the words after the program's own name ask for, and answers the exit status, as
@@ -214,6 +216,7 @@ fn execute<B: Start, W: Write, E: Write>(
             types,
         } => sync(rt, alloc, disk, folder, types, start, writer),
         Task::Export(disk) => export_file(rt, alloc, disk, start, writer),
+        Task::Inspect(disk) => inspect_file(rt, alloc, disk, start, writer),
     }
 }
 
@@ -318,6 +321,27 @@ fn export_file<B: Start, W: Write>(
 {
     match FileDiskFrom::open_from(rt, path, start) {
         Ok(disk) => Finished::done(export_disk(alloc, disk, writer), None),
+        Err(unopened) => Finished::unopened(unopened),
+    }
+}
+
+/// Tells the sizes of the disk of the file at the path.
+fn inspect_file<B: Start, W: Write>(
+    rt: &HostRuntime,
+    alloc: Global,
+    path: &str,
+    start: B,
+    writer: &mut W,
+) -> Finished<B>
+    ensures done { result.result ≡ Ok true
+        → OnOpened (Inspects (W.contents writer.old) (W.contents writer.new)) result.disk }
+    ensures told { result.result ≢ Ok false }
+    ensures refused { IfErr result.result (λ r. ((r ≡ DeviceFault)
+        × IsUntold result.disk (W.contents writer.old) (W.contents writer.new))
+        ⊎ OnOpened (StopsInspecting r (W.contents writer.old) (W.contents writer.new)) result.disk) }
+{
+    match FileDiskFrom::open_from(rt, path, start) {
+        Ok(disk) => Finished::done(inspect_disk(alloc, disk, writer), None),
         Err(unopened) => Finished::unopened(unopened),
     }
 }

@@ -34,6 +34,8 @@ pub enum Task<'a> {
     },
     /// Print the carousel of the disk of the file at this path.
     Export(&'a str),
+    /// Tell the sizes of the disk of the file at this path.
+    Inspect(&'a str),
 }
 
 /// The task of a command and the words behind it; `None` where a number is none.
@@ -56,6 +58,7 @@ pub(crate) fn task_of<'a>(name: &str, words: &ArgMatches<'a>) -> Option<Task<'a>
             types: option_of(words, "types"),
         }),
         "export" => Some(Task::Export(word_of(words, "DISK")?)),
+        "inspect" => Some(Task::Inspect(word_of(words, "DISK")?)),
         _ => None,
     }
 }

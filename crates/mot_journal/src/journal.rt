@@ -147,6 +147,13 @@ impl Journal {
         self.count >= self.layout.slot_count(&self.geometry)
     }
 
+    /// How many records it has, each in a slot of the half.
+    pub fn record_count(&self) -> usize
+        ensures { result ≡ self.now.count }
+    {
+        self.count
+    }
+
     /// Whether a device fault has come in a call that writes. Nothing can be written then.
     pub fn is_spent(&self) -> bool
         ensures { result ≡ self.now.spent }

@@ -12,7 +12,8 @@ const NOTES: &str = "\
 Options of memory and format: --objects N, --data N, --segment N, --address N, --packet N
 Option of format: --after N
 
-On air: motcar play DISK PACKETS, motcar sync DISK DIR, motcar export DISK (--help of each tells more)
+On air: motcar play DISK PACKETS, motcar sync DISK DIR, motcar export DISK, motcar inspect DISK (--help of
+each tells more)
 motcar --version tells the version, the commit and the toolchain that proved it.
 
 The lines that motcar reads and its replies are told in docs/FORMATS.md, how to run it in

@@ -10,6 +10,7 @@ mod Following
 pub mod Gaps
 pub mod Laws
 mod Layouts
+pub mod LongestGap
 pub mod Listing
 mod Moved
 pub mod OpenDisk

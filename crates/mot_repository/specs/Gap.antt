@@ -1,6 +1,6 @@
 -- Where in the data area a new body goes (own rule).
-use Rattle.std.specs.Prelude.{ℕ, zero, suc, ◌+◌, ◌-◌, Bool, ◌||◌, nat_le, if◌then◌else◌}
-use Rattle.std.specs.Prelude.{List, Option, Some, None}
+use Rattle.std.specs.Prelude.{◌≡◌, ℕ, zero, suc, ◌+◌, ◌-◌, ◌<◌, Bool, ◌||◌, nat_le, if◌then◌else◌}
+use Rattle.std.specs.Prelude.{List, Option, Some, None, is_none}
 use Rattle.std.specs.List.{list_all}
 
 -- n bytes from a start on meet no part of an extent
@@ -19,3 +19,8 @@ first_free (suc left) start extents n =
 -- the least start of n bytes that lie in an area of this size and meet no extent
 unfoldable pub least_gap : List (ℕ × ℕ) → ℕ → ℕ → Option ℕ
 least_gap extents n size = if nat_le n size then first_free (size - n + 1) 0 extents n else None
+
+-- so many bytes lie in an area of this size and meet no extent, and no more do in one piece
+pub record IsLongestGap (extents : List (ℕ × ℕ)) (size gap : ℕ) : Type 0 where
+  pub fits : is_none (least_gap extents gap size) ≡ Bool.false
+  pub longest : (n : ℕ) → gap < n → least_gap extents n size ≡ None

@@ -1,5 +1,5 @@
 -- What a change that is prepared for a command is, and what it writes.
-use Rattle.std.specs.Prelude.{◌≡◌, Bool, ℕ, ◌+◌, List, [], ◌∷◌, length}
+use Rattle.std.specs.Prelude.{◌≡◌, ◌<◌, ◌≤◌, All, Bool, true, ℕ, ◌+◌, List, [], ◌∷◌, length}
 use Rattle.std.specs.Prelude.{Option, Some, None, bytes_eq, if◌then◌else◌}
 use Rattle.mot_carousel.specs.declared.carousel.Carousel.{Carousel}
 use Rattle.mot_carousel.specs.declared.object.Object.{Object}
@@ -10,6 +10,7 @@ use Rattle.mot_journal.specs.declared.record.Record.{Record}
 use Rattle.mot_journal.specs.declared.record.Action.{Action}
 use Rattle.mot_journal.specs.declared.record.Action.TheVariants.{Nothing, Set, Remove}
 use Rattle.mot_base.specs.Geometry.{area_start}
+use Rattle.mot_journal.specs.Slot.{is_sound, slot_count}
 use Rattle.mot_repository.specs.Answers.{ChangesTo}
 use Rattle.mot_repository.specs.Extents.{body_of, LiesAtLeastGap, catalogue_in}
 use Rattle.mot_repository.specs.Laws.{records_of_catalogue, extents_after}

@@ -1,6 +1,6 @@
 // Where in the data area a new body goes.
 ghost use Rattle.std.specs.Prelude.{◌≡◌, ◌<◌, ◌≤◌, ◌^◌, ℕ, true, is_none, IfSome};
-ghost use Rattle.mot_repository.specs.Gap.{is_free, least_gap};
+ghost use Rattle.mot_repository.specs.Gap.{IsLongestGap, is_free, least_gap};
 
 /// The least start in a data area of `data_len` bytes from which `len` bytes lie in the area and
 /// meet no extent (start, length); `None` where no gap holds them. The extents may stand in any
@@ -16,6 +16,23 @@ pub fn first_fit(extents: &[(u32, u32)], len: u32, data_len: u32) -> Option<u32>
         }
     }
     None
+}
+
+/// The most bytes that lie in one piece in a data area of `data_len` bytes and meet no extent. It
+/// takes no memory.
+pub fn longest_gap(extents: &[(u32, u32)], data_len: u32) -> u32
+    ensures { IsLongestGap extents.now data_len result }
+{
+    let mut fits: u64 = 0;
+    let mut above = u64::from(data_len) + 1;
+    while fits + 1 < above {
+        let middle = fits + (above - fits) / 2;
+        match first_fit(extents, middle as u32, data_len) {
+            Some(_) => fits = middle,
+            None => above = middle,
+        }
+    }
+    fits as u32
 }
 
 /// The end of the first extent that `len` bytes from `start` on meet. No free start lies between

@@ -12,7 +12,7 @@ mod records;
 mod repository;
 mod writing;
 
-pub use gap::first_fit;
+pub use gap::{first_fit, longest_gap};
 pub use opening::Refused;
 pub use prepared::Prepared;
 pub use repository::Repository;

@@ -3,6 +3,7 @@ ghost use Rattle.std.specs.Prelude.{◌≡◌, ◌<◌, ◌≤◌, ◌+◌, ◌�
 ghost use Rattle.std.specs.Prelude.{slice_range, Ok, OnOk, OnErr, IfOk, IfErr, IsTrue, IsFalse};
 
 use crate::changing::commit_change;
+use crate::gap::longest_gap;
 use crate::inventory::Inventory;
 use crate::prepared::{Prepared, prepare_change};
 use crate::records::records_of;
@@ -58,6 +59,7 @@ impl<D: Disk> Repository<D> {
     ghost use Rattle.mot_repository.specs.Answers.{IsHalted, IsMigrationRefusal};
     ghost use Rattle.mot_repository.specs.Cost.{calls_of_command};
     ghost use Rattle.mot_repository.specs.Extents.{ArePaired};
+    ghost use Rattle.mot_repository.specs.Gap.{IsLongestGap};
     ghost use Rattle.mot_repository.specs.Inner.InOrder.{IsInOrder};
     ghost use Rattle.mot_repository.specs.OnDisk.{OnDisk, extent_at, body_on, IsCheckRefusal};
     ghost use Rattle.mot_repository.specs.Prepared.{view_with};
@@ -131,6 +133,21 @@ impl<D: Disk> Repository<D> {
         ensures value { result ≡ (extent_at self.now.view.extents place).1 }
     {
         self.inventory.extents[place].1
+    }
+
+    /// The most bytes that the body of one object more could have: they lie in one piece.
+    pub fn longest_gap(&self) -> u32
+        ensures { IsLongestGap self.now.view.extents self.now.view.journal.geometry.data_area
+            result }
+    {
+        longest_gap(&self.inventory.extents, self.journal.geometry().data_area)
+    }
+
+    /// How many records its journal has, each in a slot of the half that is selected.
+    pub fn record_count(&self) -> usize
+        ensures { result ≡ self.now.view.journal.count }
+    {
+        self.journal.record_count()
     }
 
     // Where on the disk a byte of the body of the object at this place lies.

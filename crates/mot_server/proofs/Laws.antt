@@ -19,6 +19,8 @@ pub use Rattle.mot_base.proofs.Laws.{valid_is}
 pub use Rattle.mot_server.proofs.Answered.{not_halted}
 -- runs one after the other, and calls that only read
 pub use Rattle.mot_server.proofs.Joins.{runs_join, reads_leave, reads_leave_of, accepted-join}
+-- the packets of a turn, up to the one that ends it
+pub use Rattle.mot_server.proofs.Going.{IsGoing-none, IsGoing-more, HasPlayedTurn-ended}
 -- packets, request by request
 use Rattle.mot_server.proofs.Going.{HasPlayed-none, HasPlayed-more}
 use Rattle.std.proofs.Common.{ℕ, suc, Bool, List, [], ◌∷◌, ◌++◌}

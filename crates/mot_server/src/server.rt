@@ -66,6 +66,7 @@ impl<D: Disk> Server<D> {
     ghost use Rattle.mot_repository.specs.Answers.{IsAnswered, IsMigrationRefusal};
     ghost use Rattle.mot_journal.specs.Slot.{slot_count};
     ghost use Rattle.mot_repository.specs.Cost.{calls_of_command};
+    ghost use Rattle.mot_repository.specs.Gap.{IsLongestGap};
     ghost use Rattle.mot_repository.specs.Opening.{IsOpened, IsOpeningRefusal};
     ghost use Rattle.mot_server.specs.Inner.Plays.{Plays};
     ghost use Rattle.mot_server.specs.Playing.{HasPlayed, HasPlayedTurn, bytes_of_packets};
@@ -175,6 +176,21 @@ impl<D: Disk> Server<D> {
         ensures value { result ≡ self.now.view.halted }
     {
         self.bodies.repository.halted()
+    }
+
+    /// The most bytes that the body of one object more could have: they lie in one piece.
+    pub fn longest_gap(&self) -> u32
+        ensures { IsLongestGap self.now.view.extents self.now.view.journal.geometry.data_area
+            result }
+    {
+        self.bodies.repository.longest_gap()
+    }
+
+    /// How many records its disk has, each in a slot of the half that is selected.
+    pub fn record_count(&self) -> usize
+        ensures { result ≡ self.now.view.journal.count }
+    {
+        self.bodies.repository.record_count()
     }
 
     /// Does what the command asks, and gives the transport ids that it took. The refusals are those

@@ -1,0 +1,32 @@
+use Rattle.std.proofs.Common.{◌≡◌, ◌⊎◌, inr, subst, sym}
+use Rattle.std.specs.Prelude.{IfErr}
+use Rattle.mot_air.proofs.Begun.{IfErr-one, done-is, refused-is, since_opened}
+use Rattle.mot_air.proofs.Printed.{OnOk-one}
+use Rattle.mot_air.specs.Inspecting.{Inspects, StopsInspecting}
+use Rattle.mot_air.specs.Program.{IsUntold, OnOpened}
+use Rattle.mot_base.specs.declared.refusal.Refusal.TheVariants.{DeviceFault}
+use Rattle.mot_air.proofs.program.inspect_file.Goals as goal
+
+pub returns-in-Ok-clause-done : goal.returns-in-Ok-clause-done
+returns-in-Ok-clause-done g c = λ is.
+    let opens = c.in-Ok.ensures in
+    let ended = c.inspect_disk.result in
+    let old = g.W.Write.contents c.args.writer.now in
+    let new = g.W.Write.contents c.inspect_disk.new.writer in
+    subst (OnOpened (Inspects old new)) (sym c.done.ensures.disk)
+    (done-is ended.result c.done.result.result
+    (OnOk-one ended.result (λ p. since_opened c.in-Ok.disk ended.disk (Inspects old new) opens.order
+    opens.new opens.first_bytes p) c.inspect_disk.ensures.done) c.done.ensures.refused is)
+
+pub returns-in-Ok-clause-refused : goal.returns-in-Ok-clause-refused
+returns-in-Ok-clause-refused g c =
+    let opens = c.in-Ok.ensures in
+    let ended = c.inspect_disk.result in
+    let old = g.W.Write.contents c.args.writer.now in
+    let new = g.W.Write.contents c.inspect_disk.new.writer in
+    subst (λ (d : _). IfErr c.done.result.result (λ r. ((r ≡ DeviceFault) × IsUntold d old new)
+    ⊎ OnOpened (StopsInspecting r old new) d)) (sym c.done.ensures.disk)
+    (refused-is _ ended.result c.done.result.result c.done.ensures.done c.done.ensures.refused
+    (IfErr-one ended.result (λ r p. inr (since_opened c.in-Ok.disk ended.disk
+    (StopsInspecting r old new) opens.order opens.new opens.first_bytes p))
+    c.inspect_disk.ensures.refused))
