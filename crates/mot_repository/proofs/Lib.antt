@@ -1,4 +1,5 @@
 pub mod Answering
+pub mod Apart
 mod Bodies
 pub mod Committing
 pub mod Extents
@@ -13,6 +14,7 @@ mod Layouts
 pub mod Listing
 mod Moved
 pub mod OpenDisk
+pub mod Pairwise
 mod Places
 pub mod Planned
 pub mod Preparing

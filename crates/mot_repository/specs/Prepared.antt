@@ -10,7 +10,7 @@ use Rattle.mot_carousel.specs.declared.command.Done.{Done}
 use Rattle.mot_journal.specs.declared.record.Record.{Record}
 use Rattle.mot_journal.specs.declared.record.Action.{Action}
 use Rattle.mot_journal.specs.declared.record.Action.TheVariants.{Nothing, Set, Remove}
-use Rattle.mot_base.specs.Geometry.{area_start, length_of}
+use Rattle.mot_base.specs.Geometry.{area_start}
 use Rattle.mot_journal.specs.Slot.{is_sound, slot_count}
 use Rattle.mot_repository.specs.Answers.{ChangesTo}
 use Rattle.mot_repository.specs.Extents.{body_of, LiesAtLeastGap, catalogue_in}
