@@ -1,4 +1,5 @@
 pub mod Answering
+pub mod Apart
 mod Bodies
 pub mod Committing
 pub mod Extents
@@ -14,6 +15,7 @@ pub mod LongestGap
 pub mod Listing
 mod Moved
 pub mod OpenDisk
+pub mod Pairwise
 mod Places
 pub mod Planned
 pub mod Preparing

@@ -1,16 +1,14 @@
 -- Objects and the extents that stand beside them, as the code of a fold changes both.
-use Rattle.std.proofs.Common.{◌≡◌, ◌⊎◌, ℕ, zero, suc, ◌+◌, ◌-◌, ◌<◌, ◌≤◌, Bool, true, false, cond, not, ◌&&◌, ◌||◌, List, [], ◌∷◌, ◌++◌, length, map, set, get_or, take, drop, Option, Some, None, refl, sym, ap, ◌∙◌, arith, inl, inr}
+use Rattle.std.proofs.Common.{◌≡◌, ◌⊎◌, ℕ, zero, suc, ◌+◌, ◌<◌, ◌≤◌, Bool, true, false, cond, not, ◌&&◌, ◌||◌, List, [], ◌∷◌, ◌++◌, length, map, set, Option, Some, None, refl, sym, ap, ◌∙◌, arith, inl, inr}
 use Rattle.std.specs.Prelude.{remove, option_map, bytes_eq, nat_eq, position, is_some, is_none}
 use Rattle.std.specs.List.{position_from, list_all, list_any}
-use Rattle.std.proofs.lemmas.Bool.{lt-ltb, le-ltb, and_left, and_right}
-use Rattle.std.proofs.lemmas.List.{take_all}
+use Rattle.std.proofs.lemmas.Bool.{lt-ltb, le-ltb}
 use Rattle.std.proofs.lemmas.Iterator.Adapters.{position_from-zero}
 use Rattle.mot_carousel.specs.declared.object.Object.{Object}
-use Rattle.mot_carousel.specs.declared.carousel.Carousel.{Carousel}
-use Rattle.mot_carousel.specs.Ids.{contains, is_distinct}
+use Rattle.mot_carousel.specs.Ids.{contains}
 use Rattle.mot_carousel.specs.Stands.{place_of}
-use Rattle.mot_journal.specs.Catalogue.{Placed, put_in_place, objects_without, are_apart, are_all_apart, is_consistent}
-use Rattle.mot_repository.specs.Extents.{objects_in, catalogue_with}
+use Rattle.mot_journal.specs.Catalogue.{Placed, put_in_place, objects_without, are_apart, are_all_apart}
+use Rattle.mot_repository.specs.Extents.{objects_in}
 use Rattle.mot_repository.specs.Gap.{is_free, is_beside}
 use Rattle.mot_repository.specs.Inner.Fold.{HaveLengths, are_extents_apart, objects_set}
 
@@ -230,45 +228,6 @@ apart_in (o ∷ os) (x ∷ es) l =
 pub used_by : (tid : ℕ) (os : List Object) → contains (map (λ (o : Object). o.tid) os) tid ≡ list_any (λ (o : Object). nat_eq tid o.tid) os
 used_by tid [] = refl
 used_by tid (o ∷ os) = ap (λ t. nat_eq tid o.tid || t) (used_by tid os)
-
-module _ (c : Carousel) (es : List (ℕ × ℕ)) (l : HaveLengths c.objects.items es) where
-  by-parts : is_consistent (catalogue_with c es)
-      ≡ ((not (list_any (λ (o : Object). nat_eq c.directory o.tid) c.objects.items) && is_distinct (map (λ (o : Object). o.tid) c.objects.items)) && are_extents_apart es)
-  by-parts =
-      ap (λ ids. is_distinct (c.directory ∷ ids) && are_all_apart (objects_in c.objects.items es)) (ids_in c.objects.items es l)
-      ∙ ap (λ t. is_distinct (c.directory ∷ map (λ (o : Object). o.tid) c.objects.items) && t) (apart_in c.objects.items es l)
-      ∙ ap (λ t. (not t && is_distinct (map (λ (o : Object). o.tid) c.objects.items)) && are_extents_apart es) (used_by c.directory c.objects.items)
-
-  pub inconsistent_id : list_any (λ (o : Object). nat_eq c.directory o.tid) c.objects.items ≡ true → false ≡ is_consistent (catalogue_with c es)
-  inconsistent_id e = sym (by-parts ∙ ap (λ t. (not t && is_distinct (map (λ (o : Object). o.tid) c.objects.items)) && are_extents_apart es) e)
-
-  pub inconsistent_ids : is_distinct (map (λ (o : Object). o.tid) c.objects.items) ≡ false → false ≡ is_consistent (catalogue_with c es)
-  inconsistent_ids e = sym (by-parts ∙ and_left _ _ (and_right _ _ e))
-
-  pub consistent_where_apart : list_any (λ (o : Object). nat_eq c.directory o.tid) c.objects.items ≡ false
-      → is_distinct (map (λ (o : Object). o.tid) c.objects.items) ≡ true → are_extents_apart es ≡ is_consistent (catalogue_with c es)
-  consistent_where_apart d e = sym (by-parts ∙ rw (d, e) refl)
-
--- ---- the loops over what is left of a list
-
-abbrev pub others : {X : Type 0} → List X → List X
-others {X} rest = take (length rest - 1) (drop 1 rest)
-
-other-ones : {X : Type 0} (x : X) (xs : List X) → others (x ∷ xs) ≡ xs
-other-ones {X} x xs = take_all (length (x ∷ xs) - 1) xs (omega arith)
-
-pub distinct_step : (rest : List Object) (first : Object) → 1 ≤ length rest → first ≡ get_or rest 0 first
-    → is_distinct (map (λ (o : Object). o.tid) rest)
-    ≡ (not (list_any (λ (o : Object). nat_eq first.tid o.tid) (others rest)) && is_distinct (map (λ (o : Object). o.tid) (others rest)))
-distinct_step [] first some is = absurd (omega (arith, some))
-distinct_step (o ∷ os) first some is =
-    rw (other-ones o os, is)
-    (ap (λ t. not t && is_distinct (map (λ (o : Object). o.tid) os)) (used_by o.tid os))
-
-pub apart_step : (rest : List (ℕ × ℕ)) → 1 ≤ length rest
-    → are_extents_apart rest ≡ (is_free (others rest) (get_or rest 0 (0, 0)).1 (get_or rest 0 (0, 0)).0 && are_extents_apart (others rest))
-apart_step [] some = absurd (omega (arith, some))
-apart_step (e ∷ es) some = rw (other-ones e es) refl
 
 pub none_or_some : {X : Type 0} (r : Option X) → is_none r ≡ not (is_some r)
 none_or_some None = refl

@@ -2,7 +2,7 @@
 ghost use Rattle.mot_base.specs.declared.geometry.TheConstants.{MAX_OBJECTS};
 ghost use Rattle.std.specs.Prelude.{◌≡◌, ◌≤◌, ◌<◌, ◌∷◌, map, length, vec_len, vec_capacity};
 ghost use Rattle.std.specs.Prelude.{All, Ok, Some, None, IfOk, IfErr, IfSome, MatchOption};
-ghost use Rattle.std.specs.Prelude.{nat_eq, position};
+ghost use Rattle.std.specs.Prelude.{true, nat_eq, position, remove};
 ghost use Rattle.std.specs.List.{list_any};
 ghost use Rattle.mot_carousel.specs.Ids.{is_distinct};
 ghost use Rattle.mot_carousel.specs.Stands.{place_of};
@@ -10,8 +10,8 @@ ghost use Rattle.mot_carousel.specs.declared.object.Object.{Object};
 ghost use Rattle.mot_journal.specs.Catalogue.{new_catalogue, catalogue_after, catalogue_of};
 ghost use Rattle.mot_journal.specs.Catalogue.{objects_after, objects_without, is_consistent};
 ghost use Rattle.mot_repository.specs.Extents.{catalogue_with, objects_in};
-ghost use Rattle.mot_repository.specs.Inner.Fold.{HaveLengths, are_extents_apart};
-ghost use Rattle.mot_repository.specs.Inner.Fold.{if_done, objects_set};
+ghost use Rattle.mot_repository.specs.Inner.Fold.{HaveLengths, are_extents_apart, are_consistent};
+ghost use Rattle.mot_repository.specs.Inner.Fold.{if_consistent, if_done, objects_set};
 ghost use Rattle.mot_repository.specs.Inner.Fold.{IsFoldRefusal, HasShortId, HasShortIds};
 
 use crate::gap::end_of_met;
@@ -89,11 +89,14 @@ fn new_inventory(alloc: Global, limit: u16) -> Result<Inventory, AllocError>
     })
 }
 
-/// What it is after one record more; `None` for a fault of the list.
+/// What it is after one record more; `None` for a fault of the list. It is consistent before, so only
+/// what the record brings is compared with what stands.
 fn inventory_after(inventory: Inventory, limit: u16, entry: Record) -> Option<Inventory>
     requires few { limit ≤ MAX_OBJECTS }
     requires room { limit ≤ vec_capacity inventory.carousel.objects }
     requires room_of_extents { limit ≤ vec_capacity inventory.extents }
+    requires consistent { is_consistent
+        (catalogue_with inventory.carousel inventory.extents.items) ≡ true }
     ensures after { let after = catalogue_after limit
         (catalogue_with inventory.carousel inventory.extents.items) entry in
         MatchOption result (after ≡ None)
@@ -120,7 +123,10 @@ fn inventory_after(inventory: Inventory, limit: u16, entry: Record) -> Option<In
     if !apply(&mut objects, &mut extents, limit, action) {
         return None;
     }
-    let next = Inventory {
+    if has_id(&objects, directory) {
+        return None;
+    }
+    Some(Inventory {
         carousel: Carousel {
             period,
             directory,
@@ -128,16 +134,11 @@ fn inventory_after(inventory: Inventory, limit: u16, entry: Record) -> Option<In
             objects,
         },
         extents,
-    };
-    if is_consistent(&next) {
-        Some(next)
-    } else {
-        None
-    }
+    })
 }
 
 /// Does an action to the objects and their extents; false where there are too many for a new one,
-/// or none of the id that is to go.
+/// none of the id that is to go, or another of its id or whose body it meets.
 fn apply(
     objects: &mut Vec<Object>,
     extents: &mut Vec<(u32, u32)>,
@@ -149,8 +150,10 @@ fn apply(
     requires listed { vec_len objects.old ≤ MAX_OBJECTS }
     requires room { limit ≤ vec_capacity objects.old }
     requires room_of_extents { limit ≤ vec_capacity extents.old }
+    requires consistent { are_consistent (objects_in objects.old.items extents.old.items) ≡ true }
     ensures applied { if_done result (objects_in objects.new.items extents.new.items)
-        ≡ objects_after limit (objects_in objects.old.items extents.old.items) action }
+        ≡ if_consistent
+        (objects_after limit (objects_in objects.old.items extents.old.items) action) }
     ensures paired { HaveLengths objects.new.items extents.new.items }
     ensures listed { vec_len objects.new ≤ MAX_OBJECTS }
     ensures room { vec_capacity objects.new ≡ vec_capacity objects.old }
@@ -182,7 +185,7 @@ fn apply(
 }
 
 /// Puts an object in the place of the one of its name, or behind the others; false where there are
-/// as many as may be.
+/// as many as may be, or another has its id or a body that meets its own.
 fn set_object(
     objects: &mut Vec<Object>,
     extents: &mut Vec<(u32, u32)>,
@@ -195,9 +198,10 @@ fn set_object(
     requires listed { vec_len objects.old ≤ MAX_OBJECTS }
     requires room { limit ≤ vec_capacity objects.old }
     requires room_of_extents { limit ≤ vec_capacity extents.old }
+    requires consistent { are_consistent (objects_in objects.old.items extents.old.items) ≡ true }
     ensures done { if_done result (objects_in objects.new.items extents.new.items)
-        ≡ objects_set limit (record { object = object; start = start })
-        (objects_in objects.old.items extents.old.items) }
+        ≡ if_consistent (objects_set limit (record { object = object; start = start })
+        (objects_in objects.old.items extents.old.items)) }
     ensures paired { HaveLengths objects.new.items extents.new.items }
     ensures listed { vec_len objects.new ≤ MAX_OBJECTS }
     ensures room { vec_capacity objects.new ≡ vec_capacity objects.old }
@@ -207,14 +211,57 @@ fn set_object(
     if let Some(place) = place_of_name(objects, &object.name) {
         objects[place] = object;
         extents[place] = extent;
-        return true;
+        return stands_apart(objects, extents, place);
     }
-    if objects.len() >= usize::from(limit) {
+    let place = objects.len();
+    if place >= usize::from(limit) {
         return false;
     }
     objects.push_reserved(object);
     extents.push_reserved(extent);
-    true
+    stands_apart(objects, extents, place)
+}
+
+/// Whether the object at this place has an id of its own and a body that meets no other. The others
+/// are consistent, and then all are.
+fn stands_apart(objects: &[Object], extents: &[(u32, u32)], place: usize) -> bool
+    requires within { place < length objects.now }
+    requires paired { HaveLengths objects.now extents.now }
+    requires others { are_consistent
+        (objects_in (remove objects.now place) (remove extents.now place)) ≡ true }
+    ensures { result ≡ are_consistent (objects_in objects.now extents.now) }
+{
+    if !are_ids_distinct(objects, place) {
+        return false;
+    }
+    are_apart(extents, place)
+}
+
+/// Whether all ids differ, where all but the one at this place do.
+fn are_ids_distinct(objects: &[Object], place: usize) -> bool
+    requires within { place < length objects.now }
+    requires others { is_distinct (map (λ (o : Object). o.tid) (remove objects.now place)) ≡ true }
+    ensures { result ≡ is_distinct (map (λ (o : Object). o.tid) objects.now) }
+{
+    let object = &objects[place];
+    if has_id(&objects[..place], object.tid) {
+        return false;
+    }
+    !has_id(&objects[place + 1..], object.tid)
+}
+
+/// Whether no two extents meet, where none do without the one at this place.
+fn are_apart(extents: &[(u32, u32)], place: usize) -> bool
+    requires within { place < length extents.now }
+    requires others { are_extents_apart (remove extents.now place) ≡ true }
+    ensures { result ≡ are_extents_apart extents.now }
+{
+    let (start, size) = extents[place];
+    let start = u64::from(start);
+    if end_of_met(&extents[..place], start, size).is_some() {
+        return false;
+    }
+    end_of_met(&extents[place + 1..], start, size).is_none()
 }
 
 /// Takes away the object of this id; false where there is none.
@@ -255,48 +302,9 @@ fn place_of_id(objects: &[Object], tid: TransportId) -> Option<usize>
     objects.iter().position(|object| object.tid == tid)
 }
 
-/// Whether all ids differ, also from the directory's, and no two bodies meet.
-fn is_consistent(inventory: &Inventory) -> bool
-    ensures { result ≡ is_consistent
-        (catalogue_with inventory.now.carousel inventory.now.extents.items) }
-{
-    let carousel = &inventory.carousel;
-    !has_id(&carousel.objects, carousel.directory)
-        && are_ids_distinct(&carousel.objects)
-        && are_apart(&inventory.extents)
-}
-
 /// Whether one of these objects has this id.
 fn has_id(objects: &[Object], tid: TransportId) -> bool
     ensures { result ≡ list_any (λ (o : Object). nat_eq tid o.tid) objects.now }
 {
     objects.iter().any(|object| tid == object.tid)
-}
-
-/// Whether the ids of these objects differ.
-fn are_ids_distinct(objects: &[Object]) -> bool
-    ensures { result ≡ is_distinct (map (λ (o : Object). o.tid) objects.now) }
-{
-    let mut rest = objects;
-    while let [first, others @ ..] = rest {
-        if has_id(others, first.tid) {
-            return false;
-        }
-        rest = others;
-    }
-    true
-}
-
-/// Whether no two of these extents meet.
-fn are_apart(extents: &[(u32, u32)]) -> bool
-    ensures { result ≡ are_extents_apart extents.now }
-{
-    let mut rest = extents;
-    while let [first, others @ ..] = rest {
-        if end_of_met(others, u64::from(first.0), first.1).is_some() {
-            return false;
-        }
-        rest = others;
-    }
-    true
 }

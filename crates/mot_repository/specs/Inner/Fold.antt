@@ -1,13 +1,15 @@
 -- What the code that folds records says of its lists.
 use Rattle.std.specs.Prelude.{◌≡◌, ◌≤◌, ◌⊎◌, ℕ, Bool, true, false, ◌&&◌, List, [], ◌∷◌, map}
-use Rattle.std.specs.Prelude.{Option, Some, None, Err}
+use Rattle.std.specs.Prelude.{Option, Some, None, Err, if◌then◌else◌}
 use Rattle.mot_base.specs.declared.refusal.Refusal.{Refusal}
 use Rattle.mot_base.specs.declared.refusal.Refusal.TheVariants.{OutOfMemory, Damaged}
+use Rattle.mot_carousel.specs.Ids.{is_distinct}
 use Rattle.mot_carousel.specs.declared.object.Object.{Object}
 use Rattle.mot_journal.specs.declared.record.Record.{Record}
 use Rattle.mot_journal.specs.declared.record.Action.{Action}
 use Rattle.mot_journal.specs.declared.record.Action.TheVariants.{Nothing, Set, Remove}
 use Rattle.mot_journal.specs.Catalogue.{Placed, catalogue_of, put_in_place, in_place_or_appended}
+use Rattle.mot_journal.specs.Catalogue.{are_all_apart}
 use Rattle.mot_repository.specs.Gap.{is_free}
 
 -- there is an extent for each of these objects, of the length that it gives
@@ -19,6 +21,16 @@ HaveLengths objects extents =
 abbrev pub are_extents_apart : List (ℕ × ℕ) → Bool
 are_extents_apart [] = true
 are_extents_apart (e ∷ rest) = is_free rest e.1 e.0 && are_extents_apart rest
+
+-- all ids differ, and no two bodies meet
+abbrev pub are_consistent : List Placed → Bool
+are_consistent objects =
+    is_distinct (map (λ (p : Placed). p.object.tid) objects) && are_all_apart objects
+
+-- these objects, where they are consistent
+abbrev pub if_consistent : Option (List Placed) → Option (List Placed)
+if_consistent None = None
+if_consistent (Some objects) = if are_consistent objects then Some objects else None
 
 -- these objects, if an action was done
 abbrev pub if_done : Bool → List Placed → Option (List Placed)

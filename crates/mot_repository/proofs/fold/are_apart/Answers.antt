@@ -1,23 +1,22 @@
-use Rattle.std.proofs.Common.{◌≡◌, ℕ, true, false, not, ◌&&◌, List, get_or, sym, ap, ◌∙◌}
-use Rattle.mot_repository.specs.Gap.{is_free}
-use Rattle.mot_repository.specs.Inner.Fold.{are_extents_apart}
-use Rattle.mot_repository.proofs.Listing.{others, apart_step, none_or_some}
+use Rattle.std.proofs.Common.{◌≡◌, Bool, true, false, not, Option, Some, None, refl, sym, ap, ◌∙◌}
+use Rattle.std.specs.Prelude.{is_some, is_none}
+use Rattle.mot_repository.proofs.Apart.{met_before, met_behind}
+use Rattle.mot_repository.proofs.Listing.{none_or_some}
 use Rattle.mot_repository.proofs.fold.are_apart.Goals as goal
+
+none-where : {X : Type 0} (r : Option X) (t : Bool) → is_some r ≡ not t → t ≡ is_none r
+none-where None true e = refl
+none-where None false e = cc
+none-where (Some x) true e = cc
+none-where (Some x) false e = refl
 
 pub returns-then-is_some : goal.returns-then-is_some
 returns-then-is_some c =
-    let rest : List (ℕ × ℕ) = c.loop-rest.rest.now in
-    let start : c.from.result ≡ (get_or rest 0 (0, 0)).0 = c.from.ensures in
-    let met : is_free (others rest) (get_or rest 0 (0, 0)).1 (get_or rest 0 (0, 0)).0 ≡ false =
-    ap (is_free (others rest) (get_or rest 0 (0, 0)).1) (sym start) ∙ sym c.end_of_met.ensures.found
-    ∙ none_or_some c.end_of_met.result ∙ ap not (sym c.is_some.ensures ∙ c.if-is_some.true) in
-    sym (c.loop-rest.invariant ∙ apart_step rest c.in-len1-up.len_at_least ∙ ap (λ t. t && are_extents_apart (others rest)) met)
+    met_before c.args.extents.now c.args.place c.requires.within c.requires.others c.from-start.result c.from-start.ensures
+    (sym c.end_of_met.ensures.found ∙ none_or_some c.end_of_met.result ∙ ap not (sym c.is_some.ensures ∙ c.if-is_some.true))
 
-pub loop-rest-preserved : goal.loop-rest-preserved
-loop-rest-preserved c =
-    let rest : List (ℕ × ℕ) = c.loop-rest.rest.now in
-    let start : c.from.result ≡ (get_or rest 0 (0, 0)).0 = c.from.ensures in
-    let met : is_free (others rest) (get_or rest 0 (0, 0)).1 (get_or rest 0 (0, 0)).0 ≡ true =
-    ap (is_free (others rest) (get_or rest 0 (0, 0)).1) (sym start) ∙ sym c.end_of_met.ensures.found
-    ∙ none_or_some c.end_of_met.result ∙ ap not (sym c.is_some.ensures ∙ c.if-is_some.false) in
-    c.loop-rest.invariant ∙ apart_step rest c.in-len1-up.len_at_least ∙ ap (λ t. t && are_extents_apart (others rest)) met
+pub returns : goal.returns
+returns c =
+    none-where c.end_of_met-2.result c.is_none.result c.is_none.ensures ∙ c.end_of_met-2.ensures.found
+    ∙ met_behind c.args.extents.now c.args.place c.requires.within c.requires.others c.from-start.result c.from-start.ensures
+    (sym c.end_of_met.ensures.found ∙ none_or_some c.end_of_met.result ∙ ap not (sym c.is_some.ensures ∙ c.if-is_some.false))

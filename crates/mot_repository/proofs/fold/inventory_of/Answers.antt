@@ -7,6 +7,7 @@ use Rattle.mot_journal.specs.declared.record.Record.{Record}
 use Rattle.mot_journal.specs.Catalogue.{Catalogue}
 use Rattle.mot_repository.specs.Extents.{catalogue_with}
 use Rattle.mot_repository.specs.Inner.Fold.{HasShortIds}
+use Rattle.mot_repository.proofs.Folding.{is_step}
 use Rattle.mot_repository.proofs.FoldSteps.{IsNext, is_next, fold_goes_on, fold_breaks, fold_ends}
 use Rattle.mot_repository.proofs.fold.inventory_of.Goals as goal
 
@@ -38,6 +39,7 @@ loop-entry-preserved c =
       slot_is = omega (arith, count, length_push c.loop-entry.yielded c.in-Some.entry);
       room = c.in-Some-inventory_after.ensures.room;
       room_of_extents = c.in-Some-inventory_after.ensures.room_of_extents;
+      consistent = (is_step c.args.geometry.now.objects now c.in-Some.entry then c.in-Some-inventory_after.ensures.after).consistent;
       short = All-push HasShortIds c.loop-entry.yielded c.in-Some.entry c.loop-entry.invariant.short c.know_ids.ensures;
       folds = c.loop-entry.invariant.folds
           ∙ fold_goes_on c.args.geometry.now.objects c.loop-entry.slot now records c.in-Some.entry next then c.in-Some-inventory_after.ensures.after;
