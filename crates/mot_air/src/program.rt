@@ -1,3 +1,4 @@
+//! The commands on air, over any streams and files.
 ghost use Rattle.std.specs.Prelude.{◌≡◌, ◌≢◌, ◌⊎◌, ◌↔◌, Option, map, true, false, IfErr, IfOk, IsTrue};
 ghost use Rattle.std.specs.Prelude.{None, Ok, Some, codes};
 ghost use Rattle.std.specs.Io.KnownBytes.{Keeps};

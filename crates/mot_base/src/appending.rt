@@ -1,3 +1,4 @@
+//! Adding bytes to a vector that has the room.
 ghost use Rattle.std.specs.Prelude.{◌≡◌, ◌+◌, ◌≤◌, ◌++◌, length, vec_len, vec_capacity};
 ghost use Rattle.std.specs.Int.{to_be_bytes, w16};
 ghost use Rattle.arrayvec.specs.ArrayVec.{array_vec_len};

@@ -1,3 +1,4 @@
+//! The sizes that are chosen once for a disk.
 ghost use Rattle.std.specs.Prelude.{◌≡◌, IsTrue, ◌↔◌};
 ghost use Rattle.mot_base.specs.PacketLength.{room_of};
 

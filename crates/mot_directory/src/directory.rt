@@ -1,3 +1,4 @@
+//! The bytes of a carousel's directory.
 ghost use Rattle.std.specs.Prelude.{◌≡◌, ℕ, ◌+◌, ◌^◌, ◌<◌, ◌≤◌, List, ◌++◌, length, map, vec_len};
 ghost use Rattle.std.specs.Prelude.{vec_capacity, All, Some, IfOk, IfErr, OnOk};
 ghost use Rattle.mot_base.specs.Bytes.{AreBytes};

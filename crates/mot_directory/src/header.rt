@@ -1,3 +1,4 @@
+//! The bytes of an object's header.
 ghost use Rattle.std.specs.Prelude.{◌≡◌, ℕ, ◌+◌, ◌^◌, ◌<◌, ◌≤◌, List, ◌∷◌, ◌++◌, length, take, map};
 ghost use Rattle.std.specs.Prelude.{flat_map, vec_len, vec_capacity, option_to_list, All, Some};
 ghost use Rattle.std.specs.Prelude.{IfOk, IfErr, OnOk};

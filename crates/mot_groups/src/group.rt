@@ -1,3 +1,4 @@
+//! The data groups of an entity.
 ghost use Rattle.std.specs.Prelude.{◌≡◌, ℕ, ◌+◌, ◌^◌, ◌<◌, ◌≤◌, List, ◌++◌, length, vec_len};
 ghost use Rattle.std.specs.Prelude.{vec_capacity, Some};
 ghost use Rattle.std.specs.Int.{div_ceil};

@@ -1,3 +1,4 @@
+//! The bytes of a segment.
 ghost use Rattle.std.specs.Prelude.{◌≡◌, ℕ, ◌≤◌, ◌<◌, List, length};
 ghost use Rattle.mot_base.specs.declared.numbers.TheConstants.{MAX_SEGMENT};
 

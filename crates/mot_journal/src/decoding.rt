@@ -1,4 +1,4 @@
-// The record of a slot, as it is read.
+//! The record of a slot, as it is read.
 ghost use Rattle.std.specs.Prelude.{◌≡◌, ◌+◌, ◌-◌, ◌^◌, ◌<◌, ◌≤◌, length, drop, Some, IfOk};
 ghost use Rattle.mot_carousel.specs.declared.mime.TheConstants.{MAX_MIME};
 ghost use Rattle.mot_journal.specs.Slot.{slot_size, read_slot, longest_name};
@@ -41,7 +41,7 @@ pub fn read_record(
     }))
 }
 
-// The number in so many bytes from a place on, the highest first.
+/// The number in so many bytes from a place on, the highest first.
 pub fn number(bytes: &[u8], at: usize, width: usize) -> u32
     requires within { at + width ≤ length bytes.now }
     requires some { 1 ≤ width }
@@ -52,7 +52,7 @@ pub fn number(bytes: &[u8], at: usize, width: usize) -> u32
     BigEndian::read_uint(&bytes[at..at + width], width) as u32
 }
 
-// The action of a slot; none where a field of it has a fault.
+/// The action of a slot; none where a field of it has a fault.
 fn read_action(
     alloc: Global,
     geometry: &Geometry,
@@ -73,7 +73,7 @@ fn read_action(
     }
 }
 
-// The action of a slot that sets an object; none where a field of it has a fault.
+/// The action of a slot that sets an object; none where a field of it has a fault.
 fn read_set(
     alloc: Global,
     geometry: &Geometry,
@@ -119,7 +119,7 @@ fn read_set(
     }))
 }
 
-// These bytes as a name; none where they break its rule.
+/// These bytes as a name; none where they break its rule.
 fn read_name(alloc: Global, layout: Layout, bytes: &[u8]) -> Result<Option<Name>, AllocError>
     ensures { IfOk result (λ name. name ≡ name_from (longest_name layout) bytes.now) }
 {
@@ -132,8 +132,8 @@ fn read_name(alloc: Global, layout: Layout, bytes: &[u8]) -> Result<Option<Name>
     }
 }
 
-// The MIME type whose length is the first byte, or that there is none; none where it breaks its
-// rule.
+/// The MIME type whose length is the first byte, or that there is none; none where it breaks its
+/// rule.
 fn read_mime(alloc: Global, bytes: &[u8]) -> Result<Option<Option<Mime>>, AllocError>
     requires { 1 + MAX_MIME < length bytes.now }
     ensures { IfOk result (λ mime. mime ≡ mime_from bytes.now) }

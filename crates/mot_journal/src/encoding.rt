@@ -1,4 +1,4 @@
-// The slot of a record, as it is written.
+//! The slot of a record, as it is written.
 ghost use Rattle.std.specs.Prelude.{◌≡◌, ◌+◌, ◌-◌, ◌^◌, ◌<◌, ◌≤◌, ◌++◌, length, replicate, true};
 ghost use Rattle.std.specs.Prelude.{slice_get};
 ghost use Rattle.std.specs.Int.{bytes_high_first};
@@ -57,7 +57,7 @@ pub fn slot_or_zeros(layout: Layout, given: &[Record], number: usize) -> ArrayVe
     }
 }
 
-// The kind of an action in layout 1.
+/// The kind of an action in layout 1.
 fn kind(action: &Action) -> u8
     ensures value { result ≡ kind_of action.now }
     ensures few { result ≤ 3 }
@@ -69,7 +69,7 @@ fn kind(action: &Action) -> u8
     }
 }
 
-// Appends a number in so many bytes, the highest first.
+/// Appends a number in so many bytes, the highest first.
 fn put_number(slot: &mut ArrayVec<u8, 512>, number: u32, width: usize)
     requires some { 1 ≤ width }
     requires narrow { width ≤ 4 }
@@ -82,7 +82,7 @@ fn put_number(slot: &mut ArrayVec<u8, 512>, number: u32, width: usize)
     array_append(slot, &bytes[..width]);
 }
 
-// Appends the bytes of the action, which come after its kind and the numbers of the carousel.
+/// Appends the bytes of the action, which come after its kind and the numbers of the carousel.
 fn put_action(slot: &mut ArrayVec<u8, 512>, action: &Action)
     requires { array_vec_len slot.old ≤ 100 }
     ensures written { slot.new.items ≡ slot.old.items ++ action_bytes action.now }
@@ -113,7 +113,7 @@ fn put_action(slot: &mut ArrayVec<u8, 512>, action: &Action)
     }
 }
 
-// Appends the length of the MIME type, 0 for none, and its text.
+/// Appends the length of the MIME type, 0 for none, and its text.
 fn put_mime(slot: &mut ArrayVec<u8, 512>, mime: &Option<Mime>)
     requires { array_vec_len slot.old ≤ 400 }
     ensures written { slot.new.items ≡ slot.old.items ++ mime_bytes mime.now }
@@ -128,7 +128,7 @@ fn put_mime(slot: &mut ArrayVec<u8, 512>, mime: &Option<Mime>)
     }
 }
 
-// Appends zeros up to this length.
+/// Appends zeros up to this length.
 fn fill(slot: &mut ArrayVec<u8, 512>, size: usize)
     requires { size ≤ 512 }
     ensures { slot.new.items ≡ slot.old.items ++ replicate (size - array_vec_len slot.old) 0 }

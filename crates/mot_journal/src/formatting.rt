@@ -141,7 +141,7 @@ pub fn format_from<D: Disk>(
     Ok(())
 }
 
-// Syncs, and tells whether the disk has the magic.
+/// Syncs, and tells whether the disk has the magic.
 fn reads_magic<D: Disk>(disk: &mut D) -> Result<bool, DiskFault>
     requires { 8 ≤ (D.state disk.old).len }
     ensures keeps { KeepsLength (D.state disk.old) (D.state disk.new) }
@@ -158,7 +158,7 @@ fn reads_magic<D: Disk>(disk: &mut D) -> Result<bool, DiskFault>
     Ok(head == MAGIC)
 }
 
-// Writes all but the magic, and then the magic between two syncs.
+/// Writes all but the magic, and then the magic between two syncs.
 fn make<D: Disk>(disk: &mut D, geometry: &Geometry, directory: TransportId) -> Result<(), DiskFault>
     requires valid { IsValid geometry.now }
     requires long_enough { length_of geometry.now ≤ (D.state disk.old).len }
@@ -177,7 +177,7 @@ fn make<D: Disk>(disk: &mut D, geometry: &Geometry, directory: TransportId) -> R
     Ok(())
 }
 
-// Writes all from the byte behind the magic up to the data area.
+/// Writes all from the byte behind the magic up to the data area.
 fn fill<D: Disk>(disk: &mut D, geometry: &Geometry, directory: TransportId) -> Result<(), DiskFault>
     requires valid { IsValid geometry.now }
     requires long_enough { length_of geometry.now ≤ (D.state disk.old).len }
@@ -202,7 +202,7 @@ fn fill<D: Disk>(disk: &mut D, geometry: &Geometry, directory: TransportId) -> R
     Ok(())
 }
 
-// The 56 bytes between the magic and the halves: half 0, and the geometry.
+/// The 56 bytes between the magic and the halves: half 0, and the geometry.
 fn head_behind_magic(geometry: &Geometry) -> [u8; 56]
     ensures value { result ≡ behind_magic geometry.now }
     ensures len { length result ≡ 56 }

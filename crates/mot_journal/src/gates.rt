@@ -45,7 +45,7 @@ pub fn are_gates_clean<D: Disk>(
     Ok(true)
 }
 
-// Whether the gate at this place is open.
+/// Whether the gate at this place is open.
 fn is_gate_open<D: Disk>(disk: &mut D, place: u64) -> Result<bool, DiskFault>
     requires { place < (D.state disk.old).len }
     ensures keeps { KeepsLength (D.state disk.old) (D.state disk.new) }

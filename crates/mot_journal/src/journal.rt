@@ -1,3 +1,4 @@
+//! The journal of a disk that was loaded.
 ghost use Rattle.std.specs.Prelude.{◌≡◌, ◌≤◌, ◌<◌, ◌+◌, ◌^◌, ◌++◌, ℕ, List, [], ◌∷◌, length, true};
 ghost use Rattle.std.specs.Prelude.{◌⊎◌, Ok, OnOk, OnErr, MatchResult};
 ghost use Rattle.std.specs.Prelude.{◌↔◌, IfOk, IfErr, IsErr, IsTrue, IsFalse, All};
@@ -29,7 +30,7 @@ use mot_base::Refusal;
 use std::alloc::Global;
 use std::marker::Model;
 
-// Where the byte is that selects a half.
+/// Where the byte is that selects a half.
 const SELECTOR: u64 = 8;
 
 /// Where the records of a disk stand: in this half, in its first slots.

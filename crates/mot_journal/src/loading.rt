@@ -1,4 +1,4 @@
-// The records of a half, as they are read.
+//! The records of a half, as they are read.
 ghost use Rattle.std.specs.Prelude.{◌≡◌, ◌<◌, ◌≤◌, ◌+◌, ◌*◌, ◌++◌, ℕ, List, length, take, drop};
 ghost use Rattle.std.specs.Prelude.{true, IfOk, IfErr, All};
 ghost use Rattle.mot_base.specs.Geometry.{half_size};
@@ -15,7 +15,7 @@ use crate::{Geometry, Layout, Record};
 use mot_base::Refusal;
 use std::alloc::Global;
 
-// The geometry that the first 64 bytes of a disk of this length tell.
+/// The geometry that the first 64 bytes of a disk of this length tell.
 pub fn geometry_of_head(head: &[u8], len: u64) -> Option<Geometry>
     requires { length head.now ≡ 64 }
     ensures { (rest : List ℕ) → 64 + length rest ≡ len → result ≡ geometry_of (head.now ++ rest) }
@@ -39,14 +39,14 @@ pub fn geometry_of_head(head: &[u8], len: u64) -> Option<Geometry>
     Some(geometry)
 }
 
-// Whether each number of a geometry is in its range.
+/// Whether each number of a geometry is in its range.
 fn is_valid(geometry: &Geometry) -> bool
     ensures { result ≡ valid geometry.now }
 {
     geometry.is_valid()
 }
 
-// The layout of a half.
+/// The layout of a half.
 pub fn layout_of_half(half: &[u8]) -> Layout
     requires { 2 ≤ length half.now }
     ensures { result ≡ layout_of half.now }
@@ -58,7 +58,7 @@ pub fn layout_of_half(half: &[u8]) -> Layout
     }
 }
 
-// A slot of a half.
+/// A slot of a half.
 fn slot_at<'a>(geometry: &Geometry, layout: Layout, half: &'a [u8], place: usize) -> &'a [u8]
     requires whole { length half.now ≡ half_size geometry.now }
     requires within { place < slot_count layout geometry.now }

@@ -1,3 +1,4 @@
+//! The line in hand, of which a part was read.
 ghost use Rattle.std.specs.Prelude.{◌≡◌, ℕ, ◌↔◌, ◌++◌, List, [], IfOk, IsTrue};
 
 use crate::{Line, MAX_LINE, parse_line};

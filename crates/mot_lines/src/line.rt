@@ -1,3 +1,4 @@
+//! A line of the input, read.
 ghost use Rattle.std.specs.Prelude.{◌≡◌, ◌∷◌};
 ghost use Rattle.mot_lines.specs.Line.{raw_of, put_of, replace_of, withdraw_of, period_of, list_of};
 ghost use Rattle.mot_lines.specs.Line.{next_of, turn_of, request_of, line_of};

@@ -1,3 +1,4 @@
+//! Where a line ends.
 ghost use Rattle.std.specs.Prelude.{◌≡◌, ◌∷◌, ◌++◌, IfSome, IfNone};
 ghost use Rattle.mot_lines.specs.Lines.{HasNoLineEnd};
 

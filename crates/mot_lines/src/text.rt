@@ -1,3 +1,4 @@
+//! The lines of replies.
 ghost use Rattle.std.specs.Prelude.{◌≡◌, ℕ, ◌+◌, ◌*◌, ◌<◌, ◌≤◌, List, Option, ◌++◌, length};
 ghost use Rattle.std.specs.Prelude.{slice_index};
 ghost use Rattle.arrayvec.specs.ArrayVec.{array_vec_len};

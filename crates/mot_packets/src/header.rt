@@ -1,3 +1,4 @@
+//! The header of a packet.
 ghost use Rattle.std.specs.Prelude.{◌≡◌, ◌<◌, ◌≤◌};
 ghost use Rattle.mot_base.specs.PacketLength.{code_of};
 ghost use Rattle.mot_packets.specs.Written.{header_word};

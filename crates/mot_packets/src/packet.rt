@@ -1,3 +1,4 @@
+//! A packet, and the packets of a data group.
 ghost use Rattle.std.specs.Prelude.{◌≡◌, ℕ, ◌+◌, ◌<◌, ◌≤◌, List, [], ◌∷◌, ◌++◌, length, replicate};
 ghost use Rattle.std.specs.Prelude.{Some, true};
 ghost use Rattle.std.specs.Int.{div_ceil};

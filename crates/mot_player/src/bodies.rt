@@ -1,3 +1,4 @@
+//! Where a player has its bodies from.
 ghost use Rattle.std.specs.Prelude.{◌≡◌, ◌+◌, ◌<◌, ◌≤◌, List, ℕ, length, map, refl, slice_range};
 ghost use Rattle.std.specs.Prelude.{OnOk, IfErr};
 ghost use Rattle.mot_base.specs.declared.refusal.Refusal.TheVariants.{DeviceFault};

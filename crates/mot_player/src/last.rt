@@ -1,3 +1,4 @@
+//! Beginning a data group behind the last one of its type.
 ghost use Rattle.std.specs.Prelude.{◌≡◌, ◌+◌, ◌^◌, ◌<◌, ◌≤◌, [], ◌++◌, length, vec_len};
 ghost use Rattle.std.specs.Prelude.{vec_capacity, Some};
 ghost use Rattle.mot_base.specs.GroupKind.{kind_number};

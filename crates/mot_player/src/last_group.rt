@@ -1,3 +1,4 @@
+//! The last data group of a type.
 ghost use Rattle.std.specs.Prelude.{◌≡◌, ◌<◌, ◌≤◌, length, vec_len, vec_capacity};
 
 use std::alloc::{AllocError, Global};

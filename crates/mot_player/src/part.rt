@@ -1,3 +1,4 @@
+//! Which part of a turn comes next.
 ghost use Rattle.std.specs.Prelude.{◌≡◌, ℕ, ◌+◌, ◌*◌, ◌^◌, ◌<◌, ◌≤◌, ◌==◌, List, length};
 ghost use Rattle.std.specs.Prelude.{if◌then◌else◌};
 ghost use Rattle.mot_base.specs.declared.numbers.TheConstants.{MAX_SEGMENT};

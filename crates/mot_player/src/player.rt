@@ -1,3 +1,4 @@
+//! The player of a carousel.
 ghost use Rattle.std.specs.Prelude.{◌≡◌, ◌<◌, ℕ, List, false, length, map, Some, None, IfOk};
 ghost use Rattle.std.specs.Prelude.{IfErr, OnOk, OnErr};
 ghost use Rattle.mot_base.specs.PacketLength.{room_of};

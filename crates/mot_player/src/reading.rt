@@ -1,3 +1,4 @@
+//! Reading the bytes of an entity.
 ghost use Rattle.std.specs.Prelude.{◌≡◌, ◌+◌, ◌<◌, ◌≤◌, length, map, take, drop, vec_len};
 ghost use Rattle.std.specs.Prelude.{slice_range, OnOk, OnErr, IfErr};
 ghost use Rattle.mot_base.specs.declared.refusal.Refusal.TheVariants.{DeviceFault};

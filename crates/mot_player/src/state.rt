@@ -1,3 +1,4 @@
+//! Where a player stands, and its buffers.
 ghost use Rattle.std.specs.Prelude.{◌≡◌, ℕ, ◌+◌, ◌^◌, ◌<◌, ◌≤◌, List, length, map, take, drop};
 ghost use Rattle.std.specs.Prelude.{vec_len, Some, IfErr, OnOk, OnErr};
 ghost use Rattle.mot_base.specs.declared.refusal.Refusal.TheVariants.{DeviceFault};

@@ -1,3 +1,4 @@
+//! What a turn plays.
 ghost use Rattle.std.specs.Prelude.{◌≡◌, ℕ, ◌+◌, ◌<◌, ◌≤◌, List, length, map, vec_len, IfOk, IfErr};
 ghost use Rattle.mot_base.specs.declared.refusal.Refusal.TheVariants.{OutOfMemory};
 ghost use Rattle.mot_carousel.specs.declared.body.TheConstants.{MAX_BODY};

@@ -1,3 +1,4 @@
+//! The numbers of the command line.
 ghost use Rattle.std.specs.Prelude.{ℕ, ◌≡◌, IfNone, IfSome, Option};
 ghost use Rattle.clap.specs.Words.{first_of, found_of, rows_of};
 ghost use Rattle.mot_base.specs.declared.geometry.Geometry.{Geometry};

@@ -1,3 +1,4 @@
+//! The program, over any streams and files.
 ghost use Rattle.std.specs.Prelude.{◌≡◌, ◌⊎◌, map, IfErr, OnOk, Some};
 ghost use Rattle.std.specs.Io.KnownBytes.{Keeps};
 ghost use Rattle.mot_base.specs.declared.refusal.Refusal.{Refusal};

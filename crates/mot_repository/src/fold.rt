@@ -1,4 +1,4 @@
-// The records of a journal, folded into the carousel that is kept in memory.
+//! The records of a journal, folded into the carousel that is kept in memory.
 ghost use Rattle.mot_base.specs.declared.geometry.TheConstants.{MAX_OBJECTS};
 ghost use Rattle.std.specs.Prelude.{◌≡◌, ◌≤◌, ◌<◌, ◌∷◌, map, length, vec_len, vec_capacity};
 ghost use Rattle.std.specs.Prelude.{All, Ok, Some, None, IfOk, IfErr, IfSome, MatchOption};

@@ -1,4 +1,4 @@
-// Where in the data area a new body goes.
+//! Where in the data area a new body goes.
 ghost use Rattle.std.specs.Prelude.{◌≡◌, ◌<◌, ◌≤◌, ◌^◌, ℕ, true, is_none, IfSome};
 ghost use Rattle.mot_repository.specs.Gap.{IsLongestGap, is_free, least_gap};
 

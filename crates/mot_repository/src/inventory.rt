@@ -1,4 +1,4 @@
-// The carousel that is kept in memory, and where its bodies lie.
+//! The carousel that is kept in memory, and where its bodies lie.
 ghost use Rattle.mot_repository.specs.Extents.{ArePaired};
 
 use mot_carousel::Carousel;

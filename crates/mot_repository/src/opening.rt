@@ -1,4 +1,4 @@
-// A disk opened: its records folded into a carousel, whose bodies stay where they lie.
+//! A disk opened: its records folded into a carousel, whose bodies stay where they lie.
 ghost use Rattle.std.specs.Prelude.{◌≡◌, ◌≤◌, ◌+◌, ◌⊎◌, false, IfOk, IfErr, IsFalse, MatchResult};
 ghost use Rattle.disk_store.specs.Disk.{KeepsLength, Costs, IsStill, IsUnchanged};
 ghost use Rattle.mot_base.specs.declared.refusal.Refusal.TheVariants.{DeviceFault};

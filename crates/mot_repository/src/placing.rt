@@ -1,4 +1,4 @@
-// Where the bodies lie after a command.
+//! Where the bodies lie after a command.
 ghost use Rattle.std.specs.Prelude.{◌≡◌, IfOk};
 ghost use Rattle.mot_repository.specs.Extents.{catalogue_with};
 ghost use Rattle.mot_repository.specs.Inner.Planned.{start_of};

@@ -1,3 +1,4 @@
+//! A command for which all memory was taken, and nothing was written.
 ghost use Rattle.std.specs.Prelude.{◌≡◌, ◌≤◌, ◌+◌, ◌↔◌, true, IsTrue, IsFalse, IfOk, IfErr};
 ghost use Rattle.std.specs.Prelude.{OnOk};
 ghost use Rattle.mot_base.specs.Geometry as Sizes;

@@ -1,3 +1,4 @@
+//! The records of an inventory, and of a change.
 ghost use Rattle.std.specs.Prelude.{◌≡◌, IfOk};
 ghost use Rattle.mot_journal.specs.declared.record.Action.TheVariants.{Set};
 ghost use Rattle.mot_repository.specs.Extents.{catalogue_with};

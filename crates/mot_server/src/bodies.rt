@@ -1,4 +1,4 @@
-// The bodies that a repository keeps on its disk, for the player to read.
+//! The bodies that a repository keeps on its disk, for the player to read.
 ghost use Rattle.mot_server.specs.Inner.Bodies.{bodies_on, HasRead};
 ghost use Rattle.mot_server.specs.Inner.Unread.{unread};
 

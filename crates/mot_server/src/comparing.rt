@@ -1,4 +1,4 @@
-// Whether a body on the disk has these bytes.
+//! Whether a body on the disk has these bytes.
 ghost use Rattle.std.specs.Prelude.{◌≡◌, ◌<◌, ◌≤◌, ◌↔◌, length, IfOk, IfErr, IsTrue, OnErr, OnOk};
 ghost use Rattle.disk_store.specs.Disk.{IsUnchanged, KeepsLength};
 ghost use Rattle.disk_store.specs.Failures.{Rises};

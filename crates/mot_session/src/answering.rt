@@ -1,3 +1,4 @@
+//! What the answer to a line is.
 ghost use Rattle.std.specs.Prelude.{◌≡◌, ◌≤◌, [], Ok, IsTrue, IsFalse};
 ghost use Rattle.disk_store.specs.Disk.{IsUnchanged, KeepsLength, Throughout};
 ghost use Rattle.mot_journal.specs.Image.{Standing};

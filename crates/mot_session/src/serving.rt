@@ -1,3 +1,4 @@
+//! Serving the lines of an input.
 ghost use Rattle.std.specs.Prelude.{◌≡◌, ℕ, ◌+◌, ◌-◌, ◌^◌, ◌≤◌, ◌<◌, ◌⊎◌, Option, List, ◌++◌};
 ghost use Rattle.std.specs.Prelude.{length, OnOk, OnErr, None, Some, IsTrue};
 ghost use Rattle.std.specs.Io.KnownBytes.{Appends, Keeps, IsAtEnd};

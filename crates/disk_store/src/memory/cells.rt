@@ -1,5 +1,5 @@
-// The bytes of a disk in memory: what a read gives, which positions are loose, and what the last
-// sync left.
+//! The bytes of a disk in memory: what a read gives, which positions are loose, and what the last
+//! sync left.
 ghost use Rattle.std.specs.Prelude.{◌≡◌, ◌+◌, ◌<◌, ◌≤◌, length, false, replicate, IfSome, All};
 ghost use Rattle.disk_store.specs.Content.{at_start, after_write, after_touch, after_sync, IsCrash};
 ghost use Rattle.disk_store.specs.Content.{Content, after_overwrite, after_mark};

@@ -1,4 +1,4 @@
-// Which calls of a disk in memory fail, and how many have failed.
+//! Which calls of a disk in memory fail, and how many have failed.
 ghost use Rattle.std.specs.Prelude.{◌≡◌, ◌↔◌, ℕ, ◌≤◌, ◌<◌, ◌+◌, IsTrue, if◌then◌else◌};
 ghost use Rattle.std.specs.Bool.{OnFalse};
 ghost use Rattle.disk_store.specs.Failures.{Rises, most_failures};

@@ -1,3 +1,4 @@
+//! The words of a line that describe an object.
 ghost use Rattle.std.specs.Prelude.{◌≡◌, ℕ, List};
 ghost use Rattle.mot_lines.specs.Line.{description_of};
 ghost use Rattle.mot_lines.specs.Inner.Words.{OrOutOfMemory};

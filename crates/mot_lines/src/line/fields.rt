@@ -1,3 +1,4 @@
+//! The words of a line, one by one.
 ghost use Rattle.std.specs.Prelude.{◌≡◌};
 ghost use Rattle.hex.specs.Hex.{decode_of};
 ghost use Rattle.mot_lines.specs.Fields.{kind_in, tid_in, segment_in, name_in, content_in, mime_in};

@@ -1,3 +1,4 @@
+//! What words and numbers are.
 ghost use Rattle.std.specs.Prelude.{◌≡◌, ◌∷◌, bytes_eq};
 ghost use Rattle.mot_lines.specs.Words.{words_of, number_of_word};
 ghost use Rattle.mot_lines.specs.Inner.Words.{words_after, IsOne, AreThree, AreFive};

@@ -1,3 +1,4 @@
+//! The packets of a `raw` line.
 ghost use Rattle.std.specs.Prelude.{◌≡◌, IfOk};
 ghost use Rattle.mot_groups.specs.Group.{bytes_of_group};
 ghost use Rattle.mot_session.specs.Raw.{raw_group};

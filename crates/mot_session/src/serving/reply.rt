@@ -1,3 +1,4 @@
+//! Answering one line.
 ghost use Rattle.std.specs.Prelude.{◌≡◌, ◌<◌, ℕ, List, Result, Ok, Some, false, IfOk, OnOk, OnErr};
 ghost use Rattle.std.specs.Prelude.{IsFalse};
 ghost use Rattle.std.specs.List.{flat_map};

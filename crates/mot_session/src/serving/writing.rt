@@ -1,3 +1,4 @@
+//! Writing replies.
 ghost use Rattle.mot_session.specs.Inner.Writes.{Writes};
 
 use std::io::Write;
