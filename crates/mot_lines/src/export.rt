@@ -1,3 +1,4 @@
+//! The law of the lines that rebuild a carousel.
 ghost use Rattle.mot_lines.specs.Export.{ExportsAskForTheirCommands};
 
 /// What holds of the lines that rebuild a carousel.
