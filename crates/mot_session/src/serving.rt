@@ -14,6 +14,7 @@ ghost use Rattle.mot_session.specs.Served.{ServedLine, StoppedLine, WritesFront}
 ghost use Rattle.mot_server.specs.Server.{ServerView};
 ghost use Rattle.mot_session.specs.State.{Leads, ServerState};
 
+mod reading;
 mod reply;
 mod writing;
 
@@ -21,6 +22,7 @@ use disk_store::Disk;
 use mot_base::Refusal;
 use mot_lines::{Hand, cut_at_line_end, parse_line};
 use mot_server::Server;
+pub use reading::answer_reading;
 use reply::{answer_line, respond};
 use std::alloc::Global;
 use std::io::{Read, Write};
