@@ -122,7 +122,7 @@ module _ (old new : RepositoryView) (before now : ℕ) where
   answers-unparsed text request asked wrong needs (anyhow.no_memory n same t) =
       anyhow.no_memory needs same t
 
-  answers-parsed : (text : List ℕ) (request asked : Result Line Refusal)
+  pub answers-parsed : (text : List ℕ) (request asked : Result Line Refusal)
       → IsParsed request asked → AnswersAnyhow old new before now request text
       → AnswersAnyhow old new before now asked text
   answers-parsed text request asked (inl e) a =

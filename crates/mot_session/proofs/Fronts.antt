@@ -1,6 +1,7 @@
 -- Some first bytes that were written.
 use Rattle.std.proofs.Common.{ℕ, List, [], ◌++◌, take, drop, Option, Result, Ok, Err, sym, ap, ◌∙◌}
 use Rattle.std.proofs.Common.{append_assoc, append-nil, take-append-drop}
+use Rattle.std.specs.Prelude.{OnOk}
 use Rattle.std.specs.Io.KnownBytes.{Appends, Keeps}
 use Rattle.std.proofs.KnownBytes.{Appends-trans, Appends-kept}
 use Rattle.mot_session.specs.declared.serving.writing.WriteFault.{WriteFault}
@@ -62,3 +63,9 @@ pub Writes-kept : {T : Type 0} (result : Result T WriteFault) (bytes : List ℕ)
 Writes-kept (Ok done) bytes old mid new h k = Appends-kept old mid new bytes h k
 Writes-kept (Err fault) bytes old mid new h k =
     WritesFront-all bytes old new (Appends-kept old mid new bytes h k)
+
+-- what was written, told of both ways out
+pub told : {T : Type 0} (result : Result T WriteFault) (bytes : List ℕ) (old new : Option (List ℕ))
+    → Writes result bytes old new → WritesFront bytes old new × OnOk result (Appends old new bytes)
+told (Ok done) bytes old new w = (WritesFront-all bytes old new w, w)
+told (Err fault) bytes old new w = (w, tt)

@@ -1,4 +1,7 @@
--- What holds of every raw reply.
+-- What holds of every raw reply; and, for the crates above, of answers on every disk.
+
+-- what a command is answered, and a line that was parsed, told of what is kept in memory
+pub use Rattle.mot_session.proofs.Anyhow.{anyhow-accepted, anyhow-refused, answers-parsed}
 use Rattle.std.proofs.Common.{◌≡◌, ℕ, ◌-◌, ◌<◌, ◌≤◌, List, [], ◌∷◌, length, Some, sym}
 use Rattle.std.proofs.Common.{ap, subst, inl, inr, arith}
 use Rattle.mot_base.specs.Geometry.{packet_room}

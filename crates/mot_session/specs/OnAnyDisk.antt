@@ -6,7 +6,8 @@ use Rattle.std.specs.List.{flat_map}
 use Rattle.disk_store.specs.Failures.{Rises}
 use Rattle.mot_base.specs.declared.group_kind.GroupKind.{GroupKind}
 use Rattle.mot_base.specs.declared.refusal.Refusal.{Refusal}
-use Rattle.mot_base.specs.declared.refusal.Refusal.TheVariants.{OutOfMemory, DeviceFault, Halted}
+use Rattle.mot_base.specs.declared.refusal.Refusal.TheVariants.{OutOfMemory, BadLine, DeviceFault}
+use Rattle.mot_base.specs.declared.refusal.Refusal.TheVariants.{Halted}
 use Rattle.mot_carousel.specs.declared.command.Command as command
 use Rattle.mot_carousel.specs.declared.command.Done.{Done}
 use Rattle.mot_lines.specs.declared.line.Line.{Line}
@@ -19,6 +20,15 @@ use Rattle.mot_repository.specs.Answers.{IsChanged, IsHalted, IsRefusal}
 use Rattle.mot_repository.specs.Repository.{RepositoryView}
 use Rattle.mot_session.specs.Raw.{raw_packets}
 use Rattle.mot_session.specs.Session.{NeedsCarousel}
+
+-- what a request asks for where a server is only read: no command, and no packets of the carousel
+abbrev pub read_only : Result Line Refusal → Result Line Refusal
+read_only (Err r) = Err r
+read_only (Ok (Command c)) = Err BadLine
+read_only (Ok asks.List) = Ok asks.List
+read_only (Ok (Raw kind tid body)) = Ok (Raw kind tid body)
+read_only (Ok (Next count)) = Err BadLine
+read_only (Ok Turn) = Err BadLine
 
 -- a packet that was played, and whether it ends the turn
 abbrev pub Shown : Type 0

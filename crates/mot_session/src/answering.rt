@@ -11,7 +11,7 @@ ghost use Rattle.mot_session.specs.State.{Leads};
 mod group;
 
 use disk_store::Disk;
-use group::group_of;
+pub(crate) use group::group_of;
 use mot_base::Refusal;
 use mot_carousel::{Command, Done};
 use mot_lines::Line;

@@ -15,6 +15,7 @@ ghost use Rattle.mot_session.specs.Served.{ServedLine, StoppedLine, WritesFront}
 ghost use Rattle.mot_server.specs.Server.{ServerView};
 ghost use Rattle.mot_session.specs.State.{Leads, ServerState};
 
+mod reading;
 mod reply;
 mod writing;
 
@@ -22,6 +23,7 @@ use disk_store::Disk;
 use mot_base::Refusal;
 use mot_lines::{Hand, cut_at_line_end, parse_line};
 use mot_server::Server;
+pub use reading::answer_reading;
 use reply::{answer_line, respond};
 use std::alloc::Global;
 use std::io::{Read, Write};

@@ -9,7 +9,7 @@ use mot_lines::SegmentBytes;
 use std::alloc::{AllocError, Global};
 
 /// The data group of one segment (EN 300 401, clause 5.3.3; EN 301 234).
-pub(super) fn group_of(
+pub(crate) fn group_of(
     alloc: Global,
     kind: GroupKind,
     tid: TransportId,

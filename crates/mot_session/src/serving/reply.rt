@@ -200,7 +200,10 @@ fn write_next_packet<W: Write, D: Disk>(
 }
 
 /// Writes the carousel's line, and then one for each object.
-fn write_carousel<W: Write>(writer: &mut W, carousel: &Carousel) -> Result<(), WriteFault>
+pub(super) fn write_carousel<W: Write>(
+    writer: &mut W,
+    carousel: &Carousel,
+) -> Result<(), WriteFault>
     ensures { Writes result (listing_text_beside carousel.now)
         (W.contents writer.old) (W.contents writer.new) }
 {
@@ -220,7 +223,7 @@ fn write_objects<W: Write>(writer: &mut W, objects: &[Object]) -> Result<(), Wri
 }
 
 /// Writes the packets of a group, a line each.
-fn write_packets<W: Write>(
+pub(super) fn write_packets<W: Write>(
     writer: &mut W,
     geometry: &Geometry,
     group: &[u8],

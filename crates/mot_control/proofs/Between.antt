@@ -1,0 +1,52 @@
+-- Updates one after the other.
+use Rattle.std.proofs.Common.{Bool, true, List, [], ◌++◌, Option, None, refl, sym}
+use Rattle.disk_store.specs.Disk.{State, IsHonestDisk}
+use Rattle.mot_base.specs.declared.refusal.Refusal.{Refusal}
+use Rattle.mot_carousel.specs.declared.command.Command.{Command}
+use Rattle.mot_control.proofs.Requests.{never}
+use Rattle.mot_feed.specs.Feeding.{IsUpdating}
+use Rattle.mot_journal.specs.Image.{Standing}
+use Rattle.mot_repository.specs.Repository.{Holds}
+use Rattle.mot_server.specs.Server.{ServerView}
+use Rattle.mot_update.specs.HasRun.{HasRun}
+use Rattle.mot_update.proofs.Runs.{has_read, join}
+use Rattle.mot_update.proofs.Still.{stays_same}
+
+module _ {D : Type 0} (state : D → State) where
+  -- commands that may come
+  pub updating_by : (old new : ServerView D) (s : Standing) (commands : List Command)
+      (marks : List Bool) (fault : Option Refusal)
+      → HasRun old new (state old.disk) (state new.disk) s commands marks fault
+      → IsUpdating old new (state old.disk) (state new.disk) s true fault
+  updating_by old new s commands marks fault run = record {
+    commands = commands;
+    marks = marks;
+    run = run;
+    waits = λ e. absurd (never (sym e));
+  }
+
+  pub updating_none : (server : ServerView D) (s : Standing) → IsHonestDisk (state server.disk)
+      → (state server.disk).IsHonest → Holds server.view s (state server.disk)
+      → IsUpdating server server (state server.disk) (state server.disk) s true None
+  updating_none server s sound honest holds = updating_by server server s [] [] None
+      (has_read server server (state server.disk) (state server.disk) s None sound refl refl
+      honest (stays_same (state server.disk)) holds).0
+
+  pub updating_on : {may : Bool} (old mid new : ServerView D) (s : Standing)
+      (fault : Option Refusal)
+      → IsUpdating old mid (state old.disk) (state mid.disk) s may None
+      → ((t : Standing) → Holds mid.view t (state mid.disk)
+      → IsUpdating mid new (state mid.disk) (state new.disk) t true fault)
+      → IsUpdating old new (state old.disk) (state new.disk) s true fault
+  updating_on old mid new s fault one then =
+      let two = then one.run.leaves.last (one.run.leaves.going refl) in
+      updating_by old new s (one.commands ++ two.commands) (one.marks ++ two.marks) fault
+      (join old mid new (state old.disk) (state mid.disk) (state new.disk) s one.commands
+      two.commands one.marks two.marks fault one.run two.run)
+
+  -- any commands may come where some may
+  pub updating_any : {may : Bool} (old new : ServerView D) (s : Standing) (fault : Option Refusal)
+      → IsUpdating old new (state old.disk) (state new.disk) s may fault
+      → IsUpdating old new (state old.disk) (state new.disk) s true fault
+  updating_any old new s fault one =
+      updating_by old new s one.commands one.marks fault one.run

@@ -1,0 +1,4 @@
+pub mod Between
+pub mod Commands
+pub mod Requests
+pub mod Taken

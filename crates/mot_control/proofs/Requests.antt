@@ -1,0 +1,140 @@
+-- What one request comes to.
+use Rattle.std.proofs.Common.{◌≡◌, inl, inr, ℕ, Bool, true, false, List, [], Option}
+use Rattle.std.proofs.Common.{None, Result, Ok, Err, refl, sym, ap, subst, ◌∙◌}
+use Rattle.std.specs.Prelude.{if◌then◌else◌}
+use Rattle.disk_store.specs.Disk.{State, IsHonestDisk}
+use Rattle.mot_base.specs.declared.refusal.Refusal.{Refusal}
+use Rattle.mot_base.specs.declared.refusal.Refusal.TheVariants.{OutOfMemory}
+use Rattle.mot_carousel.specs.declared.command.Command.{Command}
+use Rattle.mot_control.specs.Answering.{asked_here, is_want_of_memory, run_of}
+use Rattle.mot_control.specs.Inner.Request.{Answers, Tells}
+use Rattle.mot_lines.specs.Line.{IsParsed, NeedsMemory}
+use Rattle.mot_lines.specs.Text.{refusal_line}
+use Rattle.mot_lines.specs.declared.line.Line.{Line}
+use Rattle.mot_lines.specs.declared.line.Line.TheVariants as asks
+use Rattle.mot_repository.specs.Repository.{RepositoryView}
+use Rattle.mot_server.specs.Server.{ServerView}
+use Rattle.mot_session.specs.OnAnyDisk.{AnswersAnyhow, read_only}
+use Rattle.mot_session.specs.OnAnyDisk as anyhow
+use Rattle.mot_session.specs.Session.{NeedsCarousel}
+use Rattle.mot_session.specs.Stored.{command_in}
+use Rattle.mot_session.proofs.Laws.{answers-parsed}
+use Rattle.mot_control.proofs.Commands.{wants}
+use Rattle.mot_update.specs.HasRun.{HasRun}
+use Rattle.mot_update.proofs.Runs.{has_read}
+use Rattle.mot_update.proofs.Still.{stays_same}
+
+pub never : false ≡ true → ⊥
+never e = absurd (cc)
+
+-- ---- a request that is shown
+
+reads_none : (request : Result Line Refusal) → command_in (read_only request) ≡ []
+reads_none (Err refusal) = refl
+reads_none (Ok (asks.Command c)) = refl
+reads_none (Ok asks.List) = refl
+reads_none (Ok (asks.Raw kind tid body)) = refl
+reads_none (Ok (asks.Next count)) = refl
+reads_none (Ok asks.Turn) = refl
+
+none_either : (wanted : Bool) (commands : List Command) → commands ≡ []
+    → (if wanted then [] else commands) ≡ []
+none_either true commands none = refl
+none_either false commands none = none
+
+runs_none : (request : Result Line Refusal) (text : List ℕ) → run_of (read_only request) text ≡ []
+runs_none request text =
+    none_either (is_want_of_memory text) (command_in (read_only request)) (reads_none request)
+
+pub shown : {D : Type 0} (state : D → State) (server : ServerView D)
+    (request : Result Line Refusal) (was_told is_told : Bool) (written now : Option (List ℕ))
+    → ((state server.disk).IsHonest → IsHonestDisk (state server.disk))
+    → asked_here request ≡ read_only request
+    → ((text : List ℕ) × AnswersAnyhow server.view server.view (state server.disk).failures
+    (state server.disk).failures (read_only request) text
+    × Tells was_told is_told written now text)
+    → Answers state server server (asked_here request) None was_told is_told written now
+shown state server request was_told is_told written now sound same told =
+    subst (λ r. Answers state server server r None was_told is_told written now) (sym same)
+    (record {
+      text = told.0;
+      reply = told.1;
+      run = λ s holds honest. (
+        [],
+        subst (λ l. HasRun server server (state server.disk) (state server.disk) s l [] None)
+            (sym (runs_none request told.0))
+            (has_read server server (state server.disk) (state server.disk) s None (sound honest)
+            refl refl honest (stays_same (state server.disk)) holds).0,
+      );
+      log = told.2;
+    })
+
+-- ---- a request that was parsed
+
+needs_here : (request : Result Line Refusal) → NeedsMemory request
+    → NeedsMemory (asked_here request)
+needs_here (Err refusal) needs = tt
+needs_here (Ok (asks.Command c)) needs = tt
+needs_here (Ok asks.List) needs = absurd needs
+needs_here (Ok (asks.Raw kind tid body)) needs = tt
+needs_here (Ok (asks.Next count)) needs = tt
+needs_here (Ok asks.Turn) needs = tt
+
+parsed_here : (request asked : Result Line Refusal) → IsParsed request asked
+    → IsParsed (asked_here request) (asked_here asked)
+parsed_here request asked (inl e) = inl (ap asked_here e)
+parsed_here request asked (inr e) = inr (ap asked_here e.0, needs_here asked e.1)
+
+module _ (old new : RepositoryView) (before now : ℕ) where
+  -- the text of a request that memory was wanted for
+  unparsed_text : (text : List ℕ) (request : Result Line Refusal) → request ≡ Err OutOfMemory
+      → AnswersAnyhow old new before now request text → text ≡ refusal_line OutOfMemory
+  unparsed_text text request wrong (anyhow.no_request r e same t) =
+      let is : OutOfMemory ≡ r = cc in t ∙ ap refusal_line (sym is)
+  unparsed_text text request wrong (anyhow.accepted c done e going changed t) = absurd (cc)
+  unparsed_text text request wrong (anyhow.refused c r e why same t) = absurd (cc)
+  unparsed_text text request wrong (anyhow.failed c e going rises halts t) = absurd (cc)
+  unparsed_text text request wrong (anyhow.listed e going same t) = absurd (cc)
+  unparsed_text text request wrong (anyhow.raw kind tid body e same t) = absurd (cc)
+  unparsed_text text request wrong (anyhow.next count shown e going same n t) = absurd (cc)
+  unparsed_text text request wrong (anyhow.next_cut count shown e going same n rises t) =
+      absurd (cc)
+  unparsed_text text request wrong (anyhow.turn count shown last e going same ends t) =
+      absurd (cc)
+  unparsed_text text request wrong (anyhow.turn_cut count shown e going same ends rises t) =
+      absurd (cc)
+  unparsed_text text request wrong (anyhow.halted is n same t) =
+      absurd (subst NeedsCarousel wrong n)
+  unparsed_text text request wrong (anyhow.no_memory n same t) = t
+
+-- where memory was wanted no command was run, whatever was asked for
+same_run : (old new : RepositoryView) (before now : ℕ) (text : List ℕ)
+    (request asked : Result Line Refusal) → IsParsed request asked
+    → AnswersAnyhow old new before now request text → run_of request text ≡ run_of asked text
+same_run old new before now text request asked (inl e) reply = ap (λ r. run_of r text) e
+same_run old new before now text request asked (inr e) reply =
+    let is : is_want_of_memory text ≡ true =
+    ap is_want_of_memory (unparsed_text old new before now text request e.0 reply) ∙ wants in
+    ap (λ b. if b then [] else command_in request) is
+    ∙ sym (ap (λ b. if b then [] else command_in asked) is)
+
+pub parsed : {D : Type 0} (state : D → State) (old new : ServerView D)
+    (request asked : Result Line Refusal) (fault : Option Refusal) (was_told is_told : Bool)
+    (written now : Option (List ℕ)) → IsParsed request asked
+    → Answers state old new (asked_here request) fault was_told is_told written now
+    → Answers state old new (asked_here asked) fault was_told is_told written now
+parsed state old new request asked fault was_told is_told written now is a =
+    let here = parsed_here request asked is in
+    record {
+      text = a.text;
+      reply = answers-parsed old.view new.view (state old.disk).failures (state new.disk).failures
+          a.text (asked_here request) (asked_here asked) here a.reply;
+      run = λ s holds honest.
+          let run = a.run s holds honest in (
+            run.0,
+            subst (λ l. HasRun old new (state old.disk) (state new.disk) s l run.0 fault)
+                (same_run old.view new.view (state old.disk).failures (state new.disk).failures
+                a.text (asked_here request) (asked_here asked) here a.reply) run.1,
+          );
+      log = a.log;
+    }

@@ -1,0 +1,59 @@
+use Rattle.std.proofs.Common.{Some, None}
+use Rattle.std.proofs.KnownBytes.{Keeps-refl}
+use Rattle.mot_feed.specs.Feeding.{fault_of}
+use Rattle.mot_update.proofs.Runs.{same_error}
+use Rattle.mot_control.proofs.Between.{updating_any, updating_on}
+use Rattle.mot_control.proofs.Taken.{takes_none}
+use Rattle.mot_control.proofs.lines.LinesUpdate.update.Goals as goal
+
+pub returns-in_err-update-clause-run : goal.returns-in_err-update-clause-run
+returns-in_err-update-clause-run g c =
+    let refusal = c.in_err-update.field-0.0 in
+    rw (same_error c.from_residual.result refusal c.from_residual.ensures.1) (λ s holds honest.
+    updating_any g.D.Disk.state c.args.server.now c.update.new.server s (Some refusal)
+    (c.in_err-update.ensures.run s holds honest))
+
+pub returns-in_err-update-clause-lines : goal.returns-in_err-update-clause-lines
+returns-in_err-update-clause-lines g c = λ input hand.
+    let new = c.update.new.server in
+    record {
+      mid = new;
+      stopped = Some c.in_err-update.field-0.0;
+      updated = λ s holds honest. c.in_err-update.ensures.run s holds honest;
+      fault = None;
+      takes = takes_none g.D.Disk.state new input _ _ _ _ _
+          (λ honest. g.met.D.Disk.sound new.disk honest) (Keeps-refl _) hand;
+    }
+
+pub returns-then-self-gt0-clause-run : goal.returns-then-self-gt0-clause-run
+returns-then-self-gt0-clause-run g c = λ s holds honest.
+    updating_any g.D.Disk.state c.args.server.now c.update.new.server s None
+    (c.in_ok-update.ensures.run s holds honest)
+
+pub returns-then-self-gt0-clause-lines : goal.returns-then-self-gt0-clause-lines
+returns-then-self-gt0-clause-lines g c = λ input hand.
+    let new = c.update.new.server in
+    record {
+      mid = new;
+      stopped = None;
+      updated = λ s holds honest. c.in_ok-update.ensures.run s holds honest;
+      fault = None;
+      takes = takes_none g.D.Disk.state new input _ _ _ _ _
+          (λ honest. g.met.D.Disk.sound new.disk honest) (Keeps-refl _) hand;
+    }
+
+pub returns-clause-run : goal.returns-clause-run
+returns-clause-run g c = λ s holds honest.
+    let then = c.answer_there.ensures in
+    updating_on g.D.Disk.state c.args.server.now c.update.new.server c.answer_there.new.server s _
+    (c.in_ok-update.ensures.run s holds (then.keeps.was_honest honest))
+    (λ t held. then.run t held honest)
+
+pub returns-clause-lines : goal.returns-clause-lines
+returns-clause-lines g c = λ input hand. record {
+  mid = c.update.new.server;
+  stopped = None;
+  updated = λ s holds honest. c.in_ok-update.ensures.run s holds honest;
+  fault = fault_of c.answer_there.result;
+  takes = c.answer_there.ensures.answered input hand;
+}

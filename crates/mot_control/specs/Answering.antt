@@ -1,0 +1,90 @@
+-- What lines are answered that come between the packets of a feed.
+use Rattle.std.specs.Prelude.{◌≡◌, ℕ, ◌≤◌, Bool, true, bytes_eq, if◌then◌else◌, List, [], ◌∷◌, ◌++◌}
+use Rattle.std.specs.Prelude.{length, map, Option, None, Result, Ok}
+use Rattle.std.specs.List.{flat_map}
+use Rattle.std.specs.Io.KnownBytes.{Appends, Consumes}
+use Rattle.disk_store.specs.Disk.{State}
+use Rattle.mot_base.specs.declared.refusal.Refusal.{Refusal}
+use Rattle.mot_base.specs.declared.refusal.Refusal.TheVariants.{OutOfMemory}
+use Rattle.mot_carousel.specs.declared.command.Command as command
+use Rattle.mot_feed.specs.Feeding.{IsUpdating}
+use Rattle.mot_journal.specs.Image.{Standing}
+use Rattle.mot_lines.specs.Hand.{bytes_in_hand}
+use Rattle.mot_lines.specs.Line.{line_of}
+use Rattle.mot_lines.specs.Lines.{rest_of, whole_lines}
+use Rattle.mot_lines.specs.Text.{refusal_line}
+use Rattle.mot_lines.specs.declared.line.Line.{Line}
+use Rattle.mot_lines.specs.declared.line.Line.TheVariants.{Command}
+use Rattle.mot_repository.specs.Repository.{Holds}
+use Rattle.mot_server.specs.Server.{ServerView}
+use Rattle.mot_session.specs.Life.{Told}
+use Rattle.mot_session.specs.OnAnyDisk.{AnswersAnyhow, read_only}
+use Rattle.mot_session.specs.Stored.{command_in}
+use Rattle.mot_session.specs.declared.serving.TheConstants.{READ_SIZE}
+use Rattle.mot_update.specs.HasRun.{HasRun}
+
+-- what a request asks for here: a line that asks for packets is none, for these are the feed's
+abbrev pub asked_here : Result Line Refusal → Result Line Refusal
+asked_here (Ok (Command c)) = Ok (Command c)
+asked_here request = read_only request
+
+abbrev pub is_want_of_memory : List ℕ → Bool
+is_want_of_memory text = bytes_eq text (refusal_line OutOfMemory)
+
+-- the command that was run for a request with this reply: none, where memory was wanted for it
+abbrev pub run_of : Result Line Refusal → List ℕ → List command.Command
+run_of request text = if is_want_of_memory text then [] else command_in request
+
+abbrev pub run_in : Told → List command.Command
+run_in t = run_of (asked_here (line_of t.line)) t.text
+
+abbrev pub commands_run : List Told → List command.Command
+commands_run told = flat_map run_in told
+
+module _ {D : Type 0} (state : D → State) where
+  -- one after the other each reply is, on every disk, right for what the server kept in memory
+  abbrev pub AreReplies : ServerView D → List Told → ServerView D → Type 0
+  AreReplies old [] new = new ≡ old
+  AreReplies old (t ∷ told) new =
+      (mid : ServerView D)
+      × AnswersAnyhow old.view mid.view (state old.disk).failures (state mid.disk).failures
+      (asked_here (line_of t.line)) t.text
+      × AreReplies mid told new
+
+  -- Of an input that was taken before, each line that has ended since was answered, up to a fault;
+  -- their commands were run, and, where each reply was told, the log has them.
+  pub record AnswersMore (old new : ServerView D) (before after : List ℕ) (fault : Option Refusal)
+      (was_told is_told : Bool) (written now : Option (List ℕ)) : Type 0 where
+    pub told : List Told
+    pub unanswered : List (List ℕ)
+    pub lines : whole_lines after
+        ≡ whole_lines before ++ map (λ (t : Told). t.line) told ++ unanswered
+    pub whole : fault ≡ None → unanswered ≡ []
+    pub replies : AreReplies old told new
+    pub run : (s : Standing) → Holds old.view s (state old.disk) → (state new.disk).IsHonest
+        → (marks : List Bool)
+        × HasRun old new (state old.disk) (state new.disk) s (commands_run told) marks fault
+    pub log : is_told ≡ true → (was_told ≡ true)
+        × Appends written now (flat_map (λ (t : Told). t.text) told)
+
+  -- The reader gave so much more of an input, of which the rest behind its last line end was in
+  -- hand; its lines were answered; and then the new rest is in hand.
+  pub record TakesMore (old new : ServerView D) (before : List ℕ) (fault : Option Refusal)
+      (unread left hand : Option (List ℕ)) (was_told is_told : Bool)
+      (written now : Option (List ℕ)) : Type 0 where
+    pub more : List ℕ
+    pub consumed : Consumes unread left more
+    pub short : length more ≤ READ_SIZE
+    pub answers : AnswersMore old new before (before ++ more) fault was_told is_told written now
+    pub in_hand : fault ≡ None → hand ≡ bytes_in_hand (rest_of (before ++ more))
+
+  -- Another update was called, and then more was taken of the reader, or nothing.
+  pub record TakesBetween (old new : ServerView D) (before : List ℕ) (may : Bool)
+      (unread left hand : Option (List ℕ)) (was_told is_told : Bool)
+      (written now : Option (List ℕ)) : Type 0 where
+    pub mid : ServerView D
+    pub stopped : Option Refusal
+    pub updated : (s : Standing) → Holds old.view s (state old.disk) → (state mid.disk).IsHonest
+        → IsUpdating old mid (state old.disk) (state mid.disk) s may stopped
+    pub fault : Option Refusal
+    pub takes : TakesMore mid new before fault unread left hand was_told is_told written now

@@ -1,0 +1,212 @@
+//! Answering what there is of a reader that does not wait.
+ghost use Rattle.std.specs.Prelude.{◌≡◌, ◌≤◌, ◌++◌, ℕ, List, Ok, Err, None, IfNone, IfSome, true};
+ghost use Rattle.disk_store.specs.Disk.{KeepsLength};
+ghost use Rattle.mot_control.specs.Answering.{AnswersMore, TakesMore, asked_here};
+ghost use Rattle.mot_control.specs.Inner.Request.{Answers, end_of, reply_of};
+ghost use Rattle.mot_feed.specs.Feeding.{IsUpdating, fault_of};
+ghost use Rattle.mot_journal.specs.Image.{Standing};
+ghost use Rattle.mot_lines.specs.Hand.{bytes_in_hand};
+ghost use Rattle.mot_lines.specs.Line.{line_of};
+ghost use Rattle.mot_lines.specs.Lines.{rest_of};
+ghost use Rattle.mot_lines.specs.declared.line.Line.TheVariants as asks;
+ghost use Rattle.mot_repository.specs.Repository.{Holds};
+ghost use Rattle.mot_session.specs.OnAnyDisk.{read_only};
+ghost use Rattle.mot_update.specs.Faults.{TellsFaults};
+
+use crate::Log;
+use disk_store::Disk;
+use mot_base::Refusal;
+use mot_carousel::Command;
+use mot_lines::{Hand, Line, TextLine, cut_at_line_end, done_text, refusal_text};
+use mot_server::{Attempt, Server};
+use mot_session::READ_SIZE;
+use std::alloc::Global;
+use std::io::{Read, Write};
+
+/// Answers what there is of a reader that does not wait, in one read of at most 4,096 bytes: each
+/// line that ends in it as `serve_line` does, but that a `next` and a `turn` line are refused
+/// `BadLine`. What follows the last line end stays in hand. A reader that fails, because nothing is
+/// there now (`WouldBlock`) or for any other reason, gives nothing and ends nothing, nor does a
+/// command that memory is wanted for. The errors are `DeviceFault` and `Halted`, those of the last
+/// line that was answered; the rest of what was read is lost.
+pub fn answer_there<R: Read, W: Write + Drop, D: Disk>(
+    alloc: Global,
+    reader: &mut R,
+    hand: &mut Hand,
+    log: &mut Log<W>,
+    server: &mut Server<D>,
+) -> Result<(), Refusal>
+    ensures keeps { KeepsLength (D.state server.old.disk) (D.state server.new.disk) }
+    ensures later { (D.state server.old.disk).failures ≤ (D.state server.new.disk).failures }
+    ensures faults { TellsFaults server.old server.new
+        (D.state server.old.disk) (D.state server.new.disk) result }
+    ensures run { (s : Standing) → Holds server.old.view s (D.state server.old.disk)
+        → (D.state server.new.disk).IsHonest
+        → IsUpdating server.old server.new (D.state server.old.disk) (D.state server.new.disk) s
+        true (fault_of result) }
+    ensures answered { (input : List ℕ) → hand.old ≡ bytes_in_hand (rest_of input)
+        → TakesMore D.state server.old server.new input (fault_of result)
+        (R.remaining reader.old) (R.remaining reader.new) hand.new
+        log.old.is_told log.new.is_told
+        (W.contents log.old.writer) (W.contents log.new.writer) }
+{
+    let mut chunk = [0u8; READ_SIZE];
+    match reader.read(&mut chunk) {
+        Ok(count) => answer_chunk(alloc, &chunk[..count], hand, log, server),
+        Err(_) => Ok(()),
+    }
+}
+
+/// Answers each line that ends in the chunk, and keeps the rest in hand.
+fn answer_chunk<W: Write + Drop, D: Disk>(
+    alloc: Global,
+    chunk: &[u8],
+    hand: &mut Hand,
+    log: &mut Log<W>,
+    server: &mut Server<D>,
+) -> Result<(), Refusal>
+    ensures keeps { KeepsLength (D.state server.old.disk) (D.state server.new.disk) }
+    ensures later { (D.state server.old.disk).failures ≤ (D.state server.new.disk).failures }
+    ensures faults { TellsFaults server.old server.new
+        (D.state server.old.disk) (D.state server.new.disk) result }
+    ensures run { (s : Standing) → Holds server.old.view s (D.state server.old.disk)
+        → (D.state server.new.disk).IsHonest
+        → IsUpdating server.old server.new (D.state server.old.disk) (D.state server.new.disk) s
+        true (fault_of result) }
+    ensures answered { (input : List ℕ) → hand.old ≡ bytes_in_hand (rest_of input)
+        → AnswersMore D.state server.old server.new input (input ++ chunk.now) (fault_of result)
+        log.old.is_told log.new.is_told
+        (W.contents log.old.writer) (W.contents log.new.writer) }
+    ensures in_hand { fault_of result ≡ None
+        → (input : List ℕ) → hand.old ≡ bytes_in_hand (rest_of input)
+        → hand.new ≡ bytes_in_hand (rest_of (input ++ chunk.now)) }
+{
+    let mut rest = chunk;
+    while let Some((line, next)) = cut_at_line_end(rest) {
+        hand.add(line);
+        answer_line(alloc, hand, log, server)?;
+        hand.clear();
+        rest = next;
+    }
+    hand.add(rest);
+    Ok(())
+}
+
+/// Answers the line in hand.
+fn answer_line<W: Write + Drop, D: Disk>(
+    alloc: Global,
+    hand: &Hand,
+    log: &mut Log<W>,
+    server: &mut Server<D>,
+) -> Result<(), Refusal>
+    ensures keeps { KeepsLength (D.state server.old.disk) (D.state server.new.disk) }
+    ensures later { (D.state server.old.disk).failures ≤ (D.state server.new.disk).failures }
+    ensures faults { TellsFaults server.old server.new
+        (D.state server.old.disk) (D.state server.new.disk) result }
+    ensures run { (s : Standing) → Holds server.old.view s (D.state server.old.disk)
+        → (D.state server.new.disk).IsHonest
+        → IsUpdating server.old server.new (D.state server.old.disk) (D.state server.new.disk) s
+        true (fault_of result) }
+    ensures answered { (line : List ℕ) → hand.now ≡ bytes_in_hand line
+        → Answers D.state server.old server.new (asked_here (line_of line)) (fault_of result)
+        log.old.is_told log.new.is_told
+        (W.contents log.old.writer) (W.contents log.new.writer) }
+{
+    let request = hand.parse(alloc);
+    answer_request(alloc, &request, log, server)
+}
+
+/// Answers what a line was parsed to ask for.
+fn answer_request<W: Write + Drop, D: Disk>(
+    alloc: Global,
+    request: &Result<Line, Refusal>,
+    log: &mut Log<W>,
+    server: &mut Server<D>,
+) -> Result<(), Refusal>
+    ensures keeps { KeepsLength (D.state server.old.disk) (D.state server.new.disk) }
+    ensures later { (D.state server.old.disk).failures ≤ (D.state server.new.disk).failures }
+    ensures faults { TellsFaults server.old server.new
+        (D.state server.old.disk) (D.state server.new.disk) result }
+    ensures answered { Answers D.state server.old server.new (asked_here request.now)
+        (fault_of result) log.old.is_told log.new.is_told
+        (W.contents log.old.writer) (W.contents log.new.writer) }
+{
+    match command_of(request) {
+        Some(command) => answer_command(alloc, command, log, server),
+        None => {
+            log.show(alloc, request, server);
+            Ok(())
+        }
+    }
+}
+
+/// The command that is asked for, if one is.
+fn command_of(request: &Result<Line, Refusal>) -> Option<&Command>
+    ensures some { IfSome result (λ command. request.now ≡ Ok (asks.Command command.now)) }
+    ensures none { IfNone result (asked_here request.now ≡ read_only request.now) }
+{
+    match request {
+        Ok(line) => command_in(line),
+        Err(_) => None,
+    }
+}
+
+/// The command that a line asks for, if it asks for one.
+fn command_in(line: &Line) -> Option<&Command>
+    ensures some { IfSome result (λ command. line.now ≡ asks.Command command.now) }
+    ensures none { IfNone result (asked_here (Ok line.now) ≡ read_only (Ok line.now)) }
+{
+    match line {
+        Line::Command(command) => Some(command),
+        Line::List => None,
+        Line::Raw { .. } => None,
+        Line::Next(_) => None,
+        Line::Turn => None,
+    }
+}
+
+/// Does a command, and then tells what became of it.
+fn answer_command<W: Write + Drop, D: Disk>(
+    alloc: Global,
+    command: &Command,
+    log: &mut Log<W>,
+    server: &mut Server<D>,
+) -> Result<(), Refusal>
+    ensures keeps { KeepsLength (D.state server.old.disk) (D.state server.new.disk) }
+    ensures later { (D.state server.old.disk).failures ≤ (D.state server.new.disk).failures }
+    ensures faults { TellsFaults server.old server.new
+        (D.state server.old.disk) (D.state server.new.disk) result }
+    ensures answered { Answers D.state server.old server.new (Ok (asks.Command command.now))
+        (fault_of result) log.old.is_told log.new.is_told
+        (W.contents log.old.writer) (W.contents log.new.writer) }
+{
+    if server.halted() {
+        log.tell(refusal_text(Refusal::Halted).as_slice());
+        return Err(Refusal::Halted);
+    }
+    let attempt = server.attempt(alloc, command);
+    log.tell(reply_text(&attempt).as_slice());
+    ended(attempt)
+}
+
+/// The reply to a command.
+fn reply_text(attempt: &Result<Attempt, Refusal>) -> TextLine
+    ensures { result.items ≡ reply_of attempt.now }
+{
+    match attempt {
+        Ok(Attempt::Accepted(done)) => done_text(*done),
+        Ok(Attempt::Refused(refusal)) => refusal_text(*refusal),
+        Err(refusal) => refusal_text(*refusal),
+    }
+}
+
+/// What a command ends. Want of memory ends nothing.
+fn ended(attempt: Result<Attempt, Refusal>) -> Result<(), Refusal>
+    ensures { fault_of result ≡ end_of attempt }
+{
+    match attempt {
+        Ok(_) => Ok(()),
+        Err(Refusal::OutOfMemory) => Ok(()),
+        Err(refusal) => Err(refusal),
+    }
+}
