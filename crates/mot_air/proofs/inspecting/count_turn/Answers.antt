@@ -1,4 +1,4 @@
-use Rattle.std.proofs.Common.{◌≡◌, ◌∙◌, ◌+◌, [], ◌∷◌, ◌++◌, length, length-append, refl, sym, ap, arith}
+use Rattle.std.proofs.Common.{◌∙◌, [], ◌∷◌, ◌++◌, length-append, refl, arith}
 use Rattle.mot_air.proofs.Inspected.{bytes_more}
 use Rattle.mot_server.proofs.Laws.{HasPlayedTurn-ended, IsGoing-more, IsGoing-none, holds_still}
 use Rattle.mot_server.proofs.Laws.{keeps_on, unchanged_on}

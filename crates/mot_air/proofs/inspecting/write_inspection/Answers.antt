@@ -1,10 +1,8 @@
-use Rattle.std.proofs.Common.{◌≡◌, ◌∙◌, ◌++◌, ℕ, List, length, ap, sym, subst}
+use Rattle.std.proofs.Common.{sym, subst}
 use Rattle.std.proofs.KnownBytes.{Appends-kept, Appends-trans}
-use Rattle.std.specs.List.{sum_by}
 use Rattle.std.specs.Io.KnownBytes.{Appends}
 use Rattle.mot_air.proofs.Inspected.{told_text}
 use Rattle.mot_air.specs.Inspecting.{inspection_text}
-use Rattle.mot_carousel.specs.declared.object.Object.{Object}
 use Rattle.mot_repository.specs.Gap.{IsLongestGap}
 use Rattle.mot_repository.specs.Repository.{Agrees, RepositoryView}
 use Rattle.mot_air.proofs.inspecting.write_inspection.Goals as goal
