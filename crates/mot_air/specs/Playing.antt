@@ -51,8 +51,8 @@ pub record WritesTurns (waits : Bool) (turns : ℕ) (before after : Option (List
 
 -- This refusal came of an update, of a packet or of writing it: where a write failed, the last
 -- packet is cut or missing, and no command was in flight.
-pub record WritesPart (refusal : Refusal) (waits : Bool) (before after : Option (List (List ℕ))) (start now : State)
-    (s : Standing) : Type 0 where
+pub record WritesPart (refusal : Refusal) (waits : Bool) (before after : Option (List (List ℕ)))
+    (start now : State) (s : Standing) : Type 0 where
   pub fault : Option Refusal
   pub told : (fault ≡ Some refusal) ⊎ (fault ≡ None)
   pub events : List Event

@@ -1,5 +1,5 @@
-//! What no clause says: that packets come where there is memory and the disk does not fail, and what
-//! an outlet is given.
+//! What no clause says: that packets come where there is memory and the disk does not fail, and
+//! what an outlet is given.
 use super::*;
 use disk_store::MemoryDisk;
 use mot_base::{Geometry, Refusal};

@@ -1,4 +1,4 @@
--- What is told of a look at a folder: a line for each command, and for each file that was not taken.
+-- What is told of a look at a folder: a line for each command, and each file that was not taken.
 use Rattle.std.specs.Prelude.{◌≡◌, ℕ, Bool, false, not, bytes_eq, List, [], ◌∷◌, ◌++◌, map, filter}
 use Rattle.std.specs.Prelude.{codes}
 use Rattle.std.specs.List.{flat_map}

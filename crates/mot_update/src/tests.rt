@@ -1,5 +1,5 @@
-//! What no clause says: that the calls succeed where there is memory and the disk does not fail, and
-//! worked rows of what is settled.
+//! What no clause says: that the calls succeed where there is memory and the disk does not fail,
+//! and worked rows of what is settled.
 ghost use Rattle.std.specs.Prelude.{[], ◌∷◌, false, if◌then◌else◌};
 
 use super::*;
