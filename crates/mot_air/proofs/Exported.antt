@@ -1,17 +1,32 @@
 -- A carousel printed as lines, from the disk's opening on.
-use Rattle.std.proofs.Common.{◌≤◌, ℕ, List, Option, Result, Ok, Err}
+use Rattle.std.proofs.Common.{◌≡◌, ◌<◌, ◌≤◌, ℕ, List, length, Option, Result, Ok, Err}
 use Rattle.std.proofs.Math.Logic.{⊎_elim}
-use Rattle.std.specs.Prelude.{IfErr, IsFalse, OnOk}
+use Rattle.std.specs.Prelude.{All, IfErr, IsFalse, OnOk}
 use Rattle.std.specs.Io.KnownBytes.{Appends}
 use Rattle.disk_store.specs.Disk.{IsHonestDisk, IsStill, IsUnchanged, KeepsLength, State}
-use Rattle.mot_air.specs.Exporting.{Exports, StopsExporting, export_text, unprinted, unread}
+use Rattle.mot_air.specs.Exporting.{Exports, RebuildsByLines, StopsExporting, unprinted, unread}
 use Rattle.mot_air.specs.Inner.Printing.{IsPrintingFault}
 use Rattle.mot_air.proofs.Opened.{opened_holds, rises_later, still_unchanged}
 use Rattle.mot_base.specs.declared.refusal.Refusal.{Refusal}
-use Rattle.mot_journal.specs.Image.{Standing}
+use Rattle.mot_carousel.specs.Rebuilding.{rebuilding}
+use Rattle.mot_journal.specs.Image.{Standing, stands_for}
+use Rattle.mot_lines.proofs.Laws.{export_text-asks}
+use Rattle.mot_lines.specs.Export.{export_text}
+use Rattle.mot_repository.proofs.Laws.{rules_kept, standings-are_sound}
 use Rattle.mot_repository.specs.Opening.{IsOpened}
 use Rattle.mot_repository.specs.Repository.{Holds}
 use Rattle.mot_server.specs.Server.{ServerView}
+use Rattle.mot_update.proofs.Exported.{exports_are_taken}
+
+-- the text of what an image stands for rebuilds it
+rebuilds_by_lines : (image : List ℕ) (s : Standing) → All (λ b. b < 256) image → stands_for image ≡ Ok s
+    → (limit : ℕ) → length s.carousel.objects ≤ limit
+    → RebuildsByLines s.carousel limit (export_text s.carousel)
+rebuilds_by_lines image s bytes stands limit few = (
+  rebuilding s.carousel,
+  export_text-asks s.carousel (rules_kept image s bytes stands),
+  exports_are_taken s.carousel limit few (standings-are_sound image s bytes stands).0.names,
+)
 
 module _ {D : Type 0} (state : D → State) (disk : D) (server new : ServerView D)
     (sound : (d : D) → (state d).IsHonest → IsHonestDisk (state d))
@@ -38,6 +53,11 @@ module _ {D : Type 0} (state : D → State) (disk : D) (server new : ServerView 
         written s (opened_holds (state disk) (state server.disk) server.view s
         (sound disk (opens.was_honest was)) all (opened was) was (sound server.disk was)
         (still was) going) honest;
+    rebuilds = λ s honest all.
+        let first = sound disk (opens.was_honest (keeps.was_honest honest)) in
+        let bytes = (state disk).bytes in
+        rebuilds_by_lines bytes s (first.images bytes first.bytes).are_bytes
+        (all bytes first.bytes).stands;
   }
 
   pub stops : (result : Result Unit Refusal) → (state disk).failures ≤ (state server.disk).failures

@@ -8,17 +8,22 @@ use Rattle.disk_store.specs.Disk.{Elapses, IsHonestDisk, IsStill, IsUnchanged, N
 use Rattle.disk_store.specs.Failures.{Rises}
 use Rattle.disk_store.specs.Disk.{Throughout}
 use Rattle.disk_store.proofs.Laws.{only_bytes, begins, joins, stays}
-use Rattle.mot_air.specs.Opening.{IsUnopened, Leaves}
+use Rattle.mot_air.specs.Opening.{IsBreak, IsUnopened, Leaves}
+use Rattle.mot_air.specs.Opening as opening
 use Rattle.mot_base.specs.declared.refusal.Refusal.{Refusal}
 use Rattle.mot_base.specs.declared.refusal.Refusal.TheVariants.{DeviceFault}
 use Rattle.mot_carousel.specs.declared.command.Command.{Command}
+use Rattle.mot_feed.specs.Feeding.{IsFeedFault}
+use Rattle.mot_feed.specs.Sending as sending
 use Rattle.mot_journal.specs.Image.{Standing, stands_for}
 use Rattle.mot_journal.specs.Journal.{HasRecords}
 use Rattle.mot_repository.specs.Opening.{IsOpened, IsOpeningRefusal}
 use Rattle.mot_repository.specs.Repository.{RepositoryView, Agrees, IsOf, Holds}
 use Rattle.mot_server.specs.RunEnds.{RunLeaves}
 use Rattle.mot_server.specs.Runs.{StandsAfterSome, accepted_commands, commands_in_flight}
-use Rattle.mot_server.proofs.Laws.{after_none, none_of}
+use Rattle.mot_server.specs.Server.{ServerView}
+use Rattle.mot_server.proofs.Laws.{after_none, none_of, not_halted}
+use Rattle.mot_update.specs.Faults as update
 
 same-standing : (r : Result Standing Refusal) (a b : Standing) → r ≡ Ok a → r ≡ Ok b → a ≡ b
 same-standing r a b is was = let e : Ok a ≡ Ok b = sym is ∙ was in cc
@@ -116,3 +121,20 @@ unopened_is refusal start now why calm still = record {
   calm = calm_refused refusal now.failures start.failures calm;
   still = still;
 }
+
+-- what ends an update or a write on a server just opened
+pub breaks_off : {D : Type 0} (server : ServerView D) (start old now : State) (refusal : Refusal)
+    → IsFalse server.view.halted → old.failures ≡ start.failures
+    → IsFeedFault server old now refusal → IsBreak refusal start now
+breaks_off server start old now refusal going calm (inl (update.halted is e same)) =
+    absurd (not_halted server.view.halted is going)
+breaks_off server start old now refusal going calm (inl (update.no_memory e same)) =
+    opening.no_memory e (same ∙ calm)
+breaks_off server start old now refusal going calm (inl (update.device is e rises)) =
+    opening.device e (subst (λ n. Rises n now.failures) calm rises)
+breaks_off server start old now refusal going calm (inr (sending.halted is e same)) =
+    absurd (not_halted server.view.halted is going)
+breaks_off server start old now refusal going calm (inr (sending.device is e rises)) =
+    opening.device e (subst (λ n. Rises n now.failures) calm rises)
+breaks_off server start old now refusal going calm (inr (sending.unwritten e same)) =
+    opening.unwritten e (same ∙ calm)

@@ -1,17 +1,17 @@
 -- Playing a disk, from its opening on.
-use Rattle.std.proofs.Common.{◌≡◌, ◌<◌, arith, ℕ, Bool, true, List, Option, None, Result, Ok, Err, subst}
-use Rattle.std.specs.Prelude.{IsFalse, OnErr, OnOk, IfErr}
+use Rattle.std.proofs.Common.{◌≡◌, ◌∙◌, ◌<◌, arith, ℕ, Bool, true, List, Option, None, Result, Ok, Err, subst}
+use Rattle.std.specs.Prelude.{IsFalse, OnOk, IfErr}
 use Rattle.std.proofs.lemmas.Bool.Decides.{nat_tests}
 use Rattle.disk_store.specs.Disk.{State, IsHonestDisk, IsStill, KeepsLength}
 use Rattle.mot_air.specs.Playing.{HasPlayed, Plays, StopsPlaying}
 use Rattle.mot_air.specs.Playing.{first_place}
 use Rattle.mot_air.specs.Playing.{stopped}
-use Rattle.mot_air.proofs.Opened.{AllAre, opened_holds, opened_leaves}
+use Rattle.mot_air.proofs.Opened.{AllAre, breaks_off, opened_holds, opened_leaves}
 use Rattle.mot_base.specs.Geometry.{packet_room}
 use Rattle.mot_base.specs.declared.geometry.Geometry.{Geometry}
 use Rattle.mot_base.specs.declared.refusal.Refusal.{Refusal}
 use Rattle.mot_feed.specs.Feeding.{AreOf, Event, FedPacketsAreContinuous, Feeds, FeedsPart, Happen}
-use Rattle.mot_feed.specs.Feeding.{HasFed, are_uncut}
+use Rattle.mot_feed.specs.Feeding.{HasFed, IsFeedFault, are_uncut}
 use Rattle.mot_base.specs.Geometry.{is_valid}
 use Rattle.mot_journal.specs.Image.{Standing}
 use Rattle.mot_player.specs.Place.{Place}
@@ -19,6 +19,7 @@ use Rattle.mot_player.specs.Turn.{turn_of_carousel}
 use Rattle.mot_repository.specs.Opening.{IsOpened}
 use Rattle.mot_repository.specs.Repository.{Agrees, Holds}
 use Rattle.mot_server.specs.Server.{ServerView, place_in}
+use Rattle.mot_update.specs.Faults.{IsCalm}
 
 some_room : (g : Geometry) → is_valid g ≡ true → 0 < packet_room g
 some_room g is = grind (arith, nat_tests)
@@ -28,6 +29,7 @@ module _ {D : Type 0} (state : D → State) (disk : D) (server new : ServerView 
     (opens : KeepsLength (state disk) (state server.disk))
     (opened : (state server.disk).IsHonest → IsOpened (state disk) (state server.disk) server.view)
     (still : (state server.disk).IsHonest → IsStill (state disk) (state server.disk))
+    (calm : (state server.disk).failures ≡ (state disk).failures)
     (going : IsFalse server.view.halted)
     (at_start : (s : Standing) → Agrees server.view s → place_in server s ≡ first_place s)
     (valid : is_valid server.view.journal.geometry ≡ true)
@@ -77,30 +79,40 @@ module _ {D : Type 0} (state : D → State) (disk : D) (server new : ServerView 
 
   pub plays : (waits : Bool) (turns : ℕ) (before after : Option (List (List ℕ)))
       (result : Result Unit Refusal)
+      → OnOk result (IsCalm server new (state server.disk) (state new.disk))
       → ((s : Standing) → Holds server.view s (state server.disk) → (state new.disk).IsHonest
       → OnOk result (Feeds server new (state server.disk) (state new.disk) s waits turns before after))
       → OnOk result (Plays waits turns before after (state disk) (state new.disk))
-  plays waits turns before after (Err refusal) feeds = tt
-  plays waits turns before after (Ok done) feeds = λ s honest all.
-      let fed = feeds s (holds_opened s honest all) honest in
-      record {
-        events = fed.events;
-        packets = fed.packets;
-        played = has_played s waits None fed.events fed.packets honest all fed.fed fed.are fed.uncut;
-        written = fed.written;
-        ended = fed.ended;
-      }
+  plays waits turns before after (Err refusal) stays feeds = tt
+  plays waits turns before after (Ok done) stays feeds = record {
+    calm = stays.failures ∙ calm;
+    writes = λ s honest all.
+        let fed = feeds s (holds_opened s honest all) honest in
+        record {
+          events = fed.events;
+          packets = fed.packets;
+          played = has_played s waits None fed.events fed.packets honest all fed.fed fed.are
+              fed.uncut;
+          written = fed.written;
+          ended = fed.ended;
+        };
+  }
 
   pub stops : (waits : Bool) (before after : Option (List (List ℕ)))
       (result : Result Unit Refusal)
+      → IfErr result (λ r. IsFeedFault server (state server.disk) (state new.disk) r)
       → ((s : Standing) → Holds server.view s (state server.disk) → (state new.disk).IsHonest
-      → OnErr result (FeedsPart server new (state server.disk) (state new.disk) s waits before after))
+      → IfErr result (λ r. FeedsPart r server new (state server.disk) (state new.disk) s waits
+      before after))
       → IfErr result (λ r. StopsPlaying r waits before after (state disk) (state new.disk))
-  stops waits before after (Ok done) feeds = tt
-  stops waits before after (Err refusal) feeds = stopped (λ s honest all.
+  stops waits before after (Ok done) why feeds = tt
+  stops waits before after (Err refusal) why feeds = stopped
+      (breaks_off server (state disk) (state server.disk) (state new.disk) refusal going calm why)
+      (λ s honest all.
       let fed = feeds s (holds_opened s honest all) honest in
       record {
         fault = fed.fault;
+        told = fed.told;
         events = fed.events;
         packets = fed.packets;
         played = has_played s waits fed.fault fed.events fed.packets honest all fed.fed fed.are

@@ -1,20 +1,26 @@
 -- Making a disk's carousel equal to a folder, from the disk's opening on.
 use Rattle.std.proofs.Common.{◌≡◌, ◌∙◌, ◌≤◌, ℕ, Bool, true, false, List, [], ◌∷◌, ◌++◌, length}
-use Rattle.std.proofs.Common.{Option, Some, None, Result, Ok, Err, refl, sym, ap, subst, arith, append-nil}
-use Rattle.std.specs.Prelude.{IfErr, IfOk, IsFalse}
+use Rattle.std.proofs.Common.{Option, Some, None, Result, Ok, Err, not, refl, sym, ap, subst, arith}
+use Rattle.std.proofs.Common.{append-nil}
+use Rattle.std.specs.Io.KnownBytes.{Appends}
+use Rattle.std.specs.Prelude.{◌⊎◌, IfErr, IfOk, IsFalse, OnOk}
 use Rattle.disk_store.specs.Disk.{State, IsHonestDisk, IsStill, KeepsLength}
 use Rattle.mot_air.specs.Inner.Looked.{LooksAndTells}
 use Rattle.mot_air.specs.Inner.Looked as looks
-use Rattle.mot_air.specs.Syncing.{HasSynced, HasUpdated, IsBrokenOff, IsEqual, StopsSyncing, Syncs}
+use Rattle.mot_air.specs.Syncing.{HasSynced, HasUpdated, IsBrokenOff, IsEqual, StopsSyncing, Syncs, SyncsAndTells}
 use Rattle.mot_air.specs.Syncing.{broken, untold, stopped}
 use Rattle.mot_air.specs.Syncing as synced
-use Rattle.mot_air.proofs.Opened.{AllAre, opened_holds, opened_leaves}
+use Rattle.mot_air.proofs.Opened.{AllAre, breaks_off, opened_holds, opened_leaves}
 use Rattle.mot_base.specs.declared.geometry.Geometry.{Geometry}
 use Rattle.mot_base.specs.declared.geometry.TheConstants.{MAX_OBJECTS}
 use Rattle.mot_base.specs.declared.refusal.Refusal.{Refusal}
+use Rattle.mot_base.specs.declared.refusal.Refusal.TheVariants.{OutOfMemory, WriteFault}
 use Rattle.mot_carousel.specs.Carousel.{IsSound, carousel_after}
 use Rattle.mot_carousel.specs.declared.command.Command.{Command}
+use Rattle.mot_feed.specs.Feeding.{IsFeedFault}
+use Rattle.mot_folder.specs.Log.{Entry, HasTold}
 use Rattle.mot_folder.specs.Looked.{HasLookedAtFolder, listed, unlisted}
+use Rattle.mot_folder.specs.declared.report.Report.{Report}
 use Rattle.mot_base.specs.Geometry.{is_valid}
 use Rattle.mot_journal.specs.Image.{Standing}
 use Rattle.mot_repository.proofs.Laws.{standings-are_sound}
@@ -24,6 +30,7 @@ use Rattle.mot_server.proofs.Laws.{valid_is}
 use Rattle.mot_server.specs.Runs.{accepted_commands}
 use Rattle.mot_server.specs.Server.{ServerView}
 use Rattle.mot_update.proofs.Made.{made}
+use Rattle.mot_update.specs.Faults.{IsCalm}
 use Rattle.mot_update.specs.Looking.{AreAccepted, HasLooked}
 use Rattle.mot_update.specs.Updating.{updating}
 
@@ -42,6 +49,7 @@ module _ {D : Type 0} (state : D → State) (disk : D) (server new : ServerView 
     (opens : KeepsLength (state disk) (state server.disk))
     (opened : (state server.disk).IsHonest → IsOpened (state disk) (state server.disk) server.view)
     (still : (state server.disk).IsHonest → IsStill (state disk) (state server.disk))
+    (calm : (state server.disk).failures ≡ (state disk).failures)
     (going : IsFalse server.view.halted) (valid : is_valid server.view.journal.geometry ≡ true)
     (keeps : KeepsLength (state server.disk) (state new.disk)) where
   holds_opened : (s : Standing) → (state new.disk).IsHonest → AllAre s (state disk)
@@ -88,27 +96,37 @@ module _ {D : Type 0} (state : D → State) (disk : D) (server new : ServerView 
         stands = (run.leaves.going refl).each;
       }
 
-  has_synced : (s : Standing) (fine : Bool) (fault : Option Refusal) → (state new.disk).IsHonest
-      → AllAre s (state disk)
-      → HasLookedAtFolder server new (state server.disk) (state new.disk) s fine fault
-      → HasSynced fine fault (state disk) (state new.disk) s
-  has_synced s fine fault honest all (unlisted refused none run) =
-      let was = keeps.was_honest honest in
-      synced.unlisted refused (opened_leaves (state disk) (state server.disk) (state new.disk)
-      server.view new.view s [] [] None (sound disk (opens.was_honest was)) all (still was) run.leaves)
-  has_synced s fine fault honest all (listed names looked) =
-      let was = keeps.was_honest honest in
-      synced.listed names looked.wanted (record {
-        is_update = looked.is_update;
-        commands = looked.runs.commands;
-        others = looked.runs.others;
-        split = looked.runs.split;
-        whole = looked.runs.whole;
-        marks = looked.runs.marks;
-        leaves = opened_leaves (state disk) (state server.disk) (state new.disk) server.view
-            new.view s looked.runs.commands looked.runs.marks fault
-            (sound disk (opens.was_honest was)) all (still was) looked.runs.run.leaves;
-      }) (equal fine fault looked)
+  has_synced : (s : Standing) (path : List ℕ) (report : Report) (fault : Option Refusal)
+      → (state new.disk).IsHonest → AllAre s (state disk)
+      → HasLookedAtFolder server new (state server.disk) (state new.disk) s path report fault
+      → (entries : List Entry) × HasSynced (not report.any_refused) fault path entries (state disk)
+      (state new.disk) s × HasTold report entries
+  has_synced s path report fault honest all (unlisted refused none run entries told are) =
+      let was = keeps.was_honest honest in (
+        entries,
+        synced.unlisted (ap not refused) (opened_leaves (state disk) (state server.disk)
+            (state new.disk) server.view new.view s [] [] None
+            (sound disk (opens.was_honest was)) all (still was) run.leaves) are,
+        told,
+      )
+  has_synced s path report fault honest all (listed names looked tells) =
+      let was = keeps.was_honest honest in (
+        tells.entries,
+        synced.listed names looked.wanted (record {
+          is_update = looked.is_update;
+          commands = looked.runs.commands;
+          others = looked.runs.others;
+          split = looked.runs.split;
+          whole = looked.runs.whole;
+          marks = looked.runs.marks;
+          leaves = opened_leaves (state disk) (state server.disk) (state new.disk) server.view
+              new.view s looked.runs.commands looked.runs.marks fault
+              (sound disk (opens.was_honest was)) all (still was) looked.runs.run.leaves;
+          answers = looked.runs.answers;
+          answered = looked.runs.told;
+        }) (equal (not report.any_refused) fault looked) tells.are,
+        tells.told,
+      )
     where
       equal : (fine : Bool) (fault : Option Refusal)
           → (l : HasLooked server new (state server.disk) (state new.disk) s names 0 None None fine fault)
@@ -127,38 +145,58 @@ module _ {D : Type 0} (state : D → State) (disk : D) (server new : ServerView 
   IsFine (Ok x) = Unit {0}
   IsFine (Err e) = ⊥
 
-  synced-cases : (s : Standing) (all : Bool) → (state new.disk).IsHonest → AllAre s (state disk)
-      → LooksAndTells server new (state server.disk) (state new.disk) s (Ok all)
-      → HasSynced all None (state disk) (state new.disk) s
-  synced-cases s all honest each (looks.told fine is look) =
-      subst (λ b. HasSynced b None (state disk) (state new.disk) s) (sym (same_ok all fine is))
-      (has_synced s fine None honest each look)
-  synced-cases s all honest each (looks.broken fine refusal is look) =
-      absurd (subst IsFine is tt)
-  synced-cases s all honest each (looks.untold fine is look) = absurd (subst IsFine is tt)
+  module _ (path : List ℕ) (before after : Option (List ℕ)) where
+    synced-cases : (s : Standing) (all : Bool) → (state new.disk).IsHonest → AllAre s (state disk)
+        → LooksAndTells server new (state server.disk) (state new.disk) s path before after (Ok all)
+        → SyncsAndTells all path before after (state disk) (state new.disk) s
+    synced-cases s all honest each (looks.told report is whole written look) =
+        let done = has_synced s path report None honest each look in
+        record {
+          entries = done.0;
+          synced = subst (λ b. HasSynced b None path done.0 (state disk) (state new.disk) s)
+              (sym (same_ok all (not report.any_refused) is)) done.1;
+          written = subst (Appends before after) (done.2 whole) written;
+        }
+    synced-cases s all honest each (looks.broken report refusal is look) =
+        absurd (subst IsFine is tt)
+    synced-cases s all honest each (looks.untold report refusal is why look) =
+        absurd (subst IsFine is tt)
 
-  pub syncs : (result : Result Bool Refusal)
-      → ((s : Standing) → Holds server.view s (state server.disk) → (state new.disk).IsHonest
-      → LooksAndTells server new (state server.disk) (state new.disk) s result)
-      → IfOk result (λ all. Syncs all (state disk) (state new.disk))
-  syncs (Err refusal) looked = tt
-  syncs (Ok all) looked = λ s honest each.
-      synced-cases s all honest each (looked s (holds_opened s honest each) honest)
+    pub syncs : (result : Result Bool Refusal)
+        → OnOk result (IsCalm server new (state server.disk) (state new.disk))
+        → ((s : Standing) → Holds server.view s (state server.disk) → (state new.disk).IsHonest
+        → LooksAndTells server new (state server.disk) (state new.disk) s path before after result)
+        → IfOk result (λ all. Syncs all path before after (state disk) (state new.disk))
+    syncs (Err refusal) stays looked = tt
+    syncs (Ok all) stays looked = record {
+      calm = stays.failures ∙ calm;
+      synced = λ s honest each.
+          synced-cases s all honest each (looked s (holds_opened s honest each) honest);
+    }
 
-  broken-cases : (s : Standing) (r : Refusal) → (state new.disk).IsHonest → AllAre s (state disk)
-      → LooksAndTells server new (state server.disk) (state new.disk) s (Err r)
-      → IsBrokenOff r (state disk) (state new.disk) s
-  broken-cases s r honest each (looks.told fine is look) = absurd (subst IsFine (sym is) tt)
-  broken-cases s r honest each (looks.broken fine refusal is look) =
-      broken fine (subst (λ e. HasSynced fine (Some e) (state disk) (state new.disk) s)
-      (sym (same_err r refusal is)) (has_synced s fine (Some refusal) honest each look))
-  broken-cases s r honest each (looks.untold fine is look) =
-      untold fine (same_err r _ is) (has_synced s fine None honest each look)
+    broken-cases : (s : Standing) (r : Refusal) → (state new.disk).IsHonest
+        → AllAre s (state disk)
+        → LooksAndTells server new (state server.disk) (state new.disk) s path before after (Err r)
+        → IsBrokenOff r path (state disk) (state new.disk) s
+    broken-cases s r honest each (looks.told report is whole written look) =
+        absurd (subst IsFine (sym is) tt)
+    broken-cases s r honest each (looks.broken report refusal is look) =
+        let done = has_synced s path report (Some refusal) honest each look in
+        broken (not report.any_refused) done.0 (subst (λ e. HasSynced (not report.any_refused)
+        (Some e) path done.0 (state disk) (state new.disk) s) (sym (same_err r refusal is)) done.1)
+    broken-cases s r honest each (looks.untold report refusal is why look) =
+        let done = has_synced s path report None honest each look in
+        untold (not report.any_refused) done.0
+        (subst (λ (e : Refusal). (e ≡ WriteFault) ⊎ (e ≡ OutOfMemory))
+        (sym (same_err r refusal is)) why) done.1
 
-  pub stops : (result : Result Bool Refusal)
-      → ((s : Standing) → Holds server.view s (state server.disk) → (state new.disk).IsHonest
-      → LooksAndTells server new (state server.disk) (state new.disk) s result)
-      → IfErr result (λ r. StopsSyncing r (state disk) (state new.disk))
-  stops (Ok all) looked = tt
-  stops (Err r) looked = stopped (λ s honest each.
-      broken-cases s r honest each (looked s (holds_opened s honest each) honest))
+    pub stops : (result : Result Bool Refusal)
+        → IfErr result (λ r. IsFeedFault server (state server.disk) (state new.disk) r)
+        → ((s : Standing) → Holds server.view s (state server.disk) → (state new.disk).IsHonest
+        → LooksAndTells server new (state server.disk) (state new.disk) s path before after result)
+        → IfErr result (λ r. StopsSyncing r path (state disk) (state new.disk))
+    stops (Ok all) why looked = tt
+    stops (Err r) why looked = stopped
+        (breaks_off server (state disk) (state server.disk) (state new.disk) r going calm why)
+        (λ s honest each.
+        broken-cases s r honest each (looked s (holds_opened s honest each) honest))

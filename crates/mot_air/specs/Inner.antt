@@ -1,2 +1,3 @@
 pub mod Looked
+pub mod Packets
 pub mod Printing

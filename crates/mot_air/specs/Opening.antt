@@ -1,8 +1,9 @@
 -- A command on the server of a disk that it opens.
 use Rattle.std.specs.Prelude.{◌≡◌, ◌≢◌, ℕ, List, [], ◌++◌, Bool, Option}
 use Rattle.disk_store.specs.Disk.{State, IsStill, Throughout}
+use Rattle.disk_store.specs.Failures.{Rises}
 use Rattle.mot_base.specs.declared.refusal.Refusal.{Refusal}
-use Rattle.mot_base.specs.declared.refusal.Refusal.TheVariants.{DeviceFault}
+use Rattle.mot_base.specs.declared.refusal.Refusal.TheVariants.{DeviceFault, OutOfMemory, WriteFault}
 use Rattle.mot_carousel.specs.declared.command.Command.{Command}
 use Rattle.mot_journal.specs.Image.{Standing}
 use Rattle.mot_repository.specs.Opening.{IsOpeningRefusal}
@@ -21,6 +22,13 @@ pub record IsUnopened (refusal : Refusal) (start now : State) : Type 0 where
   pub why : IsOpeningRefusal start now refusal
   pub calm : refusal ≢ DeviceFault → now.failures ≡ start.failures
   pub still : now.IsHonest → IsStill start now
+
+-- Why a command on an open server ended before its end: memory was wanted, the disk failed, or what
+-- it writes to did. A device fault is told where the disk has failed, and nowhere else.
+pub data IsBreak (refusal : Refusal) (start now : State) : Type 0 where
+  no_memory : refusal ≡ OutOfMemory → now.failures ≡ start.failures → IsBreak refusal start now
+  device : refusal ≡ DeviceFault → Rises start.failures now.failures → IsBreak refusal start now
+  unwritten : refusal ≡ WriteFault → now.failures ≡ start.failures → IsBreak refusal start now
 
 -- What commands leave of a disk that stood for s, each answered with its mark up to a fault: at
 -- each moment a crash leaves what a beginning of the accepted ones makes of it, or all of them and

@@ -1,11 +1,11 @@
 -- What playing a disk writes, and what it leaves of the disk.
-use Rattle.std.specs.Prelude.{◌≡◌, ◌⊎◌, ℕ, Bool, true, List, [], length, Option, None}
+use Rattle.std.specs.Prelude.{◌≡◌, ◌⊎◌, ℕ, Bool, true, List, [], length, Option, Some, None}
 use Rattle.disk_store.specs.Disk.{State}
 use Rattle.mot_base.specs.Geometry.{packet_room}
 use Rattle.mot_base.specs.declared.refusal.Refusal.{Refusal}
 use Rattle.mot_carousel.specs.Carousel.{Carousel}
 use Rattle.mot_carousel.specs.declared.command.Command.{Command}
-use Rattle.mot_air.specs.Opening.{IsUnopened, Leaves, OfStanding}
+use Rattle.mot_air.specs.Opening.{IsBreak, IsUnopened, Leaves, OfStanding}
 use Rattle.mot_feed.specs.Feeding.{AreOf, Event, Happen, accepted_in, are_uncut, has_ended}
 use Rattle.mot_feed.specs.Feeding.{turns_in}
 use Rattle.mot_feed.specs.Writing.{Grows, GrowsPart}
@@ -49,24 +49,28 @@ pub record WritesTurns (waits : Bool) (turns : ℕ) (before after : Option (List
   pub ended : ((turns_in events ≡ turns) × (has_ended true events ≡ true))
       ⊎ (length packets ≡ 18446744073709551615)
 
--- a fault came in an update, in a packet or in writing it: the last packet is cut or missing
-pub record WritesPart (waits : Bool) (before after : Option (List (List ℕ))) (start now : State)
+-- This refusal came of an update, of a packet or of writing it: where a write failed, the last
+-- packet is cut or missing, and no command was in flight.
+pub record WritesPart (refusal : Refusal) (waits : Bool) (before after : Option (List (List ℕ))) (start now : State)
     (s : Standing) : Type 0 where
   pub fault : Option Refusal
+  pub told : (fault ≡ Some refusal) ⊎ (fault ≡ None)
   pub events : List Event
   pub packets : List (List ℕ)
   pub played : HasPlayed s waits fault events packets start now
-  pub written : GrowsPart packets before after
+  pub written : GrowsPart refusal packets before after
 
--- the disk was played
-abbrev pub Plays : Bool → ℕ → (before after : Option (List (List ℕ))) → State → State → Type 0
-Plays waits turns before after start now =
-    OfStanding (WritesTurns waits turns before after start now) start now
+-- the disk was played, and has not failed
+pub record Plays (waits : Bool) (turns : ℕ) (before after : Option (List (List ℕ)))
+    (start now : State) : Type 0 where
+  pub calm : now.failures ≡ start.failures
+  pub writes : OfStanding (WritesTurns waits turns before after start now) start now
 
 -- why playing ended before its last turn, and what it had come to
 pub data StopsPlaying (refusal : Refusal) (waits : Bool) (before after : Option (List (List ℕ)))
     (start now : State) : Type 0 where
   unopened : IsUnopened refusal start now → Grows before after []
       → StopsPlaying refusal waits before after start now
-  stopped : OfStanding (WritesPart waits before after start now) start now
+  stopped : IsBreak refusal start now
+      → OfStanding (WritesPart refusal waits before after start now) start now
       → StopsPlaying refusal waits before after start now

@@ -1,5 +1,5 @@
 -- What the commands on air do.
-use Rattle.std.specs.Prelude.{ℕ, ◌≡◌, ◌⊎◌, true, false, List, length, Option, Some, None}
+use Rattle.std.specs.Prelude.{ℕ, ◌≡◌, ◌⊎◌, ◌↔◌, true, false, List, length, Option, Some, None, codes}
 use Rattle.std.specs.Io.KnownBytes.{Keeps}
 use Rattle.clap.specs.Words.{Text}
 use Rattle.disk_store.specs.Calls.{opening_calls}
@@ -11,6 +11,8 @@ use Rattle.mot_air.specs.Exporting.{Exports, StopsExporting}
 use Rattle.mot_air.specs.Playing.{Plays, StopsPlaying}
 use Rattle.mot_air.specs.Syncing.{StopsSyncing, Syncs}
 use Rattle.mot_air.specs.Task.{AskFor, AskForHelp}
+use Rattle.mot_air.specs.declared.packets.Target.{Target}
+use Rattle.mot_air.specs.declared.packets.Target.TheVariants.{File, Output, Stream}
 use Rattle.mot_air.specs.declared.task.Task.{Task}
 use Rattle.mot_air.specs.declared.task.Task.TheVariants.{Play, Sync, Export}
 use Rattle.mot_air.specs.declared.used.AirDisk.{AirDisk}
@@ -19,10 +21,27 @@ use Rattle.mot_base.specs.declared.refusal.Refusal.{Refusal}
 use Rattle.mot_base.specs.declared.refusal.Refusal.TheVariants.{BadNumber, DeviceFault}
 use Rattle.mot_base.specs.declared.refusal.Refusal.TheVariants.{OutOfMemory, WriteFault}
 
--- how many turns are played, where so many are asked for
-abbrev pub turns_of : Option ℕ → ℕ
-turns_of None = 18446744073709551615
-turns_of (Some turns) = turns
+-- how many turns are played, where so many are asked for; and else sixteen into a file, behind which
+-- its packets can begin anew, and as good as without end into all else
+abbrev pub turns_of : Target → Option ℕ → ℕ
+turns_of target (Some turns) = turns
+turns_of Output None = 18446744073709551615
+turns_of Stream None = 18446744073709551615
+turns_of File None = 16
+
+-- what a path names, as far as it tells by itself: `-`, and nothing else, is standard output
+abbrev pub IsTarget : Text → Target → Type 0
+IsTarget path target = (path ≡ codes "-") ↔ (target ≡ Output)
+
+-- why a disk was not played as it should be, in the turns that are asked for: playing stopped; or all
+-- was played, and the file did not take its place
+pub data FailsPlaying (target : Target) (turns : Option ℕ) (refusal : Refusal) (start now : State) :
+    Type 0 where
+  stopped : StopsPlaying refusal true None None start now
+      → FailsPlaying target turns refusal start now
+  unplaced : target ≡ File → refusal ≡ WriteFault
+      → Plays true (turns_of target turns) None None start now
+      → FailsPlaying target turns refusal start now
 
 -- The file held the bytes of `start` as it was opened. These are words of contracts alone: what
 -- holds for each `start` holds for what the file really held.
@@ -45,14 +64,23 @@ module _ {S : Type 0} {start : Ghosts S} where
   OnOpened P (Untouched value) = ⊥
   OnOpened P (Opened disk) = SinceOpened P disk
 
-  -- In these the writer's known bytes were old and are new. Of what a pipe or a device takes no
-  -- contract tells.
+  -- the disk was played into what this path names; or was not as it should be
+  abbrev pub PlaysTo : Text → Option ℕ → AirDisk S start → Type 0
+  PlaysTo path turns used =
+      (target : Target) × IsTarget path target
+      × OnOpened (Plays true (turns_of target turns) None None) used
+
+  abbrev pub StopsPlayingTo : Text → Option ℕ → Refusal → AirDisk S start → Type 0
+  StopsPlayingTo path turns r used =
+      (target : Target) × IsTarget path target × OnOpened (FailsPlaying target turns r) used
+
+  -- In these the writer's known bytes were old and are new. Of what a pipe, a device or a file takes
+  -- no contract tells.
 
   -- the task was done
   abbrev pub Does : Task → AirDisk S start → (old new : Option (List ℕ)) → Type 0
-  Does (Play disk packets folder turns) used old new =
-      OnOpened (Plays true (turns_of turns) None None) used
-  Does (Sync disk folder) used old new = OnOpened (Syncs true) used
+  Does (Play disk packets folder turns) used old new = PlaysTo packets.now turns used
+  Does (Sync disk folder) used old new = OnOpened (Syncs true folder.now old new) used
   Does (Export disk) used old new = OnOpened (Exports old new) used
 
   -- the task was begun, and this refusal ended it; or a file was refused, with none
@@ -60,9 +88,11 @@ module _ {S : Type 0} {start : Ghosts S} where
       → Type 0
   DoesInPart (Play disk packets folder turns) None used old new = ⊥
   DoesInPart (Play disk packets folder turns) (Some r) used old new =
-      OnOpened (StopsPlaying r true None None) used
-  DoesInPart (Sync disk folder) None used old new = OnOpened (Syncs false) used
-  DoesInPart (Sync disk folder) (Some r) used old new = OnOpened (StopsSyncing r) used
+      StopsPlayingTo packets.now turns r used
+  DoesInPart (Sync disk folder) None used old new =
+      OnOpened (Syncs false folder.now old new) used
+  DoesInPart (Sync disk folder) (Some r) used old new =
+      OnOpened (StopsSyncing r folder.now) used
   DoesInPart (Export disk) None used old new = ⊥
   DoesInPart (Export disk) (Some r) used old new = OnOpened (StopsExporting r old new) used
 

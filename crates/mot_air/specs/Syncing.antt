@@ -1,13 +1,19 @@
 -- What making a disk's carousel equal to a folder does.
-use Rattle.std.specs.Prelude.{◌≡◌, ℕ, Bool, true, false, List, ◌++◌, [], Option, Some, None}
+use Rattle.std.specs.Prelude.{◌≡◌, ◌⊎◌, ℕ, Bool, true, false, List, ◌++◌, ◌∷◌, [], map, codes}
+use Rattle.std.specs.Prelude.{Option, Some, None}
+use Rattle.std.specs.Io.KnownBytes.{Appends}
+use Rattle.std.specs.List.{flat_map}
 use Rattle.disk_store.specs.Disk.{State}
-use Rattle.mot_air.specs.Opening.{IsUnopened, Leaves, OfStanding}
+use Rattle.mot_air.specs.Opening.{IsBreak, IsUnopened, Leaves, OfStanding}
 use Rattle.mot_base.specs.declared.refusal.Refusal.{Refusal}
-use Rattle.mot_base.specs.declared.refusal.Refusal.TheVariants.{WriteFault}
+use Rattle.mot_base.specs.declared.refusal.Refusal.TheVariants.{OutOfMemory, ReadFault, WriteFault}
 use Rattle.mot_carousel.specs.declared.command.Command.{Command}
+use Rattle.mot_folder.specs.Log.{Entry, entry, entry_of, line_of, of_look}
 use Rattle.mot_journal.specs.Image.{Standing}
 use Rattle.mot_repository.specs.Repository.{IsOf}
+use Rattle.mot_server.specs.declared.running.Attempt.TheVariants.{Refused}
 use Rattle.mot_update.specs.Laws.{IsUpdate, IsUpdated, names_of}
+use Rattle.mot_update.specs.Told.{Answer, AreAnswers}
 use Rattle.mot_update.specs.Updating.{updating}
 use Rattle.mot_update.specs.declared.wanted.Wanted.{Wanted}
 
@@ -22,6 +28,9 @@ pub record HasUpdated (s : Standing) (names : List (List ℕ)) (wanted : List Wa
   pub whole : fault ≡ None → others ≡ []
   pub marks : List Bool
   pub leaves : Leaves s commands marks fault start now
+  -- what came of each, and whether it was accepted, as is told of it
+  pub answers : List Answer
+  pub answered : AreAnswers answers commands marks
 
 -- Nothing was refused: an object of each name was read, and now the disk stands for exactly these
 -- objects, of which those that were right before are untouched.
@@ -33,27 +42,46 @@ pub record IsEqual (s : Standing) (names : List (List ℕ)) (wanted : List Wante
   pub updated : IsUpdated s.carousel names wanted last.carousel
   pub stands : (image : List ℕ) → now.MayLeave image → IsOf last image
 
--- what a look made of a disk that stood for s; whether all of it is right, and what broke it off
-pub data HasSynced (all : Bool) (fault : Option Refusal) (start now : State)
-    (s : Standing) : Type 0 where
+-- What a look at the folder of this path made of a disk that stood for s; whether all of it is
+-- right, what broke it off, and what was told of it besides the files that could not be taken.
+pub data HasSynced (all : Bool) (fault : Option Refusal) (path : List ℕ) (entries : List Entry)
+    (start now : State) (s : Standing) : Type 0 where
   -- the folder was not listed, and no command was run
-  unlisted : all ≡ false → Leaves s [] [] None start now → HasSynced all fault start now s
+  unlisted : all ≡ false → Leaves s [] [] None start now
+      → of_look entries ≡ entry (codes "look") path (Refused ReadFault) ∷ []
+      → HasSynced all fault path entries start now s
   listed : (names : List (List ℕ)) (wanted : List Wanted)
-      → HasUpdated s names wanted fault start now
-      → (all ≡ true → fault ≡ None → IsEqual s names wanted now) → HasSynced all fault start now s
+      → (updated : HasUpdated s names wanted fault start now)
+      → (all ≡ true → fault ≡ None → IsEqual s names wanted now)
+      → of_look entries ≡ map entry_of updated.answers
+      → HasSynced all fault path entries start now s
 
--- a look came to its end; true where nothing was refused
-abbrev pub Syncs : Bool → State → State → Type 0
-Syncs all start now = OfStanding (HasSynced all None start now) start now
+-- a look came to its end, and a line for each thing that is told of it was written to the log
+pub record SyncsAndTells (all : Bool) (path : List ℕ) (old new : Option (List ℕ))
+    (start now : State) (s : Standing) : Type 0 where
+  pub entries : List Entry
+  pub synced : HasSynced all None path entries start now s
+  pub written : Appends old new (flat_map line_of entries)
 
--- the look broke off, or what is told of it could not be written
-pub data IsBrokenOff (refusal : Refusal) (start now : State) (s : Standing) : Type 0 where
-  broken : (all : Bool) → HasSynced all (Some refusal) start now s
-      → IsBrokenOff refusal start now s
-  untold : (all : Bool) → refusal ≡ WriteFault → HasSynced all None start now s
-      → IsBrokenOff refusal start now s
+-- A look came to its end, and the disk has not failed; true where nothing was refused. The log's
+-- known bytes were old and are new.
+pub record Syncs (all : Bool) (path : List ℕ) (old new : Option (List ℕ))
+    (start now : State) : Type 0 where
+  pub calm : now.failures ≡ start.failures
+  pub synced : OfStanding (SyncsAndTells all path old new start now) start now
+
+-- the look broke off; or what is told of it could not be written, or had no memory
+pub data IsBrokenOff (refusal : Refusal) (path : List ℕ) (start now : State)
+    (s : Standing) : Type 0 where
+  broken : (all : Bool) (entries : List Entry)
+      → HasSynced all (Some refusal) path entries start now s
+      → IsBrokenOff refusal path start now s
+  untold : (all : Bool) (entries : List Entry)
+      → (refusal ≡ WriteFault) ⊎ (refusal ≡ OutOfMemory)
+      → HasSynced all None path entries start now s → IsBrokenOff refusal path start now s
 
 -- why there is no answer, and what the look had come to
-pub data StopsSyncing (refusal : Refusal) (start now : State) : Type 0 where
-  unopened : IsUnopened refusal start now → StopsSyncing refusal start now
-  stopped : OfStanding (IsBrokenOff refusal start now) start now → StopsSyncing refusal start now
+pub data StopsSyncing (refusal : Refusal) (path : List ℕ) (start now : State) : Type 0 where
+  unopened : IsUnopened refusal start now → StopsSyncing refusal path start now
+  stopped : IsBreak refusal start now → OfStanding (IsBrokenOff refusal path start now) start now
+      → StopsSyncing refusal path start now

@@ -30,11 +30,15 @@ fn play<'a>(alloc: Global) -> Result<Command<'a>, AllocError>
     ensures local { IfOk result (λ command. (out-Command command).has_globals ≡ false) }
 {
     let disk = word(alloc, "DISK", "The file of the disk, or a block device");
-    let packets = word(alloc, "PACKETS", "A named pipe or a device");
+    let packets = word(
+        alloc,
+        "PACKETS",
+        "A named pipe, a device, a file, or - for standard output",
+    );
     let folder = folder(alloc);
     let turns = turns(alloc);
     Command::new(alloc, "play")
-        .about("Play a disk into a pipe or a device, each packet in one write")
+        .about("Play a disk into a pipe, a device or a file, each packet in one write")
         .arg(disk)?
         .arg(packets)?
         .arg(folder)?
@@ -84,7 +88,7 @@ fn folder<'a>(alloc: Global) -> Arg<'a>
     Arg::new(alloc, "folder")
         .long("folder")
         .value_name("DIR")
-        .help("Make the carousel equal to this folder, at first and then every 1000 packets")
+        .help("Make the carousel equal to this folder, at first and then between turns")
         .action(ArgAction::Set)
 }
 
@@ -96,7 +100,7 @@ fn turns<'a>(alloc: Global) -> Arg<'a>
     Arg::new(alloc, "turns")
         .long("turns")
         .value_name("N")
-        .help("End after so many whole turns")
+        .help("End after so many whole turns [default: 16 into a file, else without end]")
         .action(ArgAction::Set)
         .value_parser(value_parser!(u32))
 }

@@ -4,12 +4,13 @@ ghost use Rattle.std.specs.Prelude.{slice_get};
 ghost use Rattle.std.specs.Io.KnownBytes.{Appends};
 ghost use Rattle.disk_store.specs.Disk.{IsUnchanged, KeepsLength};
 ghost use Rattle.hex.specs.Hex.{encode_lower};
-ghost use Rattle.mot_air.specs.Exporting.{Exports, StopsExporting, content_words, export_text};
-ghost use Rattle.mot_air.specs.Exporting.{front_words, mime_words, name_words, period_line, put_line};
+ghost use Rattle.mot_air.specs.Exporting.{Exports, StopsExporting};
 ghost use Rattle.mot_air.specs.Inner.Printing.{IsPrintingFault};
 ghost use Rattle.mot_base.specs.declared.refusal.Refusal.TheVariants.{WriteFault};
 ghost use Rattle.mot_carousel.specs.Carousel as whole;
 ghost use Rattle.mot_journal.specs.Image.{Standing};
+ghost use Rattle.mot_lines.specs.Export.{content_words, export_text, front_words, mime_words};
+ghost use Rattle.mot_lines.specs.Export.{name_words, period_line, put_line};
 ghost use Rattle.mot_repository.specs.Repository.{Holds, body_at};
 
 use crate::Ended;

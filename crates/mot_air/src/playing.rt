@@ -1,11 +1,15 @@
 //! Playing a disk, and making its carousel equal to a folder.
-ghost use Rattle.std.specs.Prelude.{◌≤◌, true, IfErr, IfOk, OnOk, MatchResult};
+ghost use Rattle.std.specs.Prelude.{◌≡◌, ◌≤◌, true, IfErr, IfOk, OnOk, MatchResult};
+ghost use Rattle.std.specs.Io.KnownBytes.{Appends};
 ghost use Rattle.disk_store.specs.Disk.{KeepsLength};
 ghost use Rattle.mot_air.specs.Playing.{Plays, StopsPlaying};
 ghost use Rattle.mot_air.specs.Syncing.{StopsSyncing, Syncs};
 ghost use Rattle.mot_air.specs.Inner.Looked.{LooksAndTells};
+ghost use Rattle.mot_base.specs.declared.refusal.Refusal.TheVariants.{WriteFault};
+ghost use Rattle.mot_feed.specs.Feeding.{IsFeedFault};
 ghost use Rattle.mot_journal.specs.Image.{Standing};
 ghost use Rattle.mot_repository.specs.Repository.{Holds};
+ghost use Rattle.mot_update.specs.Faults.{IsCalm};
 
 use crate::Ended;
 use disk_store::Disk;
@@ -73,7 +77,8 @@ pub fn play_with<D: Disk, U: Update, O: Outlet>(
 }
 
 /// Opens the disk and makes its carousel equal to the folder; whether nothing was refused. What is
-/// told of the look is written to the log.
+/// told of the look is written to the log; where there was no memory for a line of it, that is the
+/// refusal.
 pub fn sync_disk<T: Files<File = File>, D: Disk, L: Write>(
     rt: &T,
     alloc: Global,
@@ -82,9 +87,10 @@ pub fn sync_disk<T: Files<File = File>, D: Disk, L: Write>(
     log: &mut L,
 ) -> Ended<D, bool>
     ensures keeps { KeepsLength (D.state disk) (D.state result.disk) }
-    ensures done { IfOk result.result (λ all. Syncs all (D.state disk) (D.state result.disk)) }
+    ensures done { IfOk result.result (λ all. Syncs all folder.now
+        (L.contents log.old) (L.contents log.new) (D.state disk) (D.state result.disk)) }
     ensures refused { IfErr result.result (λ r.
-        StopsSyncing r (D.state disk) (D.state result.disk)) }
+        StopsSyncing r folder.now (D.state disk) (D.state result.disk)) }
 {
     let mut server = match Server::open(alloc, disk) {
         Ok(server) => server,
@@ -108,17 +114,37 @@ fn look_and_tell<T: Files<File = File>, D: Disk, L: Write>(
     log: &mut L,
 ) -> Result<bool, Refusal>
     ensures keeps { KeepsLength (D.state server.old.disk) (D.state server.new.disk) }
+    ensures calm { OnOk result
+        (IsCalm server.old server.new (D.state server.old.disk) (D.state server.new.disk)) }
+    ensures fault { IfErr result (λ r. IsFeedFault server.old
+        (D.state server.old.disk) (D.state server.new.disk) r) }
     ensures looked { (s : Standing) → Holds server.old.view s (D.state server.old.disk)
         → (D.state server.new.disk).IsHonest
         → LooksAndTells server.old server.new (D.state server.old.disk)
-        (D.state server.new.disk) s result }
+        (D.state server.new.disk) s folder.now (L.contents log.old) (L.contents log.new) result }
 {
     let mut report = Report::new(alloc);
     let looked = look_at_folder(rt, alloc, server, folder, &mut report);
-    let told = log.write_all(report.lines.as_slice()).is_ok() && log.flush().is_ok();
+    let told = write_lines(log, report.lines.as_slice());
     looked?;
-    if !told {
-        return Err(Refusal::WriteFault);
+    told?;
+    if report.any_left_out {
+        return Err(Refusal::OutOfMemory);
     }
     Ok(!report.any_refused)
+}
+
+/// Writes the lines to the log.
+fn write_lines<L: Write>(log: &mut L, lines: &[u8]) -> Result<(), Refusal>
+    ensures written { OnOk result
+        (Appends (L.contents log.old) (L.contents log.new) lines.now) }
+    ensures fault { IfErr result (λ r. r ≡ WriteFault) }
+{
+    let Ok(()) = log.write_all(lines) else {
+        return Err(Refusal::WriteFault);
+    };
+    match log.flush() {
+        Ok(()) => Ok(()),
+        Err(_) => Err(Refusal::WriteFault),
+    }
 }

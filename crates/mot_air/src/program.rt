@@ -3,9 +3,8 @@ ghost use Rattle.std.specs.Prelude.{None, Ok, Some, codes};
 ghost use Rattle.std.specs.Io.KnownBytes.{Keeps};
 ghost use Rattle.clap.specs.Words.{kind_of};
 ghost use Rattle.mot_air.specs.Exporting.{Exports, StopsExporting};
-ghost use Rattle.mot_air.specs.Playing.{Plays, StopsPlaying};
 ghost use Rattle.mot_air.specs.Program.{Does, DoesInPart, IsBeginningRefusal, IsRefused, IsUntold};
-ghost use Rattle.mot_air.specs.Program.{IsUntouched, OnOpened, Succeeds, turns_of};
+ghost use Rattle.mot_air.specs.Program.{IsUntouched, OnOpened, Succeeds};
 ghost use Rattle.mot_air.specs.Syncing.{StopsSyncing, Syncs};
 ghost use Rattle.mot_air.specs.Task.{AreWrong};
 ghost use Rattle.mot_air.specs.declared.used.AirDisk.{AirDisk};
@@ -16,19 +15,18 @@ ghost use Rattle.mot_base.specs.declared.refusal.Refusal.TheVariants.{WriteFault
 
 use crate::command::command;
 use crate::exporting::export_disk;
-use crate::playing::{play_disk, sync_disk};
+use crate::on_air::play_file;
+use crate::playing::sync_disk;
+use crate::subject::{Subject, subject_of, tell, tell_folder};
 use crate::task::{Task, task_of};
 use crate::used::{AirDisk, AirExit, Finished};
 use clap::Error;
 use clap::error::ErrorKind;
 use disk_store::{FileDiskFrom, Start};
 use mot_base::Refusal;
-use mot_feed::Direct;
 use std::alloc::{AllocError, Global};
 use std::convert::AsStr;
-use std::fs::{File, OpenOptions};
 use std::io::Write;
-use std::rt::Files;
 
 /// Whether the word is one of these commands.
 pub fn is_air(word: &str) -> bool
@@ -61,7 +59,8 @@ pub fn run_air<S: AsStr, B: Start, W: Write, E: Write>(
 }
 
 /// Does what the words after the program's own name ask for, and hands out the disk that it worked
-/// on. The log goes to `writer`; what went wrong is printed to `errors`.
+/// on. What is told goes to `writer`, but where packets go there the log to `errors`. What went wrong
+/// is printed to `errors`.
 ///
 /// `start` is for clauses alone: what the file of the disk held as it was opened. A program gives
 /// `Unknown`.
@@ -88,7 +87,12 @@ pub fn run_air_on<S: AsStr, B: Start, W: Write, E: Write>(
     let command = match command(alloc) {
         Ok(command) => command,
         Err(AllocError) => {
-            return refuse(errors, Refusal::OutOfMemory, AirDisk::Untouched(start));
+            return refuse(
+                errors,
+                Refusal::OutOfMemory,
+                Subject::Nothing,
+                AirDisk::Untouched(start),
+            );
         }
     };
     let matches = match command.try_get_matches_from(words) {
@@ -99,13 +103,26 @@ pub fn run_air_on<S: AsStr, B: Start, W: Write, E: Write>(
         return AirExit::unrefused(2, AirDisk::Untouched(start));
     };
     let Some(task) = task_of(name, rest) else {
-        return refuse(errors, Refusal::BadNumber, AirDisk::Untouched(start));
+        let subject = subject_of(Refusal::BadNumber, rest, None);
+        return refuse(
+            errors,
+            Refusal::BadNumber,
+            subject,
+            AirDisk::Untouched(start),
+        );
     };
-    let Finished { result, disk } = execute(rt, alloc, task, start, writer);
+    let Finished {
+        result,
+        disk,
+        cause,
+    } = execute(rt, alloc, task, start, writer, errors);
     match result {
         Ok(true) => AirExit::unrefused(0, disk),
-        Ok(false) => AirExit::unrefused(1, disk),
-        Err(refusal) => refuse(errors, refusal, disk),
+        Ok(false) => {
+            tell_folder(rt, errors, rest);
+            AirExit::unrefused(1, disk)
+        }
+        Err(refusal) => refuse(errors, refusal, subject_of(refusal, rest, cause), disk),
     }
 }
 
@@ -130,23 +147,29 @@ fn explain<B: Start, W: Write, E: Write>(
     let kind = error.kind();
     let disk = AirDisk::Untouched(start);
     if kind == ErrorKind::OutOfMemory {
-        return refuse(errors, Refusal::OutOfMemory, disk);
+        return refuse(errors, Refusal::OutOfMemory, Subject::Nothing, disk);
     }
     if kind != ErrorKind::DisplayHelp {
         let _ = write!(errors, "{error}");
         return AirExit::unrefused(2, disk);
     }
     if write!(writer, "{error}").is_err() || writer.flush().is_err() {
-        return refuse(errors, Refusal::WriteFault, disk);
+        return refuse(errors, Refusal::WriteFault, Subject::Nothing, disk);
     }
     AirExit::unrefused(0, disk)
 }
 
-/// Ends a run by a refusal, and prints it.
-fn refuse<B: Start, E: Write>(errors: &mut E, refusal: Refusal, disk: AirDisk<B>) -> AirExit<B>
+/// Ends a run by a refusal, and prints it, and on a second line what it is about.
+fn refuse<B: Start, E: Write>(
+    errors: &mut E,
+    refusal: Refusal,
+    subject: Subject<'_>,
+    disk: AirDisk<B>,
+) -> AirExit<B>
     ensures { result ≡ record { status = 1; refusal = Some refusal; disk = disk } }
 {
     let _ = writeln!(errors, "motcar: {refusal}");
+    tell(errors, subject);
     AirExit {
         status: 1,
         refusal: Some(refusal),
@@ -155,12 +178,13 @@ fn refuse<B: Start, E: Write>(errors: &mut E, refusal: Refusal, disk: AirDisk<B>
 }
 
 /// Does a task.
-fn execute<B: Start, W: Write>(
+fn execute<B: Start, W: Write, E: Write>(
     rt: &HostRuntime,
     alloc: Global,
     task: Task<'_>,
     start: B,
     writer: &mut W,
+    errors: &mut E,
 ) -> Finished<B>
     ensures done { result.result ≡ Ok true → Does task.entry result.disk
         (W.contents writer.old) (W.contents writer.new) }
@@ -177,55 +201,11 @@ fn execute<B: Start, W: Write>(
             packets,
             folder,
             turns,
-        } => play_file(rt, alloc, disk, packets, folder, turns, start, writer),
+        } => play_file(
+            rt, alloc, disk, packets, folder, turns, start, writer, errors,
+        ),
         Task::Sync { disk, folder } => sync_file(rt, alloc, disk, folder, start, writer),
         Task::Export(disk) => export_file(rt, alloc, disk, start, writer),
-    }
-}
-
-/// Plays the disk of the file at the path into the pipe or device at the other.
-fn play_file<B: Start, W: Write>(
-    rt: &HostRuntime,
-    alloc: Global,
-    path: &str,
-    packets: &str,
-    folder: Option<&str>,
-    turns: Option<u32>,
-    start: B,
-    log: &mut W,
-) -> Finished<B>
-    ensures done { result.result ≡ Ok true
-        → OnOpened (Plays true (turns_of turns) None None) result.disk }
-    ensures told { result.result ≢ Ok false }
-    ensures refused { IfErr result.result (λ r. (((r ≡ DeviceFault) ⊎ (r ≡ WriteFault))
-        × IsUntold result.disk (W.contents log.old) (W.contents log.new))
-        ⊎ OnOpened (StopsPlaying r true None None) result.disk) }
-{
-    let Ok(writer) = open_packets(rt, packets) else {
-        return Finished::untouched(Refusal::WriteFault, start);
-    };
-    let mut outlet = Direct { writer };
-    match FileDiskFrom::open_from(rt, path, start) {
-        Ok(disk) => Finished::done(play_disk(
-            rt,
-            alloc,
-            disk,
-            &mut outlet,
-            folder,
-            log,
-            turns_of(turns),
-        )),
-        Err(unopened) => Finished::untouched(Refusal::DeviceFault, unopened.start),
-    }
-}
-
-/// So many turns; as good as without end, where no number is given.
-fn turns_of(turns: Option<u32>) -> u64
-    ensures { result ≡ turns_of turns }
-{
-    match turns {
-        Some(turns) => turns as u64,
-        None => u64::MAX,
     }
 }
 
@@ -238,14 +218,15 @@ fn sync_file<B: Start, W: Write>(
     start: B,
     log: &mut W,
 ) -> Finished<B>
-    ensures done { IfOk result.result (λ all. OnOpened (Syncs all) result.disk) }
+    ensures done { IfOk result.result (λ all. OnOpened (Syncs all folder.now
+        (W.contents log.old) (W.contents log.new)) result.disk) }
     ensures refused { IfErr result.result (λ r. ((r ≡ DeviceFault)
         × IsUntold result.disk (W.contents log.old) (W.contents log.new))
-        ⊎ OnOpened (StopsSyncing r) result.disk) }
+        ⊎ OnOpened (StopsSyncing r folder.now) result.disk) }
 {
     match FileDiskFrom::open_from(rt, path, start) {
         Ok(disk) => Finished::of_file(sync_disk(rt, alloc, disk, folder, log)),
-        Err(unopened) => Finished::untouched(Refusal::DeviceFault, unopened.start),
+        Err(unopened) => Finished::unopened(unopened),
     }
 }
 
@@ -265,24 +246,7 @@ fn export_file<B: Start, W: Write>(
         ⊎ OnOpened (StopsExporting r (W.contents writer.old) (W.contents writer.new)) result.disk) }
 {
     match FileDiskFrom::open_from(rt, path, start) {
-        Ok(disk) => Finished::done(export_disk(alloc, disk, writer)),
-        Err(unopened) => Finished::untouched(Refusal::DeviceFault, unopened.start),
-    }
-}
-
-/// Opens what packets are written to, for reading and writing: so a pipe's opening waits for no
-/// reader, and its reader may go and come back. A regular file is refused.
-fn open_packets(rt: &HostRuntime, path: &str) -> Result<File, Refusal> {
-    match rt.metadata(path) {
-        Ok(metadata) => {
-            if metadata.is_file() {
-                return Err(Refusal::WriteFault);
-            }
-        }
-        Err(_) => return Err(Refusal::WriteFault),
-    }
-    match OpenOptions::new().read(true).write(true).open(rt, path) {
-        Ok(file) => Ok(file),
-        Err(_) => Err(Refusal::WriteFault),
+        Ok(disk) => Finished::done(export_disk(alloc, disk, writer), None),
+        Err(unopened) => Finished::unopened(unopened),
     }
 }

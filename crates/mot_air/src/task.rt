@@ -14,11 +14,11 @@ pub enum Task<'a> {
     Play {
         /// The path of the disk's file.
         disk: &'a str,
-        /// The path of the pipe or device that takes the packets.
+        /// What takes the packets: the path of a pipe, a device or a file, or `-`.
         packets: &'a str,
         /// The path of the folder that the carousel is made equal to, if one is given.
         folder: Option<&'a str>,
-        /// How many whole turns; without end, where none is given.
+        /// How many whole turns; where none is given, 16 into a file, and else without end.
         turns: Option<u32>,
     },
     /// Make the carousel of a disk equal to a folder.

@@ -1,9 +1,12 @@
 //! The disk that a command worked on, and how a command ended.
-ghost use Rattle.std.specs.Prelude.{◌≡◌, true, Ok, Err, None, IfErr, OnOk};
+ghost use Rattle.std.specs.Prelude.{◌≡◌, true, Ok, Err, None, Some, IfErr, OnOk};
+ghost use Rattle.mot_air.specs.declared.fault.Cause.TheVariants.{Disk};
 ghost use Rattle.mot_air.specs.declared.used.AirDisk.TheVariants.{Opened, Untouched};
+ghost use Rattle.mot_base.specs.declared.refusal.Refusal.TheVariants.{DeviceFault, WriteFault};
 
 use crate::Ended;
-use disk_store::{FileDiskFrom, Start};
+use crate::fault::Cause;
+use disk_store::{FileDiskFrom, Start, Unopened};
 use mot_base::Refusal;
 
 /// The disk that a command worked on. The value of `S` is used up where a file is opened, so that
@@ -47,21 +50,43 @@ impl<S: Start> AirExit<S> {
 pub(crate) struct Finished<S: Start> {
     pub(crate) result: Result<bool, Refusal>,
     pub(crate) disk: AirDisk<S>,
+    /// Why it was refused, where more is known than the refusal says.
+    pub(crate) cause: Option<Cause>,
 }
 
 impl<S: Start> Finished<S> {
-    /// Refused before a disk was opened.
-    pub(crate) fn untouched(refusal: Refusal, start: S) -> Self
-        ensures { result ≡ record { result = Err refusal; disk = Untouched start } }
+    /// The disk was not opened.
+    pub(crate) fn unopened(unopened: Unopened<S>) -> Self
+        ensures { result ≡ record {
+          result = Err DeviceFault;
+          disk = Untouched unopened.start;
+          cause = Some (Disk unopened.fault);
+        } }
     {
         Finished {
-            result: Err(refusal),
+            result: Err(Refusal::DeviceFault),
+            disk: AirDisk::Untouched(unopened.start),
+            cause: Some(Cause::Disk(unopened.fault)),
+        }
+    }
+
+    /// What should take the packets was not opened, and then no disk.
+    pub(crate) fn unwritable(cause: Cause, start: S) -> Self
+        ensures { result ≡ record {
+          result = Err WriteFault;
+          disk = Untouched start;
+          cause = Some cause;
+        } }
+    {
+        Finished {
+            result: Err(Refusal::WriteFault),
             disk: AirDisk::Untouched(start),
+            cause: Some(cause),
         }
     }
 
     /// Done, or refused, on the disk of a file that was opened.
-    pub(crate) fn done(ended: Ended<FileDiskFrom<S>, ()>) -> Self
+    pub(crate) fn done(ended: Ended<FileDiskFrom<S>, ()>, cause: Option<Cause>) -> Self
         ensures disk { result.disk ≡ Opened ended.disk }
         ensures done { OnOk ended.result (result.result ≡ Ok true) }
         ensures refused { IfErr ended.result (λ r. result.result ≡ Err r) }
@@ -73,16 +98,22 @@ impl<S: Start> Finished<S> {
         Finished {
             result,
             disk: AirDisk::Opened(ended.disk),
+            cause,
         }
     }
 
     /// On the disk of a file that was opened.
     pub(crate) fn of_file(ended: Ended<FileDiskFrom<S>, bool>) -> Self
-        ensures { result ≡ record { result = ended.result; disk = Opened ended.disk } }
+        ensures { result ≡ record {
+          result = ended.result;
+          disk = Opened ended.disk;
+          cause = None;
+        } }
     {
         Finished {
             result: ended.result,
             disk: AirDisk::Opened(ended.disk),
+            cause: None,
         }
     }
 }

@@ -3,12 +3,13 @@ use Rattle.std.proofs.Common.{◌≡◌, ℕ, zero, suc, ◌+◌, ◌-◌, Bool,
 use Rattle.std.proofs.Common.{◌∷◌, ◌++◌, length, map, Option, Some, None, Result, Ok, Err, refl, sym, ap}
 use Rattle.std.proofs.Common.{◌∙◌, subst, arith, length-append, append-nil, inl, inr}
 use Rattle.std.proofs.lemmas.List.{map-append}
-use Rattle.std.specs.Prelude.{◌⊎◌, if◌then◌else◌}
+use Rattle.std.specs.Prelude.{◌⊎◌, ◌≢◌, if◌then◌else◌}
 use Rattle.disk_store.specs.Disk.{State, IsHonestDisk, IsUnchanged}
 use Rattle.mot_base.specs.Reading.{◌>>=◌}
 use Rattle.mot_base.proofs.Laws.{read_each-append}
 use Rattle.mot_base.specs.declared.geometry.Geometry.{Geometry}
 use Rattle.mot_base.specs.declared.refusal.Refusal.{Refusal}
+use Rattle.mot_base.specs.declared.refusal.Refusal.TheVariants.{WriteFault}
 use Rattle.mot_carousel.specs.Carousel.{Carousel, carousel_after, carousel_if_accepted, change}
 use Rattle.mot_carousel.specs.declared.command.Command.{Command}
 use Rattle.mot_feed.specs.Feeding.{AreOf, Event, FedPacketsAreContinuous, Feeds, FeedsPart, Happen}
@@ -20,7 +21,7 @@ use Rattle.mot_feed.specs.Sending as one
 use Rattle.mot_feed.specs.Writing.{Grows, GrowsPart}
 use Rattle.mot_feed.specs.Writing as part
 use Rattle.mot_feed.proofs.Grown.{grows_nil, grows_trans, grows_kept, part_after}
-use Rattle.mot_feed.proofs.Sent.{not_fine}
+use Rattle.mot_feed.proofs.Sent.{not_fine, same_refusal}
 use Rattle.mot_journal.specs.Image.{Standing}
 use Rattle.mot_packets.specs.Packet.{PacketFields, read_packet}
 use Rattle.mot_packets.specs.Written.{bytes_of_packet}
@@ -451,14 +452,16 @@ module _ {D : Type 0} where
     updated_turns = turns-append so_far.events (map Accepted done_by)
         ∙ omega (arith, turns-map done_by)
 
-    pub update_fault : FeedsPart old up start then_state s waits before after
-    update_fault = record {
+    pub update_fault : (refusal : Refusal) → fault ≡ Some refusal → refusal ≢ WriteFault
+        → FeedsPart refusal old up start then_state s waits before after
+    update_fault refusal is other = record {
       fault = fault;
+      told = inl is;
       events = updated_events;
       fed = updated;
       packets = so_far.packets;
       are = updated_are;
-      written = part.whole so_far.written;
+      written = part.whole other so_far.written;
       uncut = updated_uncut;
     }
 
@@ -494,42 +497,44 @@ module _ {D : Type 0} where
       sent_uncut : waits ≡ true → are_uncut true sent_events ≡ true
       sent_uncut w = uncut-append true events (Played step.sent ∷ []) (uncut w) refl
 
-      cut_packet : GrowsPart (packet ∷ []) after last
-          → FeedsPart old new start now s waits before last
-      cut_packet part_written = record {
+      cut_packet : (refusal : Refusal) → GrowsPart refusal (packet ∷ []) after last
+          → FeedsPart refusal old new start now s waits before last
+      cut_packet refusal part_written = record {
         fault = None;
+        told = inr refl;
         events = sent_events;
         fed = sent_fed;
         packets = packets ++ packet ∷ [];
         are = sent_are;
-        written = part_after packets (packet ∷ []) before after last written part_written;
+        written = part_after refusal packets (packet ∷ []) before after last written part_written;
         uncut = sent_uncut;
       }
 
     send_fault-cases : (refusal : Refusal)
         → SendsOne (Err refusal) (place_in up t) (place_in new t) after last
-        → FeedsPart old new start now s waits before last
+        → FeedsPart refusal old new start now s waits before last
     send_fault-cases refusal (one.whole packet e is step w) = absurd (not_fine e refusal (sym is))
     send_fault-cases refusal (one.short packet e n is step lt w) =
-        cut_packet packet e step (part.short [] packet n refl lt w)
-    send_fault-cases refusal (one.failed packet e is step w) =
-        cut_packet packet e step (part.failed [] packet refl w)
-    send_fault-cases refusal (one.none r is same w) = record {
+        cut_packet packet e step refusal
+        (part.short (same_refusal refusal WriteFault is) [] packet n refl lt w)
+    send_fault-cases refusal (one.none r other is same w) = record {
       fault = None;
+      told = inr refl;
       events = events ++ [];
       fed = fed-join old up new start then_state now s None events [] fed
           (fed-read up new then_state now t None [] sound view honest still held refl
           (refl, sym same));
       packets = packets;
       are = subst (λ l. AreOf l packets) (sym (append-nil events)) are;
-      written = part.whole (grows_kept before after last packets written w);
+      written = part.whole (λ e. other (sym (same_refusal refusal r is) ∙ e))
+          (grows_kept before after last packets written w);
       uncut = λ w. subst (λ l. are_uncut true l ≡ true) (sym (append-nil events)) (uncut w);
     }
 
     pub send_fault : (refusal : Refusal)
         → ((d : Standing) → Holds up.view d then_state
         → SendsOne (Err refusal) (place_in up d) (place_in new d) after last)
-        → FeedsPart old new start now s waits before last
+        → FeedsPart refusal old new start now s waits before last
     send_fault refusal sends = send_fault-cases refusal (sends t held)
 
     -- one that was written whole
@@ -554,8 +559,7 @@ module _ {D : Type 0} where
           }
       sent_on-cases ends rest is_rest (one.short packet e n is step lt w) =
           absurd (not_fine ends _ is)
-      sent_on-cases ends rest is_rest (one.failed packet e is step w) = absurd (not_fine ends _ is)
-      sent_on-cases ends rest is_rest (one.none refusal is same w) =
+      sent_on-cases ends rest is_rest (one.none refusal other is same w) =
           absurd (not_fine ends refusal is)
 
       pub sent_on : (ends : Bool) (rest : ℕ) → rest + (if ends then 1 else 0) ≡ left

@@ -1,7 +1,8 @@
 -- Writes that were added to known ones.
 use Rattle.std.proofs.Common.{ℕ, List, [], ◌∷◌, ◌++◌, take, Option, Some, None}
 use Rattle.std.proofs.Common.{sym, ap, ◌∙◌, subst, append_assoc, append-nil}
-use Rattle.mot_feed.specs.Writing.{Grows, GrowsPart, whole, failed, short}
+use Rattle.mot_base.specs.declared.refusal.Refusal.{Refusal}
+use Rattle.mot_feed.specs.Writing.{Grows, GrowsPart, whole, short}
 
 pub grows_nil : (a : Option (List (List ℕ))) → Grows a a []
 grows_nil None = tt
@@ -21,15 +22,13 @@ pub grows_kept : (a b c : Option (List (List ℕ))) (xs : List (List ℕ)) → G
 grows_kept a b c xs p q = subst (Grows a c) (append-nil xs) (grows_trans a b c xs [] p q)
 
 -- a part behind what was written
-pub part_after : (front packets : List (List ℕ)) (a b c : Option (List (List ℕ)))
-    → Grows a b front → GrowsPart packets b c → GrowsPart (front ++ packets) a c
-part_after front packets a b c p (whole q) = whole (grows_trans a b c front packets p q)
-part_after front packets a b c p (failed others last is q) =
-    failed (front ++ others) last
-    (ap (λ l. front ++ l) is ∙ sym (append_assoc front others (last ∷ [])))
-    (grows_trans a b c front others p q)
-part_after front packets a b c p (short others last count is lt q) =
-    short (front ++ others) last count
+pub part_after : (refusal : Refusal) (front packets : List (List ℕ))
+    (a b c : Option (List (List ℕ))) → Grows a b front → GrowsPart refusal packets b c
+    → GrowsPart refusal (front ++ packets) a c
+part_after refusal front packets a b c p (whole other q) =
+    whole other (grows_trans a b c front packets p q)
+part_after refusal front packets a b c p (short cut others last count is lt q) =
+    short cut (front ++ others) last count
     (ap (λ l. front ++ l) is ∙ sym (append_assoc front others (last ∷ []))) lt
     (subst (Grows a c) (sym (append_assoc front others (take count last ∷ [])))
     (grows_trans a b c front (others ++ take count last ∷ []) p q))

@@ -1,22 +1,29 @@
 -- Packets in a row.
-use Rattle.std.proofs.Common.{◌≡◌, ℕ, suc, ◌+◌, ◌<◌, Bool, List, [], ◌∷◌, ◌++◌, Option}
-use Rattle.std.proofs.Common.{Result, Ok, Err, take, refl, sym, ap, subst, arith}
+use Rattle.std.proofs.Common.{◌≡◌, ◌∙◌, ℕ, suc, ◌+◌, ◌<◌, Bool, List, [], ◌∷◌, ◌++◌, length}
+use Rattle.std.proofs.Common.{Option, Some, Result, Ok, Err, take, refl, sym, ap, subst, arith}
 use Rattle.std.proofs.Common.{add-one}
-use Rattle.std.specs.Prelude.{OnErr, IsErrAnd}
+use Rattle.std.specs.Prelude.{◌≢◌, IsErrAnd, IsFalse, IsTrue}
 use Rattle.mot_journal.specs.Image.{Standing}
 use Rattle.mot_player.specs.Standing as player
+use Rattle.mot_repository.specs.Repository.{RepositoryView}
 use Rattle.mot_server.specs.Server.{ServerView, bodies_of, place_in}
 use Rattle.disk_store.specs.Disk.{State, IsUnchanged}
+use Rattle.disk_store.specs.Failures.{Rises}
 use Rattle.mot_server.specs.Inner.Unread.{is_unchanged}
 use Rattle.mot_base.specs.declared.refusal.Refusal.{Refusal}
-use Rattle.mot_feed.specs.Sending.{Sends, SendsOne, SendsPart}
+use Rattle.mot_base.specs.declared.refusal.Refusal.TheVariants.{DeviceFault, Halted, OutOfMemory, WriteFault}
+use Rattle.mot_feed.specs.Sending.{IsSendFault, Sends, SendsOne, SendsPart}
 use Rattle.mot_feed.specs.Sending as one
 use Rattle.mot_feed.specs.Writing.{Grows, GrowsPart}
 use Rattle.mot_feed.specs.Writing as part
 use Rattle.mot_feed.proofs.Grown.{grows_nil, grows_trans, grows_kept}
+use Rattle.mot_packets.specs.Packet.{PacketFields, read_packet}
 use Rattle.mot_player.specs.Place.{Place}
-use Rattle.mot_server.specs.Playing.{HasPlayed}
+use Rattle.mot_server.specs.Playing.{HasPlayed, IsReadRefusal}
+use Rattle.mot_server.specs.Playing as reading
 use Rattle.mot_server.proofs.Laws.{played_none, played_more}
+use Rattle.mot_update.specs.Faults.{IsCalm, IsUpdateFault}
+use Rattle.mot_update.specs.Faults as update
 
 abbrev IsFine : {T : Type 0} → Result T Refusal → Type 0
 IsFine (Ok x) = Unit {0}
@@ -47,16 +54,17 @@ sends_more old mid new count before between after ends so_far (one.whole packet 
     }
 sends_more old mid new count before between after ends so_far (one.short packet e n is step lt w) =
     absurd (not_fine ends _ is)
-sends_more old mid new count before between after ends so_far (one.failed packet e is step w) =
-    absurd (not_fine ends _ is)
-sends_more old mid new count before between after ends so_far (one.none refusal is same w) =
+sends_more old mid new count before between after ends so_far (one.none refusal other is same w) =
     absurd (not_fine ends refusal is)
+
+pub same_refusal : (a b : Refusal) → ◌≡◌ {A = Result Bool Refusal} (Err a) (Err b) → a ≡ b
+same_refusal a b e = cc
 
 -- one more, written in part, not written or not made
 pub sends_part : (old mid new : Place) (count limit : ℕ)
     (before between after : Option (List (List ℕ))) (refusal : Refusal) → count < limit
     → Sends old count mid before between → SendsOne (Err refusal) mid new between after
-    → SendsPart old limit new before after
+    → SendsPart refusal old limit new before after
 sends_part old mid new count limit before between after refusal lt so_far
     (one.whole packet e is step written) = absurd (not_fine e refusal (sym is))
 sends_part old mid new count limit before between after refusal lt so_far
@@ -65,31 +73,26 @@ sends_part old mid new count limit before between after refusal lt so_far
       few = lt;
       packets = so_far.packets ++ packet ∷ [];
       played = played_more old mid new count so_far.packets so_far.played packet e step;
-      written = part.short so_far.packets packet n refl cut
+      written = part.short (same_refusal refusal WriteFault is) so_far.packets packet n refl cut
           (grows_trans before between after so_far.packets (take n packet ∷ []) so_far.written
           written);
     }
 sends_part old mid new count limit before between after refusal lt so_far
-    (one.failed packet e is step written) = record {
-      made = suc count;
-      few = lt;
-      packets = so_far.packets ++ packet ∷ [];
-      played = played_more old mid new count so_far.packets so_far.played packet e step;
-      written = part.failed so_far.packets packet refl
-          (grows_kept before between after so_far.packets so_far.written written);
-    }
-sends_part old mid new count limit before between after refusal lt so_far
-    (one.none r is same written) = record {
+    (one.none r other is same written) = record {
       made = count;
       few = omega (arith, lt);
       packets = so_far.packets;
       played = subst (HasPlayed old count so_far.packets) (sym same) so_far.played;
-      written = part.whole (grows_kept before between after so_far.packets so_far.written written);
+      written = part.whole (λ w. other (sym (same_refusal refusal r is) ∙ w))
+          (grows_kept before between after so_far.packets so_far.written written);
     }
 
-pub on_err : {A E : Type 0} (r : Result A E) (P : Type 0) → P → OnErr r P
-on_err (Ok x) P p = tt
-on_err (Err e) P p = p
+-- a packet has some bytes
+pub some_bytes : (packet : List ℕ) (p : PacketFields) → read_packet packet ≡ Some p
+    → 0 < length packet
+unfolding read_packet
+some_bytes [] p is = absurd (cc)
+some_bytes (b ∷ bytes) p is = omega arith
 
 pub stays_same : (state : State) → IsUnchanged state state
 stays_same state = is_unchanged state
@@ -102,3 +105,58 @@ pub same_place : {D : Type 0} (old new : ServerView D) (s : Standing) → new.pl
     → place_in new s ≡ place_in old s
 same_place old new s played =
     ap (λ (p : player.Standing). player.place_of p (bodies_of s.carousel)) played
+
+-- ---- faults
+
+module _ {D : Type 0} (state : D → State) where
+  -- why a packet could not be made
+  pub unread : (old new : ServerView D) (refusal : Refusal)
+      → IsReadRefusal old new (state old.disk).failures (state new.disk).failures refusal
+      → IsSendFault old (state old.disk) (state new.disk) refusal
+  unread old new refusal (reading.halted is e same) =
+      one.halted is e (ap (λ (v : ServerView D). (state v.disk).failures) same)
+  unread old new refusal (reading.failed is e rises) = one.device is e rises
+
+-- which is none of writing
+pub not_written : {D : Type 0} (old new : ServerView D) (before now : ℕ) (refusal : Refusal)
+    → IsReadRefusal old new before now refusal → refusal ≢ WriteFault
+not_written old new before now refusal (reading.halted is e same) w =
+    absurd (let wrong : Halted ≡ WriteFault = sym e ∙ w in cc)
+not_written old new before now refusal (reading.failed is e rises) w =
+    absurd (let wrong : DeviceFault ≡ WriteFault = sym e ∙ w in cc)
+
+-- neither is what ends an update
+pub not_of_writing : {D : Type 0} (old : ServerView D) (start now : State) (refusal : Refusal)
+    → IsUpdateFault old start now refusal → refusal ≢ WriteFault
+not_of_writing old start now refusal (update.halted is e same) w =
+    absurd (let wrong : Halted ≡ WriteFault = sym e ∙ w in cc)
+not_of_writing old start now refusal (update.no_memory e same) w =
+    absurd (let wrong : OutOfMemory ≡ WriteFault = sym e ∙ w in cc)
+not_of_writing old start now refusal (update.device is e rises) w =
+    absurd (let wrong : DeviceFault ≡ WriteFault = sym e ∙ w in cc)
+
+-- a packet that was sent leaves all calm
+pub sent_calm : {D : Type 0} (old new : ServerView D) (start now : State)
+    → now.failures ≡ start.failures → new.view ≡ old.view → IsCalm old new start now
+sent_calm old new start now calm view =
+    record { failures = calm; halted = ap (λ (v : RepositoryView). v.halted) view }
+
+-- a fault behind updates without one
+pub send_fault_behind : {D : Type 0} (old mid : ServerView D) (start between now : State)
+    (refusal : Refusal) → IsCalm old mid start between → IsSendFault mid between now refusal
+    → IsSendFault old start now refusal
+send_fault_behind old mid start between now refusal calm (one.halted is e same) =
+    one.halted (subst IsTrue calm.halted is) e (same ∙ calm.failures)
+send_fault_behind old mid start between now refusal calm (one.device is e rises) =
+    one.device (subst IsFalse calm.halted is) e
+    (subst (λ n. Rises n now.failures) calm.failures rises)
+send_fault_behind old mid start between now refusal calm (one.unwritten e same) =
+    one.unwritten e (same ∙ calm.failures)
+
+-- a fault behind packets that were sent without one
+pub send_fault_on : {D : Type 0} (old mid : ServerView D) (start between now : State)
+    (refusal : Refusal) → mid.view ≡ old.view → between.failures ≡ start.failures
+    → IsSendFault mid between now refusal → IsSendFault old start now refusal
+send_fault_on old mid start between now refusal view calm fault =
+    send_fault_behind old mid start between now refusal (sent_calm old mid start between calm view)
+    fault

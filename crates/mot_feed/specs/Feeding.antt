@@ -6,6 +6,7 @@ use Rattle.disk_store.specs.Disk.{State}
 use Rattle.mot_base.specs.declared.refusal.Refusal.{Refusal}
 use Rattle.mot_carousel.specs.Carousel.{Carousel, carousel_if_accepted, change}
 use Rattle.mot_carousel.specs.declared.command.Command.{Command}
+use Rattle.mot_feed.specs.Sending.{IsSendFault}
 use Rattle.mot_feed.specs.Writing.{Grows, GrowsPart}
 use Rattle.mot_journal.specs.Image.{Standing}
 use Rattle.mot_packets.specs.Written.{bytes_of_packet}
@@ -16,6 +17,7 @@ use Rattle.mot_player.specs.Turn.{Turn, turn_of_carousel}
 use Rattle.mot_server.specs.RunEnds.{RunLeaves}
 use Rattle.mot_server.specs.Runs.{accepted_commands}
 use Rattle.mot_server.specs.Server.{ServerView, place_in}
+use Rattle.mot_update.specs.Faults.{IsUpdateFault}
 use Rattle.mot_update.specs.HasRun.{HasRun}
 
 abbrev pub fault_of : {T : Type 0} → Result T Refusal → Option Refusal
@@ -111,16 +113,22 @@ pub record Feeds {D : Type 0} (old new : ServerView D) (start now : State) (s : 
   pub ended : ((turns_in events ≡ turns) × (has_ended true events ≡ true))
       ⊎ (length packets ≡ 18446744073709551615)
 
--- a fault came in an update, in a packet or in writing it
-pub record FeedsPart {D : Type 0} (old new : ServerView D) (start now : State) (s : Standing)
-    (waits : Bool) (before after : Option (List (List ℕ))) : Type 0 where
+-- This refusal came of an update, of a packet or of writing it: then no command was in flight.
+pub record FeedsPart {D : Type 0} (refusal : Refusal) (old new : ServerView D) (start now : State)
+    (s : Standing) (waits : Bool) (before after : Option (List (List ℕ))) : Type 0 where
   pub fault : Option Refusal
+  pub told : (fault ≡ Some refusal) ⊎ (fault ≡ None)
   pub events : List Event
   pub fed : HasFed old new start now s fault events
   pub packets : List (List ℕ)
   pub are : AreOf events packets
-  pub written : GrowsPart packets before after
+  pub written : GrowsPart refusal packets before after
   pub uncut : waits ≡ true → are_uncut true events ≡ true
+
+-- why feeding ended, on every disk: an update, a packet or a write did
+abbrev pub IsFeedFault : {D : Type 0} → ServerView D → (start now : State) → Refusal → Type 0
+IsFeedFault old start now refusal =
+    IsUpdateFault old start now refusal ⊎ IsSendFault old start now refusal
 
 -- Of a server just opened all packets have their continuity indexes, whatever updates come between
 -- them.

@@ -1,12 +1,15 @@
 -- Packets sent, one write each.
-use Rattle.std.specs.Prelude.{ℕ, ◌≡◌, ◌≤◌, ◌<◌, Bool, List, [], ◌∷◌, length, take, Option, Result}
-use Rattle.std.specs.Prelude.{Ok, Err}
+use Rattle.std.specs.Prelude.{ℕ, ◌≡◌, ◌≢◌, ◌≤◌, ◌<◌, Bool, List, [], ◌∷◌, length, take, Option}
+use Rattle.std.specs.Prelude.{Result, Ok, Err, IsTrue, IsFalse}
+use Rattle.disk_store.specs.Disk.{State}
+use Rattle.disk_store.specs.Failures.{Rises}
 use Rattle.mot_base.specs.declared.refusal.Refusal.{Refusal}
-use Rattle.mot_base.specs.declared.refusal.Refusal.TheVariants.{WriteFault}
+use Rattle.mot_base.specs.declared.refusal.Refusal.TheVariants.{DeviceFault, Halted, WriteFault}
 use Rattle.mot_feed.specs.Writing.{Grows, GrowsPart}
 use Rattle.mot_player.specs.Laws.{IsStep}
 use Rattle.mot_player.specs.Place.{Place}
 use Rattle.mot_server.specs.Playing.{HasPlayed}
+use Rattle.mot_server.specs.Server.{ServerView}
 
 -- the packets of so many requests, each written in one write
 pub record Sends (old : Place) (count : ℕ) (new : Place)
@@ -15,16 +18,17 @@ pub record Sends (old : Place) (count : ℕ) (new : Place)
   pub played : HasPlayed old count packets new
   pub written : Grows before after packets
 
--- the packets of at most so many requests, of which the last may be missing or cut
-pub record SendsPart (old : Place) (count : ℕ) (new : Place)
+-- The packets of at most so many requests, up to a fault: where a write failed the last is missing
+-- or cut.
+pub record SendsPart (refusal : Refusal) (old : Place) (count : ℕ) (new : Place)
     (before after : Option (List (List ℕ))) : Type 0 where
   pub made : ℕ
   pub few : made ≤ count
   pub packets : List (List ℕ)
   pub played : HasPlayed old made packets new
-  pub written : GrowsPart packets before after
+  pub written : GrowsPart refusal packets before after
 
--- one request, whose packet was written in one write, in part, not at all, or not made
+-- one request, whose packet was written in one write, in part or not at all, or not made
 pub data SendsOne (result : Result Bool Refusal) (old new : Place)
     (before after : Option (List (List ℕ))) : Type 0 where
   whole : (packet : List ℕ) (ends : Bool) → result ≡ Ok ends → IsStep old packet ends new
@@ -32,7 +36,15 @@ pub data SendsOne (result : Result Bool Refusal) (old new : Place)
   short : (packet : List ℕ) (ends : Bool) (count : ℕ) → result ≡ Err WriteFault
       → IsStep old packet ends new → count < length packet
       → Grows before after (take count packet ∷ []) → SendsOne result old new before after
-  failed : (packet : List ℕ) (ends : Bool) → result ≡ Err WriteFault
-      → IsStep old packet ends new → Grows before after [] → SendsOne result old new before after
-  none : (refusal : Refusal) → result ≡ Err refusal → new ≡ old → Grows before after []
-      → SendsOne result old new before after
+  none : (refusal : Refusal) → refusal ≢ WriteFault → result ≡ Err refusal → new ≡ old
+      → Grows before after [] → SendsOne result old new before after
+
+-- Why packets were not sent, on every disk: the server was halted, the disk failed, or a write did.
+pub data IsSendFault {D : Type 0} (old : ServerView D) (start now : State)
+    (refusal : Refusal) : Type 0 where
+  halted : IsTrue old.view.halted → refusal ≡ Halted → now.failures ≡ start.failures
+      → IsSendFault old start now refusal
+  device : IsFalse old.view.halted → refusal ≡ DeviceFault
+      → Rises start.failures now.failures → IsSendFault old start now refusal
+  unwritten : refusal ≡ WriteFault → now.failures ≡ start.failures
+      → IsSendFault old start now refusal

@@ -1,10 +1,11 @@
 //! Taking turns between updating the carousel and sending its packets.
-ghost use Rattle.std.specs.Prelude.{◌≡◌, ◌≤◌, Bool, true, OnErr, OnOk};
+ghost use Rattle.std.specs.Prelude.{◌≡◌, ◌≤◌, Bool, true, IfErr, OnOk};
 ghost use Rattle.disk_store.specs.Disk.{KeepsLength};
 ghost use Rattle.mot_feed.specs.Feeding.{FedPacketsAreContinuous, Feeds, FeedsPart};
-ghost use Rattle.mot_feed.specs.Feeding.{IsUpdating, fault_of, may_change};
+ghost use Rattle.mot_feed.specs.Feeding.{IsFeedFault, IsUpdating, fault_of, may_change};
 ghost use Rattle.mot_journal.specs.Image.{Standing};
 ghost use Rattle.mot_repository.specs.Repository.{Holds};
+ghost use Rattle.mot_update.specs.Faults.{IsCalm, TellsFaults};
 
 use crate::Outlet;
 use crate::sending::send_one;
@@ -29,6 +30,8 @@ pub trait Update {
     ) -> Result<(), Refusal>
         ensures keeps { KeepsLength (D.state server.old.disk) (D.state server.new.disk) }
         ensures later { (D.state server.old.disk).failures ≤ (D.state server.new.disk).failures }
+        ensures faults { TellsFaults server.old server.new
+            (D.state server.old.disk) (D.state server.new.disk) result }
         ensures run { (s : Standing) → Holds server.old.view s (D.state server.old.disk)
             → (D.state server.new.disk).IsHonest
             → IsUpdating server.old server.new (D.state server.old.disk)
@@ -47,14 +50,19 @@ pub fn feed<D: Disk, O: Outlet, U: Update>(
 ) -> Result<(), Refusal>
     ensures keeps { KeepsLength (D.state server.old.disk) (D.state server.new.disk) }
     ensures later { (D.state server.old.disk).failures ≤ (D.state server.new.disk).failures }
+    ensures calm { OnOk result
+        (IsCalm server.old server.new (D.state server.old.disk) (D.state server.new.disk)) }
+    ensures fault { IfErr result (λ refusal. IsFeedFault server.old
+        (D.state server.old.disk) (D.state server.new.disk) refusal) }
     ensures fed { (s : Standing) → Holds server.old.view s (D.state server.old.disk)
         → (D.state server.new.disk).IsHonest
         → OnOk result (Feeds server.old server.new (D.state server.old.disk)
         (D.state server.new.disk) s U.waits turns (O.writes outlet.old) (O.writes outlet.new)) }
     ensures part { (s : Standing) → Holds server.old.view s (D.state server.old.disk)
         → (D.state server.new.disk).IsHonest
-        → OnErr result (FeedsPart server.old server.new (D.state server.old.disk)
-        (D.state server.new.disk) s U.waits (O.writes outlet.old) (O.writes outlet.new)) }
+        → IfErr result (λ refusal. FeedsPart refusal server.old server.new
+        (D.state server.old.disk) (D.state server.new.disk) s U.waits
+        (O.writes outlet.old) (O.writes outlet.new)) }
     ensures continuous { FedPacketsAreContinuous }
 {
     let mut left = turns;

@@ -8,7 +8,7 @@ use std::io::{self, Write};
 
 /// What takes packets, each in one write of its own: a pipe, a device or a file.
 pub trait Outlet {
-    // What each write took, in order, where that is known.
+    // What each write took, in order, where that is known: nothing, where it failed.
     ghost writes: { Self → Option (List (List ℕ)) } = { λ _. None };
 
     /// Offers the bytes in one write. It takes so many first bytes of them.
@@ -16,7 +16,7 @@ pub trait Outlet {
         ensures bound { IfOk result (λ count. count ≤ length bytes.now) }
         ensures one { MatchResult result
             (λ count. Grows (writes self.old) (writes self.new) (take count bytes.now ∷ []))
-            (λ _. Grows (writes self.old) (writes self.new) []) };
+            (λ _. Grows (writes self.old) (writes self.new) ([] ∷ [])) };
 }
 
 /// A writer as it is: each write is one call of its `write`.
@@ -31,7 +31,7 @@ impl<W: Write + Drop> Outlet for Direct<W> {
         ensures bound { IfOk result (λ count. count ≤ length bytes.now) }
         ensures one { MatchResult result
             (λ count. Grows None None (take count bytes.now ∷ []))
-            (λ _. Grows None None []) }
+            (λ _. Grows None None ([] ∷ [])) }
 
         // The writer takes what is told, and nothing else.
         ensures written { WriteAppends (W.contents self.old.writer) (W.contents self.new.writer)

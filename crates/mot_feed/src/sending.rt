@@ -1,7 +1,7 @@
 //! Packets, each in one write.
-ghost use Rattle.std.specs.Prelude.{◌≡◌, ◌≤◌, OnErr, OnOk};
+ghost use Rattle.std.specs.Prelude.{◌≡◌, ◌≤◌, IfErr, OnOk};
 ghost use Rattle.disk_store.specs.Disk.{IsUnchanged, KeepsLength};
-ghost use Rattle.mot_feed.specs.Sending.{Sends, SendsOne, SendsPart};
+ghost use Rattle.mot_feed.specs.Sending.{IsSendFault, Sends, SendsOne, SendsPart};
 ghost use Rattle.mot_journal.specs.Image.{Standing};
 ghost use Rattle.mot_repository.specs.Repository.{Holds};
 ghost use Rattle.mot_server.specs.Server.{place_in};
@@ -22,6 +22,10 @@ pub fn send_packets<D: Disk, O: Outlet>(
 ) -> Result<(), Refusal>
     ensures keeps { KeepsLength (D.state server.old.disk) (D.state server.new.disk) }
     ensures later { (D.state server.old.disk).failures ≤ (D.state server.new.disk).failures }
+    ensures calm { OnOk result
+        ((D.state server.new.disk).failures ≡ (D.state server.old.disk).failures) }
+    ensures fault { IfErr result (λ refusal. IsSendFault server.old
+        (D.state server.old.disk) (D.state server.new.disk) refusal) }
     ensures view { server.new.view ≡ server.old.view }
     ensures unchanged { (D.state server.new.disk).IsHonest
         → IsUnchanged (D.state server.old.disk) (D.state server.new.disk) }
@@ -31,8 +35,8 @@ pub fn send_packets<D: Disk, O: Outlet>(
         (O.writes outlet.old) (O.writes outlet.new)) }
     ensures part { (s : Standing) → Holds server.old.view s (D.state server.old.disk)
         → (D.state server.new.disk).IsHonest
-        → OnErr result (SendsPart (place_in server.old s) count (place_in server.new s)
-        (O.writes outlet.old) (O.writes outlet.new)) }
+        → IfErr result (λ refusal. SendsPart refusal (place_in server.old s) count
+        (place_in server.new s) (O.writes outlet.old) (O.writes outlet.new)) }
 {
     for _ in 0..count {
         send_one(server, outlet)?;
@@ -47,6 +51,10 @@ pub(crate) fn send_one<D: Disk, O: Outlet>(
 ) -> Result<bool, Refusal>
     ensures keeps { KeepsLength (D.state server.old.disk) (D.state server.new.disk) }
     ensures later { (D.state server.old.disk).failures ≤ (D.state server.new.disk).failures }
+    ensures calm { OnOk result
+        ((D.state server.new.disk).failures ≡ (D.state server.old.disk).failures) }
+    ensures fault { IfErr result (λ refusal. IsSendFault server.old
+        (D.state server.old.disk) (D.state server.new.disk) refusal) }
     ensures view { server.new.view ≡ server.old.view }
     ensures unchanged { (D.state server.new.disk).IsHonest
         → IsUnchanged (D.state server.old.disk) (D.state server.new.disk) }

@@ -1,17 +1,30 @@
--- What a look at a folder does.
-use Rattle.std.specs.Prelude.{ℕ, ◌≡◌, Bool, false, List, [], Option, None}
+-- What a look at a folder does, and what is told of it.
+use Rattle.std.specs.Prelude.{ℕ, ◌≡◌, ◌&&◌, nat_le, Bool, true, not, List, [], ◌∷◌, Option, None, codes}
 use Rattle.disk_store.specs.Disk.{State}
 use Rattle.mot_base.specs.declared.refusal.Refusal.{Refusal}
+use Rattle.mot_base.specs.declared.refusal.Refusal.TheVariants.{ReadFault}
+use Rattle.mot_folder.specs.Log.{Entry, HasTold, TellsAnswers, entry, of_look}
+use Rattle.mot_folder.specs.declared.report.Report.{Report}
 use Rattle.mot_journal.specs.Image.{Standing}
 use Rattle.mot_server.specs.Server.{ServerView}
+use Rattle.mot_server.specs.declared.running.Attempt.TheVariants.{Refused}
 use Rattle.mot_update.specs.HasRun.{HasRun}
 use Rattle.mot_update.specs.Looking.{HasLooked}
 
--- The folder was not listed, and no command was run; or names were listed, and the carousel was
--- updated to files of these names. It is fine where nothing was refused.
+-- The folder of this path was not listed, no command was run, and this is told; or names were
+-- listed, the carousel was updated to files of these names, and what came of each command is told,
+-- in order. Beside that only files are told of that could not be taken.
 pub data HasLookedAtFolder {D : Type 0} (old new : ServerView D) (start now : State)
-    (s : Standing) (fine : Bool) (fault : Option Refusal) : Type 0 where
-  unlisted : fine ≡ false → fault ≡ None → HasRun old new start now s [] [] None
-      → HasLookedAtFolder old new start now s fine fault
-  listed : (names : List (List ℕ)) → HasLooked old new start now s names 0 None None fine fault
-      → HasLookedAtFolder old new start now s fine fault
+    (s : Standing) (path : List ℕ) (report : Report) (fault : Option Refusal) : Type 0 where
+  unlisted : report.any_refused ≡ true → fault ≡ None → HasRun old new start now s [] [] None
+      → (entries : List Entry) → HasTold report entries
+      → of_look entries ≡ entry (codes "look") path (Refused ReadFault) ∷ []
+      → HasLookedAtFolder old new start now s path report fault
+  listed : (names : List (List ℕ))
+      → (looked : HasLooked old new start now s names 0 None None (not report.any_refused) fault)
+      → TellsAnswers report looked.runs.answers
+      → HasLookedAtFolder old new start now s path report fault
+
+-- whether a look is due: between turns, where this packet was the last that was to come before it
+abbrev pub is_due : ℕ → Bool → Bool
+is_due left between_turns = between_turns && nat_le left 1

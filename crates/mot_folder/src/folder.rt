@@ -1,7 +1,9 @@
 //! A folder of files, as a source of wanted objects.
-ghost use Rattle.std.specs.Prelude.{◌≡◌, ◌<◌, ◌≤◌, Some, true, false, not, IfOk, length, slice_get};
-ghost use Rattle.std.specs.Prelude.{vec_len};
+ghost use Rattle.std.specs.Prelude.{◌≡◌, ◌<◌, ◌≤◌, ◌-◌, [], Some, true, false, not, IfOk, length};
+ghost use Rattle.std.specs.Prelude.{slice_get, vec_len};
+ghost use Rattle.mot_folder.specs.Log.{TellsAnswers, name_of};
 ghost use Rattle.mot_update.specs.Looking.{was_settled};
+ghost use Rattle.mot_update.specs.Told.{Tells, answers_of};
 
 use crate::listing::{FileNames, joined};
 use crate::report::Report;
@@ -83,6 +85,10 @@ impl<'a, T: Files<File = File>> Source for Folder<'a, T> {
 
     ghost is_fine = { λ folder. not folder.report.any_refused };
 
+    ghost was_told = { λ folder. TellsAnswers folder.report };
+
+    ghost last = { λ folder. name_of (slice_get folder.names.names.items (folder.place - 1)) };
+
     fn knows(&self, name: &Name) -> bool {
         self.names.has(name)
     }
@@ -110,23 +116,28 @@ impl<'a, T: Files<File = File>> Source for Folder<'a, T> {
 
 /// Tells that the file of the name at this place could not be taken.
 fn tell_refused(report: &mut Report, names: &FileNames, place: usize, refusal: Refusal)
-    ensures told { report.new.any_refused ≡ true }
+    ensures any { report.new.any_refused ≡ true }
+    ensures told { Tells (TellsAnswers report.old) (TellsAnswers report.new) [] }
 {
     report.refused("read", name_at(names, place), refusal);
 }
 
 /// The bytes of the name at this place; none where there is no such place.
-fn name_at(names: &FileNames, place: usize) -> &[u8] {
-    if place < names.names.len() {
-        return names.names[place].as_bytes();
+fn name_at(names: &FileNames, place: usize) -> &[u8]
+    ensures { result.now ≡ name_of (slice_get names.now.names.items place) }
+{
+    match names.names.get(place) {
+        Some(name) => name.as_bytes(),
+        None => b"",
     }
-    b""
 }
 
 /// Tells what became of the object of the name before this place.
 fn tell_settled(report: &mut Report, names: &FileNames, place: usize, settled: Settled)
     ensures fine { report.new.any_refused ≡ false
         → (report.old.any_refused ≡ false) × (was_settled settled ≡ true) }
+    ensures told { Tells (TellsAnswers report.old) (TellsAnswers report.new)
+        (answers_of (name_of (slice_get names.now.names.items (place - 1))) settled) }
 {
     let name = name_at(names, place.saturating_sub(1));
     match settled {

@@ -1,6 +1,8 @@
 //! The files of a folder that are objects.
-ghost use Rattle.std.specs.Prelude.{◌≡◌, true};
+ghost use Rattle.std.specs.Prelude.{◌≡◌, [], true};
 ghost use Rattle.mot_carousel.specs.Carousel.{are_names_distinct};
+ghost use Rattle.mot_folder.specs.Log.{TellsAnswers};
+ghost use Rattle.mot_update.specs.Told.{Tells};
 ghost use Rattle.mot_update.specs.Updating.{is_known};
 
 use crate::report::Report;
@@ -56,7 +58,9 @@ pub(crate) fn list<T: Files<File = File>>(
     alloc: Global,
     path: &str,
     report: &mut Report,
-) -> io::Result<FileNames> {
+) -> io::Result<FileNames>
+    ensures told { Tells (TellsAnswers report.old) (TellsAnswers report.new) [] }
+{
     let mut names = FileNames::new(alloc);
     let mut dir = rt.open_dir(path)?;
     let mut room = Vec::from_elem(alloc, 0u8, ROOM)?;
@@ -78,15 +82,34 @@ fn add_all<T: Files<File = File>>(
     bytes: &[u8],
     names: &mut FileNames,
     report: &mut Report,
-) -> io::Result<()> {
-    for name in bytes.split(|byte| *byte == 0) {
-        if kind_of_name(name).is_none() || !is_file(rt, alloc, path, name)? {
-            continue;
-        }
-        match Name::new(Vec::from_slice(alloc, name)?) {
-            Ok(name) => names.add(name)?,
-            Err(refusal) => report.refused("read", name, refusal),
-        }
+) -> io::Result<()>
+    ensures told { Tells (TellsAnswers report.old) (TellsAnswers report.new) [] }
+{
+    let mut rest = bytes;
+    while let Some(end) = rest.iter().position(|byte| *byte == 0) {
+        add_one(rt, alloc, path, &rest[..end], names, report)?;
+        rest = &rest[end + 1..];
+    }
+    Ok(())
+}
+
+/// Adds the name, where it is that of an object.
+fn add_one<T: Files<File = File>>(
+    rt: &T,
+    alloc: Global,
+    path: &str,
+    name: &[u8],
+    names: &mut FileNames,
+    report: &mut Report,
+) -> io::Result<()>
+    ensures told { Tells (TellsAnswers report.old) (TellsAnswers report.new) [] }
+{
+    if kind_of_name(name).is_none() || !is_file(rt, alloc, path, name)? {
+        return Ok(());
+    }
+    match Name::new(Vec::from_slice(alloc, name)?) {
+        Ok(name) => names.add(name)?,
+        Err(refusal) => report.refused("read", name, refusal),
     }
     Ok(())
 }

@@ -1,9 +1,11 @@
 //! A look at a folder, and looks between the turns of a feed.
-ghost use Rattle.std.specs.Prelude.{◌≤◌, not, true};
+ghost use Rattle.std.specs.Prelude.{◌≡◌, ◌≤◌, ◌-◌, true, false};
 ghost use Rattle.disk_store.specs.Disk.{KeepsLength};
-ghost use Rattle.mot_folder.specs.Looked.{HasLookedAtFolder};
+ghost use Rattle.mot_feed.specs.Feeding.{IsUpdating, may_change};
+ghost use Rattle.mot_folder.specs.Looked.{HasLookedAtFolder, is_due};
 ghost use Rattle.mot_journal.specs.Image.{Standing};
 ghost use Rattle.mot_repository.specs.Repository.{Holds};
+ghost use Rattle.mot_update.specs.Faults.{TellsFaults};
 ghost use Rattle.mot_update.specs.HasRun.{fault_of};
 
 use crate::folder::Folder;
@@ -17,7 +19,7 @@ use mot_update::look;
 use std::alloc::Global;
 use std::fs::File;
 use std::io::Write;
-use std::mem::replace;
+use std::mem::{replace, swap};
 use std::rt::Files;
 
 /// How many packets come between two looks, and then those up to the end of a turn.
@@ -34,10 +36,12 @@ pub fn look_at_folder<T: Files<File = File>, D: Disk>(
 ) -> Result<(), Refusal>
     ensures keeps { KeepsLength (D.state server.old.disk) (D.state server.new.disk) }
     ensures later { (D.state server.old.disk).failures ≤ (D.state server.new.disk).failures }
+    ensures faults { TellsFaults server.old server.new
+        (D.state server.old.disk) (D.state server.new.disk) result }
     ensures looked { (s : Standing) → Holds server.old.view s (D.state server.old.disk)
         → (D.state server.new.disk).IsHonest
         → HasLookedAtFolder server.old server.new (D.state server.old.disk)
-        (D.state server.new.disk) s (not report.new.any_refused) (fault_of result) }
+        (D.state server.new.disk) s path.now report.new (fault_of result) }
 {
     report.begin();
     let Ok(names) = list(rt, alloc, path, report) else {
@@ -52,26 +56,34 @@ pub fn look_at_folder<T: Files<File = File>, D: Disk>(
 }
 
 /// Looks at a folder before the first packet, and then at the first end of a turn behind 1,000
-/// packets. What is told of a look is written and flushed behind it; where that fails, the look
-/// counts all the same.
+/// packets. What is told of a look is written to the log and flushed behind it, but for the lines
+/// that were told of the look before; where that fails, the look counts all the same.
 #[derive(Drop)]
 pub struct Looks<'a, T: Files<File = File>, W: Write + Drop> {
     rt: &'a T,
-    path: &'a str,
+    /// The folder.
+    pub path: &'a str,
     log: W,
-    report: Report,
+    /// What is told of the last look.
+    pub report: Report,
+    /// The lines of the look before it.
+    before: Vec<u8>,
     /// How many packets come before the next look.
-    left: u64,
+    pub left: u64,
 }
 
 impl<'a, T: Files<File = File>, W: Write + Drop> Looks<'a, T, W> {
     /// No look yet.
-    pub fn new(rt: &'a T, alloc: Global, path: &'a str, log: W) -> Looks<'a, T, W> {
+    pub fn new(rt: &'a T, alloc: Global, path: &'a str, log: W) -> Looks<'a, T, W>
+        ensures due { result.left ≡ 0 }
+        ensures path { result.path.now ≡ path.now }
+    {
         Looks {
             rt,
             path,
             log,
             report: Report::new(alloc),
+            before: Vec::new(alloc),
             left: 0,
         }
     }
@@ -85,7 +97,27 @@ impl<'a, T: Files<File = File>, W: Write + Drop> Update for Looks<'a, T, W> {
         server: &mut Server<D>,
         alloc: Global,
         between_turns: bool,
-    ) -> Result<(), Refusal> {
+    ) -> Result<(), Refusal>
+        ensures keeps { KeepsLength (D.state server.old.disk) (D.state server.new.disk) }
+        ensures later { (D.state server.old.disk).failures ≤ (D.state server.new.disk).failures }
+        ensures faults { TellsFaults server.old server.new
+            (D.state server.old.disk) (D.state server.new.disk) result }
+        ensures run { (s : Standing) → Holds server.old.view s (D.state server.old.disk)
+            → (D.state server.new.disk).IsHonest
+            → IsUpdating server.old server.new (D.state server.old.disk)
+            (D.state server.new.disk) s (may_change true between_turns) (fault_of result) }
+
+        // It looks where a look is due, and else it only counts.
+        ensures counts { is_due self.old.left between_turns ≡ false
+            → (server.new ≡ server.old) × (self.new.left ≡ self.old.left - 1) }
+        ensures looks { is_due self.old.left between_turns ≡ true → self.new.left ≡ PACKETS }
+        ensures looked { is_due self.old.left between_turns ≡ true
+            → (s : Standing) → Holds server.old.view s (D.state server.old.disk)
+            → (D.state server.new.disk).IsHonest
+            → HasLookedAtFolder server.old server.new (D.state server.old.disk)
+            (D.state server.new.disk) s self.old.path.now self.new.report (fault_of result) }
+    {
+        let path = self.path;
         if self.left > 0 {
             self.left -= 1;
         }
@@ -93,11 +125,30 @@ impl<'a, T: Files<File = File>, W: Write + Drop> Update for Looks<'a, T, W> {
             return Ok(());
         }
         self.left = PACKETS;
-        let result = look_at_folder(self.rt, alloc, server, self.path, &mut self.report);
-        if !self.report.lines.is_empty() {
-            let _ = self.log.write_all(self.report.lines.as_slice());
-            let _ = self.log.flush();
-        }
+        swap(&mut self.before, &mut self.report.lines);
+        let result = look_at_folder(self.rt, alloc, server, path, &mut self.report);
+        tell_new(
+            &mut self.log,
+            self.report.lines.as_slice(),
+            self.before.as_slice(),
+        );
         result
     }
+}
+
+/// Writes the lines that are none of those before, and flushes.
+fn tell_new<W: Write>(log: &mut W, lines: &[u8], before: &[u8]) {
+    for line in lines.split_inclusive(|byte| *byte == b'\n') {
+        if !has_line(before, line) {
+            let _ = log.write_all(line);
+        }
+    }
+    let _ = log.flush();
+}
+
+/// Whether the line, with its end, is one of the lines.
+fn has_line(lines: &[u8], line: &[u8]) -> bool {
+    lines
+        .split_inclusive(|byte| *byte == b'\n')
+        .any(|other| other == line)
 }

@@ -11,7 +11,7 @@ use Rattle.mot_journal.specs.Geometry.{has_magic, magic}
 use Rattle.mot_journal.specs.Slot.{slot_count, slot_size}
 use Rattle.mot_journal.specs.Inner.Format.{first_record, behind_magic, IsMade, IsNewDisk}
 use Rattle.mot_journal.specs.Inner.Steps.{ChangesWithin, HasSlots, Publishes, LeavesWritten}
-use Rattle.mot_journal.specs.Journal.{NoneOrNew}
+use Rattle.mot_journal.specs.Journal.{NoneOrFrom}
 use Rattle.mot_journal.proofs.Laws.{part}
 use Rattle.mot_journal.proofs.Fill.{unchanged, one_more, slot_ends, range_whole}
 use Rattle.mot_journal.proofs.NewDisk.{is_new}
@@ -42,9 +42,9 @@ module _ (g : Geometry) (old wrote : State) (sound : IsHonestDisk old) (writes :
       pub all_filled : ChangesWithin 8 rest old last
       all_filled = within_joins 8 rest old mid last (half_start g 1) (half_size g) sound2 first_filled second (omega arith) (omega arith)
 
-      pub is_made : slice_range wrote.bytes 8 (8 + 56) ≡ behind_magic g
-          → HasSlots g 0 Two (first_record ∷ []) (slot_count Two g) mid.bytes → HasSlots g 1 Two [] (slot_count Two g) last.bytes → IsMade g last.bytes
-      is_made head slots other = record {
+      pub is_made : (directory : ℕ) → slice_range wrote.bytes 8 (8 + 56) ≡ behind_magic g
+          → HasSlots g 0 Two (first_record directory ∷ []) (slot_count Two g) mid.bytes → HasSlots g 1 Two [] (slot_count Two g) last.bytes → IsMade g directory last.bytes
+      is_made directory head slots other = record {
         other = other;
         head = part (half_start g 1) (half_size g) mid.bytes last.bytes second.bytes 8 56 (omega arith)
             ∙ part (half_start g 0) (half_size g) wrote.bytes mid.bytes first.bytes 8 56 (omega arith)
@@ -60,8 +60,9 @@ module _ (g : Geometry) (old wrote : State) (sound : IsHonestDisk old) (writes :
       }
 
 -- outside the magic a new disk stays one
-made_stays : (g : Geometry) (b c : List ℕ) → AgreeOutside 0 8 b c → IsMade g b → IsMade g c
-made_stays g b c agree made = record {
+made_stays : (g : Geometry) (directory : ℕ) (b c : List ℕ) → AgreeOutside 0 8 b c → IsMade g directory b
+    → IsMade g directory c
+made_stays g directory b c agree made = record {
   head = ap (λ l. take 56 l) (drop_behind 0 8 b c agree 8 (omega arith)) ∙ made.head;
   slots = λ i lt.
       let was = made.slots i lt in
@@ -74,35 +75,35 @@ made_stays g b c agree made = record {
     behind : (half i : ℕ) → 0 + 8 ≤ half_start g half + i * slot_size Two
     behind half i = omega arith
 
-module _ (g : Geometry) (valid : IsValid g) (filled : State) (sound1 : IsHonestDisk filled) (long : length_of g ≤ filled.len)
-    (made : IsMade g filled.bytes) where
-  new : (c : List ℕ) → AgreeOutside 0 8 filled.bytes c → has_magic c ≡ true → IsNewDisk g c
+module _ (g : Geometry) (directory : ℕ) (valid : IsValid g) (filled : State) (sound1 : IsHonestDisk filled) (long : length_of g ≤ filled.len)
+    (made : IsMade g directory filled.bytes) where
+  new : (c : List ℕ) → AgreeOutside 0 8 filled.bytes c → has_magic c ≡ true → IsNewDisk g directory c
   new c agree named =
       let whole = (sound1.images filled.bytes sound1.bytes).len_is in
-      is_new g valid c (omega (arith, agree.len_is, whole, long)) named (made_stays g filled.bytes c agree made)
+      is_new g directory valid c (omega (arith, agree.len_is, whole, long)) named (made_stays g directory filled.bytes c agree made)
 
-  none_or_new : (c : List ℕ) → AgreeOutside 0 8 filled.bytes c → NoneOrNew g c
+  none_or_new : (c : List ℕ) → AgreeOutside 0 8 filled.bytes c → NoneOrFrom g directory c
   none_or_new c agree = elim (cases_Bool (has_magic c)) [
     | inl named ↦ let is = new c agree named in inr (is.stands, is.clean, is.layout, is.other)
     | inr none ↦ inl none
   ]
 
-  pub published : (last : State) → LeavesWritten 0 magic filled last → (c : List ℕ) → last.MayLeave c → IsNewDisk g c
+  pub published : (last : State) → LeavesWritten 0 magic filled last → (c : List ℕ) → last.MayLeave c → IsNewDisk g directory c
   published last has c left =
       let named : has_magic c ≡ true =
       ap (λ l. bytes_eq l magic) (sym (range_whole 0 8 c) ∙ (has c left).slot_is) in
       new c (has c left).agree named
 
-module _ (g : Geometry) (start filled : State)
+module _ (g : Geometry) (directory : ℕ) (start filled : State)
     (no_magic : (image : List ℕ) → start.MayLeave image → has_magic image ≡ false)
     (changes : ChangesWithin 8 (area_start g - 8) start filled) where
-  pub filling : Throughout start filled (NoneOrNew g)
-  filling = weakens start filled (Torn 8 (area_start g - 8) start) (NoneOrNew g) changes.time (λ c torn.
+  pub filling : Throughout start filled (NoneOrFrom g directory)
+  filling = weakens start filled (Torn 8 (area_start g - 8) start) (NoneOrFrom g directory) changes.time (λ c torn.
       inl (ap (λ l. bytes_eq l magic) (part 8 (area_start g - 8) torn.0 c torn.2 0 8 (omega arith)) ∙ no_magic torn.0 torn.1))
 
-  pub publishing : IsValid g → IsHonestDisk filled → length_of g ≤ filled.len → IsMade g filled.bytes → (last : State)
-      → Publishes 0 8 filled last → Throughout start last (NoneOrNew g)
+  pub publishing : IsValid g → IsHonestDisk filled → length_of g ≤ filled.len → IsMade g directory filled.bytes → (last : State)
+      → Publishes 0 8 filled last → Throughout start last (NoneOrFrom g directory)
   publishing valid sound1 long made last publishes =
-      joins start filled last (NoneOrNew g) (λ c. filled.MayLeave c ⊎ AgreeOutside 0 8 filled.bytes c) filling publishes.time (λ c outcome.
-      ⊎_elim (λ left. at_end start filled (NoneOrNew g) sound1 filling c left)
-      (λ agree. none_or_new g valid filled sound1 long made c agree) outcome)
+      joins start filled last (NoneOrFrom g directory) (λ c. filled.MayLeave c ⊎ AgreeOutside 0 8 filled.bytes c) filling publishes.time (λ c outcome.
+      ⊎_elim (λ left. at_end start filled (NoneOrFrom g directory) sound1 filling c left)
+      (λ agree. none_or_new g directory valid filled sound1 long made c agree) outcome)

@@ -13,7 +13,7 @@ use Rattle.mot_journal.specs.Geometry.{geometry_of, has_magic}
 use Rattle.mot_base.specs.Geometry.{is_valid}
 use Rattle.mot_journal.specs.Image.{IsSecondHalfEmpty}
 use Rattle.mot_journal.specs.Slot.{slot_count, slot_size}
-use Rattle.mot_journal.specs.Catalogue.{new_catalogue, catalogue_of, fold_from}
+use Rattle.mot_journal.specs.Catalogue.{Catalogue, new_catalogue, catalogue_of, fold_from}
 use Rattle.mot_journal.specs.Inner.Format.{first_record, behind_magic, IsMade, IsNewDisk}
 use Rattle.mot_journal.specs.Inner.Reading.{number_at}
 use Rattle.mot_journal.specs.Inner.Steps.{HasSlots}
@@ -30,9 +30,12 @@ use Rattle.mot_journal.proofs.Written.{number_2, number_4}
 abbrev pub new_view : Geometry → JournalView
 new_view g = record { geometry = g; half = 0; layout = Two; count = 1; spent = false }
 
-catalogue_new : (limit : ℕ) → catalogue_of limit (first_record ∷ []) ≡ Ok new_catalogue
+abbrev catalogue_from : ℕ → Catalogue
+catalogue_from directory = record new_catalogue { directory = directory; cursor = directory }
+
+catalogue_new : (limit directory : ℕ) → catalogue_of limit (first_record directory ∷ []) ≡ Ok (catalogue_from directory)
 unfolding fold_from
-catalogue_new limit = refl
+catalogue_new limit directory = refl
 
 le_true : (m n : ℕ) → m ≤ n → nat_le m n ≡ true
 le_true m n le = grind (arith, nat_tests)
@@ -56,8 +59,8 @@ empty_half g c other =
     ap (take (slot_size Two)) (drop-drop (i * slot_size Two) (half_start g 1) c) ∙ (other i lt).0) in
     ap (λ k. take k half) (size ∙ sym whole) ∙ zeros ∙ ap (λ k. replicate {A = ℕ} k 0) whole
 
-module _ (g : Geometry) (valid : IsValid g) (c : List ℕ) (long : length_of g ≤ length c) (named : has_magic c ≡ true)
-    (made : IsMade g c) where
+module _ (g : Geometry) (directory : ℕ) (valid : IsValid g) (c : List ℕ) (long : length_of g ≤ length c) (named : has_magic c ≡ true)
+    (made : IsMade g directory c) where
   -- a number of the head
   number_is : (at width : ℕ) → 8 ≤ at → at + width ≤ 64 → number_at at width c ≡ number_in (take width (drop (at - 8) (behind_magic g)))
   number_is at width low high =
@@ -86,22 +89,22 @@ module _ (g : Geometry) (valid : IsValid g) (c : List ℕ) (long : length_of g �
   few : 1 ≤ slot_count Two g
   few = omega arith
 
-  parts : HasParts (new_view g) (first_record ∷ []) c
+  parts : HasParts (new_view g) (first_record directory ∷ []) c
   parts = record {
     geometry = geometry_told;
     half = ap (λ b. if b == 1 then 1 else 0) selector;
-    layout = filled_layout g 0 Two (first_record ∷ []) (omega arith) c made.slots;
-    read = filled_reads g 0 Two (first_record ∷ []) few c made.slots;
-    gates = (filled_half g 0 Two (first_record ∷ []) few c made.slots).1;
-    fold = subst IsOk (sym (catalogue_new g.objects)) refl;
+    layout = filled_layout g 0 Two (first_record directory ∷ []) (omega arith) c made.slots;
+    read = filled_reads g 0 Two (first_record directory ∷ []) few c made.slots;
+    gates = (filled_half g 0 Two (first_record directory ∷ []) few c made.slots).1;
+    fold = subst IsOk (sym (catalogue_new g.objects directory)) refl;
   }
 
-  pub is_new : IsNewDisk g c
+  pub is_new : IsNewDisk g directory c
   is_new =
-      let has = parts_have (new_view g) (first_record ∷ []) c parts in
+      let has = parts_have (new_view g) (first_record directory ∷ []) c parts in
       record {
-        stands = stands_by_parts g (with_records (new_view g) (first_record ∷ [])) new_catalogue c refl has.read (catalogue_new g.objects);
+        stands = stands_by_parts g (with_records (new_view g) (first_record directory ∷ [])) (catalogue_from directory) c refl has.read (catalogue_new g.objects directory);
         clean = has.clean;
-        layout = (with_records (new_view g) (first_record ∷ []), has.read, refl);
+        layout = (with_records (new_view g) (first_record directory ∷ []), has.read, refl);
         other = empty_half g c made.other;
       }

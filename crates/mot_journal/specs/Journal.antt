@@ -86,6 +86,18 @@ pub record StandsWhere (j : JournalView) (bytes : List ℕ) : Type 0 where
 abbrev pub new_standing : Geometry → Standing
 new_standing g = record { geometry = g; carousel = new_carousel; extents = [] }
 
+-- the same, but that the directory has this transport id, and it was taken last
+abbrev pub standing_from : Geometry → ℕ → Standing
+standing_from g directory =
+    let first = record new_carousel { directory = directory; cursor = directory } in
+    record { geometry = g; carousel = first; extents = [] }
+
+-- no magic, or clean and a new disk with this directory, in layout 2, whose other half is empty
+abbrev pub NoneOrFrom : Geometry → ℕ → List ℕ → Type 0
+NoneOrFrom g directory image = (has_magic image ≡ false)
+    ⊎ ((stands_for image ≡ Ok (standing_from g directory)) × IsClean image × IsInLayoutTwo image
+    × IsSecondHalfEmpty g image)
+
 -- no magic, or clean and a new disk of this geometry, in layout 2, whose other half is empty
 abbrev pub NoneOrNew : Geometry → List ℕ → Type 0
 NoneOrNew g image = (has_magic image ≡ false)

@@ -13,7 +13,8 @@ ghost use Rattle.mot_journal.specs.declared.layout.Layout.TheVariants.{Two};
 ghost use Rattle.mot_journal.specs.Geometry.{has_magic};
 ghost use Rattle.mot_journal.specs.Slot.{slot_count};
 ghost use Rattle.mot_journal.specs.Image.{stands_for, IsClean, IsInLayoutTwo, IsSecondHalfEmpty};
-ghost use Rattle.mot_journal.specs.Journal.{NoneOrNew, new_standing};
+ghost use Rattle.mot_journal.specs.Journal.{NoneOrFrom, NoneOrNew, new_standing};
+ghost use Rattle.mot_journal.specs.Journal.{standing_from};
 ghost use Rattle.mot_journal.specs.Inner.Steps.{ChangesWithin, HasCauseOf};
 ghost use Rattle.mot_journal.specs.Inner.Format.{IsMade, IsNewDisk, behind_magic};
 
@@ -26,7 +27,7 @@ use mot_carousel::Period;
 /// What a formatted disk begins with.
 pub const MAGIC: [u8; 8] = *b"MOTCAR01";
 
-/// Makes a new disk of layout 2, with no object. It takes no memory, and a disk that has the magic
+/// Makes a new disk of layout 2, with no object, whose directory has the transport id 1. It takes no memory, and a disk that has the magic
 /// keeps its bytes. The magic is written last, so that a crash leaves no magic or the new disk.
 pub fn format<D: Disk>(disk: &mut D, geometry: &Geometry) -> Result<(), Refusal>
     ensures keeps { KeepsLength (D.state disk.old) (D.state disk.new) }
@@ -71,6 +72,57 @@ pub fn format<D: Disk>(disk: &mut D, geometry: &Geometry) -> Result<(), Refusal>
     ensures other_half { (D.state disk.new).IsHonest → OnOk result ((image : List ℕ)
         → (D.state disk.new).MayLeave image → IsSecondHalfEmpty geometry.now image) }
 {
+    format_from(disk, geometry, TransportId::FIRST)
+}
+
+/// The same, but that the directory has this transport id, behind which the ids go on.
+pub fn format_from<D: Disk>(
+    disk: &mut D,
+    geometry: &Geometry,
+    directory: TransportId,
+) -> Result<(), Refusal>
+    ensures keeps { KeepsLength (D.state disk.old) (D.state disk.new) }
+    ensures later { (D.state disk.old).failures ≤ (D.state disk.new).failures }
+    ensures bad { IsErrOf result BadGeometry ↔ (IsValid geometry.now → ⊥) }
+    ensures small { IsErrOf result DiskTooSmall
+        ↔ (IsValid geometry.now × ((D.state disk.old).len < length_of geometry.now)) }
+    ensures refused { IfErr result (λ refusal. (refusal ≡ BadGeometry) ⊎ (refusal ≡ DiskTooSmall)
+        ⊎ (refusal ≡ AlreadyFormatted) ⊎ ((refusal ≡ DeviceFault)
+        × Rises (D.state disk.old).failures (D.state disk.new).failures)) }
+    ensures calm { MatchResult result
+        (λ done. (D.state disk.new).failures ≡ (D.state disk.old).failures)
+        (λ refusal. (refusal ≡ DeviceFault)
+        ⊎ ((D.state disk.new).failures ≡ (D.state disk.old).failures)) }
+
+    // a sync and a read of the magic, the bytes behind it, two halves, and the magic between syncs
+    ensures cost { Costs (2 * slot_count Two geometry.now + 6)
+        (D.state disk.old) (D.state disk.new) result }
+    ensures untouched { (IsValid geometry.now → ⊥)
+        ⊎ ((D.state disk.old).len < length_of geometry.now)
+        → IsUnchanged (D.state disk.old) (D.state disk.new) }
+
+    // Where the disk reads the magic, it is synced at most.
+    ensures already { (D.state disk.new).IsHonest → has_magic (D.state disk.old).bytes ≡ true
+        → IsStill (D.state disk.old) (D.state disk.new) }
+    ensures synced { (D.state disk.new).IsHonest → IsErrOf result AlreadyFormatted
+        → IsFirm (D.state disk.new) }
+    ensures already_only { (D.state disk.new).IsHonest → IsErrOf result AlreadyFormatted
+        → has_magic (D.state disk.old).bytes ≡ true }
+    ensures not_over { (D.state disk.new).IsHonest
+        → OnOk result (has_magic (D.state disk.old).bytes ≡ false) }
+
+    // At each moment a crash leaves no magic, or the new disk.
+    ensures any_moment { (D.state disk.new).IsHonest
+        → ((image : List ℕ) → (D.state disk.old).MayLeave image → has_magic image ≡ false)
+        → Throughout (D.state disk.old) (D.state disk.new) (NoneOrFrom geometry.now directory) }
+    ensures ok { (D.state disk.new).IsHonest → OnOk result ((image : List ℕ)
+        → (D.state disk.new).MayLeave image
+        → (stands_for image ≡ Ok (standing_from geometry.now directory)) × IsClean image) }
+    ensures layout { (D.state disk.new).IsHonest → OnOk result ((image : List ℕ)
+        → (D.state disk.new).MayLeave image → IsInLayoutTwo image) }
+    ensures other_half { (D.state disk.new).IsHonest → OnOk result ((image : List ℕ)
+        → (D.state disk.new).MayLeave image → IsSecondHalfEmpty geometry.now image) }
+{
     if !geometry.is_valid() {
         return Err(Refusal::BadGeometry);
     }
@@ -83,7 +135,7 @@ pub fn format<D: Disk>(disk: &mut D, geometry: &Geometry) -> Result<(), Refusal>
     if is_formatted {
         return Err(Refusal::AlreadyFormatted);
     }
-    let Ok(()) = make(disk, geometry) else {
+    let Ok(()) = make(disk, geometry, directory) else {
         return Err(Refusal::DeviceFault);
     };
     Ok(())
@@ -107,7 +159,7 @@ fn reads_magic<D: Disk>(disk: &mut D) -> Result<bool, DiskFault>
 }
 
 // Writes all but the magic, and then the magic between two syncs.
-fn make<D: Disk>(disk: &mut D, geometry: &Geometry) -> Result<(), DiskFault>
+fn make<D: Disk>(disk: &mut D, geometry: &Geometry, directory: TransportId) -> Result<(), DiskFault>
     requires valid { IsValid geometry.now }
     requires long_enough { length_of geometry.now ≤ (D.state disk.old).len }
     ensures keeps { Keeps (D.state disk.old) (D.state disk.new) }
@@ -116,17 +168,17 @@ fn make<D: Disk>(disk: &mut D, geometry: &Geometry) -> Result<(), DiskFault>
         (D.state disk.old) (D.state disk.new) result }
     ensures any_moment { (D.state disk.old).IsHonest
         → ((image : List ℕ) → (D.state disk.old).MayLeave image → has_magic image ≡ false)
-        → Throughout (D.state disk.old) (D.state disk.new) (NoneOrNew geometry.now) }
+        → Throughout (D.state disk.old) (D.state disk.new) (NoneOrFrom geometry.now directory) }
     ensures ok { (D.state disk.old).IsHonest → OnOk result ((image : List ℕ)
-        → (D.state disk.new).MayLeave image → IsNewDisk geometry.now image) }
+        → (D.state disk.new).MayLeave image → IsNewDisk geometry.now directory image) }
 {
-    fill(disk, geometry)?;
+    fill(disk, geometry, directory)?;
     publish(disk, 0, &MAGIC)?;
     Ok(())
 }
 
 // Writes all from the byte behind the magic up to the data area.
-fn fill<D: Disk>(disk: &mut D, geometry: &Geometry) -> Result<(), DiskFault>
+fn fill<D: Disk>(disk: &mut D, geometry: &Geometry, directory: TransportId) -> Result<(), DiskFault>
     requires valid { IsValid geometry.now }
     requires long_enough { length_of geometry.now ≤ (D.state disk.old).len }
     ensures keeps { Keeps (D.state disk.old) (D.state disk.new) }
@@ -136,12 +188,12 @@ fn fill<D: Disk>(disk: &mut D, geometry: &Geometry) -> Result<(), DiskFault>
     ensures range { (D.state disk.old).IsHonest → ChangesWithin 8 (area_start geometry.now - 8)
         (D.state disk.old) (D.state disk.new) }
     ensures made { (D.state disk.old).IsHonest
-        → OnOk result (IsMade geometry.now (D.state disk.new).bytes) }
+        → OnOk result (IsMade geometry.now directory (D.state disk.new).bytes) }
 {
     let first = Record {
         period: Period::ZERO,
-        directory: TransportId::FIRST,
-        cursor: TransportId::FIRST,
+        directory,
+        cursor: directory,
         action: Action::Nothing,
     };
     disk.write(8, &head_behind_magic(geometry))?;

@@ -15,7 +15,7 @@ mod writing;
 
 pub use decoding::read_record;
 pub use encoding::slot_bytes;
-pub use formatting::format;
+pub use formatting::{format, format_from};
 pub use journal::{Journal, Loaded, load};
 pub use layout::Layout;
 pub use loading::{layout_of_half, records_of_half};

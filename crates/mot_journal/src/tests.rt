@@ -76,6 +76,23 @@ fn a_new_disk_has_its_head_and_one_record(rt: HostRuntime) -> Result<(), Fail> {
     Ok(())
 }
 
+// The ids of a disk that takes the place of another go on behind the other's.
+#[test]
+fn the_ids_of_a_new_disk_begin_where_they_are_told(rt: HostRuntime) -> Result<(), Fail> {
+    let mut disk = MemoryDisk::new(rt.alloc(), SMALL.length()).ok_or("memory")?;
+    format_from(&mut disk, &SMALL, TransportId::new(300).ok_or("id")?)?;
+    let loaded = load(rt.alloc(), &mut disk)?;
+    let ids = loaded
+        .records
+        .first()
+        .map(|entry| (entry.directory, entry.cursor));
+    assert_eq!(rt;
+        ids.map(|(directory, cursor)| (directory.get(), cursor.get())),
+        Some((300, 300))
+    );
+    Ok(())
+}
+
 // The head of the default sizes, and the first slot, byte by byte.
 const NEW_DISK: [u8; 80] = [
     0x4D, 0x4F, 0x54, 0x43, 0x41, 0x52, 0x30, 0x31, 0, 0, 0, 0, 0, 0, 0, 0, 0, 16, 4, 0, 0, 1, 0,

@@ -33,7 +33,7 @@ some_cond true ps qs h = omega arith
 some_cond false ps qs h = h
 
 -- there is always a piece
-some_piece : (xs : List ℕ) → 0 < length (pieces_between xs)
+pub some_piece : (xs : List ℕ) → 0 < length (pieces_between xs)
 some_piece [] = omega arith
 some_piece (x ∷ xs) = some_cond (nat_eq x 10) (pieces_between xs) (onto_first x (pieces_between xs))
     (some_first x (pieces_between xs))

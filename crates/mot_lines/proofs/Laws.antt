@@ -1,5 +1,5 @@
--- What crates above may cite: the lines of an input that grows, why a line is refused, and what a list
--- shows.
+-- What crates above may cite: the lines of an input that grows, why a line is refused, what a list
+-- shows, and what the lines ask for that rebuild a carousel.
 use Rattle.std.proofs.Common.{◌≡◌, ℕ, List, [], ◌∷◌, ◌++◌, Err}
 use Rattle.mot_base.specs.declared.refusal.Refusal.TheVariants.{DeviceFault}
 use Rattle.mot_carousel.specs.declared.carousel.Carousel.{Carousel}
@@ -9,6 +9,8 @@ use Rattle.mot_lines.specs.Listing.{listing_text_beside}
 use Rattle.mot_lines.specs.Line.{line_of}
 use Rattle.mot_lines.specs.Lines.{whole_lines, rest_of, lines_of}
 use Rattle.mot_lines.specs.Listing.{listing_text}
+use Rattle.mot_lines.specs.Export.{ExportsAskForTheirCommands}
+use Rattle.mot_lines.proofs.Exported as exported
 use Rattle.mot_lines.proofs.Faults as faults
 use Rattle.mot_lines.proofs.Input as input
 use Rattle.mot_lines.proofs.Listed as listed
@@ -54,3 +56,7 @@ line_of-no_fault line = faults.line line
 pub listing_text-beside : (c : Carousel) (bodies : List (List ℕ)) → AreBodiesOf c bodies
     → listing_text_beside c ≡ listing_text (carousel_of c bodies)
 listing_text-beside c bodies b = listed.listing_text_beside-whole c bodies b
+
+-- the lines that rebuild a carousel ask for the commands that do
+pub export_text-asks : ExportsAskForTheirCommands
+export_text-asks = exported.export_laws

@@ -1,5 +1,5 @@
 -- The definitions, computed on the worked rows.
-use Rattle.std.proofs.Common.{◌≡◌, [], ◌∷◌, Ok, Err, refl}
+use Rattle.std.proofs.Common.{◌≡◌, [], ◌∷◌, None, Ok, Err, refl}
 use Rattle.std.specs.Prelude.{codes}
 use Rattle.std.specs.Fmt.{digits}
 use Rattle.hex.proofs.OnLiterals.{hex_on_literals}
@@ -9,6 +9,7 @@ use Rattle.mot_base.specs.declared.refusal.Refusal.TheVariants.{BadBody, EmptyBo
 use Rattle.mot_lines.specs.declared.line.Line.TheVariants.{Raw}
 use Rattle.mot_lines.specs.declared.line.Line.TheVariants as asks
 use Rattle.mot_lines.specs.declared.line.TheConstants.{MAX_LINE, MAX_PACKETS}
+use Rattle.mot_lines.specs.Export.{export_text}
 use Rattle.mot_lines.specs.Line.{raw_of, request_of, line_of}
 use Rattle.mot_lines.specs.Lines.{whole_lines, rest_of, lines_of}
 use Rattle.mot_lines.specs.Text.{refusal_line}
@@ -57,6 +58,22 @@ no_last_line = refl
 list_line : line_of (codes "list") ≡ Ok asks.List
 unfolding line_of request_of
 list_line = refl
+
+export_rows : export_text (record {
+  period = 5;
+  directory = 9;
+  cursor = 9;
+  objects = record {
+    name = codes "a";
+    content = record { content_type = 2; subtype = 3 };
+    mime = None;
+    version = 1;
+    tid = 7;
+    body = codes "hi";
+  } ∷ [];
+}) ≡ codes "put a 2 3 - 6869\nperiod 5\n"
+unfolding digits hex_on_literals
+export_rows = refl
 
 max_line : MAX_LINE ≡ 530000
 max_line = refl

@@ -1,3 +1,4 @@
+pub mod Export
 pub mod Fields
 pub mod Hand
 pub mod Inner

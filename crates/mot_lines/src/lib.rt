@@ -1,11 +1,13 @@
 //! The lines of an input, what each asks for, and the lines of replies.
 #![tactic(auto)]
 
+mod export;
 mod hand;
 mod line;
 mod line_end;
 mod text;
 
+pub use export::export_laws;
 pub use hand::Hand;
 pub use line::{Description, Line, MAX_LINE, MAX_PACKETS, parse_line};
 pub use line_end::cut_at_line_end;

@@ -2,12 +2,13 @@
 use Rattle.std.proofs.Common.{◌≡◌, ◌∙◌, ℕ, List, Option, Some, None, arith, ap, refl, sym}
 use Rattle.std.proofs.Common.{◌≢◌, slice_index}
 use Rattle.std.specs.Prelude.{IfNone, codes}
-use Rattle.clap.specs.Words.{Row, Text}
+use Rattle.clap.specs.Words.{Row, Text, first_of}
 use Rattle.mot_base.specs.declared.geometry.Geometry.{Geometry}
 use Rattle.mot_program.specs.declared.options.Options.{Options}
 use Rattle.mot_program.specs.declared.task.Task.{Task}
 use Rattle.mot_program.specs.declared.task.Task.TheVariants.{Memory, Format, Serve, Check, Migrate}
-use Rattle.mot_program.specs.Options.{AreGiven, GiveGeometry, IsGiven, geometry_of}
+use Rattle.mot_program.specs.Options.{AreGiven, GiveDirectory, GiveGeometry, IsGiven, field_in}
+use Rattle.mot_program.specs.Options.{geometry_of}
 use Rattle.mot_program.specs.Task.{IsTask}
 
 pub IfNone-always : {T P : Type 0} (o : Option T) → P → IfNone o P
@@ -39,10 +40,18 @@ no_geometry rows o a (Some g) is = tt
 no_geometry rows o a None is = λ g gives. let same = geometry_same rows o gives.0 a gives.1 in
     let none : None ≡ Some g = is ∙ same ∙ gives.2 in absurd (cc)
 
+pub no_directory : (rows : List Row) (number : Option ℕ)
+    → IsGiven (first_of (codes "after") rows) number → None ≡ field_in number 0
+    → (directory : ℕ) → GiveDirectory rows directory → ⊥
+no_directory rows number given none directory gives =
+    let same = given_same _ number gives.0 given gives.2 in
+    let clashes : None ≡ Some gives.1 = none ∙ ap (λ n. field_in n 0) same ∙ gives.3 in
+    absurd (cc)
+
 module _ (rows : List Row) (none : (g : Geometry) → GiveGeometry rows g → ⊥) where
   pub no_memory : (name : Text) → name ≡ codes "memory" → (task : Task) → IsTask name rows task → ⊥
   no_memory name is (Memory g) t = none g t.1
-  no_memory name is (Format path g) t =
+  no_memory name is (Format path g directory) t =
       clash 0 109 102 (codes "memory") (codes "format") refl refl (omega arith) (sym is ∙ t.0)
   no_memory name is (Serve path) t =
       clash 0 109 115 (codes "memory") (codes "serve") refl refl (omega arith) (sym is ∙ t.0)
@@ -51,8 +60,10 @@ module _ (rows : List Row) (none : (g : Geometry) → GiveGeometry rows g → �
   no_memory name is (Migrate path) t =
       clash 1 101 105 (codes "memory") (codes "migrate") refl refl (omega arith) (sym is ∙ t.0)
 
+module _ (rows : List Row)
+    (none : (g : Geometry) (d : ℕ) → GiveGeometry rows g → GiveDirectory rows d → ⊥) where
   pub no_format : (name : Text) → name ≡ codes "format" → (task : Task) → IsTask name rows task → ⊥
-  no_format name is (Format path g) t = none g t.2
+  no_format name is (Format path g directory) t = none g directory t.2 t.3
   no_format name is (Memory g) t =
       clash 0 102 109 (codes "format") (codes "memory") refl refl (omega arith) (sym is ∙ t.0)
   no_format name is (Serve path) t =

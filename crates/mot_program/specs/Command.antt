@@ -28,12 +28,12 @@ disk_rule = record (new_rule (codes "DISK")) { action = Some Set; required = tru
 abbrev pub disk_app : Text → App
 disk_app name = with_rule (new_app name) disk_rule
 
--- `memory` and `format`, with their options
+-- `memory` and `format`, with their options; a new disk's ids may begin behind one
 abbrev pub memory_app : App
 memory_app = with_options (new_app (codes "memory"))
 
 abbrev pub format_app : App
-format_app = with_options (disk_app (codes "format"))
+format_app = with_rule (with_options (disk_app (codes "format"))) (option_rule (codes "after"))
 
 -- the program's words are those after its name, and the first of them is a command
 abbrev pub program_top : Shape

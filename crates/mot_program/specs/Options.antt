@@ -4,6 +4,7 @@ use Rattle.std.specs.Prelude.{codes, unwrap_or}
 use Rattle.std.specs.Str.Parse.{IsNumeral, digits_value, without_leading_plus}
 use Rattle.clap.specs.Words.{Row, first_of}
 use Rattle.mot_base.specs.Reading.{◌>>=◌}
+use Rattle.mot_carousel.specs.Ids.{id_after}
 use Rattle.mot_base.specs.declared.geometry.Geometry.{Geometry}
 use Rattle.mot_program.specs.declared.options.Options.{Options}
 
@@ -60,3 +61,10 @@ geometry_of o = do
 abbrev pub GiveGeometry : List Row → Geometry → Type 0
 GiveGeometry rows geometry =
     (options : Options) × AreGiven rows options × (geometry_of options ≡ Some geometry)
+
+-- the words give this transport id to the directory of a new disk: the one behind the id that they
+-- name, or the first
+abbrev pub GiveDirectory : List Row → ℕ → Type 0
+GiveDirectory rows directory =
+    (number : Option ℕ) × (after : ℕ) × IsGiven (first_of (codes "after") rows) number
+    × (field_in number 0 ≡ Some after) × (directory ≡ id_after after)

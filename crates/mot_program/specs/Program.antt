@@ -74,8 +74,8 @@ module _ {S : Type 0} {start : Ghosts S} where
   abbrev pub Does : Task → UsedDisk S start → (unread left old new : Option (List ℕ)) → Type 0
   Does (Memory g) used unread left old new =
       OnMemory (SinceNew g (ServesInput unread left old new)) used
-  Does (Format path g) used unread left old new =
-      OnOpenedOrMade g (Formats g old new) used
+  Does (Format path g directory) used unread left old new =
+      OnOpenedOrMade g (Formats g directory old new) used
   Does (Serve path) used unread left old new = OnOpened (ServesInput unread left old new) used
   Does (Check path) used unread left old new = OnOpened (Checks old new) used
   Does (Migrate path) used unread left old new = OnOpened (Migrates old new) used
@@ -85,8 +85,8 @@ module _ {S : Type 0} {start : Ghosts S} where
       → (unread left old new : Option (List ℕ)) → Type 0
   DoesInPart (Memory g) r used unread left old new =
       OnMemory (SinceNew g (StopsServing r unread left old new)) used
-  DoesInPart (Format path g) r used unread left old new =
-      OnOpenedOrMade g (StopsFormatting g r old new) used
+  DoesInPart (Format path g directory) r used unread left old new =
+      OnOpenedOrMade g (StopsFormatting g directory r old new) used
   DoesInPart (Serve path) r used unread left old new =
       OnOpened (StopsServing r unread left old new) used
   DoesInPart (Check path) r used unread left old new = OnOpened (StopsChecking r old new) used
@@ -108,7 +108,7 @@ IsMemoryRefusal g r = (r ≡ OutOfMemory) ⊎ ((r ≡ BadGeometry) × (IsValid g
 -- why a task is not begun
 abbrev pub IsBeginningRefusal : Task → Refusal → Type 0
 IsBeginningRefusal (Memory g) r = IsMemoryRefusal g r
-IsBeginningRefusal (Format path g) r = IsMakingRefusal g r
+IsBeginningRefusal (Format path g directory) r = IsMakingRefusal g r
 IsBeginningRefusal (Serve path) r = r ≡ DeviceFault
 IsBeginningRefusal (Check path) r = r ≡ DeviceFault
 IsBeginningRefusal (Migrate path) r = r ≡ DeviceFault

@@ -13,7 +13,7 @@ use Rattle.mot_base.specs.declared.refusal.Refusal.TheVariants.{DiskTooSmall, Wr
 use Rattle.mot_journal.specs.Geometry.{has_magic}
 use Rattle.mot_journal.specs.Image.{DiskRecords, Standing, records_of, stands_for}
 use Rattle.mot_journal.specs.Image.{IsClean, IsInLayoutTwo}
-use Rattle.mot_journal.specs.Journal.{NoneOrNew, new_standing}
+use Rattle.mot_journal.specs.Journal.{NoneOrFrom, standing_from}
 use Rattle.mot_journal.specs.declared.layout.Layout.{Layout}
 use Rattle.mot_journal.specs.declared.layout.Layout.TheVariants.{One, Two}
 use Rattle.mot_lines.specs.Listing.{listing_text}
@@ -34,23 +34,25 @@ formatted_line g = codes "formatted " ++ decimal (length_of g) ++ 10 ∷ []
 
 -- what a disk is that `format` has touched: a crash at any moment leaves no disk of this format, or
 -- the new one; a disk that was formatted before keeps its bytes
-pub record IsUnderFormat (g : Geometry) (start now : State) : Type 0 where
+pub record IsUnderFormat (g : Geometry) (directory : ℕ) (start now : State) : Type 0 where
   pub keeps : KeepsLength start now
   pub already : now.IsHonest → has_magic start.bytes ≡ true → IsStill start now
   pub any_moment : now.IsHonest
       → ((image : List ℕ) → start.MayLeave image → has_magic image ≡ false)
-      → Throughout start now (NoneOrNew g)
+      → Throughout start now (NoneOrFrom g directory)
 
--- it is the new disk of this geometry, in layout 2, and was none before
-pub record IsFormatted (g : Geometry) (start now : State) : Type 0 where
-  pub under : IsUnderFormat g start now
+-- it is the new disk of this geometry, whose directory has this transport id, in layout 2, and was
+-- none before
+pub record IsFormatted (g : Geometry) (directory : ℕ) (start now : State) : Type 0 where
+  pub under : IsUnderFormat g directory start now
   pub was_none : now.IsHonest → has_magic start.bytes ≡ false
   pub is_new : now.IsHonest → (image : List ℕ) → now.MayLeave image
-      → IsOf (new_standing g) image × IsInLayoutTwo image
+      → IsOf (standing_from g directory) image × IsInLayoutTwo image
 
 -- it is, and that was printed
-pub record Formats (g : Geometry) (old new : Option (List ℕ)) (start now : State) : Type 0 where
-  pub formatted : IsFormatted g start now
+pub record Formats (g : Geometry) (directory : ℕ) (old new : Option (List ℕ))
+    (start now : State) : Type 0 where
+  pub formatted : IsFormatted g directory start now
   pub printed : Appends old new (formatted_line g)
 
 -- why formatting it is refused
@@ -63,12 +65,12 @@ pub data IsFormatRefusal (g : Geometry) (refusal : Refusal) (start now : State) 
       → IsFormatRefusal g refusal start now
 
 -- it could not be formatted, and nothing was printed; or that it is could not be printed
-pub data StopsFormatting (g : Geometry) (refusal : Refusal) (old new : Option (List ℕ))
-    (start now : State) : Type 0 where
-  refused : IsFormatRefusal g refusal start now → IsUnderFormat g start now → Keeps old new
-      → StopsFormatting g refusal old new start now
-  unprinted : refusal ≡ WriteFault → IsFormatted g start now
-      → StopsFormatting g refusal old new start now
+pub data StopsFormatting (g : Geometry) (directory : ℕ) (refusal : Refusal)
+    (old new : Option (List ℕ)) (start now : State) : Type 0 where
+  refused : IsFormatRefusal g refusal start now → IsUnderFormat g directory start now
+      → Keeps old new → StopsFormatting g directory refusal old new start now
+  unprinted : refusal ≡ WriteFault → IsFormatted g directory start now
+      → StopsFormatting g directory refusal old new start now
 
 -- ---- `check`
 

@@ -6,7 +6,7 @@ use Rattle.clap.specs.declared.error.ErrorKind.TheVariants.{DisplayHelp}
 use Rattle.mot_program.specs.declared.task.Task.{Task}
 use Rattle.mot_program.specs.declared.task.Task.TheVariants.{Memory, Format, Serve, Check, Migrate}
 use Rattle.mot_program.specs.Command.{program_app}
-use Rattle.mot_program.specs.Options.{GiveGeometry}
+use Rattle.mot_program.specs.Options.{GiveDirectory, GiveGeometry}
 
 -- the words name this disk
 abbrev pub NameDisk : List Row → Text → Type 0
@@ -15,8 +15,9 @@ NameDisk rows path = first_of (codes "DISK") rows ≡ Some path
 -- a command of this name, with these words behind it, is this task
 abbrev pub IsTask : Text → List Row → Task → Type 0
 IsTask name rows (Memory geometry) = (name ≡ codes "memory") × GiveGeometry rows geometry
-IsTask name rows (Format path geometry) =
+IsTask name rows (Format path geometry directory) =
     (name ≡ codes "format") × NameDisk rows path.now × GiveGeometry rows geometry
+    × GiveDirectory rows directory
 IsTask name rows (Serve path) = (name ≡ codes "serve") × NameDisk rows path.now
 IsTask name rows (Check path) = (name ≡ codes "check") × NameDisk rows path.now
 IsTask name rows (Migrate path) = (name ≡ codes "migrate") × NameDisk rows path.now

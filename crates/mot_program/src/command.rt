@@ -10,14 +10,15 @@ use std::alloc::{AllocError, Global};
 /// What the top help says below the list of commands.
 const NOTES: &str = "\
 Options of memory and format: --objects N, --data N, --segment N, --address N, --packet N
+Option of format: --after N
 
 On air: motcar play DISK PACKETS, motcar sync DISK DIR, motcar export DISK (--help of each tells more)
 motcar --version tells the version, the commit and the toolchain that proved it.
 
 The lines that motcar reads and its replies are told in docs/FORMATS.md, how to run it in
 docs/OPERATING.md.
-Exit status: 0 where all was done that was asked for, 1 after a refusal that is printed to
-standard error, 2 where a word is wrong.";
+Exit status: 0 where all was done that was asked for, 1 after a refusal, which standard error or
+the log of sync tells, 2 where a word is wrong.";
 
 /// The program's command line.
 pub(crate) fn command<'a>(alloc: Global) -> Result<Command<'a>, AllocError>
@@ -64,7 +65,12 @@ fn format<'a>(alloc: Global) -> Result<Command<'a>, AllocError>
     ensures local { IfOk result (λ command. (out-Command command).has_globals ≡ false) }
 {
     let about = "Make a disk, and its file where there is none";
-    add_options(alloc, on_disk(alloc, "format", about)?)
+    let after = option(
+        alloc,
+        "after",
+        "Transport id behind which the ids begin, 0 to 65535 [default: 0]",
+    );
+    add_options(alloc, on_disk(alloc, "format", about)?)?.arg(after)
 }
 
 /// A command on the file of a disk.

@@ -10,8 +10,8 @@ ghost use Rattle.mot_program.specs.Report.{Formats, StopsFormatting, formatted_l
 use crate::ended::{Ended, Finished};
 use crate::file::{make_file, open_file};
 use disk_store::{Disk, Start, Unopened, take_away};
-use mot_base::{Geometry, Refusal};
-use mot_journal::format;
+use mot_base::{Geometry, Refusal, TransportId};
+use mot_journal::format_from;
 use std::io::Write;
 
 /// Makes a disk of the file at the path, which is made where it can't be opened, and taken away
@@ -21,14 +21,15 @@ pub(crate) fn format_file<S: Start, W: Write>(
     path: &str,
     start: S,
     geometry: Geometry,
+    directory: TransportId,
     writer: &mut W,
 ) -> Finished<S>
-    ensures done { OnOk result.result (OnOpenedOrMade geometry (Formats geometry
+    ensures done { OnOk result.result (OnOpenedOrMade geometry (Formats geometry directory
         (W.contents writer.old) (W.contents writer.new)) result.disk) }
     ensures refused { IfErr result.result (λ r.
         (IsMakingRefusal geometry r
         × IsUntold result.disk (W.contents writer.old) (W.contents writer.new))
-        ⊎ OnOpenedOrMade geometry (StopsFormatting geometry r
+        ⊎ OnOpenedOrMade geometry (StopsFormatting geometry directory r
         (W.contents writer.old) (W.contents writer.new)) result.disk) }
 {
     if !geometry.is_valid() {
@@ -36,10 +37,10 @@ pub(crate) fn format_file<S: Start, W: Write>(
     }
     match open_file(rt, path, start) {
         Ok(mut disk) => {
-            let result = format_disk(&mut disk, &geometry, writer);
+            let result = format_disk(&mut disk, &geometry, directory, writer);
             Finished::of_file(Ended { disk, result })
         }
-        Err(unopened) => format_new_file(rt, path, unopened, geometry, writer),
+        Err(unopened) => format_new_file(rt, path, unopened, geometry, directory, writer),
     }
 }
 
@@ -49,22 +50,23 @@ fn format_new_file<S: Start, W: Write>(
     path: &str,
     unopened: Unopened<S>,
     geometry: Geometry,
+    directory: TransportId,
     writer: &mut W,
 ) -> Finished<S>
     requires { IsValid geometry }
-    ensures done { OnOk result.result (OnOpenedOrMade geometry (Formats geometry
+    ensures done { OnOk result.result (OnOpenedOrMade geometry (Formats geometry directory
         (W.contents writer.old) (W.contents writer.new)) result.disk) }
     ensures refused { IfErr result.result (λ r.
         (IsMakingRefusal geometry r
         × IsUntold result.disk (W.contents writer.old) (W.contents writer.new))
-        ⊎ OnOpenedOrMade geometry (StopsFormatting geometry r
+        ⊎ OnOpenedOrMade geometry (StopsFormatting geometry directory r
         (W.contents writer.old) (W.contents writer.new)) result.disk) }
 {
     let mut disk = match make_file(rt, path, geometry.length(), unopened.start) {
         Ok(disk) => disk,
         Err(unmade) => return Finished::unopened(unmade.behind(unopened.fault)),
     };
-    let result = format_disk(&mut disk, &geometry, writer);
+    let result = format_disk(&mut disk, &geometry, directory, writer);
     if is_unformatted(&result) {
         let _ = take_away(rt, path);
     }
@@ -80,16 +82,17 @@ fn is_unformatted(made: &Result<(), Refusal>) -> bool {
 pub(crate) fn format_disk<D: Disk, W: Write>(
     disk: &mut D,
     geometry: &Geometry,
+    directory: TransportId,
     writer: &mut W,
 ) -> Result<(), Refusal>
     requires { IsValid geometry.now }
     ensures keeps { KeepsLength (D.state disk.old) (D.state disk.new) }
-    ensures done { OnOk result (Formats geometry.now (W.contents writer.old)
+    ensures done { OnOk result (Formats geometry.now directory (W.contents writer.old)
         (W.contents writer.new) (D.state disk.old) (D.state disk.new)) }
-    ensures refused { IfErr result (λ r. StopsFormatting geometry.now r (W.contents writer.old)
+    ensures refused { IfErr result (λ r. StopsFormatting geometry.now directory r (W.contents writer.old)
         (W.contents writer.new) (D.state disk.old) (D.state disk.new)) }
 {
-    match format(disk, geometry) {
+    match format_from(disk, geometry, directory) {
         Ok(()) => write_formatted(writer, geometry),
         Err(refusal) => Err(refusal),
     }

@@ -1,11 +1,12 @@
 ghost use Rattle.std.specs.Prelude.{ℕ, ◌≡◌, IfNone, IfSome, Option};
 ghost use Rattle.clap.specs.Words.{first_of, found_of, rows_of};
 ghost use Rattle.mot_base.specs.declared.geometry.Geometry.{Geometry};
-ghost use Rattle.mot_program.specs.Options.{AreGiven, GiveGeometry, IsGiven, field_in};
+ghost use Rattle.mot_program.specs.Options.{AreGiven, GiveDirectory, GiveGeometry, IsGiven};
+ghost use Rattle.mot_program.specs.Options.{field_in};
 ghost use Rattle.mot_program.specs.declared.options.Options.{Options};
 
 use clap::ArgMatches;
-use mot_base::Geometry;
+use mot_base::{Geometry, TransportId};
 
 /// The numbers that the words of the command line give.
 #[derive(Clone, Copy, Debug, PartialEq, Eq)]
@@ -58,6 +59,18 @@ pub(crate) fn geometry_of(matches: &ArgMatches<'_>) -> Option<Geometry>
         → GiveGeometry (rows_of (found_of matches.now)) geometry → ⊥) }
 {
     options_of(matches)?.geometry()
+}
+
+/// The transport id of a new disk's directory, the one behind the id that the words give, or else the
+/// first; `None` where that is no number, or fits no id.
+pub(crate) fn directory_of(matches: &ArgMatches<'_>) -> Option<TransportId>
+    ensures some { IfSome result (GiveDirectory (rows_of (found_of matches.now))) }
+    ensures none { IfNone result ((directory : ℕ)
+        → GiveDirectory (rows_of (found_of matches.now)) directory → ⊥) }
+{
+    let after = field(number_of(matches, "after")?, 0)?;
+    // Behind the last id comes the first.
+    TransportId::new(after % 65_535 + 1)
 }
 
 /// The numbers of the options that were given; `None` where one is no number.

@@ -138,7 +138,11 @@ fn execute<B: Start, R: Read, W: Write>(
 {
     match task {
         Task::Memory(geometry) => serve_memory(alloc, geometry, start, reader, writer),
-        Task::Format { path, geometry } => format_file(rt, path, start, geometry, writer),
+        Task::Format {
+            path,
+            geometry,
+            directory,
+        } => format_file(rt, path, start, geometry, directory, writer),
         Task::Serve(path) => serve_file(rt, alloc, path, start, reader, writer),
         Task::Check(path) => check_file(rt, alloc, path, start, writer),
         Task::Migrate(path) => migrate_file(rt, alloc, path, start, writer),

@@ -29,7 +29,7 @@ struct Range {
     most: u32,
 }
 
-const RANGES: [Range; 5] = [
+const RANGES: [Range; 6] = [
     Range {
         option: BadNumber {
             name: "objects",
@@ -69,6 +69,14 @@ const RANGES: [Range; 5] = [
         },
         least: 24,
         most: 96,
+    },
+    Range {
+        option: BadNumber {
+            name: "after",
+            range: "0 to 65535",
+        },
+        least: 0,
+        most: 65_535,
     },
 ];
 

@@ -4,9 +4,9 @@ ghost use Rattle.clap.specs.Words.{Text, found_of, rows_of};
 ghost use Rattle.mot_program.specs.Task.{IsTask, NameDisk};
 ghost use Rattle.mot_program.specs.declared.task.Task.{Task};
 
-use crate::options::geometry_of;
+use crate::options::{directory_of, geometry_of};
 use clap::ArgMatches;
-use mot_base::Geometry;
+use mot_base::{Geometry, TransportId};
 
 /// What the program is to do.
 #[derive(Clone, Copy, Debug)]
@@ -19,6 +19,8 @@ pub enum Task<'a> {
         path: &'a str,
         /// The sizes of the disk.
         geometry: Geometry,
+        /// The transport id of the new directory, behind which all later ones are taken.
+        directory: TransportId,
     },
     /// Serve the disk of the file at this path.
     Serve(&'a str),
@@ -39,6 +41,7 @@ pub(crate) fn task_of<'a>(name: &str, words: &ArgMatches<'a>) -> Option<Task<'a>
         "format" => Some(Task::Format {
             path: disk_of(words)?,
             geometry: geometry_of(words)?,
+            directory: directory_of(words)?,
         }),
         "serve" => Some(Task::Serve(disk_of(words)?)),
         "check" => Some(Task::Check(disk_of(words)?)),

@@ -5,7 +5,9 @@ use Rattle.mot_repository.proofs.Soundness.{keeps}
 pub use Rattle.mot_repository.proofs.Bodies.{body_held}
 -- a journal stands where an image has its records
 pub use Rattle.mot_repository.proofs.Places.{stands_where}
+-- what an image of bytes stands for keeps the rules of objects
+pub use Rattle.mot_repository.proofs.Rules.{rules_kept}
 
--- what an image of bytes stands for is sound
+-- and is sound
 pub standings-are_sound : StandingsAreSound
 standings-are_sound = keeps

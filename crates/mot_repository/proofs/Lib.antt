@@ -20,4 +20,5 @@ mod Reading
 mod Rewriting
 mod Room
 mod Rows
+mod Rules
 pub mod Soundness

@@ -35,7 +35,7 @@ use Rattle.mot_repository.specs.Extents.{body_of, LiesAtLeastGap, objects_in, ca
 use Rattle.mot_repository.specs.Inner.Planned.{start_of, HasFields, IsTyped}
 use Rattle.mot_repository.specs.Whole.{IsWhole}
 use Rattle.mot_repository.specs.Laws.{extents_after, records_of_catalogue}
-use Rattle.mot_repository.specs.Prepared.{IsPreparedFor, kept_object_named, kept_set, kept_remove, kept_action, kept_record}
+use Rattle.mot_repository.specs.Prepared.{CanBeGiven, IsFull, IsPreparedFor, kept_object_named, kept_set, kept_remove, kept_action, kept_record}
 use Rattle.mot_repository.specs.Ready.{IsPrepared}
 use Rattle.mot_repository.specs.Repository.{RepositoryView}
 use Rattle.mot_repository.specs.declared.prepared.Prepared.{Prepared}
@@ -249,7 +249,7 @@ pub record IsWorkedOut (view : RepositoryView) (command : Command) (next : Carou
 module _ (view : RepositoryView) (command : Command) (next : Carousel) (done : Done) (from : ℕ) (r : Record)
     (is : IsWorkedOut view command next done from r) where
   prepared : IsPreparedFor view command done next from r (records_of_catalogue (catalogue_in view))
-  prepared = record { changes = is.changes; lies = lies-at view command from is.lies; record_is = is.record_is; given_is = refl }
+  prepared = record { changes = is.changes; lies = lies-at view command from is.lies; record_is = is.record_is; given_is = λ full. refl }
 
   read : IsRead view.journal.geometry view.journal.layout r
   read = is_read view.journal.geometry view.journal.layout r is.typed
@@ -260,7 +260,7 @@ module _ (view : RepositoryView) (command : Command) (next : Carousel) (done : D
   kept_after = is_after view command done next from r (records_of_catalogue (catalogue_in view)) prepared is.valid is.whole is.paired read
 
 pub prepared_is : (view : RepositoryView) (command : Command) (p : Prepared) (from : ℕ)
-    → IsWorkedOut view command p.inventory.carousel p.done from p.record → p.given.items ≡ records_of_catalogue (catalogue_in view)
+    → IsWorkedOut view command p.inventory.carousel p.done from p.record → (IsFull view.journal → p.given.items ≡ records_of_catalogue (catalogue_in view))
     → p.at ≡ area_start view.journal.geometry + from → p.body.items ≡ body_of command
     → p.inventory.extents.items ≡ extents_after (catalogue_in view).objects command from → IsPrepared view command p
 prepared_is view command p from is given at body extents =
@@ -277,11 +277,11 @@ prepared_is view command p from is given at body extents =
         prepared = record { changes = is.changes; lies = lies-at view command from is.lies; record_is = is.record_is; given_is = given };
         extents_are = extents;
       };
-      some = subst (λ (l : List Record). 0 < length l) (sym given) rewriting.some;
-      few = subst (λ (l : List Record). length l < slot_count layout g) (sym given)
-          (few-slots g layout (length (records_of_catalogue (catalogue_in view))) rewriting.few);
-      sound_given = subst (λ (l : List Record). All (λ q. is_sound g layout q ≡ true) l) (sym given)
-          (all-of (λ q. is_sound g layout q ≡ true) (records_of_catalogue (catalogue_in view)) rewriting.sound);
+      given = λ full. subst (λ (l : List Record). CanBeGiven view.journal l) (sym (given full)) (record {
+            some = rewriting.some;
+            few = few-slots g layout (length (records_of_catalogue (catalogue_in view))) rewriting.few;
+            sound = all-of (λ q. is_sound g layout q ≡ true) (records_of_catalogue (catalogue_in view)) rewriting.sound;
+          });
       sound = (read view command p.inventory.carousel p.done from p.record is).sound;
       within = omega (arith, at, within, size);
       whole = subst (λ (l : List (ℕ × ℕ)). IsWhole g layout (catalogue_with p.inventory.carousel l)) (sym extents)

@@ -32,7 +32,7 @@ use Rattle.mot_repository.specs.Inner.Following.{IsPlaced, object_named, set_act
 use Rattle.mot_repository.specs.Extents.{body_of, LiesAtLeastGap, objects_in, catalogue_in}
 use Rattle.mot_repository.specs.Opening.{IsOpened}
 use Rattle.mot_repository.specs.Inner.Kept.{KeepsCatalogue}
-use Rattle.mot_repository.specs.Prepared.{IsPreparedFor, kept_object_named, kept_set, kept_remove, kept_action, kept_record}
+use Rattle.mot_repository.specs.Prepared.{IsFull, IsPreparedFor, kept_object_named, kept_set, kept_remove, kept_action, kept_record}
 use Rattle.mot_repository.specs.Repository.{RepositoryView, Agrees, IsOf, Holds, IsNext}
 use Rattle.mot_repository.proofs.Following as following
 use Rattle.mot_repository.proofs.Gaps.{least_gap_is_least}
@@ -325,8 +325,8 @@ pub record IsReady (view : RepositoryView) (s : Standing) (command : Command) (d
   pub after : Catalogue
   pub fold : catalogue_of view.journal.geometry.objects records ≡ Ok c
   pub push : catalogue_of view.journal.geometry.objects (records ++ r ∷ []) ≡ Ok after
-  pub given_fold : catalogue_of view.journal.geometry.objects given ≡ Ok c
-  pub given_push : catalogue_of view.journal.geometry.objects (given ++ r ∷ []) ≡ Ok after
+  pub given_fold : IsFull view.journal → catalogue_of view.journal.geometry.objects given ≡ Ok c
+  pub given_push : IsFull view.journal → catalogue_of view.journal.geometry.objects (given ++ r ∷ []) ≡ Ok after
   pub extents : extents_of after ≡ extents_after (catalogue_in view).objects command from
   pub beside : AreBeside view.journal.geometry from (length (body_of command)) c.objects
   pub step : (j : JournalView) (list : List Record) (image : List ℕ) → j.geometry ≡ view.journal.geometry
@@ -373,15 +373,15 @@ module _ (view : RepositoryView) (command : Command) (done : Done) (next : Carou
       let body : List ℕ = body_of command in
       let room = fits view command from c is.extents prepared.lies in
       let first = made (some-area from body g.data_area) (some-length from body g.data_area) (some-slice from body g.data_area) in
-      let rewrites : catalogue_of g.objects given ≡ Ok c =
-      ap (catalogue_of g.objects) (prepared.given_is ∙ ap records_of_catalogue is.is) ∙ rewriting.keeps g.objects records c is.fold in
+      let rewrites : IsFull view.journal → catalogue_of g.objects given ≡ Ok c =
+      λ full. ap (catalogue_of g.objects) (prepared.given_is full ∙ ap records_of_catalogue is.is) ∙ rewriting.keeps g.objects records c is.fold in
       record {
         c = c;
         after = first.0;
         fold = is.fold;
         push = fold-push g.objects 0 _ c first.0 records r is.fold first.1;
         given_fold = rewrites;
-        given_push = fold-push g.objects 0 _ c first.0 given r rewrites first.1;
+        given_push = λ full. fold-push g.objects 0 _ c first.0 given r (rewrites full) first.1;
         extents = first.3 ∙ sym (ap (λ (d : Catalogue). extents_after d.objects command from) is.is);
         beside = lie_beside g view.journal.layout from (length body) c.objects is.whole.each room.1;
         step = λ j list image same fold has of lies.
@@ -481,4 +481,4 @@ opened view old new records c sound read fold keeps count unspent firm =
 pub prepared_by_plan : (view : RepositoryView) (command : Command) (planned : Change) (from : ℕ)
     → IsPlan view.carousel view.journal.geometry.objects command (Ok planned) → LiesAtLeastGap view command from
     → IsPreparedFor view command planned.done planned.next from (kept_record view.carousel planned.next command from) (records_of_catalogue (catalogue_in view))
-prepared_by_plan view command planned from plan lies = record { changes = plan; lies = lies; record_is = refl; given_is = refl }
+prepared_by_plan view command planned from plan lies = record { changes = plan; lies = lies; record_is = refl; given_is = λ full. refl }

@@ -41,6 +41,13 @@ short-number [] a = omega arith
 short-number (b ∷ []) a = let low = a.0 in omega (arith, low)
 short-number (b ∷ c ∷ bytes) a = let low = a.0 in let lower = a.1.0 in omega (arith, low, lower)
 
+third-number : (bytes : List ℕ) → AreBytes bytes → number_in (take 3 bytes) ≤ 16777215
+third-number [] a = omega arith
+third-number (b ∷ []) a = let low = a.0 in omega (arith, low)
+third-number (b ∷ c ∷ []) a = let low = a.0 in let lower = a.1.0 in omega (arith, low, lower)
+third-number (b ∷ c ∷ d ∷ bytes) a =
+    let low = a.0 in let lower = a.1.0 in let lowest = a.1.1.0 in omega (arith, low, lower, lowest)
+
 -- the object's id of an action, if it has one, is a number of two bytes
 abbrev pub HasShortId : Action → Type 0
 HasShortId Nothing = Unit {0}
@@ -53,6 +60,21 @@ pub record IsRead (g : Geometry) (layout : Layout) (r : Record) : Type 0 where
   pub directory : r.directory ≤ 65535
   pub cursor : r.cursor ≤ 65535
   pub object : HasShortId r.action
+
+-- and its period is a number of three bytes
+record IsInSlot (g : Geometry) (layout : Layout) (r : Record) : Type 0 where
+  read : IsRead g layout r
+  period : r.period ≤ 16777215
+
+each-read : (g : Geometry) (layout : Layout) (records : List Record) → AllByRecursion (IsInSlot g layout) records
+    → AllByRecursion (IsRead g layout) records
+each-read g layout [] all = tt
+each-read g layout (r ∷ records) all = (all.0.read, each-read g layout records all.1)
+
+each-period : (g : Geometry) (layout : Layout) (records : List Record) → AllByRecursion (IsInSlot g layout) records
+    → AllByRecursion (λ (r : Record). r.period ≤ 16777215) records
+each-period g layout [] all = tt
+each-period g layout (r ∷ records) all = (all.0.period, each-period g layout records all.1)
 
 short-third : (tid : ℕ) (t : Bool) (a : Action) → tid ≤ 65535 → cond t (Some (Remove tid)) None ≡ Some a → HasShortId a
 short-third tid true a le e = let g : Remove tid ≡ a = cc in subst HasShortId g le
@@ -72,20 +94,21 @@ short-first tid version content start size name mime false t u a le e = short-se
 abbrev of-action : ℕ → ℕ → ℕ → Action → Record
 of-action period directory cursor action = record { period = period; directory = directory; cursor = cursor; action = action }
 
-read-test : (g : Geometry) (layout : Layout) (made r : Record) (t : Bool) → is_sound g layout made ≡ t → made.directory ≤ 65535 → made.cursor ≤ 65535 → HasShortId made.action
-    → cond t (Some made) None ≡ Some r → IsRead g layout r
-read-test g layout made r true is d c o e =
-    let same : made ≡ r = cc in subst (IsRead g layout) same (record { sound = is; directory = d; cursor = c; object = o })
-read-test g layout made r false is d c o e = cc
+read-test : (g : Geometry) (layout : Layout) (made r : Record) (t : Bool) → is_sound g layout made ≡ t → made.period ≤ 16777215 → made.directory ≤ 65535 → made.cursor ≤ 65535 → HasShortId made.action
+    → cond t (Some made) None ≡ Some r → IsInSlot g layout r
+read-test g layout made r true is p d c o e =
+    let same : made ≡ r = cc in subst (IsInSlot g layout) same
+    (record { read = record { sound = is; directory = d; cursor = c; object = o }; period = p })
+read-test g layout made r false is p d c o e = cc
 
-read-cases : (g : Geometry) (layout : Layout) (period directory cursor : ℕ) (r : Record) (o : Option Action) → directory ≤ 65535 → cursor ≤ 65535
+read-cases : (g : Geometry) (layout : Layout) (period directory cursor : ℕ) (r : Record) (o : Option Action) → period ≤ 16777215 → directory ≤ 65535 → cursor ≤ 65535
     → ((a : Action) → o ≡ Some a → HasShortId a)
-    → ((o >>= λ a. Some (of-action period directory cursor a)) >>= λ made. cond (is_sound g layout made) (Some made) None) ≡ Some r → IsRead g layout r
-read-cases g layout period directory cursor r None d c o e = cc
-read-cases g layout period directory cursor r (Some a) d c o e =
-    read-test g layout (of-action period directory cursor a) r (is_sound g layout (of-action period directory cursor a)) refl d c (o a refl) e
+    → ((o >>= λ a. Some (of-action period directory cursor a)) >>= λ made. cond (is_sound g layout made) (Some made) None) ≡ Some r → IsInSlot g layout r
+read-cases g layout period directory cursor r None p d c o e = cc
+read-cases g layout period directory cursor r (Some a) p d c o e =
+    read-test g layout (of-action period directory cursor a) r (is_sound g layout (of-action period directory cursor a)) refl p d c (o a refl) e
 
-slot-read : (g : Geometry) (layout : Layout) (slot : List ℕ) (r : Record) → AreBytes slot → read_slot g layout slot ≡ Some r → IsRead g layout r
+slot-read : (g : Geometry) (layout : Layout) (slot : List ℕ) (r : Record) → AreBytes slot → read_slot g layout slot ≡ Some r → IsInSlot g layout r
 unfolding read_slot
 slot-read g layout slot r bytes e =
     let b1 = drop-bytes 1 slot bytes in
@@ -93,7 +116,7 @@ slot-read g layout slot r bytes e =
     let b3 = drop-bytes 3 (drop 1 (drop 1 slot)) b2 in
     let b4 = drop-bytes 2 (drop 3 (drop 1 (drop 1 slot))) b3 in
     let b5 = drop-bytes 2 (drop 2 (drop 3 (drop 1 (drop 1 slot)))) b4 in
-    read-cases g layout _ _ _ r _ (short-number _ b3) (short-number _ b4)
+    read-cases g layout _ _ _ r _ (third-number _ b2) (short-number _ b3) (short-number _ b4)
     (λ a f. short-first _ _ _ _ _ _ _ _ _ _ a (short-number _ b5) f) e
 
 -- ---- all the records of an image
@@ -111,23 +134,23 @@ open-bytes : (slots : List (List ℕ)) → AllByRecursion AreBytes slots → All
 open-bytes slots a = take-each AreBytes (prefix_len is_open slots) slots a
 
 module _ (g : Geometry) (layout : Layout) where
-  rest-cases : (r : Record) (o : Result (List Record) Refusal) (records : List Record) → IsRead g layout r
-      → ((rest : List Record) → o ≡ Ok rest → AllByRecursion (IsRead g layout) rest)
-      → result_then o (λ rest. Ok (r ∷ rest)) ≡ Ok records → AllByRecursion (IsRead g layout) records
-  rest-cases r (Ok rest) records is h e = let same : r ∷ rest ≡ records = cc in subst (AllByRecursion (IsRead g layout)) same (is, h rest refl)
+  rest-cases : (r : Record) (o : Result (List Record) Refusal) (records : List Record) → IsInSlot g layout r
+      → ((rest : List Record) → o ≡ Ok rest → AllByRecursion (IsInSlot g layout) rest)
+      → result_then o (λ rest. Ok (r ∷ rest)) ≡ Ok records → AllByRecursion (IsInSlot g layout) records
+  rest-cases r (Ok rest) records is h e = let same : r ∷ rest ≡ records = cc in subst (AllByRecursion (IsInSlot g layout)) same (is, h rest refl)
   rest-cases r (Err refusal) records is h e = cc
 
   slot-cases : (number : ℕ) (slot : List ℕ) (slots : List (List ℕ)) (o : Option Record) (records : List Record) → read_slot g layout slot ≡ o → AreBytes slot
-      → ((rest : List Record) → records_in (read_slot g layout) (number + 1) slots ≡ Ok rest → AllByRecursion (IsRead g layout) rest)
+      → ((rest : List Record) → records_in (read_slot g layout) (number + 1) slots ≡ Ok rest → AllByRecursion (IsInSlot g layout) rest)
       → result_then (or_damaged number o) (λ r. result_then (records_in (read_slot g layout) (number + 1) slots) (λ rest. Ok (r ∷ rest))) ≡ Ok records
-      → AllByRecursion (IsRead g layout) records
+      → AllByRecursion (IsInSlot g layout) records
   slot-cases number slot slots None records is b h e = cc
   slot-cases number slot slots (Some r) records is b h e =
       rest-cases r (records_in (read_slot g layout) (number + 1) slots) records (slot-read g layout slot r b is) h e
 
   all-read : (number : ℕ) (slots : List (List ℕ)) (records : List Record) → AllByRecursion AreBytes slots
-      → records_in (read_slot g layout) number slots ≡ Ok records → AllByRecursion (IsRead g layout) records
-  all-read number [] records a e = let same : [] ≡ records = cc in subst (AllByRecursion (IsRead g layout)) same tt
+      → records_in (read_slot g layout) number slots ≡ Ok records → AllByRecursion (IsInSlot g layout) records
+  all-read number [] records a e = let same : [] ≡ records = cc in subst (AllByRecursion (IsInSlot g layout)) same tt
   all-read number (slot ∷ slots) records a e =
       slot-cases number slot slots (read_slot g layout slot) records refl a.0 (λ rest f. all-read (number + 1) slots rest a.1 f) e
 
@@ -135,14 +158,19 @@ module _ (g : Geometry) (layout : Layout) where
 pub record AreWholeRecords (j : DiskRecords) : Type 0 where
   pub valid : is_valid j.geometry ≡ true
   pub read : AllByRecursion (IsRead j.geometry j.layout) j.records
+  pub periods : AllByRecursion (λ (r : Record). r.period ≤ 16777215) j.records
 
 half-cases : (g : Geometry) (half : ℕ) (layout : Layout) (o : Result (List Record) Refusal) (j : DiskRecords) → is_valid g ≡ true
-    → ((records : List Record) → o ≡ Ok records → AllByRecursion (IsRead g layout) records)
+    → ((records : List Record) → o ≡ Ok records → AllByRecursion (IsInSlot g layout) records)
     → result_then o (λ records. Ok (record { geometry = g; half = half; layout = layout; records = records })) ≡ Ok j → AreWholeRecords j
 half-cases g half layout (Ok records) j valid h e =
     let made : DiskRecords = record { geometry = g; half = half; layout = layout; records = records } in
     let same : made ≡ j = cc in
-    subst AreWholeRecords same (record { valid = valid; read = h records refl })
+    subst AreWholeRecords same (record {
+      valid = valid;
+      read = each-read g layout records (h records refl);
+      periods = each-period g layout records (h records refl);
+    })
 half-cases g half layout (Err refusal) j valid h e = cc
 
 of-geometry : (image : List ℕ) (j : DiskRecords) (o : Option Geometry) → AreBytes image → ((g : Geometry) → o ≡ Some g → is_valid g ≡ true)

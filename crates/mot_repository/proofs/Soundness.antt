@@ -1,15 +1,25 @@
 -- Records without faults make a sound carousel, whose bodies lie in the data area.
-use Rattle.std.proofs.Common.{◌≡◌, ⊎_elim, ℕ, suc, ◌+◌, ◌<◌, ◌≤◌, true, ◌&&◌, List, [], ◌∷◌, length, map, Some, Result, Ok, Err, refl, sym, ap, ◌∙◌, subst, arith, inl, inr}
+use Rattle.std.proofs.Common.{◌≡◌, ⊎_elim, ℕ, suc, ◌+◌, ◌<◌, ◌≤◌, true, ◌&&◌, List, [], ◌∷◌, length, map, Option, None, Some, Result, Ok, Err, refl, sym, ap, ◌∙◌, subst, arith, inl, inr}
 use Rattle.std.proofs.lemmas.Bool.{and_parts, and_from, or_cases, ltb-true, lt-ltb, leb-true}
-use Rattle.std.specs.Prelude.{nat_le, nat_lt}
+use Rattle.std.proofs.lemmas.Bool.{not-true}
+use Rattle.std.proofs.lemmas.Bool.Decides.{nat_tests}
+use Rattle.std.proofs.lemmas.List.Elements.{All-weaker}
+use Rattle.std.proofs.lemmas.List.Sums.{AllPass-from_list_all}
+use Rattle.std.proofs.lemmas.Slice.Eq.{bytes_eq-Decides}
+use Rattle.std.proofs.lemmas.Str.{IsUtf8-from_is_utf8}
+use Rattle.std.specs.Prelude.{⊤, ◌==◌, MatchOption, bytes_eq, codes, nat_le, nat_lt, not}
 use Rattle.std.specs.List.{AllByRecursion, list_all}
+use Rattle.std.specs.Str.{is_utf8}
 use Rattle.std.specs.Option.{option_map_or}
 use Rattle.mot_base.specs.declared.refusal.Refusal.{Refusal}
 use Rattle.mot_carousel.specs.Carousel.{Object, are_names_distinct, IsSound}
 use Rattle.mot_carousel.specs.Ids.{is_distinct}
+use Rattle.mot_carousel.specs.Mime.{IsMime}
+use Rattle.mot_carousel.specs.Name.{IsName}
 use Rattle.mot_carousel.specs.Stands.{object_of}
 use Rattle.mot_base.specs.declared.geometry.Geometry.{Geometry}
 use Rattle.mot_journal.specs.declared.layout.Layout.{Layout}
+use Rattle.mot_journal.specs.declared.layout.Layout.TheVariants.{One, Two}
 use Rattle.mot_journal.specs.declared.record.Record.{Record}
 use Rattle.mot_journal.specs.declared.record.Action.{Action}
 use Rattle.mot_journal.specs.declared.record.Action.TheVariants.{Nothing, Set, Remove}
@@ -59,10 +69,46 @@ whole_fold g layout records c read e =
 
 -- ---- what that says
 
--- the numbers of an object without a fault of fields
+short-name : (layout : Layout) → longest_name layout ≤ 255
+short-name One = omega arith
+short-name Two = omega arith
+
+name-is : (longest : ℕ) (bytes : List ℕ) → longest ≤ 255 → is_name longest bytes ≡ true → IsName bytes
+name-is longest bytes most e =
+    let h = and_parts (is_within 1 longest (length bytes) && is_utf8 bytes) (list_all (λ b. nat_lt 32 b && not (b == 127)) bytes) e in
+    let k = and_parts (is_within 1 longest (length bytes)) (is_utf8 bytes) h.0 in
+    let within = and_parts (nat_le 1 (length bytes)) (nat_le (length bytes) longest) k.0 in
+    let least = leb-true (length bytes) longest within.1 in
+    record {
+      some = leb-true 1 (length bytes) within.0;
+      short = omega (arith, least, most);
+      text = IsUtf8-from_is_utf8 bytes k.1;
+      printed = AllPass-from_list_all (λ b. nat_lt 32 b && not (b == 127)) bytes h.1;
+    }
+
+mime-is : (mime : Option (List ℕ)) → option_map_or is_mime mime true ≡ true → MatchOption mime ⊤ IsMime
+mime-is None e = tt
+mime-is (Some bytes) e =
+    let h = and_parts (is_within 1 64 (length bytes) && list_all (is_within 0x21 0x7E) bytes) (not (bytes_eq bytes (codes "-"))) e in
+    let k = and_parts (is_within 1 64 (length bytes)) (list_all (is_within 0x21 0x7E) bytes) h.0 in
+    let within = and_parts (nat_le 1 (length bytes)) (nat_le (length bytes) 64) k.0 in
+    record {
+      some = leb-true 1 (length bytes) within.0;
+      short = leb-true (length bytes) 64 within.1;
+      printed = All-weaker (λ b. is_within 0x21 0x7E b ≡ true) (λ b. (nat_lt 32 b && nat_lt b 127) ≡ true)
+          (λ b i. grind (arith, nat_tests)) bytes (AllPass-from_list_all (is_within 0x21 0x7E) bytes k.1);
+      named = λ is. let wrong : bytes_eq bytes (codes "-") ≡ true = (bytes_eq-Decides bytes (45 ∷ [])).1 is in
+          let other = not-true (bytes_eq bytes (codes "-")) h.1 in cc;
+    }
+
+-- the fields of an object without a fault of them
 pub record IsPlacedIn (g : Geometry) (p : Placed) : Type 0 where
   pub id : (1 ≤ p.object.tid) × (p.object.tid ≤ 65535)
+  pub content : (p.object.content.content_type ≤ 63) × (p.object.content.subtype ≤ 511)
+  pub name : IsName p.object.name
+  pub mime : MatchOption p.object.mime ⊤ IsMime
   pub some : 1 ≤ p.object.length
+  pub short : p.object.length ≤ 262144
   pub within : p.start + p.object.length ≤ g.data_area
 
 pub placed_in : (g : Geometry) (layout : Layout) (p : Placed) → IsSoundPlaced g layout p → IsPlacedIn g p
@@ -83,7 +129,11 @@ placed_in g layout p is =
     let size = and_parts (nat_le 1 o.length) (nat_le o.length 262144) h3.1 in
     record {
       id = (ltb-true 0 o.tid h1.0, is.1);
+      content = (leb-true o.content.content_type 63 h1.1, leb-true o.content.subtype 511 h2.1);
+      name = name-is (longest_name layout) o.name (short-name layout) h5.1;
+      mime = mime-is o.mime h6.1;
       some = leb-true 1 o.length size.0;
+      short = leb-true o.length 262144 size.1;
       within = leb-true (p.start + o.length) g.data_area h4.1;
     }
 

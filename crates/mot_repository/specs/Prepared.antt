@@ -47,14 +47,18 @@ kept_record old next command start = record {
   action = kept_action old next command start;
 }
 
+-- no slot of the half is closed
+abbrev pub IsFull : JournalView → Type 0
+IsFull j = slot_count j.layout j.geometry ≤ j.count
+
 -- What is prepared for a command: the carousel after it, where its body goes, the record of it, and
--- the records that a full half is rewritten to.
+-- where the half is full the records that it is rewritten to.
 pub record IsPreparedFor (view : RepositoryView) (command : Command) (done : Done)
     (next : Carousel) (from : ℕ) (r : Record) (given : List Record) : Type 0 where
   pub changes : ChangesTo view.carousel view.journal.geometry.objects command next done
   pub lies : LiesAtLeastGap view command from
   pub record_is : r ≡ kept_record view.carousel next command from
-  pub given_is : given ≡ records_of_catalogue (catalogue_in view)
+  pub given_is : IsFull view.journal → given ≡ records_of_catalogue (catalogue_in view)
 
 -- what a repository keeps in memory, by its parts
 abbrev pub view_with : JournalView → Carousel → List (ℕ × ℕ) → Bool → RepositoryView
@@ -70,3 +74,9 @@ pub record IsPreparedChange (view : RepositoryView) (command : Command) (done : 
   pub body_is : body ≡ body_of command
   pub prepared : IsPreparedFor view command done next from r given
   pub extents_are : extents ≡ extents_after (catalogue_in view).objects command from
+
+-- these records can be written into the other half, and leave room there
+pub record CanBeGiven (j : JournalView) (given : List Record) : Type 0 where
+  pub some : 0 < length given
+  pub few : length given < slot_count j.layout j.geometry
+  pub sound : All (λ r. is_sound j.geometry j.layout r ≡ true) given

@@ -1,23 +1,20 @@
 -- What a repository has ready for a command that was accepted.
-use Rattle.std.specs.Prelude.{◌≡◌, ◌+◌, ◌<◌, ◌≤◌, All, true, length}
+use Rattle.std.specs.Prelude.{◌≡◌, ◌+◌, ◌≤◌, true, length}
 use Rattle.mot_base.specs.Geometry.{length_of}
 use Rattle.mot_carousel.specs.declared.command.Command.{Command}
-use Rattle.mot_journal.specs.Slot.{is_sound, slot_count}
+use Rattle.mot_journal.specs.Slot.{is_sound}
 use Rattle.mot_repository.specs.declared.prepared.Prepared.{Prepared}
 use Rattle.mot_repository.specs.Extents.{catalogue_with}
 use Rattle.mot_repository.specs.Whole.{IsWhole}
-use Rattle.mot_repository.specs.Prepared.{IsPreparedChange}
+use Rattle.mot_repository.specs.Prepared.{CanBeGiven, IsFull, IsPreparedChange}
 use Rattle.mot_repository.specs.Repository.{RepositoryView}
 
--- The change is that of the command, and can be written on any disk of the geometry: its records are
--- sound, and the body lies in the data area. What is kept after it has no fault either.
+-- The change is that of the command, and can be written on any disk of the geometry. What is kept
+-- after it has no fault either.
 pub record IsPrepared (view : RepositoryView) (command : Command) (p : Prepared) : Type 0 where
   pub change : IsPreparedChange view command p.done p.inventory.carousel p.inventory.extents.items
       p.at p.body.items p.record p.given.items
-  pub some : 0 < length p.given.items
-  pub few : length p.given.items < slot_count view.journal.layout view.journal.geometry
-  pub sound_given :
-      All (λ q. is_sound view.journal.geometry view.journal.layout q ≡ true) p.given.items
+  pub given : IsFull view.journal → CanBeGiven view.journal p.given.items
   pub sound : is_sound view.journal.geometry view.journal.layout p.record ≡ true
   pub within : p.at + length p.body.items ≤ length_of view.journal.geometry
   pub whole : IsWhole view.journal.geometry view.journal.layout

@@ -16,7 +16,7 @@ ghost use Rattle.mot_repository.specs.Laws.{extents_after};
 ghost use Rattle.mot_repository.specs.Inner.Following.{RecordsFollowCommands};
 ghost use Rattle.mot_repository.specs.Inner.Following.{RewritingKeepsTheCatalogue, StandingsAreSound};
 ghost use Rattle.mot_repository.specs.Extents.{body_of, catalogue_in};
-ghost use Rattle.mot_repository.specs.Prepared.{IsPreparedFor};
+ghost use Rattle.mot_repository.specs.Prepared.{CanBeGiven, IsFull, IsPreparedFor};
 ghost use Rattle.mot_repository.specs.Inner.Kept.{HasRoom};
 ghost use Rattle.mot_repository.specs.Repository.{RepositoryView, IsOf, Holds, IsNext};
 ghost use Rattle.mot_repository.specs.Repository.{IsBeforeOrAfter};
@@ -30,13 +30,11 @@ use mot_journal::{Journal, Record};
 fn make_room<D: Disk>(journal: &mut Journal, disk: &mut D, given: &[Record]) -> Result<(), Refusal>
     requires going { IsFalse journal.old.spent }
     requires long_enough { length_of journal.old.geometry ≤ (D.state disk.old).len }
-    requires some { 0 < length given.now }
-    requires few { length given.now < slot_count journal.old.layout journal.old.geometry }
-    requires sound { All (λ r. is_sound journal.old.geometry journal.old.layout r ≡ true)
-        given.now }
+    requires given { IsFull journal.old → CanBeGiven journal.old given.now }
 
     ensures keeps { Keeps (D.state disk.old) (D.state disk.new) }
-    ensures cause { OnErr result (HasCause (D.state disk.old).failures (D.state disk.new).failures result) }
+    ensures cause { OnErr result (HasCause (D.state disk.old).failures
+        (D.state disk.new).failures result) }
     ensures calm { OnOk result ((D.state disk.new).failures ≡ (D.state disk.old).failures) }
     ensures cost { Costs (calls_for_room journal.old) (D.state disk.old) (D.state disk.new) result }
     ensures fault { IfErr result (λ refusal. refusal ≡ DeviceFault) }
@@ -48,13 +46,14 @@ fn make_room<D: Disk>(journal: &mut Journal, disk: &mut D, given: &[Record]) -> 
     ensures any_moment { (view : RepositoryView) (s : Standing) (c : Catalogue)
         → view.journal ≡ journal.old → (holds : Holds view s (D.state disk.old))
         → catalogue_of view.journal.geometry.objects holds.records ≡ Ok c
-        → catalogue_of view.journal.geometry.objects given.now ≡ Ok c
+        → (IsFull journal.old → catalogue_of view.journal.geometry.objects given.now ≡ Ok c)
         → Throughout (D.state disk.old) (D.state disk.new) (IsOf s) }
     ensures room { (view : RepositoryView) (s : Standing) (c : Catalogue)
         → view.journal ≡ journal.old → (holds : Holds view s (D.state disk.old))
         → catalogue_of view.journal.geometry.objects holds.records ≡ Ok c
-        → catalogue_of view.journal.geometry.objects given.now ≡ Ok c
-        → OnOk result (HasRoom s holds.records given.now journal.new (D.state disk.new)) }
+        → (IsFull journal.old → catalogue_of view.journal.geometry.objects given.now ≡ Ok c)
+        → OnOk result (HasRoom s holds.records given.now journal.old journal.new
+        (D.state disk.new)) }
 {
     if !journal.is_full() {
         return Ok(());
@@ -77,10 +76,7 @@ pub fn commit_change<D: Disk>(
 ) -> Result<(), Refusal>
     requires going { IsFalse journal.old.spent }
     requires long_enough { length_of journal.old.geometry ≤ (D.state disk.old).len }
-    requires some { 0 < length given.now }
-    requires few { length given.now < slot_count journal.old.layout journal.old.geometry }
-    requires sound_given { All (λ r. is_sound journal.old.geometry journal.old.layout r ≡ true)
-        given.now }
+    requires given { IsFull journal.old → CanBeGiven journal.old given.now }
     requires sound { is_sound journal.old.geometry journal.old.layout entry.now ≡ true }
     requires within { at + length body.now ≤ (D.state disk.old).len }
 

@@ -6,6 +6,8 @@ ghost use Rattle.mot_journal.specs.declared.layout.Layout.TheVariants.{One};
 ghost use Rattle.mot_repository.specs.Answers.{HasLongName, HasRoomForName, IsRefusal};
 ghost use Rattle.mot_repository.specs.Extents.{body_of, catalogue_with};
 ghost use Rattle.mot_repository.specs.Whole.{IsWhole};
+ghost use Rattle.mot_repository.specs.Laws.{records_of_catalogue};
+ghost use Rattle.mot_repository.specs.Prepared.{IsFull};
 ghost use Rattle.mot_repository.specs.Ready.{IsPrepared};
 ghost use Rattle.mot_repository.specs.Inner.Kept.{KeepsInventory};
 ghost use Rattle.mot_repository.specs.Repository.{RepositoryView};
@@ -31,7 +33,7 @@ pub struct Prepared {
     pub(crate) body: Vec<u8>,
     /// Its record.
     pub(crate) record: Record,
-    /// The records that a full half is rewritten to first.
+    /// The records that a full half is rewritten to first; none where it has room.
     pub(crate) given: Vec<Record>,
 }
 
@@ -46,11 +48,13 @@ impl Prepared {
 
 /// Works out what the command does, and takes all memory that doing it takes. In this order:
 /// `BadName` where the layout has no room for the name, what the rules of the carousel refuse, and
-/// `NoRoom` where no gap holds the body. `OutOfMemory` may come at any point after the name.
+/// `NoRoom` where no gap holds the body. `OutOfMemory` may come at any point after the name. The
+/// records of a rewrite are made where the half is full.
 pub(crate) fn prepare_change(
     alloc: Global,
     geometry: &Geometry,
     layout: Layout,
+    is_full: bool,
     inventory: &Inventory,
     command: &Command,
 ) -> Result<Prepared, Refusal>
@@ -59,6 +63,7 @@ pub(crate) fn prepare_change(
         IsWhole geometry.now layout kept }
     ensures prepared { (view : RepositoryView)
         → KeepsInventory geometry.now layout inventory.now view
+        → (IsFull view.journal → IsTrue is_full)
         → IfOk result (λ p. IsPrepared view command.now p) }
     ensures room { (view : RepositoryView)
         → KeepsInventory geometry.now layout inventory.now view
@@ -74,7 +79,7 @@ pub(crate) fn prepare_change(
     let Some(start) = body_start(&inventory.extents, command, geometry.data_area) else {
         return Err(Refusal::NoRoom);
     };
-    let given = records_of(alloc, inventory)?;
+    let given = records_to_give(alloc, is_full, inventory)?;
     let body = body_copy(alloc, command)?;
     let record = record_of_change(&inventory.carousel, &change.next, command, start)?;
     let extents = extents_after(alloc, inventory, command, start)?;
@@ -89,6 +94,21 @@ pub(crate) fn prepare_change(
         record,
         given,
     })
+}
+
+/// The records that a full half is rewritten to; none where it has room.
+fn records_to_give(
+    alloc: Global,
+    is_full: bool,
+    inventory: &Inventory,
+) -> Result<Vec<Record>, AllocError>
+    ensures { let kept = catalogue_with inventory.now.carousel inventory.now.extents.items in
+        IfOk result (λ records. IsTrue is_full → records.items ≡ records_of_catalogue kept) }
+{
+    if is_full {
+        return records_of(alloc, inventory);
+    }
+    Ok(Vec::new(alloc))
 }
 
 /// Whether the slots of this layout have no room for the name that the command speaks of.

@@ -154,7 +154,8 @@ impl<D: Disk> Repository<D> {
         requires within { from + length out.old ≤ (extent_at self.old.view.extents place).1 }
 
         ensures keeps { KeepsLength (D.state self.old.disk) (D.state self.new.disk) }
-        ensures cause { HasCause (D.state self.old.disk).failures (D.state self.new.disk).failures result }
+        ensures cause { HasCause (D.state self.old.disk).failures
+            (D.state self.new.disk).failures result }
         ensures cost { Costs 1 (D.state self.old.disk) (D.state self.new.disk) result }
         ensures fault { IfErr result (λ refusal. refusal ≡ DeviceFault) }
         ensures view { self.new.view ≡ self.old.view }
@@ -205,7 +206,8 @@ impl<D: Disk> Repository<D> {
         }
         let geometry = self.journal.geometry();
         let layout = self.journal.layout();
-        prepare_change(alloc, &geometry, layout, &self.inventory, command)
+        let is_full = self.journal.is_full();
+        prepare_change(alloc, &geometry, layout, is_full, &self.inventory, command)
     }
 
     /// Does what was prepared from this repository as it stands. It takes no memory. At
@@ -215,7 +217,8 @@ impl<D: Disk> Repository<D> {
         requires prepared { (command : Command) × IsPrepared self.old.view command prepared }
 
         ensures keeps { Keeps (D.state self.old.disk) (D.state self.new.disk) }
-        ensures cause { HasCause (D.state self.old.disk).failures (D.state self.new.disk).failures result }
+        ensures cause { HasCause (D.state self.old.disk).failures
+            (D.state self.new.disk).failures result }
         ensures cost { (command : Command) → IsPrepared self.old.view command prepared
             → Costs (calls_of_command self.old.view.journal command)
             (D.state self.old.disk) (D.state self.new.disk) result }

@@ -1,22 +1,21 @@
 -- Runs one after the other, and calls that only read between them.
-use Rattle.std.proofs.Common.{◌≡◌, ℕ, suc, Bool, true, false, List, [], ◌∷◌, ◌++◌, length, take, drop, Option, Some, None, refl, sym, ◌∙◌, ap, subst, arith, append_assoc}
+use Rattle.std.proofs.Common.{◌≡◌, ℕ, Bool, true, false, List, [], ◌∷◌, ◌++◌, length, take, drop, Option, None, refl, sym, ◌∙◌, ap, subst, arith, append_assoc}
 use Rattle.std.proofs.lemmas.List.{append-nil}
 use Rattle.std.specs.Prelude.{if◌then◌else◌}
 use Rattle.disk_store.specs.Disk.{State, Throughout, IsHonestDisk, IsUnchanged}
 use Rattle.disk_store.proofs.Laws.{stays, joins, weakens}
 use Rattle.mot_base.specs.declared.refusal.Refusal.{Refusal}
 use Rattle.mot_carousel.specs.declared.command.Command.{Command}
-use Rattle.mot_carousel.specs.declared.command.Done.{Done}
 use Rattle.mot_journal.specs.declared.layout.Layout.{Layout}
 use Rattle.mot_journal.specs.Image.{Standing}
 use Rattle.mot_repository.specs.Repository.{RepositoryView, Holds}
-use Rattle.mot_server.specs.Marks.{AreMarks, IsRefusedAt, IsAcceptedAt}
-use Rattle.mot_server.specs.RunEnds.{RunLeaves, place_behind}
+use Rattle.mot_server.specs.Marks.{AreMarks}
+use Rattle.mot_server.specs.RunEnds.{RunLeaves}
 use Rattle.mot_server.specs.Runs.{accepted_commands, commands_in_flight, IsAfter, StandsAfterSome}
 use Rattle.std.specs.Option.{option_map_or}
 use Rattle.mot_base.specs.Refusal.{is_device_fault}
 use Rattle.mot_server.proofs.Read.{holds_still}
-use Rattle.mot_server.proofs.Runs.{Reached, begins, rests, after_both, more, less_sure}
+use Rattle.mot_server.proofs.Runs.{begins, rests, after_both, more, less_sure}
 
 -- ---- marks
 

@@ -1,5 +1,5 @@
 -- What calls that only read leave, and what they read.
-use Rattle.std.proofs.Common.{◌≡◌, inl, ⊎_elim, ℕ, zero, suc, ◌<◌, ◌≤◌, List, [], ◌∷◌, length, map, get_or, refl, sym, ap, ◌∙◌, subst, arith}
+use Rattle.std.proofs.Common.{◌≡◌, false, true, inl, ⊎_elim, ℕ, zero, suc, ◌<◌, ◌≤◌, List, [], ◌∷◌, length, map, get_or, refl, sym, ap, ◌∙◌, subst, arith}
 use Rattle.std.proofs.Math.Nat.{eq-or-lt_of_le}
 use Rattle.std.proofs.lemmas.List.{ext_get_or, get_or-map}
 use Rattle.disk_store.specs.Disk.{State, IsHonestDisk, IsUnchanged, KeepsLength}
@@ -98,6 +98,11 @@ unchanged_on start mid now first second = record {
 pub rises_on : (start mid now : ℕ) → start ≤ mid → mid ≤ now → Rises mid now → Rises start now
 rises_on start mid now le later rises =
     ⊎_elim (λ e. subst (λ n. Rises n now) (sym e) rises) (λ lt. inl (omega (arith, lt, later))) (eq-or-lt_of_le le)
+
+-- a call in which the disk has not failed
+pub no_failure : (old new : ℕ) → old ≤ new → (Rises old new → false ≡ true) → new ≡ old
+no_failure old new later none =
+    ⊎_elim sym (λ lt. absurd (let e : false ≡ true = none (inl lt) in cc)) (eq-or-lt_of_le later)
 
 -- a call that changes nothing on the disk nor in memory
 pub holds_still : (view view' : RepositoryView) (s : Standing) (old new : State) → Holds view s old → new.IsHonest

@@ -1,5 +1,5 @@
 // Whether a body on the disk has these bytes.
-ghost use Rattle.std.specs.Prelude.{◌≡◌, ◌<◌, ◌≤◌, ◌↔◌, length, IfOk, IfErr, IsTrue, OnErr};
+ghost use Rattle.std.specs.Prelude.{◌≡◌, ◌<◌, ◌≤◌, ◌↔◌, length, IfOk, IfErr, IsTrue, OnErr, OnOk};
 ghost use Rattle.disk_store.specs.Disk.{IsUnchanged, KeepsLength};
 ghost use Rattle.disk_store.specs.Failures.{Rises};
 ghost use Rattle.mot_base.specs.declared.refusal.Refusal.TheVariants.{DeviceFault};
@@ -30,6 +30,8 @@ pub(crate) fn is_body<D: Disk>(
     ensures fault { IfErr result (λ refusal. refusal ≡ DeviceFault) }
     ensures rises { OnErr result (Rises (D.state repository.old.disk).failures
         (D.state repository.new.disk).failures) }
+    ensures calm { OnOk result ((D.state repository.new.disk).failures
+        ≡ (D.state repository.old.disk).failures) }
     ensures exact { (s : Standing) → Holds repository.old.view s (D.state repository.old.disk)
         → (D.state repository.new.disk).IsHonest → IfOk result
         (λ same. IsTrue same ↔ (body_at s.carousel.objects place ≡ bytes.now)) }

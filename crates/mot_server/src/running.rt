@@ -1,6 +1,6 @@
 //! Commands in a row, up to the first that can't be answered.
 ghost use Rattle.std.specs.Prelude.{◌≡◌, ◌≤◌, ◌<◌, [], ◌∷◌, length, vec_len, Some, IfSome, IfNone};
-ghost use Rattle.std.specs.Prelude.{IfErr, IsTrue};
+ghost use Rattle.std.specs.Prelude.{◌⊎◌, IfErr, IsTrue, MatchResult, OnOk};
 ghost use Rattle.mot_base.specs.declared.refusal.Refusal.TheVariants.{DeviceFault, Halted};
 ghost use Rattle.mot_server.specs.RunEnds.{is_run_ending};
 
@@ -110,6 +110,14 @@ impl<D: Disk> Server<D> {
         ensures layout { self.new.view.journal.layout ≡ self.old.view.journal.layout }
         ensures fault { IfErr result (λ refusal. IsRunFault self.old.view self.new.view
             (D.state self.old.disk) (D.state self.new.disk) refusal) }
+
+        ensures halted { OnOk result (self.new.view.halted ≡ self.old.view.halted) }
+
+        // The disk has failed where a device fault is told, and nowhere else.
+        ensures calm { MatchResult result
+            (λ answer. (D.state self.new.disk).failures ≡ (D.state self.old.disk).failures)
+            (λ refusal. (refusal ≡ DeviceFault)
+            ⊎ ((D.state self.new.disk).failures ≡ (D.state self.old.disk).failures)) }
 
         // On every disk the ids and the refusal are those of the command.
         ensures answered { IsAnswered self.old.view self.new.view

@@ -377,6 +377,9 @@ impl<D: Disk> Server<D> {
         ensures refused { IfErr result (λ refusal. IsReadRefusal self.old self.new
             (D.state self.old.disk).failures (D.state self.new.disk).failures refusal) }
 
+        ensures calm { OnOk result
+            ((D.state self.new.disk).failures ≡ (D.state self.old.disk).failures) }
+
         // It is the body of what the disk stands for.
         ensures exact { (s : journal.Standing) → Holds self.old.view s (D.state self.old.disk)
             → (D.state self.new.disk).IsHonest → IfOk result

@@ -30,7 +30,9 @@ use Rattle.mot_server.specs.declared.running.Attempt.{Attempt}
 use Rattle.mot_server.specs.declared.running.Attempt.TheVariants.{Accepted, Refused}
 use Rattle.mot_update.specs.HasRun.{marks_of}
 use Rattle.mot_update.specs.Looking.{AreAccepted, Gives, HasLooked, HasSettled, RunsThrough}
-use Rattle.mot_update.specs.Looking.{unknown_names, was_accepted, was_settled, withdraw_all}
+use Rattle.mot_update.specs.Looking.{unknown_names, was_settled, withdraw_all}
+use Rattle.mot_update.specs.Told.{Answer, AreAnswers, Withdrew, was_accepted}
+use Rattle.mot_update.proofs.Answers.{answer-withdrew, answers-cut, answers-join}
 use Rattle.mot_update.specs.declared.settling.Settled.{Settled}
 use Rattle.mot_update.specs.declared.settling.Settled.TheVariants.{Right, Put, Replaced}
 use Rattle.mot_update.specs.Updating.{is_known, settling, settling_of, withdrawal}
@@ -91,12 +93,12 @@ fresh names place i w (v ∷ wanted) d le at below =
     (turned v.name w.name (apart names b.0 i v.name w.name d (omega (arith, lt, le)) b.2 at))
     (fresh names place i w wanted d le at below.1)
 
-all-push : (P : Wanted → Type 0) (wanted : List Wanted) (w : Wanted) → AllByRecursion P wanted
+pub all-push : (P : Wanted → Type 0) (wanted : List Wanted) (w : Wanted) → AllByRecursion P wanted
     → P w → AllByRecursion P (wanted ++ w ∷ [])
 all-push P [] w all p = (p, tt)
 all-push P (v ∷ wanted) w all p = (all.0, all-push P wanted w all.1 p)
 
-below_more : (names : List (List ℕ)) (place further : ℕ) (wanted : List Wanted) → place ≤ further
+pub below_more : (names : List (List ℕ)) (place further : ℕ) (wanted : List Wanted) → place ≤ further
     → AllByRecursion (IsBelow names place) wanted → AllByRecursion (IsBelow names further) wanted
 below_more names place further [] le all = tt
 below_more names place further (w ∷ wanted) le all =
@@ -193,8 +195,10 @@ pub record SettledSoFar {D : Type 0} (old new : ServerView D) (start now : State
   pub run : HasRun old new start now s (flat_map (settling s.carousel.objects) wanted) marks None
   pub every : fine ≡ true → take first names ++ names_of wanted ≡ take place names
   pub accepted : fine ≡ true → AreAccepted marks
+  pub answers : List Answer
+  pub told : AreAnswers answers (flat_map (settling s.carousel.objects) wanted) marks
 
-pub settled_none : {D : Type 0} (old : ServerView D) (start : State) (s : Standing)
+abbrev pub settled_none : {D : Type 0} (old : ServerView D) (start : State) (s : Standing)
     (names : List (List ℕ)) (place : ℕ) (given : Option (List Wanted)) (fine : Bool)
     → IsHonestDisk start → start.IsHonest → IsUnchanged start start → Holds old.view s start
     → SettledSoFar old old start start s names place place given given fine
@@ -208,6 +212,8 @@ settled_none old start s names place given fine sound honest still holds = recor
   run = (has_read old old start start s None sound refl refl honest still holds).0;
   every = λ e. append-nil (take place names);
   accepted = λ e. tt;
+  answers = [];
+  told = refl;
 }
 
 module _ {D : Type 0} (old mid new : ServerView D) (start between now : State) (s : Standing)
@@ -219,7 +225,7 @@ module _ {D : Type 0} (old mid new : ServerView D) (start between now : State) (
   new_name : is_known (names_of so_far.wanted) w.name ≡ false
   new_name = fresh names place is.0 w so_far.wanted distinct is.1 is.3 so_far.below
 
-  run_more : (marks : List Bool) (fault : Option Refusal)
+  pub run_more : (marks : List Bool) (fault : Option Refusal)
       → ((t : Standing) → Holds mid.view t between
       → HasRun mid new between now t (settling t.carousel.objects w) marks fault)
       → HasRun old new start now s (flat_map (settling s.carousel.objects) (so_far.wanted ++ w ∷ []))
@@ -236,22 +242,47 @@ module _ {D : Type 0} (old mid new : ServerView D) (start between now : State) (
       (join old mid new start between now s (flat_map f so_far.wanted) (f w) so_far.marks marks
       fault so_far.run (subst (λ l. HasRun mid new between now t l marks fault) same two))
 
-  gives_more : Gives before last (so_far.wanted ++ w ∷ [])
+  pub told_more : (answers : List Answer) (marks : List Bool)
+      → ((t : Standing) → Holds mid.view t between
+      → AreAnswers answers (settling t.carousel.objects w) marks)
+      → AreAnswers (so_far.answers ++ answers)
+      (flat_map (settling s.carousel.objects) (so_far.wanted ++ w ∷ [])) (so_far.marks ++ marks)
+  told_more answers marks told =
+      let f : Wanted → List Command = settling s.carousel.objects in
+      let t : Standing = so_far.run.leaves.last in
+      let same : settling t.carousel.objects w ≡ f w =
+      settles_on s.carousel t.carousel s.geometry.objects so_far.wanted so_far.marks w new_name
+      so_far.run.leaves.after.carousel in
+      subst (λ l. AreAnswers (so_far.answers ++ answers) l (so_far.marks ++ marks))
+      (sym (flat_map-push f so_far.wanted w))
+      (answers-join so_far.answers answers (flat_map f so_far.wanted) (f w) so_far.marks marks
+      so_far.told (so_far.run.whole refl) (subst (λ l. AreAnswers answers l marks) same
+      (told t (so_far.run.leaves.going refl))))
+
+  pub told_cut : AreAnswers so_far.answers
+      (flat_map (settling s.carousel.objects) (so_far.wanted ++ w ∷ [])) (so_far.marks ++ [])
+  told_cut =
+      let f : Wanted → List Command = settling s.carousel.objects in
+      subst (λ l. AreAnswers so_far.answers l (so_far.marks ++ []))
+      (sym (flat_map-push f so_far.wanted w))
+      (answers-cut so_far.answers (flat_map f so_far.wanted) (f w) so_far.marks so_far.told)
+
+  pub gives_more : Gives before last (so_far.wanted ++ w ∷ [])
   gives_more = gives_trans before after last so_far.wanted (w ∷ []) so_far.gives
       (gives_kept after then_given last (w ∷ []) one_given rest_given)
 
-  known_more : AllByRecursion (λ (v : Wanted). is_known names v.name ≡ true)
+  pub known_more : AllByRecursion (λ (v : Wanted). is_known names v.name ≡ true)
       (so_far.wanted ++ w ∷ [])
   known_more = all-push (λ (v : Wanted). is_known names v.name ≡ true) so_far.wanted w so_far.known
       (known_at names is.0 w.name is.3)
 
-  distinct_more : are_names_distinct (names_of (so_far.wanted ++ w ∷ [])) ≡ true
+  pub distinct_more : are_names_distinct (names_of (so_far.wanted ++ w ∷ [])) ≡ true
   distinct_more = subst (λ l. are_names_distinct l ≡ true)
       (sym (map-append (λ (v : Wanted). v.name) so_far.wanted (w ∷ [])))
       (names-push (names_of so_far.wanted) w.name so_far.distinct new_name)
 
   -- where none was passed over
-  every_more : fine ≡ true → further ≡ place + 1
+  pub every_more : fine ≡ true → further ≡ place + 1
       → take first names ++ names_of (so_far.wanted ++ w ∷ []) ≡ take further names
   every_more was next =
       let low = is.1 in
@@ -265,12 +296,14 @@ module _ {D : Type 0} (old mid new : ServerView D) (start between now : State) (
       ∙ ap (λ n. take n names) (sym (next ∙ add-one place))
 
   -- one more was settled
-  pub settled_more : (marks : List Bool) (later : Bool)
+  abbrev pub settled_more : (marks : List Bool) (answers : List Answer) (later : Bool)
       → ((t : Standing) → Holds mid.view t between
       → HasRun mid new between now t (settling t.carousel.objects w) marks None)
+      → ((t : Standing) → Holds mid.view t between
+      → AreAnswers answers (settling t.carousel.objects w) marks)
       → (later ≡ true → (fine ≡ true) × (further ≡ place + 1) × AreAccepted marks)
       → SettledSoFar old new start now s names first further before last later
-  settled_more marks later run told = record {
+  settled_more marks answers later run are told = record {
     wanted = so_far.wanted ++ w ∷ [];
     gives = gives_more;
     known = known_more;
@@ -284,14 +317,16 @@ module _ {D : Type 0} (old mid new : ServerView D) (start between now : State) (
     every = λ e. let t = told e in every_more t.0 t.1;
     accepted = λ e. let t = told e in
         accepted-append so_far.marks marks (so_far.accepted t.0) t.2;
+    answers = so_far.answers ++ answers;
+    told = told_more answers marks are;
   }
 
   -- a fault came in settling it
-  pub settled_fault : (marks : List Bool) (later : Bool) (refusal : Refusal)
+  abbrev pub settled_fault : (later : Bool) (refusal : Refusal)
       → ((t : Standing) → Holds mid.view t between
-      → HasRun mid new between now t (settling t.carousel.objects w) marks (Some refusal))
+      → HasRun mid new between now t (settling t.carousel.objects w) [] (Some refusal))
       → HasSettled old new start now s names first before last later (Some refusal)
-  settled_fault marks later refusal run = record {
+  settled_fault later refusal run = record {
     wanted = so_far.wanted ++ w ∷ [];
     gives = gives_more;
     is_update = record { distinct = distinct_more; known = known_more };
@@ -301,14 +336,16 @@ module _ {D : Type 0} (old mid new : ServerView D) (start between now : State) (
       others = [];
       split = sym (append-nil (flat_map (settling s.carousel.objects) (so_far.wanted ++ w ∷ [])));
       whole = λ e. refl;
-      marks = so_far.marks ++ marks;
-      run = run_more marks (Some refusal) run;
+      marks = so_far.marks ++ [];
+      run = run_more [] (Some refusal) run;
       accepted = λ e n. absurd (not_none refusal n);
+      answers = so_far.answers;
+      told = told_cut;
     };
   }
 
 -- all were settled
-pub settled_all : {D : Type 0} (old new : ServerView D) (start now : State) (s : Standing)
+abbrev pub settled_all : {D : Type 0} (old new : ServerView D) (start now : State) (s : Standing)
     (names : List (List ℕ)) (first place : ℕ) (before after last : Option (List Wanted))
     (fine later : Bool)
     → SettledSoFar old new start now s names first place before after fine → Gives after last []
@@ -327,18 +364,21 @@ settled_all old new start now s names first place before after last fine later s
     marks = so_far.marks;
     run = so_far.run;
     accepted = λ e n. so_far.accepted (told e).0;
+    answers = so_far.answers;
+    told = so_far.told;
   };
 }
 
 -- ---- withdrawing one after the other
 
 -- a fault came before the next command
-cut_fault : {D : Type 0} (old mid : ServerView D) (start between : State) (s : Standing)
-    (all commands others : List Command) (marks : List Bool) (fine : Bool) (refusal : Refusal)
-    → all ≡ commands ++ others → IsHonestDisk between → between.IsHonest
+abbrev cut_fault : {D : Type 0} (old mid : ServerView D) (start between : State) (s : Standing)
+    (all commands others : List Command) (marks : List Bool) (answers : List Answer) (fine : Bool)
+    (refusal : Refusal) → AreAnswers answers commands marks → all ≡ commands ++ others → IsHonestDisk between → between.IsHonest
     → IsUnchanged between between → HasRun old mid start between s commands marks None
     → RunsThrough old mid start between s all fine (Some refusal)
-cut_fault old mid start between s all commands others marks fine refusal split sound honest still one =
+cut_fault old mid start between s all commands others marks answers fine refusal told split sound
+    honest still one =
     let t : Standing = one.leaves.last in
     let two = (has_read mid mid between between t (Some refusal) sound refl refl honest still
     (one.leaves.going refl)).0 in
@@ -350,82 +390,111 @@ cut_fault old mid start between s all commands others marks fine refusal split s
       marks = marks ++ [];
       run = join old mid mid start between between s commands [] marks [] (Some refusal) one two;
       accepted = λ e n. absurd (not_none refusal n);
+      answers = answers;
+      told = answers-cut answers commands [] marks told;
     }
 
+-- these withdrawals were run
+pub record WithdrewSoFar {D : Type 0} (old new : ServerView D) (start now : State) (s : Standing)
+    (commands : List Command) (fine : Bool) : Type 0 where
+  pub marks : List Bool
+  pub run : HasRun old new start now s commands marks None
+  pub accepted : fine ≡ true → AreAccepted marks
+  pub answers : List Answer
+  pub told : AreAnswers answers commands marks
+
 module _ {D : Type 0} (old mid : ServerView D) (start between : State) (s : Standing)
-    (names : List (List ℕ)) (i : ℕ) (marks : List Bool)
-    (one : HasRun old mid start between s (withdraw_all (take i names)) marks None) where
-  pub withdrew_cut : (fine : Bool) (refusal : Refusal) → IsHonestDisk between → between.IsHonest
+    (names : List (List ℕ)) (i : ℕ) (fine : Bool)
+    (one : WithdrewSoFar old mid start between s (withdraw_all (take i names)) fine) where
+  abbrev pub withdrew_cut : (refusal : Refusal) → IsHonestDisk between → between.IsHonest
       → IsUnchanged between between
       → RunsThrough old mid start between s (withdraw_all names) fine (Some refusal)
-  withdrew_cut fine refusal sound honest still =
+  withdrew_cut refusal sound honest still =
       cut_fault old mid start between s (withdraw_all names) (withdraw_all (take i names))
-      (withdraw_all (drop i names)) marks fine refusal
+      (withdraw_all (drop i names)) one.marks one.answers fine refusal one.told
       (ap withdraw_all (sym (take-append-drop i names))
       ∙ map-append Withdraw (take i names) (drop i names))
-      sound honest still one
+      sound honest still one.run
 
-  pub withdrew_all : (fine : Bool) → (fine ≡ true → AreAccepted marks) → length names ≤ i
+  abbrev pub withdrew_all : length names ≤ i
       → RunsThrough old mid start between s (withdraw_all names) fine None
-  withdrew_all fine accepted le = record {
+  withdrew_all le = record {
     commands = withdraw_all (take i names);
     others = [];
     split = ap withdraw_all (sym (take_all i names le)) ∙ sym (append-nil _);
     whole = λ e. refl;
-    marks = marks;
-    run = one;
-    accepted = λ e n. accepted e;
+    marks = one.marks;
+    run = one.run;
+    accepted = λ e n. one.accepted e;
+    answers = one.answers;
+    told = one.told;
   }
 
   module _ (new : ServerView D) (now : State) (n : List ℕ) (there : i < length names)
       (is : n ≡ get_or names i n) where
-    next-is : withdraw_all (take (i + 1) names) ≡ withdraw_all (take i names) ++ Withdraw n ∷ []
+    pub next-is : withdraw_all (take (i + 1) names) ≡ withdraw_all (take i names) ++ Withdraw n ∷ []
     next-is = ap withdraw_all (take_more names i n there
         ∙ ap (λ m. take i names ++ m ∷ []) (sym is)) ∙ map-append Withdraw (take i names) (n ∷ [])
 
-    run_next : (others : List Bool) (fault : Option Refusal)
+    pub run_next : (others : List Bool) (fault : Option Refusal)
         → ((t : Standing) → Holds mid.view t between
         → HasRun mid new between now t (Withdraw n ∷ []) others fault)
         → HasRun old new start now s (withdraw_all (take i names) ++ Withdraw n ∷ [])
-        (marks ++ others) fault
+        (one.marks ++ others) fault
     run_next others fault run =
-        join old mid new start between now s (withdraw_all (take i names)) (Withdraw n ∷ []) marks
-        others fault one (run one.leaves.last (one.leaves.going refl))
+        join old mid new start between now s (withdraw_all (take i names)) (Withdraw n ∷ [])
+        one.marks others fault one.run (run one.run.leaves.last (one.run.leaves.going refl))
 
-    pub withdrew_next : (others : List Bool) (later : Bool)
-        → ((t : Standing) → Holds mid.view t between
-        → HasRun mid new between now t (Withdraw n ∷ []) others None)
-        → (later ≡ true → AreAccepted marks × AreAccepted others)
-        → (all : List Bool) × HasRun old new start now s (withdraw_all (take (i + 1) names)) all None
-        × (later ≡ true → AreAccepted all)
-    withdrew_next others later run told = (
-      marks ++ others,
-      subst (λ l. HasRun old new start now s l (marks ++ others) None)
-          (sym next-is) (run_next others None run),
-      λ e. let t = told e in accepted-append marks others t.0 t.1,
-    )
+    abbrev pub withdrew_next : (attempt : Attempt) (later : Bool)
+        → ((t : Standing) → Holds mid.view t between → HasRun mid new between now t
+        (Withdraw n ∷ []) (attempts.marks_of (Ok attempt)) None)
+        → (later ≡ true → (fine ≡ true) × (was_accepted attempt ≡ true))
+        → WithdrewSoFar old new start now s (withdraw_all (take (i + 1) names)) later
+    withdrew_next attempt later run told =
+        let marks = attempts.marks_of (Ok attempt) in
+        record {
+          marks = one.marks ++ marks;
+          run = subst (λ l. HasRun old new start now s l (one.marks ++ marks) None)
+              (sym next-is) (run_next marks None run);
+          accepted = λ e. let t = told e in
+              accepted-append one.marks marks (one.accepted t.0) (accepted_one attempt t.1);
+          answers = one.answers ++ Withdrew n attempt ∷ [];
+          told = subst (λ l. AreAnswers (one.answers ++ Withdrew n attempt ∷ []) l
+              (one.marks ++ marks)) (sym next-is)
+              (answers-join one.answers (Withdrew n attempt ∷ []) (withdraw_all (take i names))
+              (Withdraw n ∷ []) one.marks marks one.told (one.run.whole refl)
+              (answer-withdrew n attempt));
+        }
 
-    pub withdrew_fault : (others : List Bool) (fine : Bool) (refusal : Refusal)
+    abbrev pub withdrew_fault : (later : Bool) (refusal : Refusal)
         → ((t : Standing) → Holds mid.view t between
-        → HasRun mid new between now t (Withdraw n ∷ []) others (Some refusal))
-        → RunsThrough old new start now s (withdraw_all names) fine (Some refusal)
-    withdrew_fault others fine refusal run = record {
+        → HasRun mid new between now t (Withdraw n ∷ []) [] (Some refusal))
+        → RunsThrough old new start now s (withdraw_all names) later (Some refusal)
+    withdrew_fault later refusal run = record {
       commands = withdraw_all (take i names) ++ Withdraw n ∷ [];
       others = withdraw_all (drop (i + 1) names);
       split = ap withdraw_all (sym (take-append-drop (i + 1) names))
           ∙ map-append Withdraw (take (i + 1) names) (drop (i + 1) names)
           ∙ ap (λ l. l ++ withdraw_all (drop (i + 1) names)) next-is;
       whole = λ e. absurd (not_none refusal e);
-      marks = marks ++ others;
-      run = run_next others (Some refusal) run;
+      marks = one.marks ++ [];
+      run = run_next [] (Some refusal) run;
       accepted = λ e n. absurd (not_none refusal n);
+      answers = one.answers;
+      told = answers-cut one.answers (withdraw_all (take i names)) (Withdraw n ∷ []) one.marks
+          one.told;
     }
 
-pub withdrew_none : {D : Type 0} (old : ServerView D) (start : State) (s : Standing)
+abbrev pub withdrew_none : {D : Type 0} (old : ServerView D) (start : State) (s : Standing) (fine : Bool)
     → IsHonestDisk start → start.IsHonest → IsUnchanged start start → Holds old.view s start
-    → (marks : List Bool) × HasRun old old start start s [] marks None × AreAccepted marks
-withdrew_none old start s sound honest still holds =
-    ([], (has_read old old start start s None sound refl refl honest still holds).0, tt)
+    → WithdrewSoFar old old start start s [] fine
+withdrew_none old start s fine sound honest still holds = record {
+  marks = [];
+  run = (has_read old old start start s None sound refl refl honest still holds).0;
+  accepted = λ e. tt;
+  answers = [];
+  told = refl;
+}
 
 -- ---- the look
 
@@ -453,7 +522,7 @@ withdrawals-are names view s agrees =
     ap (λ (c : Carousel). withdrawals names c.objects) agrees.carousel
     ∙ withdrawals-by names view.carousel.objects.items agrees.bodies agrees.are_bodies
 
-same_settlings : (names : List (List ℕ)) (old last : Carousel) (limit : ℕ)
+pub same_settlings : (names : List (List ℕ)) (old last : Carousel) (limit : ℕ)
     (commands : List Command) (marks : List Bool) (wanted : List Wanted)
     → commands ≡ withdrawals names old.objects
     → carousel_after old limit (accepted_commands commands marks) ≡ Some last
@@ -472,7 +541,7 @@ same_settlings names old last limit commands marks (w ∷ wanted) is e known =
     ∙ sym (flat_map-cons (settling old.objects) w wanted)
 
 -- a fault came while the names were gathered, or in withdrawing
-pub look_cut : {D : Type 0} (old new : ServerView D) (start now : State) (s : Standing)
+abbrev pub look_cut : {D : Type 0} (old new : ServerView D) (start now : State) (s : Standing)
     (names gone : List (List ℕ)) (first : ℕ) (before after : Option (List Wanted)) (fine : Bool)
     (refusal : Refusal)
     → withdrawals names s.carousel.objects ≡ withdraw_all gone → Gives before after []
@@ -491,22 +560,22 @@ look_cut old new start now s names gone first before after fine refusal are give
     marks = runs.marks;
     run = runs.run;
     accepted = runs.accepted;
+    answers = runs.answers;
+    told = runs.told;
   };
 }
 
 -- all were withdrawn, and then what was given was settled
-pub look_on : {D : Type 0} (old mid new : ServerView D) (start between now : State) (s : Standing)
+abbrev pub look_on : {D : Type 0} (old mid new : ServerView D) (start between now : State) (s : Standing)
     (names gone : List (List ℕ)) (first : ℕ) (before after last : Option (List Wanted))
     (fine later : Bool) (fault : Option Refusal)
     → withdrawals names s.carousel.objects ≡ withdraw_all gone → Gives before after []
-    → RunsThrough old mid start between s (withdraw_all gone) fine None
+    → (one : RunsThrough old mid start between s (withdraw_all gone) fine None)
     → (later ≡ true → fine ≡ true)
-    → ((t : Standing) → Holds mid.view t between
-    → HasSettled mid new between now t names first after last later fault)
+    → HasSettled mid new between now one.run.leaves.last names first after last later fault
     → HasLooked old new start now s names first before last later fault
-look_on old mid new start between now s names gone first before after last fine later fault are gives one was settled =
+look_on old mid new start between now s names gone first before after last fine later fault are gives one was two =
     let t : Standing = one.run.leaves.last in
-    let two = settled t (one.run.leaves.going refl) in
     let gone_all : one.commands ≡ withdrawals names s.carousel.objects =
     sym (append-nil one.commands) ∙ ap (λ l. one.commands ++ l) (sym (one.whole refl))
     ∙ sym one.split ∙ sym are in
@@ -529,6 +598,9 @@ look_on old mid new start between now s names gone first before after last fine 
             two.runs.marks fault one.run two.runs.run;
         accepted = λ e n. accepted-append one.marks two.runs.marks (one.accepted (was e) refl)
             (two.runs.accepted e n);
+        answers = one.answers ++ two.runs.answers;
+        told = answers-join one.answers two.runs.answers one.commands two.runs.commands one.marks
+            two.runs.marks one.told (one.run.whole refl) two.runs.told;
       };
     }
 

@@ -9,18 +9,13 @@ use Rattle.mot_carousel.specs.declared.command.Command.TheVariants.{Withdraw}
 use Rattle.mot_carousel.specs.declared.object.Object.{Object}
 use Rattle.mot_journal.specs.Image.{Standing}
 use Rattle.mot_server.specs.Server.{ServerView}
-use Rattle.mot_server.specs.declared.running.Attempt.{Attempt}
-use Rattle.mot_server.specs.declared.running.Attempt.TheVariants.{Accepted, Refused}
 use Rattle.mot_update.specs.HasRun.{HasRun}
 use Rattle.mot_update.specs.Laws.{IsUpdate, names_of}
+use Rattle.mot_update.specs.Told.{Answer, AreAnswers, was_accepted}
 use Rattle.mot_update.specs.Updating.{is_known, settling, updating}
 use Rattle.mot_update.specs.declared.settling.Settled.{Settled}
 use Rattle.mot_update.specs.declared.settling.Settled.TheVariants.{Right, Put, Replaced}
 use Rattle.mot_update.specs.declared.wanted.Wanted.{Wanted}
-
-abbrev pub was_accepted : Attempt → Bool
-was_accepted (Accepted done) = true
-was_accepted (Refused refusal) = false
 
 -- what was to be done for an object, if anything was, is done
 abbrev pub was_settled : Settled → Bool
@@ -58,6 +53,9 @@ pub record RunsThrough {D : Type 0} (old new : ServerView D) (start now : State)
   pub marks : List Bool
   pub run : HasRun old new start now s commands marks fault
   pub accepted : fine ≡ true → fault ≡ None → AreAccepted marks
+  -- what was told of them
+  pub answers : List Answer
+  pub told : AreAnswers answers commands marks
 
 -- Objects of these names were given, and settled one after the other. Where nothing was refused one
 -- of each name was given, behind the first so many.

@@ -1,12 +1,15 @@
 //! A look at a source: what it gives, made of a server's carousel.
-ghost use Rattle.std.specs.Prelude.{◌≡◌, ◌≤◌, [], true, IfOk};
+ghost use Rattle.std.specs.Prelude.{◌≡◌, ◌≤◌, [], true, IfErr, IfOk};
 ghost use Rattle.disk_store.specs.Disk.{KeepsLength};
+ghost use Rattle.mot_base.specs.declared.refusal.Refusal.TheVariants.{OutOfMemory};
 ghost use Rattle.mot_carousel.specs.Carousel.{are_names_distinct};
 ghost use Rattle.mot_journal.specs.Image.{Standing};
 ghost use Rattle.mot_repository.specs.Repository.{Holds};
+ghost use Rattle.mot_update.specs.Faults.{TellsFaults};
 ghost use Rattle.mot_update.specs.HasRun.{fault_of};
 ghost use Rattle.mot_update.specs.Looking.{Gives, HasLooked, HasSettled, RunsThrough};
 ghost use Rattle.mot_update.specs.Looking.{unknown_names, withdraw_all};
+ghost use Rattle.mot_update.specs.Told.{Tells};
 
 use crate::{Source, settle, withdraw};
 use disk_store::Disk;
@@ -27,11 +30,15 @@ pub fn look<D: Disk, S: Source>(
     requires { are_names_distinct (S.names source.old) ≡ true }
     ensures keeps { KeepsLength (D.state server.old.disk) (D.state server.new.disk) }
     ensures later { (D.state server.old.disk).failures ≤ (D.state server.new.disk).failures }
+    ensures faults { TellsFaults server.old server.new
+        (D.state server.old.disk) (D.state server.new.disk) result }
     ensures looked { (s : Standing) → Holds server.old.view s (D.state server.old.disk)
         → (D.state server.new.disk).IsHonest
-        → HasLooked server.old server.new (D.state server.old.disk) (D.state server.new.disk) s
+        → (looked : HasLooked server.old server.new
+        (D.state server.old.disk) (D.state server.new.disk) s
         (S.names source.old) (S.place source.old) (S.given source.old) (S.given source.new)
-        (S.is_fine source.new) (fault_of result) }
+        (S.is_fine source.new) (fault_of result))
+        × Tells (S.was_told source.old) (S.was_told source.new) looked.runs.answers }
     ensures fine { S.is_fine source.new ≡ true → S.is_fine source.old ≡ true }
 {
     let names = names_to_withdraw(alloc, server.carousel(), source)?;
@@ -45,8 +52,9 @@ fn names_to_withdraw<S: Source>(
     carousel: &Carousel,
     source: &S,
 ) -> Result<Vec<Name>, Refusal>
-    ensures { IfOk result
+    ensures names { IfOk result
         (λ names. names.items ≡ unknown_names (S.names source.now) carousel.now.objects.items) }
+    ensures fault { IfErr result (λ refusal. refusal ≡ OutOfMemory) }
 {
     let mut names = Vec::new(alloc);
     for object in &carousel.objects {
@@ -66,13 +74,17 @@ fn withdraw_these<D: Disk, S: Source>(
 ) -> Result<(), Refusal>
     ensures keeps { KeepsLength (D.state server.old.disk) (D.state server.new.disk) }
     ensures later { (D.state server.old.disk).failures ≤ (D.state server.new.disk).failures }
+    ensures faults { TellsFaults server.old server.new
+        (D.state server.old.disk) (D.state server.new.disk) result }
     ensures same { S.names source.new ≡ S.names source.old }
     ensures stays { S.place source.new ≡ S.place source.old }
     ensures gives { Gives (S.given source.old) (S.given source.new) [] }
     ensures runs { (s : Standing) → Holds server.old.view s (D.state server.old.disk)
         → (D.state server.new.disk).IsHonest
-        → RunsThrough server.old server.new (D.state server.old.disk) (D.state server.new.disk) s
-        (withdraw_all names.now) (S.is_fine source.new) (fault_of result) }
+        → (runs : RunsThrough server.old server.new
+        (D.state server.old.disk) (D.state server.new.disk) s
+        (withdraw_all names.now) (S.is_fine source.new) (fault_of result))
+        × Tells (S.was_told source.old) (S.was_told source.new) runs.answers }
     ensures fine { S.is_fine source.new ≡ true → S.is_fine source.old ≡ true }
 {
     for name in names {
@@ -91,11 +103,15 @@ fn settle_all<D: Disk, S: Source>(
     requires { are_names_distinct (S.names source.old) ≡ true }
     ensures keeps { KeepsLength (D.state server.old.disk) (D.state server.new.disk) }
     ensures later { (D.state server.old.disk).failures ≤ (D.state server.new.disk).failures }
+    ensures faults { TellsFaults server.old server.new
+        (D.state server.old.disk) (D.state server.new.disk) result }
     ensures settled { (s : Standing) → Holds server.old.view s (D.state server.old.disk)
         → (D.state server.new.disk).IsHonest
-        → HasSettled server.old server.new (D.state server.old.disk) (D.state server.new.disk) s
+        → (settled : HasSettled server.old server.new
+        (D.state server.old.disk) (D.state server.new.disk) s
         (S.names source.old) (S.place source.old) (S.given source.old) (S.given source.new)
-        (S.is_fine source.new) (fault_of result) }
+        (S.is_fine source.new) (fault_of result))
+        × Tells (S.was_told source.old) (S.was_told source.new) settled.runs.answers }
     ensures fine { S.is_fine source.new ≡ true → S.is_fine source.old ≡ true }
 {
     loop {

@@ -1,7 +1,8 @@
 //! Where wanted objects come from.
 ghost use Rattle.std.specs.Prelude.{◌≡◌, ◌+◌, ◌<◌, ◌≤◌, [], ◌∷◌, ℕ, Bool, true, List, Option, Some};
-ghost use Rattle.std.specs.Prelude.{None, IfSome, MatchOption, length, slice_get};
-ghost use Rattle.mot_update.specs.Looking.{Gives, was_accepted, was_settled};
+ghost use Rattle.std.specs.Prelude.{None, IfSome, MatchOption, ⊤, length, slice_get};
+ghost use Rattle.mot_update.specs.Looking.{Gives, was_settled};
+ghost use Rattle.mot_update.specs.Told.{Answer, Tells, Withdrew, answers_of, was_accepted};
 ghost use Rattle.mot_update.specs.Updating.{is_known};
 ghost use Rattle.mot_update.specs.declared.wanted.Wanted.{Wanted};
 
@@ -23,6 +24,12 @@ pub trait Source {
     // Whether nothing was refused so far, of what it gave and of what it was told.
     ghost is_fine: { Self → Bool };
 
+    // What it was told so far is this.
+    ghost was_told: { Self → List Answer → Type 0 } = { λ _ _. ⊤ };
+
+    // The name of the object that it gave last.
+    ghost last: { Self → List ℕ };
+
     // The objects that it gave, where that is told.
     ghost given: { Self → Option (List Wanted) } = { λ _. None };
 
@@ -38,6 +45,8 @@ pub trait Source {
             (λ wanted. Gives (given self.old) (given self.new) (wanted ∷ [])) }
         ensures named { IfSome result (λ wanted. (i : ℕ) × (place self.old ≤ i)
             × (i < place self.new) × (slice_get (names self.old) i ≡ Some wanted.name)) }
+        ensures last { IfSome result (λ wanted. last self.new ≡ wanted.name) }
+        ensures told { Tells (was_told self.old) (was_told self.new) [] }
         ensures fine { is_fine self.new ≡ true → is_fine self.old ≡ true }
 
         // Where nothing was refused, no name is passed over.
@@ -50,6 +59,8 @@ pub trait Source {
         ensures same { names self.new ≡ names self.old }
         ensures stays { place self.new ≡ place self.old }
         ensures gives { Gives (given self.old) (given self.new) [] }
+        ensures told { Tells (was_told self.old) (was_told self.new)
+            (Withdrew name.now attempt ∷ []) }
         ensures fine { is_fine self.new ≡ true
             → (is_fine self.old ≡ true) × (was_accepted attempt ≡ true) };
 
@@ -58,6 +69,8 @@ pub trait Source {
         ensures same { names self.new ≡ names self.old }
         ensures stays { place self.new ≡ place self.old }
         ensures gives { Gives (given self.old) (given self.new) [] }
+        ensures told { Tells (was_told self.old) (was_told self.new)
+            (answers_of (last self.old) settled) }
         ensures fine { is_fine self.new ≡ true
             → (is_fine self.old ≡ true) × (was_settled settled ≡ true) };
 }

@@ -180,6 +180,10 @@ fn help_texts(rt: HostRuntime) -> Result<(), Fail> {
             "format --help",
             "      --objects <N>  Objects at most, 1 to 250 [default: 16]",
         ),
+        (
+            "format --help",
+            "      --after <N>    Transport id behind which the ids begin, 0 to 65535 [default: 0]",
+        ),
     ];
     for (words, line) in rows {
         expect_line(&rt, words, line)?;

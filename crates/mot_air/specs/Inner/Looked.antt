@@ -1,19 +1,26 @@
 -- A look whose lines are told.
-use Rattle.std.specs.Prelude.{◌≡◌, Bool, Some, None, Result, Ok, Err}
+use Rattle.std.specs.Prelude.{◌≡◌, ◌⊎◌, ℕ, Bool, false, not, List, Option, Some, None, Result, Ok}
+use Rattle.std.specs.Prelude.{Err}
+use Rattle.std.specs.Io.KnownBytes.{Appends}
 use Rattle.disk_store.specs.Disk.{State}
 use Rattle.mot_base.specs.declared.refusal.Refusal.{Refusal}
-use Rattle.mot_base.specs.declared.refusal.Refusal.TheVariants.{WriteFault}
+use Rattle.mot_base.specs.declared.refusal.Refusal.TheVariants.{OutOfMemory, WriteFault}
 use Rattle.mot_folder.specs.Looked.{HasLookedAtFolder}
+use Rattle.mot_folder.specs.declared.report.Report.{Report}
 use Rattle.mot_journal.specs.Image.{Standing}
 use Rattle.mot_server.specs.Server.{ServerView}
 
--- it came to its end, and was told; or it broke off, or could not be told
+-- it came to its end, and was told whole; or it broke off, or could not be told
 pub data LooksAndTells {D : Type 0} (old new : ServerView D) (start now : State) (s : Standing)
-    (result : Result Bool Refusal) : Type 0 where
-  told : (fine : Bool) → result ≡ Ok fine → HasLookedAtFolder old new start now s fine None
-      → LooksAndTells old new start now s result
-  broken : (fine : Bool) (refusal : Refusal) → result ≡ Err refusal
-      → HasLookedAtFolder old new start now s fine (Some refusal)
-      → LooksAndTells old new start now s result
-  untold : (fine : Bool) → result ≡ Err WriteFault
-      → HasLookedAtFolder old new start now s fine None → LooksAndTells old new start now s result
+    (path : List ℕ) (before after : Option (List ℕ)) (result : Result Bool Refusal) : Type 0 where
+  told : (report : Report) → result ≡ Ok (not report.any_refused) → report.any_left_out ≡ false
+      → Appends before after report.lines.items
+      → HasLookedAtFolder old new start now s path report None
+      → LooksAndTells old new start now s path before after result
+  broken : (report : Report) (refusal : Refusal) → result ≡ Err refusal
+      → HasLookedAtFolder old new start now s path report (Some refusal)
+      → LooksAndTells old new start now s path before after result
+  untold : (report : Report) (refusal : Refusal) → result ≡ Err refusal
+      → (refusal ≡ WriteFault) ⊎ (refusal ≡ OutOfMemory)
+      → HasLookedAtFolder old new start now s path report None
+      → LooksAndTells old new start now s path before after result

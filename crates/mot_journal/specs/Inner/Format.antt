@@ -6,7 +6,7 @@ use Rattle.mot_journal.specs.declared.record.Record.{Record}
 use Rattle.mot_journal.specs.declared.record.Action.TheVariants.{Nothing}
 use Rattle.mot_journal.specs.Slot.{slot_count}
 use Rattle.mot_journal.specs.Image.{stands_for, IsClean, IsInLayoutTwo, IsSecondHalfEmpty}
-use Rattle.mot_journal.specs.Journal.{new_standing}
+use Rattle.mot_journal.specs.Journal.{standing_from}
 use Rattle.mot_journal.specs.Inner.Steps.{HasSlots}
 use Rattle.std.specs.Prelude.{◌++◌, replicate}
 use Rattle.std.specs.Int.{w16, w32, to_be_bytes}
@@ -19,23 +19,24 @@ head_bytes g half =
     ++ to_be_bytes w16 g.address ++ to_be_bytes w16 g.packet_length ++ to_be_bytes w32 g.data_area
     ++ replicate 36 0
 
--- the record of a new disk
-abbrev pub first_record : Record
-first_record = record { period = 0; directory = 1; cursor = 1; action = Nothing }
+-- the record of a new disk, whose directory has this transport id
+abbrev pub first_record : ℕ → Record
+first_record directory =
+    record { period = 0; directory = directory; cursor = directory; action = Nothing }
 
 -- the bytes between the magic and the halves
 abbrev pub behind_magic : Geometry → List ℕ
 behind_magic g = drop 8 (head_bytes g 0)
 
 -- all of a new disk but its magic
-pub record IsMade (g : Geometry) (bytes : List ℕ) : Type 0 where
+pub record IsMade (g : Geometry) (directory : ℕ) (bytes : List ℕ) : Type 0 where
   pub head : take 56 (drop 8 bytes) ≡ behind_magic g
-  pub slots : HasSlots g 0 Two (first_record ∷ []) (slot_count Two g) bytes
+  pub slots : HasSlots g 0 Two (first_record directory ∷ []) (slot_count Two g) bytes
   pub other : HasSlots g 1 Two [] (slot_count Two g) bytes
 
--- the image is a new disk of this geometry
-pub record IsNewDisk (g : Geometry) (image : List ℕ) : Type 0 where
-  pub stands : stands_for image ≡ Ok (new_standing g)
+-- the image is a new disk of this geometry, whose directory has this transport id
+pub record IsNewDisk (g : Geometry) (directory : ℕ) (image : List ℕ) : Type 0 where
+  pub stands : stands_for image ≡ Ok (standing_from g directory)
   pub clean : IsClean image
   pub layout : IsInLayoutTwo image
   pub other : IsSecondHalfEmpty g image

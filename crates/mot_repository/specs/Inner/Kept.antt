@@ -1,6 +1,7 @@
 -- What a repository keeps in memory, and has room for.
 use Rattle.std.specs.Prelude.{◌≡◌, map}
 use Rattle.mot_journal.specs.Catalogue.{Placed, Catalogue, extents_of}
+use Rattle.mot_repository.specs.Prepared.{IsFull}
 use Rattle.mot_repository.specs.Repository.{RepositoryView}
 use Rattle.std.specs.Prelude.{◌⊎◌, IsFalse, List}
 use Rattle.disk_store.specs.Disk.{State}
@@ -20,11 +21,12 @@ pub record KeepsCatalogue (view : RepositoryView) (c : Catalogue) : Type 0 where
   pub objects : view.carousel.objects.items ≡ map (λ (p : Placed). p.object) c.objects
   pub extents : view.extents ≡ extents_of c
 
--- each image now has the records from before, or the given ones, and stands for what it stood for
-pub record HasRoom (s : Standing) (records given : List Record) (j : JournalView)
+-- each image now has the records from before, or where the half was full the given ones, and stands
+-- for what it stood for
+pub record HasRoom (s : Standing) (records given : List Record) (was j : JournalView)
     (state : State) : Type 0 where
   pub list : List Record
-  pub one : (list ≡ records) ⊎ (list ≡ given)
+  pub one : (list ≡ records) ⊎ ((list ≡ given) × IsFull was)
   pub holds : (view : RepositoryView) → view.journal ≡ j → IsFalse view.halted → Agrees view s
       → (now : Holds view s state) × (now.records ≡ list)
 

@@ -4,7 +4,7 @@ use Rattle.std.specs.Io.KnownBytes.{Appends}
 use Rattle.std.specs.List.{flat_map}
 use Rattle.std.proofs.KnownBytes.{Appends-kept, Appends-nil, Appends-trans}
 use Rattle.mot_air.proofs.Printed.{all_objects, lines-more, some_object}
-use Rattle.mot_air.specs.Exporting.{period_line, put_line}
+use Rattle.mot_lines.specs.Export.{period_line, put_line}
 use Rattle.mot_carousel.specs.Carousel as whole
 use Rattle.mot_carousel.specs.declared.carousel.Carousel.{Carousel}
 use Rattle.mot_repository.specs.Repository.{RepositoryView}

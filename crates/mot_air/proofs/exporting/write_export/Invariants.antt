@@ -2,7 +2,7 @@ use Rattle.std.proofs.Common.{◌≡◌, ◌≤◌, take}
 use Rattle.std.specs.Io.KnownBytes.{Appends}
 use Rattle.std.specs.List.{flat_map}
 use Rattle.disk_store.specs.Disk.{IsUnchanged, KeepsLength}
-use Rattle.mot_air.specs.Exporting.{put_line}
+use Rattle.mot_lines.specs.Export.{put_line}
 use Rattle.mot_journal.specs.Image.{Standing}
 use Rattle.mot_repository.specs.Repository.{Holds}
 use Rattle.mot_air.proofs.exporting.write_export.Given as goal

@@ -2,7 +2,7 @@ use Rattle.std.proofs.Common.{◌<◌, ◌∙◌, ap, get_or, subst}
 use Rattle.std.specs.Io.KnownBytes.{Appends}
 use Rattle.std.proofs.KnownBytes.{Appends-trans}
 use Rattle.mot_air.proofs.Printed.{OnOk-one, object_is}
-use Rattle.mot_air.specs.Exporting.{put_line}
+use Rattle.mot_lines.specs.Export.{put_line}
 use Rattle.mot_carousel.specs.Carousel.{Object}
 use Rattle.mot_carousel.specs.declared.carousel.Carousel.{Carousel}
 use Rattle.mot_air.proofs.exporting.write_object.Goals as goal

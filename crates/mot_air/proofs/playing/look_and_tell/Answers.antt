@@ -1,20 +1,47 @@
-use Rattle.std.proofs.Common.{not, refl}
+use Rattle.std.proofs.Common.{inl, inr, refl, subst}
+use Rattle.std.specs.Io.KnownBytes.{Appends}
 use Rattle.mot_air.specs.Inner.Looked.{broken, told, untold}
+use Rattle.mot_feed.specs.Sending.{unwritten}
 use Rattle.mot_update.proofs.Runs.{same_error}
+use Rattle.mot_update.specs.Faults.{no_memory}
 use Rattle.mot_air.proofs.playing.look_and_tell.Goals as goal
 
 pub returns-in_err-looked-clause-looked : goal.returns-in_err-looked-clause-looked
 returns-in_err-looked-clause-looked g c = λ s holds honest.
-    broken (not c.look_at_folder-looked.new.report.any_refused) c.in_err-looked.field-0.0
+    broken c.look_at_folder-looked.new.report c.in_err-looked.field-0.0
     (same_error c.from_residual.result c.in_err-looked.field-0.0 c.from_residual.ensures.1)
     (c.in_err-looked.ensures.looked s holds honest)
 
-pub returns-then-not-told-clause-looked : goal.returns-then-not-told-clause-looked
-returns-then-not-told-clause-looked g c = λ s holds honest.
-    untold (not c.look_at_folder-looked.new.report.any_refused) refl
+pub returns-in_err-looked-clause-fault : goal.returns-in_err-looked-clause-fault
+returns-in_err-looked-clause-fault g c =
+    rw (same_error c.from_residual.result c.in_err-looked.field-0.0 c.from_residual.ensures.1)
+    (inl c.in_err-looked.ensures.faults)
+
+pub returns-in_err-told-clause-looked : goal.returns-in_err-told-clause-looked
+returns-in_err-told-clause-looked g c = λ s holds honest.
+    untold c.look_at_folder-looked.new.report c.in_err-told.field-0.0
+    (same_error c.from_residual-in_err-told.result c.in_err-told.field-0.0
+    c.from_residual-in_err-told.ensures.1)
+    (inl c.in_err-told.ensures.fault) (c.in_ok-looked.ensures.looked s holds honest)
+
+pub returns-in_err-told-clause-fault : goal.returns-in_err-told-clause-fault
+returns-in_err-told-clause-fault g c =
+    rw (same_error c.from_residual-in_err-told.result c.in_err-told.field-0.0
+    c.from_residual-in_err-told.ensures.1)
+    (inr (unwritten c.in_err-told.ensures.fault c.in_ok-looked.ensures.faults.failures))
+
+pub returns-then-report-clause-looked : goal.returns-then-report-clause-looked
+returns-then-report-clause-looked g c = λ s holds honest.
+    untold c.look_at_folder-looked.new.report _ refl (inr refl)
     (c.in_ok-looked.ensures.looked s holds honest)
+
+pub returns-then-report-clause-fault : goal.returns-then-report-clause-fault
+returns-then-report-clause-fault g c = inl (no_memory refl c.in_ok-looked.ensures.faults.failures)
 
 pub returns-clause-looked : goal.returns-clause-looked
 returns-clause-looked g c = λ s holds honest.
-    told (not c.look_at_folder-looked.new.report.any_refused) refl
+    told c.look_at_folder-looked.new.report refl c.if-report.false
+    (subst (Appends (g.L.Write.contents c.args.log.now)
+    (g.L.Write.contents c.write_lines-told.new.log)) c.as_slice.ensures.value
+    c.in_ok-told.ensures.written)
     (c.in_ok-looked.ensures.looked s holds honest)

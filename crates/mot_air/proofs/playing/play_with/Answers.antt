@@ -27,8 +27,8 @@ returns-clause-done g c =
     subst (λ d. OnOk result (Plays g.U.Update.waits c.args.turns old new (state c.args.disk) (state d)))
     (sym c.into_disk.ensures)
     (plays state c.args.disk c.in-Ok.server c.feed-result.new.server g.met.D.Disk.sound opens.keeps
-    opens.opened opens.still opens.going opens.at_start c.geometry.ensures.valid feeds.keeps
-    feeds.continuous g.U.Update.waits c.args.turns old new result feeds.fed)
+    opens.opened opens.still opens.calm opens.going opens.at_start c.geometry.ensures.valid feeds.keeps
+    feeds.continuous g.U.Update.waits c.args.turns old new result feeds.calm feeds.fed)
 
 pub returns-clause-refused : goal.returns-clause-refused
 returns-clause-refused g c =
@@ -41,5 +41,5 @@ returns-clause-refused g c =
     subst (λ d. IfErr result (λ r. StopsPlaying r g.U.Update.waits old new (state c.args.disk) (state d)))
     (sym c.into_disk.ensures)
     (stops state c.args.disk c.in-Ok.server c.feed-result.new.server g.met.D.Disk.sound opens.keeps
-    opens.opened opens.still opens.going opens.at_start c.geometry.ensures.valid feeds.keeps
-    feeds.continuous g.U.Update.waits old new result feeds.part)
+    opens.opened opens.still opens.calm opens.going opens.at_start c.geometry.ensures.valid feeds.keeps
+    feeds.continuous g.U.Update.waits old new result feeds.fault feeds.part)

@@ -10,9 +10,13 @@ pub returns-in-Ok-clause-done : goal.returns-in-Ok-clause-done
 returns-in-Ok-clause-done g c =
     let opens = c.in-Ok.ensures in
     let ended = c.sync_disk.result in
-    subst (λ (f : _). IfOk f.result (λ all. OnOpened (Syncs all) f.disk)) (sym c.of_file.ensures)
-    (IfOk-one ended.result (λ all p. since_opened c.in-Ok.disk ended.disk (Syncs all) opens.order
-    opens.new opens.first_bytes p) c.sync_disk.ensures.done)
+    let old = g.W.Write.contents c.args.log.now in
+    let new = g.W.Write.contents c.sync_disk.new.log in
+    subst (λ (f : _). IfOk f.result (λ all. OnOpened (Syncs all c.args.folder.now old new) f.disk))
+    (sym c.of_file.ensures)
+    (IfOk-one ended.result (λ all p. since_opened c.in-Ok.disk ended.disk
+    (Syncs all c.args.folder.now old new) opens.order opens.new opens.first_bytes p)
+    c.sync_disk.ensures.done)
 
 pub returns-in-Ok-clause-refused : goal.returns-in-Ok-clause-refused
 returns-in-Ok-clause-refused g c =
@@ -20,7 +24,8 @@ returns-in-Ok-clause-refused g c =
     let ended = c.sync_disk.result in
     let old = g.W.Write.contents c.args.log.now in
     let new = g.W.Write.contents c.sync_disk.new.log in
+    let folder = c.args.folder.now in
     subst (λ (f : _). IfErr f.result (λ r. ((r ≡ DeviceFault) × IsUntold f.disk old new)
-    ⊎ OnOpened (StopsSyncing r) f.disk)) (sym c.of_file.ensures)
-    (IfErr-one ended.result (λ r p. inr (since_opened c.in-Ok.disk ended.disk (StopsSyncing r)
-    opens.order opens.new opens.first_bytes p)) c.sync_disk.ensures.refused)
+    ⊎ OnOpened (StopsSyncing r folder) f.disk)) (sym c.of_file.ensures)
+    (IfErr-one ended.result (λ r p. inr (since_opened c.in-Ok.disk ended.disk
+    (StopsSyncing r folder) opens.order opens.new opens.first_bytes p)) c.sync_disk.ensures.refused)

@@ -4,7 +4,9 @@ use Rattle.mot_server.proofs.Laws.{keeps_on}
 use Rattle.mot_feed.proofs.Fed.{continuous, fed_all, fed_none, rest_else, rest_then, send_fault}
 use Rattle.mot_feed.proofs.Fed.{sent_on, update_fault, updated, updated_are, updated_turns}
 use Rattle.mot_feed.proofs.Fed.{updated_uncut}
-use Rattle.mot_feed.proofs.Sent.{on_err, stays_same}
+use Rattle.mot_feed.proofs.Sent.{not_of_writing, same_error, send_fault_behind, sent_calm}
+use Rattle.mot_feed.proofs.Sent.{stays_same}
+use Rattle.mot_update.proofs.Faults.{calm_here, calm_on, fault_on}
 use Rattle.mot_feed.proofs.feeding.feed.Goals as goal
 use Rattle.mot_feed.proofs.feeding.feed.Goals.{else-between_turns, then-between_turns}
 
@@ -14,6 +16,7 @@ loop-init g c =
     record {
       keeps = record { len = refl; was_honest = λ honest. honest };
       later = omega arith;
+      calm = calm_here c.args.server.now state;
       fed = λ s holds honest. fed_none c.args.server.now state s g.U.Update.waits c.args.turns
           (g.O.Outlet.writes c.args.outlet.now)
           (g.met.D.Disk.sound c.args.server.now.disk honest) honest (stays_same state) holds;
@@ -47,10 +50,38 @@ returns-in_err-update-clause-part g c = λ s holds honest.
     let new = c.update.new.server in
     let one = c.in_err-update.ensures in
     let so_far = c.loop.invariant.fed s holds (one.keeps.was_honest honest) in
-    on_err c.from_residual.result _
+    let refusal = c.in_err-update.field-0.0 in
+    rw (same_error c.from_residual.result refusal c.from_residual.ensures.1)
     (update_fault old mid new (state old.disk) (state mid.disk) (state new.disk) s g.U.Update.waits
-    c.args.turns c.loop.left c.loop.between_turns c.loop.counter _ _ (Some c.in_err-update.field-0.0)
-    so_far (one.run so_far.fed.leaves.last (so_far.fed.leaves.going refl) honest))
+    c.args.turns c.loop.left c.loop.between_turns c.loop.counter _ _ (Some refusal)
+    so_far (one.run so_far.fed.leaves.last (so_far.fed.leaves.going refl) honest) refusal refl
+    (not_of_writing mid (state mid.disk) (state new.disk) refusal one.faults))
+
+pub returns-in_err-update-clause-fault : goal.returns-in_err-update-clause-fault
+returns-in_err-update-clause-fault g c =
+    let state = g.D.Disk.state in
+    let old = c.args.server.now in
+    let mid = c.loop.server in
+    let new = c.update.new.server in
+    let refusal = c.in_err-update.field-0.0 in
+    rw (same_error c.from_residual.result refusal c.from_residual.ensures.1)
+    (inl (fault_on old mid (state old.disk) (state mid.disk) (state new.disk) refusal
+    c.loop.invariant.calm c.in_err-update.ensures.faults))
+
+pub returns-in_err-between_turns-clause-fault : goal.returns-in_err-between_turns-clause-fault
+returns-in_err-between_turns-clause-fault g c =
+    let state = g.D.Disk.state in
+    let old = c.args.server.now in
+    let mid = c.loop.server in
+    let up = c.update.new.server in
+    let new = c.send_one.new.server in
+    let refusal = c.in_err-between_turns.field-0.0 in
+    let calm = calm_on old mid up (state old.disk) (state mid.disk) (state up.disk)
+    c.loop.invariant.calm c.in_ok-update.ensures.faults in
+    rw (same_error c.from_residual-in_err-between_turns.result refusal
+    c.from_residual-in_err-between_turns.ensures.1)
+    (inr (send_fault_behind old up (state old.disk) (state up.disk) (state new.disk) refusal calm
+    c.in_err-between_turns.ensures.fault))
 
 pub returns-in_err-between_turns-clause-part : goal.returns-in_err-between_turns-clause-part
 returns-in_err-between_turns-clause-part g c = λ s holds honest.
@@ -68,7 +99,8 @@ returns-in_err-between_turns-clause-part g c = λ s holds honest.
     let update = one.run t (so_far.fed.leaves.going refl) then_honest in
     let fed = updated old mid up (state old.disk) (state mid.disk) (state up.disk) s waits
     c.args.turns c.loop.left c.loop.between_turns c.loop.counter _ _ None so_far update in
-    on_err c.from_residual-in_err-between_turns.result _
+    rw (same_error c.from_residual-in_err-between_turns.result c.in_err-between_turns.field-0.0
+    c.from_residual-in_err-between_turns.ensures.1)
     (send_fault old up new (state old.disk) (state up.disk) (state new.disk) s waits _ _ _ _
     so_far.packets fed
     (updated_are old mid up (state old.disk) (state mid.disk) (state up.disk) s waits c.args.turns
@@ -101,6 +133,9 @@ loop-preserved g c =
       keeps = keeps_on (state old.disk) (state up.disk) (state new.disk)
           (keeps_on (state old.disk) (state mid.disk) (state up.disk) is.keeps one.keeps) two.keeps;
       later = omega (arith, is.later, one.later, two.later);
+      calm = calm_on old up new (state old.disk) (state up.disk) (state new.disk)
+          (calm_on old mid up (state old.disk) (state mid.disk) (state up.disk) is.calm one.faults)
+          (sent_calm up new (state up.disk) (state new.disk) two.calm two.view);
       fed = λ s holds honest.
           let then_honest = two.keeps.was_honest honest in
           let so_far = is.fed s holds (one.keeps.was_honest then_honest) in

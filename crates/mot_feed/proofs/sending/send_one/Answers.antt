@@ -1,14 +1,16 @@
 use Rattle.std.proofs.Common.{◌∙◌, ◌<◌, [], ◌∷◌, take, length, refl, subst}
 use Rattle.std.proofs.lemmas.List.{take_all}
-use Rattle.mot_feed.specs.Sending.{whole, short, failed, none}
+use Rattle.mot_feed.specs.Sending.{whole, short, none}
 use Rattle.mot_feed.specs.Writing.{Grows}
 use Rattle.mot_feed.proofs.Grown.{grows_nil}
-use Rattle.mot_feed.proofs.Sent.{same_error, same_place}
+use Rattle.mot_feed.proofs.Sent.{not_written, same_error, same_place, some_bytes, unread}
 use Rattle.mot_feed.proofs.sending.send_one.Goals as goal
 
 pub returns-in_err-packet-clause-sent : goal.returns-in_err-packet-clause-sent
 returns-in_err-packet-clause-sent g c = λ s holds honest.
     none c.in_err-packet.field-0.0
+    (not_written c.args.server.now c.next_packet.new.self _ _ c.in_err-packet.field-0.0
+    c.in_err-packet.ensures.refused)
     (same_error c.from_residual.result c.in_err-packet.field-0.0 c.from_residual.ensures.1)
     (same_place c.args.server.now c.next_packet.new.self s c.in_err-packet.ensures.stays)
     (grows_nil (g.O.Outlet.writes c.args.outlet.now))
@@ -35,5 +37,14 @@ returns-else-count-bytes-clause-sent g c = λ s holds honest.
 pub returns-in-Err-clause-sent : goal.returns-in-Err-clause-sent
 returns-in-Err-clause-sent g c = λ s holds honest.
     let p = c.in_ok-packet.field-0 in
-    failed p.packet.items p.ends_turn refl (c.in_ok-packet.ensures.sent s holds honest)
-    c.in-Err.ensures.one
+    let step = c.in_ok-packet.ensures.sent s holds honest in
+    short p.packet.items p.ends_turn 0 refl step
+    (some_bytes p.packet.items step.sent.packet step.reads) c.in-Err.ensures.one
+
+pub returns-in_err-packet-clause-fault : goal.returns-in_err-packet-clause-fault
+returns-in_err-packet-clause-fault g c =
+    let old = c.args.server.now in
+    let new = c.next_packet.new.self in
+    let refusal = c.in_err-packet.field-0.0 in
+    rw (same_error c.from_residual.result refusal c.from_residual.ensures.1)
+    (unread g.D.Disk.state old new refusal c.in_err-packet.ensures.refused)

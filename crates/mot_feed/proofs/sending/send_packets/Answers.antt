@@ -2,7 +2,8 @@ use Rattle.std.proofs.Common.{◌≡◌, ◌∙◌, refl, subst, arith}
 use Rattle.mot_server.proofs.Laws.{holds_still, keeps_on, unchanged_on}
 use Rattle.mot_feed.specs.Sending.{Sends}
 use Rattle.mot_server.specs.Server.{place_in}
-use Rattle.mot_feed.proofs.Sent.{on_err, sends_more, sends_none, sends_part, stays_same}
+use Rattle.mot_feed.proofs.Sent.{same_error, send_fault_on, sends_more, sends_none}
+use Rattle.mot_feed.proofs.Sent.{sends_part, stays_same}
 use Rattle.mot_feed.proofs.sending.send_packets.Goals as goal
 
 pub loop-init : goal.loop-init
@@ -11,6 +12,7 @@ loop-init g c =
     record {
       keeps = record { len = refl; was_honest = λ honest. honest };
       later = omega arith;
+      calm = refl;
       view = refl;
       unchanged = λ honest. stays_same state;
       sent = λ s holds honest. sends_none (place_in c.args.server.now s) (g.O.Outlet.writes c.args.outlet.now);
@@ -26,9 +28,21 @@ returns-in_err-send_one-clause-part g c = λ s holds honest.
     let one = c.in_err-send_one.ensures in
     let was = one.keeps.was_honest honest in
     let held = holds_still old.view mid.view s (state old.disk) (state mid.disk) holds was (is.unchanged was) is.view in
-    on_err c.from_residual.result _
+    rw (same_error c.from_residual.result c.in_err-send_one.field-0.0 c.from_residual.ensures.1)
     (sends_part (place_in old s) (place_in mid s) (place_in new s) c.loop.counter c.args.count
     _ _ _ c.in_err-send_one.field-0.0 c.loop-test.true (is.sent s holds was) (one.sent s held honest))
+
+pub returns-in_err-send_one-clause-fault : goal.returns-in_err-send_one-clause-fault
+returns-in_err-send_one-clause-fault g c =
+    let state = g.D.Disk.state in
+    let old = c.args.server.now in
+    let mid = c.loop.server in
+    let new = c.send_one.new.server in
+    let is = c.loop.invariant in
+    let refusal = c.in_err-send_one.field-0.0 in
+    rw (same_error c.from_residual.result refusal c.from_residual.ensures.1)
+    (send_fault_on old mid (state old.disk) (state mid.disk) (state new.disk) refusal is.view
+    is.calm c.in_err-send_one.ensures.fault)
 
 pub loop-preserved : goal.loop-preserved
 loop-preserved g c =
@@ -41,6 +55,7 @@ loop-preserved g c =
     record {
       keeps = keeps_on (state old.disk) (state mid.disk) (state new.disk) is.keeps one.keeps;
       later = omega (arith, is.later, one.later);
+      calm = one.calm ∙ is.calm;
       view = one.view ∙ is.view;
       unchanged = λ honest.
           let was = one.keeps.was_honest honest in

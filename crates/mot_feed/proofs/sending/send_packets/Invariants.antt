@@ -10,6 +10,7 @@ abbrev pub invariant-loop : goal.invariant-loop
 invariant-loop g l = record {
   keeps : KeepsLength (g.D.Disk.state l.initial.server.disk) (g.D.Disk.state l.server.disk);
   later : (g.D.Disk.state l.initial.server.disk).failures ≤ (g.D.Disk.state l.server.disk).failures;
+  calm : (g.D.Disk.state l.server.disk).failures ≡ (g.D.Disk.state l.initial.server.disk).failures;
   view : l.server.view ≡ l.initial.server.view;
   unchanged : (g.D.Disk.state l.server.disk).IsHonest
       → IsUnchanged (g.D.Disk.state l.initial.server.disk) (g.D.Disk.state l.server.disk);

@@ -1,6 +1,11 @@
-use Rattle.std.proofs.Common.{None, ap, not, refl, subst, sym}
-use Rattle.mot_folder.specs.Looked.{listed, unlisted}
+use Rattle.std.proofs.Common.{◌∙◌, ◌++◌, ℕ, None, [], ◌∷◌, ap, codes, not, refl, subst, sym}
+use Rattle.std.proofs.lemmas.List.Elements.{filter-append}
+use Rattle.mot_base.specs.declared.refusal.Refusal.TheVariants.{ReadFault}
+use Rattle.mot_folder.specs.Log.{TellsAnswers, entry, is_of_look}
 use Rattle.mot_folder.specs.declared.report.Report.{Report}
+use Rattle.mot_folder.specs.Looked.{listed, unlisted}
+use Rattle.mot_folder.proofs.Log.{tells_none}
+use Rattle.mot_server.specs.declared.running.Attempt.TheVariants.{Refused}
 use Rattle.mot_update.specs.HasRun.{fault_of}
 use Rattle.mot_update.specs.Looking.{HasLooked}
 use Rattle.mot_update.proofs.Runs.{has_read}
@@ -11,8 +16,13 @@ pub returns-in_default-clause-looked : goal.returns-in_default-clause-looked
 returns-in_default-clause-looked g c = λ s holds honest.
     let old = c.args.server.now in
     let state = g.D.Disk.state old.disk in
-    unlisted (ap not c.refused.ensures.told) refl (has_read old old state state s None (g.met.D.Disk.sound old.disk honest) refl
-    refl honest (stays_same state) holds).0
+    let told = c.list.ensures.told [] (tells_none c.begin.new.self c.begin.ensures.told) in
+    let last = entry (codes "look") c.as_bytes.result.now (Refused ReadFault) in
+    unlisted c.refused.ensures.any refl (has_read old old state state s None
+    (g.met.D.Disk.sound old.disk honest) refl refl honest (stays_same state) holds).0
+    (told.entries ++ last ∷ []) (c.refused.ensures.told told.entries told.told)
+    (filter-append is_of_look told.entries (last ∷ []) ∙ ap (λ l. l ++ last ∷ []) told.are
+    ∙ ap (λ n. entry (codes "look") n (Refused ReadFault) ∷ []) c.as_bytes.ensures.value)
 
 pub returns-clause-looked : goal.returns-clause-looked
 returns-clause-looked g c = λ s holds honest.
@@ -21,8 +31,18 @@ returns-clause-looked g c = λ s holds honest.
     let new = c.look-result.new.server in
     let names = c.new-folder.result.names.names.items in
     let fault = fault_of c.look-result.result in
-    listed names (subst (λ p. HasLooked old new (state old.disk) (state new.disk) s names p None
-    None (not c.into_report.result.any_refused) fault) c.new-folder.ensures.place
-    (subst (λ (r : Report). HasLooked old new (state old.disk) (state new.disk) s names
-    c.new-folder.result.place None None (not r.any_refused) fault) (sym c.into_report.ensures)
-    (c.look-result.ensures.looked s holds honest)))
+    let last : Report = c.look-result.new.source.report in
+    let begun : TellsAnswers c.list.new.report [] =
+    c.list.ensures.told [] (tells_none c.begin.new.self c.begin.ensures.told) in
+    let given : TellsAnswers c.new-folder.result.report [] =
+    subst (λ (r : Report). TellsAnswers r []) (sym (c.new-folder.ensures.report ∙ c.replace-told.ensures.value))
+    begun in
+    let looks = c.look-result.ensures.looked s holds honest in
+    let Looks = λ (place : ℕ) (r : Report).
+    (x : HasLooked old new (state old.disk) (state new.disk) s names place None None (not r.any_refused)
+    fault) × TellsAnswers r x.runs.answers in
+    let told : Looks c.new-folder.result.place last = (looks.0, looks.1 [] given) in
+    let all : Looks 0 c.into_report.result =
+    subst (λ p. Looks p c.into_report.result) c.new-folder.ensures.place
+    (subst (λ (r : Report). Looks c.new-folder.result.place r) (sym c.into_report.ensures) told) in
+    listed names all.0 all.1

@@ -71,6 +71,6 @@ returns-clause-made g c = λ honest.
     let second = c.fill_half-2.ensures.range honest2 in
     let head = subst (λ n. slice_range wrote.bytes 8 (8 + n) ≡ c.head_behind_magic.result) c.head_behind_magic.ensures.len
     (c.in_ok-write.ensures.bytes honest) in
-    is_made geometry old wrote sound writes mid sound1 first last sound2 second
+    is_made geometry old wrote sound writes mid sound1 first last sound2 second c.args.directory
     (head ∙ c.head_behind_magic.ensures.value) (c.in_ok-fill_half.ensures.slots honest1)
     (c.in_ok-fill_half-2.ensures.slots honest2)

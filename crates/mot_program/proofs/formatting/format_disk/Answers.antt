@@ -10,8 +10,8 @@ use Rattle.mot_program.proofs.formatting.format_disk.Goals as goal
 pub returns-in-Err-clause-refused : goal.returns-in-Err-clause-refused
 returns-in-Err-clause-refused g c =
     let calls = c.in-Err.ensures in
-    let under : IsUnderFormat c.args.geometry.now (g.D.Disk.state c.args.disk.now)
-    (g.D.Disk.state c.format.new.disk) = record {
+    let under : IsUnderFormat c.args.geometry.now c.args.directory (g.D.Disk.state c.args.disk.now)
+    (g.D.Disk.state c.format_from.new.disk) = record {
       keeps = calls.keeps;
       already = calls.already;
       any_moment = calls.any_moment;
@@ -26,8 +26,8 @@ returns-in-Err-clause-refused g c =
     ]
 
 formatted : (g : given.Over) (c : goal.After-write_formatted g)
-    → IsFormatted c.args.geometry.now (g.D.Disk.state c.args.disk.now)
-    (g.D.Disk.state c.format.new.disk)
+    → IsFormatted c.args.geometry.now c.args.directory (g.D.Disk.state c.args.disk.now)
+    (g.D.Disk.state c.format_from.new.disk)
 formatted g c =
     let calls = c.in-Ok.ensures in
     record {

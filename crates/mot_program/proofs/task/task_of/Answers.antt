@@ -13,4 +13,13 @@ pub returns-in_err-geometry_of-in-format-clause-none :
 returns-in_err-geometry_of-in-format-clause-none c =
     IfNone-always c.from_residual-in_err-geometry_of-in-format.result
     (no_format (rows_of (found_of c.args.words.now))
-    c.in_err-geometry_of-in-format.ensures.none c.args.name.now (cc))
+    (λ g directory gives given. c.in_err-geometry_of-in-format.ensures.none g gives)
+    c.args.name.now (cc))
+
+pub returns-in_err-directory_of-in-format-clause-none :
+    goal.returns-in_err-directory_of-in-format-clause-none
+returns-in_err-directory_of-in-format-clause-none c =
+    IfNone-always c.from_residual-in_err-directory_of-in-format.result
+    (no_format (rows_of (found_of c.args.words.now))
+    (λ g directory gives given. c.in_err-directory_of-in-format.ensures.none directory given)
+    c.args.name.now (cc))

@@ -3,6 +3,7 @@ use Rattle.disk_store.proofs.Laws.{weakens, joins}
 use Rattle.mot_base.specs.Geometry.{area_start}
 use Rattle.mot_journal.specs.Inner.Gaps.{AreBeside}
 use Rattle.mot_journal.specs.Journal.{JournalView}
+use Rattle.mot_repository.specs.Prepared.{IsFull}
 use Rattle.mot_repository.specs.Repository.{RepositoryView, IsOf, IsBeforeOrAfter}
 use Rattle.mot_repository.proofs.Following as following
 use Rattle.mot_repository.proofs.Rewriting as rewriting
@@ -18,7 +19,7 @@ returns-in_err-make_room-clause-any_moment g c = λ view s command done next fro
     let sound = g.met.D.Disk.sound old holds.journal.honest in
     let is_ready = ready view command done next from c.args.entry.now c.args.given.now s (state old) prepared sound holds in
     weakens (state old) (state c.make_room.new.disk) (IsOf s) (IsBeforeOrAfter s command)
-    (c.make_room.ensures.any_moment view s is_ready.c is holds is_ready.fold is_ready.given_fold) (λ image of. inl of)
+    (c.make_room.ensures.any_moment view s is_ready.c is holds is_ready.fold (λ full. is_ready.given_fold (subst IsFull (sym is) full))) (λ image of. inl of)
 
 pub returns-clause-any_moment : goal.returns-clause-any_moment
 returns-clause-any_moment g c = λ view s command done next from is at body prepared holds.
@@ -29,13 +30,14 @@ returns-clause-any_moment g c = λ view s command done next from is at body prep
     let sound = g.met.D.Disk.sound old holds.journal.honest in
     let is_ready = ready view command done next from c.args.entry.now c.args.given.now s (state old) prepared sound holds in
     let so_far = weakens (state old) (state mid) (IsOf s) (IsBeforeOrAfter s command)
-    (c.make_room.ensures.any_moment view s is_ready.c is holds is_ready.fold is_ready.given_fold) (λ image of. inl of) in
-    let room = c.in_ok-make_room.ensures.room view s is_ready.c is holds is_ready.fold is_ready.given_fold in
+    (c.make_room.ensures.any_moment view s is_ready.c is holds is_ready.fold (λ full. is_ready.given_fold (subst IsFull (sym is) full))) (λ image of. inl of) in
+    let room = c.in_ok-make_room.ensures.room view s is_ready.c is holds is_ready.fold (λ full. is_ready.given_fold (subst IsFull (sym is) full)) in
     let geometry = c.in_ok-make_room.ensures.geometry ∙ sym (ap (λ (j : JournalView). j.geometry) is) in
     let there : RepositoryView = with_journal view journal in
     let same : there.journal ≡ journal = ap (λ h. record journal { geometry = h }) (sym geometry) in
     let now = room.holds there same holds.going (agrees_there view journal s holds.agrees) in
-    let folds = at_list view c.args.entry.now c.args.given.now holds.records room.list is_ready.c is_ready.after room.one is_ready.fold is_ready.push is_ready.given_fold is_ready.given_push in
+    let folds = at_list (IsFull c.args.journal.now) view c.args.entry.now c.args.given.now holds.records room.list is_ready.c is_ready.after room.one is_ready.fold is_ready.push
+    (λ full. is_ready.given_fold (subst IsFull (sym is) full)) (λ full. is_ready.given_push (subst IsFull (sym is) full)) in
     let beside = subst (λ (l : List ℕ). AreBeside view.journal.geometry from (length l) is_ready.c.objects) (sym body) is_ready.beside in
     joins (state old) (state mid) (state c.write_change.new.disk) (IsBeforeOrAfter s command) (IsBeforeOrAfter s command) so_far
     (c.write_change.ensures.any_moment there s room.list is_ready.c is_ready.after from command done same at folds.0 folds.1 beside now.0 now.1
@@ -52,12 +54,13 @@ returns-clause-ok g c = λ view s command done next from is at body prepared hol
     let journal = c.make_room.new.journal in
     let sound = g.met.D.Disk.sound old holds.journal.honest in
     let is_ready = ready view command done next from c.args.entry.now c.args.given.now s (state old) prepared sound holds in
-    let room = c.in_ok-make_room.ensures.room view s is_ready.c is holds is_ready.fold is_ready.given_fold in
+    let room = c.in_ok-make_room.ensures.room view s is_ready.c is holds is_ready.fold (λ full. is_ready.given_fold (subst IsFull (sym is) full)) in
     let geometry = c.in_ok-make_room.ensures.geometry ∙ sym (ap (λ (j : JournalView). j.geometry) is) in
     let there : RepositoryView = with_journal view journal in
     let same : there.journal ≡ journal = ap (λ h. record journal { geometry = h }) (sym geometry) in
     let now = room.holds there same holds.going (agrees_there view journal s holds.agrees) in
-    let folds = at_list view c.args.entry.now c.args.given.now holds.records room.list is_ready.c is_ready.after room.one is_ready.fold is_ready.push is_ready.given_fold is_ready.given_push in
+    let folds = at_list (IsFull c.args.journal.now) view c.args.entry.now c.args.given.now holds.records room.list is_ready.c is_ready.after room.one is_ready.fold is_ready.push
+    (λ full. is_ready.given_fold (subst IsFull (sym is) full)) (λ full. is_ready.given_push (subst IsFull (sym is) full)) in
     let beside = subst (λ (l : List ℕ). AreBeside view.journal.geometry from (length l) is_ready.c.objects) (sym body) is_ready.beside in
     let wrote = c.write_change.ensures.ok there s room.list is_ready.c is_ready.after from command done same at folds.0 folds.1 beside now.0 now.1
     (λ image of has lies. is_ready.step there.journal room.list image refl folds.0 has of

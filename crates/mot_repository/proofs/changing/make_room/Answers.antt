@@ -37,9 +37,9 @@ returns-in_default-clause-any_moment g c = λ view s k is holds fold fold'.
     let new = state c.rewrite.new.disk in
     let j = c.args.journal.now in
     let given = c.args.given.now in
-    moments view s j.layout given k j old new is holds fold fold'
-    (c.rewrite.ensures.any_moment holds.records (here view s j.layout given k j old new is holds fold fold')
-    (folds view s j.layout given k j old new is holds fold fold'))
+    moments view s j.layout given k j old new is holds fold (fold' (c.if-not-is_full.ensures.0 refl))
+    (c.rewrite.ensures.any_moment holds.records (here view s j.layout given k j old new is holds fold (fold' (c.if-not-is_full.ensures.0 refl)))
+    (folds view s j.layout given k j old new is holds fold (fold' (c.if-not-is_full.ensures.0 refl))))
 
 pub returns-clause-any_moment : goal.returns-clause-any_moment
 returns-clause-any_moment g c = λ view s k is holds fold fold'.
@@ -48,9 +48,9 @@ returns-clause-any_moment g c = λ view s k is holds fold fold'.
     let new = state c.rewrite.new.disk in
     let j = c.args.journal.now in
     let given = c.args.given.now in
-    moments view s j.layout given k j old new is holds fold fold'
-    (c.rewrite.ensures.any_moment holds.records (here view s j.layout given k j old new is holds fold fold')
-    (folds view s j.layout given k j old new is holds fold fold'))
+    moments view s j.layout given k j old new is holds fold (fold' (c.if-not-is_full.ensures.0 refl))
+    (c.rewrite.ensures.any_moment holds.records (here view s j.layout given k j old new is holds fold (fold' (c.if-not-is_full.ensures.0 refl)))
+    (folds view s j.layout given k j old new is holds fold (fold' (c.if-not-is_full.ensures.0 refl))))
 
 pub returns-clause-room : goal.returns-clause-room
 returns-clause-room g c = λ view s k is holds fold fold'.
@@ -60,12 +60,12 @@ returns-clause-room g c = λ view s k is holds fold fold'.
     let j = c.args.journal.now in
     let given = c.args.given.now in
     let sound = g.met.D.Disk.sound c.args.disk.now holds.journal.honest in
-    let was = here view s j.layout given k j old new is holds fold fold' in
-    let fits = folds view s j.layout given k j old new is holds fold fold' in
+    let was = here view s j.layout given k j old new is holds fold (fold' (c.if-not-is_full.ensures.0 refl)) in
+    let fits = folds view s j.layout given k j old new is holds fold (fold' (c.if-not-is_full.ensures.0 refl)) in
     record {
       list = given;
-      one = inr refl;
-      holds = held view s j.layout given k j old new is holds fold fold' sound c.rewrite.new.self
+      one = inr (refl, c.if-not-is_full.ensures.0 refl);
+      holds = held view s j.layout given k j old new is holds fold (fold' (c.if-not-is_full.ensures.0 refl)) sound c.rewrite.new.self
           (ap (λ (i : JournalView). i.geometry) c.in-Ok.ensures.moves) (c.in-Ok.ensures.ok holds.records was fits)
           (c.in-Ok.ensures.area holds.records was fits);
     }

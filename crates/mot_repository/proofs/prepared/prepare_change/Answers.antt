@@ -61,7 +61,7 @@ returns-clause-room c = λ view k.
     has_room view c.args.layout c.args.command.now c.is_name_too_long.result c.is_name_too_long.ensures c.if-is_name_too_long.false k.layout_is
 
 pub returns-clause-prepared : goal.returns-clause-prepared
-returns-clause-prepared c = λ view k.
+returns-clause-prepared c = λ view k told.
     let geometry : view.journal.geometry ≡ c.args.geometry.now = k.geometry_is in
     let layout : view.journal.layout ≡ c.args.layout = k.layout_is in
     let carousel : view.carousel ≡ c.args.inventory.now.carousel = k.carousel_is in
@@ -77,5 +77,5 @@ returns-clause-prepared c = λ view k.
       record_is = rw carousel c.in_ok-record.ensures.made;
       typed = c.in_ok-record.ensures.typed;
     } in
-    prepared_is view c.args.command.now _ c.in-Some.start is (rw (carousel, extents) c.in_ok-given.ensures) (rw geometry c.place_in_area.ensures)
+    prepared_is view c.args.command.now _ c.in-Some.start is (λ full. rw (carousel, extents) (c.in_ok-given.ensures (told full))) (rw geometry c.place_in_area.ensures)
     c.in_ok-body.ensures (rw (carousel, extents) c.in_ok-extents.ensures)

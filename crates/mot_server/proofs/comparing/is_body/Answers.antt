@@ -1,14 +1,12 @@
-use Rattle.std.proofs.Common.{◌≡◌, ◌+◌, ◌-◌, ◌∙◌, ℕ, List, ◌++◌, refl, sym, ap, subst, arith, length, take, drop, true, false, not, Bool, ◌<◌, ◌≤◌}
+use Rattle.std.proofs.Common.{◌≡◌, ◌+◌, ◌-◌, ◌∙◌, ℕ, List, ◌++◌, refl, sym, ap, arith, length, take, drop, true, false, not, Bool}
 use Rattle.std.proofs.Math.Seq.{take-add}
 use Rattle.std.proofs.lemmas.List.{take_all}
 use Rattle.std.proofs.lemmas.Slice.Eq.{bytes_eq-Decides}
 use Rattle.std.specs.Prelude.{bytes_eq, slice_range}
 use Rattle.std.proofs.Common.{length-take}
-use Rattle.disk_store.specs.Disk.{IsUnchanged}
-use Rattle.mot_repository.specs.OnDisk.{extent_at}
 use Rattle.mot_repository.specs.Repository.{body_at}
 use Rattle.mot_server.proofs.Answered.{not_halted}
-use Rattle.mot_server.proofs.Read.{body_length, holds_still, keeps_on, unchanged_on}
+use Rattle.mot_server.proofs.Read.{body_length, holds_still, keeps_on, no_failure, unchanged_on}
 use Rattle.mot_server.proofs.comparing.is_body.Goals as goal
 
 equal_bytes : (xs ys : List ℕ) → false ≡ not (bytes_eq xs ys) → xs ≡ ys
@@ -53,6 +51,7 @@ loop-from-preserved g c =
       view = one.view ∙ is.view;
       keeps = keeps_on (state start.disk) (state mid.disk) (state now.disk) is.keeps one.keeps;
       later = omega (arith, is.later, one.cause.later);
+      calm = no_failure _ _ one.cause.later one.cause.shown ∙ is.calm;
       unchanged = λ honest.
           let was = one.keeps.was_honest honest in
           unchanged_on (state start.disk) (state mid.disk) (state now.disk) (is.unchanged was) (one.unchanged was);

@@ -10,6 +10,7 @@ invariant-loop-from g l = record {
   view : l.repository.view ≡ l.initial.repository.view;
   keeps : KeepsLength (g.D.Disk.state l.initial.repository.disk) (g.D.Disk.state l.repository.disk);
   later : (g.D.Disk.state l.initial.repository.disk).failures ≤ (g.D.Disk.state l.repository.disk).failures;
+  calm : (g.D.Disk.state l.repository.disk).failures ≡ (g.D.Disk.state l.initial.repository.disk).failures;
   unchanged : (g.D.Disk.state l.repository.disk).IsHonest
       → IsUnchanged (g.D.Disk.state l.initial.repository.disk) (g.D.Disk.state l.repository.disk);
   same : (s : Standing) → Holds l.initial.repository.view s (g.D.Disk.state l.initial.repository.disk)

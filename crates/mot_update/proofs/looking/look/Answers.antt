@@ -1,7 +1,9 @@
-use Rattle.std.proofs.Common.{◌∙◌, sym, ap, subst}
+use Rattle.std.proofs.Common.{◌∙◌, ℕ, List, refl, sym, ap, subst}
 use Rattle.mot_carousel.specs.declared.carousel.Carousel.{Carousel}
 use Rattle.mot_update.specs.HasRun.{fault_of}
 use Rattle.mot_update.specs.Looking.{HasSettled, withdraw_all, unknown_names}
+use Rattle.mot_update.specs.Told.{Tells}
+use Rattle.mot_update.proofs.Answers.{tells_nil, tells_trans}
 use Rattle.mot_update.proofs.Looks.{err_of, gives_nil, look_cut, look_on, withdrawals-are}
 use Rattle.mot_update.proofs.Looks.{withdrew_cut, withdrew_none}
 use Rattle.mot_update.proofs.Runs.{same_error}
@@ -17,13 +19,15 @@ returns-in_err-names-clause-looked g c = λ s holds honest.
     let gone = unknown_names names old.view.carousel.objects.items in
     let sound = g.met.D.Disk.sound old.disk honest in
     let e = err_of c.from_residual.result c.from_residual.ensures.0 in
-    let none = withdrew_none old state s sound honest (stays_same state) holds in
-    rw e.1
-    (look_cut old old state state s names gone (g.S.Source.place c.args.source.now) given given
-    (g.S.Source.is_fine c.args.source.now) e.0
-    (withdrawals-are names old.view s holds.agrees) (gives_nil given)
-    (withdrew_cut old old state state s gone 0 none.0 none.1 (g.S.Source.is_fine c.args.source.now)
-    e.0 sound honest (stays_same state)))
+    let fine = g.S.Source.is_fine c.args.source.now in
+    let none = withdrew_none old state s fine sound honest (stays_same state) holds in
+    rw e.1 (
+      look_cut old old state state s names gone (g.S.Source.place c.args.source.now) given given
+          fine e.0 (withdrawals-are names old.view s holds.agrees) (gives_nil given)
+          (withdrew_cut old old state state s gone 0 fine none e.0 sound honest
+          (stays_same state)),
+      tells_nil (g.S.Source.was_told c.args.source.now),
+    )
 
 pub returns-in_err-withdraw_these-clause-looked : goal.returns-in_err-withdraw_these-clause-looked
 returns-in_err-withdraw_these-clause-looked g c = λ s holds honest.
@@ -35,15 +39,18 @@ returns-in_err-withdraw_these-clause-looked g c = λ s holds honest.
     let are = withdrawals-are names old.view s holds.agrees
     ∙ ap (λ (k : Carousel). withdraw_all (unknown_names names k.objects.items))
     (sym c.carousel.ensures.value)
-    ∙ ap withdraw_all (sym c.in_ok-names.ensures ∙ sym c.deref.ensures.value) in
+    ∙ ap withdraw_all (sym c.in_ok-names.ensures.names ∙ sym c.deref.ensures.value) in
     let same = same_error c.from_residual-in_err-withdraw_these.result
     c.in_err-withdraw_these.field-0.0 c.from_residual-in_err-withdraw_these.ensures.1 in
-    rw same
-    (look_cut old new (state old.disk) (state new.disk) s names c.deref.result.now
-    (g.S.Source.place c.args.source.now)
-    (g.S.Source.given c.args.source.now) (g.S.Source.given c.withdraw_these.new.source)
-    (g.S.Source.is_fine c.withdraw_these.new.source)
-    c.in_err-withdraw_these.field-0.0 are two.gives (two.runs s holds honest))
+    let runs = two.runs s holds honest in
+    rw same (
+      look_cut old new (state old.disk) (state new.disk) s names c.deref.result.now
+          (g.S.Source.place c.args.source.now)
+          (g.S.Source.given c.args.source.now) (g.S.Source.given c.withdraw_these.new.source)
+          (g.S.Source.is_fine c.withdraw_these.new.source)
+          c.in_err-withdraw_these.field-0.0 are two.gives runs.0,
+      runs.1,
+    )
 
 pub returns-clause-looked : goal.returns-clause-looked
 returns-clause-looked g c = λ s holds honest.
@@ -59,17 +66,25 @@ returns-clause-looked g c = λ s holds honest.
     let are = withdrawals-are names old.view s holds.agrees
     ∙ ap (λ (k : Carousel). withdraw_all (unknown_names names k.objects.items))
     (sym c.carousel.ensures.value)
-    ∙ ap withdraw_all (sym c.in_ok-names.ensures ∙ sym c.deref.ensures.value) in
-    look_on old mid new (state old.disk) (state mid.disk) (state new.disk) s names
-    c.deref.result.now (g.S.Source.place c.args.source.now) (given c.args.source.now)
+    ∙ ap withdraw_all (sym c.in_ok-names.ensures.names ∙ sym c.deref.ensures.value) in
+    let runs = one.runs s holds was in
+    let told = g.S.Source.was_told in
+    let t = runs.0.run.leaves.last in
+    let Settles = λ (names : List (List ℕ)) (place : ℕ).
+    (settled : HasSettled mid new (state mid.disk) (state new.disk) t names place
     (given c.withdraw_these.new.source) (given c.settle_all.new.source)
-    (g.S.Source.is_fine c.withdraw_these.new.source) (g.S.Source.is_fine c.settle_all.new.source)
-    (fault_of c.settle_all.result) are one.gives (one.runs s holds was) two.fine
-    (λ t held. subst (λ p. HasSettled mid new (state mid.disk) (state new.disk) t names p
-    (given c.withdraw_these.new.source) (given c.settle_all.new.source)
-    (g.S.Source.is_fine c.settle_all.new.source) (fault_of c.settle_all.result)) one.stays
-    (subst (λ n. HasSettled mid new (state mid.disk) (state new.disk) t n
-    (g.S.Source.place c.withdraw_these.new.source)
-    (given c.withdraw_these.new.source) (given c.settle_all.new.source)
-    (g.S.Source.is_fine c.settle_all.new.source) (fault_of c.settle_all.result)) one.same
-    (two.settled t held honest)))
+    (g.S.Source.is_fine c.settle_all.new.source) (fault_of c.settle_all.result))
+    × Tells (told c.withdraw_these.new.source) (told c.settle_all.new.source) settled.runs.answers in
+    let settled : Settles names (g.S.Source.place c.args.source.now) =
+    subst (Settles names) one.stays
+    (subst (λ n. Settles n (g.S.Source.place c.withdraw_these.new.source)) one.same
+    (two.settled t (runs.0.run.leaves.going refl) honest)) in (
+      look_on old mid new (state old.disk) (state mid.disk) (state new.disk) s names
+          c.deref.result.now (g.S.Source.place c.args.source.now) (given c.args.source.now)
+          (given c.withdraw_these.new.source) (given c.settle_all.new.source)
+          (g.S.Source.is_fine c.withdraw_these.new.source)
+          (g.S.Source.is_fine c.settle_all.new.source) (fault_of c.settle_all.result) are
+          one.gives runs.0 two.fine settled.0,
+      tells_trans (told c.args.source.now) (told c.withdraw_these.new.source)
+          (told c.settle_all.new.source) runs.0.answers settled.0.runs.answers runs.1 settled.1,
+    )

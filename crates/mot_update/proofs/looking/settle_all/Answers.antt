@@ -1,6 +1,10 @@
-use Rattle.std.proofs.Common.{◌≡◌, ◌∙◌, ◌≤◌, ◌<◌, length, Some, refl, sym, subst, arith}
+use Rattle.std.proofs.Common.{◌≡◌, ◌∙◌, ◌≤◌, ◌<◌, length, Ok, Some, refl, sym, subst, arith}
 use Rattle.std.specs.Prelude.{slice_get}
 use Rattle.mot_server.proofs.Laws.{keeps_on}
+use Rattle.mot_update.specs.HasRun.{marks_of}
+use Rattle.mot_update.specs.Told.{AreAnswers, Tells, answers_of}
+use Rattle.mot_update.proofs.Answers.{answers-settled, tells_kept, tells_nil, tells_on, tells_trans}
+use Rattle.mot_update.proofs.Faults.{calm_here, calm_on, fault_on}
 use Rattle.mot_update.proofs.Looks.{accepted_settled, gives_nil, settled_all, settled_fault}
 use Rattle.mot_update.proofs.Looks.{settled_more, settled_none}
 use Rattle.mot_update.proofs.Runs.{same_error}
@@ -13,11 +17,15 @@ loop-wanted-init g c =
     record {
       keeps = record { len = refl; was_honest = λ honest. honest };
       later = omega arith;
+      calm = calm_here c.args.server.now state;
       same = refl;
-      so_far = λ s holds honest.
-          settled_none c.args.server.now state s (g.S.Source.names c.args.source.now)
-          (g.S.Source.place c.args.source.now) (g.S.Source.given c.args.source.now)
-          (g.S.Source.is_fine c.args.source.now) (g.met.D.Disk.sound c.args.server.now.disk honest) honest (stays_same state) holds;
+      so_far = λ s holds honest. (
+        settled_none c.args.server.now state s (g.S.Source.names c.args.source.now)
+            (g.S.Source.place c.args.source.now) (g.S.Source.given c.args.source.now)
+            (g.S.Source.is_fine c.args.source.now)
+            (g.met.D.Disk.sound c.args.server.now.disk honest) honest (stays_same state) holds,
+        tells_nil (g.S.Source.was_told c.args.source.now),
+      );
       fine = λ e. e;
     }
 
@@ -25,17 +33,22 @@ pub returns-in_default-clause-settled : goal.returns-in_default-clause-settled
 returns-in_default-clause-settled g c = λ s holds honest.
     let state = g.D.Disk.state in
     let given = g.S.Source.given in
-    settled_all c.args.server.now c.loop-wanted.server (state c.args.server.now.disk)
-    (state c.loop-wanted.server.disk) s (g.S.Source.names c.args.source.now)
-    (g.S.Source.place c.args.source.now) (g.S.Source.place c.loop-wanted.source)
-    (given c.args.source.now) (given c.loop-wanted.source) (given c.next.new.self)
-    (g.S.Source.is_fine c.loop-wanted.source) (g.S.Source.is_fine c.next.new.self)
-    (c.loop-wanted.invariant.so_far s holds honest) c.in_default.ensures.gives
-    (λ e. (
-      c.in_default.ensures.fine e,
-      subst (λ l. length l ≤ g.S.Source.place c.loop-wanted.source)
-          c.loop-wanted.invariant.same (c.in_default.ensures.every e),
-    ))
+    let so_far = c.loop-wanted.invariant.so_far s holds honest in
+    let told = g.S.Source.was_told in (
+      settled_all c.args.server.now c.loop-wanted.server (state c.args.server.now.disk)
+          (state c.loop-wanted.server.disk) s (g.S.Source.names c.args.source.now)
+          (g.S.Source.place c.args.source.now) (g.S.Source.place c.loop-wanted.source)
+          (given c.args.source.now) (given c.loop-wanted.source) (given c.next.new.self)
+          (g.S.Source.is_fine c.loop-wanted.source) (g.S.Source.is_fine c.next.new.self)
+          so_far.0 c.in_default.ensures.gives
+          (λ e. (
+            c.in_default.ensures.fine e,
+            subst (λ l. length l ≤ g.S.Source.place c.loop-wanted.source)
+                c.loop-wanted.invariant.same (c.in_default.ensures.every e),
+          )),
+      tells_kept (told c.args.source.now) (told c.loop-wanted.source) (told c.next.new.self)
+          so_far.0.answers so_far.1 c.in_default.ensures.told,
+    )
 
 pub returns-in_err-settled-clause-settled : goal.returns-in_err-settled-clause-settled
 returns-in_err-settled-clause-settled g c = λ s holds honest.
@@ -50,20 +63,41 @@ returns-in_err-settled-clause-settled g c = λ s holds honest.
     let was = two.keeps.was_honest honest in
     let next = c.in-Some.ensures in
     let n = next.named in
-    rw (same_error c.from_residual.result c.in_err-settled.field-0.0 c.from_residual.ensures.1)
-    (settled_fault old mid new (state old.disk) (state mid.disk) (state new.disk) s names
-    (g.S.Source.place c.args.source.now) (g.S.Source.place c.loop-wanted.source)
-    (g.S.Source.place c.next.new.self) (given c.args.source.now) (given c.loop-wanted.source)
-    (given c.next.new.self) (given c.next.new.self) (g.S.Source.is_fine c.loop-wanted.source)
-    c.in-Some.wanted c.requires
-    (n.0, n.1, n.2, subst (λ l. slice_get l n.0 ≡ Some c.in-Some.wanted.name) is.same n.3)
-    next.gives (gives_nil (given c.next.new.self)) (is.so_far s holds was) _
-    (g.S.Source.is_fine c.next.new.self) c.in_err-settled.field-0.0 (λ t held. two.run t held honest))
+    let so_far = is.so_far s holds was in
+    let told = g.S.Source.was_told in
+    rw (same_error c.from_residual.result c.in_err-settled.field-0.0 c.from_residual.ensures.1) (
+      settled_fault old mid new (state old.disk) (state mid.disk) (state new.disk) s names
+          (g.S.Source.place c.args.source.now) (g.S.Source.place c.loop-wanted.source)
+          (g.S.Source.place c.next.new.self) (given c.args.source.now)
+          (given c.loop-wanted.source) (given c.next.new.self) (given c.next.new.self)
+          (g.S.Source.is_fine c.loop-wanted.source) c.in-Some.wanted c.requires
+          (n.0, n.1, n.2, subst (λ l. slice_get l n.0 ≡ Some c.in-Some.wanted.name) is.same n.3)
+          next.gives (gives_nil (given c.next.new.self)) so_far.0
+          (g.S.Source.is_fine c.next.new.self) c.in_err-settled.field-0.0
+          (λ t held. two.run t held honest),
+      tells_kept (told c.args.source.now) (told c.loop-wanted.source) (told c.next.new.self)
+          so_far.0.answers so_far.1 next.told,
+    )
+
+pub returns-in_default-clause-faults : goal.returns-in_default-clause-faults
+returns-in_default-clause-faults g c = c.loop-wanted.invariant.calm
+
+pub returns-in_err-settled-clause-faults : goal.returns-in_err-settled-clause-faults
+returns-in_err-settled-clause-faults g c =
+    let state = g.D.Disk.state in
+    let old = c.args.server.now in
+    let mid = c.loop-wanted.server in
+    let new = c.settle.new.server in
+    let refusal = c.in_err-settled.field-0.0 in
+    rw (same_error c.from_residual.result refusal c.from_residual.ensures.1)
+    (fault_on old mid (state old.disk) (state mid.disk) (state new.disk) refusal
+    c.loop-wanted.invariant.calm c.in_err-settled.ensures.faults)
 
 pub loop-wanted-preserved : goal.loop-wanted-preserved
 loop-wanted-preserved g c =
     let state = g.D.Disk.state in
     let given = g.S.Source.given in
+    let was_told = g.S.Source.was_told in
     let names = g.S.Source.names c.args.source.now in
     let old = c.args.server.now in
     let mid = c.loop-wanted.server in
@@ -76,25 +110,41 @@ loop-wanted-preserved g c =
     record {
       keeps = keeps_on (state old.disk) (state mid.disk) (state new.disk) is.keeps two.keeps;
       later = omega (arith, is.later, two.later);
+      calm = calm_on old mid new (state old.disk) (state mid.disk) (state new.disk) is.calm
+          two.faults;
       same = told.same ∙ next.same ∙ is.same;
       so_far = λ s holds honest.
           let was = two.keeps.was_honest honest in
-          settled_more old mid new (state old.disk) (state mid.disk) (state new.disk) s names
-          (g.S.Source.place c.args.source.now) (g.S.Source.place c.loop-wanted.source)
-          (g.S.Source.place c.settled.new.self)
-          (given c.args.source.now) (given c.loop-wanted.source) (given c.next.new.self)
-          (given c.settled.new.self) (g.S.Source.is_fine c.loop-wanted.source) c.in-Some.wanted c.requires (
-            n.0,
-            n.1,
-            subst (λ p. n.0 < p) (sym told.stays) n.2,
-            subst (λ l. slice_get l n.0 ≡ Some c.in-Some.wanted.name) is.same n.3,
-          )
-          next.gives told.gives (is.so_far s holds was) _ (g.S.Source.is_fine c.settled.new.self)
-          (λ t held. two.run t held honest)
-          (λ e. let f = told.fine e in (
-            next.fine f.0,
-            told.stays ∙ next.every f.0,
-            accepted_settled c.in_ok-settled.settled f.1,
-          ));
+          let so_far = is.so_far s holds was in
+          let settled = c.in_ok-settled.settled in
+          let answers = answers_of c.in-Some.wanted.name settled in (
+            settled_more old mid new (state old.disk) (state mid.disk) (state new.disk) s names
+                (g.S.Source.place c.args.source.now) (g.S.Source.place c.loop-wanted.source)
+                (g.S.Source.place c.settled.new.self)
+                (given c.args.source.now) (given c.loop-wanted.source) (given c.next.new.self)
+                (given c.settled.new.self) (g.S.Source.is_fine c.loop-wanted.source)
+                c.in-Some.wanted c.requires (
+                  n.0,
+                  n.1,
+                  subst (λ p. n.0 < p) (sym told.stays) n.2,
+                  subst (λ l. slice_get l n.0 ≡ Some c.in-Some.wanted.name) is.same n.3,
+                )
+                next.gives told.gives so_far.0 (marks_of (Ok settled)) answers
+                (g.S.Source.is_fine c.settled.new.self)
+                (λ t held. two.run t held honest)
+                (λ t held. subst (λ l. AreAnswers answers l (marks_of (Ok settled)))
+                (sym (two.told t held honest)) (answers-settled settled c.in-Some.wanted))
+                (λ e. let f = told.fine e in (
+                  next.fine f.0,
+                  told.stays ∙ next.every f.0,
+                  accepted_settled settled f.1,
+                )),
+            tells_trans (was_told c.args.source.now) (was_told c.loop-wanted.source)
+                (was_told c.settled.new.self) so_far.0.answers answers so_far.1
+                (tells_on (was_told c.loop-wanted.source) (was_told c.next.new.self)
+                (was_told c.settled.new.self) answers next.told
+                (subst (λ l. Tells (was_told c.next.new.self) (was_told c.settled.new.self)
+                (answers_of l settled)) next.last told.told)),
+          );
       fine = λ e. is.fine (next.fine (told.fine e).0);
     }

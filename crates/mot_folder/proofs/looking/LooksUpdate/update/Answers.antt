@@ -1,7 +1,8 @@
-use Rattle.std.proofs.Common.{◌≡◌, Bool, true, false, not, Option, None, [], refl, sym, subst, ◌∙◌}
+use Rattle.std.proofs.Common.{◌≡◌, ℕ, Bool, true, false, List, Option, None, [], refl, sym, subst, ◌∙◌}
 use Rattle.disk_store.specs.Disk.{State}
 use Rattle.mot_base.specs.declared.refusal.Refusal.{Refusal}
 use Rattle.mot_feed.specs.Feeding.{IsUpdating, fault_of}
+use Rattle.mot_folder.specs.declared.report.Report.{Report}
 use Rattle.mot_folder.specs.Looked.{HasLookedAtFolder, listed, unlisted}
 use Rattle.mot_journal.specs.Image.{Standing}
 use Rattle.mot_server.specs.Server.{ServerView}
@@ -11,13 +12,13 @@ use Rattle.mot_folder.proofs.looking.LooksUpdate.update.Goals as goal
 
 -- a look runs commands
 updating_by : {D : Type 0} (old new : ServerView D) (start now : State) (s : Standing)
-    (fine may : Bool) (fault : Option Refusal) → may ≡ true
-    → HasLookedAtFolder old new start now s fine fault
+    (may : Bool) (path : List ℕ) (report : Report) (fault : Option Refusal) → may ≡ true
+    → HasLookedAtFolder old new start now s path report fault
     → IsUpdating old new start now s may fault
-updating_by old new start now s fine may fault is (unlisted refused none run) =
+updating_by old new start now s may path report fault is (unlisted refused none run entries told are) =
     subst (λ f. IsUpdating old new start now s may f) (sym none)
     (record { commands = []; marks = []; run = run; waits = λ e. refl })
-updating_by old new start now s fine may fault is (listed names looked) = record {
+updating_by old new start now s may path report fault is (listed names looked told) = record {
   commands = looked.runs.commands;
   marks = looked.runs.marks;
   run = looked.runs.run;
@@ -36,18 +37,14 @@ returns-then-not-between_turns-clause-run g c = λ s holds honest.
       waits = λ e. refl;
     }
 
-pub returns-then-not-is_empty-clause-run : goal.returns-then-not-is_empty-clause-run
-returns-then-not-is_empty-clause-run g c = λ s holds honest.
+pub returns-clause-run : goal.returns-clause-run
+returns-clause-run g c = λ s holds honest.
     let state = g.D.Disk.state in
     let old = c.args.server.now in
     let new = c.look_at_folder-result.new.server in
-    updating_by old new (state old.disk) (state new.disk) s
-    (not c.look_at_folder-result.new.report.any_refused) _ (fault_of c.look_at_folder-result.result) c.if-not-between_turns.false (c.look_at_folder-result.ensures.looked s holds honest)
+    updating_by old new (state old.disk) (state new.disk) s _ _ _
+    (fault_of c.look_at_folder-result.result) c.if-not-between_turns.false
+    (c.look_at_folder-result.ensures.looked s holds honest)
 
-pub returns-else-not-is_empty-clause-run : goal.returns-else-not-is_empty-clause-run
-returns-else-not-is_empty-clause-run g c = λ s holds honest.
-    let state = g.D.Disk.state in
-    let old = c.args.server.now in
-    let new = c.look_at_folder-result.new.server in
-    updating_by old new (state old.disk) (state new.disk) s
-    (not c.look_at_folder-result.new.report.any_refused) _ (fault_of c.look_at_folder-result.result) c.if-not-between_turns.false (c.look_at_folder-result.ensures.looked s holds honest)
+pub returns-clause-looked : goal.returns-clause-looked
+returns-clause-looked g c = λ due s holds honest. c.look_at_folder-result.ensures.looked s holds honest

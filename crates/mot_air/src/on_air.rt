@@ -1,0 +1,188 @@
+//! Playing the disk of a file into what a path names.
+ghost use Rattle.std.specs.Prelude.{◌≡◌, ◌≢◌, ◌⊎◌, None, Ok, true, false, IfErr, OnOk};
+ghost use Rattle.mot_air.specs.Inner.Packets.{target_of};
+ghost use Rattle.mot_air.specs.Playing.{Plays, StopsPlaying};
+ghost use Rattle.mot_air.specs.Program.{FailsPlaying, IsUntold, PlaysTo, StopsPlayingTo, turns_of};
+ghost use Rattle.mot_base.specs.declared.refusal.Refusal.TheVariants.{DeviceFault, WriteFault};
+
+use crate::Ended;
+use crate::beside::NewFile;
+use crate::fault::{Cause, PacketsFault};
+use crate::packets::{OpenPackets, PacketWriter, Target, open_packets};
+use crate::playing::play_disk;
+use crate::used::Finished;
+use disk_store::{Disk, FileDiskFrom, Start};
+use mot_base::Refusal;
+use std::alloc::Global;
+use std::io::Write;
+
+/// The turns of a file. Behind so many all continuity indexes are as they began, so that the
+/// packets can be sent round and round.
+const FILE_TURNS: u64 = 16;
+
+/// What playing came to, and why packets were not taken.
+#[derive(Drop)]
+struct Played<D: Disk> {
+    ended: Ended<D, ()>,
+    cause: Option<Cause>,
+}
+
+/// Plays the disk of the file at the path into what the other path names. The log goes to `writer`,
+/// and to `errors` where the packets go to `writer`.
+pub(crate) fn play_file<B: Start, W: Write, E: Write>(
+    rt: &HostRuntime,
+    alloc: Global,
+    path: &str,
+    packets: &str,
+    folder: Option<&str>,
+    turns: Option<u32>,
+    start: B,
+    writer: &mut W,
+    errors: &mut E,
+) -> Finished<B>
+    ensures done { result.result ≡ Ok true → PlaysTo packets.now turns result.disk }
+    ensures told { result.result ≢ Ok false }
+    ensures refused { IfErr result.result (λ r. (((r ≡ DeviceFault) ⊎ (r ≡ WriteFault))
+        × IsUntold result.disk (W.contents writer.old) (W.contents writer.new))
+        ⊎ StopsPlayingTo packets.now turns r result.disk) }
+{
+    let opened = match open_packets(rt, packets, path) {
+        Ok(opened) => opened,
+        Err(cause) => return Finished::unwritable(cause, start),
+    };
+    let disk = match FileDiskFrom::open_from(rt, path, start) {
+        Ok(disk) => disk,
+        Err(unopened) => {
+            opened.give_up(rt);
+            return Finished::unopened(unopened);
+        }
+    };
+    let Played { ended, cause } = play_into(rt, alloc, disk, opened, folder, turns, writer, errors);
+    Finished::done(ended, cause)
+}
+
+/// Plays the disk into what was opened.
+fn play_into<D: Disk, W: Write, E: Write>(
+    rt: &HostRuntime,
+    alloc: Global,
+    disk: D,
+    opened: OpenPackets<'_>,
+    folder: Option<&str>,
+    turns: Option<u32>,
+    writer: &mut W,
+    errors: &mut E,
+) -> Played<D>
+    ensures done { OnOk result.ended.result (Plays true (turns_of (target_of opened.entry) turns)
+        None None (D.state disk) (D.state result.ended.disk)) }
+    ensures refused { IfErr result.ended.result (λ r. FailsPlaying (target_of opened.entry) turns r
+        (D.state disk) (D.state result.ended.disk)) }
+{
+    match opened {
+        OpenPackets::Standard => {
+            let turns = turns_of(Target::Output, turns);
+            play_writer(rt, alloc, disk, writer, folder, errors, turns)
+        }
+        OpenPackets::Through(file) => {
+            let turns = turns_of(Target::Stream, turns);
+            play_writer(rt, alloc, disk, file, folder, writer, turns)
+        }
+        OpenPackets::Beside(new) => {
+            let turns = turns_of(Target::File, turns);
+            play_new_file(rt, alloc, disk, new, folder, writer, turns)
+        }
+    }
+}
+
+/// Plays the disk, so many turns, each packet in one write to the writer.
+fn play_writer<D: Disk, P: Write + Drop, L: Write>(
+    rt: &HostRuntime,
+    alloc: Global,
+    disk: D,
+    packets: P,
+    folder: Option<&str>,
+    log: &mut L,
+    turns: u64,
+) -> Played<D>
+    ensures done { OnOk result.ended.result (Plays true turns None None
+        (D.state disk) (D.state result.ended.disk)) }
+    ensures refused { IfErr result.ended.result (λ r. StopsPlaying r true None None
+        (D.state disk) (D.state result.ended.disk)) }
+{
+    let mut outlet = PacketWriter::new(packets);
+    let ended = play_disk(rt, alloc, disk, &mut outlet, folder, log, turns);
+    let cause = match outlet.fault {
+        Some(fault) => Some(Cause::Packets(fault)),
+        None => None,
+    };
+    Played { ended, cause }
+}
+
+/// Plays the disk, so many turns, into a new file, which then takes its place. Where that fails it
+/// is taken away again.
+fn play_new_file<D: Disk, L: Write>(
+    rt: &HostRuntime,
+    alloc: Global,
+    disk: D,
+    new: NewFile<'_>,
+    folder: Option<&str>,
+    log: &mut L,
+    turns: u64,
+) -> Played<D>
+    ensures done { OnOk result.ended.result (Plays true turns None None
+        (D.state disk) (D.state result.ended.disk)) }
+    ensures refused { IfErr result.ended.result (λ r. StopsPlaying r true None None
+        (D.state disk) (D.state result.ended.disk)
+        ⊎ ((r ≡ WriteFault) × Plays true turns None None
+        (D.state disk) (D.state result.ended.disk))) }
+{
+    let Played { ended, cause } = play_writer(rt, alloc, disk, &new.file, folder, log, turns);
+    let Ended { disk, result } = ended;
+    if let Err(refusal) = result {
+        new.take_away(rt);
+        return Played {
+            ended: Ended {
+                disk,
+                result: Err(refusal),
+            },
+            cause: of_new_file(cause),
+        };
+    }
+    match new.take_place(rt) {
+        Ok(()) => Played {
+            ended: Ended {
+                disk,
+                result: Ok(()),
+            },
+            cause: None,
+        },
+        Err(error) => {
+            new.take_away(rt);
+            Played {
+                ended: Ended {
+                    disk,
+                    result: Err(Refusal::WriteFault),
+                },
+                cause: Some(Cause::NewFile(PacketsFault::System(error))),
+            }
+        }
+    }
+}
+
+/// The cause, told of the new file.
+fn of_new_file(cause: Option<Cause>) -> Option<Cause> {
+    match cause {
+        Some(Cause::Packets(fault)) => Some(Cause::NewFile(fault)),
+        other => other,
+    }
+}
+
+/// So many turns; where no number is given, sixteen for a file, and else as good as without end.
+fn turns_of(target: Target, turns: Option<u32>) -> u64
+    ensures { result ≡ turns_of target turns }
+{
+    match (turns, target) {
+        (Some(turns), _) => turns as u64,
+        (None, Target::File) => FILE_TURNS,
+        (None, _) => u64::MAX,
+    }
+}

@@ -1,0 +1,135 @@
+//! What the packets of `play` go to.
+ghost use Rattle.std.specs.Prelude.{IfOk};
+ghost use Rattle.std.specs.Io.{WritesAtMost};
+ghost use Rattle.mot_air.specs.Inner.Packets.{target_of};
+ghost use Rattle.mot_air.specs.Program.{IsTarget};
+
+use crate::beside::{NewFile, is_file_at};
+use crate::fault::{Cause, PacketsFault};
+use mot_feed::Outlet;
+use std::fs::{File, OpenOptions};
+use std::io::{self, ErrorKind, Write};
+use std::os::unix::fs::MetadataExt;
+use std::rt::Files;
+
+/// The word that names standard output.
+pub(crate) const OUTPUT: &str = "-";
+
+/// What takes the packets of `play`.
+#[derive(Clone, Copy, Debug, PartialEq, Eq)]
+pub enum Target {
+    /// Standard output.
+    Output,
+    /// A named pipe or a device: what is there and is no regular file.
+    Stream,
+    /// A regular file, or nothing yet: it is written whole or not at all.
+    File,
+}
+
+/// What was opened to take packets.
+#[derive(Drop)]
+pub(crate) enum OpenPackets<'a> {
+    /// Standard output, which is open.
+    Standard,
+    /// A named pipe or a device.
+    Through(File),
+    /// A new file beside the one whose place it takes.
+    Beside(NewFile<'a>),
+}
+
+impl<'a> OpenPackets<'a> {
+    /// Leaves nothing of it, where nothing is played.
+    pub fn give_up(&self, rt: &HostRuntime) {
+        if let OpenPackets::Beside(new) = self {
+            new.take_away(rt);
+        }
+    }
+}
+
+/// Opens what the path names, to write packets to it. A pipe or a device is opened for reading and
+/// writing: so a pipe's opening waits for no reader, and its reader may go and come back. The disk
+/// itself is refused.
+pub(crate) fn open_packets<'a>(
+    rt: &HostRuntime,
+    path: &'a str,
+    disk: &str,
+) -> Result<OpenPackets<'a>, Cause>
+    ensures { IfOk result (λ opened. IsTarget path.now (target_of opened)) }
+{
+    if path == OUTPUT {
+        return Ok(OpenPackets::Standard);
+    }
+    if is_stream(rt, path, disk)? {
+        return Ok(OpenPackets::Through(open_stream(rt, path)?));
+    }
+    match NewFile::begin(rt, path, disk) {
+        Ok(new) => Ok(OpenPackets::Beside(new)),
+        Err(fault) => Err(Cause::NewFile(fault)),
+    }
+}
+
+/// Opens a pipe or a device for reading and writing.
+fn open_stream(rt: &HostRuntime, path: &str) -> Result<File, PacketsFault> {
+    let file = OpenOptions::new().read(true).write(true).open(rt, path)?;
+    Ok(file)
+}
+
+/// Whether something is there that is no regular file. The disk itself is refused.
+fn is_stream(rt: &HostRuntime, path: &str, disk: &str) -> Result<bool, PacketsFault> {
+    match rt.metadata(path) {
+        Ok(found) => {
+            if is_file_at(rt, disk, found.dev(), found.ino()) {
+                return Err(PacketsFault::IsDisk);
+            }
+            Ok(!found.is_file())
+        }
+        Err(error) => {
+            if error.kind() == ErrorKind::NotFound {
+                return Ok(false);
+            }
+            Err(PacketsFault::System(error))
+        }
+    }
+}
+
+/// A writer of packets, each in one write that is handed on at once. It keeps why one was not
+/// written.
+#[derive(Drop)]
+pub(crate) struct PacketWriter<W: Write + Drop> {
+    writer: W,
+    pub fault: Option<PacketsFault>,
+}
+
+impl<W: Write + Drop> PacketWriter<W> {
+    /// Nothing was written.
+    pub fn new(writer: W) -> PacketWriter<W> {
+        PacketWriter {
+            writer,
+            fault: None,
+        }
+    }
+}
+
+impl<W: Write + Drop> Outlet for PacketWriter<W> {
+    fn write_once(&mut self, bytes: &[u8]) -> io::Result<usize> {
+        let written = write_on(&mut self.writer, bytes);
+        match written {
+            Ok(count) => {
+                if count < bytes.len() {
+                    self.fault = Some(PacketsFault::Cut);
+                }
+            }
+            Err(error) => self.fault = Some(PacketsFault::System(error)),
+        }
+        written
+    }
+}
+
+/// Writes the bytes in one write, and hands on what was taken of them.
+fn write_on<W: Write>(writer: &mut W, bytes: &[u8]) -> io::Result<usize>
+    ensures { WritesAtMost result bytes.now }
+{
+    let count = writer.write(bytes)?;
+    writer.flush()?;
+    Ok(count)
+}

@@ -1,0 +1,83 @@
+//! What a refusal is about: the file that was not opened or written, or the option whose number is
+//! none. It is printed, and nothing is decided by it.
+use crate::beside::SUFFIX;
+use crate::fault::Cause;
+use crate::packets::OUTPUT;
+use clap::ArgMatches;
+use disk_store::OpenFault;
+use mot_base::Refusal;
+use std::fmt::{self, Display, Formatter};
+use std::io::Write;
+use std::rt::Files;
+
+/// What a refusal is about.
+#[derive(Clone, Copy, Debug)]
+pub(crate) enum Subject<'a> {
+    /// What the refusal itself says.
+    Nothing,
+    /// The file at this path, for this cause.
+    File {
+        path: &'a str,
+        cause: Cause,
+    },
+    /// The number that was given to an option.
+    Number {
+        option: &'static str,
+        number: &'a str,
+    },
+}
+
+/// What this refusal of a command with these words is about.
+pub(crate) fn subject_of<'a>(
+    refusal: Refusal,
+    words: &ArgMatches<'a>,
+    cause: Option<Cause>,
+) -> Subject<'a> {
+    let word = match cause {
+        Some(Cause::Disk(_)) => "DISK",
+        Some(_) => "PACKETS",
+        None => "turns",
+    };
+    match (refusal, words.get_str(word), cause) {
+        (_, Some(path), Some(cause)) => Subject::File { path, cause },
+        (Refusal::BadNumber, Some(number), None) => Subject::Number {
+            option: "turns",
+            number,
+        },
+        _ => Subject::Nothing,
+    }
+}
+
+/// Prints what a refusal is about, where there is more to tell.
+pub(crate) fn tell<E: Write>(errors: &mut E, subject: Subject<'_>) {
+    match subject {
+        Subject::Nothing => {}
+        Subject::File { path, cause } => tell_file(errors, path, cause),
+        Subject::Number { option, number } => {
+            let _ = writeln!(errors, "motcar: --{option} {number}: 0 to 4294967295");
+        }
+    }
+}
+
+/// Prints a file, and what came of it.
+fn tell_file<E: Write>(errors: &mut E, path: &str, cause: Cause) {
+    let _ = match cause {
+        Cause::Disk(fault) => writeln!(errors, "motcar: {path}: {fault}"),
+        Cause::Packets(fault) if path == OUTPUT => {
+            writeln!(errors, "motcar: standard output: {fault}")
+        }
+        Cause::Packets(fault) => writeln!(errors, "motcar: {path}: {fault}"),
+        Cause::NewFile(fault) => writeln!(errors, "motcar: {path}{SUFFIX}: {fault}"),
+    };
+}
+
+/// Prints why the folder that these words name can't be listed, where it can't.
+pub(crate) fn tell_folder<E: Write>(rt: &HostRuntime, errors: &mut E, words: &ArgMatches<'_>) {
+    let Some(path) = words.get_str("DIR") else {
+        return;
+    };
+    if let Err(error) = rt.open_dir(path) {
+        let fault = OpenFault::System(error);
+        let _ = writeln!(errors, "motcar: {path}: {fault}");
+    }
+}

@@ -1,0 +1,15 @@
+use Rattle.std.proofs.Common.{[]}
+use Rattle.mot_folder.specs.Log.{TellsAnswers}
+use Rattle.mot_update.proofs.Answers.{tells_on}
+use Rattle.mot_folder.proofs.listing.list.Goals as goal
+
+pub returns-in_err-add_all : goal.returns-in_err-add_all
+returns-in_err-add_all g c = record {
+  told = tells_on (TellsAnswers c.args.report.now) (TellsAnswers c.loop.report)
+      (TellsAnswers c.add_all.new.report) [] c.loop.invariant c.in_err-add_all.ensures.told;
+}
+
+pub loop-preserved : goal.loop-preserved
+loop-preserved g c =
+    tells_on (TellsAnswers c.args.report.now) (TellsAnswers c.loop.report)
+    (TellsAnswers c.add_all.new.report) [] c.loop.invariant c.in_ok-add_all.ensures.told

@@ -1,0 +1,84 @@
+-- What is told of commands, one after the other.
+use Rattle.std.proofs.Common.{◌≡◌, ◌∙◌, ℕ, Bool, true, List, [], ◌∷◌, ◌++◌, length, Result, Ok, refl, sym, ap, subst, arith}
+use Rattle.std.proofs.Common.{append_assoc, append-nil}
+use Rattle.mot_base.specs.declared.refusal.Refusal.{Refusal}
+use Rattle.mot_carousel.specs.declared.command.Command.{Command}
+use Rattle.mot_carousel.specs.declared.command.Command.TheVariants as command
+use Rattle.mot_server.specs.Attempts as attempts
+use Rattle.mot_server.specs.declared.running.Attempt.{Attempt}
+use Rattle.mot_server.specs.declared.running.Attempt.TheVariants.{Accepted, Refused}
+use Rattle.mot_update.specs.HasRun.{marks_of}
+use Rattle.mot_update.specs.Told.{Answer, AreAnswers, IsAnswer, Put, Replaced, Tells, Withdrew}
+use Rattle.mot_update.specs.Told.{answers_of, commands_of}
+use Rattle.mot_update.specs.declared.settling.Settled.{Settled}
+use Rattle.mot_update.specs.declared.settling.Settled.TheVariants as settled
+use Rattle.mot_update.specs.declared.wanted.Wanted.{Wanted}
+
+pub tells_trans : (a b c : List Answer → Type 0) (xs ys : List Answer) → Tells a b xs
+    → Tells b c ys → Tells a c (xs ++ ys)
+tells_trans a b c xs ys p q = λ told was. subst c (append_assoc told xs ys) (q (told ++ xs) (p told was))
+
+pub tells_nil : (a : List Answer → Type 0) → Tells a a []
+tells_nil a = λ told was. subst a (sym (append-nil told)) was
+
+-- nothing more was told
+pub tells_kept : (a b c : List Answer → Type 0) (xs : List Answer) → Tells a b xs → Tells b c []
+    → Tells a c xs
+tells_kept a b c xs p q = subst (Tells a c) (append-nil xs) (tells_trans a b c xs [] p q)
+
+-- nothing was told before
+pub tells_on : (a b c : List Answer → Type 0) (xs : List Answer) → Tells a b [] → Tells b c xs
+    → Tells a c xs
+tells_on a b c xs p q = λ told was. q told (subst b (append-nil told) (p told was))
+
+-- commands that were not answered
+pub answers-more : (answers : List Answer) (commands others : List Command) (marks : List Bool)
+    → AreAnswers answers commands marks → AreAnswers answers (commands ++ others) marks
+answers-more answers commands others [] are = are
+answers-more [] commands others (mark ∷ marks) are = absurd are
+answers-more (answer ∷ answers) [] others (mark ∷ marks) are = absurd are
+answers-more (answer ∷ answers) (command ∷ commands) others (mark ∷ marks) are =
+    (are.0, answers-more answers commands others marks are.1)
+
+-- commands that were all answered, and then others
+pub answers-join : (answers more : List Answer) (commands others : List Command)
+    (marks then_marks : List Bool) → AreAnswers answers commands marks
+    → length marks ≡ length commands → AreAnswers more others then_marks
+    → AreAnswers (answers ++ more) (commands ++ others) (marks ++ then_marks)
+answers-join answers more [] others [] then_marks are whole next =
+    subst (λ l. AreAnswers (l ++ more) others then_marks) (sym are) next
+answers-join answers more [] others (mark ∷ marks) then_marks are whole next =
+    absurd (omega (arith, whole))
+answers-join answers more (command ∷ commands) others [] then_marks are whole next =
+    absurd (omega (arith, whole))
+answers-join [] more (command ∷ commands) others (mark ∷ marks) then_marks are whole next =
+    absurd are
+answers-join (answer ∷ answers) more (command ∷ commands) others (mark ∷ marks) then_marks are
+    whole next = (
+      are.0,
+      answers-join answers more commands others marks then_marks are.1
+          (omega (arith, whole)) next,
+    )
+
+-- a fault came before the next answer
+pub answers-cut : (answers : List Answer) (commands others : List Command) (marks : List Bool)
+    → AreAnswers answers commands marks → AreAnswers answers (commands ++ others) (marks ++ [])
+answers-cut answers commands others marks are =
+    subst (λ l. AreAnswers answers (commands ++ others) l) (sym (append-nil marks))
+    (answers-more answers commands others marks are)
+
+-- one withdrawal
+pub answer-withdrew : (name : List ℕ) (attempt : Attempt)
+    → AreAnswers (Withdrew name attempt ∷ []) (command.Withdraw name ∷ [])
+    (attempts.marks_of (Ok attempt))
+answer-withdrew name (Accepted done) = ((refl, refl), refl)
+answer-withdrew name (Refused refusal) = ((refl, refl), refl)
+
+-- one wanted object
+pub answers-settled : (settled : Settled) (w : Wanted)
+    → AreAnswers (answers_of w.name settled) (commands_of settled w) (marks_of (Ok settled))
+answers-settled settled.Right w = refl
+answers-settled (settled.Put (Accepted done)) w = ((refl, refl), refl)
+answers-settled (settled.Put (Refused refusal)) w = ((refl, refl), refl)
+answers-settled (settled.Replaced (Accepted done)) w = ((refl, refl), refl)
+answers-settled (settled.Replaced (Refused refusal)) w = ((refl, refl), refl)

@@ -1,0 +1,53 @@
+-- What a source is told of a look: what came of each command, in order.
+use Rattle.std.specs.Prelude.{◌≡◌, ℕ, Bool, true, false, List, [], ◌∷◌, ◌++◌}
+use Rattle.mot_carousel.specs.declared.command.Command.{Command}
+use Rattle.mot_carousel.specs.declared.command.Command.TheVariants as command
+use Rattle.mot_server.specs.declared.running.Attempt.{Attempt}
+use Rattle.mot_server.specs.declared.running.Attempt.TheVariants.{Accepted, Refused}
+use Rattle.mot_update.specs.declared.settling.Settled.{Settled}
+use Rattle.mot_update.specs.declared.settling.Settled.TheVariants as settled
+use Rattle.mot_update.specs.declared.wanted.Wanted.{Wanted}
+
+-- what came of a command on the object of this name
+pub data Answer : Type 0 where
+  Withdrew : List ℕ → Attempt → Answer
+  Put : List ℕ → Attempt → Answer
+  Replaced : List ℕ → Attempt → Answer
+
+-- of an object that is right nothing is told
+abbrev pub answers_of : List ℕ → Settled → List Answer
+answers_of name settled.Right = []
+answers_of name (settled.Put attempt) = Put name attempt ∷ []
+answers_of name (settled.Replaced attempt) = Replaced name attempt ∷ []
+
+-- what was done for a wanted object
+abbrev pub commands_of : Settled → Wanted → List Command
+commands_of settled.Right w = []
+commands_of (settled.Put attempt) w = command.Put w.name w.content w.mime w.body ∷ []
+commands_of (settled.Replaced attempt) w = command.Replace w.name w.content w.mime w.body ∷ []
+
+abbrev pub was_accepted : Attempt → Bool
+was_accepted (Accepted done) = true
+was_accepted (Refused refusal) = false
+
+-- it is what came of this command, which was marked so
+abbrev pub IsAnswer : Answer → Command → Bool → Type 0
+IsAnswer (Withdrew name attempt) (command.Withdraw n) mark =
+    (name ≡ n) × (was_accepted attempt ≡ mark)
+IsAnswer (Put name attempt) (command.Put n content mime body) mark =
+    (name ≡ n) × (was_accepted attempt ≡ mark)
+IsAnswer (Replaced name attempt) (command.Replace n content mime body) mark =
+    (name ≡ n) × (was_accepted attempt ≡ mark)
+IsAnswer answer other mark = ⊥
+
+-- each command that was answered is told, in order, and nothing else
+abbrev pub AreAnswers : List Answer → List Command → List Bool → Type 0
+AreAnswers answers commands [] = answers ≡ []
+AreAnswers [] commands (mark ∷ marks) = ⊥
+AreAnswers (answer ∷ answers) [] (mark ∷ marks) = ⊥
+AreAnswers (answer ∷ answers) (command ∷ commands) (mark ∷ marks) =
+    IsAnswer answer command mark × AreAnswers answers commands marks
+
+-- what was told goes on by these
+abbrev pub Tells : (List Answer → Type 0) → (List Answer → Type 0) → List Answer → Type 0
+Tells before after answers = (told : List Answer) → before told → after (told ++ answers)
