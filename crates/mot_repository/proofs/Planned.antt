@@ -278,10 +278,10 @@ prepared_is view command p from is given at body extents =
         extents_are = extents;
       };
       given = λ full. subst (λ (l : List Record). CanBeGiven view.journal l) (sym (given full)) (record {
-            some = rewriting.some;
-            few = few-slots g layout (length (records_of_catalogue (catalogue_in view))) rewriting.few;
-            sound = all-of (λ q. is_sound g layout q ≡ true) (records_of_catalogue (catalogue_in view)) rewriting.sound;
-          });
+        some = rewriting.some;
+        few = few-slots g layout (length (records_of_catalogue (catalogue_in view))) rewriting.few;
+        sound = all-of (λ q. is_sound g layout q ≡ true) (records_of_catalogue (catalogue_in view)) rewriting.sound;
+      });
       sound = (read view command p.inventory.carousel p.done from p.record is).sound;
       within = omega (arith, at, within, size);
       whole = subst (λ (l : List (ℕ × ℕ)). IsWhole g layout (catalogue_with p.inventory.carousel l)) (sym extents)
