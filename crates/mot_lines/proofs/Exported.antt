@@ -28,9 +28,8 @@ use Rattle.mot_lines.specs.declared.line.Line.{Line}
 use Rattle.mot_lines.specs.declared.line.Line.TheVariants.{Command}
 use Rattle.mot_lines.specs.Export.{ExportsAskForTheirCommands, front_words, period_line, put_line}
 use Rattle.mot_lines.specs.Fields.{body_in, content_in, mime_in, name_in}
-use Rattle.mot_lines.specs.Lines.{HasNoLineEnd}
 use Rattle.mot_lines.specs.Line.{description_of, line_of, period_of, put_of, request_of}
-use Rattle.mot_lines.specs.Lines.{all_but_last, last_of, lines_of, pieces_between, rest_of, unless_empty, whole_lines}
+use Rattle.mot_lines.specs.Lines.{HasNoLineEnd, all_but_last, last_of, lines_of, pieces_between, rest_of, unless_empty, whole_lines}
 use Rattle.mot_lines.specs.Listing.{mime_word}
 use Rattle.mot_lines.specs.Words.{decimal_value, number_of_word, words_of}
 use Rattle.mot_carousel.proofs.Laws.{mime_true, name_true}

@@ -33,7 +33,8 @@ fn make_room<D: Disk>(journal: &mut Journal, disk: &mut D, given: &[Record]) -> 
     requires given { IsFull journal.old → CanBeGiven journal.old given.now }
 
     ensures keeps { Keeps (D.state disk.old) (D.state disk.new) }
-    ensures cause { OnErr result (HasCause (D.state disk.old).failures (D.state disk.new).failures result) }
+    ensures cause { OnErr result (HasCause (D.state disk.old).failures
+        (D.state disk.new).failures result) }
     ensures calm { OnOk result ((D.state disk.new).failures ≡ (D.state disk.old).failures) }
     ensures cost { Costs (calls_for_room journal.old) (D.state disk.old) (D.state disk.new) result }
     ensures fault { IfErr result (λ refusal. refusal ≡ DeviceFault) }

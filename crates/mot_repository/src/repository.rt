@@ -171,7 +171,8 @@ impl<D: Disk> Repository<D> {
         requires within { from + length out.old ≤ (extent_at self.old.view.extents place).1 }
 
         ensures keeps { KeepsLength (D.state self.old.disk) (D.state self.new.disk) }
-        ensures cause { HasCause (D.state self.old.disk).failures (D.state self.new.disk).failures result }
+        ensures cause { HasCause (D.state self.old.disk).failures
+            (D.state self.new.disk).failures result }
         ensures cost { Costs 1 (D.state self.old.disk) (D.state self.new.disk) result }
         ensures fault { IfErr result (λ refusal. refusal ≡ DeviceFault) }
         ensures view { self.new.view ≡ self.old.view }
@@ -233,7 +234,8 @@ impl<D: Disk> Repository<D> {
         requires prepared { (command : Command) × IsPrepared self.old.view command prepared }
 
         ensures keeps { Keeps (D.state self.old.disk) (D.state self.new.disk) }
-        ensures cause { HasCause (D.state self.old.disk).failures (D.state self.new.disk).failures result }
+        ensures cause { HasCause (D.state self.old.disk).failures
+            (D.state self.new.disk).failures result }
         ensures cost { (command : Command) → IsPrepared self.old.view command prepared
             → Costs (calls_of_command self.old.view.journal command)
             (D.state self.old.disk) (D.state self.new.disk) result }

@@ -26,7 +26,8 @@ fn write_body<D: Disk>(disk: &mut D, at: u64, body: &[u8]) -> Result<(), Refusal
     requires within { at + length body.now ≤ (D.state disk.old).len }
 
     ensures keeps { Keeps (D.state disk.old) (D.state disk.new) }
-    ensures cause { OnErr result (HasCause (D.state disk.old).failures (D.state disk.new).failures result) }
+    ensures cause { OnErr result (HasCause (D.state disk.old).failures
+        (D.state disk.new).failures result) }
     ensures calm { OnOk result ((D.state disk.new).failures ≡ (D.state disk.old).failures) }
     ensures cost { Costs (calls_for_body body.now) (D.state disk.old) (D.state disk.new) result }
     ensures fault { IfErr result (λ refusal. refusal ≡ DeviceFault) }

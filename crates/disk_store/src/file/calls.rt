@@ -27,7 +27,8 @@ impl<S: Start> Disk for FileDiskFrom<S> {
     fn read(&mut self, at: u64, out: &mut [u8]) -> Result<(), DiskFault>
         requires { at + length out.old ≤ (file_state self.old).len }
         ensures keeps { KeepsLength (file_state self.old) (file_state self.new) }
-        ensures cause { HasCause (file_state self.old).failures (file_state self.new).failures result }
+        ensures cause { HasCause (file_state self.old).failures
+            (file_state self.new).failures result }
         ensures called { (file_state self.new).calls ≡ (file_state self.old).calls + 1 }
         ensures unchanged { (file_state self.old).IsHonest
             → IsUnchanged (file_state self.old) (file_state self.new) }
@@ -60,7 +61,8 @@ impl<S: Start> Disk for FileDiskFrom<S> {
     fn write(&mut self, at: u64, bytes: &[u8]) -> Result<(), DiskFault>
         requires { at + length bytes.now ≤ (file_state self.old).len }
         ensures keeps { Keeps (file_state self.old) (file_state self.new) }
-        ensures cause { HasCause (file_state self.old).failures (file_state self.new).failures result }
+        ensures cause { HasCause (file_state self.old).failures
+            (file_state self.new).failures result }
         ensures called { (file_state self.new).calls ≡ (file_state self.old).calls + 1 }
         ensures range { (file_state self.old).IsHonest
             → Writes at (length bytes.now) (file_state self.old) (file_state self.new) }
@@ -96,7 +98,8 @@ impl<S: Start> Disk for FileDiskFrom<S> {
 
     fn sync(&mut self) -> Result<(), DiskFault>
         ensures keeps { Keeps (file_state self.old) (file_state self.new) }
-        ensures cause { HasCause (file_state self.old).failures (file_state self.new).failures result }
+        ensures cause { HasCause (file_state self.old).failures
+            (file_state self.new).failures result }
         ensures called { (file_state self.new).calls ≡ (file_state self.old).calls + 1 }
         ensures still { (file_state self.old).IsHonest
             → IsStill (file_state self.old) (file_state self.new) }

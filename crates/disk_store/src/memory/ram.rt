@@ -49,7 +49,8 @@ impl Disk for RamDisk {
     fn read(&mut self, at: u64, out: &mut [u8]) -> Result<(), DiskFault>
         requires { at + length out.old ≤ (ram_state self.old).len }
         ensures keeps { Keeps (ram_state self.old) (ram_state self.new) }
-        ensures cause { HasCause (ram_state self.old).failures (ram_state self.new).failures result }
+        ensures cause { HasCause (ram_state self.old).failures
+            (ram_state self.new).failures result }
         ensures called { (ram_state self.new).calls ≡ (ram_state self.old).calls + 1 }
         ensures honest { (ram_state self.new).IsHonest }
         ensures unchanged { IsUnchanged (ram_state self.old) (ram_state self.new) }

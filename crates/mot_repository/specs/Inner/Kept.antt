@@ -1,6 +1,7 @@
 -- What a repository keeps in memory, and has room for.
 use Rattle.std.specs.Prelude.{◌≡◌, map}
 use Rattle.mot_journal.specs.Catalogue.{Placed, Catalogue, extents_of}
+use Rattle.mot_repository.specs.Prepared.{IsFull}
 use Rattle.mot_repository.specs.Repository.{RepositoryView}
 use Rattle.std.specs.Prelude.{◌⊎◌, IsFalse, List}
 use Rattle.disk_store.specs.Disk.{State}
