@@ -9,13 +9,13 @@ use mot_session::serve_line;
 use std::alloc::Global;
 use std::io::Read;
 use std::test::Fail;
-use streams::{LongLine, Packets, Parts};
+use streams::{Flushing, LongLine, Packets, Parts};
 
 /// A server on a disk in memory.
 type Server = mot_server::Server<MemoryDisk>;
 
-/// A server with packets of 24 bytes and no object.
-fn new_server(alloc: Global) -> Result<Server, Refusal> {
+/// A disk with packets of 24 bytes and no object.
+fn new_disk(alloc: Global) -> Result<MemoryDisk, Refusal> {
     let geometry = Geometry {
         packet_length: 24,
         ..Geometry::default()
@@ -24,10 +24,27 @@ fn new_server(alloc: Global) -> Result<Server, Refusal> {
         return Err(Refusal::OutOfMemory);
     };
     format(&mut disk, &geometry)?;
+    Ok(disk)
+}
+
+/// An open server, or why it was refused.
+fn open(alloc: Global, disk: MemoryDisk) -> Result<Server, Refusal> {
     match Server::open(alloc, disk) {
         Ok(server) => Ok(server),
         Err(refused) => Err(refused.refusal),
     }
+}
+
+/// A server on such a disk.
+fn new_server(alloc: Global) -> Result<Server, Refusal> {
+    open(alloc, new_disk(alloc)?)
+}
+
+/// Such a server, the first sync of which fails: the third call behind the three of opening.
+fn failing_server(alloc: Global) -> Result<Server, Refusal> {
+    let mut disk = new_disk(alloc)?;
+    disk.fail_at(6);
+    open(alloc, disk)
 }
 
 /// What became of a feed: the log, and the bytes of the packets.
@@ -66,6 +83,21 @@ fn by_hand(alloc: Global, server: Server, line: &[u8], count: u64) -> Result<Fed
     })
 }
 
+/// The log of one update, and what ended it.
+fn ended(
+    alloc: Global,
+    server: Server,
+    lines: &[u8],
+) -> Result<(Vec<u8>, Option<Refusal>), Refusal> {
+    let mut server = server;
+    let parts = [lines];
+    let reader = Parts::new(parts.as_slice());
+    let mut lines = Lines::new(alloc, reader, Flushing::new(alloc), 1, NoUpdate)?;
+    let end = lines.update(&mut server, alloc, true).err();
+    let Lines { log, .. } = lines;
+    Ok((log.writer.flushed, end))
+}
+
 /// The log of so many updates, and the reader behind them.
 fn updated<R: Read + Drop>(
     alloc: Global,
@@ -75,7 +107,7 @@ fn updated<R: Read + Drop>(
     count: u32,
 ) -> Result<(Vec<u8>, R), Refusal> {
     let mut server = server;
-    let mut lines = Lines::new(alloc, reader, Vec::new(alloc), every, NoUpdate)?;
+    let mut lines = Lines::new(alloc, reader, Flushing::new(alloc), every, NoUpdate)?;
     for _ in 0..count {
         lines.update(&mut server, alloc, false)?;
     }
@@ -84,7 +116,7 @@ fn updated<R: Read + Drop>(
         reader,
         ..
     } = lines;
-    Ok((writer, reader))
+    Ok((writer.flushed, reader))
 }
 
 const PUT: &[u8] = b"put a 2 3 image/png 0102030405";
@@ -141,6 +173,16 @@ fn worked_lines(rt: HostRuntime) -> Result<(), Fail> {
         let (log, _) = updated(alloc, new_server(alloc)?, reader, 1, 5)?;
         assert_eq!(rt; log.as_slice(), told);
     }
+    Ok(())
+}
+
+// A fault of the disk is told and ends it, and the line behind is not answered.
+#[test]
+fn a_device_fault_ends_it(rt: HostRuntime) -> Result<(), Fail> {
+    let alloc = rt.alloc();
+    let (log, end) = ended(alloc, failing_server(alloc)?, b"put a 2 3 - 00\nlist\n")?;
+    assert_eq!(rt; log.as_slice(), b"refused 15 DeviceFault\n".as_slice());
+    assert_eq!(rt; end, Some(Refusal::DeviceFault));
     Ok(())
 }
 

@@ -1,7 +1,7 @@
 //! Readers that do not wait, and an outlet in memory.
 use mot_feed::Outlet;
 use std::alloc::Global;
-use std::io::{self, ErrorKind, Read};
+use std::io::{self, ErrorKind, Read, Write};
 
 /// Gives one part at each read; nothing is there where a part is empty, and behind the last.
 #[derive(Drop)]
@@ -51,6 +51,35 @@ impl Read for LongLine {
         self.is_ended = true;
         let mut end = b"\nlist\n".as_slice();
         end.read(buf)
+    }
+}
+
+/// Keeps what was written, and what of it was flushed.
+#[derive(Drop)]
+pub struct Flushing {
+    pending: Vec<u8>,
+    pub flushed: Vec<u8>,
+}
+
+impl Flushing {
+    pub fn new(alloc: Global) -> Flushing {
+        Flushing {
+            pending: Vec::new(alloc),
+            flushed: Vec::new(alloc),
+        }
+    }
+}
+
+impl Write for Flushing {
+    fn write(&mut self, buf: &[u8]) -> io::Result<usize> {
+        self.pending.extend_from_slice(buf)?;
+        Ok(buf.len())
+    }
+
+    fn flush(&mut self) -> io::Result<()> {
+        self.flushed.extend_from_slice(&self.pending)?;
+        self.pending.clear();
+        Ok(())
     }
 }
 
