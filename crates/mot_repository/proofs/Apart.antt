@@ -112,13 +112,14 @@ tids objects = map (λ (p : Placed). p.object.tid) objects
 abbrev ids : List Object → List ℕ
 ids os = map (λ (o : Object). o.tid) os
 
+-- objects and their extents are consistent where the ids differ and the extents are apart
 pub consistent_parts : (os : List Object) (es : List (ℕ × ℕ)) → HaveLengths os es
     → are_consistent (objects_in os es) ≡ (is_distinct (ids os) && are_extents_apart es)
 consistent_parts os es l =
     ap (λ l. is_distinct l && are_all_apart (objects_in os es)) (ids_in os es l)
     ∙ ap (λ t. is_distinct (ids os) && t) (apart_in os es l)
 
--- the objects without one
+-- the objects without the one of a place: what their being consistent says, and when they are
 module _ (os : List Object) (es : List (ℕ × ℕ)) (l : HaveLengths os es) (i : ℕ) where
   others-parts : are_consistent (objects_in (remove os i) (remove es i)) ≡ true
       → (is_distinct (ids (remove os i)) ≡ true) × (are_extents_apart (remove es i) ≡ true)
@@ -140,7 +141,7 @@ module _ (os : List Object) (es : List (ℕ × ℕ)) (l : HaveLengths os es) (i 
       (distinct-pairs (remove os i) ∙ pairwise_without differ differ-both-ways os i o lt (sym (distinct-pairs os) ∙ h.0))
       (apart-pairs (remove es i) ∙ pairwise_without beside beside-both-ways es i (0, 0) (omega (arith, lt, count)) (sym (apart-pairs es) ∙ h.1))
 
--- one object in its place
+-- with another object in a place, all but this place are consistent as they were
 pub consistent_but_set : (os : List Object) (es : List (ℕ × ℕ)) (i : ℕ) (o : Object) (e : ℕ × ℕ) → HaveLengths os es → i < length os
     → are_consistent (objects_in os es) ≡ true
     → are_consistent (objects_in (remove (set os i o) i) (remove (set es i e) i)) ≡ true
@@ -149,7 +150,7 @@ consistent_but_set os es i o e l lt is =
     ∙ ap (λ (fs : List (ℕ × ℕ)). are_consistent (objects_in (remove os i) fs)) (remove_set es i e)
     ∙ others_consistent os es l i o lt is
 
--- one object behind the others
+-- and with one more object behind the others
 pub consistent_but_last : (os : List Object) (es : List (ℕ × ℕ)) (o : Object) (e : ℕ × ℕ) → HaveLengths os es
     → are_consistent (objects_in os es) ≡ true
     → are_consistent (objects_in (remove (os ++ o ∷ []) (length os)) (remove (es ++ e ∷ []) (length os))) ≡ true
@@ -161,6 +162,7 @@ consistent_but_last os es o e l is =
 
 -- ---- what a change made, where it is consistent
 
+-- a change that answers whether its objects are consistent did what it may
 pub done_where : (done : Bool) (objects : List Placed) → done ≡ are_consistent objects → if_done done objects ≡ if_consistent (Some objects)
 done_where true objects e = ap (λ t. cond t (Some objects) None) e
 done_where false objects e = ap (λ t. cond t (Some objects) None) e
@@ -222,9 +224,11 @@ module _ (limit : ℕ) (c : Catalogue) (r : Record) (os : List Object) (es : Lis
       ∙ ap (λ t. (not has-directory && true) && t) h.1
       ∙ and-true (not has-directory && true) ∙ and-true (not has-directory)
 
+  -- no object has the directory's id: that is the next catalogue
   pub goes_on : has-directory ≡ false → catalogue_after limit c r ≡ Some (numbered r (objects_in os es))
   goes_on e = step_from limit c r (objects_in os es) kept.is (consistent-where ∙ ap not e)
 
+  -- one has: the record makes a fault of the list
   pub breaks : has-directory ≡ true → catalogue_after limit c r ≡ None
   breaks e =
       ap (λ o. o >>= λ k. cond (is_consistent (numbered r k)) (Some (numbered r k)) None) kept.is

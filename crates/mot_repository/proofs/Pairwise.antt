@@ -66,6 +66,7 @@ module _ {A : Type 0} (related : A → A → Bool) (both_ways : (x y : A) → re
       ∙ ap (λ t. t && are_pairwise (take i xs ++ drop (suc i) xs)) (list_all-append (related x) (take i xs) (drop (suc i) xs))
       ∙ ap (λ l. (list_all (related x) (take i xs) && list_all (related x) (drop (suc i) xs)) && are_pairwise l) (sym (remove_parts xs i lt))
 
+  -- what holds of all pairs holds of those without an element
   pub pairwise_without : (xs : List A) (i : ℕ) (d : A) → i < length xs → are_pairwise xs ≡ true → are_pairwise (remove xs i) ≡ true
   pairwise_without xs i d lt e =
       let x = get_or xs i d in
