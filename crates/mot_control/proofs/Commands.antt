@@ -9,13 +9,14 @@ use Rattle.mot_base.specs.declared.refusal.Refusal.TheVariants.{DeviceFault, Hal
 use Rattle.mot_carousel.specs.declared.command.Command.{Command}
 use Rattle.mot_carousel.specs.declared.command.Done.{Done}
 use Rattle.mot_control.specs.Answering.{is_want_of_memory, run_of}
-use Rattle.mot_control.specs.Inner.Request.{end_of, reply_of}
+use Rattle.mot_control.specs.Inner.Request.{done_of, end_of, reply_of}
 use Rattle.mot_journal.specs.Image.{Standing}
 use Rattle.mot_lines.specs.Text.{done_line, refusal_line}
 use Rattle.mot_lines.specs.declared.line.Line.TheVariants as asks
 use Rattle.mot_repository.specs.Answers.{IsAnswered}
 use Rattle.mot_repository.specs.Repository.{RepositoryView}
 use Rattle.mot_server.specs.Attempts as attempts
+use Rattle.mot_server.specs.Runs.{accepted_commands}
 use Rattle.mot_server.specs.Server.{ServerView}
 use Rattle.mot_server.specs.declared.running.Attempt.{Attempt}
 use Rattle.mot_server.specs.declared.running.Attempt.TheVariants.{Accepted, Refused}
@@ -57,8 +58,9 @@ fault_wants_none = refl
 
 module _ {D : Type 0} (old new : ServerView D) (start now : State) (s : Standing)
     (c : Command) where
-  abbrev Ran : Bool → Option Refusal → Type 0
-  Ran wanted fault = (marks : List Bool)
+  abbrev Ran : Bool → List Command → Option Refusal → Type 0
+  Ran wanted done fault = (marks : List Bool)
+      × (accepted_commands (if wanted then [] else c ∷ []) marks ≡ done)
       × HasRun old new start now s (if wanted then [] else c ∷ []) marks fault
 
   -- a command that was refused, and one that memory was wanted for, is none
@@ -97,22 +99,22 @@ module _ {D : Type 0} (old new : ServerView D) (start now : State) (s : Standing
   }
 
   refused_either : (wanted : Bool) → HasRun old new start now s (c ∷ []) (false ∷ []) None
-      → Ran wanted None
-  refused_either true run = ([], none_refused run)
-  refused_either false run = (false ∷ [], run)
+      → Ran wanted [] None
+  refused_either true run = ([], refl, none_refused run)
+  refused_either false run = (false ∷ [], refl, run)
 
   abbrev RanSo : Refusal → Type 0
   RanSo refusal = HasRun old new start now s (c ∷ []) [] (Some refusal)
-      → Ran (is_want_of_memory (refusal_line refusal)) (end_of (Err refusal))
+      → Ran (is_want_of_memory (refusal_line refusal)) [] (end_of (Err refusal))
 
   halted_so : RanSo Halted
-  halted_so run = subst (λ b. Ran b (Some Halted)) (sym halted_wants_none) ([], run)
+  halted_so run = subst (λ b. Ran b [] (Some Halted)) (sym halted_wants_none) ([], refl, run)
 
   device_so : RanSo DeviceFault
-  device_so run = subst (λ b. Ran b (Some DeviceFault)) (sym fault_wants_none) ([], run)
+  device_so run = subst (λ b. Ran b [] (Some DeviceFault)) (sym fault_wants_none) ([], refl, run)
 
   memory_so : RanSo OutOfMemory
-  memory_so run = subst (λ b. Ran b None) (sym wants) ([], none_wanted run)
+  memory_so run = subst (λ b. Ran b [] None) (sym wants) ([], refl, none_wanted run)
 
   fault_so : (refusal : Refusal) → IsUpdateFault old start now refusal → RanSo refusal
   fault_so refusal (fault.halted is e same) = subst RanSo (sym e) halted_so
@@ -122,9 +124,11 @@ module _ {D : Type 0} (old new : ServerView D) (start now : State) (s : Standing
   pub ran : (r : Result Attempt Refusal) → TellsFaults old new start now r
       → HasRun old new start now s (c ∷ []) (attempts.marks_of r) (attempts.fault_of r)
       → (marks : List Bool)
+      × (accepted_commands (run_of (Ok (asks.Command c)) (reply_of r)) marks
+      ≡ done_of (Ok (asks.Command c)) (reply_of r))
       × HasRun old new start now s (run_of (Ok (asks.Command c)) (reply_of r)) marks (end_of r)
   ran (Ok (Accepted done)) tells run =
-      subst (λ b. Ran b None) (sym (wants_none done)) (true ∷ [], run)
+      subst (λ b. Ran b (c ∷ []) None) (sym (wants_none done)) (true ∷ [], refl, run)
   ran (Ok (Refused refusal)) tells run =
       refused_either (is_want_of_memory (refusal_line refusal)) run
   ran (Err refusal) tells run = fault_so refusal tells run

@@ -1,19 +1,21 @@
 -- What one request comes to.
 use Rattle.std.proofs.Common.{◌≡◌, inl, inr, ℕ, Bool, true, false, List, [], Option}
-use Rattle.std.proofs.Common.{None, Result, Ok, Err, refl, sym, ap, subst, ◌∙◌}
+use Rattle.std.proofs.Common.{◌∷◌, None, Result, Ok, Err, refl, sym, ap, subst, ◌∙◌}
 use Rattle.std.specs.Prelude.{if◌then◌else◌}
 use Rattle.disk_store.specs.Disk.{State, IsHonestDisk}
 use Rattle.mot_base.specs.declared.refusal.Refusal.{Refusal}
 use Rattle.mot_base.specs.declared.refusal.Refusal.TheVariants.{OutOfMemory}
 use Rattle.mot_carousel.specs.declared.command.Command.{Command}
 use Rattle.mot_control.specs.Answering.{asked_here, is_want_of_memory, run_of}
-use Rattle.mot_control.specs.Inner.Request.{Answers, Tells}
+use Rattle.mot_control.specs.Inner.Request.{Answers, Tells, done_of}
 use Rattle.mot_lines.specs.Line.{IsParsed, NeedsMemory}
 use Rattle.mot_lines.specs.Text.{refusal_line}
 use Rattle.mot_lines.specs.declared.line.Line.{Line}
 use Rattle.mot_lines.specs.declared.line.Line.TheVariants as asks
 use Rattle.mot_repository.specs.Repository.{RepositoryView}
+use Rattle.mot_server.specs.Runs.{accepted_commands}
 use Rattle.mot_server.specs.Server.{ServerView}
+use Rattle.mot_session.specs.Life.{is_done}
 use Rattle.mot_session.specs.OnAnyDisk.{AnswersAnyhow, read_only}
 use Rattle.mot_session.specs.OnAnyDisk as anyhow
 use Rattle.mot_session.specs.Session.{NeedsCarousel}
@@ -42,6 +44,15 @@ none_either : (wanted : Bool) (commands : List Command) → commands ≡ []
 none_either true commands none = refl
 none_either false commands none = none
 
+done_either : (done : Bool) (commands : List Command) → commands ≡ []
+    → (if done then commands else []) ≡ []
+done_either true commands none = none
+done_either false commands none = refl
+
+accepted_none : (commands : List Command) → accepted_commands commands [] ≡ []
+accepted_none [] = refl
+accepted_none (c ∷ commands) = refl
+
 runs_none : (request : Result Line Refusal) (text : List ℕ) → run_of (read_only request) text ≡ []
 runs_none request text =
     none_either (is_want_of_memory text) (command_in (read_only request)) (reads_none request)
@@ -61,6 +72,9 @@ shown state server request was_told is_told written now sound same told =
       reply = told.1;
       run = λ s holds honest. (
         [],
+        accepted_none (run_of (read_only request) told.0)
+            ∙ sym (done_either (is_done told.0) (command_in (read_only request))
+            (reads_none request)),
         subst (λ l. HasRun server server (state server.disk) (state server.disk) s l [] None)
             (sym (runs_none request told.0))
             (has_read server server (state server.disk) (state server.disk) s None (sound honest)
@@ -118,6 +132,16 @@ same_run old new before now text request asked (inr e) reply =
     ap (λ b. if b then [] else command_in request) is
     ∙ sym (ap (λ b. if b then [] else command_in asked) is)
 
+same_done : (old new : RepositoryView) (before now : ℕ) (text : List ℕ)
+    (request asked : Result Line Refusal) → IsParsed request asked
+    → AnswersAnyhow old new before now request text → done_of request text ≡ done_of asked text
+same_done old new before now text request asked (inl e) reply = ap (λ r. done_of r text) e
+same_done old new before now text request asked (inr e) reply =
+    let is : is_done text ≡ false =
+    ap is_done (unparsed_text old new before now text request e.0 reply) in
+    ap (λ b. if b then command_in request else []) is
+    ∙ sym (ap (λ b. if b then command_in asked else []) is)
+
 pub parsed : {D : Type 0} (state : D → State) (old new : ServerView D)
     (request asked : Result Line Refusal) (fault : Option Refusal) (was_told is_told : Bool)
     (written now : Option (List ℕ)) → IsParsed request asked
@@ -130,11 +154,16 @@ parsed state old new request asked fault was_told is_told written now is a =
       reply = answers-parsed old.view new.view (state old.disk).failures (state new.disk).failures
           a.text (asked_here request) (asked_here asked) here a.reply;
       run = λ s holds honest.
-          let run = a.run s holds honest in (
+          let run = a.run s holds honest in
+          let same = same_run old.view new.view (state old.disk).failures (state new.disk).failures
+          a.text (asked_here request) (asked_here asked) here a.reply in (
             run.0,
+            ap (λ l. accepted_commands l run.0) (sym same) ∙ run.1
+                ∙ same_done old.view new.view (state old.disk).failures
+                (state new.disk).failures a.text (asked_here request) (asked_here asked) here
+                a.reply,
             subst (λ l. HasRun old new (state old.disk) (state new.disk) s l run.0 fault)
-                (same_run old.view new.view (state old.disk).failures (state new.disk).failures
-                a.text (asked_here request) (asked_here asked) here a.reply) run.1,
+                same run.2,
           );
       log = a.log;
     }

@@ -1,6 +1,7 @@
 -- What the lines of an input come to.
 use Rattle.std.proofs.Common.{◌≡◌, ◌∙◌, ℕ, Bool, List, [], ◌∷◌, ◌++◌, map, Option, None}
 use Rattle.std.proofs.Common.{refl, sym, ap, subst, append_assoc, append-nil, arith}
+use Rattle.std.specs.Prelude.{if◌then◌else◌, Result, Ok, Err}
 use Rattle.std.specs.List.{flat_map}
 use Rattle.std.specs.Io.KnownBytes.{Appends, Keeps}
 use Rattle.std.proofs.KnownBytes.{Appends-nil, Appends-trans, Consumes-kept, Consumes-nil}
@@ -11,14 +12,19 @@ use Rattle.disk_store.specs.Disk.{State, IsHonestDisk}
 use Rattle.mot_base.specs.declared.refusal.Refusal.{Refusal}
 use Rattle.mot_control.specs.Answering.{AnswersMore, AreReplies, TakesMore, asked_here}
 use Rattle.mot_control.specs.Answering.{commands_run, run_in}
-use Rattle.mot_control.specs.Inner.Request.{Answers}
+use Rattle.mot_control.specs.Inner.Request.{Answers, done_of}
 use Rattle.mot_lines.specs.Hand.{bytes_in_hand}
 use Rattle.mot_lines.specs.Line.{line_of}
 use Rattle.mot_lines.specs.Lines.{rest_of, whole_lines}
 use Rattle.mot_lines.proofs.Laws.{whole_lines-end, whole_lines-front}
+use Rattle.mot_lines.specs.declared.line.Line.{Line}
+use Rattle.mot_lines.specs.declared.line.Line.TheVariants as asks
+use Rattle.mot_server.proofs.Laws.{accepted-join}
+use Rattle.mot_server.specs.Runs.{accepted_commands}
 use Rattle.mot_server.specs.Server.{ServerView}
-use Rattle.mot_session.specs.Life.{Told}
+use Rattle.mot_session.specs.Life.{Told, commands_done, done_in, is_done}
 use Rattle.mot_session.specs.OnAnyDisk.{AnswersAnyhow}
+use Rattle.mot_session.specs.Stored.{command_in}
 use Rattle.mot_update.specs.HasRun.{HasRun}
 use Rattle.mot_update.proofs.Runs.{has_read, join}
 use Rattle.mot_update.proofs.Still.{stays_same}
@@ -67,6 +73,20 @@ lines-push before extra told t =
     ∙ ap (λ l. (before ++ l) ++ extra)
     (sym (map-append (λ (u : Told). u.line) told (t ∷ [])))
 
+same_command : (request : Result Line Refusal)
+    → command_in (asked_here request) ≡ command_in request
+same_command (Err refusal) = refl
+same_command (Ok (asks.Command c)) = refl
+same_command (Ok asks.List) = refl
+same_command (Ok (asks.Raw kind tid body)) = refl
+same_command (Ok (asks.Next count)) = refl
+same_command (Ok asks.Turn) = refl
+
+done_here : (line text : List ℕ) → done_of (asked_here (line_of line)) text
+    ≡ (if is_done text then command_in (line_of line) else [])
+done_here line text =
+    ap (λ l. if is_done text then l else []) (same_command (line_of line))
+
 module _ {D : Type 0} (state : D → State) where
   replies-push : (old mid new : ServerView D) (told : List Told) (t : Told)
       → AreReplies state old told mid
@@ -96,6 +116,7 @@ module _ {D : Type 0} (state : D → State) where
     replies = refl;
     run = λ s holds honest. (
       [],
+      refl,
       (has_read server server (state server.disk) (state server.disk) s None (sound honest) refl
           refl honest (stays_same (state server.disk)) holds).0,
     );
@@ -142,13 +163,19 @@ module _ {D : Type 0} (state : D → State) where
         replies = replies-push old mid new more.told t more.replies one.reply;
         run = λ s holds honest.
             let first = more.run s holds (was honest) in
-            let second = one.run first.1.leaves.last (first.1.leaves.going refl) honest in (
+            let second = one.run first.2.leaves.last (first.2.leaves.going refl) honest in (
               first.0 ++ second.0,
+              ap (λ l. accepted_commands l (first.0 ++ second.0)) (flat_map-push run_in more.told t)
+                  ∙ accepted-join (commands_run more.told) (run_in t) first.0 second.0
+                  (first.2.whole refl)
+                  ∙ ap (λ l. l ++ accepted_commands (run_in t) second.0) first.1
+                  ∙ ap (λ l. commands_done more.told ++ l) (second.1 ∙ done_here line one.text)
+                  ∙ sym (flat_map-push done_in more.told t),
               subst (λ l. HasRun old new (state old.disk) (state new.disk) s l
                   (first.0 ++ second.0) fault)
                   (sym (flat_map-push run_in more.told t))
                   (join old mid new (state old.disk) (state mid.disk) (state new.disk) s
-                  (commands_run more.told) (run_in t) first.0 second.0 fault first.1 second.1),
+                  (commands_run more.told) (run_in t) first.0 second.0 fault first.2 second.2),
             );
         log = λ e.
             let last = one.log e in

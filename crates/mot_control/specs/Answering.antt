@@ -16,8 +16,9 @@ use Rattle.mot_lines.specs.Text.{refusal_line}
 use Rattle.mot_lines.specs.declared.line.Line.{Line}
 use Rattle.mot_lines.specs.declared.line.Line.TheVariants.{Command}
 use Rattle.mot_repository.specs.Repository.{Holds}
+use Rattle.mot_server.specs.Runs.{accepted_commands}
 use Rattle.mot_server.specs.Server.{ServerView}
-use Rattle.mot_session.specs.Life.{Told}
+use Rattle.mot_session.specs.Life.{Told, commands_done}
 use Rattle.mot_session.specs.OnAnyDisk.{AnswersAnyhow, read_only}
 use Rattle.mot_session.specs.Stored.{command_in}
 use Rattle.mot_session.specs.declared.serving.TheConstants.{READ_SIZE}
@@ -52,7 +53,8 @@ module _ {D : Type 0} (state : D → State) where
       × AreReplies mid told new
 
   -- Of an input that was taken before, each line that has ended since was answered, up to a fault;
-  -- their commands were run, and, where each reply was told, the log has them.
+  -- their commands were run, of which those were accepted whose replies say so; and, where each
+  -- reply was told, the log has them.
   pub record AnswersMore (old new : ServerView D) (before after : List ℕ) (fault : Option Refusal)
       (was_told is_told : Bool) (written now : Option (List ℕ)) : Type 0 where
     pub told : List Told
@@ -63,6 +65,7 @@ module _ {D : Type 0} (state : D → State) where
     pub replies : AreReplies old told new
     pub run : (s : Standing) → Holds old.view s (state old.disk) → (state new.disk).IsHonest
         → (marks : List Bool)
+        × (accepted_commands (commands_run told) marks ≡ commands_done told)
         × HasRun old new (state old.disk) (state new.disk) s (commands_run told) marks fault
     pub log : is_told ≡ true → (was_told ≡ true)
         × Appends written now (flat_map (λ (t : Told). t.text) told)

@@ -27,9 +27,10 @@ returns-clause-answered g c =
           (answered_one old new (state old.disk) (state new.disk) s command attempt
           (is.leaves s holds) is.layout (λ last. is.place s last holds)) in (
             run.0,
+            run.1,
             subst (λ f. HasRun old new (state old.disk) (state new.disk) s
                 (run_of (Ok (asks.Command command)) (reply_of attempt)) run.0 f)
-                (sym c.ended.ensures) run.1,
+                (sym c.ended.ensures) run.2,
           );
       log = rw (c.as_slice-2.ensures.value, c.reply_text.ensures) at c.tell-2.ensures.told;
     }

@@ -14,4 +14,4 @@ returns-clause-run g c = λ s holds honest.
     let answered = c.answer_request.ensures.answered in
     let run = answered.run s holds honest in
     updating_by g.D.Disk.state c.args.server.now c.answer_request.new.server s
-    (run_of (asked_here c.parse-request.result) answered.text) run.0 _ run.1
+    (run_of (asked_here c.parse-request.result) answered.text) run.0 _ run.2
