@@ -52,8 +52,14 @@ fn suffixes_tell_types(rt: HostRuntime) -> Result<(), Fail> {
 #[test]
 fn suffixes_are_added(rt: HostRuntime) -> Result<(), Fail> {
     let mut types = FileTypes::new(rt.alloc())?;
-    types.add(rt.alloc(), b"# of our own\n\nsvg 2 0 image/svg+xml\npng 2 9 a/b\nPNG 2 8 c/d")?;
-    assert_eq!(rt; told_of(&rt, &types, b"a.SVG")?.as_str(), "2 0 image/svg+xml");
+    types.add(
+        rt.alloc(),
+        b"# of our own\n\nsvg 2 0 image/svg+xml\npng 2 9 a/b\nPNG 2 8 c/d",
+    )?;
+    assert_eq!(rt;
+        told_of(&rt, &types, b"a.SVG")?.as_str(),
+        "2 0 image/svg+xml"
+    );
     assert_eq!(rt; told_of(&rt, &types, b"a.png")?.as_str(), "2 8 c/d");
     let wrong: [(&[u8], Refusal); 7] = [
         (b"svg 2 0", Refusal::BadLine),
