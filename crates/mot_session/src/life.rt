@@ -93,9 +93,9 @@ pub struct ServedOn<E: Disk> {
 }
 
 /// One more life: serves the reader's lines on a disk that `format_and_open` made, and that may have
-/// been served and crashed and opened by this function since, any number of times. A crash comes at any moment, as
-/// in `format_serve_and_restart`; `left` is any disk that reads as an image which it may have left.
-/// It is opened, and its first turn is played: so it has another life before it.
+/// been served and crashed and opened by this function since, any number of times. A crash comes at
+/// any moment, as in `format_serve_and_restart`; `left` is any disk that reads as an image which it
+/// may have left. It is opened, and its first turn is played: so it has another life before it.
 ///
 /// Whatever the lives were, the packets of each first turn read as exactly the carousel that the
 /// commands done make of the new one: those done when the life before began, then those of its
