@@ -16,10 +16,10 @@ path_rule name = record (new_rule name) {
   value_names = 1;
 }
 
--- a number of 32 bits
-abbrev pub turns_rule : Rule
-turns_rule = record (new_rule (codes "turns")) {
-  long = Some (codes "turns");
+-- an option that is a number of 32 bits
+abbrev pub number_rule : Text → Rule
+number_rule name = record (new_rule name) {
+  long = Some name;
   action = Some Set;
   value_names = 1;
   parser = Some (Signed (pos 0) (pos 4294967295));
@@ -27,9 +27,10 @@ turns_rule = record (new_rule (codes "turns")) {
 
 abbrev pub play_app : App
 play_app =
-    with_rule (with_rule (with_rule (with_rule (with_rule (new_app (codes "play"))
-    (word_rule (codes "DISK"))) (word_rule (codes "PACKETS"))) (path_rule (codes "folder")))
-    (path_rule (codes "types"))) turns_rule
+    with_rule (with_rule (with_rule (with_rule (with_rule (with_rule (with_rule
+    (new_app (codes "play")) (word_rule (codes "DISK"))) (word_rule (codes "PACKETS")))
+    (path_rule (codes "folder"))) (path_rule (codes "types"))) (path_rule (codes "lines")))
+    (number_rule (codes "every"))) (number_rule (codes "turns"))
 
 abbrev pub sync_app : App
 sync_app =

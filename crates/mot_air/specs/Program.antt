@@ -1,5 +1,6 @@
 -- What the commands on air do.
-use Rattle.std.specs.Prelude.{ℕ, ◌≡◌, ◌⊎◌, ◌↔◌, true, false, List, length, Option, Some, None, codes}
+use Rattle.std.specs.Prelude.{ℕ, ◌≡◌, ◌⊎◌, ◌↔◌, Bool, true, false, List, length, Option, Some, None}
+use Rattle.std.specs.Prelude.{codes, is_none}
 use Rattle.std.specs.Io.KnownBytes.{Keeps}
 use Rattle.clap.specs.Words.{Text}
 use Rattle.disk_store.specs.Calls.{opening_calls}
@@ -38,13 +39,13 @@ IsTarget path target = (path ≡ codes "-") ↔ (target ≡ Output)
 
 -- why a disk was not played as it should be, in the turns that are asked for: playing stopped; or all
 -- was played, and the file did not take its place
-pub data FailsPlaying (target : Target) (turns : Option ℕ) (refusal : Refusal) (start now : State) :
-    Type 0 where
-  stopped : StopsPlaying refusal true None None start now
-      → FailsPlaying target turns refusal start now
+pub data FailsPlaying (target : Target) (waits : Bool) (turns : Option ℕ) (refusal : Refusal)
+    (start now : State) : Type 0 where
+  stopped : StopsPlaying refusal waits None None start now
+      → FailsPlaying target waits turns refusal start now
   unplaced : target ≡ File → refusal ≡ WriteFault
-      → Plays true (turns_of target turns) None None start now
-      → FailsPlaying target turns refusal start now
+      → Plays waits (turns_of target turns) None None start now
+      → FailsPlaying target waits turns refusal start now
 
 -- The file held the bytes of `start` as it was opened. These are words of contracts alone: what
 -- holds for each `start` holds for what the file really held.
@@ -68,21 +69,21 @@ module _ {S : Type 0} {start : Ghosts S} where
   OnOpened P (Opened disk) = SinceOpened P disk
 
   -- the disk was played into what this path names; or was not as it should be
-  abbrev pub PlaysTo : Text → Option ℕ → AirDisk S start → Type 0
-  PlaysTo path turns used =
+  abbrev pub PlaysTo : Text → (waits : Bool) → Option ℕ → AirDisk S start → Type 0
+  PlaysTo path waits turns used =
       (target : Target) × IsTarget path target
-      × OnOpened (Plays true (turns_of target turns) None None) used
+      × OnOpened (Plays waits (turns_of target turns) None None) used
 
-  abbrev pub StopsPlayingTo : Text → Option ℕ → Refusal → AirDisk S start → Type 0
-  StopsPlayingTo path turns r used =
-      (target : Target) × IsTarget path target × OnOpened (FailsPlaying target turns r) used
+  abbrev pub StopsPlayingTo : Text → (waits : Bool) → Option ℕ → Refusal → AirDisk S start → Type 0
+  StopsPlayingTo path waits turns r used =
+      (target : Target) × IsTarget path target × OnOpened (FailsPlaying target waits turns r) used
 
   -- In these the writer's known bytes were old and are new. Of what a pipe, a device or a file takes
   -- no contract tells.
 
-  -- the task was done
+  -- the task was done; where no lines are given, no command came within a turn
   abbrev pub Does : Task → AirDisk S start → (old new : Option (List ℕ)) → Type 0
-  Does (Play disk packets folder types turns) used old new = PlaysTo packets.now turns used
+  Does (Play p) used old new = PlaysTo p.packets.now (is_none p.lines) p.turns used
   Does (Sync disk folder types) used old new = OnOpened (Syncs true folder.now old new) used
   Does (Export disk) used old new = OnOpened (Exports old new) used
   Does (Inspect disk) used old new = OnOpened (Inspects old new) used
@@ -90,9 +91,9 @@ module _ {S : Type 0} {start : Ghosts S} where
   -- the task was begun, and this refusal ended it; or a file was refused, with none
   abbrev pub DoesInPart : Task → Option Refusal → AirDisk S start → (old new : Option (List ℕ))
       → Type 0
-  DoesInPart (Play disk packets folder types turns) None used old new = ⊥
-  DoesInPart (Play disk packets folder types turns) (Some r) used old new =
-      StopsPlayingTo packets.now turns r used
+  DoesInPart (Play p) None used old new = ⊥
+  DoesInPart (Play p) (Some r) used old new =
+      StopsPlayingTo p.packets.now (is_none p.lines) p.turns r used
   DoesInPart (Sync disk folder types) None used old new =
       OnOpened (Syncs false folder.now old new) used
   DoesInPart (Sync disk folder types) (Some r) used old new =
@@ -111,11 +112,14 @@ module _ {S : Type 0} {start : Ghosts S} where
 abbrev pub IsUntyped : Refusal → Type 0
 IsUntyped r = (r ≡ ReadFault) ⊎ IsTypesRefusal r
 
--- why a task is not begun: there is no table of suffixes, or the disk, or what is to take the
--- packets, can't be opened
+-- why there are no lines: their folder is none, or there is no memory for a line
+abbrev pub IsUnlined : Refusal → Type 0
+IsUnlined r = (r ≡ ReadFault) ⊎ (r ≡ OutOfMemory)
+
+-- why a task is not begun: there is no table of suffixes, or no folder of lines, or the disk, or what
+-- is to take the packets, can't be opened
 abbrev pub IsBeginningRefusal : Task → Refusal → Type 0
-IsBeginningRefusal (Play disk packets folder types turns) r =
-    IsUntyped r ⊎ (r ≡ DeviceFault) ⊎ (r ≡ WriteFault)
+IsBeginningRefusal (Play p) r = IsUntyped r ⊎ IsUnlined r ⊎ (r ≡ DeviceFault) ⊎ (r ≡ WriteFault)
 IsBeginningRefusal (Sync disk folder types) r = IsUntyped r ⊎ (r ≡ DeviceFault)
 IsBeginningRefusal (Export disk) r = r ≡ DeviceFault
 IsBeginningRefusal (Inspect disk) r = r ≡ DeviceFault

@@ -31,11 +31,12 @@ NameOption rows name word =
 
 -- a command of this name, with these words behind it, is this task
 abbrev pub IsTask : Text → List Row → Task → Type 0
-IsTask name rows (Play disk packets folder types turns) =
-    (name ≡ codes "play") × NameWord rows (codes "DISK") disk.now
-    × NameWord rows (codes "PACKETS") packets.now
-    × NameOption rows (codes "folder") folder × NameOption rows (codes "types") types
-    × IsGiven (first_of (codes "turns") rows) turns
+IsTask name rows (Play p) =
+    (name ≡ codes "play") × NameWord rows (codes "DISK") p.disk.now
+    × NameWord rows (codes "PACKETS") p.packets.now
+    × NameOption rows (codes "folder") p.folder × NameOption rows (codes "types") p.types
+    × NameOption rows (codes "lines") p.lines × IsGiven (first_of (codes "every") rows) p.every
+    × IsGiven (first_of (codes "turns") rows) p.turns
 IsTask name rows (Sync disk folder types) =
     (name ≡ codes "sync") × NameWord rows (codes "DISK") disk.now
     × NameWord rows (codes "DIR") folder.now × NameOption rows (codes "types") types

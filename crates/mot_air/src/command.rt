@@ -3,7 +3,7 @@ ghost use Rattle.std.specs.Prelude.{◌≡◌, codes, false, IfOk};
 ghost use Rattle.clap.specs.Words.{app_of, rule_of};
 ghost use Rattle.clap.specs.declared.builder.Command.TheViews.{out-Command};
 ghost use Rattle.mot_air.specs.Command.{air_app, disk_app, path_rule, play_app, sync_app};
-ghost use Rattle.mot_air.specs.Command.{turns_rule, word_rule};
+ghost use Rattle.mot_air.specs.Command.{number_rule, word_rule};
 
 use clap::{Arg, ArgAction, Command, value_parser};
 use std::alloc::{AllocError, Global};
@@ -53,13 +53,30 @@ fn play<'a>(alloc: Global) -> Result<Command<'a>, AllocError>
         "Make the carousel equal to this folder, at first and then between turns",
     );
     let types = types(alloc);
-    let turns = turns(alloc);
+    let lines = path(
+        alloc,
+        "lines",
+        "DIR",
+        "Answer the lines of the files in this folder, between packets, and take the files away",
+    );
+    let every = number(
+        alloc,
+        "every",
+        "Read lines behind so many packets [default: 8]",
+    );
+    let turns = number(
+        alloc,
+        "turns",
+        "End after so many whole turns [default: 16 into a file, else without end]",
+    );
     Command::new(alloc, "play")
         .about("Play a disk into a pipe, a device or a file, each packet in one write")
         .arg(disk)?
         .arg(packets)?
         .arg(folder)?
         .arg(types)?
+        .arg(lines)?
+        .arg(every)?
         .arg(turns)
 }
 
@@ -119,15 +136,15 @@ fn path<'a>(alloc: Global, name: &'a str, value: &'a str, help: &'a str) -> Arg<
         .action(ArgAction::Set)
 }
 
-/// The option that is a number of turns.
-fn turns<'a>(alloc: Global) -> Arg<'a>
-    ensures rule { rule_of result ≡ turns_rule }
+/// An option that is a number of 32 bits.
+fn number<'a>(alloc: Global, name: &'a str, help: &'a str) -> Arg<'a>
+    ensures rule { rule_of result ≡ number_rule name.entry.now }
     ensures local { result.global ≡ false }
 {
-    Arg::new(alloc, "turns")
-        .long("turns")
+    Arg::new(alloc, name)
+        .long(name)
         .value_name("N")
-        .help("End after so many whole turns [default: 16 into a file, else without end]")
+        .help(help)
         .action(ArgAction::Set)
         .value_parser(value_parser!(u32))
 }

@@ -1,5 +1,9 @@
 //! Why a task could not be done, where more is known than its refusal says.
+ghost use Rattle.std.specs.Prelude.{◌≡◌};
+ghost use Rattle.mot_base.specs.declared.refusal.Refusal.TheVariants.{OutOfMemory, ReadFault};
+
 use disk_store::OpenFault;
+use mot_base::Refusal;
 use std::alloc::AllocError;
 use std::fmt::{self, Display, Formatter};
 use std::io;
@@ -28,6 +32,17 @@ pub(crate) enum TypesFault {
     Line,
 }
 
+/// What is wrong with the folder that lines come from.
+#[derive(Clone, Copy, Debug)]
+pub(crate) enum LinesFault {
+    /// The system refused a call, for this reason.
+    System(io::Error),
+    /// It is none.
+    NoFolder,
+    /// It is the folder that the carousel is made equal to.
+    HasObjects,
+}
+
 /// Why a task could not be done: it is printed, and nothing is decided by it.
 #[derive(Clone, Copy, Debug)]
 pub(crate) enum Cause {
@@ -35,10 +50,43 @@ pub(crate) enum Cause {
     Disk(OpenFault),
     /// The file that adds suffixes was not read, or a line of it is wrong.
     Types(TypesFault),
+    /// Lines can't come from the folder.
+    Lines(LinesFault),
     /// What should take the packets was not opened, or did not take them.
     Packets(PacketsFault),
     /// The new file beside it was not written, or could not take its place.
     NewFile(PacketsFault),
+}
+
+/// Why a task was not begun.
+#[derive(Clone, Copy, Debug)]
+pub(crate) struct Unbegun {
+    /// The refusal.
+    pub refusal: Refusal,
+    /// What is wrong with a file, where that is it.
+    pub cause: Option<Cause>,
+}
+
+impl Unbegun {
+    /// There is no memory.
+    pub fn no_memory() -> Unbegun
+        ensures { result.refusal ≡ OutOfMemory }
+    {
+        Unbegun {
+            refusal: Refusal::OutOfMemory,
+            cause: None,
+        }
+    }
+
+    /// A file or a folder can't be read.
+    pub fn unread(cause: Cause) -> Unbegun
+        ensures { result.refusal ≡ ReadFault }
+    {
+        Unbegun {
+            refusal: Refusal::ReadFault,
+            cause: Some(cause),
+        }
+    }
 }
 
 impl From<PacketsFault> for Cause {
@@ -65,6 +113,22 @@ impl Display for TypesFault {
             TypesFault::System(error) => OpenFault::System(*error).fmt(f),
             TypesFault::Line => f.pad("a line is no SUFFIX TYPE SUBTYPE MIME"),
         }
+    }
+}
+
+impl Display for LinesFault {
+    fn fmt<W: fmt::Write>(&self, f: &mut Formatter<W>) -> fmt::Result {
+        match self {
+            LinesFault::System(error) => OpenFault::System(*error).fmt(f),
+            LinesFault::NoFolder => f.pad("no folder"),
+            LinesFault::HasObjects => f.pad("the folder of the objects"),
+        }
+    }
+}
+
+impl From<io::Error> for LinesFault {
+    fn from(error: io::Error) -> LinesFault {
+        LinesFault::System(error)
     }
 }
 

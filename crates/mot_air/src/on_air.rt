@@ -1,16 +1,16 @@
 //! Playing the disk of a file into what a path names.
-ghost use Rattle.std.specs.Prelude.{◌≡◌, ◌≢◌, ◌⊎◌, None, Ok, true, false, IfErr, OnOk};
+ghost use Rattle.std.specs.Prelude.{◌≡◌, ◌≢◌, ◌⊎◌, None, Ok, true, false, IfErr, OnOk, is_none};
 ghost use Rattle.mot_air.specs.Inner.Packets.{target_of};
 ghost use Rattle.mot_air.specs.Playing.{Plays, StopsPlaying};
 ghost use Rattle.mot_air.specs.Program.{FailsPlaying, IsUntold, PlaysTo, StopsPlayingTo, turns_of};
 ghost use Rattle.mot_base.specs.declared.refusal.Refusal.TheVariants.{DeviceFault, WriteFault};
 
-use crate::Ended;
 use crate::beside::NewFile;
 use crate::fault::{Cause, PacketsFault};
 use crate::packets::{OpenPackets, PacketWriter, Target, open_packets};
-use crate::playing::{Followed, play_disk};
+use crate::playing::{Followed, play_and_answer, play_disk};
 use crate::used::Finished;
+use crate::{Ended, LineFolder};
 use disk_store::{Disk, FileDiskFrom, Start};
 use mot_base::Refusal;
 use std::alloc::Global;
@@ -27,24 +27,26 @@ struct Played<D: Disk> {
     cause: Option<Cause>,
 }
 
-/// Plays the disk of the file at the path into what the other path names. The log goes to `writer`,
-/// and to `errors` where the packets go to `writer`.
+/// Plays the disk of the file at the path into what the other path names, and answers the lines
+/// that there are. The log goes to `writer`, and to `errors` where the packets go to `writer`.
 pub(crate) fn play_file<B: Start, W: Write, E: Write>(
     rt: &HostRuntime,
     alloc: Global,
     path: &str,
     packets: &str,
     folder: Option<Followed<'_>>,
+    lines: Option<LineFolder<'_>>,
     turns: Option<u32>,
     start: B,
     writer: &mut W,
     errors: &mut E,
 ) -> Finished<B>
-    ensures done { result.result ≡ Ok true → PlaysTo packets.now turns result.disk }
+    ensures done { result.result ≡ Ok true
+        → PlaysTo packets.now (is_none lines.entry) turns result.disk }
     ensures told { result.result ≢ Ok false }
     ensures refused { IfErr result.result (λ r. (((r ≡ DeviceFault) ⊎ (r ≡ WriteFault))
         × IsUntold result.disk (W.contents writer.old) (W.contents writer.new))
-        ⊎ StopsPlayingTo packets.now turns r result.disk) }
+        ⊎ StopsPlayingTo packets.now (is_none lines.entry) turns r result.disk) }
 {
     let opened = match open_packets(rt, packets, path) {
         Ok(opened) => opened,
@@ -57,7 +59,9 @@ pub(crate) fn play_file<B: Start, W: Write, E: Write>(
             return Finished::unopened(unopened);
         }
     };
-    let Played { ended, cause } = play_into(rt, alloc, disk, opened, folder, turns, writer, errors);
+    let Played { ended, cause } = play_into(
+        rt, alloc, disk, opened, folder, lines, turns, writer, errors,
+    );
     Finished::done(ended, cause)
 }
 
@@ -68,27 +72,29 @@ fn play_into<D: Disk, W: Write, E: Write>(
     disk: D,
     opened: OpenPackets<'_>,
     folder: Option<Followed<'_>>,
+    lines: Option<LineFolder<'_>>,
     turns: Option<u32>,
     writer: &mut W,
     errors: &mut E,
 ) -> Played<D>
-    ensures done { OnOk result.ended.result (Plays true (turns_of (target_of opened.entry) turns)
-        None None (D.state disk) (D.state result.ended.disk)) }
-    ensures refused { IfErr result.ended.result (λ r. FailsPlaying (target_of opened.entry) turns r
+    ensures done { OnOk result.ended.result (Plays (is_none lines.entry)
+        (turns_of (target_of opened.entry) turns) None None
         (D.state disk) (D.state result.ended.disk)) }
+    ensures refused { IfErr result.ended.result (λ r. FailsPlaying (target_of opened.entry)
+        (is_none lines.entry) turns r (D.state disk) (D.state result.ended.disk)) }
 {
     match opened {
         OpenPackets::Standard => {
             let turns = turns_of(Target::Output, turns);
-            play_writer(rt, alloc, disk, writer, folder, errors, turns)
+            play_writer(rt, alloc, disk, writer, folder, lines, errors, turns)
         }
         OpenPackets::Through(file) => {
             let turns = turns_of(Target::Stream, turns);
-            play_writer(rt, alloc, disk, file, folder, writer, turns)
+            play_writer(rt, alloc, disk, file, folder, lines, writer, turns)
         }
         OpenPackets::Beside(new) => {
             let turns = turns_of(Target::File, turns);
-            play_new_file(rt, alloc, disk, new, folder, writer, turns)
+            play_new_file(rt, alloc, disk, new, folder, lines, writer, turns)
         }
     }
 }
@@ -100,16 +106,20 @@ fn play_writer<D: Disk, P: Write + Drop, L: Write>(
     disk: D,
     packets: P,
     folder: Option<Followed<'_>>,
+    lines: Option<LineFolder<'_>>,
     log: &mut L,
     turns: u64,
 ) -> Played<D>
-    ensures done { OnOk result.ended.result (Plays true turns None None
+    ensures done { OnOk result.ended.result (Plays (is_none lines.entry) turns None None
         (D.state disk) (D.state result.ended.disk)) }
-    ensures refused { IfErr result.ended.result (λ r. StopsPlaying r true None None
+    ensures refused { IfErr result.ended.result (λ r. StopsPlaying r (is_none lines.entry) None None
         (D.state disk) (D.state result.ended.disk)) }
 {
     let mut outlet = PacketWriter::new(packets);
-    let ended = play_disk(rt, alloc, disk, &mut outlet, folder, log, turns);
+    let ended = match lines {
+        Some(lines) => play_and_answer(rt, alloc, disk, &mut outlet, folder, lines, log, turns),
+        None => play_disk(rt, alloc, disk, &mut outlet, folder, log, turns),
+    };
     let cause = match outlet.fault {
         Some(fault) => Some(Cause::Packets(fault)),
         None => None,
@@ -125,17 +135,20 @@ fn play_new_file<D: Disk, L: Write>(
     disk: D,
     new: NewFile<'_>,
     folder: Option<Followed<'_>>,
+    lines: Option<LineFolder<'_>>,
     log: &mut L,
     turns: u64,
 ) -> Played<D>
-    ensures done { OnOk result.ended.result (Plays true turns None None
+    ensures done { OnOk result.ended.result (Plays (is_none lines.entry) turns None None
         (D.state disk) (D.state result.ended.disk)) }
-    ensures refused { IfErr result.ended.result (λ r. StopsPlaying r true None None
+    ensures refused { IfErr result.ended.result (λ r. StopsPlaying r (is_none lines.entry) None None
         (D.state disk) (D.state result.ended.disk)
-        ⊎ ((r ≡ WriteFault) × Plays true turns None None
+        ⊎ ((r ≡ WriteFault) × Plays (is_none lines.entry) turns None None
         (D.state disk) (D.state result.ended.disk))) }
 {
-    let Played { ended, cause } = play_writer(rt, alloc, disk, &new.file, folder, log, turns);
+    let Played { ended, cause } = play_writer(
+        rt, alloc, disk, &new.file, folder, lines, log, turns,
+    );
     let Ended { disk, result } = ended;
     if let Err(refusal) = result {
         new.take_away(rt);

@@ -1,5 +1,5 @@
 //! Playing a disk, and making its carousel equal to a folder.
-ghost use Rattle.std.specs.Prelude.{◌≡◌, ◌≤◌, true, IfErr, IfOk, OnOk, MatchResult};
+ghost use Rattle.std.specs.Prelude.{◌≡◌, ◌≤◌, true, false, IfErr, IfOk, OnOk, MatchResult};
 ghost use Rattle.std.specs.Io.KnownBytes.{Appends};
 ghost use Rattle.disk_store.specs.Disk.{KeepsLength};
 ghost use Rattle.mot_air.specs.Playing.{Plays, StopsPlaying};
@@ -11,13 +11,17 @@ ghost use Rattle.mot_journal.specs.Image.{Standing};
 ghost use Rattle.mot_repository.specs.Repository.{Holds};
 ghost use Rattle.mot_update.specs.Faults.{IsCalm};
 
-use crate::Ended;
+use crate::log::SharedLog;
+use crate::spool::Spool;
+use crate::{Ended, LineFolder};
 use disk_store::Disk;
 use mot_base::Refusal;
+use mot_control::Lines;
 use mot_feed::{NoUpdate, Outlet, Update, feed};
 use mot_folder::{FileTypes, Looks, Report, look_at_folder};
 use mot_server::Server;
 use std::alloc::Global;
+use std::cell::RefCell;
 use std::fs::File;
 use std::io::Write;
 use std::rt::Files;
@@ -54,6 +58,42 @@ pub fn play_disk<T: Files<File = File>, D: Disk, O: Outlet, L: Write + Drop>(
             play_with(alloc, disk, &mut looks, outlet, turns)
         }
         None => play_with(alloc, disk, &mut NoUpdate, outlet, turns),
+    }
+}
+
+/// Opens the disk and plays it into the outlet as `play_disk` does, and answers the lines of the
+/// files in a folder before the first packet and then behind every so many, as `mot_control::Lines`
+/// does: a command may come within a turn. What is told of both is written to the log.
+pub fn play_and_answer<T: Files<File = File>, D: Disk, O: Outlet, L: Write + Drop>(
+    rt: &T,
+    alloc: Global,
+    disk: D,
+    outlet: &mut O,
+    folder: Option<Followed<'_>>,
+    lines: LineFolder<'_>,
+    log: L,
+    turns: u64,
+) -> Ended<D, ()>
+    ensures keeps { KeepsLength (D.state disk) (D.state result.disk) }
+    ensures done { OnOk result.result (Plays false turns (O.writes outlet.old) (O.writes outlet.new)
+        (D.state disk) (D.state result.disk)) }
+    ensures refused { IfErr result.result (λ r. StopsPlaying r false
+        (O.writes outlet.old) (O.writes outlet.new) (D.state disk) (D.state result.disk)) }
+{
+    let LineFolder { path, hand, every } = lines;
+    let log = RefCell::new(log);
+    let spool = Spool::new(rt, alloc, path, SharedLog::new(&log));
+    let told = SharedLog::new(&log);
+    match folder {
+        Some(Followed { path, types }) => {
+            let looks = Looks::new(rt, alloc, path, types, SharedLog::new(&log));
+            let mut lines = Lines::new(spool, hand, told, every, looks);
+            play_with(alloc, disk, &mut lines, outlet, turns)
+        }
+        None => {
+            let mut lines = Lines::new(spool, hand, told, every, NoUpdate);
+            play_with(alloc, disk, &mut lines, outlet, turns)
+        }
     }
 }
 

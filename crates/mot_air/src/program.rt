@@ -1,12 +1,12 @@
 //! The commands on air, over any streams and files.
 ghost use Rattle.std.specs.Prelude.{◌≡◌, ◌≢◌, ◌⊎◌, ◌↔◌, Option, map, true, false, IfErr, IfOk, IsTrue};
-ghost use Rattle.std.specs.Prelude.{None, Ok, Some, codes};
+ghost use Rattle.std.specs.Prelude.{None, Ok, Some, codes, is_none};
 ghost use Rattle.std.specs.Io.KnownBytes.{Keeps};
 ghost use Rattle.clap.specs.Words.{kind_of};
 ghost use Rattle.mot_air.specs.Exporting.{Exports, StopsExporting};
 ghost use Rattle.mot_air.specs.Inspecting.{Inspects, StopsInspecting};
 ghost use Rattle.mot_air.specs.Program.{Does, DoesInPart, IsBeginningRefusal, IsRefused, IsUntold};
-ghost use Rattle.mot_air.specs.Program.{IsUntouched, IsUntyped, OnOpened, PlaysTo};
+ghost use Rattle.mot_air.specs.Program.{IsUnlined, IsUntouched, IsUntyped, OnOpened, PlaysTo};
 ghost use Rattle.mot_air.specs.Program.{StopsPlayingTo, Succeeds};
 ghost use Rattle.mot_air.specs.Syncing.{StopsSyncing, Syncs};
 ghost use Rattle.mot_air.specs.Task.{AreWrong};
@@ -19,10 +19,11 @@ ghost use Rattle.mot_base.specs.declared.refusal.Refusal.TheVariants.{WriteFault
 use crate::command::command;
 use crate::exporting::export_disk;
 use crate::inspecting::inspect_disk;
+use crate::lines::line_folder;
 use crate::on_air::play_file;
 use crate::playing::{Followed, sync_disk};
 use crate::subject::{Subject, subject_of, tell, tell_folder};
-use crate::task::{Task, task_of};
+use crate::task::{PlayTask, Task, task_of};
 use crate::types::file_types;
 use crate::used::{AirDisk, AirExit, Finished};
 use clap::Error;
@@ -202,15 +203,7 @@ fn execute<B: Start, W: Write, E: Write>(
         (W.contents writer.old) (W.contents writer.new)) }
 {
     match task {
-        Task::Play {
-            disk,
-            packets,
-            folder,
-            types,
-            turns,
-        } => play(
-            rt, alloc, disk, packets, folder, types, turns, start, writer, errors,
-        ),
+        Task::Play(task) => play(rt, alloc, task, start, writer, errors),
         Task::Sync {
             disk,
             folder,
@@ -221,34 +214,37 @@ fn execute<B: Start, W: Write, E: Write>(
     }
 }
 
-/// Plays the disk of the file at the path, with looks at the folder, if one is given, for files of the
-/// known suffixes and of those that a file adds.
+/// Plays a disk, with looks at the folder of objects and answers to the lines of the other, where
+/// they are given, for files of the known suffixes and of those that a file adds.
 fn play<B: Start, W: Write, E: Write>(
     rt: &HostRuntime,
     alloc: Global,
-    path: &str,
-    packets: &str,
-    folder: Option<&str>,
-    types: Option<&str>,
-    turns: Option<u32>,
+    task: PlayTask<'_>,
     start: B,
     writer: &mut W,
     errors: &mut E,
 ) -> Finished<B>
-    ensures done { result.result ≡ Ok true → PlaysTo packets.now turns result.disk }
+    ensures done { result.result ≡ Ok true
+        → PlaysTo task.entry.packets.now (is_none task.entry.lines) task.entry.turns result.disk }
     ensures told { result.result ≢ Ok false }
     ensures refused { IfErr result.result (λ r.
-        ((IsUntyped r ⊎ (r ≡ DeviceFault) ⊎ (r ≡ WriteFault))
+        ((IsUntyped r ⊎ IsUnlined r ⊎ (r ≡ DeviceFault) ⊎ (r ≡ WriteFault))
         × IsUntold result.disk (W.contents writer.old) (W.contents writer.new))
-        ⊎ StopsPlayingTo packets.now turns r result.disk) }
+        ⊎ StopsPlayingTo task.entry.packets.now (is_none task.entry.lines) task.entry.turns r
+        result.disk) }
 {
-    let types = match file_types(rt, alloc, types) {
+    let PlayTask { disk, packets, .. } = task;
+    let types = match file_types(rt, alloc, task.types) {
         Ok(types) => types,
-        Err(untyped) => return Finished::untyped(untyped, start),
+        Err(unbegun) => return Finished::unbegun(unbegun, start),
     };
-    let folder = followed(folder, &types);
+    let lines = match line_folder(rt, alloc, task.lines, task.every, task.folder) {
+        Ok(lines) => lines,
+        Err(unbegun) => return Finished::unbegun(unbegun, start),
+    };
+    let folder = followed(task.folder, &types);
     play_file(
-        rt, alloc, path, packets, folder, turns, start, writer, errors,
+        rt, alloc, disk, packets, folder, lines, task.turns, start, writer, errors,
     )
 }
 
@@ -279,7 +275,7 @@ fn sync<B: Start, W: Write>(
 {
     match file_types(rt, alloc, types) {
         Ok(types) => sync_file(rt, alloc, path, folder, &types, start, log),
-        Err(untyped) => Finished::untyped(untyped, start),
+        Err(unbegun) => Finished::unbegun(unbegun, start),
     }
 }
 

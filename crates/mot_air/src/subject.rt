@@ -33,20 +33,36 @@ pub(crate) fn subject_of<'a>(
     words: &ArgMatches<'a>,
     cause: Option<Cause>,
 ) -> Subject<'a> {
-    let word = match cause {
-        Some(Cause::Disk(_)) => "DISK",
-        Some(Cause::Types(_)) => "types",
-        Some(_) => "PACKETS",
-        None => "turns",
-    };
-    match (refusal, words.get_str(word), cause) {
-        (_, Some(path), Some(cause)) => Subject::File { path, cause },
-        (Refusal::BadNumber, Some(number), None) => Subject::Number {
-            option: "turns",
-            number,
+    match cause {
+        Some(cause) => match words.get_str(word_of_cause(cause)) {
+            Some(path) => Subject::File { path, cause },
+            None => Subject::Nothing,
         },
-        _ => Subject::Nothing,
+        None if refusal == Refusal::BadNumber => number_in(words),
+        None => Subject::Nothing,
     }
+}
+
+/// The word that names what the cause is about.
+fn word_of_cause(cause: Cause) -> &'static str {
+    match cause {
+        Cause::Disk(_) => "DISK",
+        Cause::Types(_) => "types",
+        Cause::Lines(_) => "lines",
+        Cause::Packets(_) | Cause::NewFile(_) => "PACKETS",
+    }
+}
+
+/// The first number among the words that is none.
+fn number_in<'a>(words: &ArgMatches<'a>) -> Subject<'a> {
+    for option in ["every", "turns"] {
+        if let Some(number) = words.get_str(option)
+            && number.parse::<u32>().is_err()
+        {
+            return Subject::Number { option, number };
+        }
+    }
+    Subject::Nothing
 }
 
 /// Prints what a refusal is about, where there is more to tell.
@@ -65,6 +81,7 @@ fn tell_file<E: Write>(errors: &mut E, path: &str, cause: Cause) {
     let _ = match cause {
         Cause::Disk(fault) => writeln!(errors, "motcar: {path}: {fault}"),
         Cause::Types(fault) => writeln!(errors, "motcar: {path}: {fault}"),
+        Cause::Lines(fault) => writeln!(errors, "motcar: {path}: {fault}"),
         Cause::Packets(fault) if path == OUTPUT => {
             writeln!(errors, "motcar: standard output: {fault}")
         }

@@ -7,22 +7,30 @@ ghost use Rattle.mot_air.specs.declared.task.Task.{Task};
 
 use clap::ArgMatches;
 
+/// What is played, and into what.
+#[derive(Clone, Copy, Debug)]
+pub struct PlayTask<'a> {
+    /// The path of the disk's file.
+    pub disk: &'a str,
+    /// What takes the packets: the path of a pipe, a device or a file, or `-`.
+    pub packets: &'a str,
+    /// The path of the folder that the carousel is made equal to, if one is given.
+    pub folder: Option<&'a str>,
+    /// The path of the file that adds suffixes, if one is given.
+    pub types: Option<&'a str>,
+    /// The path of the folder whose files are answered as lines, if one is given.
+    pub lines: Option<&'a str>,
+    /// Behind how many packets lines are read; where none is given, 8.
+    pub every: Option<u32>,
+    /// How many whole turns; where none is given, 16 into a file, and else without end.
+    pub turns: Option<u32>,
+}
+
 /// What a command on air is to do.
 #[derive(Clone, Copy, Debug)]
 pub enum Task<'a> {
     /// Play a disk.
-    Play {
-        /// The path of the disk's file.
-        disk: &'a str,
-        /// What takes the packets: the path of a pipe, a device or a file, or `-`.
-        packets: &'a str,
-        /// The path of the folder that the carousel is made equal to, if one is given.
-        folder: Option<&'a str>,
-        /// The path of the file that adds suffixes, if one is given.
-        types: Option<&'a str>,
-        /// How many whole turns; where none is given, 16 into a file, and else without end.
-        turns: Option<u32>,
-    },
+    Play(PlayTask<'a>),
     /// Make the carousel of a disk equal to a folder.
     Sync {
         /// The path of the disk's file.
@@ -45,13 +53,15 @@ pub(crate) fn task_of<'a>(name: &str, words: &ArgMatches<'a>) -> Option<Task<'a>
         → IsTask name.now (rows_of (found_of words.now)) task → ⊥) }
 {
     match name {
-        "play" => Some(Task::Play {
+        "play" => Some(Task::Play(PlayTask {
             disk: word_of(words, "DISK")?,
             packets: word_of(words, "PACKETS")?,
             folder: option_of(words, "folder"),
             types: option_of(words, "types"),
+            lines: option_of(words, "lines"),
+            every: number_of(words, "every")?,
             turns: number_of(words, "turns")?,
-        }),
+        })),
         "sync" => Some(Task::Sync {
             disk: word_of(words, "DISK")?,
             folder: word_of(words, "DIR")?,

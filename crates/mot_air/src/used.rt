@@ -5,8 +5,7 @@ ghost use Rattle.mot_air.specs.declared.used.AirDisk.TheVariants.{Opened, Untouc
 ghost use Rattle.mot_base.specs.declared.refusal.Refusal.TheVariants.{DeviceFault, WriteFault};
 
 use crate::Ended;
-use crate::fault::Cause;
-use crate::types::Untyped;
+use crate::fault::{Cause, Unbegun};
 use disk_store::{FileDiskFrom, Start, Unopened};
 use mot_base::Refusal;
 
@@ -71,19 +70,15 @@ impl<S: Start> Finished<S> {
         }
     }
 
-    /// There is no table of suffixes, and no disk was opened.
-    pub(crate) fn untyped(untyped: Untyped, start: S) -> Self
-        ensures result { result.result ≡ Err untyped.refusal }
+    /// The task was not begun, and no disk was opened.
+    pub(crate) fn unbegun(unbegun: Unbegun, start: S) -> Self
+        ensures result { result.result ≡ Err unbegun.refusal }
         ensures disk { result.disk ≡ Untouched start }
     {
-        let cause = match untyped.fault {
-            Some(fault) => Some(Cause::Types(fault)),
-            None => None,
-        };
         Finished {
-            result: Err(untyped.refusal),
+            result: Err(unbegun.refusal),
             disk: AirDisk::Untouched(start),
-            cause,
+            cause: unbegun.cause,
         }
     }
 

@@ -1,9 +1,10 @@
 -- The division is linear: what it leaves of a sum is the sum of what it leaves.
 use Rattle.std.proofs.Common.{◌≡◌, ℕ, zero, suc, ◌+◌, ◌≤◌, Bool, true, false, List, [], ◌∷◌, ◌++◌}
-use Rattle.std.proofs.Common.{length, replicate, refl, sym, ap, ◌∙◌, arith}
+use Rattle.std.proofs.Common.{length, replicate, refl, sym, ap, ◌∙◌, arith, length-append}
+use Rattle.std.proofs.lemmas.List.{length-replicate}
 use Rattle.std.proofs.Math.Nat.{suc-add}
 use Rattle.mot_base.specs.Checksum.{xor, added_to_front, divisor, remainder}
-use Rattle.mot_base.proofs.Bits.{add_assoc_front, add_to_zeros, length_bits}
+use Rattle.mot_base.proofs.Bits.{add_assoc_front, add_last_zeros, add_to_zeros, length_bits}
 
 xor_swap : (x y z : Bool) → xor x (xor y z) ≡ xor y (xor x z)
 xor_swap true true z = refl
@@ -101,3 +102,40 @@ remainder-add (suc m) (true ∷ p) (false ∷ l) h =
 remainder-add (suc m) (false ∷ p) (true ∷ l) h =
     ap (remainder m) (add_swap divisor p l) ∙ remainder-add m p (added_to_front divisor l) (omega arith)
 remainder-add (suc m) (false ∷ p) (false ∷ l) h = remainder-add m p l (omega arith)
+
+-- what is added to a front of the list leaves the rest of it
+add_short : (xs ys s : List Bool) → length xs ≤ length ys →
+    added_to_front xs (ys ++ s) ≡ added_to_front xs ys ++ s
+unfolding added_to_front
+add_short [] ys s h = refl
+add_short (x ∷ xs) [] s h = absurd (omega arith)
+add_short (x ∷ xs) (y ∷ ys) s h =
+    let h' : length xs ≤ length ys = omega arith in
+    ap (λ l. xor x y ∷ l) (add_short xs ys s h')
+
+-- what stands behind the bits that so many steps reach stays
+remainder-append : (m : ℕ) (p s : List Bool) → m + 16 ≤ length p →
+    remainder m (p ++ s) ≡ remainder m p ++ s
+unfolding remainder
+remainder-append zero p s h = refl
+remainder-append (suc m) [] s h = absurd (omega arith)
+remainder-append (suc m) (true ∷ p) s h =
+    let fits : length divisor ≤ length p = divisor_fits p (omega arith) in
+    let long : m + 16 ≤ length (added_to_front divisor p) = omega (arith, length_add divisor p) in
+    ap (remainder m) (add_short divisor p s fits) ∙ remainder-append m (added_to_front divisor p) s long
+remainder-append (suc m) (false ∷ p) s h = remainder-append m p s (omega arith)
+
+-- what is added to the front leaves its own, while the division goes on behind it
+pub front_left : (m j : ℕ) (p l : List Bool) → length p ≡ m + 16 →
+    remainder (m + j) (added_to_front p l)
+    ≡ added_to_front (remainder j (remainder m p ++ replicate j false)) (remainder (m + j) l)
+front_left m j p l e =
+    let padded : List Bool = p ++ replicate j false in
+    let sized : length padded ≡ m + j + 16 =
+    length-append p (replicate j false) ∙ ap (λ n. length p + n) (length-replicate j false)
+    ∙ (let q : length p + j ≡ m + j + 16 = omega arith in q) in
+    ap (remainder (m + j)) (sym (add_last_zeros p j l))
+    ∙ remainder-add (m + j) padded l (omega (arith, sized))
+    ∙ ap (λ x. added_to_front x (remainder (m + j) l))
+    (remainder-steps m j padded
+    ∙ ap (remainder j) (remainder-append m p (replicate j false) (omega arith)))

@@ -207,3 +207,8 @@ pub(crate) const AFTER_64: [u16; 256] = [
     0x4D8D, 0x0A5E, 0xC22B, 0x85F8, 0x42E0, 0x0533, 0xCD46, 0x8A95, 0x5357, 0x1484, 0xDCF1, 0x9B22,
     0x5C3A, 0x1BE9, 0xD39C, 0x944F,
 ];
+
+/// All of them in one, whose address serves each step.
+pub(crate) const AFTER: [[u16; 256]; 8] = [
+    AFTER_8, AFTER_16, AFTER_24, AFTER_32, AFTER_40, AFTER_48, AFTER_56, AFTER_64,
+];

@@ -70,7 +70,7 @@ module _ {D : Type 0} (old new : ServerView D) (start now : State) (s : Standing
     leaves = record {
       last = run.leaves.last;
       after = run.leaves.after;
-      marked = run.leaves.marked.1;
+      marked = run.leaves.marked.2;
       agrees = run.leaves.agrees;
       going = run.leaves.going;
       any_moment = run.leaves.any_moment;

@@ -1,5 +1,5 @@
 //! Lines between the packets of a feed.
-ghost use Rattle.std.specs.Prelude.{◌≡◌, ◌≤◌, ℕ, List, [], false, true, IfOk};
+ghost use Rattle.std.specs.Prelude.{◌≡◌, ◌≤◌, ◌<◌, ◌-◌, ℕ, List, false, true, OnOk};
 ghost use Rattle.disk_store.specs.Disk.{KeepsLength};
 ghost use Rattle.mot_control.specs.Answering.{TakesBetween};
 ghost use Rattle.mot_feed.specs.Feeding.{IsUpdating, fault_of, may_change};
@@ -15,7 +15,7 @@ use mot_base::Refusal;
 use mot_feed::Update;
 use mot_lines::Hand;
 use mot_server::Server;
-use std::alloc::{AllocError, Global};
+use std::alloc::Global;
 use std::io::{Read, Write};
 
 /// Answers lines between packets: before the first packet and behind every so many it answers what
@@ -31,29 +31,24 @@ pub struct Lines<R: Read + Drop, W: Write + Drop, U: Update + Drop> {
     pub log: Log<W>,
     /// The other update.
     pub update: U,
-    /// How many packets come between two reads, but one.
-    between: u32,
-    /// How many packets come before the one behind which is read.
-    left: u32,
+    /// How many updates come between two that read.
+    pub between: u32,
+    /// How many updates come before the next that reads.
+    pub left: u32,
 }
 
 impl<R: Read + Drop, W: Write + Drop, U: Update + Drop> Lines<R, W, U> {
-    /// Nothing was read. 0 packets count as 1.
-    pub fn new(
-        alloc: Global,
-        reader: R,
-        writer: W,
-        every: u32,
-        update: U,
-    ) -> Result<Lines<R, W, U>, AllocError>
-        ensures begins { IfOk result (λ lines. (lines.hand ≡ bytes_in_hand (rest_of []))
-            × (lines.log.is_told ≡ true)) }
-        ensures given { IfOk result (λ lines. (lines.reader ≡ reader)
-            × (lines.log.writer ≡ writer) × (lines.update ≡ update)) }
+    /// Nothing was read but what is in hand. 0 packets count as 1.
+    pub fn new(reader: R, hand: Hand, writer: W, every: u32, update: U) -> Lines<R, W, U>
+        ensures given { (result.reader ≡ reader) × (result.hand ≡ hand)
+            × (result.log.writer ≡ writer) × (result.update ≡ update) }
+        ensures told { result.log.is_told ≡ true }
+        ensures due { result.left ≡ 0 }
+        ensures every { result.between ≡ every - 1 }
     {
-        Ok(Lines {
+        Lines {
             reader,
-            hand: Hand::new(alloc)?,
+            hand,
             log: Log {
                 writer,
                 is_told: true,
@@ -61,7 +56,7 @@ impl<R: Read + Drop, W: Write + Drop, U: Update + Drop> Lines<R, W, U> {
             update,
             between: every.saturating_sub(1),
             left: 0,
-        })
+        }
     }
 }
 
@@ -82,6 +77,12 @@ impl<R: Read + Drop, W: Write + Drop, U: Update + Drop> Update for Lines<R, W, U
             → (D.state server.new.disk).IsHonest
             → IsUpdating server.old server.new (D.state server.old.disk)
             (D.state server.new.disk) s true (fault_of result) }
+
+        // It reads where a read is due, and else it only counts.
+        ensures counts { 0 < self.old.left → (self.new.reader ≡ self.old.reader)
+            × (self.new.hand ≡ self.old.hand) × (self.new.log ≡ self.old.log)
+            × OnOk result (self.new.left ≡ self.old.left - 1) }
+        ensures reads { self.old.left ≡ 0 → OnOk result (self.new.left ≡ self.old.between) }
 
         // What was taken of the reader was answered, and nothing else was told.
         ensures lines { (input : List ℕ) → self.old.hand ≡ bytes_in_hand (rest_of input)

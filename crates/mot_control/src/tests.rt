@@ -5,6 +5,7 @@ use disk_store::MemoryDisk;
 use mot_base::{Geometry, Refusal};
 use mot_feed::{NoUpdate, Update, feed, send_packets};
 use mot_journal::format;
+use mot_lines::Hand;
 use mot_session::serve_line;
 use std::alloc::Global;
 use std::io::Read;
@@ -58,7 +59,13 @@ struct Fed {
 fn fed_by(alloc: Global, server: Server, parts: &[&[u8]]) -> Result<Fed, Refusal> {
     let mut server = server;
     let mut outlet = Packets::new(alloc);
-    let mut lines = Lines::new(alloc, Parts::new(parts), Vec::new(alloc), 1, NoUpdate)?;
+    let mut lines = Lines::new(
+        Parts::new(parts),
+        Hand::new(alloc)?,
+        Vec::new(alloc),
+        1,
+        NoUpdate,
+    );
     feed(&mut server, alloc, &mut lines, &mut outlet, 1)?;
     let Lines { log, .. } = lines;
     Ok(Fed {
@@ -92,7 +99,7 @@ fn ended(
     let mut server = server;
     let parts = [lines];
     let reader = Parts::new(parts.as_slice());
-    let mut lines = Lines::new(alloc, reader, Flushing::new(alloc), 1, NoUpdate)?;
+    let mut lines = Lines::new(reader, Hand::new(alloc)?, Flushing::new(alloc), 1, NoUpdate);
     let end = lines.update(&mut server, alloc, true).err();
     let Lines { log, .. } = lines;
     Ok((log.writer.flushed, end))
@@ -107,7 +114,13 @@ fn updated<R: Read + Drop>(
     count: u32,
 ) -> Result<(Vec<u8>, R), Refusal> {
     let mut server = server;
-    let mut lines = Lines::new(alloc, reader, Flushing::new(alloc), every, NoUpdate)?;
+    let mut lines = Lines::new(
+        reader,
+        Hand::new(alloc)?,
+        Flushing::new(alloc),
+        every,
+        NoUpdate,
+    );
     for _ in 0..count {
         lines.update(&mut server, alloc, false)?;
     }

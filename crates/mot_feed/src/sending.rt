@@ -45,6 +45,7 @@ pub fn send_packets<D: Disk, O: Outlet>(
 }
 
 /// Sends the next packet; whether it ends a turn.
+#[inline(always)]
 pub(crate) fn send_one<D: Disk, O: Outlet>(
     server: &mut Server<D>,
     outlet: &mut O,

@@ -19,7 +19,7 @@ use Rattle.mot_journal.specs.Image.{DiskRecords, records_in, slots_in, journal_i
 use Rattle.mot_journal.specs.Loading.{HalfHas}
 use Rattle.mot_journal.proofs.Records.{AreOpen, open_front, open_then_shut, are_open_more, records_more, records_fault}
 
-times-suc : (i size : ℕ) → size + i * size ≡ suc i * size
+pub times-suc : (i size : ℕ) → size + i * size ≡ suc i * size
 times-suc i size = grind arith
 
 pub length-slots_in : (size n : ℕ) (bytes : List ℕ) → length (slots_in size n bytes) ≡ n

@@ -3,6 +3,7 @@ use Rattle.std.specs.Prelude.{◌≡◌, ℕ, zero, suc, ◌+◌, Bool, true, no
 use Rattle.std.specs.Prelude.{take, drop, slice_range, replicate, take_while, Option, Some, None}
 use Rattle.std.specs.Prelude.{Result, Ok, Err, IsTrue, IsOk}
 use Rattle.std.specs.List.{list_all}
+use Rattle.std.specs.Int.{div_ceil}
 use Rattle.mot_base.specs.declared.refusal.Refusal.{Refusal}
 use Rattle.mot_base.specs.declared.refusal.Refusal.TheVariants.{NotFormatted}
 use Rattle.mot_carousel.specs.Carousel.{Carousel}
@@ -89,6 +90,10 @@ stands_for image =
 abbrev pub are_gates_clean : List (List ℕ) → Bool
 are_gates_clean slots =
     list_all (λ slot. not (is_open slot)) (drop (length (take_while is_open slots)) slots)
+
+-- the reads in which the gates of a half are looked at: 4,096 bytes at once
+abbrev pub gate_reads : Geometry → ℕ
+gate_reads g = div_ceil (half_size g) 4096
 
 abbrev pub has_clean_gates : Option Geometry → List ℕ → Bool
 has_clean_gates None image = true

@@ -4,4 +4,5 @@ pub mod Format
 pub mod Gaps
 pub mod Places
 pub mod Reading
+pub mod Scan
 pub mod Steps

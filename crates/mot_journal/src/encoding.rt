@@ -133,7 +133,6 @@ fn fill(slot: &mut ArrayVec<u8, 512>, size: usize)
     requires { size ≤ 512 }
     ensures { slot.new.items ≡ slot.old.items ++ replicate (size - array_vec_len slot.old) 0 }
 {
-    for _place in slot.len()..size {
-        slot.push(0);
-    }
+    let rest = size.saturating_sub(slot.len());
+    array_append(slot, &[0; 512][..rest]);
 }

@@ -9,7 +9,7 @@ ghost use Rattle.mot_base.specs.Geometry.{length_of};
 ghost use Rattle.mot_journal.specs.Geometry.{geometry_of};
 ghost use Rattle.mot_base.specs.Geometry.{is_valid};
 ghost use Rattle.mot_journal.specs.Slot.{is_sound, slot_count, slot_size};
-ghost use Rattle.mot_journal.specs.Image.{records_of, has_clean_gates};
+ghost use Rattle.mot_journal.specs.Image.{records_of, has_clean_gates, gate_reads};
 ghost use Rattle.mot_journal.specs.Journal.{JournalView, with_records, IsLoadRefusal};
 ghost use Rattle.mot_journal.specs.Inner.Places.{place_of};
 ghost use Rattle.mot_journal.specs.Journal.{HoldsRecords, FoldOf, WithoutOrWith, OnlyReadArea};
@@ -162,8 +162,8 @@ impl Journal {
         self.spent
     }
 
-    /// Whether every gate of the half after the first closed one is closed. It reads one byte of
-    /// each slot, and only reads.
+    /// Whether every gate of the half after the first closed one is closed. It reads the half,
+    /// 4,096 bytes at once, and only reads.
     pub fn is_clean<D: Disk>(&self, disk: &mut D) -> Result<bool, DiskFault>
         requires long_enough { length_of self.now.geometry ≤ (D.state disk.old).len }
         ensures keeps { KeepsLength (D.state disk.old) (D.state disk.new) }
@@ -172,7 +172,7 @@ impl Journal {
             → Rises (D.state disk.old).failures (D.state disk.new).failures }
         ensures calm { OnOk result ((D.state disk.new).failures ≡ (D.state disk.old).failures) }
         ensures cost { (D.state disk.new).calls
-            ≤ (D.state disk.old).calls + slot_count self.now.layout self.now.geometry }
+            ≤ (D.state disk.old).calls + gate_reads self.now.geometry }
         ensures unchanged { (D.state disk.new).IsHonest
             → IsUnchanged (D.state disk.old) (D.state disk.new) }
         ensures exact { (D.state disk.new).IsHonest → StandsWhere self.now (D.state disk.old).bytes

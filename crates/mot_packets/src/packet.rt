@@ -49,6 +49,7 @@ pub fn packet_count(len: usize, full_length: PacketLength) -> usize
 /// The packet that carries the bytes of a group from `at` on, as many as fit (EN 300 401, clause
 /// 5.3.2). It has the full length, but a group's last has the shortest length that holds the rest.
 /// `index` is its continuity index, 0 to 3.
+#[inline(always)]
 pub fn cut_packet(
     group: &[u8],
     at: usize,
@@ -94,6 +95,7 @@ pub fn cut_packet(
 
 /// Fills a packet, which is empty, by this header and useful data; the rest of its data field is
 /// zeros.
+#[inline(always)]
 fn fill_packet(packet: &mut Packet, header: Header, useful: &[u8])
     requires empty { packet.old.items ≡ [] }
     requires fits { length useful.now ≤ room_of header.length }

@@ -116,6 +116,7 @@ impl Player {
 
     /// The next packet. It takes no memory; `DeviceFault` where a read of the bodies failed, and
     /// then the player is as before. The bodies are those of the last turn handed in.
+    #[inline(always)]
     pub fn next_packet<B: Bodies>(&mut self, bodies: &mut B) -> Result<Played, Refusal>
         requires { AreBodiesFor self.old.turn (B.bodies bodies.old) }
         ensures sent { B.IsHonest bodies.new → IfOk result (λ played.

@@ -54,6 +54,7 @@ impl State {
 
     /// Begins the group of the next segment, of which no packet is sent yet. Where a read of the
     /// bodies fails, all stays as it was.
+    #[inline(never)]
     pub fn begin<B: Bodies>(&mut self, bodies: &mut B) -> Result<(), Refusal>
         requires fitted { IsFitted self.old }
         requires sent { self.old.sent ≡ 0 }
@@ -145,6 +146,7 @@ impl State {
     }
 
     /// Sends the next packet of the group that was begun.
+    #[inline(always)]
     pub fn send(&mut self) -> Played
         requires fitted { IsFitted self.old }
         requires left { self.old.sent < vec_len self.old.group }

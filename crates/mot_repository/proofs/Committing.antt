@@ -15,7 +15,8 @@ use Rattle.mot_journal.proofs.Laws.{stands_by_parts, standing_stays, clean_stays
 use Rattle.std.specs.Prelude.{IsFalse}
 use Rattle.mot_carousel.specs.declared.command.Command.{Command}
 use Rattle.mot_carousel.specs.declared.command.Done.{Done}
-use Rattle.mot_repository.specs.Repository.{RepositoryView, Agrees, IsOf, IsNext, IsBeforeOrAfter, Holds}
+use Rattle.mot_repository.specs.Outcome.{after_command}
+use Rattle.mot_repository.specs.Repository.{RepositoryView, Agrees, IsOf, IsBeforeOrAfter, Holds}
 
 -- an image torn in a gap alone stands for the same, and has the same records
 module _ (view : RepositoryView) (s : Standing) (records : List Record) (c : Catalogue) (from n : ℕ)
@@ -94,15 +95,15 @@ module _ (view : RepositoryView) (s : Standing) (records : List Record) (r : Rec
       outcome
 
   -- at each moment of the write and the append: before the command, or after it
-  pub any_moment : (command : Command) (done : Done) (old mid now : State) → IsHonestDisk mid → Throughout old mid (IsOf s)
+  pub any_moment : (layout : Layout) (command : Command) (done : Done) (old mid now : State) → IsHonestDisk mid → Throughout old mid (IsOf s)
       → (holds : Holds view s mid) → holds.records ≡ records
-      → IsNext s command done (standing_of view.journal.geometry next mid.bytes)
+      → after_command layout s command ≡ Ok (standing_of view.journal.geometry next mid.bytes, done)
       → Throughout mid now (WithoutOrWith view.journal records r mid)
-      → Throughout old now (IsBeforeOrAfter s command)
-  any_moment command done old mid now sound so_far holds same is_next time =
+      → Throughout old now (IsBeforeOrAfter layout s command)
+  any_moment layout command done old mid now sound so_far holds same is_next time =
       let has : (a : List ℕ) → mid.MayLeave a → HasRecords view.journal records a = λ a left. subst (λ l. HasRecords view.journal l a) same (holds.journal.each a left) in
-      joins old mid now (IsBeforeOrAfter s command) (WithoutOrWith view.journal records r mid)
-      (weakens old mid (IsOf s) (IsBeforeOrAfter s command) so_far (λ image is. inl is)) time
+      joins old mid now (IsBeforeOrAfter layout s command) (WithoutOrWith view.journal records r mid)
+      (weakens old mid (IsOf s) (IsBeforeOrAfter layout s command) so_far (λ image is. inl is)) time
       (λ image outcome. ⊎_elim (λ is. inl is) (λ is. inr (done, standing_of view.journal.geometry next mid.bytes, is_next, is)) (outcome_is mid image holds.each has outcome))
 
   -- and once it is Ok, after it alone

@@ -1,17 +1,23 @@
 -- Objects and their extents, beside each other, as a catalogue has them.
 use Rattle.std.proofs.Common.{◌≡◌, ℕ, zero, suc, ◌+◌, ◌<◌, Bool, true, false, cond, List, [], ◌∷◌, ◌++◌, length, map, get_or, set, take, Option, Some, None, refl, sym, ap, ◌∙◌, subst, arith}
 use Rattle.std.proofs.lemmas.Iterator.Adapters.{position_from-zero}
+use Rattle.std.proofs.lemmas.List.{length-map}
 use Rattle.std.proofs.lemmas.Slice.Eq.{bytes_eq-Decides}
-use Rattle.std.specs.List.{position_from}
-use Rattle.std.specs.Prelude.{bytes_eq, remove}
+use Rattle.std.specs.List.{position_from, position_or_len}
+use Rattle.std.specs.Option.{option_map_or}
+use Rattle.std.specs.Prelude.{bytes_eq, not, nat_lt, position, remove}
 use Rattle.mot_carousel.specs.Stands.{place_of}
 use Rattle.mot_carousel.specs.declared.object.Object.{Object}
 use Rattle.mot_journal.specs.declared.record.Record.{Record}
 use Rattle.mot_journal.specs.declared.record.Action.{Action}
 use Rattle.mot_journal.specs.declared.record.Action.TheVariants.{Set}
 use Rattle.mot_journal.specs.Catalogue.{Placed, Catalogue}
+use Rattle.mot_carousel.specs.declared.command.Command.{Command}
+use Rattle.mot_carousel.specs.declared.command.Command.TheVariants.{Put, Replace, Withdraw, Period}
 use Rattle.mot_repository.specs.Extents.{objects_in}
-use Rattle.mot_repository.specs.Laws.{records_of_objects, extent_of, extents_with, extents_without}
+use Rattle.mot_repository.specs.Inner.Following.{extent_of, extents_with, extents_without, placed_extents_after}
+use Rattle.mot_repository.specs.Laws.{records_of_objects}
+use Rattle.mot_repository.specs.Outcome.{extents_after}
 use Rattle.mot_repository.specs.Prepared.{kept_object_named}
 
 -- an extent for each object, of its length
@@ -146,6 +152,47 @@ module _ (name : List ℕ) where
   extents_without-nowhere (e ∷ es) b (other o os isnt rest) =
       ap (λ t. cond t (map extent_of (objects_in os es)) (e ∷ extents_without name (objects_in os es))) isnt
       ∙ ap (λ l. e ∷ l) (extents_without-nowhere es (tail b) rest)
+
+-- ---- by the names
+
+abbrev pub names_in : List Object → List (List ℕ)
+names_in os = map (λ (o : Object). o.name) os
+
+module _ (name : List ℕ) where
+  length-names : (os : List Object)
+      → position_or_len (λ n. bytes_eq n name) (names_in os) ≡ position_or_len (λ (o : Object). bytes_eq o.name name) os
+  length-names [] = refl
+  length-names (o ∷ os) = ap (λ k. cond (not (bytes_eq o.name name)) (1 + k) 0) (length-names os)
+
+  -- the place of a name is that of its object
+  pub place-names : (os : List Object) → position (λ n. bytes_eq n name) (names_in os) ≡ place_of name os
+  place-names os =
+      ap (λ k. cond (nat_lt k (length (names_in os))) (Some k) None) (length-names os)
+      ∙ ap (λ l. cond (nat_lt (position_or_len (λ (o : Object). bytes_eq o.name name) os) l)
+      (Some (position_or_len (λ (o : Object). bytes_eq o.name name) os)) None) (length-map os (λ (o : Object). o.name))
+
+  with-cases : (os : List Object) (es : List (ℕ × ℕ)) (x : ℕ × ℕ) → AreBeside os es → (place : Option ℕ) → place_of name os ≡ place
+      → extents_with name x (objects_in os es) ≡ option_map_or (λ i. set es i x) place es
+  with-cases os es x b None is = extents_with-nowhere name es x b (nowhere-place name os is)
+  with-cases os es x b (Some i) is = extents_with-first name es x b (first-place name i os is)
+
+  without-cases : (os : List Object) (es : List (ℕ × ℕ)) → AreBeside os es → (place : Option ℕ) → place_of name os ≡ place
+      → extents_without name (objects_in os es) ≡ option_map_or (remove es) place es
+  without-cases os es b None is = extents_without-nowhere name es b (nowhere-place name os is)
+  without-cases os es b (Some i) is = extents_without-first name es b (first-place name i os is)
+
+-- the extents of placed objects after a command are those that stand beside the names
+pub placed-names : (os : List Object) (es : List (ℕ × ℕ)) (command : Command) (start : ℕ) → AreBeside os es
+    → placed_extents_after (objects_in os es) command start ≡ extents_after (names_in os) es command start
+placed-names os es (Put name content mime body) start b =
+    ap (λ l. l ++ (start, length body) ∷ []) (extents-objects_in os es b)
+placed-names os es (Replace name content mime body) start b =
+    with-cases name os es (start, length body) b (place_of name os) refl
+    ∙ ap (λ p. option_map_or (λ i. set es i (start, length body)) p es) (sym (place-names name os))
+placed-names os es (Withdraw name) start b =
+    without-cases name os es b (place_of name os) refl
+    ∙ ap (λ p. option_map_or (remove es) p es) (sym (place-names name os))
+placed-names os es (Period period) start b = extents-objects_in os es b
 
 -- ---- as records
 

@@ -19,8 +19,7 @@ use Rattle.mot_journal.specs.declared.record.Action.{Action}
 use Rattle.mot_journal.specs.declared.record.Action.TheVariants.{Nothing}
 use Rattle.mot_journal.specs.Catalogue.{Placed, Catalogue, put_in_place, objects_without, in_place_or_appended, objects_after, are_all_apart, is_consistent, catalogue_after, body_in, carousel_in, extents_of}
 use Rattle.mot_repository.specs.Gap.{is_beside}
-use Rattle.mot_repository.specs.Laws.{extent_of, extents_with, extents_without, extents_after}
-use Rattle.mot_repository.specs.Inner.Following.{object_named, set_action, remove_action, record_of, IsPlaced, RecordsFollowCommands}
+use Rattle.mot_repository.specs.Inner.Following.{extent_of, extents_with, extents_without, placed_extents_after, object_named, set_action, remove_action, record_of, IsPlaced, RecordsFollowCommands}
 use Rattle.mot_repository.proofs.Folding.{numbered, step_from, is_put, put_apart, push_apart, are_beside, is_gone, gone_apart}
 
 abbrev whole : List ℕ → Placed → Object
@@ -233,7 +232,7 @@ named-cases c taken (Some os) s e = (os, refl, cc)
 abbrev Law : ℕ → ℕ → List ℕ → Catalogue → Command → Carousel × Done → Type 0
 Law limit start area c command made =
     (after : Catalogue) × (catalogue_after limit c (record_of (carousel_in area c) made.0 command start) ≡ Some after) × (carousel_in area after ≡ made.0)
-    × (extents_of after ≡ extents_after c.objects command start)
+    × (extents_of after ≡ placed_extents_after c.objects command start)
 
 parts-apart : (c : Catalogue) → is_consistent c ≡ true → are_all_apart c.objects ≡ true
 parts-apart c e = (and_parts (is_distinct (c.directory ∷ tids c.objects)) (are_all_apart c.objects) e).1

@@ -5,6 +5,10 @@ use Rattle.mot_repository.proofs.Soundness.{keeps}
 pub use Rattle.mot_repository.proofs.Bodies.{body_held}
 -- a journal stands where an image has its records
 pub use Rattle.mot_repository.proofs.Places.{stands_where}
+-- what a command comes to: the parts of an accepted one, and each refusal is one of five
+pub use Rattle.mot_repository.proofs.Outcomes.{IsAccepted, accepted_parts, accepted_of, refused_so}
+-- what is kept in memory agrees with something
+pub use Rattle.mot_repository.proofs.Outcomes.{some_standing}
 -- what an image of bytes stands for keeps the rules of objects
 pub use Rattle.mot_repository.proofs.Rules.{rules_kept}
 

@@ -15,6 +15,8 @@ pub mod LongestGap
 pub mod Listing
 mod Moved
 pub mod OpenDisk
+mod OutcomeRows
+pub mod Outcomes
 pub mod Pairwise
 mod Places
 pub mod Planned

@@ -1,18 +1,17 @@
 -- What is prepared for a command in memory is that of the command, can be written, and leaves an inventory without faults.
-use Rattle.std.proofs.Common.{◌≡◌, ◌⊎◌, inl, inr, ⊎_elim, Bool, ℕ, ◌+◌, ◌<◌, ◌≤◌, true, false, List, [], ◌∷◌, length, map, Option, Some, None, Err, refl, sym, ap, ◌∙◌, subst, arith}
-use Rattle.std.proofs.lemmas.Bool.{false≢true, and_from, le-leb, lt-ltb}
+use Rattle.std.proofs.Common.{◌≡◌, ◌⊎◌, inl, inr, ⊎_elim, ℕ, ◌+◌, ◌<◌, ◌≤◌, true, false, List, [], ◌∷◌, length, map, Option, Some, None, Err, refl, sym, ap, ◌∙◌, subst, arith}
+use Rattle.std.proofs.lemmas.Bool.{and_from, le-leb, lt-ltb, ltb-false}
 use Rattle.std.proofs.lemmas.List.Elements.{All-nil, All-cons}
-use Rattle.std.specs.Prelude.{All, IsFalse, IsTrue, ◌↔◌, MatchOption}
+use Rattle.std.specs.Prelude.{All, IsFalse, MatchOption}
 use Rattle.std.specs.List.{AllByRecursion}
 use Rattle.std.specs.Option.{option_map_or}
 use Rattle.mot_base.specs.Geometry.{area_start}
 use Rattle.mot_base.specs.declared.geometry.Geometry.{Geometry}
 use Rattle.mot_base.specs.declared.refusal.Refusal.{Refusal}
-use Rattle.mot_base.specs.declared.refusal.Refusal.TheVariants.{OutOfMemory}
+use Rattle.mot_base.specs.declared.refusal.Refusal.TheVariants.{BadName, NoRoom, OutOfMemory}
 use Rattle.mot_carousel.specs.Carousel.{change}
 use Rattle.mot_carousel.specs.Carousel as whole
 use Rattle.mot_carousel.specs.Mime.{IsMime}
-use Rattle.mot_carousel.specs.Name.{IsName}
 use Rattle.mot_carousel.proofs.Laws.{name_true, mime_true}
 use Rattle.mot_carousel.specs.Stands.{object_of, objects_of, carousel_of, bodies_after, IsPlan}
 use Rattle.mot_carousel.specs.declared.carousel.Carousel.{Carousel}
@@ -24,23 +23,24 @@ use Rattle.mot_journal.specs.Catalogue.{Placed, Catalogue, body_in, carousel_in}
 use Rattle.mot_base.specs.Geometry.{is_valid}
 use Rattle.mot_journal.specs.Slot.{is_sound, is_sound_action, longest_name, slot_count}
 use Rattle.mot_carousel.specs.Mime.{is_mime}
-use Rattle.mot_carousel.specs.Name.{is_name}
 use Rattle.mot_journal.specs.declared.layout.Layout.{Layout}
 use Rattle.mot_journal.specs.declared.layout.Layout.TheVariants.{One, Two}
 use Rattle.mot_journal.specs.declared.record.Action.{Action}
 use Rattle.mot_journal.specs.declared.record.Action.TheVariants.{Nothing, Set, Remove}
 use Rattle.mot_journal.specs.declared.record.Record.{Record}
-use Rattle.mot_repository.specs.Answers.{ChangesTo, HasLongName, HasRoomForName, HasNoGap, IsRefusal}
-use Rattle.mot_repository.specs.Extents.{body_of, LiesAtLeastGap, objects_in, catalogue_in, catalogue_with, ArePaired}
-use Rattle.mot_repository.specs.Inner.Planned.{start_of, HasFields, IsTyped}
+use Rattle.mot_repository.specs.Answers.{IsRefusal}
+use Rattle.mot_repository.specs.Extents.{objects_in, catalogue_in, catalogue_with, names_kept, ArePaired}
+use Rattle.mot_repository.specs.Outcome.{body_of, has_long_name, start_of, extents_after}
+use Rattle.mot_repository.specs.Inner.Planned.{HasFields, IsTyped}
 use Rattle.mot_repository.specs.Whole.{IsWhole}
-use Rattle.mot_repository.specs.Laws.{extents_after, records_of_catalogue}
-use Rattle.mot_repository.specs.Prepared.{CanBeGiven, IsFull, IsPreparedFor, kept_object_named, kept_set, kept_remove, kept_action, kept_record}
+use Rattle.mot_repository.specs.Laws.{records_of_catalogue}
+use Rattle.mot_repository.specs.Prepared.{ChangesTo, CanBeGiven, IsFull, IsPreparedFor, kept_object_named, kept_set, kept_remove, kept_action, kept_record}
 use Rattle.mot_repository.specs.Ready.{IsPrepared}
 use Rattle.mot_repository.specs.Repository.{RepositoryView}
+use Rattle.mot_repository.proofs.Outcomes.{refused_name, refused_rules, refused_room, same_rules, same_start}
 use Rattle.mot_repository.specs.declared.prepared.Prepared.{Prepared}
-use Rattle.mot_repository.proofs.Extents.{AreBeside, extents-objects_in, kept_object_named-name}
-use Rattle.mot_repository.proofs.Preparing.{IsMatched, matched, IsKept, all-within, body-length, same-catalogue, same-change, made, Made, some-area, some-slice, some-length, gap-fits}
+use Rattle.mot_repository.proofs.Extents.{AreBeside, extents-objects_in, kept_object_named-name, placed-names}
+use Rattle.mot_repository.proofs.Preparing.{IsMatched, matched, IsKept, all-within, body-length, same-catalogue, same-change, made, Made, sizes-of, some-area, some-slice, some-length, gap-fits}
 use Rattle.mot_repository.proofs.Reading.{IsRead, HasShortId}
 use Rattle.mot_repository.proofs.Rewriting.{fold-all}
 use Rattle.mot_repository.proofs.Soundness.{whole-step, is_rewriting}
@@ -90,6 +90,7 @@ in_memory view valid is paired =
       whole = is;
       is = refl;
       extents = sym (extents-objects_in os es paired);
+      paired = paired;
       carousel = λ area long. ap (λ (l : List whole.Object). let k : whole.Carousel =
           record { period = c.period; directory = c.directory; cursor = c.cursor; objects = l } in k) (objects-whole area os es);
       bodies = λ area long. lengths-whole g area long os es paired (all-within g view c.objects is.each);
@@ -101,19 +102,11 @@ pub record IsAfter (g : Geometry) (layout : Layout) (next : Carousel) (extents :
   pub whole : IsWhole g layout (catalogue_with next extents)
   pub paired : ArePaired next extents
 
-sizes-of : (g : Geometry) (area : List ℕ) → g.data_area ≤ length area → (ps : List Placed)
-    → AllByRecursion (λ (p : Placed). p.start + p.object.length ≤ g.data_area) ps
-    → map (λ (e : ℕ × ℕ). e.1) (map (λ (p : Placed). (p.start, p.object.length)) ps) ≡ map length (map (λ (p : Placed). body_in area p) ps)
-sizes-of g area long [] within = refl
-sizes-of g area long (p ∷ ps) within =
-    ap (λ n. n ∷ map (λ (e : ℕ × ℕ). e.1) (map (λ (q : Placed). (q.start, q.object.length)) ps)) (sym (body-length g area p within.0 long))
-    ∙ ap (λ l. length (body_in area p) ∷ l) (sizes-of g area long ps within.1)
-
 pub is_after : (view : RepositoryView) (command : Command) (done : Done) (next : Carousel) (from : ℕ) (r : Record) (given : List Record)
     → IsPreparedFor view command done next from r given → is_valid view.journal.geometry ≡ true
     → IsWhole view.journal.geometry view.journal.layout (catalogue_in view) → ArePaired view.carousel view.extents
     → IsRead view.journal.geometry view.journal.layout r
-    → IsAfter view.journal.geometry view.journal.layout next (extents_after (catalogue_in view).objects command from)
+    → IsAfter view.journal.geometry view.journal.layout next (extents_after (names_kept view.carousel) view.extents command from)
 is_after view command done next from r given prepared valid is paired read =
     let g : Geometry = view.journal.geometry in
     let c : Catalogue = catalogue_in view in
@@ -133,14 +126,15 @@ is_after view command done next from r given prepared valid is paired read =
     (sym m.2 ∙ ap (λ k. change k g.objects command) (kept.carousel area long) ∙ change_is.0) in
     let ms : IsMatched g next.objects.items after.objects = matched g area long next.objects.items (bodies_after view.carousel command bodies) after.objects
     (sym (ap (λ (k : whole.Carousel). k.objects) same)) change_is.1 within in
-    let extents : List (ℕ × ℕ) = extents_after c.objects command from in
+    let extents : List (ℕ × ℕ) = extents_after (names_kept view.carousel) view.extents command from in
+    let lie = m.3 ∙ placed-names view.carousel.objects.items view.extents command from paired in
     let catalogue : catalogue_with next extents ≡ after =
     same-catalogue next.period after.period next.directory after.directory next.cursor after.cursor (objects_in next.objects.items extents) after.objects
     (sym (ap (λ (k : whole.Carousel). k.period) same)) (sym (ap (λ (k : whole.Carousel). k.directory) same))
-    (sym (ap (λ (k : whole.Carousel). k.cursor) same)) (ap (objects_in next.objects.items) (sym m.3) ∙ ms.placed) in
+    (sym (ap (λ (k : whole.Carousel). k.cursor) same)) (ap (objects_in next.objects.items) (sym lie) ∙ ms.placed) in
     record {
       whole = subst (IsWhole g view.journal.layout) (sym catalogue) after_whole;
-      paired = ap (map (λ (e : ℕ × ℕ). e.1)) (sym m.3) ∙ sizes-of g area long after.objects within ∙ ms.sizes area long;
+      paired = ap (map (λ (e : ℕ × ℕ). e.1)) (sym lie) ∙ sizes-of g area long after.objects within ∙ ms.sizes area long;
     }
 
 -- ---- the record of a command has no fault of fields
@@ -153,11 +147,7 @@ mime-is (Some bytes) is = mime_true bytes is
 abbrev Fits : Geometry → Layout → Action → Type 0
 Fits g layout Nothing = Unit {0}
 Fits g layout (Remove tid) = Unit {0}
-Fits g layout (Set tid version content start size name mime) = (start + size ≤ g.data_area) × (layout ≡ One → 100 < length name → ⊥)
-
-short-name : (layout : Layout) (name : List ℕ) → IsName name → (layout ≡ One → 100 < length name → ⊥) → length name ≤ longest_name layout
-short-name One name is short = let no : 100 < length name → ⊥ = short refl in omega (arith, no)
-short-name Two name is short = is.short
+Fits g layout (Set tid version content start size name mime) = (start + size ≤ g.data_area) × (length name ≤ longest_name layout)
 
 sound-action : (g : Geometry) (layout : Layout) (a : Action) → HasFields a → Fits g layout a → is_sound_action g layout a ≡ true
 sound-action g layout Nothing is fits = refl
@@ -166,28 +156,28 @@ sound-action g layout (Set tid version content start size name mime) is fits =
     and_from _ _ (and_from _ _ (and_from _ _ (and_from _ _ (and_from _ _ (and_from _ _ (lt-ltb 0 tid is.id.0)
     (le-leb content.content_type 63 is.kind)) (le-leb content.subtype 511 is.subkind))
     (and_from _ _ (le-leb 1 size is.some) (le-leb size 262144 is.short))) (le-leb (start + size) g.data_area fits.0))
-    (name_true (longest_name layout) name is.is_name (short-name layout name is.is_name fits.1))) (mime-is mime is.is_mime)
+    (name_true (longest_name layout) name is.is_name fits.1)) (mime-is mime is.is_mime)
 
 -- a command's object is set under its name
 set-fits : (g : Geometry) (layout : Layout) (name : List ℕ) (from size : ℕ) (items : List Object) (o : Option Object) → kept_object_named name items ≡ o
-    → from + size ≤ g.data_area → (layout ≡ One → 100 < length name → ⊥) → Fits g layout (kept_set from size o)
+    → from + size ≤ g.data_area → length name ≤ longest_name layout → Fits g layout (kept_set from size o)
 set-fits g layout name from size items None is le short = tt
 set-fits g layout name from size items (Some o) is le short =
-    (le, subst (λ (n : List ℕ). layout ≡ One → 100 < length n → ⊥) (sym (kept_object_named-name name items o is)) short)
+    (le, subst (λ (n : List ℕ). length n ≤ longest_name layout) (sym (kept_object_named-name name items o is)) short)
 
 remove-fits : (g : Geometry) (layout : Layout) (o : Option Object) → Fits g layout (kept_remove o)
 remove-fits g layout None = tt
 remove-fits g layout (Some o) = tt
 
 action-fits : (g : Geometry) (layout : Layout) (extents : List (ℕ × ℕ)) (old next : Carousel) (command : Command) (from : ℕ)
-    → start_of extents g.data_area command ≡ Some from → (layout ≡ One → HasLongName command → ⊥)
+    → start_of extents g.data_area command ≡ Some from → has_long_name layout command ≡ false
     → Fits g layout (kept_action old next command from)
 action-fits g layout extents old next (Put name content mime body) from lies short =
     set-fits g layout name from (length body) next.objects.items (kept_object_named name next.objects.items) refl
-    (gap-fits extents (length body) g.data_area from lies).0 short
+    (gap-fits extents (length body) g.data_area from lies).0 (ltb-false (longest_name layout) (length name) short)
 action-fits g layout extents old next (Replace name content mime body) from lies short =
     set-fits g layout name from (length body) next.objects.items (kept_object_named name next.objects.items) refl
-    (gap-fits extents (length body) g.data_area from lies).0 short
+    (gap-fits extents (length body) g.data_area from lies).0 (ltb-false (longest_name layout) (length name) short)
 action-fits g layout extents old next (Withdraw name) from lies short = remove-fits g layout (kept_object_named name old.objects.items)
 action-fits g layout extents old next (Period period) from lies short = tt
 
@@ -207,25 +197,9 @@ is_read g layout r typed fits = record {
 
 -- ---- what is prepared
 
-lies-at : (view : RepositoryView) (command : Command) (from : ℕ) → start_of view.extents view.journal.geometry.data_area command ≡ Some from
-    → LiesAtLeastGap view command from
-lies-at view (Put name content mime body) from e = e
-lies-at view (Replace name content mime body) from e = e
-lies-at view (Withdraw name) from e = cc
-lies-at view (Period period) from e = cc
-
 body-within : (g : Geometry) (extents : List (ℕ × ℕ)) (command : Command) (from : ℕ) → start_of extents g.data_area command ≡ Some from
     → from + length (body_of command) ≤ g.data_area
-body-within g extents (Put name content mime body) from e = (gap-fits extents (length body) g.data_area from e).0
-body-within g extents (Replace name content mime body) from e = (gap-fits extents (length body) g.data_area from e).0
-body-within g extents (Withdraw name) from e = let zero_is : from ≡ 0 = cc in omega arith
-body-within g extents (Period period) from e = let zero_is : from ≡ 0 = cc in omega arith
-
-pub no-gap : (view : RepositoryView) (command : Command) → start_of view.extents view.journal.geometry.data_area command ≡ None → HasNoGap view command
-no-gap view (Put name content mime body) e = e
-no-gap view (Replace name content mime body) e = e
-no-gap view (Withdraw name) e = cc
-no-gap view (Period period) e = cc
+body-within g extents command from e = (gap-fits extents (length (body_of command)) g.data_area from e).0
 
 all-of : {X : Type 0} (P : X → Type 0) (xs : List X) → AllByRecursion P xs → All P xs
 all-of P [] a = All-nil P
@@ -240,7 +214,7 @@ pub record IsWorkedOut (view : RepositoryView) (command : Command) (next : Carou
   pub valid : is_valid view.journal.geometry ≡ true
   pub whole : IsWhole view.journal.geometry view.journal.layout (catalogue_in view)
   pub paired : ArePaired view.carousel view.extents
-  pub room : HasRoomForName view command
+  pub short : has_long_name view.journal.layout command ≡ false
   pub changes : ChangesTo view.carousel view.journal.geometry.objects command next done
   pub lies : start_of view.extents view.journal.geometry.data_area command ≡ Some from
   pub record_is : r ≡ kept_record view.carousel next command from
@@ -249,20 +223,20 @@ pub record IsWorkedOut (view : RepositoryView) (command : Command) (next : Carou
 module _ (view : RepositoryView) (command : Command) (next : Carousel) (done : Done) (from : ℕ) (r : Record)
     (is : IsWorkedOut view command next done from r) where
   prepared : IsPreparedFor view command done next from r (records_of_catalogue (catalogue_in view))
-  prepared = record { changes = is.changes; lies = lies-at view command from is.lies; record_is = is.record_is; given_is = λ full. refl }
+  prepared = record { short = is.short; changes = is.changes; lies = is.lies; record_is = is.record_is; given_is = λ full. refl }
 
   read : IsRead view.journal.geometry view.journal.layout r
   read = is_read view.journal.geometry view.journal.layout r is.typed
       (subst (λ (q : Record). Fits view.journal.geometry view.journal.layout q.action) (sym is.record_is)
-      (action-fits view.journal.geometry view.journal.layout view.extents view.carousel next command from is.lies is.room))
+      (action-fits view.journal.geometry view.journal.layout view.extents view.carousel next command from is.lies is.short))
 
-  pub kept_after : IsAfter view.journal.geometry view.journal.layout next (extents_after (catalogue_in view).objects command from)
+  pub kept_after : IsAfter view.journal.geometry view.journal.layout next (extents_after (names_kept view.carousel) view.extents command from)
   kept_after = is_after view command done next from r (records_of_catalogue (catalogue_in view)) prepared is.valid is.whole is.paired read
 
 pub prepared_is : (view : RepositoryView) (command : Command) (p : Prepared) (from : ℕ)
     → IsWorkedOut view command p.inventory.carousel p.done from p.record → (IsFull view.journal → p.given.items ≡ records_of_catalogue (catalogue_in view))
     → p.at ≡ area_start view.journal.geometry + from → p.body.items ≡ body_of command
-    → p.inventory.extents.items ≡ extents_after (catalogue_in view).objects command from → IsPrepared view command p
+    → p.inventory.extents.items ≡ extents_after (names_kept view.carousel) view.extents command from → IsPrepared view command p
 prepared_is view command p from is given at body extents =
     let g : Geometry = view.journal.geometry in
     let layout : Layout = view.journal.layout in
@@ -274,7 +248,7 @@ prepared_is view command p from is given at body extents =
         from = from;
         at_is = at;
         body_is = body;
-        prepared = record { changes = is.changes; lies = lies-at view command from is.lies; record_is = is.record_is; given_is = given };
+        prepared = record { short = is.short; changes = is.changes; lies = is.lies; record_is = is.record_is; given_is = given };
         extents_are = extents;
       };
       given = λ full. subst (λ (l : List Record). CanBeGiven view.journal l) (sym (given full)) (record {
@@ -294,13 +268,25 @@ is-memory : (r : Refusal) → (r ≡ OutOfMemory) ⊎ (r ≡ OutOfMemory → ⊥
 is-memory OutOfMemory = inl refl
 is-memory _ = inr (λ e. cc)
 
-pub plan_refused : (view : RepositoryView) (command : Command) (refusal : Refusal) → IsFalse view.halted → HasRoomForName view command
-    → IsPlan view.carousel view.journal.geometry.objects command (Err refusal) → IsRefusal view command refusal
-plan_refused view command refusal going room plan = ⊎_elim
-    (λ memory. IsRefusal.no_memory going room memory)
-    (λ other. IsRefusal.by_rules going room (λ bodies b. ⊎_elim (λ memory. absurd (other memory)) (λ e. e) (plan bodies b)))
-    (is-memory refusal)
+module _ (view : RepositoryView) (command : Command) (going : IsFalse view.halted) where
+  -- the name is too long
+  pub name_refused : has_long_name view.journal.layout command ≡ true → IsRefusal view command BadName
+  name_refused long = IsRefusal.by_rules going (λ s agrees. refused_name view.journal.layout s command long)
 
-pub has_room : (view : RepositoryView) (layout : Layout) (command : Command) (b : Bool) → (IsTrue b ↔ ((layout ≡ One) × HasLongName command))
-    → b ≡ false → view.journal.layout ≡ layout → HasRoomForName view command
-has_room view layout command b iff isnt same = λ e long. false≢true (sym isnt ∙ iff.1 (sym same ∙ e, long))
+  -- the rules refuse
+  pub plan_refused : (refusal : Refusal) → has_long_name view.journal.layout command ≡ false
+      → IsPlan view.carousel view.journal.geometry.objects command (Err refusal) → IsRefusal view command refusal
+  plan_refused refusal short plan = ⊎_elim
+      (λ memory. IsRefusal.no_memory going short memory)
+      (λ other. IsRefusal.by_rules going (λ s agrees. refused_rules view.journal.layout s command refusal short
+      (same_rules view s agrees command ∙ ⊎_elim (λ memory. absurd (other memory)) (λ e. e) (plan agrees.bodies agrees.are_bodies))))
+      (is-memory refusal)
+
+  -- no gap holds the body
+  pub room_refused : (next : Carousel) (done : Done) → has_long_name view.journal.layout command ≡ false
+      → ChangesTo view.carousel view.journal.geometry.objects command next done
+      → start_of view.extents view.journal.geometry.data_area command ≡ None → IsRefusal view command NoRoom
+  room_refused next done short changes none = IsRefusal.by_rules going (λ s agrees.
+      refused_room view.journal.layout s command (carousel_of next (bodies_after view.carousel command agrees.bodies), done) short
+      (same_rules view s agrees command ∙ (changes agrees.bodies agrees.are_bodies).0)
+      (sym (same_start view s agrees command) ∙ none))

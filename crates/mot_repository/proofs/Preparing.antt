@@ -1,7 +1,6 @@
 -- What a prepared change writes, and what that makes of the standing.
 use Rattle.std.proofs.Common.{◌≡◌, ℕ, ◌+◌, ◌-◌, ◌<◌, ◌≤◌, Bool, true, false, List, [], ◌∷◌, ◌++◌, length, map, take, drop, replicate, slice_range, Option, Some, None, Result, Ok, refl, sym, ap, ◌∙◌, subst, arith, length-append}
 use Rattle.std.proofs.lemmas.List.{length-take-le, length-drop, length-replicate, take-take, take-append-le, drop-append-le, drop_all, take_all, drop-drop, drop-take}
-use Rattle.std.proofs.lemmas.Bool.{or_left, le-leb, and_from}
 use Rattle.std.specs.Prelude.{IsFalse, bytes_eq, if◌then◌else◌}
 use Rattle.std.specs.List.{AllByRecursion, list_all}
 use Rattle.disk_store.specs.Disk.{State, IsHonestDisk, IsFirm}
@@ -10,11 +9,10 @@ use Rattle.mot_carousel.specs.declared.carousel.Carousel.{Carousel}
 use Rattle.mot_carousel.specs.declared.object.Object.{Object}
 use Rattle.mot_carousel.specs.declared.command.Command.{Command}
 use Rattle.mot_carousel.specs.declared.command.Command.TheVariants.{Put, Replace, Withdraw, Period}
-use Rattle.mot_carousel.specs.declared.command.Change.{Change}
 use Rattle.mot_carousel.specs.declared.command.Done.{Done}
 use Rattle.mot_carousel.specs.Carousel.{change}
 use Rattle.mot_carousel.specs.Carousel as whole
-use Rattle.mot_carousel.specs.Stands.{IsPlan, object_of, objects_of, carousel_of, bodies_after, AreBodiesOf}
+use Rattle.mot_carousel.specs.Stands.{object_of, objects_of, carousel_of, bodies_after, AreBodiesOf}
 use Rattle.mot_base.specs.declared.geometry.Geometry.{Geometry}
 use Rattle.mot_journal.specs.declared.record.Record.{Record}
 use Rattle.mot_journal.specs.declared.record.Action.{Action}
@@ -27,15 +25,18 @@ use Rattle.mot_journal.specs.Journal.{JournalView, with_records, HasRecords}
 use Rattle.mot_journal.proofs.Laws.{stands_by_parts, geometry_read}
 use Rattle.mot_repository.specs.Gap.{is_beside, is_free, least_gap}
 use Rattle.mot_repository.specs.Inner.LeastGap.{IsLeastGap}
-use Rattle.mot_repository.specs.Laws.{extents_after, records_of_catalogue}
-use Rattle.mot_repository.specs.Inner.Following.{IsPlaced, object_named, set_action, remove_action, action_of, record_of}
-use Rattle.mot_repository.specs.Extents.{body_of, LiesAtLeastGap, objects_in, catalogue_in}
+use Rattle.mot_repository.specs.Laws.{records_of_catalogue}
+use Rattle.mot_repository.specs.Inner.Following.{IsPlaced, object_named, set_action, remove_action, action_of, record_of, placed_extents_after}
+use Rattle.mot_repository.specs.Extents.{objects_in, catalogue_in, names_kept, ArePaired}
+use Rattle.mot_repository.specs.Outcome.{body_of, start_of, extents_after, after_command}
 use Rattle.mot_repository.specs.Opening.{IsOpened}
 use Rattle.mot_repository.specs.Inner.Kept.{KeepsCatalogue}
 use Rattle.mot_repository.specs.Prepared.{IsFull, IsPreparedFor, kept_object_named, kept_set, kept_remove, kept_action, kept_record}
-use Rattle.mot_repository.specs.Repository.{RepositoryView, Agrees, IsOf, Holds, IsNext}
+use Rattle.mot_repository.specs.Repository.{RepositoryView, Agrees, IsOf, Holds}
+use Rattle.mot_repository.proofs.Extents.{placed-names}
 use Rattle.mot_repository.proofs.Following as following
 use Rattle.mot_repository.proofs.Gaps.{least_gap_is_least}
+use Rattle.mot_repository.proofs.Outcomes.{accepted_of, same_extents, same_start}
 use Rattle.mot_repository.proofs.Reading.{by_recursion, geometry_is, records_read}
 use Rattle.mot_repository.proofs.Rewriting as rewriting
 use Rattle.mot_repository.specs.Whole.{IsSoundPlaced, IsWhole}
@@ -112,6 +113,7 @@ pub record IsKept (view : RepositoryView) (records : List Record) (c : Catalogue
   pub whole : IsWhole view.journal.geometry view.journal.layout c
   pub is : catalogue_in view ≡ c
   pub extents : view.extents ≡ extents_of c
+  pub paired : ArePaired view.carousel view.extents
   pub carousel : (area : List ℕ) → view.journal.geometry.data_area ≤ length area
       → carousel_in area c ≡ carousel_of view.carousel (map (λ (p : Placed). body_in area p) c.objects)
   pub bodies : (area : List ℕ) → view.journal.geometry.data_area ≤ length area
@@ -121,6 +123,14 @@ pub all-within : (g : Geometry) (view : RepositoryView) (objects : List Placed) 
     → AllByRecursion (λ (p : Placed). p.start + p.object.length ≤ g.data_area) objects
 all-within g view [] a = tt
 all-within g view (p ∷ objects) a = ((placed_in g view.journal.layout p a.0).within, all-within g view objects a.1)
+
+pub sizes-of : (g : Geometry) (area : List ℕ) → g.data_area ≤ length area → (ps : List Placed)
+    → AllByRecursion (λ (p : Placed). p.start + p.object.length ≤ g.data_area) ps
+    → map (λ (e : ℕ × ℕ). e.1) (map (λ (p : Placed). (p.start, p.object.length)) ps) ≡ map length (map (λ (p : Placed). body_in area p) ps)
+sizes-of g area long [] within = refl
+sizes-of g area long (p ∷ ps) within =
+    ap (λ n. n ∷ map (λ (e : ℕ × ℕ). e.1) (map (λ (q : Placed). (q.start, q.object.length)) ps)) (sym (body-length g area p within.0 long))
+    ∙ ap (λ l. length (body_in area p) ∷ l) (sizes-of g area long ps within.1)
 
 same-ok : (j k : DiskRecords) → ◌≡◌ {A = Result DiskRecords Refusal} (Ok j) (Ok k) → j ≡ k
 same-ok j k e = cc
@@ -181,6 +191,8 @@ kept view s state sound holds =
             (objects_in view.carousel.objects.items view.extents) c.objects (sym period) (sym directory) (sym cursor)
             (ap (objects_in view.carousel.objects.items) extents ∙ m.placed);
         extents = extents;
+        paired = ap (map (λ (e : ℕ × ℕ). e.1)) extents
+            ∙ sizes-of g area (area-long image j has.read) c.objects (all-within g view c.objects is.each) ∙ m.sizes area (area-long image j has.read);
         carousel = λ a l. same-carousel c.period view.carousel.period c.directory view.carousel.directory c.cursor view.carousel.cursor
             (wholes a c.objects) (objects_of view.carousel.objects.items (bodies_in a c.objects)) period directory cursor (m.objects a l);
         bodies = m.sizes;
@@ -209,29 +221,13 @@ fold-push limit number c d next (q ∷ records) r e after =
 pub gap-fits : (extents : List (ℕ × ℕ)) (n size from : ℕ) → least_gap extents n size ≡ Some from → (from + n ≤ size) × (is_free extents n from ≡ true)
 gap-fits extents n size from e = (subst (IsLeastGap extents n size) e (least_gap_is_least extents n size)).0
 
--- nothing meets an empty range at 0
-empty-free : (objects : List Placed) → list_all (is_beside 0 0) (extents-in objects) ≡ true
-empty-free [] = refl
-empty-free (p ∷ objects) = and_from _ _ (or_left _ _ (le-leb 0 p.start (omega arith))) (empty-free objects)
-
 module _ (view : RepositoryView) (command : Command) (from : ℕ) (c : Catalogue) (extents : view.extents ≡ extents_of c) where
-  abbrev size : ℕ
-  size = length (body_of command)
-
-  fits : LiesAtLeastGap view command from → (from + length (body_of command) ≤ view.journal.geometry.data_area)
+  fits : start_of view.extents view.journal.geometry.data_area command ≡ Some from
+      → (from + length (body_of command) ≤ view.journal.geometry.data_area)
       × (list_all (is_beside from (length (body_of command))) (extents-in c.objects) ≡ true)
-  fits = by-command command
-    where
-      by-command : (k : Command) → LiesAtLeastGap view k from → (from + length (body_of k) ≤ view.journal.geometry.data_area)
-          × (list_all (is_beside from (length (body_of k))) (extents-in c.objects) ≡ true)
-      by-command (Put name content mime body) lies =
-          let h = gap-fits view.extents (length body) view.journal.geometry.data_area from lies in
-          (h.0, ap (λ l. is_free l (length body) from) (sym extents) ∙ h.1)
-      by-command (Replace name content mime body) lies =
-          let h = gap-fits view.extents (length body) view.journal.geometry.data_area from lies in
-          (h.0, ap (λ l. is_free l (length body) from) (sym extents) ∙ h.1)
-      by-command (Withdraw name) lies = (omega (arith, lies), ap (λ n. list_all (is_beside n 0) (extents-in c.objects)) lies ∙ empty-free c.objects)
-      by-command (Period period) lies = (omega (arith, lies), ap (λ n. list_all (is_beside n 0) (extents-in c.objects)) lies ∙ empty-free c.objects)
+  fits lies =
+      let h = gap-fits view.extents (length (body_of command)) view.journal.geometry.data_area from lies in
+      (h.0, ap (λ l. is_free l (length (body_of command)) from) (sym extents) ∙ h.1)
 
 placed-by : (area : List ℕ) (extents : List (ℕ × ℕ)) (command : Command) (from : ℕ)
     → slice_range area from (from + length (body_of command)) ≡ body_of command
@@ -327,12 +323,11 @@ pub record IsReady (view : RepositoryView) (s : Standing) (command : Command) (d
   pub push : catalogue_of view.journal.geometry.objects (records ++ r ∷ []) ≡ Ok after
   pub given_fold : IsFull view.journal → catalogue_of view.journal.geometry.objects given ≡ Ok c
   pub given_push : IsFull view.journal → catalogue_of view.journal.geometry.objects (given ++ r ∷ []) ≡ Ok after
-  pub extents : extents_of after ≡ extents_after (catalogue_in view).objects command from
   pub beside : AreBeside view.journal.geometry from (length (body_of command)) c.objects
   pub step : (j : JournalView) (list : List Record) (image : List ℕ) → j.geometry ≡ view.journal.geometry
       → catalogue_of view.journal.geometry.objects list ≡ Ok c → HasRecords j list image → IsOf s image
       → slice_range image (area_start view.journal.geometry + from) (area_start view.journal.geometry + from + length (body_of command)) ≡ body_of command
-      → IsNext s command done (standing_of view.journal.geometry after image)
+      → after_command view.journal.layout s command ≡ Ok (standing_of view.journal.geometry after image, done)
 
 module _ (view : RepositoryView) (command : Command) (done : Done) (next : Carousel) (from : ℕ) (r : Record) (given records : List Record) (c : Catalogue)
     (prepared : IsPreparedFor view command done next from r given) (is : IsKept view records c) where
@@ -341,7 +336,7 @@ module _ (view : RepositoryView) (command : Command) (done : Done) (next : Carou
   Made area =
       (after : Catalogue) × (catalogue_after view.journal.geometry.objects c r ≡ Some after)
       × (change (carousel_in area c) view.journal.geometry.objects command ≡ Ok (carousel_in area after, done))
-      × (extents_of after ≡ extents_after c.objects command from)
+      × (extents_of after ≡ placed_extents_after c.objects command from)
 
   pub made : (area : List ℕ) → view.journal.geometry.data_area ≤ length area
       → slice_range area from (from + length (body_of command)) ≡ body_of command → Made area
@@ -367,12 +362,15 @@ module _ (view : RepositoryView) (command : Command) (done : Done) (next : Carou
   same-some : (x y : Catalogue) → ◌≡◌ {A = Option Catalogue} (Some x) (Some y) → x ≡ y
   same-some x y e = cc
 
-  pub is_ready : (s : Standing) → view.journal.geometry ≡ s.geometry → IsReady view s command done from r given records
-  is_ready s geometry =
+  pub is_ready : (s : Standing) → Agrees view s → IsReady view s command done from r given records
+  is_ready s agrees =
       let g : Geometry = view.journal.geometry in
       let body : List ℕ = body_of command in
       let room = fits view command from c is.extents prepared.lies in
       let first = made (some-area from body g.data_area) (some-length from body g.data_area) (some-slice from body g.data_area) in
+      let lie : extents_of first.0 ≡ extents_after (names_kept view.carousel) view.extents command from =
+      first.3 ∙ ap (λ (d : Catalogue). placed_extents_after d.objects command from) (sym is.is)
+      ∙ placed-names view.carousel.objects.items view.extents command from is.paired in
       let rewrites : IsFull view.journal → catalogue_of g.objects given ≡ Ok c =
       λ full. ap (catalogue_of g.objects) (prepared.given_is full ∙ ap records_of_catalogue is.is) ∙ rewriting.keeps g.objects records c is.fold in
       record {
@@ -382,7 +380,6 @@ module _ (view : RepositoryView) (command : Command) (done : Done) (next : Carou
         push = fold-push g.objects 0 _ c first.0 records r is.fold first.1;
         given_fold = rewrites;
         given_push = λ full. fold-push g.objects 0 _ c first.0 given r (rewrites full) first.1;
-        extents = first.3 ∙ sym (ap (λ (d : Catalogue). extents_after d.objects command from) is.is);
         beside = lie_beside g view.journal.layout from (length body) c.objects is.whole.each room.1;
         step = λ j list image same fold has of lies.
             let here = stands_by_parts g (with_records j list) c image same has.read fold in
@@ -392,10 +389,14 @@ module _ (view : RepositoryView) (command : Command) (done : Done) (next : Carou
             let here_made = made (area_of g image) long (area-slice g image body from (length body) room.0 lies) in
             let after = same-some here_made.0 first.0 (sym here_made.1 ∙ first.1) in
             let accepted = subst (λ k. change (carousel_in (area_of g image) c) g.objects command ≡ Ok (carousel_in (area_of g image) k, done)) after here_made.2 in
-            record {
-              geometry = geometry;
-              change_is = subst (λ (t : Standing). change t.carousel t.geometry.objects command ≡ Ok (carousel_in (area_of g image) first.0, done)) standing accepted;
-            };
+            accepted_of view.journal.layout s command done (standing_of g first.0 image) (record {
+              short = prepared.short;
+              rules = subst (λ (t : Standing). change t.carousel t.geometry.objects command ≡ Ok (carousel_in (area_of g image) first.0, done)) standing accepted;
+              start = from;
+              lies = sym (same_start view s agrees command) ∙ prepared.lies;
+              geometry = agrees.geometry;
+              extents = lie ∙ same_extents view s agrees command from;
+            });
       }
 
 -- a prepared change of an open repository is ready
@@ -404,34 +405,13 @@ pub ready : (view : RepositoryView) (command : Command) (done : Done) (next : Ca
     → IsReady view s command done from r given holds.records
 ready view command done next from r given s state prepared sound holds =
     let k = kept view s state sound holds in
-    is_ready view command done next from r given holds.records k.0 prepared k.1 s holds.agrees.geometry
+    is_ready view command done next from r given holds.records k.0 prepared k.1 s holds.agrees
 
 same-pair : (x y : whole.Carousel × Done) → ◌≡◌ {A = Result (whole.Carousel × Done) Refusal} (Ok x) (Ok y) → x ≡ y
 same-pair x y e = cc
 
 pub same-change : (x y : whole.Carousel) (d : Done) → ◌≡◌ {A = Result (whole.Carousel × Done) Refusal} (Ok (x, d)) (Ok (y, d)) → x ≡ y
 same-change x y d e = ap (λ (k : whole.Carousel × Done). k.0) (same-pair (x, d) (y, d) e)
-
--- the carousel and the extents that were prepared agree with what the command makes of the standing
-pub agrees_after : (view view' : RepositoryView) (command : Command) (done : Done) (next : Carousel) (from : ℕ) (r : Record) (given : List Record) (s last : Standing)
-    → IsPreparedFor view command done next from r given → Agrees view s → IsNext s command done last
-    → last.extents ≡ extents_after (catalogue_in view).objects command from
-    → view'.journal.geometry ≡ view.journal.geometry → view'.carousel ≡ next → view'.extents ≡ extents_after (catalogue_in view).objects command from
-    → Agrees view' last
-agrees_after view view' command done next from r given s last prepared agrees is_next extents geometry carousel_is extents_is =
-    let bodies : List (List ℕ) = bodies_after view.carousel command agrees.bodies in
-    let change_is = prepared.changes agrees.bodies agrees.are_bodies in
-    let here : change s.carousel s.geometry.objects command ≡ Ok (carousel_of next bodies, done) =
-    ap (λ k. change k s.geometry.objects command) agrees.carousel
-    ∙ ap (λ (g : Geometry). change (carousel_of view.carousel agrees.bodies) g.objects command) (sym agrees.geometry) ∙ change_is.0 in
-    let same = same-change last.carousel (carousel_of next bodies) done (sym is_next.change_is ∙ here) in
-    record {
-      geometry = geometry ∙ agrees.geometry ∙ sym is_next.geometry;
-      extents = extents_is ∙ sym extents;
-      bodies = bodies;
-      are_bodies = subst (λ (k : Carousel). AreBodiesOf k bodies) (sym carousel_is) change_is.1;
-      carousel = same ∙ ap (λ (k : Carousel). carousel_of k bodies) (sym carousel_is);
-    }
 
 -- ---- what is kept after an opening
 
@@ -476,9 +456,3 @@ opened view old new records c sound read fold keeps count unspent firm =
       count = count;
       unspent = unspent;
     }
-
--- what `plan` answers, a gap, the record of it and the records of a rewrite are a prepared change
-pub prepared_by_plan : (view : RepositoryView) (command : Command) (planned : Change) (from : ℕ)
-    → IsPlan view.carousel view.journal.geometry.objects command (Ok planned) → LiesAtLeastGap view command from
-    → IsPreparedFor view command planned.done planned.next from (kept_record view.carousel planned.next command from) (records_of_catalogue (catalogue_in view))
-prepared_by_plan view command planned from plan lies = record { changes = plan; lies = lies; record_is = refl; given_is = λ full. refl }

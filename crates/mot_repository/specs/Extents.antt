@@ -1,29 +1,9 @@
--- Where the bodies lie, and where a new one goes.
-use Rattle.std.specs.Prelude.{◌≡◌, ℕ, List, map, [], ◌∷◌, length, Some}
+-- Where the bodies lie.
+use Rattle.std.specs.Prelude.{◌≡◌, ℕ, List, map, [], ◌∷◌}
 use Rattle.mot_carousel.specs.declared.carousel.Carousel.{Carousel}
 use Rattle.mot_carousel.specs.declared.object.Object.{Object}
-use Rattle.mot_carousel.specs.declared.command.Command.{Command}
-use Rattle.mot_carousel.specs.declared.command.Command.TheVariants.{Put, Replace, Withdraw, Period}
 use Rattle.mot_journal.specs.Catalogue.{Placed, Catalogue}
-use Rattle.mot_repository.specs.Gap.{least_gap}
-use Rattle.mot_repository.specs.Laws.{extents_after}
 use Rattle.mot_repository.specs.Repository.{RepositoryView}
-
--- the bytes that a command brings
-abbrev pub body_of : Command → List ℕ
-body_of (Put name content mime body) = body
-body_of (Replace name content mime body) = body
-body_of (Withdraw name) = []
-body_of (Period period) = []
-
--- a new body lies at the least gap; what brings no body writes none, at 0
-abbrev pub LiesAtLeastGap : RepositoryView → Command → ℕ → Type 0
-LiesAtLeastGap view (Put name content mime body) from =
-    least_gap view.extents (length body) view.journal.geometry.data_area ≡ Some from
-LiesAtLeastGap view (Replace name content mime body) from =
-    least_gap view.extents (length body) view.journal.geometry.data_area ≡ Some from
-LiesAtLeastGap view (Withdraw name) from = from ≡ 0
-LiesAtLeastGap view (Period period) from = from ≡ 0
 
 -- the objects that are kept, each where its extent says
 abbrev pub objects_in : List Object → List (ℕ × ℕ) → List Placed
@@ -54,13 +34,9 @@ catalogue_with carousel extents = record {
 abbrev pub catalogue_in : RepositoryView → Catalogue
 catalogue_in view = catalogue_with view.carousel view.extents
 
--- The extents after an accepted command: a new body lies at the least gap, and all others stay
--- where they are.
-pub record AreExtentsAfter (old : RepositoryView) (command : Command)
-    (extents : List (ℕ × ℕ)) : Type 0 where
-  pub from : ℕ
-  pub lies : LiesAtLeastGap old command from
-  pub is : extents ≡ extents_after (catalogue_in old).objects command from
+-- the names of the objects that are kept
+abbrev pub names_kept : Carousel → List (List ℕ)
+names_kept carousel = map (λ (o : Object). o.name) carousel.objects.items
 
 -- there is an extent for each object, of the length that it gives
 abbrev pub ArePaired : Carousel → List (ℕ × ℕ) → Type 0

@@ -6,6 +6,7 @@ pub mod Inner
 pub mod Laws
 pub mod OnDisk
 pub mod Opening
+pub mod Outcome
 pub mod Prepared
 pub mod Ready
 pub mod Repository

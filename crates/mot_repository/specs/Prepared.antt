@@ -1,19 +1,21 @@
 -- What a change that is prepared for a command is, and what it writes.
-use Rattle.std.specs.Prelude.{◌≡◌, ◌<◌, ◌≤◌, All, Bool, true, ℕ, ◌+◌, List, [], ◌∷◌, length}
-use Rattle.std.specs.Prelude.{Option, Some, None, bytes_eq, if◌then◌else◌}
+use Rattle.std.specs.Prelude.{◌≡◌, ◌<◌, ◌≤◌, All, Bool, true, false, ℕ, ◌+◌, List, [], ◌∷◌, length}
+use Rattle.std.specs.Prelude.{Option, Some, None, Ok, bytes_eq, if◌then◌else◌}
 use Rattle.mot_carousel.specs.declared.carousel.Carousel.{Carousel}
 use Rattle.mot_carousel.specs.declared.object.Object.{Object}
 use Rattle.mot_carousel.specs.declared.command.Command.{Command}
 use Rattle.mot_carousel.specs.declared.command.Command.TheVariants.{Put, Replace, Withdraw, Period}
 use Rattle.mot_carousel.specs.declared.command.Done.{Done}
+use Rattle.mot_carousel.specs.Carousel.{change}
+use Rattle.mot_carousel.specs.Stands.{carousel_of, bodies_after, AreBodiesOf}
 use Rattle.mot_journal.specs.declared.record.Record.{Record}
 use Rattle.mot_journal.specs.declared.record.Action.{Action}
 use Rattle.mot_journal.specs.declared.record.Action.TheVariants.{Nothing, Set, Remove}
 use Rattle.mot_base.specs.Geometry.{area_start}
 use Rattle.mot_journal.specs.Slot.{is_sound, slot_count}
-use Rattle.mot_repository.specs.Answers.{ChangesTo}
-use Rattle.mot_repository.specs.Extents.{body_of, LiesAtLeastGap, catalogue_in}
-use Rattle.mot_repository.specs.Laws.{records_of_catalogue, extents_after}
+use Rattle.mot_repository.specs.Extents.{catalogue_in, names_kept}
+use Rattle.mot_repository.specs.Laws.{records_of_catalogue}
+use Rattle.mot_repository.specs.Outcome.{body_of, extents_after, has_long_name, start_of}
 use Rattle.mot_journal.specs.Journal.{JournalView}
 use Rattle.mot_repository.specs.Repository.{RepositoryView}
 
@@ -52,12 +54,21 @@ kept_record old next command start = record {
 abbrev pub IsFull : JournalView → Type 0
 IsFull j = slot_count j.layout j.geometry ≤ j.count
 
--- What is prepared for a command: the carousel after it, where its body goes, the record of it, and
--- where the half is full the records that it is rewritten to.
+-- whatever the bodies are, the carousel is changed to this one, and these are the ids taken
+abbrev pub ChangesTo : Carousel → ℕ → Command → Carousel → Done → Type 0
+ChangesTo c limit command next done =
+    (bodies : List (List ℕ)) → AreBodiesOf c bodies →
+    (change (carousel_of c bodies) limit command
+    ≡ Ok (carousel_of next (bodies_after c command bodies), done))
+    × AreBodiesOf next (bodies_after c command bodies)
+
+-- What is prepared for a command that is accepted: the carousel after it, where its body goes, the
+-- record of it, and where the half is full the records that it is rewritten to.
 pub record IsPreparedFor (view : RepositoryView) (command : Command) (done : Done)
     (next : Carousel) (from : ℕ) (r : Record) (given : List Record) : Type 0 where
+  pub short : has_long_name view.journal.layout command ≡ false
   pub changes : ChangesTo view.carousel view.journal.geometry.objects command next done
-  pub lies : LiesAtLeastGap view command from
+  pub lies : start_of view.extents view.journal.geometry.data_area command ≡ Some from
   pub record_is : r ≡ kept_record view.carousel next command from
   pub given_is : IsFull view.journal → given ≡ records_of_catalogue (catalogue_in view)
 
@@ -74,7 +85,8 @@ pub record IsPreparedChange (view : RepositoryView) (command : Command) (done : 
   pub at_is : at ≡ area_start view.journal.geometry + from
   pub body_is : body ≡ body_of command
   pub prepared : IsPreparedFor view command done next from r given
-  pub extents_are : extents ≡ extents_after (catalogue_in view).objects command from
+  pub extents_are : extents
+      ≡ extents_after (names_kept view.carousel) view.extents command from
 
 -- these records can be written into the other half, and leave room there
 pub record CanBeGiven (j : JournalView) (given : List Record) : Type 0 where

@@ -4,11 +4,13 @@ use Rattle.disk_store.specs.Disk.{State}
 use Rattle.mot_carousel.specs.declared.carousel.Carousel.{Carousel}
 use Rattle.mot_carousel.specs.declared.command.Command.{Command}
 use Rattle.mot_carousel.specs.declared.command.Done.{Done}
-use Rattle.mot_carousel.specs.Carousel.{Object, change}
+use Rattle.mot_carousel.specs.Carousel.{Object}
 use Rattle.mot_carousel.specs.Stands.{carousel_of, AreBodiesOf}
+use Rattle.mot_journal.specs.declared.layout.Layout.{Layout}
 use Rattle.mot_journal.specs.declared.record.Record.{Record}
 use Rattle.mot_journal.specs.Journal.{JournalView, HoldsRecords}
 use Rattle.mot_journal.specs.Image.{Standing, stands_for, IsClean}
+use Rattle.mot_repository.specs.Outcome.{after_command}
 
 -- what a repository keeps in memory
 pub record RepositoryView : Type 0 where
@@ -51,13 +53,9 @@ pub record Holds (view : RepositoryView) (s : Standing) (state : State) : Type 0
   pub journal : HoldsRecords view.journal records state
   pub each : (image : List ℕ) → state.MayLeave image → IsOf s image
 
--- one stands for what the command makes of the other, and these are the ids that it took
-pub record IsNext (s : Standing) (command : Command) (done : Done) (next : Standing) : Type 0 where
-  pub geometry : next.geometry ≡ s.geometry
-  pub change_is : change s.carousel s.geometry.objects command ≡ Ok (next.carousel, done)
-
 -- it stands for what was there before the command, or for what the command makes of it
-abbrev pub IsBeforeOrAfter : Standing → Command → List ℕ → Type 0
-IsBeforeOrAfter s command image =
+abbrev pub IsBeforeOrAfter : Layout → Standing → Command → List ℕ → Type 0
+IsBeforeOrAfter layout s command image =
     IsOf s image
-    ⊎ ((done : Done) × (next : Standing) × IsNext s command done next × IsOf next image)
+    ⊎ ((done : Done) × (next : Standing) × (after_command layout s command ≡ Ok (next, done))
+    × IsOf next image)

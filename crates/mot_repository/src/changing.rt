@@ -12,13 +12,13 @@ ghost use Rattle.mot_journal.specs.Slot.{is_sound, slot_count};
 ghost use Rattle.mot_journal.specs.Catalogue.{Catalogue, catalogue_of};
 ghost use Rattle.mot_journal.specs.Image.{Standing};
 ghost use Rattle.mot_repository.specs.Cost.{calls_for, calls_for_room};
-ghost use Rattle.mot_repository.specs.Laws.{extents_after};
 ghost use Rattle.mot_repository.specs.Inner.Following.{RecordsFollowCommands};
 ghost use Rattle.mot_repository.specs.Inner.Following.{RewritingKeepsTheCatalogue, StandingsAreSound};
-ghost use Rattle.mot_repository.specs.Extents.{body_of, catalogue_in};
+ghost use Rattle.mot_repository.specs.Extents.{names_kept};
+ghost use Rattle.mot_repository.specs.Outcome.{after_command, body_of, extents_after};
 ghost use Rattle.mot_repository.specs.Prepared.{CanBeGiven, IsFull, IsPreparedFor};
 ghost use Rattle.mot_repository.specs.Inner.Kept.{HasRoom};
-ghost use Rattle.mot_repository.specs.Repository.{RepositoryView, IsOf, Holds, IsNext};
+ghost use Rattle.mot_repository.specs.Repository.{RepositoryView, IsOf, Holds};
 ghost use Rattle.mot_repository.specs.Repository.{IsBeforeOrAfter};
 
 use crate::writing::write_change;
@@ -102,7 +102,8 @@ pub fn commit_change<D: Disk>(
         → body.now ≡ body_of command
         → IsPreparedFor view command done next from entry.now given.now
         → Holds view s (D.state disk.old)
-        → Throughout (D.state disk.old) (D.state disk.new) (IsBeforeOrAfter s command) }
+        → Throughout (D.state disk.old) (D.state disk.new)
+        (IsBeforeOrAfter view.journal.layout s command) }
 
     // Once it is Ok, what the command makes of it holds: in memory the carousel that was prepared,
     // and its extents.
@@ -112,10 +113,11 @@ pub fn commit_change<D: Disk>(
         → body.now ≡ body_of command
         → IsPreparedFor view command done next from entry.now given.now
         → Holds view s (D.state disk.old)
-        → OnOk result ((last : Standing) × IsNext s command done last
+        → OnOk result ((last : Standing)
+        × (after_command view.journal.layout s command ≡ Ok (last, done))
         × ((view' : RepositoryView) → view'.journal ≡ journal.new → IsFalse view'.halted
         → view'.carousel ≡ next
-        → view'.extents ≡ extents_after (catalogue_in view).objects command from
+        → view'.extents ≡ extents_after (names_kept view.carousel) view.extents command from
         → Holds view' last (D.state disk.new))) }
 {
     make_room(journal, disk, given)?;

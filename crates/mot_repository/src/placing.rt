@@ -1,8 +1,7 @@
 //! Where the bodies lie after a command.
 ghost use Rattle.std.specs.Prelude.{◌≡◌, IfOk};
-ghost use Rattle.mot_repository.specs.Extents.{catalogue_with};
-ghost use Rattle.mot_repository.specs.Inner.Planned.{start_of};
-ghost use Rattle.mot_repository.specs.Laws.{extents_after};
+ghost use Rattle.mot_repository.specs.Extents.{names_kept};
+ghost use Rattle.mot_repository.specs.Outcome.{extents_after, start_of};
 
 use crate::gap::first_fit;
 use crate::inventory::Inventory;
@@ -29,8 +28,8 @@ pub(crate) fn extents_after(
     command: &Command,
     start: u32,
 ) -> Result<Vec<(u32, u32)>, AllocError>
-    ensures { let kept = catalogue_with inventory.now.carousel inventory.now.extents.items in
-        IfOk result (λ extents. extents.items ≡ extents_after kept.objects command.now start) }
+    ensures { IfOk result (λ extents. extents.items ≡ extents_after
+        (names_kept inventory.now.carousel) inventory.now.extents.items command.now start) }
 {
     let mut extents = Vec::from_slice(alloc, &inventory.extents)?;
     match command {

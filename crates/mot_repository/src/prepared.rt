@@ -1,13 +1,12 @@
 //! A command for which all memory was taken, and nothing was written.
-ghost use Rattle.std.specs.Prelude.{◌≡◌, ◌≤◌, ◌+◌, ◌↔◌, true, IsTrue, IsFalse, IfOk, IfErr};
-ghost use Rattle.std.specs.Prelude.{OnOk};
+ghost use Rattle.std.specs.Prelude.{◌≡◌, ◌≤◌, ◌+◌, true, IsTrue, IsFalse, IfOk, IfErr};
 ghost use Rattle.mot_base.specs.Geometry as Sizes;
 ghost use Rattle.mot_base.specs.Geometry.{is_valid};
-ghost use Rattle.mot_journal.specs.declared.layout.Layout.TheVariants.{One};
-ghost use Rattle.mot_repository.specs.Answers.{HasLongName, HasRoomForName, IsRefusal};
-ghost use Rattle.mot_repository.specs.Extents.{body_of, catalogue_with};
+ghost use Rattle.mot_repository.specs.Answers.{IsRefusal};
+ghost use Rattle.mot_repository.specs.Extents.{catalogue_with};
 ghost use Rattle.mot_repository.specs.Whole.{IsWhole};
 ghost use Rattle.mot_repository.specs.Laws.{records_of_catalogue};
+ghost use Rattle.mot_repository.specs.Outcome.{body_of, has_long_name};
 ghost use Rattle.mot_repository.specs.Prepared.{IsFull};
 ghost use Rattle.mot_repository.specs.Ready.{IsPrepared};
 ghost use Rattle.mot_repository.specs.Inner.Kept.{KeepsInventory};
@@ -66,9 +65,6 @@ pub(crate) fn prepare_change(
         → KeepsInventory geometry.now layout inventory.now view
         → (IsFull view.journal → IsTrue is_full)
         → IfOk result (λ p. IsPrepared view command.now p) }
-    ensures room { (view : RepositoryView)
-        → KeepsInventory geometry.now layout inventory.now view
-        → OnOk result (HasRoomForName view command.now) }
     ensures refused { (view : RepositoryView)
         → KeepsInventory geometry.now layout inventory.now view → IsFalse view.halted
         → IfErr result (λ refusal. IsRefusal view command.now refusal) }
@@ -114,19 +110,12 @@ fn records_to_give(
 
 /// Whether the slots of this layout have no room for the name that the command speaks of.
 fn is_name_too_long(layout: Layout, command: &Command) -> bool
-    ensures { IsTrue result ↔ ((layout ≡ One) × HasLongName command.now) }
-{
-    layout == Layout::One && has_long_name(command)
-}
-
-/// Whether the name that the command speaks of has more bytes than a slot of layout 1 holds.
-fn has_long_name(command: &Command) -> bool
-    ensures { IsTrue result ↔ HasLongName command.now }
+    ensures { result ≡ has_long_name layout command.now }
 {
     match command {
-        Command::Put { name, .. } => name.as_bytes().len() > Layout::One.longest_name(),
-        Command::Replace { name, .. } => name.as_bytes().len() > Layout::One.longest_name(),
-        Command::Withdraw { name } => name.as_bytes().len() > Layout::One.longest_name(),
+        Command::Put { name, .. } => name.as_bytes().len() > layout.longest_name(),
+        Command::Replace { name, .. } => name.as_bytes().len() > layout.longest_name(),
+        Command::Withdraw { name } => name.as_bytes().len() > layout.longest_name(),
         Command::Period(_) => false,
     }
 }

@@ -52,20 +52,20 @@ impl<D: Disk> Repository<D> {
     ghost use Rattle.mot_journal.specs.declared.layout.Layout.TheVariants.{One, Two};
     ghost use Rattle.mot_base.specs.Geometry.{is_valid};
     ghost use Rattle.mot_journal.specs.Image.{Standing, stands_for, IsClean, IsInLayoutTwo};
+    ghost use Rattle.mot_journal.specs.Image.{gate_reads};
     ghost use Rattle.mot_journal.specs.Journal.{StandsWhere};
     ghost use Rattle.mot_journal.specs.Slot.{slot_count};
-    ghost use Rattle.mot_repository.specs.Answers.{HasRoomForName, IsRefusal, IsChanged};
-    ghost use Rattle.mot_repository.specs.Answers.{IsAnswered};
+    ghost use Rattle.mot_repository.specs.Answers.{IsRefusal, IsChanged, IsAnswered};
     ghost use Rattle.mot_repository.specs.Answers.{IsHalted, IsMigrationRefusal};
     ghost use Rattle.mot_repository.specs.Cost.{calls_of_command};
     ghost use Rattle.mot_repository.specs.Extents.{ArePaired};
     ghost use Rattle.mot_repository.specs.Gap.{IsLongestGap};
     ghost use Rattle.mot_repository.specs.Inner.InOrder.{IsInOrder};
     ghost use Rattle.mot_repository.specs.OnDisk.{OnDisk, extent_at, body_on, IsCheckRefusal};
+    ghost use Rattle.mot_repository.specs.Outcome.{after_command};
     ghost use Rattle.mot_repository.specs.Prepared.{view_with};
     ghost use Rattle.mot_repository.specs.Ready.{IsPrepared};
-    ghost use Rattle.mot_repository.specs.Repository.{body_at, IsOf, Holds, IsNext};
-    ghost use Rattle.mot_repository.specs.Repository.{IsBeforeOrAfter};
+    ghost use Rattle.mot_repository.specs.Repository.{body_at, IsOf, Holds, IsBeforeOrAfter};
 
     /// An open repository of these parts, not halted.
     pub(crate) fn of(disk: D, journal: Journal, inventory: Inventory) -> Self
@@ -213,7 +213,6 @@ impl<D: Disk> Repository<D> {
     /// no gap holds the body, `OutOfMemory`, and on layout 1 `BadName` for a name above 100 bytes.
     pub fn prepare(&self, alloc: Global, command: &Command) -> Result<Prepared, Refusal>
         ensures prepared { IfOk result (λ p. IsPrepared self.now.view command.now p) }
-        ensures room { OnOk result (HasRoomForName self.now.view command.now) }
         ensures going { OnOk result (IsFalse self.now.view.halted) }
         ensures refused { IfErr result
             (λ refusal. IsRefusal self.now.view command.now refusal) }
@@ -250,18 +249,19 @@ impl<D: Disk> Repository<D> {
         ensures any_moment { (command : Command) → IsPrepared self.old.view command prepared
             → (s : Standing) → Holds self.old.view s (D.state self.old.disk)
             → Throughout (D.state self.old.disk) (D.state self.new.disk)
-            (IsBeforeOrAfter s command) }
+            (IsBeforeOrAfter self.old.view.journal.layout s command) }
 
         // So does a crash now, whether a device fault came or not.
         ensures now { (command : Command) → IsPrepared self.old.view command prepared
             → (s : Standing) → Holds self.old.view s (D.state self.old.disk)
             → (image : List ℕ) → (D.state self.new.disk).MayLeave image
-            → IsBeforeOrAfter s command image }
+            → IsBeforeOrAfter self.old.view.journal.layout s command image }
 
         // Once it is Ok, each crash leaves what it stands for after the command.
         ensures ok { (command : Command) → IsPrepared self.old.view command prepared
             → (s : Standing) → Holds self.old.view s (D.state self.old.disk)
-            → IfOk result (λ done. (next : Standing) × IsNext s command done next
+            → IfOk result (λ done. (next : Standing)
+            × (after_command self.old.view.journal.layout s command ≡ Ok (next, done))
             × Holds self.new.view next (D.state self.new.disk)) }
     {
         let written = commit_change(
@@ -299,16 +299,17 @@ impl<D: Disk> Repository<D> {
         // stands for after it.
         ensures any_moment { (s : Standing) → Holds self.old.view s (D.state self.old.disk)
             → Throughout (D.state self.old.disk) (D.state self.new.disk)
-            (IsBeforeOrAfter s command.now) }
+            (IsBeforeOrAfter self.old.view.journal.layout s command.now) }
 
         // So does a crash now, whether a device fault came or not.
         ensures now { (s : Standing) → Holds self.old.view s (D.state self.old.disk)
             → (image : List ℕ) → (D.state self.new.disk).MayLeave image
-            → IsBeforeOrAfter s command.now image }
+            → IsBeforeOrAfter self.old.view.journal.layout s command.now image }
 
         // Once it is Ok, each crash leaves what it stands for after the command.
         ensures ok { (s : Standing) → Holds self.old.view s (D.state self.old.disk)
-            → IfOk result (λ done. (next : Standing) × IsNext s command.now done next
+            → IfOk result (λ done. (next : Standing)
+            × (after_command self.old.view.journal.layout s command.now ≡ Ok (next, done))
             × Holds self.new.view next (D.state self.new.disk)) }
     {
         let prepared = self.prepare(alloc, command)?;
@@ -319,8 +320,8 @@ impl<D: Disk> Repository<D> {
     pub fn is_clean(&mut self) -> Result<bool, Refusal>
         ensures keeps { KeepsLength (D.state self.old.disk) (D.state self.new.disk) }
         ensures later { (D.state self.old.disk).failures ≤ (D.state self.new.disk).failures }
-        ensures cost { (D.state self.new.disk).calls ≤ (D.state self.old.disk).calls
-            + slot_count self.old.view.journal.layout self.old.view.journal.geometry }
+        ensures cost { (D.state self.new.disk).calls
+            ≤ (D.state self.old.disk).calls + gate_reads self.old.view.journal.geometry }
         ensures calm { OnOk result
             ((D.state self.new.disk).failures ≡ (D.state self.old.disk).failures) }
         ensures view { self.new.view ≡ self.old.view }

@@ -7,15 +7,17 @@ ghost use Rattle.mot_base.specs.declared.refusal.Refusal.TheVariants.{DeviceFaul
 ghost use Rattle.mot_base.specs.Geometry.{area_start, length_of};
 ghost use Rattle.mot_carousel.specs.declared.command.Command.{Command};
 ghost use Rattle.mot_carousel.specs.declared.command.Done.{Done};
+ghost use Rattle.mot_journal.specs.declared.layout.Layout.{Layout};
 ghost use Rattle.mot_journal.specs.declared.record.Record.{Record};
 ghost use Rattle.mot_journal.specs.Slot.{is_sound, slot_count};
-ghost use Rattle.mot_journal.specs.Catalogue.{Catalogue, catalogue_of, extents_of};
+ghost use Rattle.mot_journal.specs.Catalogue.{Catalogue, catalogue_of};
 ghost use Rattle.mot_journal.specs.Image.{Standing};
 ghost use Rattle.mot_journal.specs.Journal.{HasRecords};
 ghost use Rattle.mot_journal.specs.Inner.Gaps.{AreBeside, standing_of};
 ghost use Rattle.mot_repository.specs.Cost.{calls_for_body};
+ghost use Rattle.mot_repository.specs.Outcome.{after_command};
 ghost use Rattle.mot_repository.specs.Repository.{RepositoryView, Agrees, IsOf, Holds};
-ghost use Rattle.mot_repository.specs.Repository.{IsNext, IsBeforeOrAfter};
+ghost use Rattle.mot_repository.specs.Repository.{IsBeforeOrAfter};
 
 use disk_store::Disk;
 use mot_base::Refusal;
@@ -70,7 +72,7 @@ pub fn write_change<D: Disk>(
 
     // At each moment a crash leaves what was there before the command, or what it makes of that.
     ensures any_moment { (view : RepositoryView) (s : Standing) (records : List Record)
-        (c next : Catalogue) (from : ℕ) (command : Command) (done : Done)
+        (c next : Catalogue) (from : ℕ) (layout : Layout) (command : Command) (done : Done)
         → view.journal ≡ journal.old → at ≡ area_start view.journal.geometry + from
         → catalogue_of view.journal.geometry.objects records ≡ Ok c
         → catalogue_of view.journal.geometry.objects (records ++ entry.now ∷ []) ≡ Ok next
@@ -78,12 +80,13 @@ pub fn write_change<D: Disk>(
         → (holds : Holds view s (D.state disk.old)) → holds.records ≡ records
         → ((image : List ℕ) → IsOf s image → HasRecords view.journal records image
         → slice_range image at (at + length body.now) ≡ body.now
-        → IsNext s command done (standing_of view.journal.geometry next image))
-        → Throughout (D.state disk.old) (D.state disk.new) (IsBeforeOrAfter s command) }
+        → after_command layout s command
+        ≡ Ok (standing_of view.journal.geometry next image, done))
+        → Throughout (D.state disk.old) (D.state disk.new) (IsBeforeOrAfter layout s command) }
 
     // Once it is Ok, what agrees with what the command makes of it holds.
     ensures ok { (view : RepositoryView) (s : Standing) (records : List Record)
-        (c next : Catalogue) (from : ℕ) (command : Command) (done : Done)
+        (c next : Catalogue) (from : ℕ) (layout : Layout) (command : Command) (done : Done)
         → view.journal ≡ journal.old → at ≡ area_start view.journal.geometry + from
         → catalogue_of view.journal.geometry.objects records ≡ Ok c
         → catalogue_of view.journal.geometry.objects (records ++ entry.now ∷ []) ≡ Ok next
@@ -91,9 +94,9 @@ pub fn write_change<D: Disk>(
         → (holds : Holds view s (D.state disk.old)) → holds.records ≡ records
         → ((image : List ℕ) → IsOf s image → HasRecords view.journal records image
         → slice_range image at (at + length body.now) ≡ body.now
-        → IsNext s command done (standing_of view.journal.geometry next image))
-        → OnOk result ((last : Standing) × IsNext s command done last
-        × (last.extents ≡ extents_of next)
+        → after_command layout s command
+        ≡ Ok (standing_of view.journal.geometry next image, done))
+        → OnOk result ((last : Standing) × (after_command layout s command ≡ Ok (last, done))
         × ((view' : RepositoryView) → view'.journal ≡ journal.new → IsFalse view'.halted
         → Agrees view' last → Holds view' last (D.state disk.new))) }
 {

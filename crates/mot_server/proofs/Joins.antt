@@ -28,7 +28,7 @@ marks-join layout s mid last (c ∷ commands) others [] rest whole first second 
 marks-join layout s mid last (c ∷ commands) others (true ∷ marks) rest whole first second =
     (first.0, first.1, first.2, marks-join layout first.1 mid last commands others marks rest (omega (arith, whole)) first.3 second)
 marks-join layout s mid last (c ∷ commands) others (false ∷ marks) rest whole first second =
-    (first.0, marks-join layout s mid last commands others marks rest (omega (arith, whole)) first.1 second)
+    (first.0, first.1, marks-join layout s mid last commands others marks rest (omega (arith, whole)) first.2 second)
 
 pub accepted-join : (commands others : List Command) (marks rest : List Bool) → length marks ≡ length commands
     → accepted_commands (commands ++ others) (marks ++ rest) ≡ accepted_commands commands marks ++ accepted_commands others rest

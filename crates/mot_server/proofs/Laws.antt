@@ -1,7 +1,5 @@
 -- What holds of the definitions, for the crates above.
 
--- an accepted command, and one that finds no gap, told of what the disk stands for
-pub use Rattle.mot_server.proofs.Acceptance.{is_accepted, no_gap}
 -- commands in a row, and what a crash leaves of them
 pub use Rattle.mot_server.proofs.Runs.{after_none, after_one, after_both}
 pub use Rattle.mot_server.proofs.Runs.{more, less_sure, none_of, before_or_after}

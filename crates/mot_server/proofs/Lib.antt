@@ -1,4 +1,3 @@
-pub mod Acceptance
 pub mod Answered
 pub mod Calls
 pub mod Extents

@@ -1,9 +1,9 @@
 -- What a run makes of the player's place.
-use Rattle.std.proofs.Common.{◌≡◌, ℕ, Bool, List, [], ◌∷◌, ◌++◌, Some, refl, sym, ◌∙◌, ap, subst}
+use Rattle.std.proofs.Common.{◌≡◌, ℕ, Bool, List, [], ◌∷◌, ◌++◌, Some, Ok, refl, sym, ◌∙◌, ap, subst}
 use Rattle.mot_base.specs.declared.geometry.Geometry.{Geometry}
 use Rattle.mot_carousel.specs.declared.command.Command.{Command}
 use Rattle.mot_carousel.specs.declared.command.Done.{Done}
-use Rattle.mot_repository.specs.Repository.{IsNext}
+use Rattle.mot_repository.specs.Outcome.{after_command}
 use Rattle.mot_carousel.specs.Carousel.{Carousel}
 use Rattle.mot_journal.specs.Image.{Standing}
 use Rattle.mot_player.specs.Place.{Place, change_turn}
@@ -78,11 +78,12 @@ stays_there mid now last place same here = ap (λ (p : player.Standing). player.
 
 -- an accepted one brings its turn
 pub turns_there : {D : Type 0} (mid now : ServerView D) (commands all : List Command) (command : Command) (done : Done) (s before next last : Standing)
-    (place : Place) → all ≡ commands ++ command ∷ [] → IsAfter s commands before → IsNext before command done next
+    (place : Place) → all ≡ commands ++ command ∷ [] → IsAfter s commands before
+    → after_command mid.view.journal.layout before command ≡ Ok (next, done)
     → place_in mid before ≡ place_behind commands before place
     → place_in now next ≡ change_turn (turn_of_carousel next.carousel next.geometry.segment_size) (place_in mid before)
     → IsAfter s all last → place_in now last ≡ place_behind all last place
 turns_there mid now commands all command done s before next last place same after step so_far changed other =
     any_last now s all next last place
-    (subst (λ l. IsAfter s l next) (sym same) (after_one s commands before next command done after step)) other
+    (subst (λ l. IsAfter s l next) (sym same) (after_one mid.view.journal.layout s commands before next command done after step)) other
     (one_accepted commands all command before next place (place_in mid before) (place_in now next) same so_far changed)

@@ -1,5 +1,5 @@
 -- How a run of commands goes on by one more.
-use Rattle.std.proofs.Common.{◌≡◌, ⊎_elim, ℕ, ◌+◌, Bool, true, false, List, [], ◌∷◌, ◌++◌, length, take, drop, Option, Some, None, Result, Ok, refl, sym, ◌∙◌, ap, subst, arith}
+use Rattle.std.proofs.Common.{◌≡◌, ⊎_elim, ℕ, ◌+◌, Bool, true, false, List, [], ◌∷◌, ◌++◌, length, take, drop, Option, Some, None, Result, Ok, Err, refl, sym, ◌∙◌, ap, subst, arith}
 use Rattle.std.proofs.lemmas.List.{take-append-le, length-append, append-nil}
 use Rattle.std.proofs.Math.Seq.{take-append-add}
 use Rattle.std.specs.Prelude.{slice_get}
@@ -18,9 +18,11 @@ use Rattle.mot_journal.specs.Image.{Standing}
 use Rattle.mot_carousel.specs.declared.carousel.Carousel as kept
 use Rattle.mot_carousel.specs.Stands.{carousel_of, AreBodiesOf}
 use Rattle.mot_repository.specs.Answers.{IsHalted}
-use Rattle.mot_repository.specs.Repository.{RepositoryView, IsOf, Agrees, Holds, IsNext, IsBeforeOrAfter}
+use Rattle.mot_repository.specs.Outcome.{after_command}
+use Rattle.mot_repository.specs.Repository.{RepositoryView, IsOf, Agrees, Holds, IsBeforeOrAfter}
+use Rattle.mot_repository.proofs.Laws.{accepted_parts}
 use Rattle.mot_server.specs.Runs.{accepted_commands, commands_in_flight, IsAfter, StandsAfterSome}
-use Rattle.mot_server.specs.Marks.{IsAcceptedAt, IsRefusedAt, AreMarks}
+use Rattle.mot_server.specs.Marks.{AreMarks}
 use Rattle.mot_server.specs.RunEnds.{RunLeaves}
 use Rattle.mot_server.proofs.Read.{holds_still}
 
@@ -44,30 +46,30 @@ same c command e = cc
 -- one mark more, where the command was accepted
 pub one_true : (layout : Layout) (s : Standing) (commands : List Command) (marks : List Bool) (last next : Standing)
     (command : Command) (done : Done) → slice_get commands (length marks) ≡ Some command
-    → AreMarks layout s commands marks last → IsAcceptedAt last command done next
+    → AreMarks layout s commands marks last → after_command layout last command ≡ Ok (next, done)
     → AreMarks layout s commands (marks ++ true ∷ []) next
 one_true layout s [] marks last next command done at so_far step = absurd (not_there command at)
 one_true layout s (c ∷ commands) [] last next command done at so_far step =
-    let here = subst (λ d. IsAcceptedAt last d done next) (sym (same c command at)) step in
-    (done, next, subst (λ d. IsAcceptedAt d c done next) so_far here, refl)
+    let here = subst (λ d. after_command layout last d ≡ Ok (next, done)) (sym (same c command at)) step in
+    (done, next, subst (λ d. after_command layout d c ≡ Ok (next, done)) so_far here, refl)
 one_true layout s (c ∷ commands) (true ∷ marks) last next command done at so_far step =
     (so_far.0, so_far.1, so_far.2, one_true layout so_far.1 commands marks last next command done at so_far.3 step)
 one_true layout s (c ∷ commands) (false ∷ marks) last next command done at so_far step =
-    (so_far.0, one_true layout s commands marks last next command done at so_far.1 step)
+    (so_far.0, so_far.1, one_true layout s commands marks last next command done at so_far.2 step)
 
 -- and where it was refused
 pub one_false : (layout : Layout) (s : Standing) (commands : List Command) (marks : List Bool) (last : Standing)
-    (command : Command) → slice_get commands (length marks) ≡ Some command
-    → AreMarks layout s commands marks last → IsRefusedAt layout last command
+    (command : Command) (refusal : Refusal) → slice_get commands (length marks) ≡ Some command
+    → AreMarks layout s commands marks last → after_command layout last command ≡ Err refusal
     → AreMarks layout s commands (marks ++ false ∷ []) last
-one_false layout s [] marks last command at so_far refused = absurd (not_there command at)
-one_false layout s (c ∷ commands) [] last command at so_far refused =
-    let here = subst (λ d. IsRefusedAt layout last d) (sym (same c command at)) refused in
-    (subst (λ d. IsRefusedAt layout d c) so_far here, so_far)
-one_false layout s (c ∷ commands) (true ∷ marks) last command at so_far refused =
-    (so_far.0, so_far.1, so_far.2, one_false layout so_far.1 commands marks last command at so_far.3 refused)
-one_false layout s (c ∷ commands) (false ∷ marks) last command at so_far refused =
-    (so_far.0, one_false layout s commands marks last command at so_far.1 refused)
+one_false layout s [] marks last command refusal at so_far refused = absurd (not_there command at)
+one_false layout s (c ∷ commands) [] last command refusal at so_far refused =
+    let here = subst (λ d. after_command layout last d ≡ Err refusal) (sym (same c command at)) refused in
+    (refusal, subst (λ d. after_command layout d c ≡ Err refusal) so_far here, so_far)
+one_false layout s (c ∷ commands) (true ∷ marks) last command refusal at so_far refused =
+    (so_far.0, so_far.1, so_far.2, one_false layout so_far.1 commands marks last command refusal at so_far.3 refused)
+one_false layout s (c ∷ commands) (false ∷ marks) last command refusal at so_far refused =
+    (so_far.0, so_far.1, one_false layout s commands marks last command refusal at so_far.2 refused)
 
 pub accepted-true : (commands : List Command) (marks : List Bool) (command : Command)
     → slice_get commands (length marks) ≡ Some command
@@ -92,11 +94,12 @@ flight (c ∷ commands) [] command at = ap (λ d. d ∷ []) (same c command at)
 flight (c ∷ commands) (mark ∷ marks) command at = flight commands marks command at
 
 -- one accepted command more
-pub after_one : (s : Standing) (commands : List Command) (last next : Standing) (command : Command) (done : Done)
-    → IsAfter s commands last → IsNext last command done next → IsAfter s (commands ++ command ∷ []) next
-after_one s commands last next command done so_far step =
+pub after_one : (layout : Layout) (s : Standing) (commands : List Command) (last next : Standing) (command : Command) (done : Done)
+    → IsAfter s commands last → after_command layout last command ≡ Ok (next, done) → IsAfter s (commands ++ command ∷ []) next
+after_one layout s commands last next command done so_far accepted =
     let limit : ℕ = s.geometry.objects in
-    let here = subst (λ (g : Geometry). change last.carousel g.objects command ≡ Ok (next.carousel, done)) so_far.geometry step.change_is in
+    let step = accepted_parts layout last command done next accepted in
+    let here = subst (λ (g : Geometry). change last.carousel g.objects command ≡ Ok (next.carousel, done)) so_far.geometry step.rules in
     record {
       geometry = step.geometry ∙ so_far.geometry;
       carousel = goes_on s.carousel limit commands command
@@ -129,13 +132,13 @@ marks_after layout s commands [] last so_far =
 marks_after layout s [] (mark ∷ marks) last so_far = absurd so_far
 marks_after layout s (c ∷ commands) (true ∷ marks) last so_far =
     let rest = marks_after layout so_far.1 commands marks last so_far.3 in
-    let step = so_far.2.by_rules in
+    let step = accepted_parts layout s c so_far.0 so_far.1 so_far.2 in
     let here = subst (λ (g : Geometry). carousel_after so_far.1.carousel g.objects (accepted_commands commands marks) ≡ Some last.carousel) step.geometry rest.carousel in
     record {
       geometry = rest.geometry ∙ step.geometry;
-      carousel = ap (λ (r : Result (Carousel × Done) Refusal). carousel_if_accepted r >>= λ next. carousel_after next s.geometry.objects (accepted_commands commands marks)) step.change_is ∙ here;
+      carousel = ap (λ (r : Result (Carousel × Done) Refusal). carousel_if_accepted r >>= λ next. carousel_after next s.geometry.objects (accepted_commands commands marks)) step.rules ∙ here;
     }
-marks_after layout s (c ∷ commands) (false ∷ marks) last so_far = marks_after layout s commands marks last so_far.1
+marks_after layout s (c ∷ commands) (false ∷ marks) last so_far = marks_after layout s commands marks last so_far.2
 
 -- one list of commands, and then another
 pub after_both : (s : Standing) (commands others : List Command) (mid last : Standing)
@@ -183,13 +186,13 @@ none_of s sure others last image after image_is = record {
 }
 
 -- before or after one command more
-pub before_or_after : (s : Standing) (commands : List Command) (last : Standing) (command : Command) (image : List ℕ)
-    → IsAfter s commands last → IsBeforeOrAfter last command image → StandsAfterSome s commands (command ∷ []) image
-before_or_after s commands last command image after outcome = ⊎_elim
+pub before_or_after : (layout : Layout) (s : Standing) (commands : List Command) (last : Standing) (command : Command) (image : List ℕ)
+    → IsAfter s commands last → IsBeforeOrAfter layout last command image → StandsAfterSome s commands (command ∷ []) image
+before_or_after layout s commands last command image after outcome = ⊎_elim
     (λ before. none_of s commands (command ∷ []) last image after before)
     (λ next. record {
       last = next.1;
-      after = record { count = 1; few = omega arith; after = after_one s commands last next.1 command next.0 after next.2 };
+      after = record { count = 1; few = omega arith; after = after_one layout s commands last next.1 command next.0 after next.2 };
       image_is = next.3;
     })
     outcome
@@ -229,17 +232,17 @@ module _ (layout : Layout) (view : RepositoryView) (start mid now : State) (s : 
   after = marks_after layout s commands marks so_far.last so_far.marked
 
   -- whatever the command comes to
-  pub tried : Throughout mid now (IsBeforeOrAfter so_far.last command)
+  pub tried : Throughout mid now (IsBeforeOrAfter view.journal.layout so_far.last command)
       → Throughout start now (StandsAfterSome s [] (accepted_commands commands marks ++ command ∷ []))
   tried time =
       let done : List Command = accepted_commands commands marks in
       let old = weakens start mid (StandsAfterSome s [] done) (StandsAfterSome s [] (done ++ command ∷ [])) so_far.time (λ image is. more s [] done (command ∷ []) image is) in
-      joins start mid now (StandsAfterSome s [] (done ++ command ∷ [])) (IsBeforeOrAfter so_far.last command) old time
-      (λ image outcome. less_sure s done (command ∷ []) image (before_or_after s done so_far.last command image after outcome))
+      joins start mid now (StandsAfterSome s [] (done ++ command ∷ [])) (IsBeforeOrAfter view.journal.layout so_far.last command) old time
+      (λ image outcome. less_sure s done (command ∷ []) image (before_or_after view.journal.layout s done so_far.last command image after outcome))
 
   pub accepts : (view' : RepositoryView) (done : Done) (next : Standing) → view'.journal.layout ≡ view.journal.layout
-      → IsAcceptedAt so_far.last command done next → Holds view' next now
-      → Throughout mid now (IsBeforeOrAfter so_far.last command)
+      → after_command layout so_far.last command ≡ Ok (next, done) → Holds view' next now
+      → Throughout mid now (IsBeforeOrAfter view.journal.layout so_far.last command)
       → Reached layout view' start now s commands (marks ++ true ∷ [])
   accepts view' done next same_layout step holds time = record {
     last = next;
@@ -249,12 +252,12 @@ module _ (layout : Layout) (view : RepositoryView) (start mid now : State) (s : 
     time = subst (λ l. Throughout start now (StandsAfterSome s [] l)) (sym (accepted-true commands marks command at)) (tried time);
   }
 
-  pub refuses : IsRefusedAt layout so_far.last command → Holds view so_far.last now → IsUnchanged mid now
+  pub refuses : (refusal : Refusal) → after_command layout so_far.last command ≡ Err refusal → Holds view so_far.last now → IsUnchanged mid now
       → Reached layout view start now s commands (marks ++ false ∷ [])
-  refuses refused holds same = record {
+  refuses refusal refused holds same = record {
     last = so_far.last;
     layout_is = so_far.layout_is;
-    marked = one_false layout s commands marks so_far.last command at so_far.marked refused;
+    marked = one_false layout s commands marks so_far.last command refusal at so_far.marked refused;
     holds = holds;
     time = subst (λ l. Throughout start now (StandsAfterSome s [] l)) (sym (accepted-false commands marks command at))
         (stays start mid now (StandsAfterSome s [] (accepted_commands commands marks)) so_far.time same.time);
@@ -262,7 +265,7 @@ module _ (layout : Layout) (view : RepositoryView) (start mid now : State) (s : 
 
   -- it ended in a device fault
   pub fails : (view' : RepositoryView) (first : RepositoryView) → first.journal.layout ≡ layout → IsHonestDisk now
-      → IsHalted view view' → Throughout mid now (IsBeforeOrAfter so_far.last command)
+      → IsHalted view view' → Throughout mid now (IsBeforeOrAfter view.journal.layout so_far.last command)
       → RunLeaves first view' start now s commands marks (Some DeviceFault)
   fails view' first same_layout sound halts time =
       let done : List Command = accepted_commands commands marks in
@@ -275,7 +278,7 @@ module _ (layout : Layout) (view : RepositoryView) (start mid now : State) (s : 
         going = λ e. absurd (not_both e);
         any_moment = subst (λ l. Throughout start now (StandsAfterSome s [] (done ++ l))) one (tried time);
         at_end = λ image left. subst (λ l. StandsAfterSome s done l image) one
-            (before_or_after s done so_far.last command image after (at_end mid now (IsBeforeOrAfter so_far.last command) sound time image left));
+            (before_or_after view.journal.layout s done so_far.last command image after (at_end mid now (IsBeforeOrAfter view.journal.layout so_far.last command) sound time image left));
       }
 
 -- no command is in the air

@@ -10,7 +10,8 @@ ghost use Rattle.mot_journal.specs.Image as journal;
 ghost use Rattle.mot_player.specs.Place.{change_turn, opened_place};
 ghost use Rattle.mot_player.specs.Turn.{turn_of_carousel};
 ghost use Rattle.mot_repository.specs.OnDisk.{extent_at};
-ghost use Rattle.mot_repository.specs.Repository.{Agrees, Holds, IsNext, IsBeforeOrAfter};
+ghost use Rattle.mot_repository.specs.Outcome.{after_command};
+ghost use Rattle.mot_repository.specs.Repository.{Agrees, Holds, IsBeforeOrAfter};
 ghost use Rattle.mot_repository.specs.Repository.{IsOf, body_at};
 
 use crate::bodies::DiskBodies;
@@ -53,7 +54,7 @@ impl<D: Disk> Model for Server<D> {
 
 impl<D: Disk> Server<D> {
     ghost use Rattle.mot_base.specs.Geometry.{is_valid};
-    ghost use Rattle.mot_journal.specs.Image.{stands_for, IsClean};
+    ghost use Rattle.mot_journal.specs.Image.{stands_for, IsClean, gate_reads};
     ghost use Rattle.mot_journal.specs.Journal.{StandsWhere};
     ghost use Rattle.mot_journal.specs.declared.layout.Layout.TheVariants.{One, Two};
     ghost use Rattle.mot_player.specs.AnyBodies.{IsStepOfSome, PlaysOn, PlaysToTheEnd};
@@ -217,11 +218,12 @@ impl<D: Disk> Server<D> {
         ensures any_moment { (s : journal.Standing)
             → Holds self.old.view s (D.state self.old.disk)
             → Throughout (D.state self.old.disk) (D.state self.new.disk)
-            (IsBeforeOrAfter s command.now) }
+            (IsBeforeOrAfter self.old.view.journal.layout s command.now) }
 
         // Once it is Ok, each crash leaves what it stands for after the command.
         ensures ok { (s : journal.Standing) → Holds self.old.view s (D.state self.old.disk)
-            → IfOk result (λ done. (next : journal.Standing) × IsNext s command.now done next
+            → IfOk result (λ done. (next : journal.Standing)
+            × (after_command self.old.view.journal.layout s command.now ≡ Ok (next, done))
             × Holds self.new.view next (D.state self.new.disk)) }
 
         // The group under way stays; then the turn of the carousel after it begins.
@@ -240,6 +242,7 @@ impl<D: Disk> Server<D> {
 
     /// The next packet by the order of sending. It takes no memory. Its refusals are `DeviceFault`
     /// where a body can't be read, after which the server goes on from where it was, and `Halted`.
+    #[inline(always)]
     pub fn next_packet(&mut self) -> Result<Played, Refusal>
         ensures keeps { KeepsLength (D.state self.old.disk) (D.state self.new.disk) }
         ensures later { (D.state self.old.disk).failures ≤ (D.state self.new.disk).failures }
@@ -415,8 +418,8 @@ impl<D: Disk> Server<D> {
         ensures later { (D.state self.old.disk).failures ≤ (D.state self.new.disk).failures }
         ensures view { self.new.view ≡ self.old.view }
         ensures player { self.new.player ≡ self.old.player }
-        ensures cost { (D.state self.new.disk).calls ≤ (D.state self.old.disk).calls
-            + slot_count self.old.view.journal.layout self.old.view.journal.geometry }
+        ensures cost { (D.state self.new.disk).calls
+            ≤ (D.state self.old.disk).calls + gate_reads self.old.view.journal.geometry }
         ensures calm { OnOk result
             ((D.state self.new.disk).failures ≡ (D.state self.old.disk).failures) }
         ensures unchanged { (D.state self.new.disk).IsHonest

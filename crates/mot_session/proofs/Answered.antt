@@ -4,15 +4,13 @@ use Rattle.std.proofs.Common.{Ok, Err, Result, refl, sym, ap, ◌∙◌, subst, 
 use Rattle.std.specs.Prelude.{IsTrue, IsFalse, if◌then◌else◌}
 use Rattle.disk_store.specs.Disk.{State, IsHonestDisk, IsUnchanged, Throughout}
 use Rattle.disk_store.proofs.Laws.{begins, stays, weakens}
-use Rattle.mot_base.specs.declared.geometry.Geometry.{Geometry}
 use Rattle.mot_base.specs.declared.group_kind.GroupKind.{GroupKind}
 use Rattle.mot_base.specs.declared.refusal.Refusal.{Refusal}
 use Rattle.mot_base.specs.declared.refusal.Refusal.TheVariants.{OutOfMemory, DeviceFault, Halted}
 use Rattle.mot_carousel.specs.declared.command.Command.{Command}
 use Rattle.mot_carousel.specs.declared.command.Done.{Done}
-use Rattle.mot_carousel.specs.Carousel.{Carousel, change}
-use Rattle.mot_carousel.specs.Stands.{carousel_of, bodies_after}
 use Rattle.mot_groups.specs.Group.{bytes_of_group}
+use Rattle.mot_journal.specs.declared.layout.Layout.{Layout}
 use Rattle.mot_journal.specs.Image.{Standing}
 use Rattle.mot_lines.specs.declared.line.Line.{Line}
 use Rattle.mot_lines.specs.declared.line.Line.TheVariants as asks
@@ -23,16 +21,16 @@ use Rattle.mot_player.specs.Turn.{turn_of_carousel}
 use Rattle.mot_repository.specs.Answers.{IsAnswered, IsChanged, IsRefusal, accepted, failed}
 use Rattle.mot_repository.specs.Answers.{refused}
 use Rattle.mot_repository.specs.Answers as repository
-use Rattle.mot_repository.specs.Repository.{RepositoryView, Agrees, Holds, IsBeforeOrAfter, IsNext}
+use Rattle.mot_repository.specs.Outcome.{after_command}
+use Rattle.mot_repository.specs.Repository.{RepositoryView, Agrees, Holds, IsBeforeOrAfter}
 use Rattle.mot_server.specs.Runs.{StandsAfterSome}
 use Rattle.mot_server.specs.Server.{ServerView, place_in, bodies_of}
-use Rattle.mot_server.proofs.Laws.{after_none, before_or_after, holds_still, is_accepted, more}
-use Rattle.mot_server.proofs.Laws.{no_gap}
+use Rattle.mot_server.proofs.Laws.{after_none, before_or_after, holds_still, more}
 use Rattle.mot_server.proofs.Laws.{none_of, not_halted, still_agrees, unchanged_on}
 use Rattle.mot_session.specs.Raw.{raw_group, packets_at}
 use Rattle.mot_session.specs.Inner.Decision.{Decides, may_be_done, written_by}
 use Rattle.mot_session.specs.Session as session
-use Rattle.mot_session.specs.Session.{Reply, Answers, IsAnswer, IsRefused, Accepts, NeedsCarousel}
+use Rattle.mot_session.specs.Session.{Reply, Answers, IsAnswer, Accepts, NeedsCarousel}
 use Rattle.mot_session.specs.Session.{decided, no_memory, accepts, refuses, fails}
 use Rattle.mot_session.specs.declared.answering.Decision.{Decision}
 use Rattle.mot_session.specs.declared.answering.Decision.TheVariants.{Refused, Accepted, Listing}
@@ -71,7 +69,8 @@ not_ok done refusal e = subst IsFailure e tt
 
 module _ {D : Type 0} (old new : ServerView D) (s : Standing) (start now : State) (c : Command)
     (stands : StandsFor old.view s start) (later : start.failures ≤ now.failures)
-    (any_moment : Holds old.view s start → Throughout start now (IsBeforeOrAfter s c)) where
+    (any_moment : Holds old.view s start
+    → Throughout start now (IsBeforeOrAfter old.view.journal.layout s c)) where
   -- it was accepted
   changed_of : (done : Done) → IsAnswered old.view new.view start now c (Ok done)
       → IsChanged old.view c done new.view
@@ -81,7 +80,8 @@ module _ {D : Type 0} (old new : ServerView D) (s : Standing) (start now : State
   changed_of done (failed e going rises halts) = absurd (not_ok done DeviceFault (sym e))
 
   pub Answers-accepted : (done : Done) → IsAnswered old.view new.view start now c (Ok done)
-      → IsFalse old.view.halted → (next : Standing) → IsNext s c done next → Holds new.view next now
+      → IsFalse old.view.halted → (next : Standing)
+      → after_command old.view.journal.layout s c ≡ Ok (next, done) → Holds new.view next now
       → place_in new next ≡ change_turn (turn_of_carousel next.carousel next.geometry.segment_size)
       (place_in old s)
       → (last : Standing) × StandsFor new.view last now
@@ -93,8 +93,7 @@ module _ {D : Type 0} (old new : ServerView D) (s : Standing) (start now : State
         next,
         record { agrees = holds.agrees; holds = λ is. holds },
         decided (λ needs. going) (accepts done refl (record {
-          is_accepted =
-              is_accepted old.view s stands.agrees new.view next c done holds.agrees changed step;
+          outcome = step;
           layout = changed.layout;
           halted = changed.halted;
           place = place;
@@ -115,39 +114,15 @@ module _ {D : Type 0} (old new : ServerView D) (s : Standing) (start now : State
     place = ap (λ (p : player.Standing). player.place_of p (bodies_of s.carousel)) player_same;
   }
 
-  -- the rules, told of what the disk stands for
-  rules-on : (r : Refusal) → repository.IsRefusedByRules old.view.carousel
-      old.view.journal.geometry.objects c r
-      → change s.carousel s.geometry.objects c ≡ Err r
-  rules-on r rules =
-      let agrees = stands.agrees in
-      subst (λ (k : Carousel). change k s.geometry.objects c ≡ Err r) (sym agrees.carousel)
-      (subst (λ (g : Geometry). change
-      (carousel_of old.view.carousel agrees.bodies) g.objects c ≡ Err r)
-      agrees.geometry (rules agrees.bodies agrees.are_bodies))
-
   why-refused : (r : Refusal) → IsRefusal old.view c r
       → Stays (state_of old s start) (state_of new s now)
       → Answers (state_of old s start) (Ok (asks.Command c)) (session.refused r)
       (state_of new s now)
   unfolding IsAnswer
   why-refused r (repository.halted is e) same = session.halted is tt (ap session.refused e) same
-  why-refused r (repository.long_name going layout long e) same =
-      decided (λ needs. going) (refuses r refl (session.long_name layout long e) same)
-  why-refused r (repository.by_rules going room rules) same =
-      decided (λ needs. going) (refuses r refl (session.by_rules room (rules-on r rules)) same)
-  why-refused r (repository.no_room going room next done changes none e) same =
-      let agrees = stands.agrees in
-      decided (λ needs. going) (refuses r refl (session.no_room room
-      (carousel_of next (bodies_after old.view.carousel c agrees.bodies), done)
-      (subst (λ (k : Carousel). change k s.geometry.objects c
-      ≡ Ok (carousel_of next (bodies_after old.view.carousel c agrees.bodies), done))
-      (sym agrees.carousel)
-      (subst (λ (g : Geometry). change (carousel_of old.view.carousel agrees.bodies) g.objects c
-      ≡ Ok (carousel_of next (bodies_after old.view.carousel c agrees.bodies), done))
-      agrees.geometry (changes agrees.bodies agrees.are_bodies).0))
-      (no_gap old.view s agrees c none) e) same)
-  why-refused r (repository.no_memory going room e) same = no_memory tt (ap session.refused e) same
+  why-refused r (repository.by_rules going rules) same =
+      decided (λ needs. going) (refuses r refl (rules s stands.agrees) same)
+  why-refused r (repository.no_memory going short e) same = no_memory tt (ap session.refused e) same
 
   pub Answers-refused_command : (r : Refusal) → IsAnswered old.view new.view start now c (Err r)
       → new.player ≡ old.player → now.IsHonest
@@ -203,22 +178,23 @@ crosses-none view s start commands sound holds =
     begins start (StandsAfterSome s [] commands) sound
     (λ image left. none_of s [] commands s image (after_none s) (holds.each image left))
 
-tried : (s : Standing) (start now : State) (c : Command)
-    → Throughout start now (IsBeforeOrAfter s c)
+tried : (layout : Layout) (s : Standing) (start now : State) (c : Command)
+    → Throughout start now (IsBeforeOrAfter layout s c)
     → Throughout start now (StandsAfterSome s [] (c ∷ []))
-tried s start now c time =
-    weakens start now (IsBeforeOrAfter s c) (StandsAfterSome s [] (c ∷ [])) time
-    (λ image is. before_or_after s [] s c image (after_none s) is)
+tried layout s start now c time =
+    weakens start now (IsBeforeOrAfter layout s c) (StandsAfterSome s [] (c ∷ [])) time
+    (λ image is. before_or_after layout s [] s c image (after_none s) is)
 
-pub crosses-accepted : (s : Standing) (start now : State) (c : Command) (done : Done)
-    → Throughout start now (IsBeforeOrAfter s c)
+pub crosses-accepted : (layout : Layout) (s : Standing) (start now : State) (c : Command)
+    (done : Done)
+    → Throughout start now (IsBeforeOrAfter layout s c)
     → Throughout start now (StandsAfterSome s [] (written_by (Accepted done) (Ok (asks.Command c))))
-crosses-accepted s start now c done time = tried s start now c time
+crosses-accepted layout s start now c done time = tried layout s start now c time
 
 pub crosses-refused : (view view' : RepositoryView) (s : Standing) (start now : State) (c : Command)
     (r : Refusal)
     → IsHonestDisk start → Holds view s start → IsAnswered view view' start now c (Err r)
-    → Throughout start now (IsBeforeOrAfter s c)
+    → Throughout start now (IsBeforeOrAfter view.journal.layout s c)
     → Throughout start now (StandsAfterSome s [] (written_by (Refused r) (Ok (asks.Command c))))
 crosses-refused view view' s start now c r sound holds (accepted d e changed) time =
     absurd (not_ok d r e)
@@ -228,7 +204,7 @@ crosses-refused view view' s start now c r sound holds (refused x e why same sti
 crosses-refused view view' s start now c r sound holds (failed e going rises halts) time =
     subst (λ x. Throughout start now
     (StandsAfterSome s [] (written_by (Refused x) (Ok (asks.Command c)))))
-    (sym (same_refusal r DeviceFault e)) (tried s start now c time)
+    (sym (same_refusal r DeviceFault e)) (tried view.journal.layout s start now c time)
 
 -- a halted server refuses, and nothing changes
 pub stays_halted : (view view' : RepositoryView) (start now : State) (c : Command) (r : Refusal)

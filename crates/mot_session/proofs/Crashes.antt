@@ -30,7 +30,7 @@ module _ (before : ServerState) (x : Exchange) where
       (subst (λ s. IsAfter before.standing [] s) (sym standing) (after_none before.standing))
   made (one c d is fine going same step) =
       subst (λ l. IsAfter before.standing l x.after.standing) (sym is)
-      (after_one before.standing [] before.standing x.after.standing c d
+      (after_one before.layout before.standing [] before.standing x.after.standing c d
       (after_none before.standing) step)
   made (halts none going is standing) =
       subst (λ l. IsAfter before.standing l x.after.standing) (sym none)

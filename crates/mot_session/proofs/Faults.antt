@@ -32,7 +32,7 @@ module _ (before after : ServerState) (reply : Reply) where
 
   commanded : (c : Command) → IsCommandAnswer before c reply after → Counted before reply after
   commanded c (accepts d e a) = fine (accepted d) e refl
-  commanded c (refuses r e why s) = fine (refused r) e (refused-fine before c r why)
+  commanded c (refuses r e why s) = fine (refused r) e (refused-fine before.layout before.standing c r why)
   commanded c (fails e h) = inr h.rises
 
   nexts : (count : ℕ) → IsNextAnswer before count reply after → Counted before reply after

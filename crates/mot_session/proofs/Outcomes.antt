@@ -1,22 +1,20 @@
 -- What one line makes of the carousel.
-use Rattle.std.proofs.Common.{◌≡◌, Bool, true, false, List, [], ◌∷◌, Result, Ok, Err, refl, sym, ap}
+use Rattle.std.proofs.Common.{◌≡◌, Bool, true, false, List, [], ◌∷◌, Result, Ok, Err, refl, ap}
 use Rattle.std.proofs.Common.{◌∙◌}
-use Rattle.std.proofs.Common.{Option, Some, None, ℕ, arith}
+use Rattle.std.proofs.Common.{ℕ, arith}
 use Rattle.std.specs.Prelude.{IsTrue, IsFalse, if◌then◌else◌}
 use Rattle.mot_base.specs.declared.refusal.Refusal.{Refusal}
 use Rattle.mot_base.specs.declared.refusal.Refusal.TheVariants.{OutOfMemory}
-use Rattle.mot_base.specs.declared.refusal.Refusal.TheVariants.{NameTaken, NoSuchName}
-use Rattle.mot_base.specs.declared.refusal.Refusal.TheVariants.{TooManyObjects}
 use Rattle.mot_base.specs.declared.refusal.Refusal.TheVariants.{Halted}
 use Rattle.mot_carousel.specs.declared.command.Command as command
-use Rattle.mot_carousel.specs.declared.command.Command.TheVariants as orders
 use Rattle.mot_carousel.specs.declared.command.Done.{Done}
-use Rattle.mot_carousel.specs.Carousel.{Carousel, Object, change, change_if_named, free_object_id}
+use Rattle.mot_journal.specs.declared.layout.Layout.{Layout}
+use Rattle.mot_journal.specs.Image.{Standing}
 use Rattle.mot_lines.specs.declared.line.Line.{Line}
 use Rattle.mot_lines.specs.declared.line.Line.TheVariants as asks
-use Rattle.mot_repository.specs.Repository.{IsNext}
+use Rattle.mot_repository.specs.Outcome.{after_command}
+use Rattle.mot_repository.proofs.Laws.{refused_so}
 use Rattle.mot_session.specs.Session.{Reply, refused, accepted, listing, packets, played, cut_short}
-use Rattle.mot_session.specs.Session.{IsRefused, long_name, by_rules, no_room}
 use Rattle.mot_session.specs.Session.{IsCommandAnswer, accepts, refuses, fails}
 use Rattle.mot_session.specs.Session.{IsNextAnswer, IsTurnAnswer, IsAnswer, all, cut}
 use Rattle.mot_session.specs.Served.{Begins, whole, next_begun, turn_begun}
@@ -31,7 +29,8 @@ pub data Outcome (before after : ServerState) (done failed : List command.Comman
   nothing : done ≡ [] → failed ≡ [] → after.standing ≡ before.standing
       → after.halted ≡ before.halted → Outcome before after done failed
   one : (c : command.Command) (d : Done) → done ≡ c ∷ [] → failed ≡ [] → IsFalse before.halted
-      → after.halted ≡ before.halted → IsNext before.standing c d after.standing
+      → after.halted ≡ before.halted
+      → after_command before.layout before.standing c ≡ Ok (after.standing, d)
       → Outcome before after done failed
   halts : done ≡ [] → IsFalse before.halted → IsTrue after.halted
       → after.standing ≡ before.standing → Outcome before after done failed
@@ -64,39 +63,11 @@ module _ (before after : ServerState) (request : Result Line Refusal) where
   unchanged_so reply is e isnt fine standing same =
       unchanged reply (ap is_accepting e ∙ isnt) (ap is_failing e ∙ fine) standing same
 
--- the rules refuse with none of the disk's refusals
-put-refuses : (taken full : Bool) (x : Carousel × Done) (refusal : Refusal)
-    → (if taken then Err NameTaken else (if full then Err TooManyObjects else Ok x)) ≡ Err refusal
-    → is_device_fault refusal ≡ false
-put-refuses true full x refusal e =
-    let same : NameTaken ≡ refusal = cc in ap is_device_fault (sym same)
-put-refuses false true x refusal e =
-    let same : TooManyObjects ≡ refusal = cc in ap is_device_fault (sym same)
-put-refuses false false x refusal e = cc
-
-named-refuses : (c : Carousel) (taken : Option ℕ) (objects : Option (List Object))
-    (refusal : Refusal)
-    → change_if_named c taken objects ≡ Err refusal → is_device_fault refusal ≡ false
-named-refuses c taken None refusal e =
-    let same : NoSuchName ≡ refusal = cc in ap is_device_fault (sym same)
-named-refuses c taken (Some objects) refusal e = cc
-
-rules-refuse : (c : Carousel) (limit : ℕ) (command : command.Command) (refusal : Refusal)
-    → change c limit command ≡ Err refusal → is_device_fault refusal ≡ false
-unfolding change
-rules-refuse c limit (orders.Put name content mime body) refusal e = put-refuses _ _ _ refusal e
-rules-refuse c limit (orders.Replace name content mime body) refusal e =
-    named-refuses c (Some (free_object_id c)) _ refusal e
-rules-refuse c limit (orders.Withdraw name) refusal e = named-refuses c None _ refusal e
-rules-refuse c limit (orders.Period period) refusal e = cc
-
-pub refused-fine : (s : ServerState) (c : command.Command) (refusal : Refusal)
-    → IsRefused s c refusal
-    → is_device_fault refusal ≡ false
-refused-fine s c refusal (long_name layout long e) = ap is_device_fault e
-refused-fine s c refusal (by_rules room rules) =
-    rules-refuse s.standing.carousel s.standing.geometry.objects c refusal rules
-refused-fine s c refusal (no_room room next is none e) = ap is_device_fault e
+-- what a command comes to is no fault of the disk
+pub refused-fine : (layout : Layout) (s : Standing) (c : command.Command) (refusal : Refusal)
+    → after_command layout s c ≡ Err refusal → is_device_fault refusal ≡ false
+refused-fine layout s c refusal e = refused_so layout s c (λ r. is_device_fault r ≡ false)
+    refl refl refl refl refl refusal e
 
 commanded : (before after : ServerState) (c : command.Command) (reply : Reply)
     → IsFalse before.halted
@@ -106,10 +77,11 @@ commanded : (before after : ServerState) (c : command.Command) (reply : Reply)
 commanded before after c reply going (accepts d e a) = one c d
     (ap (λ (r : Reply). done_by r (Ok (asks.Command c))) e)
     (ap (λ (r : Reply). failed_by_reply r (Ok (asks.Command c))) e)
-    going a.halted a.is_accepted.by_rules
+    going a.halted a.outcome
 commanded before after c reply going (refuses refusal e why stays) =
     unchanged_so before after (Ok (asks.Command c)) reply (refused refusal) e refl
-    (refused-fine before c refusal why) stays.keeps.standing stays.keeps.halted
+    (refused-fine before.layout before.standing c refusal why) stays.keeps.standing
+    stays.keeps.halted
 commanded before after c reply going (fails e h) = halts
     (ap (λ (r : Reply). done_by r (Ok (asks.Command c))) e) going h.halted h.standing
 

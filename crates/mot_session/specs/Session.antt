@@ -3,12 +3,10 @@ use Rattle.std.specs.Prelude.{ℕ, ◌≡◌, ◌<◌, ⊤, List, [], ◌∷◌,
 use Rattle.std.specs.List.{flat_map}
 use Rattle.disk_store.specs.Failures.{Rises}
 use Rattle.mot_base.specs.declared.refusal.Refusal.{Refusal}
-use Rattle.mot_base.specs.declared.refusal.Refusal.TheVariants.{BadName, NoRoom, OutOfMemory}
-use Rattle.mot_base.specs.declared.refusal.Refusal.TheVariants.{DeviceFault, Halted}
+use Rattle.mot_base.specs.declared.refusal.Refusal.TheVariants.{OutOfMemory, DeviceFault, Halted}
 use Rattle.mot_carousel.specs.declared.command.Command as command
 use Rattle.mot_carousel.specs.declared.command.Done.{Done}
-use Rattle.mot_carousel.specs.Carousel.{Carousel, change}
-use Rattle.mot_journal.specs.declared.layout.Layout.TheVariants.{One}
+use Rattle.mot_carousel.specs.Carousel.{Carousel}
 use Rattle.mot_lines.specs.declared.line.Line.{Line}
 use Rattle.mot_lines.specs.declared.line.Line.TheVariants.{Command, Raw, Next, Turn}
 use Rattle.mot_lines.specs.declared.line.Line.TheVariants as asks
@@ -17,8 +15,7 @@ use Rattle.mot_lines.specs.Listing.{listing_text}
 use Rattle.mot_lines.specs.Text.{done_line, packet_line, refusal_line}
 use Rattle.mot_player.specs.Place.{Sent, change_turn}
 use Rattle.mot_player.specs.Turn.{turn_of_carousel}
-use Rattle.mot_repository.specs.Answers.{HasLongName}
-use Rattle.mot_server.specs.Marks.{IsAcceptedAt, HasNoGapFor}
+use Rattle.mot_repository.specs.Outcome.{after_command}
 use Rattle.mot_session.specs.Played.{FailsToSend, Sends, SendsTurn, SendsWithinTurn, packets_sent}
 use Rattle.mot_session.specs.Played.{sent_lines}
 use Rattle.mot_session.specs.Raw.{raw_packets}
@@ -42,22 +39,11 @@ text_of (packets ps) = flat_map packet_line ps
 text_of (played sents) = sent_lines sents
 text_of (cut_short sents) = sent_lines sents ++ refusal_line DeviceFault
 
--- why a command is refused: a name too long for layout 1, the rules of the carousel, or no gap of
--- the data area for the body, each only where the ones before it are not
-pub data IsRefused (s : ServerState) (c : command.Command) (refusal : Refusal) : Type 0 where
-  long_name : s.layout ≡ One → HasLongName c → refusal ≡ BadName → IsRefused s c refusal
-  by_rules : (s.layout ≡ One → HasLongName c → ⊥)
-      → change s.standing.carousel s.standing.geometry.objects c ≡ Err refusal
-      → IsRefused s c refusal
-  no_room : (s.layout ≡ One → HasLongName c → ⊥) → (next : Carousel × Done)
-      → change s.standing.carousel s.standing.geometry.objects c ≡ Ok next
-      → HasNoGapFor s.standing c → refusal ≡ NoRoom → IsRefused s c refusal
-
--- a command is accepted: the carousel is the one that the rules make of it, a new body lies in the
--- least gap, and the new carousel's turn follows the group under way
+-- a command is accepted: the disk stands for what it comes to, and the new carousel's turn follows
+-- the group under way
 pub record Accepts (s : ServerState) (c : command.Command) (done : Done) (after : ServerState) :
     Type 0 where
-  pub is_accepted : IsAcceptedAt s.standing c done after.standing
+  pub outcome : after_command s.layout s.standing c ≡ Ok (after.standing, done)
   pub layout : after.layout ≡ s.layout
   pub halted : after.halted ≡ s.halted
   pub place : after.place ≡ change_turn (turn_of_carousel after.standing.carousel
@@ -78,7 +64,8 @@ pub data IsCommandAnswer (s : ServerState) (c : command.Command) (reply : Reply)
     (after : ServerState) : Type 0 where
   accepts : (done : Done) → reply ≡ accepted done → Accepts s c done after
       → IsCommandAnswer s c reply after
-  refuses : (refusal : Refusal) → reply ≡ refused refusal → IsRefused s c refusal → Stays s after
+  refuses : (refusal : Refusal) → reply ≡ refused refusal
+      → after_command s.layout s.standing c ≡ Err refusal → Stays s after
       → IsCommandAnswer s c reply after
   fails : reply ≡ refused DeviceFault → Halts s after → IsCommandAnswer s c reply after
 

@@ -1,6 +1,6 @@
 -- The laws that join the carousel's rules to the records on the disk.
-use Rattle.std.specs.Prelude.{◌≡◌, ℕ, ◌+◌, ◌<◌, ◌≤◌, All, true, List, [], ◌∷◌, length}
-use Rattle.std.specs.Prelude.{slice_range, Option, Some, None, Ok, if◌then◌else◌}
+use Rattle.std.specs.Prelude.{◌≡◌, ℕ, ◌+◌, ◌<◌, ◌≤◌, All, true, List, [], ◌∷◌, ◌++◌, length, map}
+use Rattle.std.specs.Prelude.{slice_range, bytes_eq, Option, Some, None, Ok, if◌then◌else◌}
 use Rattle.std.specs.List.{AllByRecursion}
 use Rattle.mot_base.specs.declared.geometry.TheConstants.{MAX_OBJECTS}
 use Rattle.mot_carousel.specs.declared.command.Command.{Command}
@@ -10,11 +10,37 @@ use Rattle.mot_carousel.specs.Carousel.{Object, Carousel, change, has_name, IsSo
 use Rattle.mot_journal.specs.declared.record.Record.{Record}
 use Rattle.mot_journal.specs.declared.record.Action.{Action}
 use Rattle.mot_journal.specs.declared.record.Action.TheVariants.{Nothing, Set, Remove}
-use Rattle.mot_journal.specs.Catalogue.{Catalogue, catalogue_of, catalogue_after}
+use Rattle.mot_journal.specs.Catalogue.{Placed, Catalogue, catalogue_of, catalogue_after}
 use Rattle.mot_journal.specs.Catalogue.{carousel_in, extents_of, is_consistent}
 use Rattle.mot_journal.specs.Image.{Standing, stands_for}
 use Rattle.mot_repository.specs.Gap.{is_free}
-use Rattle.mot_repository.specs.Laws.{extents_after, records_of_catalogue}
+use Rattle.mot_repository.specs.Laws.{records_of_catalogue}
+
+abbrev pub extent_of : Placed → ℕ × ℕ
+extent_of p = (p.start, p.object.length)
+
+-- the extents, with this one for the object of this name
+abbrev pub extents_with : List ℕ → ℕ × ℕ → List Placed → List (ℕ × ℕ)
+extents_with name extent [] = []
+extents_with name extent (p ∷ objects) =
+    if bytes_eq p.object.name name then extent ∷ map extent_of objects
+    else extent_of p ∷ extents_with name extent objects
+
+-- the extents without that of the object of this name
+abbrev pub extents_without : List ℕ → List Placed → List (ℕ × ℕ)
+extents_without name [] = []
+extents_without name (p ∷ objects) =
+    if bytes_eq p.object.name name then map extent_of objects
+    else extent_of p ∷ extents_without name objects
+
+-- the extents after an accepted command whose body, if it brings one, begins here
+abbrev pub placed_extents_after : List Placed → Command → ℕ → List (ℕ × ℕ)
+placed_extents_after objects (Put name content mime body) start =
+    map extent_of objects ++ (start, length body) ∷ []
+placed_extents_after objects (Replace name content mime body) start =
+    extents_with name (start, length body) objects
+placed_extents_after objects (Withdraw name) start = extents_without name objects
+placed_extents_after objects (Period period) start = map extent_of objects
 
 -- the first object of this name
 abbrev pub object_named : List ℕ → List Object → Option Object
@@ -69,7 +95,8 @@ RecordsFollowCommands =
     → IsPlaced area (extents_of c) command start
     → (after : Catalogue)
     × (catalogue_after limit c (record_of (carousel_in area c) next command start) ≡ Some after)
-    × (carousel_in area after ≡ next) × (extents_of after ≡ extents_after c.objects command start)
+    × (carousel_in area after ≡ next)
+    × (extents_of after ≡ placed_extents_after c.objects command start)
 
 -- The records that a full half is rewritten to, or that it is migrated to, fold to the catalogue
 -- that they are of.

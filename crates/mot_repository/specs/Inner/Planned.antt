@@ -1,21 +1,11 @@
 -- What is worked out for a command, in memory alone.
-use Rattle.std.specs.Prelude.{ℕ, ◌≤◌, List, length, Option, Some, MatchOption}
-use Rattle.mot_carousel.specs.declared.command.Command.{Command}
-use Rattle.mot_carousel.specs.declared.command.Command.TheVariants.{Put, Replace, Withdraw, Period}
+use Rattle.std.specs.Prelude.{ℕ, ◌≤◌, List, Option, MatchOption}
 use Rattle.mot_carousel.specs.Content.{ContentNumbers}
 use Rattle.mot_carousel.specs.Name.{IsName}
 use Rattle.mot_carousel.specs.Mime.{IsMime}
 use Rattle.mot_journal.specs.declared.record.Record.{Record}
 use Rattle.mot_journal.specs.declared.record.Action.{Action}
 use Rattle.mot_journal.specs.declared.record.Action.TheVariants.{Nothing, Set, Remove}
-use Rattle.mot_repository.specs.Gap.{least_gap}
-
--- where the body of a command goes, 0 where it brings none; none where no gap holds it
-abbrev pub start_of : List (ℕ × ℕ) → ℕ → Command → Option ℕ
-start_of extents size (Put name content mime body) = least_gap extents (length body) size
-start_of extents size (Replace name content mime body) = least_gap extents (length body) size
-start_of extents size (Withdraw name) = Some 0
-start_of extents size (Period period) = Some 0
 
 abbrev pub IsId : ℕ → Type 0
 IsId id = (1 ≤ id) × (id ≤ 65535)

@@ -1,4 +1,5 @@
-use Rattle.std.proofs.Common.{None, inr, subst, sym, true}
+use Rattle.std.proofs.Common.{None, inr, subst, sym}
+use Rattle.std.specs.Prelude.{is_none}
 use Rattle.mot_air.proofs.Begun.{IfErr-one, done-is, refused-is, since_opened}
 use Rattle.mot_air.proofs.Printed.{OnOk-one}
 use Rattle.mot_air.specs.Inner.Packets.{target_of}
@@ -11,7 +12,7 @@ returns-clause-done g c = λ is.
     let opens = c.in-Ok-open_from.ensures in
     let target = target_of c.in-Ok.opened in
     let ended = c.play_into-ended.result.ended in
-    let P = Plays true (turns_of target c.args.turns) None None in (
+    let P = Plays (is_none c.args.lines) (turns_of target c.args.turns) None None in (
       target,
       c.in-Ok.ensures,
       subst (OnOpened P) (sym c.done.ensures.disk)
@@ -27,7 +28,7 @@ returns-clause-refused g c =
     let ended = c.play_into-ended.result.ended in
     refused-is _ ended.result c.done.result.result c.done.ensures.done c.done.ensures.refused
     (IfErr-one ended.result (λ r p.
-    let P = FailsPlaying target c.args.turns r in
+    let P = FailsPlaying target (is_none c.args.lines) c.args.turns r in
     inr (
       target,
       c.in-Ok.ensures,

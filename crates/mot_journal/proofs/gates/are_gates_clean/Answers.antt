@@ -1,81 +1,73 @@
-use Rattle.std.proofs.Common.{◌≡◌, ◌+◌, ◌<◌, ◌≤◌, ◌==◌, true, false, [], drop, get_or, sym, ◌∙◌, ap, subst, arith, rules, if◌then◌else◌}
-use Rattle.mot_journal.specs.Slot.{is_open, slot_count}
+use Rattle.std.proofs.Common.{◌≡◌, ◌<◌, ◌≤◌, ℕ, List, Some, None, length, take, false, sym, ◌∙◌, ap, subst, arith, rules}
+use Rattle.std.specs.Prelude.{is_some}
+use Rattle.std.specs.Int.{div_ceil}
+use Rattle.std.proofs.lemmas.List.{length-take}
+use Rattle.mot_journal.specs.Image.{gate_reads}
+use Rattle.mot_journal.specs.Inner.Scan.{scan}
 use Rattle.mot_journal.specs.Inner.Steps.{slots_in_half}
-use Rattle.mot_journal.proofs.Scan.{scan, scan_is_clean, gate_is, next_gate, scan_ends, next_scan, behind_scan}
 use Rattle.mot_journal.proofs.Loads.{unchanged_joins}
+use Rattle.mot_journal.proofs.Scan.{none, scan_is_clean, scanned_on, last_piece}
 use Rattle.mot_journal.proofs.gates.are_gates_clean.Goals as goal
 
-pub returns-then-is_behind-clause-exact : goal.returns-then-is_behind-clause-exact
-returns-then-is_behind-clause-exact g c = λ honest.
+pub returns-in-None-clause-exact : goal.returns-in-None-clause-exact
+returns-in-None-clause-exact g c = λ honest.
     let state = g.D.Disk.state in
     let geometry = c.args.geometry.now in
-    let half = c.args.half in
-    let layout = c.args.layout in
     let number = c.loop-number.number in
-    let shut = c.loop-number.is_shut in
     let old = state c.args.disk.now in
-    let so_far = c.loop-number.invariant in
-    let slots = slots_in_half geometry half layout old.bytes in
-    let rest = drop (number + 1) slots in
-    let lt : number < slot_count layout geometry =
-    subst (λ n. number < n) c.slot_count-number-end.ensures c.loop-number-test.true in
-    let now_open = c.in_ok-is_open.is_open in
-    let honest1 = c.is_gate_open.ensures.keeps.was_honest honest in
-    let gate : now_open ≡ is_open (get_or slots number []) =
-    c.in_ok-is_open.ensures.exact honest
-    ∙ ap (λ b. get_or b c.place_of_slot.result 0 == 0xA5) (so_far.unchanged honest1).bytes
-    ∙ ap (λ p. get_or old.bytes p 0 == 0xA5) c.place_of_slot.ensures.value
-    ∙ sym (gate_is geometry half layout old.bytes number lt) in
-    let scanned : scan false slots ≡ (if now_open then (if shut then false else scan false rest) else scan true rest) =
-    so_far.scanned honest1 ∙ next_gate geometry half layout old.bytes shut number lt
-    ∙ ap (λ b. if b then (if shut then false else scan false rest) else scan true rest) (sym gate) in
-    sym (sym (scan_is_clean slots) ∙ scanned ∙ behind_scan now_open shut rest c.if-is_behind.true)
+    let honest1 = c.read.ensures.keeps.was_honest honest in
+    let n : ℕ = c.min-count.result in
+    let piece : List ℕ = take n c.loop-number.piece in
+    let long : length piece ≡ n = omega (arith, length-take n c.loop-number.piece, c.min-count.array_long, c.min-count.ensures) in
+    let lt : number < gate_reads geometry =
+    subst (λ m. number < m) (c.div_ceil-number-end.ensures ∙ ap (λ h. div_ceil h 4096) c.half_size.ensures.value) c.loop-number-test.true in
+    let all : scan false (slots_in_half geometry c.args.half c.args.layout old.bytes) ≡ none =
+    c.loop-number.invariant.scanned honest1
+    ∙ scanned_on geometry c.args.half c.args.layout old.bytes c.loop-number.is_shut number n (length piece) c.read.new.out
+    (state c.loop-number.disk).bytes None c.half_size-in-loop-number.result c.half_start.result lt
+    c.half_size-in-loop-number.ensures.value c.min-count.ensures c.half_start.ensures.value
+    (c.loop-number.invariant.unchanged honest1).bytes (c.in_ok-read.ensures.bytes honest) long (c.read.auto.out ∙ long) c.in-None.ensures in
+    sym (ap is_some all) ∙ scan_is_clean (slots_in_half geometry c.args.half c.args.layout old.bytes)
 
 pub loop-number-preserved : goal.loop-number-preserved
 loop-number-preserved g c =
     let state = g.D.Disk.state in
     let geometry = c.args.geometry.now in
-    let half = c.args.half in
-    let layout = c.args.layout in
     let number = c.loop-number.number in
-    let shut = c.loop-number.is_shut in
     let old = state c.args.disk.now in
     let so_far = c.loop-number.invariant in
-    let slots = slots_in_half geometry half layout old.bytes in
-    let rest = drop (number + 1) slots in
-    let lt : number < slot_count layout geometry =
-    subst (λ n. number < n) c.slot_count-number-end.ensures c.loop-number-test.true in
-    let now_open = c.in_ok-is_open.is_open in
     record {
       keeps = record {
-        len = c.is_gate_open.ensures.keeps.len ∙ so_far.keeps.len;
-        was_honest = λ h. so_far.keeps.was_honest (c.is_gate_open.ensures.keeps.was_honest h);
+        len = c.read.ensures.keeps.len ∙ so_far.keeps.len;
+        was_honest = λ h. so_far.keeps.was_honest (c.read.ensures.keeps.was_honest h);
       };
       calm = search rules;
-      cost = omega (arith, c.is_gate_open.ensures.cost.at_most, c.in_ok-is_open.ensures.cost, so_far.cost);
+      cost = omega (arith, c.read.ensures.called, so_far.cost);
       unchanged = λ honest.
-          let honest1 = c.is_gate_open.ensures.keeps.was_honest honest in
-          unchanged_joins old (state c.loop-number.disk) (state c.is_gate_open.new.disk) (so_far.unchanged honest1)
-          (c.is_gate_open.ensures.unchanged honest);
+          let honest1 = c.read.ensures.keeps.was_honest honest in
+          unchanged_joins old (state c.loop-number.disk) (state c.read.new.self) (so_far.unchanged honest1)
+          (c.read.ensures.unchanged honest1);
       scanned = λ honest.
-          let honest1 = c.is_gate_open.ensures.keeps.was_honest honest in
-          let gate : now_open ≡ is_open (get_or slots number []) =
-          c.in_ok-is_open.ensures.exact honest
-          ∙ ap (λ b. get_or b c.place_of_slot.result 0 == 0xA5) (so_far.unchanged honest1).bytes
-          ∙ ap (λ p. get_or old.bytes p 0 == 0xA5) c.place_of_slot.ensures.value
-          ∙ sym (gate_is geometry half layout old.bytes number lt) in
-          let scanned : scan false slots ≡ (if now_open then (if shut then false else scan false rest) else scan true rest) =
-          so_far.scanned honest1 ∙ next_gate geometry half layout old.bytes shut number lt
-          ∙ ap (λ b. if b then (if shut then false else scan false rest) else scan true rest) (sym gate) in
-          scanned ∙ next_scan now_open shut rest c.if-is_behind.false;
+          let honest1 = c.read.ensures.keeps.was_honest honest in
+          let n : ℕ = c.min-count.result in
+          let piece : List ℕ = take n c.loop-number.piece in
+          let long : length piece ≡ n = omega (arith, length-take n c.loop-number.piece, c.min-count.array_long, c.min-count.ensures) in
+          let lt : number < gate_reads geometry =
+          subst (λ m. number < m) (c.div_ceil-number-end.ensures ∙ ap (λ h. div_ceil h 4096) c.half_size.ensures.value) c.loop-number-test.true in
+          so_far.scanned honest1
+          ∙ scanned_on geometry c.args.half c.args.layout old.bytes c.loop-number.is_shut number n (length piece) c.read.new.out
+          (state c.loop-number.disk).bytes (Some c.in-Some.is_now) c.half_size-in-loop-number.result c.half_start.result lt
+          c.half_size-in-loop-number.ensures.value c.min-count.ensures c.half_start.ensures.value
+          (so_far.unchanged honest1).bytes (c.in_ok-read.ensures.bytes honest) long (c.read.auto.out ∙ long) c.in-Some.ensures;
     }
 
 pub returns-clause-exact : goal.returns-clause-exact
 returns-clause-exact g c = λ honest.
     let old = g.D.Disk.state c.args.disk.now in
     let geometry = c.args.geometry.now in
-    let slots = slots_in_half geometry c.args.half c.args.layout old.bytes in
-    let past : slot_count c.args.layout geometry ≤ c.loop-number.number =
-    omega (arith, c.slot_count-number-end.ensures, c.loop-number-test.false) in
-    sym (sym (scan_is_clean slots) ∙ c.loop-number.invariant.scanned honest
-    ∙ scan_ends geometry c.args.half c.args.layout old.bytes c.loop-number.is_shut c.loop-number.number past)
+    let past : gate_reads geometry ≤ c.loop-number.number =
+    subst (λ m. m ≤ c.loop-number.number) (c.div_ceil-number-end.ensures ∙ ap (λ h. div_ceil h 4096) c.half_size.ensures.value)
+    (omega (arith, c.loop-number-test.false)) in
+    sym (ap is_some (c.loop-number.invariant.scanned honest
+    ∙ last_piece geometry c.args.half c.args.layout old.bytes c.loop-number.is_shut c.loop-number.number past))
+    ∙ scan_is_clean (slots_in_half geometry c.args.half c.args.layout old.bytes)

@@ -1,7 +1,8 @@
-use Rattle.std.proofs.Common.{◌≡◌, ◌+◌, drop, false}
+use Rattle.std.proofs.Common.{◌≡◌, ◌+◌, false}
 use Rattle.disk_store.specs.Disk.{KeepsLength, IsUnchanged}
+use Rattle.mot_journal.specs.Inner.Scan.{scan}
 use Rattle.mot_journal.specs.Inner.Steps.{slots_in_half}
-use Rattle.mot_journal.proofs.Scan.{scan}
+use Rattle.mot_journal.proofs.Scan.{slots_from}
 use Rattle.mot_journal.proofs.gates.are_gates_clean.Given as goal
 
 abbrev pub invariant-loop-number : goal.invariant-loop-number
@@ -14,5 +15,6 @@ invariant-loop-number g l =
       calm : now.failures ≡ old.failures;
       cost : now.calls ≡ old.calls + l.number;
       unchanged : now.IsHonest → IsUnchanged old now;
-      scanned : now.IsHonest → scan false slots ≡ scan l.is_shut (drop l.number slots);
+      scanned : now.IsHonest
+          → scan false slots ≡ scan l.is_shut (slots_from l.geometry l.half l.layout old.bytes l.number);
     }

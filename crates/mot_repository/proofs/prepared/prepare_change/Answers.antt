@@ -1,40 +1,45 @@
-use Rattle.std.proofs.Common.{◌≡◌, None, false, refl, sym, ap, ◌∙◌}
+use Rattle.std.proofs.Common.{◌≡◌, None, false, sym, ap, ◌∙◌}
 use Rattle.std.proofs.lemmas.Result.{err_from_is_err_and}
-use Rattle.mot_repository.specs.Answers.{HasRoomForName, IsRefusal}
-use Rattle.mot_repository.specs.Inner.Planned.{start_of}
+use Rattle.mot_repository.specs.Answers.{IsRefusal}
+use Rattle.mot_repository.specs.Outcome.{has_long_name, start_of}
 use Rattle.mot_repository.specs.Prepared.{view_with}
 use Rattle.mot_repository.specs.Repository.{RepositoryView}
-use Rattle.mot_repository.proofs.Planned.{plan_refused, has_room, no-gap, IsWorkedOut, prepared_is, kept_after}
+use Rattle.mot_repository.proofs.Planned.{name_refused, plan_refused, room_refused, IsWorkedOut, prepared_is, kept_after}
 use Rattle.mot_repository.proofs.prepared.prepare_change.Goals as goal
+
+pub returns-then-is_name_too_long-clause-refused : goal.returns-then-is_name_too_long-clause-refused
+returns-then-is_name_too_long-clause-refused c = λ view k going.
+    name_refused view c.args.command.now going
+    (ap (λ l. has_long_name l c.args.command.now) k.layout_is ∙ sym c.is_name_too_long.ensures ∙ c.if-is_name_too_long.true)
 
 pub returns-in_err-change-clause-refused : goal.returns-in_err-change-clause-refused
 returns-in_err-change-clause-refused c = λ view k going.
     let geometry : view.journal.geometry ≡ c.args.geometry.now = k.geometry_is in
     let carousel : view.carousel ≡ c.args.inventory.now.carousel = k.carousel_is in
-    let room : HasRoomForName view c.args.command.now =
-    has_room view c.args.layout c.args.command.now c.is_name_too_long.result c.is_name_too_long.ensures c.if-is_name_too_long.false k.layout_is in
+    let short : has_long_name view.journal.layout c.args.command.now ≡ false =
+    ap (λ l. has_long_name l c.args.command.now) k.layout_is ∙ sym c.is_name_too_long.ensures ∙ c.if-is_name_too_long.false in
     let p = err_from_is_err_and c.from_residual.result c.from_residual.ensures.1 in
-    rw (p.1, p.2) (plan_refused view c.args.command.now c.in_err-change.field-0.0 going room (rw (geometry, carousel) c.in_err-change.ensures.planned))
+    rw (p.1, p.2) (plan_refused view c.args.command.now going c.in_err-change.field-0.0 short (rw (geometry, carousel) c.in_err-change.ensures.planned))
 
 pub returns-in_default-clause-refused : goal.returns-in_default-clause-refused
 returns-in_default-clause-refused c = λ view k going.
     let geometry : view.journal.geometry ≡ c.args.geometry.now = k.geometry_is in
     let carousel : view.carousel ≡ c.args.inventory.now.carousel = k.carousel_is in
     let extents : view.extents ≡ c.args.inventory.now.extents.items = k.extents_are in
-    let room : HasRoomForName view c.args.command.now =
-    has_room view c.args.layout c.args.command.now c.is_name_too_long.result c.is_name_too_long.ensures c.if-is_name_too_long.false k.layout_is in
+    let short : has_long_name view.journal.layout c.args.command.now ≡ false =
+    ap (λ l. has_long_name l c.args.command.now) k.layout_is ∙ sym c.is_name_too_long.ensures ∙ c.if-is_name_too_long.false in
     let nowhere : start_of view.extents view.journal.geometry.data_area c.args.command.now ≡ None =
     rw geometry (ap (λ l. start_of l c.args.geometry.now.data_area c.args.command.now) (extents ∙ sym c.deref.ensures.value)
     ∙ sym c.body_start.ensures ∙ c.in_default.is) in
-    IsRefusal.no_room going room c.in_ok-change.change.next c.in_ok-change.change.done (rw (geometry, carousel) c.in_ok-change.ensures.planned)
-    (no-gap view c.args.command.now nowhere) refl
+    room_refused view c.args.command.now going c.in_ok-change.change.next c.in_ok-change.change.done short
+    (rw (geometry, carousel) c.in_ok-change.ensures.planned) nowhere
 
 pub returns-in_err-extents-clause-refused : goal.returns-in_err-extents-clause-refused
 returns-in_err-extents-clause-refused c = λ view k going.
-    let room : HasRoomForName view c.args.command.now =
-    has_room view c.args.layout c.args.command.now c.is_name_too_long.result c.is_name_too_long.ensures c.if-is_name_too_long.false k.layout_is in
+    let short : has_long_name view.journal.layout c.args.command.now ≡ false =
+    ap (λ l. has_long_name l c.args.command.now) k.layout_is ∙ sym c.is_name_too_long.ensures ∙ c.if-is_name_too_long.false in
     let p = err_from_is_err_and c.from_residual-in_err-extents.result c.from_residual-in_err-extents.ensures.1 in
-    rw p.1 (IsRefusal.no_memory going room p.2)
+    rw p.1 (IsRefusal.no_memory going short p.2)
 
 pub invariant_of-result : goal.invariant_of-result
 invariant_of-result c =
@@ -45,7 +50,7 @@ invariant_of-result c =
       valid = c.requires.valid;
       whole = c.requires.whole;
       paired = old.paired;
-      room = has_room view c.args.layout c.args.command.now c.is_name_too_long.result c.is_name_too_long.ensures c.if-is_name_too_long.false refl;
+      short = sym c.is_name_too_long.ensures ∙ c.if-is_name_too_long.false;
       changes = c.in_ok-change.ensures.planned;
       lies = ap (λ l. start_of l c.args.geometry.now.data_area c.args.command.now) (sym c.deref.ensures.value) ∙ sym c.body_start.ensures ∙ c.in-Some.is;
       record_is = c.in_ok-record.ensures.made;
@@ -55,10 +60,6 @@ invariant_of-result c =
       paired = rw c.in_ok-extents.ensures
           (kept_after view c.args.command.now c.in_ok-change.change.next c.in_ok-change.change.done c.in-Some.start c.in_ok-record.record is).paired;
     }
-
-pub returns-clause-room : goal.returns-clause-room
-returns-clause-room c = λ view k.
-    has_room view c.args.layout c.args.command.now c.is_name_too_long.result c.is_name_too_long.ensures c.if-is_name_too_long.false k.layout_is
 
 pub returns-clause-prepared : goal.returns-clause-prepared
 returns-clause-prepared c = λ view k told.
@@ -70,7 +71,7 @@ returns-clause-prepared c = λ view k told.
       valid = rw geometry c.requires.valid;
       whole = rw (geometry, layout, carousel, extents) c.requires.whole;
       paired = rw (carousel, extents) c.args.inventory.now.paired;
-      room = has_room view c.args.layout c.args.command.now c.is_name_too_long.result c.is_name_too_long.ensures c.if-is_name_too_long.false layout;
+      short = ap (λ l. has_long_name l c.args.command.now) layout ∙ sym c.is_name_too_long.ensures ∙ c.if-is_name_too_long.false;
       changes = rw (geometry, carousel) c.in_ok-change.ensures.planned;
       lies = rw geometry (ap (λ l. start_of l c.args.geometry.now.data_area c.args.command.now) (extents ∙ sym c.deref.ensures.value)
           ∙ sym c.body_start.ensures ∙ c.in-Some.is);

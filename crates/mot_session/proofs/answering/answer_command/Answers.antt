@@ -18,7 +18,7 @@ returns-in-Ok-clause-decides g c = λ s stands honest.
 pub returns-in-Ok-clause-crosses : goal.returns-in-Ok-clause-crosses
 returns-in-Ok-clause-crosses g c = λ s holds.
     let state = g.D.Disk.state in
-    crosses-accepted s (state c.args.server.now.disk)
+    crosses-accepted c.args.server.now.view.journal.layout s (state c.args.server.now.disk)
     (state c.execute.new.self.disk) c.args.command.now
     c.in-Ok.done (c.in-Ok.ensures.any_moment s holds)
 

@@ -17,7 +17,7 @@ pub returns-in_err-turn-clause-answered : goal.returns-in_err-turn-clause-answer
 returns-in_err-turn-clause-answered g c =
     let refusal = c.in_err-turn.field-0.0 in
     refused refusal (same_error c.from_residual-in_err-turn.result refusal c.from_residual-in_err-turn.ensures.1)
-    (rw (← c.self.view_is) (IsRefusal.no_memory c.in_ok-prepared.ensures.going c.in_ok-prepared.ensures.room c.in_err-turn.ensures.refused))
+    (rw (← c.self.view_is) (IsRefusal.no_memory c.in_ok-prepared.ensures.going c.in_ok-prepared.ensures.prepared.change.prepared.short c.in_err-turn.ensures.refused))
     refl (is_unchanged (g.D.Disk.state c.args.self.now.disk))
 
 pub returns-in_err-done-clause-any_moment : goal.returns-in_err-done-clause-any_moment
@@ -51,3 +51,7 @@ returns-clause-place g c = λ s next was agrees.
     place_after c.commit.new.self.view s next old new plan agrees c.changed.ensures.turn (invariant_of-self-2 g c)
     (λ bodies changed. c.changed.ensures.place bodies changed
     ∙ ap (λ (p : Standing). change_turn (turn_of plan changed) (place_of p bodies)) same)
+
+pub returns-clause-ok : goal.returns-clause-ok
+returns-clause-ok g c = rw (← c.self.view_is) (λ s holds.
+    c.in_ok-done.ensures.ok c.args.command.now c.in_ok-prepared.ensures.prepared s holds)

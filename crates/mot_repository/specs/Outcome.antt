@@ -1,0 +1,61 @@
+-- What a command makes of what a disk stands for, or why it is refused (own rules).
+use Rattle.std.specs.Prelude.{ℕ, Bool, false, nat_lt, if◌then◌else◌, List, [], ◌∷◌, ◌++◌, length}
+use Rattle.std.specs.Prelude.{map, position, remove, slice_set, bytes_eq, Option, Some, None}
+use Rattle.std.specs.Prelude.{Result, Ok, Err}
+use Rattle.std.specs.Option.{option_map_or}
+use Rattle.mot_base.specs.declared.refusal.Refusal.{Refusal}
+use Rattle.mot_base.specs.declared.refusal.Refusal.TheVariants.{BadName, NoRoom}
+use Rattle.mot_carousel.specs.declared.command.Command.{Command}
+use Rattle.mot_carousel.specs.declared.command.Command.TheVariants.{Put, Replace, Withdraw, Period}
+use Rattle.mot_carousel.specs.declared.command.Done.{Done}
+use Rattle.mot_carousel.specs.Carousel.{Object, change}
+use Rattle.mot_journal.specs.declared.layout.Layout.{Layout}
+use Rattle.mot_journal.specs.Slot.{longest_name}
+use Rattle.mot_journal.specs.Catalogue.{result_then}
+use Rattle.mot_journal.specs.Image.{Standing}
+use Rattle.mot_repository.specs.Gap.{least_gap}
+
+-- the slots of the layout have no room for the name that the command speaks of
+abbrev pub has_long_name : Layout → Command → Bool
+has_long_name layout (Put name content mime body) = nat_lt (longest_name layout) (length name)
+has_long_name layout (Replace name content mime body) = nat_lt (longest_name layout) (length name)
+has_long_name layout (Withdraw name) = nat_lt (longest_name layout) (length name)
+has_long_name layout (Period period) = false
+
+-- the bytes that a command brings
+abbrev pub body_of : Command → List ℕ
+body_of (Put name content mime body) = body
+body_of (Replace name content mime body) = body
+body_of (Withdraw name) = []
+body_of (Period period) = []
+
+-- where they go: to the least gap of a data area of this size, and no bytes to 0
+abbrev pub start_of : List (ℕ × ℕ) → ℕ → Command → Option ℕ
+start_of extents size command = least_gap extents (length (body_of command)) size
+
+abbrev pub or_no_room : Option ℕ → Result ℕ Refusal
+or_no_room None = Err NoRoom
+or_no_room (Some start) = Ok start
+
+-- the extents of the objects of these names after an accepted command, whose bytes, if it brings
+-- any, begin here: all other bodies stay where they lie
+abbrev pub extents_after : List (List ℕ) → List (ℕ × ℕ) → Command → ℕ → List (ℕ × ℕ)
+extents_after names extents (Put name content mime body) start =
+    extents ++ (start, length body) ∷ []
+extents_after names extents (Replace name content mime body) start =
+    option_map_or (λ i. slice_set extents i (start, length body))
+    (position (λ n. bytes_eq n name) names) extents
+extents_after names extents (Withdraw name) start =
+    option_map_or (remove extents) (position (λ n. bytes_eq n name) names) extents
+extents_after names extents (Period period) start = extents
+
+-- What a disk of this layout stands for after a command, and the ids that it took; or the first
+-- reason why it is refused: no room for its name, the rules of the carousel, no room for its bytes.
+unfoldable pub after_command : Layout → Standing → Command → Result (Standing × Done) Refusal
+after_command layout s command =
+    if has_long_name layout command then Err BadName
+    else (result_then (change s.carousel s.geometry.objects command) (λ made.
+    result_then (or_no_room (start_of s.extents s.geometry.data_area command)) (λ start.
+    let names = map (λ (o : Object). o.name) s.carousel.objects in
+    let extents = extents_after names s.extents command start in
+    Ok (record s { carousel = made.0; extents = extents }, made.1))))
