@@ -695,8 +695,8 @@ long_name_in_layout_two =
     0x0F ∷ 0x10 ∷ [])
 
 long_name_in_layout_two-stands : stands_for long_name_in_layout_two ≡
-    Ok (standing 2 64 1 24 16 0 3 3 (object (replicate 255 0x6E) 2 3 None 0 2 (0x01 ∷ []) ∷ []) ((0,
-    1) ∷ []))
+    Ok (standing 2 64 1 24 16 0 3 3 (object (replicate 255 0x6E) 2 3 None 0 2 (0x01 ∷ []) ∷ [])
+    ((0, 1) ∷ []))
 unfolding stands_for records_of geometry_of read_slot fold_from is_utf8 chars encode
 long_name_in_layout_two-stands = refl
 
@@ -1091,8 +1091,8 @@ random_9 =
     0x0D ∷ 0x0E ∷ 0x0F ∷ 0x10 ∷ [])
 
 random_9-stands : stands_for random_9 ≡
-    Ok (standing 2 64 1 24 16 0 3 3 (object (0x62 ∷ []) 2 3 None 0 2 (0x0D ∷ 0x0E ∷ []) ∷ []) ((12,
-    2) ∷ []))
+    Ok (standing 2 64 1 24 16 0 3 3 (object (0x62 ∷ []) 2 3 None 0 2 (0x0D ∷ 0x0E ∷ []) ∷ [])
+    ((12, 2) ∷ []))
 unfolding stands_for records_of geometry_of read_slot fold_from is_utf8 chars encode
 random_9-stands = refl
 
