@@ -14,7 +14,7 @@ ghost use Rattle.mot_repository.specs.Inner.Fold.{HaveLengths, are_extents_apart
 ghost use Rattle.mot_repository.specs.Inner.Fold.{if_consistent, if_done, objects_set};
 ghost use Rattle.mot_repository.specs.Inner.Fold.{IsFoldRefusal, HasShortId, HasShortIds};
 
-use crate::gap::end_of_met;
+use crate::gap::is_clear;
 use crate::inventory::Inventory;
 use mot_base::{Geometry, Refusal, TransportId};
 use mot_carousel::{Carousel, Name, Object, Period};
@@ -258,10 +258,7 @@ fn are_apart(extents: &[(u32, u32)], place: usize) -> bool
 {
     let (start, size) = extents[place];
     let start = u64::from(start);
-    if end_of_met(&extents[..place], start, size).is_some() {
-        return false;
-    }
-    end_of_met(&extents[place + 1..], start, size).is_none()
+    is_clear(&extents[..place], start, size) && is_clear(&extents[place + 1..], start, size)
 }
 
 /// Takes away the object of this id; false where there is none.

@@ -3,21 +3,30 @@ ghost use Rattle.std.specs.Prelude.{◌≡◌, IfOk};
 ghost use Rattle.mot_repository.specs.Extents.{names_kept};
 ghost use Rattle.mot_repository.specs.Outcome.{extents_after, start_of};
 
-use crate::gap::first_fit;
+use crate::gap::first_fit_sorted;
 use crate::inventory::Inventory;
 use mot_carousel::Command;
 use std::alloc::{AllocError, Global};
 
 /// Where in the data area the body of a command goes, 0 where it brings none; `None` where no gap
 /// holds it.
-pub(crate) fn body_start(extents: &[(u32, u32)], command: &Command, data_area: u32) -> Option<u32>
-    ensures { result ≡ start_of extents.now data_area command.now }
+pub(crate) fn body_start(
+    alloc: Global,
+    extents: &[(u32, u32)],
+    command: &Command,
+    data_area: u32,
+) -> Result<Option<u32>, AllocError>
+    ensures { IfOk result (λ start. start ≡ start_of extents.now data_area command.now) }
 {
     match command {
-        Command::Put { body, .. } => first_fit(extents, body.length().get(), data_area),
-        Command::Replace { body, .. } => first_fit(extents, body.length().get(), data_area),
-        Command::Withdraw { .. } => Some(0),
-        Command::Period(_) => Some(0),
+        Command::Put { body, .. } => {
+            first_fit_sorted(alloc, extents, body.length().get(), data_area)
+        }
+        Command::Replace { body, .. } => {
+            first_fit_sorted(alloc, extents, body.length().get(), data_area)
+        }
+        Command::Withdraw { .. } => Ok(Some(0)),
+        Command::Period(_) => Ok(Some(0)),
     }
 }
 

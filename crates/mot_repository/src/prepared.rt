@@ -73,7 +73,8 @@ pub(crate) fn prepare_change(
         return Err(Refusal::BadName);
     }
     let change = plan(alloc, &inventory.carousel, geometry.objects, command)?;
-    let Some(start) = body_start(&inventory.extents, command, geometry.data_area) else {
+    let start = body_start(alloc, &inventory.extents, command, geometry.data_area)?;
+    let Some(start) = start else {
         return Err(Refusal::NoRoom);
     };
     let given = records_to_give(alloc, is_full, inventory)?;

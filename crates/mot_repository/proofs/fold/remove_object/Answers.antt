@@ -22,7 +22,7 @@ pub returns-clause-done : goal.returns-clause-done
 returns-clause-done c =
     let os : List Object = c.args.objects.now.items in
     let es : List (ℕ × ℕ) = c.args.extents.now.items in
-    same-lists c.remove.new.self.items (remove os c.in-Some.place) c.remove-2.new.self.items (remove es c.in-Some.place) c.remove.ensures.items c.remove-2.ensures.items
+    same-lists c.remove.new.self.items (remove os c.in-Some.place) c.remove-4.new.self.items (remove es c.in-Some.place) c.remove.ensures.items c.remove-4.ensures.items
     ∙ remove_there os es c.requires.paired c.args.tid c.in-Some.place
     (ap (position (λ (o : Object). nat_eq o.tid c.args.tid)) (sym c.deref.ensures.value) ∙ sym c.place_of_id.ensures.place ∙ c.in-Some.is)
 
@@ -30,5 +30,5 @@ pub returns-clause-paired : goal.returns-clause-paired
 returns-clause-paired c =
     let os : List Object = c.args.objects.now.items in
     let es : List (ℕ × ℕ) = c.args.extents.now.items in
-    same-lengths c.remove.new.self.items (remove os c.in-Some.place) c.remove-2.new.self.items (remove es c.in-Some.place) c.remove.ensures.items c.remove-2.ensures.items
+    same-lengths c.remove.new.self.items (remove os c.in-Some.place) c.remove-4.new.self.items (remove es c.in-Some.place) c.remove.ensures.items c.remove-4.ensures.items
     (lengths_remove os es c.in-Some.place c.requires.paired)

@@ -30,9 +30,16 @@ returns-in_default-clause-refused c = λ view k going.
     ap (λ l. has_long_name l c.args.command.now) k.layout_is ∙ sym c.is_name_too_long.ensures ∙ c.if-is_name_too_long.false in
     let nowhere : start_of view.extents view.journal.geometry.data_area c.args.command.now ≡ None =
     rw geometry (ap (λ l. start_of l c.args.geometry.now.data_area c.args.command.now) (extents ∙ sym c.deref.ensures.value)
-    ∙ sym c.body_start.ensures ∙ c.in_default.is) in
+    ∙ sym c.in_ok-start.ensures ∙ c.in_default.is) in
     room_refused view c.args.command.now going c.in_ok-change.change.next c.in_ok-change.change.done short
     (rw (geometry, carousel) c.in_ok-change.ensures.planned) nowhere
+
+pub returns-in_err-start-clause-refused : goal.returns-in_err-start-clause-refused
+returns-in_err-start-clause-refused c = λ view k going.
+    let short : has_long_name view.journal.layout c.args.command.now ≡ false =
+    ap (λ l. has_long_name l c.args.command.now) k.layout_is ∙ sym c.is_name_too_long.ensures ∙ c.if-is_name_too_long.false in
+    let p = err_from_is_err_and c.from_residual-in_err-start.result c.from_residual-in_err-start.ensures.1 in
+    rw p.1 (IsRefusal.no_memory going short p.2)
 
 pub returns-in_err-extents-clause-refused : goal.returns-in_err-extents-clause-refused
 returns-in_err-extents-clause-refused c = λ view k going.
@@ -52,7 +59,7 @@ invariant_of-result c =
       paired = old.paired;
       short = sym c.is_name_too_long.ensures ∙ c.if-is_name_too_long.false;
       changes = c.in_ok-change.ensures.planned;
-      lies = ap (λ l. start_of l c.args.geometry.now.data_area c.args.command.now) (sym c.deref.ensures.value) ∙ sym c.body_start.ensures ∙ c.in-Some.is;
+      lies = ap (λ l. start_of l c.args.geometry.now.data_area c.args.command.now) (sym c.deref.ensures.value) ∙ sym c.in_ok-start.ensures ∙ c.in-Some.is;
       record_is = c.in_ok-record.ensures.made;
       typed = c.in_ok-record.ensures.typed;
     } in
@@ -74,7 +81,7 @@ returns-clause-prepared c = λ view k told.
       short = ap (λ l. has_long_name l c.args.command.now) layout ∙ sym c.is_name_too_long.ensures ∙ c.if-is_name_too_long.false;
       changes = rw (geometry, carousel) c.in_ok-change.ensures.planned;
       lies = rw geometry (ap (λ l. start_of l c.args.geometry.now.data_area c.args.command.now) (extents ∙ sym c.deref.ensures.value)
-          ∙ sym c.body_start.ensures ∙ c.in-Some.is);
+          ∙ sym c.in_ok-start.ensures ∙ c.in-Some.is);
       record_is = rw carousel c.in_ok-record.ensures.made;
       typed = c.in_ok-record.ensures.typed;
     } in
