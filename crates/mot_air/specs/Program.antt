@@ -108,19 +108,23 @@ module _ {S : Type 0} {start : Ghosts S} where
     pub untouched : IsUntouched used
     pub silent : Keeps old new
 
--- why there is no table of suffixes: the file that adds some can't be read, or a line of it is wrong
-abbrev pub IsUntyped : Refusal → Type 0
-IsUntyped r = (r ≡ ReadFault) ⊎ IsTypesRefusal r
+-- why there is no table of suffixes: there is no memory for it; or the file that adds some, where one
+-- is given, can't be read, or a line of it is wrong
+abbrev pub IsUntyped : {A : Type 0} → (types : Option A) → Refusal → Type 0
+IsUntyped None r = r ≡ OutOfMemory
+IsUntyped (Some types) r = (r ≡ ReadFault) ⊎ IsTypesRefusal r
 
--- why there are no lines: their folder is none, or there is no memory for a line
-abbrev pub IsUnlined : Refusal → Type 0
-IsUnlined r = (r ≡ ReadFault) ⊎ (r ≡ OutOfMemory)
+-- why there are no lines, where their folder is given: it is none, or there is no memory for a line
+abbrev pub IsUnlined : {A : Type 0} → (lines : Option A) → Refusal → Type 0
+IsUnlined None r = ⊥
+IsUnlined (Some lines) r = (r ≡ ReadFault) ⊎ (r ≡ OutOfMemory)
 
 -- why a task is not begun: there is no table of suffixes, or no folder of lines, or the disk, or what
 -- is to take the packets, can't be opened
 abbrev pub IsBeginningRefusal : Task → Refusal → Type 0
-IsBeginningRefusal (Play p) r = IsUntyped r ⊎ IsUnlined r ⊎ (r ≡ DeviceFault) ⊎ (r ≡ WriteFault)
-IsBeginningRefusal (Sync disk folder types) r = IsUntyped r ⊎ (r ≡ DeviceFault)
+IsBeginningRefusal (Play p) r =
+    IsUntyped p.types r ⊎ IsUnlined p.lines r ⊎ (r ≡ DeviceFault) ⊎ (r ≡ WriteFault)
+IsBeginningRefusal (Sync disk folder types) r = IsUntyped types r ⊎ (r ≡ DeviceFault)
 IsBeginningRefusal (Export disk) r = r ≡ DeviceFault
 IsBeginningRefusal (Inspect disk) r = r ≡ DeviceFault
 

@@ -32,7 +32,7 @@ pub(crate) fn line_folder<'a>(
     objects: Option<&str>,
 ) -> Result<Option<LineFolder<'a>>, Unbegun>
     ensures given { IfOk result (λ lines. is_none lines ≡ is_none path.entry) }
-    ensures refused { IfErr result (λ unbegun. IsUnlined unbegun.refusal) }
+    ensures refused { IfErr result (λ unbegun. IsUnlined path.entry unbegun.refusal) }
 {
     let Some(path) = path else {
         return Ok(None);

@@ -228,7 +228,8 @@ fn play<B: Start, W: Write, E: Write>(
         → PlaysTo task.entry.packets.now (is_none task.entry.lines) task.entry.turns result.disk }
     ensures told { result.result ≢ Ok false }
     ensures refused { IfErr result.result (λ r.
-        ((IsUntyped r ⊎ IsUnlined r ⊎ (r ≡ DeviceFault) ⊎ (r ≡ WriteFault))
+        ((IsUntyped task.entry.types r ⊎ IsUnlined task.entry.lines r
+        ⊎ (r ≡ DeviceFault) ⊎ (r ≡ WriteFault))
         × IsUntold result.disk (W.contents writer.old) (W.contents writer.new))
         ⊎ StopsPlayingTo task.entry.packets.now (is_none task.entry.lines) task.entry.turns r
         result.disk) }
@@ -269,7 +270,7 @@ fn sync<B: Start, W: Write>(
 ) -> Finished<B>
     ensures done { IfOk result.result (λ all. OnOpened (Syncs all folder.now
         (W.contents log.old) (W.contents log.new)) result.disk) }
-    ensures refused { IfErr result.result (λ r. ((IsUntyped r ⊎ (r ≡ DeviceFault))
+    ensures refused { IfErr result.result (λ r. ((IsUntyped types.entry r ⊎ (r ≡ DeviceFault))
         × IsUntold result.disk (W.contents log.old) (W.contents log.new))
         ⊎ OnOpened (StopsSyncing r folder.now) result.disk) }
 {

@@ -32,6 +32,7 @@ pub(crate) struct Spool<'a, T: Files<File = File>, W: Write + Drop> {
 struct LineFile {
     file: File,
     name: String,
+    path: String,
     /// Whether what was read last of it is no line end.
     is_cut: bool,
 }
@@ -60,6 +61,7 @@ impl<'a, T: Files<File = File>, W: Write + Drop> Spool<'a, T, W> {
                 self.open = Some(LineFile {
                     file,
                     name,
+                    path,
                     is_cut: false,
                 });
             }
@@ -68,13 +70,11 @@ impl<'a, T: Files<File = File>, W: Write + Drop> Spool<'a, T, W> {
         Ok(())
     }
 
-    /// Takes away the file that was read.
-    fn take_away(&mut self, name: &str) -> io::Result<()> {
-        let path = joined(self.alloc, self.folder, name)?;
-        if self.rt.remove_file(path.as_str()).is_err() {
-            self.stop(name);
+    /// Takes away the file that was read. That takes no memory, so none can lack behind its last line.
+    fn take_away(&mut self, lines: &LineFile) {
+        if self.rt.remove_file(lines.path.as_str()).is_err() {
+            self.stop(lines.name.as_str());
         }
-        Ok(())
     }
 
     /// Reads no more, for this file's sake.
@@ -88,7 +88,7 @@ impl<'a, T: Files<File = File>, W: Write + Drop> Spool<'a, T, W> {
 
 impl<'a, T: Files<File = File>, W: Write + Drop> Read for Spool<'a, T, W> {
     fn read(&mut self, buf: &mut [u8]) -> io::Result<usize> {
-        if self.is_stopped {
+        if self.is_stopped || buf.is_empty() {
             return Ok(0);
         }
         if self.open.is_none() {
@@ -99,7 +99,7 @@ impl<'a, T: Files<File = File>, W: Write + Drop> Read for Spool<'a, T, W> {
         };
         match lines.read(buf) {
             Ok(0) => {
-                self.take_away(lines.name.as_str())?;
+                self.take_away(&lines);
                 Ok(0)
             }
             Ok(count) => {

@@ -18,7 +18,7 @@ pub(crate) fn file_types(
     alloc: Global,
     path: Option<&str>,
 ) -> Result<FileTypes, Unbegun>
-    ensures refused { IfErr result (λ unbegun. IsUntyped unbegun.refusal) }
+    ensures refused { IfErr result (λ unbegun. IsUntyped path.entry unbegun.refusal) }
 {
     let mut types = match FileTypes::new(alloc) {
         Ok(types) => types,

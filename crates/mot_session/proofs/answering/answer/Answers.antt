@@ -7,6 +7,9 @@ use Rattle.mot_session.proofs.answering.answer.Goals as goal
 pub returns-in-Ok-clause-crosses : goal.returns-in-Ok-clause-crosses
 returns-in-Ok-clause-crosses g c = rw c.in-Ok.is c.answer_request.ensures.crosses
 
+pub returns-in-Ok-clause-decides : goal.returns-in-Ok-clause-decides
+returns-in-Ok-clause-decides g c = rw c.in-Ok.is c.answer_request.ensures.decides
+
 pub returns-in-Err-clause-decides : goal.returns-in-Err-clause-decides
 returns-in-Err-clause-decides g c = rw c.in-Err.is (λ s stands honest. (
   s,
