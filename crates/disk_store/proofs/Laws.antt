@@ -3,6 +3,7 @@
 use Rattle.std.proofs.Common.{◌≡◌, inl, inr, ⊎_elim, ℕ, ◌+◌, ◌≤◌, List, length, refl, sym, ◌∙◌, arith}
 use Rattle.std.proofs.lemmas.List.{ext_get_or}
 use Rattle.disk_store.specs.Disk.{State, AgreeOutside, Elapses, Nothing, Throughout, IsHonestDisk, IsFirm}
+use Rattle.disk_store.specs.Disk.{Keeps, KeepsLength, IsUnchanged, OnlyReads}
 
 -- Images that agree outside a range.
 
@@ -98,3 +99,58 @@ weakens old new P Q run here = record {
   before = λ t c le left. ⊎_elim (λ was. inl was) (λ p. inr (here c p)) (run.before t c le left);
   keeps = run.keeps;
 }
+
+-- Two calls, one after the other, and none.
+
+pub keeps_on : (start mid now : State) → KeepsLength start mid → KeepsLength mid now → KeepsLength start now
+keeps_on start mid now first second = record {
+  len = second.len ∙ first.len;
+  later = omega (arith, first.later, second.later);
+  was_honest = λ honest. first.was_honest (second.was_honest honest);
+}
+
+pub keeps_none : (state : State) → KeepsLength state state
+keeps_none state = record { len = refl; later = omega arith; was_honest = λ honest. honest }
+
+pub keeps_all_on : (start mid now : State) → Keeps start mid → Keeps mid now → Keeps start now
+keeps_all_on start mid now first second = record {
+  len = second.len ∙ first.len;
+  later = omega (arith, first.later, second.later);
+  honest = λ is. second.honest (first.honest is);
+  was_honest = λ is. first.was_honest (second.was_honest is);
+}
+
+pub unchanged_on : (start mid now : State) → IsUnchanged start mid → IsUnchanged mid now → IsUnchanged start now
+unchanged_on start mid now first second = record {
+  bytes = second.bytes ∙ first.bytes;
+  time = record {
+    later = omega (arith, first.time.later, second.time.later);
+    nothing_else = λ t c le left. ⊎_elim (λ was. first.time.nothing_else t c le was) (λ came. absurd came)
+        (second.time.nothing_else t c (omega (arith, le, first.time.later)) left);
+    keeps = λ t c le left. second.time.keeps t c (omega (arith, le, first.time.later)) (first.time.keeps t c le left);
+  };
+  images = λ c. (λ left. (first.images c).0 ((second.images c).0 left), λ left. (second.images c).1 ((first.images c).1 left));
+  loose = λ k. (λ is. (first.loose k).0 ((second.loose k).0 is), λ is. (second.loose k).1 ((first.loose k).1 is));
+}
+
+pub unchanged_none : (state : State) → IsUnchanged state state
+unchanged_none state = record {
+  bytes = refl;
+  time = record { later = omega arith; nothing_else = λ t c le left. inl left; keeps = λ t c le left. left };
+  images = λ c. (λ left. left, λ left. left);
+  loose = λ k. (λ is. is, λ is. is);
+}
+
+pub reads_on : (start mid now : State) → OnlyReads start mid → OnlyReads mid now → OnlyReads start now
+reads_on start mid now first second = record {
+  keeps = keeps_on start mid now first.keeps second.keeps;
+  unchanged = λ honest.
+      unchanged_on start mid now (first.unchanged (second.keeps.was_honest honest)) (second.unchanged honest);
+}
+
+pub reads_none : (state : State) → OnlyReads state state
+reads_none state = record { keeps = keeps_none state; unchanged = λ honest. unchanged_none state }
+
+-- a call that changes nothing where the disk was honest
+pub reads_once : (old new : State) → KeepsLength old new → (old.IsHonest → IsUnchanged old new) → OnlyReads old new
+reads_once old new keeps same = record { keeps = keeps; unchanged = λ honest. same (keeps.was_honest honest) }

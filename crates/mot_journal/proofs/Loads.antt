@@ -4,7 +4,7 @@ use Rattle.std.specs.Prelude.{if◌then◌else◌, nat_le, ◌&&◌, ◌==◌, s
 use Rattle.std.proofs.lemmas.Bool.{leb-true}
 use Rattle.std.proofs.lemmas.List.{length-drop, length-append, length-replicate, get_or-take}
 use Rattle.std.proofs.Math.Seq.{take-append_seam}
-use Rattle.disk_store.specs.Disk.{State, IsUnchanged}
+use Rattle.disk_store.specs.Disk.{State}
 use Rattle.mot_base.specs.declared.refusal.Refusal.{Refusal}
 use Rattle.mot_base.specs.declared.refusal.Refusal.TheVariants.{NotFormatted}
 use Rattle.mot_base.specs.declared.geometry.Geometry.{Geometry}
@@ -21,20 +21,6 @@ use Rattle.mot_journal.specs.Journal.{IsLoadRefusal}
 use Rattle.mot_journal.specs.Journal.IsLoadRefusal.{no_memory, damaged}
 use Rattle.std.proofs.lemmas.Bool.Decides.{nat_tests}
 use Rattle.mot_journal.proofs.Heads.{geometry_if, by_places}
-
--- two calls that change nothing
-pub unchanged_joins : (old mid new : State) → IsUnchanged old mid → IsUnchanged mid new → IsUnchanged old new
-unchanged_joins old mid new first second = record {
-  bytes = second.bytes ∙ first.bytes;
-  time = record {
-    later = omega (arith, first.time.later, second.time.later);
-    nothing_else = λ t c le left.
-        ⊎_elim (first.time.nothing_else t c le) (λ came. inr came) (second.time.nothing_else t c (omega (arith, le, first.time.later)) left);
-    keeps = λ t c le left. second.time.keeps t c (omega (arith, le, first.time.later)) (first.time.keeps t c le left);
-  };
-  images = λ c. (λ now. (first.images c).0 ((second.images c).0 now), λ was. (second.images c).1 ((first.images c).1 was));
-  loose = λ k. (λ now. (first.loose k).0 ((second.loose k).0 now), λ was. (second.loose k).1 ((first.loose k).1 was));
-}
 
 and-parts : (a b : Bool) → (a && b) ≡ true → (a ≡ true) × (b ≡ true)
 and-parts true b e = (refl, e)

@@ -1,7 +1,7 @@
 -- What a journal keeps in memory, and what images have of it.
 use Rattle.std.specs.Prelude.{◌≡◌, ◌⊎◌, ℕ, ◌-◌, Bool, false, List, [], ◌∷◌, ◌++◌, length}
-use Rattle.std.specs.Prelude.{Some, Ok, Err, IsOk, IsFalse}
-use Rattle.disk_store.specs.Disk.{State}
+use Rattle.std.specs.Prelude.{Some, Result, Ok, Err, OnOk, IsOk, IsFalse}
+use Rattle.disk_store.specs.Disk.{State, Throughout}
 use Rattle.disk_store.specs.Failures.{Rises}
 use Rattle.mot_base.specs.declared.refusal.Refusal.{Refusal}
 use Rattle.mot_base.specs.declared.refusal.Refusal.TheVariants.{OutOfMemory, DeviceFault}
@@ -75,6 +75,18 @@ OldOrGiven j layout records given start image =
 -- each image now has the data area that the disk read at the start
 abbrev pub OnlyReadArea : JournalView → State → State → Type 0
 OnlyReadArea j start now = (image : List ℕ) → now.MayLeave image → HasReadArea j start image
+
+-- A journal was rewritten, with these records, into its other half, in this layout: at each moment
+-- a crash leaves the old records or the given ones, and on success the given ones alone.
+pub record TurnsTo {T E : Type 0} (layout : Layout) (given : List Record) (j j' : JournalView)
+    (old new : State) (result : Result T E) : Type 0 where
+  pub moves : OnOk result (j' ≡ in_other_half j layout given)
+  pub any_moment : (records : List Record) → HoldsRecords j records old → FoldOf j given
+      → Throughout old new (OldOrGiven j layout records given old)
+  pub ok : (records : List Record) → HoldsRecords j records old → FoldOf j given
+      → OnOk result (HoldsRecords j' given new)
+  pub area : (records : List Record) → HoldsRecords j records old → FoldOf j given
+      → OnOk result (OnlyReadArea j old new)
 
 -- the journal stands where these bytes have their records
 pub record StandsWhere (j : JournalView) (bytes : List ℕ) : Type 0 where

@@ -2,7 +2,7 @@
 ghost use Rattle.std.specs.Prelude.{◌≡◌, ◌⊎◌, ◌↔◌, ◌+◌, ◌-◌, ◌*◌, ◌<◌, ◌≤◌, ℕ, List, [], ◌∷◌};
 ghost use Rattle.std.specs.Prelude.{length, drop, MatchResult};
 ghost use Rattle.std.specs.Prelude.{true, false, Ok, OnOk, IfOk, IfErr, IsErrOf};
-ghost use Rattle.disk_store.specs.Disk.{Keeps, KeepsLength, IsUnchanged, IsStill};
+ghost use Rattle.disk_store.specs.Disk.{Keeps, KeepsLength, IsUnchanged, IsStill, OnlySyncs};
 ghost use Rattle.disk_store.specs.Failures.{HasCause, Rises};
 ghost use Rattle.disk_store.specs.Disk.{Throughout, Costs, IsFirm};
 ghost use Rattle.mot_base.specs.Geometry.{IsValid, area_start, length_of};
@@ -32,7 +32,6 @@ pub const MAGIC: [u8; 8] = *b"MOTCAR01";
 /// leaves no magic or the new disk.
 pub fn format<D: Disk>(disk: &mut D, geometry: &Geometry) -> Result<(), Refusal>
     ensures keeps { KeepsLength (D.state disk.old) (D.state disk.new) }
-    ensures later { (D.state disk.old).failures ≤ (D.state disk.new).failures }
     ensures bad { IsErrOf result BadGeometry ↔ (IsValid geometry.now → ⊥) }
     ensures small { IsErrOf result DiskTooSmall
         ↔ (IsValid geometry.now × ((D.state disk.old).len < length_of geometry.now)) }
@@ -83,7 +82,6 @@ pub fn format_from<D: Disk>(
     directory: TransportId,
 ) -> Result<(), Refusal>
     ensures keeps { KeepsLength (D.state disk.old) (D.state disk.new) }
-    ensures later { (D.state disk.old).failures ≤ (D.state disk.new).failures }
     ensures bad { IsErrOf result BadGeometry ↔ (IsValid geometry.now → ⊥) }
     ensures small { IsErrOf result DiskTooSmall
         ↔ (IsValid geometry.now × ((D.state disk.old).len < length_of geometry.now)) }
@@ -145,9 +143,8 @@ pub fn format_from<D: Disk>(
 /// Syncs, and tells whether the disk has the magic.
 fn reads_magic<D: Disk>(disk: &mut D) -> Result<bool, DiskFault>
     requires { 8 ≤ (D.state disk.old).len }
-    ensures keeps { KeepsLength (D.state disk.old) (D.state disk.new) }
+    ensures only_syncs { OnlySyncs (D.state disk.old) (D.state disk.new) }
     ensures cause { HasCause (D.state disk.old).failures (D.state disk.new).failures result }
-    ensures still { (D.state disk.new).IsHonest → IsStill (D.state disk.old) (D.state disk.new) }
     ensures cost { Costs 2 (D.state disk.old) (D.state disk.new) result }
     ensures synced { (D.state disk.new).IsHonest → OnOk result (IsFirm (D.state disk.new)) }
     ensures exact { (D.state disk.new).IsHonest

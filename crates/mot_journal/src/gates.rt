@@ -1,6 +1,6 @@
 //! The gates of a half, as they are read.
 ghost use Rattle.std.specs.Prelude.{◌≡◌, ◌+◌, ◌/◌, ◌≤◌, length, IfOk, OnOk, IsErr};
-ghost use Rattle.disk_store.specs.Disk.{KeepsLength, IsUnchanged};
+ghost use Rattle.disk_store.specs.Disk.{OnlyReads};
 ghost use Rattle.disk_store.specs.Failures.{Rises};
 ghost use Rattle.mot_base.specs.Geometry.{length_of};
 ghost use Rattle.mot_journal.specs.Image.{are_gates_clean as gates_clean, gate_reads, slots_in};
@@ -25,13 +25,10 @@ pub fn are_gates_clean<D: Disk>(
 ) -> Result<bool, DiskFault>
     requires two_halves { half ≤ 1 }
     requires long_enough { length_of geometry.now ≤ (D.state disk.old).len }
-    ensures keeps { KeepsLength (D.state disk.old) (D.state disk.new) }
-    ensures later { (D.state disk.old).failures ≤ (D.state disk.new).failures }
+    ensures only_reads { OnlyReads (D.state disk.old) (D.state disk.new) }
     ensures cause { IsErr result → Rises (D.state disk.old).failures (D.state disk.new).failures }
     ensures calm { OnOk result ((D.state disk.new).failures ≡ (D.state disk.old).failures) }
     ensures cost { (D.state disk.new).calls ≤ (D.state disk.old).calls + gate_reads geometry.now }
-    ensures unchanged { (D.state disk.new).IsHonest
-        → IsUnchanged (D.state disk.old) (D.state disk.new) }
     ensures exact { (D.state disk.new).IsHonest → IfOk result (λ clean. clean
         ≡ gates_clean (slots_in_half geometry.now half layout (D.state disk.old).bytes)) }
 {

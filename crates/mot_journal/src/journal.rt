@@ -2,7 +2,7 @@
 ghost use Rattle.std.specs.Prelude.{◌≡◌, ◌≤◌, ◌<◌, ◌+◌, ◌^◌, ◌++◌, ℕ, List, [], ◌∷◌, length, true};
 ghost use Rattle.std.specs.Prelude.{◌⊎◌, Ok, OnOk, OnErr, MatchResult};
 ghost use Rattle.std.specs.Prelude.{◌↔◌, IfOk, IfErr, IsErr, IsTrue, IsFalse, All};
-ghost use Rattle.disk_store.specs.Disk.{Keeps, KeepsLength, Costs, IsUnchanged};
+ghost use Rattle.disk_store.specs.Disk.{Keeps, Costs, OnlyReads};
 ghost use Rattle.disk_store.specs.Failures.{HasCause, Rises};
 ghost use Rattle.disk_store.specs.Disk.{Throughout};
 ghost use Rattle.mot_base.specs.Geometry.{length_of};
@@ -13,7 +13,7 @@ ghost use Rattle.mot_journal.specs.Image.{records_of, has_clean_gates, gate_read
 ghost use Rattle.mot_journal.specs.Journal.{JournalView, with_records, IsLoadRefusal};
 ghost use Rattle.mot_journal.specs.Inner.Places.{place_of};
 ghost use Rattle.mot_journal.specs.Journal.{HoldsRecords, FoldOf, WithoutOrWith, OnlyReadArea};
-ghost use Rattle.mot_journal.specs.Journal.{OldOrGiven, StandsWhere, in_other_half};
+ghost use Rattle.mot_journal.specs.Journal.{StandsWhere, TurnsTo};
 ghost use Rattle.mot_journal.specs.Slot.{AreSound};
 ghost use Rattle.mot_base.specs.declared.refusal.Refusal.TheVariants.{DeviceFault};
 ghost use Rattle.mot_journal.specs.declared.layout.Layout.TheVariants.{One, Two};
@@ -65,8 +65,7 @@ pub struct Loaded {
 
 /// Reads the records of the half that is selected. It only reads.
 pub fn load<D: Disk>(alloc: Global, disk: &mut D) -> Result<Loaded, Refusal>
-    ensures keeps { KeepsLength (D.state disk.old) (D.state disk.new) }
-    ensures later { (D.state disk.old).failures ≤ (D.state disk.new).failures }
+    ensures only_reads { OnlyReads (D.state disk.old) (D.state disk.new) }
 
     // The disk has failed where a device fault is told, and nowhere else.
     ensures calm { MatchResult result
@@ -74,8 +73,6 @@ pub fn load<D: Disk>(alloc: Global, disk: &mut D) -> Result<Loaded, Refusal>
         (λ refusal. (refusal ≡ DeviceFault)
         ⊎ ((D.state disk.new).failures ≡ (D.state disk.old).failures)) }
     ensures cost { Costs 2 (D.state disk.old) (D.state disk.new) result }
-    ensures unchanged { (D.state disk.new).IsHonest
-        → IsUnchanged (D.state disk.old) (D.state disk.new) }
     ensures loaded { (D.state disk.new).IsHonest → IfOk result (λ l.
         records_of (D.state disk.old).bytes ≡ Ok (with_records l.journal l.records.items)) }
     ensures count { IfOk result (λ l. l.journal.count ≡ length l.records.items) }
@@ -166,15 +163,12 @@ impl Journal {
     /// 4,096 bytes at once, and only reads.
     pub fn is_clean<D: Disk>(&self, disk: &mut D) -> Result<bool, DiskFault>
         requires long_enough { length_of self.now.geometry ≤ (D.state disk.old).len }
-        ensures keeps { KeepsLength (D.state disk.old) (D.state disk.new) }
-        ensures later { (D.state disk.old).failures ≤ (D.state disk.new).failures }
+        ensures only_reads { OnlyReads (D.state disk.old) (D.state disk.new) }
         ensures cause { IsErr result
             → Rises (D.state disk.old).failures (D.state disk.new).failures }
         ensures calm { OnOk result ((D.state disk.new).failures ≡ (D.state disk.old).failures) }
         ensures cost { (D.state disk.new).calls
             ≤ (D.state disk.old).calls + gate_reads self.now.geometry }
-        ensures unchanged { (D.state disk.new).IsHonest
-            → IsUnchanged (D.state disk.old) (D.state disk.new) }
         ensures exact { (D.state disk.new).IsHonest → StandsWhere self.now (D.state disk.old).bytes
             → IfOk result (λ clean. clean ≡ has_clean_gates
             (geometry_of (D.state disk.old).bytes) (D.state disk.old).bytes) }
@@ -242,19 +236,8 @@ impl Journal {
         ensures cost { Costs (slot_count self.old.layout self.old.geometry + 3)
             (D.state disk.old) (D.state disk.new) result }
         ensures spent { OnErr result (self.new ≡ record self.old { spent = true }) }
-        ensures moves { OnOk result
-            (self.new ≡ in_other_half self.old self.old.layout given.now) }
-        ensures any_moment { (records : List Record)
-            → HoldsRecords self.old records (D.state disk.old)
-            → FoldOf self.old given.now
-            → Throughout (D.state disk.old) (D.state disk.new)
-            (OldOrGiven self.old self.old.layout records given.now (D.state disk.old)) }
-        ensures ok { (records : List Record) → HoldsRecords self.old records (D.state disk.old)
-            → FoldOf self.old given.now
-            → OnOk result (HoldsRecords self.new given.now (D.state disk.new)) }
-        ensures area { (records : List Record) → HoldsRecords self.old records (D.state disk.old)
-            → FoldOf self.old given.now
-            → OnOk result (OnlyReadArea self.old (D.state disk.old) (D.state disk.new)) }
+        ensures turns { TurnsTo self.old.layout given.now self.old self.new
+            (D.state disk.old) (D.state disk.new) result }
     {
         let layout = self.layout;
         self.turn(disk, layout, given)
@@ -274,18 +257,8 @@ impl Journal {
         ensures cost { Costs (slot_count Two self.old.geometry + 3)
             (D.state disk.old) (D.state disk.new) result }
         ensures spent { OnErr result (self.new ≡ record self.old { spent = true }) }
-        ensures moves { OnOk result (self.new ≡ in_other_half self.old Two given.now) }
-        ensures any_moment { (records : List Record)
-            → HoldsRecords self.old records (D.state disk.old)
-            → FoldOf self.old given.now
-            → Throughout (D.state disk.old) (D.state disk.new)
-            (OldOrGiven self.old Two records given.now (D.state disk.old)) }
-        ensures ok { (records : List Record) → HoldsRecords self.old records (D.state disk.old)
-            → FoldOf self.old given.now
-            → OnOk result (HoldsRecords self.new given.now (D.state disk.new)) }
-        ensures area { (records : List Record) → HoldsRecords self.old records (D.state disk.old)
-            → FoldOf self.old given.now
-            → OnOk result (OnlyReadArea self.old (D.state disk.old) (D.state disk.new)) }
+        ensures turns { TurnsTo Two given.now self.old self.new
+            (D.state disk.old) (D.state disk.new) result }
     {
         self.turn(disk, Layout::Two, given)
     }
@@ -308,18 +281,8 @@ impl Journal {
         ensures cost { Costs (slot_count layout self.old.geometry + 3)
             (D.state disk.old) (D.state disk.new) result }
         ensures spent { OnErr result (self.new ≡ record self.old { spent = true }) }
-        ensures moves { OnOk result (self.new ≡ in_other_half self.old layout given.now) }
-        ensures any_moment { (records : List Record)
-            → HoldsRecords self.old records (D.state disk.old)
-            → FoldOf self.old given.now
-            → Throughout (D.state disk.old) (D.state disk.new)
-            (OldOrGiven self.old layout records given.now (D.state disk.old)) }
-        ensures ok { (records : List Record) → HoldsRecords self.old records (D.state disk.old)
-            → FoldOf self.old given.now
-            → OnOk result (HoldsRecords self.new given.now (D.state disk.new)) }
-        ensures area { (records : List Record) → HoldsRecords self.old records (D.state disk.old)
-            → FoldOf self.old given.now
-            → OnOk result (OnlyReadArea self.old (D.state disk.old) (D.state disk.new)) }
+        ensures turns { TurnsTo layout given.now self.old self.new
+            (D.state disk.old) (D.state disk.new) result }
     {
         let other = 1 - self.half;
         self.spent = true;

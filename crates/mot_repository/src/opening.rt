@@ -1,6 +1,6 @@
 //! A disk opened: its records folded into a carousel, whose bodies stay where they lie.
 ghost use Rattle.std.specs.Prelude.{◌≡◌, ◌≤◌, ◌+◌, ◌⊎◌, false, IfOk, IfErr, IsFalse, MatchResult};
-ghost use Rattle.disk_store.specs.Disk.{KeepsLength, Costs, IsStill, IsUnchanged};
+ghost use Rattle.disk_store.specs.Disk.{Costs, OnlyReads, OnlySyncs};
 ghost use Rattle.mot_base.specs.declared.refusal.Refusal.TheVariants.{DeviceFault};
 ghost use Rattle.mot_repository.specs.Inner.InOrder.{IsInOrder};
 ghost use Rattle.mot_repository.specs.Inner.Loaded.{IsLoaded};
@@ -33,10 +33,9 @@ impl<D: Disk> Repository<D> {
     /// of the first slot that breaks the format, or else of the first whose record makes a fault of
     /// the list: too many objects, none of the id that is to go, two of one id, extents that meet.
     pub fn open(alloc: Global, disk: D) -> Result<Self, Refused<D>>
-        ensures keeps { IfOk result (λ r. KeepsLength (D.state disk) (D.state r.disk)) }
-        ensures later { IfOk result (λ r. (D.state disk).failures ≤ (D.state r.disk).failures) }
-        ensures still { IfOk result (λ r. (D.state r.disk).IsHonest
-            → IsStill (D.state disk) (D.state r.disk)) }
+        ensures only_syncs { MatchResult result
+            (λ r. OnlySyncs (D.state disk) (D.state r.disk))
+            (λ e. OnlySyncs (D.state disk) (D.state e.disk)) }
         ensures going { IfOk result (λ r. IsFalse r.view.halted) }
 
         // What is kept is what the disk stands for, and no position of it is loose.
@@ -55,11 +54,6 @@ impl<D: Disk> Repository<D> {
         ensures cost { MatchResult result
             (λ r. (D.state r.disk).calls ≡ (D.state disk).calls + 3)
             (λ e. (D.state e.disk).calls ≤ (D.state disk).calls + 3) }
-        ensures keeps_refused { IfErr result (λ e. KeepsLength (D.state disk) (D.state e.disk)) }
-        ensures later_refused { IfErr result
-            (λ e. (D.state disk).failures ≤ (D.state e.disk).failures) }
-        ensures still_refused { IfErr result (λ e. (D.state e.disk).IsHonest
-            → IsStill (D.state disk) (D.state e.disk)) }
     {
         let mut disk = disk;
         if disk.sync().is_err() {
@@ -77,10 +71,7 @@ impl<D: Disk> Repository<D> {
 
 /// The journal of a disk, and the carousel that its records stand for. It only reads.
 fn load_inventory<D: Disk>(alloc: Global, disk: &mut D) -> Result<(Journal, Inventory), Refusal>
-    ensures keeps { KeepsLength (D.state disk.old) (D.state disk.new) }
-    ensures later { (D.state disk.old).failures ≤ (D.state disk.new).failures }
-    ensures unchanged { (D.state disk.new).IsHonest
-        → IsUnchanged (D.state disk.old) (D.state disk.new) }
+    ensures only_reads { OnlyReads (D.state disk.old) (D.state disk.new) }
     ensures going { IfOk result (λ l. IsFalse l.0.spent) }
     ensures in_order { IfOk result (λ l. IsInOrder
         (view_with l.0 l.1.carousel l.1.extents.items false) (D.state disk.old).len) }

@@ -43,7 +43,7 @@ impl<D: Disk> Model for Repository<D> {
 }
 
 impl<D: Disk> Repository<D> {
-    ghost use Rattle.disk_store.specs.Disk.{Keeps, KeepsLength, Costs, IsUnchanged};
+    ghost use Rattle.disk_store.specs.Disk.{Keeps, KeepsLength, Costs, IsUnchanged, OnlyReads};
     ghost use Rattle.disk_store.specs.Failures.{HasCause};
     ghost use Rattle.disk_store.specs.Disk.{Throughout};
     ghost use Rattle.mot_base.specs.declared.refusal.Refusal.TheVariants.{DeviceFault};
@@ -284,7 +284,6 @@ impl<D: Disk> Repository<D> {
     /// carousel from before; after every other refusal it is as it was, and so is the disk.
     pub fn execute(&mut self, alloc: Global, command: &Command) -> Result<Done, Refusal>
         ensures keeps { Keeps (D.state self.old.disk) (D.state self.new.disk) }
-        ensures later { (D.state self.old.disk).failures ≤ (D.state self.new.disk).failures }
         ensures answered { IsAnswered self.old.view self.new.view
             (D.state self.old.disk) (D.state self.new.disk) command.now result }
         ensures going { OnOk result (IsFalse self.old.view.halted) }
@@ -318,15 +317,12 @@ impl<D: Disk> Repository<D> {
 
     /// Whether no gate of the selected half is open behind a closed one. It only reads.
     pub fn is_clean(&mut self) -> Result<bool, Refusal>
-        ensures keeps { KeepsLength (D.state self.old.disk) (D.state self.new.disk) }
-        ensures later { (D.state self.old.disk).failures ≤ (D.state self.new.disk).failures }
+        ensures only_reads { OnlyReads (D.state self.old.disk) (D.state self.new.disk) }
         ensures cost { (D.state self.new.disk).calls
             ≤ (D.state self.old.disk).calls + gate_reads self.old.view.journal.geometry }
         ensures calm { OnOk result
             ((D.state self.new.disk).failures ≡ (D.state self.old.disk).failures) }
         ensures view { self.new.view ≡ self.old.view }
-        ensures unchanged { (D.state self.new.disk).IsHonest
-            → IsUnchanged (D.state self.old.disk) (D.state self.new.disk) }
         ensures going { OnOk result (IsFalse self.old.view.halted) }
         ensures refused { IfErr result (λ refusal. IsCheckRefusal self.old self.new
             (D.state self.old.disk).failures (D.state self.new.disk).failures refusal) }
@@ -354,7 +350,6 @@ impl<D: Disk> Repository<D> {
     /// anything is written.
     pub fn migrate(&mut self, alloc: Global) -> Result<bool, Refusal>
         ensures keeps { Keeps (D.state self.old.disk) (D.state self.new.disk) }
-        ensures later { (D.state self.old.disk).failures ≤ (D.state self.new.disk).failures }
         ensures geometry { self.new.view.journal.geometry ≡ self.old.view.journal.geometry }
         ensures carousel { self.new.view.carousel ≡ self.old.view.carousel }
         ensures extents { self.new.view.extents ≡ self.old.view.extents }

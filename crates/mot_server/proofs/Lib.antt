@@ -1,5 +1,4 @@
 pub mod Answered
-pub mod Calls
 pub mod Extents
 pub mod Going
 pub mod Histories

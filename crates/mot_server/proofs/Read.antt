@@ -2,7 +2,7 @@
 use Rattle.std.proofs.Common.{◌≡◌, false, true, inl, ⊎_elim, ℕ, zero, suc, ◌<◌, ◌≤◌, List, [], ◌∷◌, length, map, get_or, refl, sym, ap, ◌∙◌, subst, arith}
 use Rattle.std.proofs.Math.Nat.{eq-or-lt_of_le}
 use Rattle.std.proofs.lemmas.List.{ext_get_or, get_or-map}
-use Rattle.disk_store.specs.Disk.{State, IsHonestDisk, IsUnchanged, KeepsLength}
+use Rattle.disk_store.specs.Disk.{State, IsHonestDisk, IsUnchanged}
 use Rattle.disk_store.specs.Failures.{Rises}
 use Rattle.mot_base.specs.declared.geometry.Geometry.{Geometry}
 use Rattle.mot_carousel.specs.Carousel as whole
@@ -74,26 +74,7 @@ body_length view s agrees paired i below =
     ∙ sym (get_or-map length bodies i [] 0 within) ∙ ap (λ (l : List ℕ). get_or l i 0) sizes
     ∙ get_or-map (λ (e : ℕ × ℕ). e.1) extents i (0, 0) 0 below
 
--- two calls that change nothing
-
-pub keeps_on : (start mid now : State) → KeepsLength start mid → KeepsLength mid now → KeepsLength start now
-keeps_on start mid now first second = record {
-  len = second.len ∙ first.len;
-  was_honest = λ honest. first.was_honest (second.was_honest honest);
-}
-
-pub unchanged_on : (start mid now : State) → IsUnchanged start mid → IsUnchanged mid now → IsUnchanged start now
-unchanged_on start mid now first second = record {
-  bytes = second.bytes ∙ first.bytes;
-  time = record {
-    later = omega (arith, first.time.later, second.time.later);
-    nothing_else = λ t c le left. ⊎_elim (λ was. first.time.nothing_else t c le was) (λ came. absurd came)
-        (second.time.nothing_else t c (omega (arith, le, first.time.later)) left);
-    keeps = λ t c le left. second.time.keeps t c (omega (arith, le, first.time.later)) (first.time.keeps t c le left);
-  };
-  images = λ c. (λ left. (first.images c).0 ((second.images c).0 left), λ left. (second.images c).1 ((first.images c).1 left));
-  loose = λ k. (λ is. (first.loose k).0 ((second.loose k).0 is), λ is. (second.loose k).1 ((first.loose k).1 is));
-}
+-- two calls, one after the other
 
 pub rises_on : (start mid now : ℕ) → start ≤ mid → mid ≤ now → Rises mid now → Rises start now
 rises_on start mid now le later rises =

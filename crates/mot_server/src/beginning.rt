@@ -1,5 +1,5 @@
 //! The beginning of every history: a disk formatted here.
-ghost use Rattle.std.specs.Prelude.{◌≡◌, ◌⊎◌, ◌↔◌, ◌<◌, ◌≤◌, ℕ, List, true, false, Ok, IfOk};
+ghost use Rattle.std.specs.Prelude.{◌≡◌, ◌⊎◌, ◌↔◌, ◌<◌, ℕ, List, true, false, Ok, IfOk};
 ghost use Rattle.std.specs.Prelude.{IfErr, OnOk, IsErrOf};
 ghost use Rattle.disk_store.specs.Disk.{KeepsLength, IsUnchanged, IsStill, Throughout};
 ghost use Rattle.disk_store.specs.Failures.{Rises};
@@ -43,7 +43,6 @@ pub fn format_and_restart<D: Disk, E: Disk>(
 ) -> Beginning<E>
     // the disk was formatted: what `format` says of its answer
     ensures keeps { KeepsLength (D.state disk.old) (D.state disk.new) }
-    ensures later { (D.state disk.old).failures ≤ (D.state disk.new).failures }
     ensures bad { IsErrOf result.formatted BadGeometry ↔ (IsValid geometry.now → ⊥) }
     ensures small { IsErrOf result.formatted DiskTooSmall
         ↔ (IsValid geometry.now × ((D.state disk.old).len < length_of geometry.now)) }

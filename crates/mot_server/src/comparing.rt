@@ -1,6 +1,6 @@
 //! Whether a body on the disk has these bytes.
-ghost use Rattle.std.specs.Prelude.{◌≡◌, ◌<◌, ◌≤◌, ◌↔◌, length, IfOk, IfErr, IsTrue, OnErr, OnOk};
-ghost use Rattle.disk_store.specs.Disk.{IsUnchanged, KeepsLength};
+ghost use Rattle.std.specs.Prelude.{◌≡◌, ◌<◌, ◌↔◌, length, IfOk, IfErr, IsTrue, OnErr, OnOk};
+ghost use Rattle.disk_store.specs.Disk.{OnlyReads};
 ghost use Rattle.disk_store.specs.Failures.{Rises};
 ghost use Rattle.mot_base.specs.declared.refusal.Refusal.TheVariants.{DeviceFault};
 ghost use Rattle.mot_journal.specs.Image.{Standing};
@@ -21,12 +21,8 @@ pub(crate) fn is_body<D: Disk>(
     bytes: &[u8],
 ) -> Result<bool, Refusal>
     requires { place < length repository.old.view.extents }
-    ensures keeps { KeepsLength (D.state repository.old.disk) (D.state repository.new.disk) }
-    ensures later { (D.state repository.old.disk).failures
-        ≤ (D.state repository.new.disk).failures }
+    ensures only_reads { OnlyReads (D.state repository.old.disk) (D.state repository.new.disk) }
     ensures view { repository.new.view ≡ repository.old.view }
-    ensures unchanged { (D.state repository.new.disk).IsHonest
-        → IsUnchanged (D.state repository.old.disk) (D.state repository.new.disk) }
     ensures fault { IfErr result (λ refusal. refusal ≡ DeviceFault) }
     ensures rises { OnErr result (Rises (D.state repository.old.disk).failures
         (D.state repository.new.disk).failures) }

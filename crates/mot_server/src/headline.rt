@@ -1,5 +1,5 @@
 //! The headline: what a crash leaves of a run of commands, opened and played.
-ghost use Rattle.std.specs.Prelude.{◌≡◌, ◌≤◌, ◌++◌, ℕ, List, length, take, vec_len, IfOk, IfErr};
+ghost use Rattle.std.specs.Prelude.{◌≡◌, ◌++◌, ℕ, List, length, take, vec_len, IfOk, IfErr};
 ghost use Rattle.std.specs.Prelude.{IfSome, IfNone};
 ghost use Rattle.disk_store.specs.Disk.{Keeps};
 ghost use Rattle.mot_base.specs.declared.geometry.Geometry.{Geometry};
@@ -77,7 +77,6 @@ pub fn run_and_restart<D: Disk, E: Disk>(
 
     // the commands were run, and marked as they stand
     ensures keeps { Keeps (D.state server.old.disk) (D.state server.new.disk) }
-    ensures later { (D.state server.old.disk).failures ≤ (D.state server.new.disk).failures }
     ensures answers { RunAnswers server.old.view server.new.view commands.now
         result.end.done.items result.end.fault }
     ensures whole { IfNone result.end.fault (vec_len result.end.done ≡ length commands.now) }

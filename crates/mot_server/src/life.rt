@@ -1,6 +1,6 @@
 //! The life of a disk: formatted, opened, given commands; and what a crash at any moment of that
 //! left, opened and played. Nothing here is told in the words of the disk's format or of memory.
-ghost use Rattle.std.specs.Prelude.{◌≡◌, ◌⊎◌, ◌≤◌, ◌++◌, [], false, IfOk, IfErr};
+ghost use Rattle.std.specs.Prelude.{◌≡◌, ◌++◌, [], false, IfOk, IfErr};
 ghost use Rattle.disk_store.specs.Disk.{KeepsLength, Throughout};
 ghost use Rattle.mot_carousel.specs.Carousel.{new_carousel};
 ghost use Rattle.mot_journal.specs.Geometry.{has_magic};
@@ -103,8 +103,6 @@ pub fn format_and_open<D: Disk>(
     geometry: &Geometry,
 ) -> Result<Server<D>, Refused<D>>
     ensures keeps { IfOk result (λ server. KeepsLength (D.state disk) (D.state server.disk)) }
-    ensures later { IfOk result (λ server. (D.state disk).failures
-        ≤ (D.state server.disk).failures) }
     ensures holds { IfOk result (λ server. (D.state server.disk).IsHonest
         → Holds server.view (new_standing geometry.now) (D.state server.disk)) }
     ensures any_moment { IfOk result (λ server. (D.state server.disk).IsHonest

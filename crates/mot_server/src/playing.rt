@@ -1,10 +1,8 @@
 //! The player of what a repository keeps.
-ghost use Rattle.std.specs.Prelude.{◌≡◌, List, ℕ, OnOk, IfOk, IfErr};
+ghost use Rattle.std.specs.Prelude.{◌≡◌, List, ℕ, IfOk, IfErr};
 ghost use Rattle.mot_base.specs.Geometry.{packet_room};
 ghost use Rattle.mot_base.specs.declared.refusal.Refusal.TheVariants.{OutOfMemory};
 ghost use Rattle.mot_carousel.specs.Stands.{AreBodiesOf, carousel_of};
-ghost use Rattle.mot_player.specs.Laws.{ChangesGoOn, RequestsGoOn, StepsAreContinuous};
-ghost use Rattle.mot_player.specs.Laws.{TurnsEnd, TurnsReadAsTheirCarousels};
 ghost use Rattle.mot_player.specs.Place.{opened_place};
 ghost use Rattle.mot_player.specs.Standing.{place_of};
 ghost use Rattle.mot_player.specs.Turn.{turn_of_carousel};
@@ -31,11 +29,6 @@ pub(crate) fn player_of<D: Disk>(
         (turn_of_carousel (carousel_of repository.now.view.carousel bodies)
         repository.now.view.journal.geometry.segment_size)) }
     ensures refused { IfErr result (λ refusal. refusal ≡ OutOfMemory) }
-    ensures continuous { OnOk result StepsAreContinuous }
-    ensures turns { OnOk result TurnsReadAsTheirCarousels }
-    ensures turns_end { OnOk result TurnsEnd }
-    ensures requests { OnOk result RequestsGoOn }
-    ensures changes { OnOk result ChangesGoOn }
 {
     let geometry = repository.geometry();
     let size = geometry.size_of_segments();

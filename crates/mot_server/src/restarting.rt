@@ -1,7 +1,7 @@
 //! A disk opened, and its first turn played.
-ghost use Rattle.std.specs.Prelude.{◌≡◌, ◌≤◌, ◌⊎◌, Ok, IfOk, IfErr, MatchResult};
+ghost use Rattle.std.specs.Prelude.{◌≡◌, ◌⊎◌, Ok, IfOk, IfErr, MatchResult};
+ghost use Rattle.disk_store.specs.Disk.{OnlySyncs};
 ghost use Rattle.mot_base.specs.declared.refusal.Refusal.TheVariants.{DeviceFault};
-ghost use Rattle.disk_store.specs.Disk.{KeepsLength, IsStill};
 ghost use Rattle.mot_base.specs.Geometry.{packet_room};
 ghost use Rattle.mot_journal.specs.Image.{Standing};
 ghost use Rattle.mot_player.specs.Continuity.{IsContinuous};
@@ -31,11 +31,9 @@ pub struct Restarted<D: Disk> {
 /// but that it is synced. The refusals are those of `Server::open`, of which `OutOfMemory` and
 /// `DeviceFault` may also come of the turn.
 pub fn restart<D: Disk>(alloc: Global, disk: D) -> Result<Restarted<D>, Refused<D>>
-    ensures keeps { IfOk result (λ r. KeepsLength (D.state disk) (D.state r.server.disk)) }
-    ensures later { IfOk result (λ r. (D.state disk).failures
-        ≤ (D.state r.server.disk).failures) }
-    ensures still { IfOk result (λ r. (D.state r.server.disk).IsHonest
-        → IsStill (D.state disk) (D.state r.server.disk)) }
+    ensures only_syncs { MatchResult result
+        (λ r. OnlySyncs (D.state disk) (D.state r.server.disk))
+        (λ e. OnlySyncs (D.state disk) (D.state e.disk)) }
 
     // The server keeps what the disk stands for, and no position of it is loose.
     ensures opened { IfOk result (λ r. (D.state r.server.disk).IsHonest
@@ -66,11 +64,6 @@ pub fn restart<D: Disk>(alloc: Global, disk: D) -> Result<Restarted<D>, Refused<
         (λ r. (D.state r.server.disk).failures ≡ (D.state disk).failures)
         (λ e. (e.refusal ≡ DeviceFault)
         ⊎ ((D.state e.disk).failures ≡ (D.state disk).failures)) }
-    ensures keeps_refused { IfErr result (λ e. KeepsLength (D.state disk) (D.state e.disk)) }
-    ensures later_refused { IfErr result
-        (λ e. (D.state disk).failures ≤ (D.state e.disk).failures) }
-    ensures still_refused { IfErr result (λ e. (D.state e.disk).IsHonest
-        → IsStill (D.state disk) (D.state e.disk)) }
 {
     let mut server = Server::open(alloc, disk)?;
     match server.play_turn(alloc) {

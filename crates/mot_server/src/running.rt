@@ -1,5 +1,5 @@
 //! Commands in a row, up to the first that can't be answered.
-ghost use Rattle.std.specs.Prelude.{◌≡◌, ◌≤◌, ◌<◌, [], ◌∷◌, length, vec_len, Some, IfSome, IfNone};
+ghost use Rattle.std.specs.Prelude.{◌≡◌, ◌<◌, [], ◌∷◌, length, vec_len, Some, IfSome, IfNone};
 ghost use Rattle.std.specs.Prelude.{◌⊎◌, IfErr, IsTrue, MatchResult, OnOk};
 ghost use Rattle.mot_base.specs.declared.refusal.Refusal.TheVariants.{DeviceFault, Halted};
 ghost use Rattle.mot_server.specs.RunEnds.{is_run_ending};
@@ -44,7 +44,6 @@ impl<D: Disk> Server<D> {
     /// on; every other refusal ends it. On a server that is halted it ends at once.
     pub fn run(&mut self, alloc: Global, commands: &[Command]) -> RunEnd
         ensures keeps { Keeps (D.state self.old.disk) (D.state self.new.disk) }
-        ensures later { (D.state self.old.disk).failures ≤ (D.state self.new.disk).failures }
         ensures whole { IfNone result.fault (vec_len result.done ≡ length commands.now) }
         ensures fault { IfSome result.fault (λ refusal. IsRunFault self.old.view self.new.view
             (D.state self.old.disk) (D.state self.new.disk) refusal) }
@@ -106,7 +105,6 @@ impl<D: Disk> Server<D> {
     /// would end the run is the error. Unlike a run it tells the ids, and why it was refused.
     pub fn attempt(&mut self, alloc: Global, command: &Command) -> Result<Attempt, Refusal>
         ensures keeps { Keeps (D.state self.old.disk) (D.state self.new.disk) }
-        ensures later { (D.state self.old.disk).failures ≤ (D.state self.new.disk).failures }
         ensures layout { self.new.view.journal.layout ≡ self.old.view.journal.layout }
         ensures fault { IfErr result (λ refusal. IsRunFault self.old.view self.new.view
             (D.state self.old.disk) (D.state self.new.disk) refusal) }

@@ -2,7 +2,7 @@
 ghost use Rattle.std.specs.Prelude.{◌≡◌, ◌<◌, ◌≤◌, ◌↔◌, ℕ, List, true, false, Ok, OnOk, OnErr};
 ghost use Rattle.std.specs.Prelude.{◌+◌, ◌⊎◌, length, slice_range, vec_len, IfOk, IfErr, IsTrue};
 ghost use Rattle.std.specs.Prelude.{IsFalse, MatchResult};
-ghost use Rattle.disk_store.specs.Disk.{Keeps, KeepsLength, Costs, IsStill, IsUnchanged};
+ghost use Rattle.disk_store.specs.Disk.{Keeps, Costs, OnlyReads, OnlySyncs};
 ghost use Rattle.disk_store.specs.Disk.{Throughout};
 ghost use Rattle.mot_base.specs.declared.refusal.Refusal.TheVariants.{DeviceFault};
 ghost use Rattle.mot_base.specs.Geometry.{packet_room};
@@ -58,10 +58,7 @@ impl<D: Disk> Server<D> {
     ghost use Rattle.mot_journal.specs.Journal.{StandsWhere};
     ghost use Rattle.mot_journal.specs.declared.layout.Layout.TheVariants.{One, Two};
     ghost use Rattle.mot_player.specs.AnyBodies.{IsStepOfSome, PlaysOn, PlaysToTheEnd};
-    ghost use Rattle.mot_player.specs.Laws.{ChangesGoOn, IsStep, RequestsGoOn};
-    ghost use Rattle.mot_player.specs.Laws.{StepsAreContinuous};
-    ghost use Rattle.mot_player.specs.Laws.{TurnsEnd, TurnsReadAsTheirCarousels};
-    ghost use Rattle.mot_player.specs.Laws.{IsAtTurnsBeginning, IsPlace, bytes_left};
+    ghost use Rattle.mot_player.specs.Laws.{IsAtTurnsBeginning, IsPlace, IsStep, bytes_left};
     ghost use Rattle.mot_player.specs.Reading.{ReadsAs};
     ghost use Rattle.mot_player.specs.Standing.{AreBodiesFor, place_of};
     ghost use Rattle.mot_repository.specs.Answers.{IsAnswered, IsMigrationRefusal};
@@ -83,12 +80,9 @@ impl<D: Disk> Server<D> {
     /// of the first slot that breaks the format, or else of the first whose record makes a fault of
     /// the list: too many objects, none of the id that is to go, two of one id, extents that meet.
     pub fn open(alloc: Global, disk: D) -> Result<Self, Refused<D>>
-        ensures keeps { IfOk result
-            (λ server. KeepsLength (D.state disk) (D.state server.disk)) }
-        ensures later { IfOk result
-            (λ server. (D.state disk).failures ≤ (D.state server.disk).failures) }
-        ensures still { IfOk result (λ server. (D.state server.disk).IsHonest
-            → IsStill (D.state disk) (D.state server.disk)) }
+        ensures only_syncs { MatchResult result
+            (λ server. OnlySyncs (D.state disk) (D.state server.disk))
+            (λ e. OnlySyncs (D.state disk) (D.state e.disk)) }
         ensures going { IfOk result (λ server. IsFalse server.view.halted) }
 
         // The disk has failed where a device fault is told, and nowhere else.
@@ -113,21 +107,6 @@ impl<D: Disk> Server<D> {
             (turn_of_carousel s.carousel s.geometry.segment_size)) }
         ensures refused { IfErr result
             (λ e. IsOpeningRefusal (D.state disk) (D.state e.disk) e.refusal) }
-        ensures keeps_refused { IfErr result (λ e. KeepsLength (D.state disk) (D.state e.disk)) }
-        ensures later_refused { IfErr result
-            (λ e. (D.state disk).failures ≤ (D.state e.disk).failures) }
-        ensures still_refused { IfErr result (λ e. (D.state e.disk).IsHonest
-            → IsStill (D.state disk) (D.state e.disk)) }
-
-        // Whatever commands come between the requests, all packets that it plays have their
-        // continuity indexes.
-        ensures continuous { OnOk result StepsAreContinuous }
-
-        // The packets of a whole turn of a carousel read as exactly the carousel.
-        ensures turns { OnOk result TurnsReadAsTheirCarousels }
-        ensures turns_end { OnOk result TurnsEnd }
-        ensures requests { OnOk result RequestsGoOn }
-        ensures changes { OnOk result ChangesGoOn }
     {
         let repository = Repository::open(alloc, disk)?;
         match player_of(alloc, &repository) {
@@ -202,7 +181,6 @@ impl<D: Disk> Server<D> {
     /// refusal it is as it was, and so is the disk. All memory is taken before anything is written.
     pub fn execute(&mut self, alloc: Global, command: &Command) -> Result<Done, Refusal>
         ensures keeps { Keeps (D.state self.old.disk) (D.state self.new.disk) }
-        ensures later { (D.state self.old.disk).failures ≤ (D.state self.new.disk).failures }
         ensures going { OnOk result (IsFalse self.old.view.halted) }
         ensures calm { OnOk result
             ((D.state self.new.disk).failures ≡ (D.state self.old.disk).failures) }
@@ -244,11 +222,8 @@ impl<D: Disk> Server<D> {
     /// where a body can't be read, after which the server goes on from where it was, and `Halted`.
     #[inline(always)]
     pub fn next_packet(&mut self) -> Result<Played, Refusal>
-        ensures keeps { KeepsLength (D.state self.old.disk) (D.state self.new.disk) }
-        ensures later { (D.state self.old.disk).failures ≤ (D.state self.new.disk).failures }
+        ensures only_reads { OnlyReads (D.state self.old.disk) (D.state self.new.disk) }
         ensures view { self.new.view ≡ self.old.view }
-        ensures unchanged { (D.state self.new.disk).IsHonest
-            → IsUnchanged (D.state self.old.disk) (D.state self.new.disk) }
 
         // a part of a body at most
         ensures cost { (D.state self.new.disk).calls ≤ (D.state self.old.disk).calls + 1 }
@@ -284,11 +259,8 @@ impl<D: Disk> Server<D> {
     /// exactly the carousel. Its refusals are those of `next_packet`, and `OutOfMemory`; the server
     /// then goes on behind the packets that were played.
     pub fn play_turn(&mut self, alloc: Global) -> Result<Vec<Packet>, Refusal>
-        ensures keeps { KeepsLength (D.state self.old.disk) (D.state self.new.disk) }
-        ensures later { (D.state self.old.disk).failures ≤ (D.state self.new.disk).failures }
+        ensures only_reads { OnlyReads (D.state self.old.disk) (D.state self.new.disk) }
         ensures view { self.new.view ≡ self.old.view }
-        ensures unchanged { (D.state self.new.disk).IsHonest
-            → IsUnchanged (D.state self.old.disk) (D.state self.new.disk) }
         ensures turn { (s : journal.Standing) → Holds self.old.view s (D.state self.old.disk)
             → (D.state self.new.disk).IsHonest → IfOk result (λ packets. HasPlayedTurn
             (place_in self.old s) (bytes_of_packets packets.items) (place_in self.new s)) }
@@ -357,13 +329,10 @@ impl<D: Disk> Server<D> {
     pub fn read_body(&mut self, place: usize, from: usize, out: &mut [u8]) -> Result<(), Refusal>
         requires place { place < vec_len self.old.view.carousel.objects }
         requires within { from + length out.old ≤ (extent_at self.old.view.extents place).1 }
-        ensures keeps { KeepsLength (D.state self.old.disk) (D.state self.new.disk) }
-        ensures later { (D.state self.old.disk).failures ≤ (D.state self.new.disk).failures }
+        ensures only_reads { OnlyReads (D.state self.old.disk) (D.state self.new.disk) }
         ensures view { self.new.view ≡ self.old.view }
         ensures player { self.new.player ≡ self.old.player }
         ensures cost { (D.state self.new.disk).calls ≤ (D.state self.old.disk).calls + 1 }
-        ensures unchanged { (D.state self.new.disk).IsHonest
-            → IsUnchanged (D.state self.old.disk) (D.state self.new.disk) }
         ensures going { OnOk result (IsFalse self.old.view.halted) }
         ensures refused { IfErr result (λ refusal. IsReadRefusal self.old self.new
             (D.state self.old.disk).failures (D.state self.new.disk).failures refusal) }
@@ -386,12 +355,9 @@ impl<D: Disk> Server<D> {
     /// not halt the server, and `Halted`.
     pub fn body_is(&mut self, place: usize, bytes: &[u8]) -> Result<bool, Refusal>
         requires { place < vec_len self.old.view.carousel.objects }
-        ensures keeps { KeepsLength (D.state self.old.disk) (D.state self.new.disk) }
-        ensures later { (D.state self.old.disk).failures ≤ (D.state self.new.disk).failures }
+        ensures only_reads { OnlyReads (D.state self.old.disk) (D.state self.new.disk) }
         ensures view { self.new.view ≡ self.old.view }
         ensures player { self.new.player ≡ self.old.player }
-        ensures unchanged { (D.state self.new.disk).IsHonest
-            → IsUnchanged (D.state self.old.disk) (D.state self.new.disk) }
         ensures going { OnOk result (IsFalse self.old.view.halted) }
         ensures refused { IfErr result (λ refusal. IsReadRefusal self.old self.new
             (D.state self.old.disk).failures (D.state self.new.disk).failures refusal) }
@@ -414,16 +380,13 @@ impl<D: Disk> Server<D> {
     /// Whether no gate of the selected half is open behind a closed one. It only reads. Its
     /// refusals are `DeviceFault`, which does not halt the server, and `Halted`.
     pub fn is_clean(&mut self) -> Result<bool, Refusal>
-        ensures keeps { KeepsLength (D.state self.old.disk) (D.state self.new.disk) }
-        ensures later { (D.state self.old.disk).failures ≤ (D.state self.new.disk).failures }
+        ensures only_reads { OnlyReads (D.state self.old.disk) (D.state self.new.disk) }
         ensures view { self.new.view ≡ self.old.view }
         ensures player { self.new.player ≡ self.old.player }
         ensures cost { (D.state self.new.disk).calls
             ≤ (D.state self.old.disk).calls + gate_reads self.old.view.journal.geometry }
         ensures calm { OnOk result
             ((D.state self.new.disk).failures ≡ (D.state self.old.disk).failures) }
-        ensures unchanged { (D.state self.new.disk).IsHonest
-            → IsUnchanged (D.state self.old.disk) (D.state self.new.disk) }
         ensures going { OnOk result (IsFalse self.old.view.halted) }
         ensures refused { IfErr result (λ refusal. IsReadRefusal self.old self.new
             (D.state self.old.disk).failures (D.state self.new.disk).failures refusal) }
@@ -443,7 +406,6 @@ impl<D: Disk> Server<D> {
     /// `Halted` come before anything is written.
     pub fn migrate(&mut self, alloc: Global) -> Result<bool, Refusal>
         ensures keeps { Keeps (D.state self.old.disk) (D.state self.new.disk) }
-        ensures later { (D.state self.old.disk).failures ≤ (D.state self.new.disk).failures }
         ensures player { self.new.player ≡ self.old.player }
         ensures geometry { self.new.view.journal.geometry ≡ self.old.view.journal.geometry }
         ensures carousel { self.new.view.carousel ≡ self.old.view.carousel }

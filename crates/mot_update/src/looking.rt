@@ -1,5 +1,5 @@
 //! A look at a source: what it gives, made of a server's carousel.
-ghost use Rattle.std.specs.Prelude.{◌≡◌, ◌≤◌, [], true, IfErr, IfOk};
+ghost use Rattle.std.specs.Prelude.{◌≡◌, [], true, IfErr, IfOk};
 ghost use Rattle.disk_store.specs.Disk.{KeepsLength};
 ghost use Rattle.mot_base.specs.declared.refusal.Refusal.TheVariants.{OutOfMemory};
 ghost use Rattle.mot_carousel.specs.Carousel.{are_names_distinct};
@@ -29,7 +29,6 @@ pub fn look<D: Disk, S: Source>(
 ) -> Result<(), Refusal>
     requires { are_names_distinct (S.names source.old) ≡ true }
     ensures keeps { KeepsLength (D.state server.old.disk) (D.state server.new.disk) }
-    ensures later { (D.state server.old.disk).failures ≤ (D.state server.new.disk).failures }
     ensures faults { TellsFaults server.old server.new
         (D.state server.old.disk) (D.state server.new.disk) result }
     ensures looked { (s : Standing) → Holds server.old.view s (D.state server.old.disk)
@@ -73,7 +72,6 @@ fn withdraw_these<D: Disk, S: Source>(
     names: &[Name],
 ) -> Result<(), Refusal>
     ensures keeps { KeepsLength (D.state server.old.disk) (D.state server.new.disk) }
-    ensures later { (D.state server.old.disk).failures ≤ (D.state server.new.disk).failures }
     ensures faults { TellsFaults server.old server.new
         (D.state server.old.disk) (D.state server.new.disk) result }
     ensures same { S.names source.new ≡ S.names source.old }
@@ -102,7 +100,6 @@ fn settle_all<D: Disk, S: Source>(
 ) -> Result<(), Refusal>
     requires { are_names_distinct (S.names source.old) ≡ true }
     ensures keeps { KeepsLength (D.state server.old.disk) (D.state server.new.disk) }
-    ensures later { (D.state server.old.disk).failures ≤ (D.state server.new.disk).failures }
     ensures faults { TellsFaults server.old server.new
         (D.state server.old.disk) (D.state server.new.disk) result }
     ensures settled { (s : Standing) → Holds server.old.view s (D.state server.old.disk)

@@ -24,6 +24,5 @@ bodies_on g extents image = map (bytes_in g image) extents
 pub record HasRead (old new : RepositoryView) (before now : State) : Type 0 where
   pub view : new ≡ old
   pub keeps : KeepsLength before now
-  pub later : before.failures ≤ now.failures
   pub unchanged : before.IsHonest → IsUnchanged before now
   pub cost : now.calls ≤ before.calls + 1

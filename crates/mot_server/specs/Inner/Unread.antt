@@ -21,8 +21,7 @@ is_unchanged state = record {
 pub unread : (view : RepositoryView) (state : State) → HasRead view view state state
 unread view state = record {
   view = refl;
-  keeps = record { len = refl; was_honest = λ honest. honest };
-  later = le_refl state.failures;
+  keeps = record { len = refl; later = le_refl state.failures; was_honest = λ honest. honest };
   unchanged = λ honest. is_unchanged state;
   cost = le-add_right state.calls 1;
 }

@@ -2,10 +2,10 @@ use Rattle.std.proofs.Common.{◌≡◌, ◌<◌, ◌≤◌, ℕ, List, Some, No
 use Rattle.std.specs.Prelude.{is_some}
 use Rattle.std.specs.Int.{div_ceil}
 use Rattle.std.proofs.lemmas.List.{length-take}
+use Rattle.disk_store.proofs.Laws.{reads_on, reads_once}
 use Rattle.mot_journal.specs.Image.{gate_reads}
 use Rattle.mot_journal.specs.Inner.Scan.{scan}
 use Rattle.mot_journal.specs.Inner.Steps.{slots_in_half}
-use Rattle.mot_journal.proofs.Loads.{unchanged_joins}
 use Rattle.mot_journal.proofs.Scan.{none, scan_is_clean, scanned_on, last_piece}
 use Rattle.mot_journal.proofs.gates.are_gates_clean.Goals as goal
 
@@ -26,7 +26,7 @@ returns-in-None-clause-exact g c = λ honest.
     ∙ scanned_on geometry c.args.half c.args.layout old.bytes c.loop-number.is_shut number n (length piece) c.read.new.out
     (state c.loop-number.disk).bytes None c.half_size-in-loop-number.result c.half_start.result lt
     c.half_size-in-loop-number.ensures.value c.min-count.ensures c.half_start.ensures.value
-    (c.loop-number.invariant.unchanged honest1).bytes (c.in_ok-read.ensures.bytes honest) long (c.read.auto.out ∙ long) c.in-None.ensures in
+    (c.loop-number.invariant.reads.unchanged honest1).bytes (c.in_ok-read.ensures.bytes honest) long (c.read.auto.out ∙ long) c.in-None.ensures in
     sym (ap is_some all) ∙ scan_is_clean (slots_in_half geometry c.args.half c.args.layout old.bytes)
 
 pub loop-number-preserved : goal.loop-number-preserved
@@ -37,16 +37,10 @@ loop-number-preserved g c =
     let old = state c.args.disk.now in
     let so_far = c.loop-number.invariant in
     record {
-      keeps = record {
-        len = c.read.ensures.keeps.len ∙ so_far.keeps.len;
-        was_honest = λ h. so_far.keeps.was_honest (c.read.ensures.keeps.was_honest h);
-      };
+      reads = reads_on old (state c.loop-number.disk) (state c.read.new.self) so_far.reads
+          (reads_once (state c.loop-number.disk) (state c.read.new.self) c.read.ensures.keeps c.read.ensures.unchanged);
       calm = search rules;
       cost = omega (arith, c.read.ensures.called, so_far.cost);
-      unchanged = λ honest.
-          let honest1 = c.read.ensures.keeps.was_honest honest in
-          unchanged_joins old (state c.loop-number.disk) (state c.read.new.self) (so_far.unchanged honest1)
-          (c.read.ensures.unchanged honest1);
       scanned = λ honest.
           let honest1 = c.read.ensures.keeps.was_honest honest in
           let n : ℕ = c.min-count.result in
@@ -58,7 +52,7 @@ loop-number-preserved g c =
           ∙ scanned_on geometry c.args.half c.args.layout old.bytes c.loop-number.is_shut number n (length piece) c.read.new.out
           (state c.loop-number.disk).bytes (Some c.in-Some.is_now) c.half_size-in-loop-number.result c.half_start.result lt
           c.half_size-in-loop-number.ensures.value c.min-count.ensures c.half_start.ensures.value
-          (so_far.unchanged honest1).bytes (c.in_ok-read.ensures.bytes honest) long (c.read.auto.out ∙ long) c.in-Some.ensures;
+          (so_far.reads.unchanged honest1).bytes (c.in_ok-read.ensures.bytes honest) long (c.read.auto.out ∙ long) c.in-Some.ensures;
     }
 
 pub returns-clause-exact : goal.returns-clause-exact

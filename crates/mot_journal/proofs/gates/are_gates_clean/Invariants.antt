@@ -1,5 +1,5 @@
 use Rattle.std.proofs.Common.{◌≡◌, ◌+◌, false}
-use Rattle.disk_store.specs.Disk.{KeepsLength, IsUnchanged}
+use Rattle.disk_store.specs.Disk.{OnlyReads}
 use Rattle.mot_journal.specs.Inner.Scan.{scan}
 use Rattle.mot_journal.specs.Inner.Steps.{slots_in_half}
 use Rattle.mot_journal.proofs.Scan.{slots_from}
@@ -11,10 +11,9 @@ invariant-loop-number g l =
     let now = g.D.Disk.state l.disk in
     let slots = slots_in_half l.geometry l.half l.layout old.bytes in
     record {
-      keeps : KeepsLength old now;
+      reads : OnlyReads old now;
       calm : now.failures ≡ old.failures;
       cost : now.calls ≡ old.calls + l.number;
-      unchanged : now.IsHonest → IsUnchanged old now;
       scanned : now.IsHonest
           → scan false slots ≡ scan l.is_shut (slots_from l.geometry l.half l.layout old.bytes l.number);
     }

@@ -1,11 +1,12 @@
 use Rattle.std.proofs.Common.{◌≡◌, ℕ, ◌+◌, ◌-◌, ◌*◌, ◌≤◌, length, take, drop, Some, None, refl, sym, ◌∙◌, ap, arith, rules}
 use Rattle.std.specs.Prelude.{slice_index, if◌then◌else◌, ◌==◌}
 use Rattle.std.proofs.Math.Nat.{mul-le-mul_left, mul_comm}
+use Rattle.disk_store.proofs.Laws.{reads_on, reads_once}
 use Rattle.mot_base.specs.Geometry.{half_size, half_start}
 use Rattle.mot_journal.specs.Geometry.{geometry_of}
 use Rattle.mot_journal.specs.Journal.IsLoadRefusal.{not_formatted}
 use Rattle.mot_journal.proofs.Heads.{short_has_none}
-use Rattle.mot_journal.proofs.Loads.{unchanged_joins, told_good, geometry_told, none_formatted, half_told, on_ok, chosen_one, chosen_none, half_refused, sub-same, written_back}
+use Rattle.mot_journal.proofs.Loads.{told_good, geometry_told, none_formatted, half_told, on_ok, chosen_one, chosen_none, half_refused, sub-same, written_back}
 use Rattle.mot_journal.proofs.journal.load.Goals.{then-head-eq1, else-head-eq1}
 use Rattle.mot_journal.proofs.journal.load.Goals as goal
 
@@ -35,11 +36,13 @@ read-requires-2 g c =
     let here : c.if-head-eq1.half * size ≡ size * c.if-head-eq1.half = mul_comm c.if-head-eq1.half size in
     omega (arith, most, here, good.1, c.half_start.ensures.value, c.half_size.ensures.value, c.deref_mut.ensures.len, c.in-Ok.ensures.len, c.read.ensures.keeps.len, c.len-len.ensures)
 
-pub returns-then-is_err-2-clause-unchanged : goal.returns-then-is_err-2-clause-unchanged
-returns-then-is_err-2-clause-unchanged g c = λ honest.
-    let mid = c.read-2.ensures.keeps.was_honest honest in
-    unchanged_joins (g.D.Disk.state c.args.disk.now) (g.D.Disk.state c.read.new.self) (g.D.Disk.state c.read-2.new.self)
-    (c.read.ensures.unchanged (c.read.ensures.keeps.was_honest mid)) (c.read-2.ensures.unchanged mid)
+pub returns-then-is_err-2-clause-only_reads : goal.returns-then-is_err-2-clause-only_reads
+returns-then-is_err-2-clause-only_reads g c =
+    let old = g.D.Disk.state c.args.disk.now in
+    let mid = g.D.Disk.state c.read.new.self in
+    let new = g.D.Disk.state c.read-2.new.self in
+    reads_on old mid new (reads_once old mid c.read.ensures.keeps c.read.ensures.unchanged)
+    (reads_once mid new c.read-2.ensures.keeps c.read-2.ensures.unchanged)
 
 pub records_of_half-requires-clause-few : goal.records_of_half-requires-clause-few
 records_of_half-requires-clause-few g c =

@@ -1,5 +1,6 @@
 use Rattle.std.proofs.Common.{◌≡◌, ◌+◌, ◌*◌, ◌<◌, length, slice_range, sym, ◌∙◌, ap, subst, arith, rules}
 use Rattle.disk_store.specs.Disk.{Writes}
+use Rattle.disk_store.proofs.Laws.{keeps_all_on}
 use Rattle.mot_base.specs.Geometry.{half_start, half_size}
 use Rattle.mot_journal.specs.Slot.{slot_size}
 use Rattle.mot_journal.proofs.Fill.{one_more, slot_more, slot_ends, range_whole}
@@ -40,11 +41,7 @@ loop-number-preserved g c =
     ap length c.deref.ensures.0 ∙ c.slot_or_zeros.ensures.size geometry c.requires.sound in
     let at : c.place_of_slot-place.result ≡ half_start geometry half + number * slot_size layout = c.place_of_slot-place.ensures.value in
     record {
-      keeps = record {
-        len = c.write.ensures.keeps.len ∙ so_far.keeps.len;
-        honest = λ h. c.write.ensures.keeps.honest (so_far.keeps.honest h);
-        was_honest = λ h. so_far.keeps.was_honest (c.write.ensures.keeps.was_honest h);
-      };
+      keeps = keeps_all_on (state c.args.disk.now) (state c.loop-number.disk) (state c.write.new.self) so_far.keeps c.write.ensures.keeps;
       calm = search rules;
       cost = omega (arith, c.write.ensures.called, so_far.cost);
       range = λ honest.

@@ -38,7 +38,7 @@ returns-in_default-clause-any_moment g c = λ view s k is holds fold fold'.
     let j = c.args.journal.now in
     let given = c.args.given.now in
     moments view s j.layout given k j old new is holds fold (fold' (c.if-not-is_full.ensures.0 refl))
-    (c.rewrite.ensures.any_moment holds.records (here view s j.layout given k j old new is holds fold (fold' (c.if-not-is_full.ensures.0 refl)))
+    (c.rewrite.ensures.turns.any_moment holds.records (here view s j.layout given k j old new is holds fold (fold' (c.if-not-is_full.ensures.0 refl)))
     (folds view s j.layout given k j old new is holds fold (fold' (c.if-not-is_full.ensures.0 refl))))
 
 pub returns-clause-any_moment : goal.returns-clause-any_moment
@@ -49,7 +49,7 @@ returns-clause-any_moment g c = λ view s k is holds fold fold'.
     let j = c.args.journal.now in
     let given = c.args.given.now in
     moments view s j.layout given k j old new is holds fold (fold' (c.if-not-is_full.ensures.0 refl))
-    (c.rewrite.ensures.any_moment holds.records (here view s j.layout given k j old new is holds fold (fold' (c.if-not-is_full.ensures.0 refl)))
+    (c.rewrite.ensures.turns.any_moment holds.records (here view s j.layout given k j old new is holds fold (fold' (c.if-not-is_full.ensures.0 refl)))
     (folds view s j.layout given k j old new is holds fold (fold' (c.if-not-is_full.ensures.0 refl))))
 
 pub returns-clause-room : goal.returns-clause-room
@@ -66,6 +66,6 @@ returns-clause-room g c = λ view s k is holds fold fold'.
       list = given;
       one = inr (refl, c.if-not-is_full.ensures.0 refl);
       holds = held view s j.layout given k j old new is holds fold (fold' (c.if-not-is_full.ensures.0 refl)) sound c.rewrite.new.self
-          (ap (λ (i : JournalView). i.geometry) c.in-Ok.ensures.moves) (c.in-Ok.ensures.ok holds.records was fits)
-          (c.in-Ok.ensures.area holds.records was fits);
+          (ap (λ (i : JournalView). i.geometry) c.in-Ok.ensures.turns.moves) (c.in-Ok.ensures.turns.ok holds.records was fits)
+          (c.in-Ok.ensures.turns.area holds.records was fits);
     }

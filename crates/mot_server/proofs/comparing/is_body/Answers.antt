@@ -4,9 +4,10 @@ use Rattle.std.proofs.lemmas.List.{take_all}
 use Rattle.std.proofs.lemmas.Slice.Eq.{bytes_eq-Decides}
 use Rattle.std.specs.Prelude.{bytes_eq, slice_range}
 use Rattle.std.proofs.Common.{length-take}
+use Rattle.disk_store.proofs.Laws.{reads_on, reads_once}
 use Rattle.mot_repository.specs.Repository.{body_at}
 use Rattle.mot_server.proofs.Answered.{not_halted}
-use Rattle.mot_server.proofs.Read.{body_length, holds_still, keeps_on, no_failure, unchanged_on}
+use Rattle.mot_server.proofs.Read.{body_length, holds_still, no_failure}
 use Rattle.mot_server.proofs.comparing.is_body.Goals as goal
 
 equal_bytes : (xs ys : List ℕ) → false ≡ not (bytes_eq xs ys) → xs ≡ ys
@@ -49,15 +50,12 @@ loop-from-preserved g c =
     record {
       within = let h = c.min-count.ensures in let t = c.loop-from-test.true in omega (arith, h, t);
       view = one.view ∙ is.view;
-      keeps = keeps_on (state start.disk) (state mid.disk) (state now.disk) is.keeps one.keeps;
-      later = omega (arith, is.later, one.cause.later);
+      reads = reads_on (state start.disk) (state mid.disk) (state now.disk) is.reads
+          (reads_once (state mid.disk) (state now.disk) one.keeps one.unchanged);
       calm = no_failure _ _ one.cause.later one.cause.shown ∙ is.calm;
-      unchanged = λ honest.
-          let was = one.keeps.was_honest honest in
-          unchanged_on (state start.disk) (state mid.disk) (state now.disk) (is.unchanged was) (one.unchanged was);
       same = λ s holds honest.
           let was = one.keeps.was_honest honest in
-          let held = holds_still start.view mid.view s (state start.disk) (state mid.disk) holds was (is.unchanged was) is.view in
+          let held = holds_still start.view mid.view s (state start.disk) (state mid.disk) holds was (is.reads.unchanged was) is.view in
           let read = one.bytes s held honest in
           let so_far = is.same s holds was in
           let min = c.min-count.ensures in

@@ -1,6 +1,6 @@
 use Rattle.std.proofs.Common.{◌≡◌, ◌∙◌, ◌≤◌, ◌<◌, length, Ok, Some, refl, sym, subst, arith}
 use Rattle.std.specs.Prelude.{slice_get}
-use Rattle.mot_server.proofs.Laws.{keeps_on}
+use Rattle.disk_store.proofs.Laws.{keeps_none, keeps_on}
 use Rattle.mot_update.specs.HasRun.{marks_of}
 use Rattle.mot_update.specs.Told.{AreAnswers, Tells, answers_of}
 use Rattle.mot_update.proofs.Answers.{answers-settled, tells_kept, tells_nil, tells_on, tells_trans}
@@ -15,8 +15,7 @@ pub loop-wanted-init : goal.loop-wanted-init
 loop-wanted-init g c =
     let state = g.D.Disk.state c.args.server.now.disk in
     record {
-      keeps = record { len = refl; was_honest = λ honest. honest };
-      later = omega arith;
+      keeps = keeps_none state;
       calm = calm_here c.args.server.now state;
       same = refl;
       so_far = λ s holds honest. (
@@ -109,7 +108,6 @@ loop-wanted-preserved g c =
     let n = next.named in
     record {
       keeps = keeps_on (state old.disk) (state mid.disk) (state new.disk) is.keeps two.keeps;
-      later = omega (arith, is.later, two.later);
       calm = calm_on old mid new (state old.disk) (state mid.disk) (state new.disk) is.calm
           two.faults;
       same = told.same ∙ next.same ∙ is.same;

@@ -2,7 +2,7 @@ use Rattle.std.proofs.Common.{◌∙◌, [], ◌∷◌, Ok, None, Some, refl, su
 use Rattle.mot_base.specs.declared.refusal.Refusal.TheVariants.{OutOfMemory}
 use Rattle.mot_carousel.specs.declared.command.Command.TheVariants.{Withdraw}
 use Rattle.mot_server.specs.Attempts.{marks_of}
-use Rattle.mot_server.proofs.Laws.{keeps_on}
+use Rattle.disk_store.proofs.Laws.{keeps_none, keeps_on}
 use Rattle.mot_update.specs.Faults.{no_memory}
 use Rattle.mot_update.specs.HasRun.{HasRun}
 use Rattle.mot_update.proofs.Faults.{calm_here, calm_on, fault_on}
@@ -19,8 +19,7 @@ pub loop-name-init : goal.loop-name-init
 loop-name-init g c =
     let state = g.D.Disk.state c.args.server.now.disk in
     record {
-      keeps = record { len = refl; was_honest = λ honest. honest };
-      later = omega arith;
+      keeps = keeps_none state;
       calm = calm_here c.args.server.now state;
       same = refl;
       gives = gives_nil (g.S.Source.given c.args.source.now);
@@ -101,7 +100,6 @@ loop-name-preserved g c =
     let two = c.in_ok-attempt.ensures in
     record {
       keeps = keeps_on (state old.disk) (state mid.disk) (state new.disk) is.keeps two.keeps;
-      later = omega (arith, is.later, two.later);
       calm = calm_on old mid new (state old.disk) (state mid.disk) (state new.disk) is.calm
           two.faults;
       same = c.withdrew.ensures.same ∙ is.same;

@@ -1,4 +1,4 @@
-use Rattle.std.proofs.Common.{◌≡◌, ◌≤◌, [], take, true}
+use Rattle.std.proofs.Common.{◌≡◌, [], take, true}
 use Rattle.disk_store.specs.Disk.{KeepsLength}
 use Rattle.mot_journal.specs.Image.{Standing}
 use Rattle.mot_repository.specs.Repository.{Holds}
@@ -11,7 +11,6 @@ use Rattle.mot_update.proofs.looking.withdraw_these.Given as goal
 abbrev pub invariant-loop-name : goal.invariant-loop-name
 invariant-loop-name g l = record {
   keeps : KeepsLength (g.D.Disk.state l.initial.server.disk) (g.D.Disk.state l.server.disk);
-  later : (g.D.Disk.state l.initial.server.disk).failures ≤ (g.D.Disk.state l.server.disk).failures;
   calm : IsCalm l.initial.server l.server (g.D.Disk.state l.initial.server.disk)
       (g.D.Disk.state l.server.disk);
   same : g.S.Source.names l.source ≡ g.S.Source.names l.initial.source;

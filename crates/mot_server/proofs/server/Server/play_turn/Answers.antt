@@ -1,23 +1,21 @@
 use Rattle.std.proofs.Common.{ℕ, Bool, inl, suc, List, [], ◌∷◌, ◌++◌, length, length-append, refl, sym, ap, ◌∙◌, subst, arith}
+use Rattle.disk_store.proofs.Laws.{reads_none, reads_on}
 use Rattle.mot_player.specs.AnyBodies.{IsStepOfSome, PlaysOn, PlaysToTheEnd}
 use Rattle.mot_player.specs.Standing as player
 use Rattle.mot_server.specs.Inner.Going.{IsGoing}
-use Rattle.mot_server.specs.Inner.Unread.{is_unchanged}
 use Rattle.mot_server.specs.Playing.{HasPlayed, HasPlayedTurn, bytes_of_packets}
 use Rattle.mot_server.specs.Server.{bodies_of, place_in}
 use Rattle.mot_server.proofs.Going.{HasPlayed-more, HasPlayedTurn-ended, IsGoing-more, IsGoing-none, MatchResult-failed, OnErr-always, PlaysOn-more, bytes_of_packets-more, plays_one_more}
-use Rattle.mot_server.proofs.Read.{holds_still, keeps_on, unchanged_on}
+use Rattle.mot_server.proofs.Read.{holds_still}
 use Rattle.mot_server.proofs.Whole.{turn_reads}
 use Rattle.mot_server.proofs.server.Server.play_turn.Goals as goal
 
 pub loop-packets-init : goal.loop-packets-init
 loop-packets-init g c = record {
   view = refl;
-  keeps = record { len = refl; was_honest = λ honest. honest };
-  later = omega arith;
+  reads = reads_none (g.D.Disk.state c.args.self.now.disk);
   calm = refl;
   cost = omega arith;
-  unchanged = λ honest. is_unchanged (g.D.Disk.state c.args.self.now.disk);
   going = λ s holds honest. subst (λ (xs : List (List ℕ)). IsGoing (place_in c.args.self.now s) xs (place_in c.args.self.now s))
       (sym (ap bytes_of_packets c.new-packets.ensures.items)) (IsGoing-none (place_in c.args.self.now s));
   of_some = subst (λ (xs : List (List ℕ)). PlaysOn c.args.self.now.player xs c.args.self.now.player)
@@ -67,7 +65,7 @@ pub returns-in_err-packet-clause-stands : goal.returns-in_err-packet-clause-stan
 returns-in_err-packet-clause-stands g c = λ s holds honest.
     let start = c.args.self.now in
     let packets : List (List ℕ) = bytes_of_packets c.loop-packets.packets.items in
-    let going = c.loop-packets.invariant.going s holds (c.next_packet.ensures.keeps.was_honest honest) in
+    let going = c.loop-packets.invariant.going s holds (c.next_packet.ensures.only_reads.keeps.was_honest honest) in
     OnErr-always c.from_residual.result _ (
       length packets,
       packets,
@@ -81,8 +79,8 @@ returns-in_err-push-clause-stands g c = λ s holds honest.
     let mid = c.loop-packets.self in
     let now = c.next_packet.new.self in
     let state = g.D.Disk.state in
-    let was = c.next_packet.ensures.keeps.was_honest honest in
-    let held = holds_still start.view mid.view s (state start.disk) (state mid.disk) holds was (c.loop-packets.invariant.unchanged was)
+    let was = c.next_packet.ensures.only_reads.keeps.was_honest honest in
+    let held = holds_still start.view mid.view s (state start.disk) (state mid.disk) holds was (c.loop-packets.invariant.reads.unchanged was)
     c.loop-packets.invariant.view in
     let packets : List (List ℕ) = bytes_of_packets c.loop-packets.packets.items in
     let going = c.loop-packets.invariant.going s holds was in
@@ -99,8 +97,8 @@ returns-then-ends_turn-clause-turn g c = λ s holds honest.
     let mid = c.loop-packets.self in
     let now = c.next_packet.new.self in
     let state = g.D.Disk.state in
-    let was = c.next_packet.ensures.keeps.was_honest honest in
-    let held = holds_still start.view mid.view s (state start.disk) (state mid.disk) holds was (c.loop-packets.invariant.unchanged was)
+    let was = c.next_packet.ensures.only_reads.keeps.was_honest honest in
+    let held = holds_still start.view mid.view s (state start.disk) (state mid.disk) holds was (c.loop-packets.invariant.reads.unchanged was)
     c.loop-packets.invariant.view in
     let items = ap bytes_of_packets c.in_ok-push.ensures.items
     ∙ bytes_of_packets-more c.loop-packets.packets.items c.in_ok-packet.field-0.packet in
@@ -123,14 +121,11 @@ loop-packets-preserved g c =
     let now = c.next_packet.new.self in
     let state = g.D.Disk.state in
     let is = c.loop-packets.invariant in
-    let later = is.later in
-    let further = c.next_packet.ensures.later in
     let items = ap bytes_of_packets c.in_ok-push.ensures.items
     ∙ bytes_of_packets-more c.loop-packets.packets.items c.in_ok-packet.field-0.packet in
     record {
       view = c.next_packet.ensures.view ∙ is.view;
-      keeps = keeps_on (state start.disk) (state mid.disk) (state now.disk) is.keeps c.next_packet.ensures.keeps;
-      later = omega (arith, later, further);
+      reads = reads_on (state start.disk) (state mid.disk) (state now.disk) is.reads c.next_packet.ensures.only_reads;
       calm = c.in_ok-packet.ensures.no_fault ∙ is.calm;
       cost =
           let so_far = is.cost in
@@ -142,11 +137,9 @@ loop-packets-preserved g c =
             ap length c.in_ok-push.ensures.items,
             length-append c.loop-packets.packets.items (c.in_ok-packet.field-0.packet ∷ []),
           );
-      unchanged = λ honest. unchanged_on (state start.disk) (state mid.disk) (state now.disk)
-          (is.unchanged (c.next_packet.ensures.keeps.was_honest honest)) (c.next_packet.ensures.unchanged honest);
       going = λ s holds honest.
-          let was = c.next_packet.ensures.keeps.was_honest honest in
-          let held = holds_still start.view mid.view s (state start.disk) (state mid.disk) holds was (is.unchanged was) is.view in
+          let was = c.next_packet.ensures.only_reads.keeps.was_honest honest in
+          let held = holds_still start.view mid.view s (state start.disk) (state mid.disk) holds was (is.reads.unchanged was) is.view in
           subst (λ (xs : List (List ℕ)). IsGoing (place_in start s) xs (place_in now s)) (sym items)
           (IsGoing-more (place_in start s) (place_in mid s) (place_in now s) (bytes_of_packets c.loop-packets.packets.items)
           (is.going s holds was) c.in_ok-packet.field-0.packet.items c.in_ok-packet.field-0.ends_turn

@@ -1,5 +1,5 @@
 use Rattle.std.proofs.Common.{◌≡◌, ◌≤◌, ◌+◌, length}
-use Rattle.disk_store.specs.Disk.{KeepsLength, IsUnchanged}
+use Rattle.disk_store.specs.Disk.{OnlyReads}
 use Rattle.mot_journal.specs.Image.{Standing}
 use Rattle.mot_player.specs.AnyBodies.{PlaysOn}
 use Rattle.mot_player.specs.Laws.{bytes_left}
@@ -12,12 +12,10 @@ use Rattle.mot_server.proofs.server.Server.play_turn.Given as goal
 abbrev pub invariant-loop-packets : goal.invariant-loop-packets
 invariant-loop-packets g l = record {
   view : l.self.view ≡ l.fn.self.view;
-  keeps : KeepsLength (g.D.Disk.state l.fn.self.disk) (g.D.Disk.state l.self.disk);
-  later : (g.D.Disk.state l.fn.self.disk).failures ≤ (g.D.Disk.state l.self.disk).failures;
+  reads : OnlyReads (g.D.Disk.state l.fn.self.disk) (g.D.Disk.state l.self.disk);
   calm : (g.D.Disk.state l.self.disk).failures ≡ (g.D.Disk.state l.fn.self.disk).failures;
   cost : (g.D.Disk.state l.self.disk).calls
       ≤ (g.D.Disk.state l.fn.self.disk).calls + length l.packets.items;
-  unchanged : (g.D.Disk.state l.self.disk).IsHonest → IsUnchanged (g.D.Disk.state l.fn.self.disk) (g.D.Disk.state l.self.disk);
   going : (s : Standing) → Holds l.fn.self.view s (g.D.Disk.state l.fn.self.disk) → (g.D.Disk.state l.self.disk).IsHonest
       → IsGoing (place_in l.fn.self s) (bytes_of_packets l.packets.items) (place_in l.self s);
   of_some : PlaysOn l.fn.self.player (bytes_of_packets l.packets.items) l.self.player;

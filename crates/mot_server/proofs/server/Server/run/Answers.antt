@@ -9,7 +9,7 @@ use Rattle.mot_server.specs.Runs.{accepted_commands, IsAfter}
 use Rattle.mot_server.specs.Server.{place_in}
 use Rattle.mot_server.proofs.Places.{none_done, stays_there, turns_there}
 use Rattle.mot_server.proofs.Runs.{Reached, begins, rests, one_longer, marks_after, accepted-true, accepted-false}
-use Rattle.mot_server.proofs.Calls.{keeps_all_on}
+use Rattle.disk_store.proofs.Laws.{keeps_all_on}
 use Rattle.mot_server.specs.RunAnswers.{AreAnswered}
 use Rattle.mot_server.proofs.RunAnswered.{answered_true, answered_false, answered_end}
 use Rattle.mot_server.proofs.RunAnswered.{answered_halted, answered_no_memory, answered_whole}
@@ -45,7 +45,6 @@ returns-then-ends_run-clause-leaves g c = λ s holds.
 pub loop-command-init : goal.loop-command-init
 loop-command-init g c = record {
   keeps = search rules;
-  later = search rules;
   halted = refl;
   answered = subst (λ l. AreAnswered c.args.self.now.view c.args.commands.now l
       c.args.self.now.view) (sym c.in-Ok.ensures.items) refl;
@@ -71,7 +70,6 @@ loop-command-preserved g c =
           let run = w.in-Ok-execute.ensures in
           record {
             keeps = keeps_all_on (state c.args.self.now.disk) (state c.loop-command.self.disk) (state c.execute.new.self.disk) c.loop-command.invariant.keeps run.keeps;
-            later = omega (arith, c.loop-command.invariant.later, run.later);
             halted = as_halted c.loop-command.self.view c.execute.new.self.view (state c.loop-command.self.disk) (state c.execute.new.self.disk) c.command-item.result (Ok w.in-Ok-execute.field-0) (no_fault_in w.in-Ok-execute.field-0) run.answered ∙ c.loop-command.invariant.halted;
             answered = subst (λ l. AreAnswered c.args.self.now.view c.args.commands.now l
                 c.execute.new.self.view) (sym now)
@@ -103,7 +101,6 @@ loop-command-preserved g c =
           let run = w.in-Err.ensures in
           record {
             keeps = keeps_all_on (state c.args.self.now.disk) (state c.loop-command.self.disk) (state c.execute.new.self.disk) c.loop-command.invariant.keeps run.keeps;
-            later = omega (arith, c.loop-command.invariant.later, run.later);
             halted = as_halted c.loop-command.self.view c.execute.new.self.view (state c.loop-command.self.disk) (state c.execute.new.self.disk) c.command-item.result (Err w.in-Err.refusal) (no_fault_of w.in-Err.refusal (sym w.ends_run.ensures ∙ w.if-ends_run.false)) run.answered ∙ c.loop-command.invariant.halted;
             answered = subst (λ l. AreAnswered c.args.self.now.view c.args.commands.now l
                 c.execute.new.self.view) (sym now)
@@ -142,7 +139,7 @@ returns-then-ends_run-clause-place g c = λ s last holds after.
 pub returns-then-ends_run-clause-fault : goal.returns-then-ends_run-clause-fault
 returns-then-ends_run-clause-fault g c =
     let state = g.D.Disk.state in
-    run_fault c.args.self.now.view c.loop-command.self.view c.execute.new.self.view (state c.args.self.now.disk) (state c.loop-command.self.disk) (state c.execute.new.self.disk) c.command-item.result c.in-Err.refusal c.loop-command.invariant.later c.in-Err.ensures.later c.loop-command.invariant.halted (sym c.ends_run.ensures ∙ c.if-ends_run.true) c.in-Err.ensures.answered
+    run_fault c.args.self.now.view c.loop-command.self.view c.execute.new.self.view (state c.args.self.now.disk) (state c.loop-command.self.disk) (state c.execute.new.self.disk) c.command-item.result c.in-Err.refusal c.loop-command.invariant.keeps.later c.in-Err.ensures.keeps.later c.loop-command.invariant.halted (sym c.ends_run.ensures ∙ c.if-ends_run.true) c.in-Err.ensures.answered
 
 pub returns-then-halted-clause-answers : goal.returns-then-halted-clause-answers
 returns-then-halted-clause-answers g c = answered_halted c.args.self.now.view

@@ -15,7 +15,6 @@ invariant-loop-command g l =
     let state = g.D.Disk.state in
     record {
       keeps : Keeps (state l.fn.self.disk) (state l.self.disk);
-      later : (state l.fn.self.disk).failures ≤ (state l.self.disk).failures;
       halted : l.self.view.halted ≡ l.fn.self.view.halted;
       answered : AreAnswered l.fn.self.view l.commands l.done.items l.self.view;
       index : length l.done.items ≡ l.command-index;

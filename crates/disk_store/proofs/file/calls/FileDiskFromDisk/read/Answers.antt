@@ -1,5 +1,5 @@
 use Rattle.std.specs.List.{All}
-use Rattle.std.proofs.Common.{◌≡◌, ◌+◌, ◌<◌, length, slice_range, rules, refl, sym, ◌∙◌, ap, subst}
+use Rattle.std.proofs.Common.{◌≡◌, ◌+◌, ◌<◌, length, slice_range, rules, refl, sym, ◌∙◌, ap, subst, arith}
 use Rattle.disk_store.specs.Calls.{Gave, FailedRead, after_call, no_content}
 use Rattle.disk_store.specs.File.{file_content, calls_on}
 use Rattle.disk_store.proofs.FileCalls.{content_now, goes_on_right, were_right, was_right}
@@ -21,6 +21,7 @@ returns-clause-keeps g c =
     let call = Gave c.args.at c.read.new.out in
     record {
       len = ap (λ u. length u.bytes) (content_now g.S.Start.bytes _ _ call c.in-Ok.ensures.ok);
+      later = omega arith;
       was_honest = were_right g.S.Start.bytes _ _ call c.in-Ok.ensures.ok;
     }
 
@@ -59,6 +60,7 @@ returns-in_default-clause-keeps g c =
     let call = FailedRead c.args.at in
     record {
       len = ap (λ u. length u.bytes) (content_now g.S.Start.bytes _ _ call c.in_default.ensures.err);
+      later = omega arith;
       was_honest = were_right g.S.Start.bytes _ _ call c.in_default.ensures.err;
     }
 

@@ -1,4 +1,4 @@
-use Rattle.std.proofs.Common.{◌<◌, length, refl, sym, ◌∙◌, ap, subst}
+use Rattle.std.proofs.Common.{◌<◌, length, refl, sym, ◌∙◌, ap, subst, arith}
 use Rattle.disk_store.specs.Content.{IsLooseIn}
 use Rattle.std.specs.List.{All}
 use Rattle.disk_store.specs.Calls.{Synced, FailedSync, after_call, no_content}
@@ -19,6 +19,7 @@ invariant_of-self-in-Ok g c =
 pub returns-clause-keeps : goal.returns-clause-keeps
 returns-clause-keeps g c = record {
   len = ap (λ u. length u.bytes) (content_now g.S.Start.bytes _ _ Synced c.in-Ok.ensures.ok);
+  later = omega arith;
   honest = λ honest. goes_on_right g.S.Start.bytes _ _ Synced c.in-Ok.ensures.ok honest tt;
   was_honest = were_right g.S.Start.bytes _ _ Synced c.in-Ok.ensures.ok;
 }
@@ -46,6 +47,7 @@ invariant_of-self-in_default g c =
 pub returns-in_default-clause-keeps : goal.returns-in_default-clause-keeps
 returns-in_default-clause-keeps g c = record {
   len = ap (λ u. length u.bytes) (content_now g.S.Start.bytes _ _ FailedSync c.in_default.ensures.err);
+  later = omega arith;
   honest = λ honest. goes_on_right g.S.Start.bytes _ _ FailedSync c.in_default.ensures.err honest tt;
   was_honest = were_right g.S.Start.bytes _ _ FailedSync c.in_default.ensures.err;
 }

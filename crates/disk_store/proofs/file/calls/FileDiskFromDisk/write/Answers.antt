@@ -26,6 +26,7 @@ returns-in_default-clause-keeps g c =
     let call = FailedWrite c.args.at c.args.bytes.now in
     record {
       len = ap (λ u. length u.bytes) (content_now g.S.Start.bytes _ _ call c.in_default.ensures.err);
+      later = omega arith;
       honest = λ honest. goes_on_right g.S.Start.bytes _ _ call c.in_default.ensures.err honest tt;
       was_honest = were_right g.S.Start.bytes _ _ call c.in_default.ensures.err;
     }
@@ -63,6 +64,7 @@ returns-clause-keeps g c =
     record {
       len = ap (λ u. length u.bytes) (content_now g.S.Start.bytes _ _ call c.in-Ok.ensures.ok)
           ∙ length-after_overwrite c.args.at c.args.bytes.now (file_content c.args.self.now).bytes c.requires;
+      later = omega arith;
       honest = λ honest. goes_on_right g.S.Start.bytes _ _ call c.in-Ok.ensures.ok honest tt;
       was_honest = were_right g.S.Start.bytes _ _ call c.in-Ok.ensures.ok;
     }
