@@ -78,7 +78,7 @@ OnlyReadArea j start now = (image : List ℕ) → now.MayLeave image → HasRead
 
 -- A journal was rewritten, with these records, into its other half, in this layout: at each moment
 -- a crash leaves the old records or the given ones, and on success the given ones alone.
-pub record TurnsTo {T E : Type 0} (layout : Layout) (given : List Record) (j j' : JournalView)
+pub record RewritesTo {T E : Type 0} (layout : Layout) (given : List Record) (j j' : JournalView)
     (old new : State) (result : Result T E) : Type 0 where
   pub moves : OnOk result (j' ≡ in_other_half j layout given)
   pub any_moment : (records : List Record) → HoldsRecords j records old → FoldOf j given

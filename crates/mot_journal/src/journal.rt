@@ -13,7 +13,7 @@ ghost use Rattle.mot_journal.specs.Image.{records_of, has_clean_gates, gate_read
 ghost use Rattle.mot_journal.specs.Journal.{JournalView, with_records, IsLoadRefusal};
 ghost use Rattle.mot_journal.specs.Inner.Places.{place_of};
 ghost use Rattle.mot_journal.specs.Journal.{HoldsRecords, FoldOf, WithoutOrWith, OnlyReadArea};
-ghost use Rattle.mot_journal.specs.Journal.{StandsWhere, TurnsTo};
+ghost use Rattle.mot_journal.specs.Journal.{StandsWhere, RewritesTo};
 ghost use Rattle.mot_journal.specs.Slot.{AreSound};
 ghost use Rattle.mot_base.specs.declared.refusal.Refusal.TheVariants.{DeviceFault};
 ghost use Rattle.mot_journal.specs.declared.layout.Layout.TheVariants.{One, Two};
@@ -236,11 +236,11 @@ impl Journal {
         ensures cost { Costs (slot_count self.old.layout self.old.geometry + 3)
             (D.state disk.old) (D.state disk.new) result }
         ensures spent { OnErr result (self.new ≡ record self.old { spent = true }) }
-        ensures turns { TurnsTo self.old.layout given.now self.old self.new
+        ensures rewrites { RewritesTo self.old.layout given.now self.old self.new
             (D.state disk.old) (D.state disk.new) result }
     {
         let layout = self.layout;
-        self.turn(disk, layout, given)
+        self.write_other_half(disk, layout, given)
     }
 
     /// The same from layout 1 into layout 2.
@@ -257,14 +257,14 @@ impl Journal {
         ensures cost { Costs (slot_count Two self.old.geometry + 3)
             (D.state disk.old) (D.state disk.new) result }
         ensures spent { OnErr result (self.new ≡ record self.old { spent = true }) }
-        ensures turns { TurnsTo Two given.now self.old self.new
+        ensures rewrites { RewritesTo Two given.now self.old self.new
             (D.state disk.old) (D.state disk.new) result }
     {
-        self.turn(disk, Layout::Two, given)
+        self.write_other_half(disk, Layout::Two, given)
     }
 
     // Writes these records into the other half, in this layout, and selects it.
-    fn turn<D: Disk>(
+    fn write_other_half<D: Disk>(
         &mut self,
         disk: &mut D,
         layout: Layout,
@@ -281,7 +281,7 @@ impl Journal {
         ensures cost { Costs (slot_count layout self.old.geometry + 3)
             (D.state disk.old) (D.state disk.new) result }
         ensures spent { OnErr result (self.new ≡ record self.old { spent = true }) }
-        ensures turns { TurnsTo layout given.now self.old self.new
+        ensures rewrites { RewritesTo layout given.now self.old self.new
             (D.state disk.old) (D.state disk.new) result }
     {
         let other = 1 - self.half;

@@ -1,16 +1,13 @@
 //! A carousel kept on a disk: commands that survive a crash.
 #![tactic(auto)]
 
-mod changing;
-mod fold;
+mod commit;
 mod gap;
 mod inventory;
 mod opening;
-mod placing;
 mod prepared;
 mod records;
 mod repository;
-mod writing;
 
 pub use gap::{first_fit, longest_gap};
 pub use opening::Refused;

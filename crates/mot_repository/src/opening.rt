@@ -7,10 +7,12 @@ ghost use Rattle.mot_repository.specs.Inner.Loaded.{IsLoaded};
 ghost use Rattle.mot_repository.specs.Opening.{IsOpened, IsOpeningRefusal};
 ghost use Rattle.mot_repository.specs.Prepared.{view_with};
 
+mod fold;
+
 use crate::Repository;
-use crate::fold::inventory_of;
 use crate::inventory::Inventory;
 use disk_store::Disk;
+use fold::inventory_of;
 use mot_base::Refusal;
 use mot_journal::{Journal, load};
 use std::alloc::Global;

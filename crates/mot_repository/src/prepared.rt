@@ -12,12 +12,14 @@ ghost use Rattle.mot_repository.specs.Ready.{IsPrepared};
 ghost use Rattle.mot_repository.specs.Inner.Kept.{KeepsInventory};
 ghost use Rattle.mot_repository.specs.Repository.{RepositoryView};
 
+mod placing;
+
 use crate::inventory::Inventory;
-use crate::placing::{body_start, extents_after};
 use crate::records::{record_of_change, records_of};
 use mot_base::{Geometry, Refusal};
 use mot_carousel::{Carousel, Command, Done, plan};
 use mot_journal::{Layout, Record, area_start};
+use placing::{body_start, extents_after};
 use std::alloc::{AllocError, Global};
 
 /// A change that was worked out, with all memory that doing it takes.

@@ -2,7 +2,7 @@
 ghost use Rattle.std.specs.Prelude.{◌≡◌, ◌<◌, ◌≤◌, ◌+◌, ◌⊎◌, ◌↔◌, ℕ, true, false, List, length};
 ghost use Rattle.std.specs.Prelude.{slice_range, Ok, OnOk, OnErr, IfOk, IfErr, IsTrue, IsFalse};
 
-use crate::changing::commit_change;
+use crate::commit::commit_change;
 use crate::gap::longest_gap;
 use crate::inventory::Inventory;
 use crate::prepared::{Prepared, prepare_change};

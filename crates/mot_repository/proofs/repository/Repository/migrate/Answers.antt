@@ -36,7 +36,7 @@ invariant_of-self g c =
     let one : r.journal.layout ≡ One = sym c.layout.ensures ∙ c.in-One.is in
     let whole = subst (λ (layout : Layout). IsWhole r.journal.geometry layout kept) one is.whole in
     subst (λ (j : JournalView). IsInOrder (view_with j r.inventory.carousel r.inventory.extents.items r.halted) (g.D.Disk.state c.migrate.new.disk).len)
-    (sym c.in-Ok.ensures.turns.moves)
+    (sym c.in-Ok.ensures.rewrites.moves)
     (record {
       valid = is.valid;
       long_enough = omega (arith, is.long_enough, c.migrate.ensures.keeps.len);
@@ -57,7 +57,7 @@ returns-in_default-migrate-clause-any_moment g c = rw (← c.self.view_is) (λ s
     let sound = g.met.D.Disk.sound r.disk holds.journal.honest in
     let k = rewrites view s old sound holds given (c.deref.ensures.value ∙ c.in_ok-given.ensures) in
     moments view s Two given k.0 r.journal old new refl holds k.1 k.2
-    (c.migrate.ensures.turns.any_moment holds.records (here view s Two given k.0 r.journal old new refl holds k.1 k.2)
+    (c.migrate.ensures.rewrites.any_moment holds.records (here view s Two given k.0 r.journal old new refl holds k.1 k.2)
     (folds view s Two given k.0 r.journal old new refl holds k.1 k.2)))
 
 pub returns-clause-any_moment : goal.returns-clause-any_moment
@@ -71,7 +71,7 @@ returns-clause-any_moment g c = rw (← c.self.view_is) (λ s holds.
     let sound = g.met.D.Disk.sound r.disk holds.journal.honest in
     let k = rewrites view s old sound holds given (c.deref.ensures.value ∙ c.in_ok-given.ensures) in
     moments view s Two given k.0 r.journal old new refl holds k.1 k.2
-    (c.migrate.ensures.turns.any_moment holds.records (here view s Two given k.0 r.journal old new refl holds k.1 k.2)
+    (c.migrate.ensures.rewrites.any_moment holds.records (here view s Two given k.0 r.journal old new refl holds k.1 k.2)
     (folds view s Two given k.0 r.journal old new refl holds k.1 k.2)))
 
 pub returns-clause-ok : goal.returns-clause-ok
@@ -87,9 +87,9 @@ returns-clause-ok g c = rw (← c.self.view_is) (λ s holds.
     let k = rewrites view s old sound holds given (c.deref.ensures.value ∙ c.in_ok-given.ensures) in
     let was = here view s Two given k.0 r.journal old new refl holds k.1 k.2 in
     let fits = folds view s Two given k.0 r.journal old new refl holds k.1 k.2 in
-    let same = ap (λ (j : JournalView). j.geometry) c.in-Ok.ensures.turns.moves in
+    let same = ap (λ (j : JournalView). j.geometry) c.in-Ok.ensures.rewrites.moves in
     (held view s Two given k.0 r.journal old new refl holds k.1 k.2 sound c.migrate.new.self same
-    (c.in-Ok.ensures.turns.ok holds.records was fits) (c.in-Ok.ensures.turns.area holds.records was fits) after refl holds.going
+    (c.in-Ok.ensures.rewrites.ok holds.records was fits) (c.in-Ok.ensures.rewrites.area holds.records was fits) after refl holds.going
     (record {
       geometry = same ∙ holds.agrees.geometry;
       extents = holds.agrees.extents;
@@ -119,5 +119,5 @@ returns-clause-now g c =
 pub returns-clause-layouts : goal.returns-clause-layouts
 returns-clause-layouts g c = λ s holds image left.
     let now = returns-clause-ok g c s holds in
-    let layout = ap (λ (j : JournalView). j.layout) c.in-Ok.ensures.turns.moves in
+    let layout = ap (λ (j : JournalView). j.layout) c.in-Ok.ensures.rewrites.moves in
     (_, (now.journal.each image left).read, layout)

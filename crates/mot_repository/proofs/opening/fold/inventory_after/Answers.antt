@@ -1,0 +1,20 @@
+use Rattle.std.proofs.Common.{sym, ap, ◌∙◌}
+use Rattle.std.specs.Prelude.{nat_eq}
+use Rattle.std.specs.List.{list_any}
+use Rattle.mot_carousel.specs.declared.object.Object.{Object}
+use Rattle.mot_journal.specs.Catalogue.{Catalogue}
+use Rattle.mot_repository.specs.Extents.{catalogue_with}
+use Rattle.mot_repository.proofs.Apart.{goes_on, breaks}
+use Rattle.mot_repository.proofs.opening.fold.inventory_after.Goals as goal
+
+pub returns-then-has_id-clause-after : goal.returns-then-has_id-clause-after
+returns-then-has_id-clause-after c =
+    let now : Catalogue = catalogue_with c.args.inventory.carousel c.args.inventory.extents.items in
+    breaks c.args.limit now c.args.entry c.apply.new.objects.items c.apply.new.extents.items c.apply.ensures.paired c.apply.result c.if-not-apply.false c.apply.ensures.applied
+    (ap (list_any (λ (o : Object). nat_eq c.args.entry.directory o.tid)) (sym c.deref.ensures.value) ∙ sym c.has_id.ensures ∙ c.if-has_id.true)
+
+pub returns-clause-after : goal.returns-clause-after
+returns-clause-after c =
+    let now : Catalogue = catalogue_with c.args.inventory.carousel c.args.inventory.extents.items in
+    goes_on c.args.limit now c.args.entry c.apply.new.objects.items c.apply.new.extents.items c.apply.ensures.paired c.apply.result c.if-not-apply.false c.apply.ensures.applied
+    (ap (list_any (λ (o : Object). nat_eq c.args.entry.directory o.tid)) (sym c.deref.ensures.value) ∙ sym c.has_id.ensures ∙ c.if-has_id.false)

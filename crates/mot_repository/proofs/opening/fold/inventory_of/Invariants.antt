@@ -1,0 +1,17 @@
+use Rattle.std.proofs.Common.{◌≡◌, ◌≤◌, length, drop, vec_capacity, All, true}
+use Rattle.mot_journal.specs.Catalogue.{catalogue_of, fold_from, is_consistent}
+use Rattle.mot_repository.specs.Extents.{catalogue_with}
+use Rattle.mot_repository.specs.Inner.Fold.{HasShortIds}
+use Rattle.mot_repository.proofs.opening.fold.inventory_of.Given as goal
+
+-- the records that are left, folded over what it is by now, give what all of them give
+abbrev pub invariant-loop-entry : goal.invariant-loop-entry
+invariant-loop-entry l = record {
+  slot_is : l.slot ≡ length l.yielded;
+  room : l.limit ≤ vec_capacity l.inventory.carousel.objects;
+  room_of_extents : l.limit ≤ vec_capacity l.inventory.extents;
+  consistent : is_consistent (catalogue_with l.inventory.carousel l.inventory.extents.items) ≡ true;
+  short : All HasShortIds l.yielded;
+  folds : catalogue_of l.limit l.fn.records.items
+      ≡ fold_from l.limit l.slot (catalogue_with l.inventory.carousel l.inventory.extents.items) (drop l.slot l.fn.records.items);
+}
