@@ -1,5 +1,5 @@
 //! Answering what there is of a reader that does not wait.
-ghost use Rattle.std.specs.Prelude.{◌≡◌, ◌≤◌, ◌++◌, ℕ, List, Ok, Err, None, IfNone, IfSome, true};
+ghost use Rattle.std.specs.Prelude.{◌≡◌, ◌++◌, ℕ, List, Ok, Err, None, IfNone, IfSome, true};
 ghost use Rattle.disk_store.specs.Disk.{KeepsLength};
 ghost use Rattle.mot_control.specs.Answering.{AnswersMore, TakesMore, asked_here};
 ghost use Rattle.mot_control.specs.Inner.Request.{Answers, end_of, reply_of};
@@ -37,7 +37,6 @@ pub fn answer_there<R: Read, W: Write + Drop, D: Disk>(
     server: &mut Server<D>,
 ) -> Result<(), Refusal>
     ensures keeps { KeepsLength (D.state server.old.disk) (D.state server.new.disk) }
-    ensures later { (D.state server.old.disk).failures ≤ (D.state server.new.disk).failures }
     ensures faults { TellsFaults server.old server.new
         (D.state server.old.disk) (D.state server.new.disk) result }
     ensures run { (s : Standing) → Holds server.old.view s (D.state server.old.disk)
@@ -66,7 +65,6 @@ fn answer_chunk<W: Write + Drop, D: Disk>(
     server: &mut Server<D>,
 ) -> Result<(), Refusal>
     ensures keeps { KeepsLength (D.state server.old.disk) (D.state server.new.disk) }
-    ensures later { (D.state server.old.disk).failures ≤ (D.state server.new.disk).failures }
     ensures faults { TellsFaults server.old server.new
         (D.state server.old.disk) (D.state server.new.disk) result }
     ensures run { (s : Standing) → Holds server.old.view s (D.state server.old.disk)
@@ -100,7 +98,6 @@ fn answer_line<W: Write + Drop, D: Disk>(
     server: &mut Server<D>,
 ) -> Result<(), Refusal>
     ensures keeps { KeepsLength (D.state server.old.disk) (D.state server.new.disk) }
-    ensures later { (D.state server.old.disk).failures ≤ (D.state server.new.disk).failures }
     ensures faults { TellsFaults server.old server.new
         (D.state server.old.disk) (D.state server.new.disk) result }
     ensures run { (s : Standing) → Holds server.old.view s (D.state server.old.disk)
@@ -124,7 +121,6 @@ fn answer_request<W: Write + Drop, D: Disk>(
     server: &mut Server<D>,
 ) -> Result<(), Refusal>
     ensures keeps { KeepsLength (D.state server.old.disk) (D.state server.new.disk) }
-    ensures later { (D.state server.old.disk).failures ≤ (D.state server.new.disk).failures }
     ensures faults { TellsFaults server.old server.new
         (D.state server.old.disk) (D.state server.new.disk) result }
     ensures answered { Answers D.state server.old server.new (asked_here request.now)
@@ -173,7 +169,6 @@ fn answer_command<W: Write + Drop, D: Disk>(
     server: &mut Server<D>,
 ) -> Result<(), Refusal>
     ensures keeps { KeepsLength (D.state server.old.disk) (D.state server.new.disk) }
-    ensures later { (D.state server.old.disk).failures ≤ (D.state server.new.disk).failures }
     ensures faults { TellsFaults server.old server.new
         (D.state server.old.disk) (D.state server.new.disk) result }
     ensures answered { Answers D.state server.old server.new (Ok (asks.Command command.now))

@@ -1,5 +1,5 @@
 //! Lines between the packets of a feed.
-ghost use Rattle.std.specs.Prelude.{◌≡◌, ◌≤◌, ◌<◌, ◌-◌, ℕ, List, false, true, OnOk};
+ghost use Rattle.std.specs.Prelude.{◌≡◌, ◌<◌, ◌-◌, ℕ, List, false, true, OnOk};
 ghost use Rattle.disk_store.specs.Disk.{KeepsLength};
 ghost use Rattle.mot_control.specs.Answering.{TakesBetween};
 ghost use Rattle.mot_feed.specs.Feeding.{IsUpdating, fault_of, may_change};
@@ -70,7 +70,6 @@ impl<R: Read + Drop, W: Write + Drop, U: Update + Drop> Update for Lines<R, W, U
         between_turns: bool,
     ) -> Result<(), Refusal>
         ensures keeps { KeepsLength (D.state server.old.disk) (D.state server.new.disk) }
-        ensures later { (D.state server.old.disk).failures ≤ (D.state server.new.disk).failures }
         ensures faults { TellsFaults server.old server.new
             (D.state server.old.disk) (D.state server.new.disk) result }
         ensures run { (s : Standing) → Holds server.old.view s (D.state server.old.disk)

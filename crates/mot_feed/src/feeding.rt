@@ -1,5 +1,5 @@
 //! Taking turns between updating the carousel and sending its packets.
-ghost use Rattle.std.specs.Prelude.{◌≡◌, ◌≤◌, Bool, true, IfErr, OnOk};
+ghost use Rattle.std.specs.Prelude.{◌≡◌, Bool, true, IfErr, OnOk};
 ghost use Rattle.disk_store.specs.Disk.{KeepsLength};
 ghost use Rattle.mot_feed.specs.Feeding.{FedPacketsAreContinuous, Feeds, FeedsPart};
 ghost use Rattle.mot_feed.specs.Feeding.{IsFeedFault, IsUpdating, fault_of, may_change};
@@ -29,7 +29,6 @@ pub trait Update {
         between_turns: bool,
     ) -> Result<(), Refusal>
         ensures keeps { KeepsLength (D.state server.old.disk) (D.state server.new.disk) }
-        ensures later { (D.state server.old.disk).failures ≤ (D.state server.new.disk).failures }
         ensures faults { TellsFaults server.old server.new
             (D.state server.old.disk) (D.state server.new.disk) result }
         ensures run { (s : Standing) → Holds server.old.view s (D.state server.old.disk)
@@ -49,7 +48,6 @@ pub fn feed<D: Disk, O: Outlet, U: Update>(
     turns: u64,
 ) -> Result<(), Refusal>
     ensures keeps { KeepsLength (D.state server.old.disk) (D.state server.new.disk) }
-    ensures later { (D.state server.old.disk).failures ≤ (D.state server.new.disk).failures }
     ensures calm { OnOk result
         (IsCalm server.old server.new (D.state server.old.disk) (D.state server.new.disk)) }
     ensures fault { IfErr result (λ refusal. IsFeedFault server.old

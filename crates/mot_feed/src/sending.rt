@@ -1,6 +1,6 @@
 //! Packets, each in one write.
-ghost use Rattle.std.specs.Prelude.{◌≡◌, ◌≤◌, IfErr, OnOk};
-ghost use Rattle.disk_store.specs.Disk.{IsUnchanged, KeepsLength};
+ghost use Rattle.std.specs.Prelude.{◌≡◌, IfErr, OnOk};
+ghost use Rattle.disk_store.specs.Disk.{OnlyReads};
 ghost use Rattle.mot_feed.specs.Sending.{IsSendFault, Sends, SendsOne, SendsPart};
 ghost use Rattle.mot_journal.specs.Image.{Standing};
 ghost use Rattle.mot_repository.specs.Repository.{Holds};
@@ -20,15 +20,12 @@ pub fn send_packets<D: Disk, O: Outlet>(
     outlet: &mut O,
     count: u64,
 ) -> Result<(), Refusal>
-    ensures keeps { KeepsLength (D.state server.old.disk) (D.state server.new.disk) }
-    ensures later { (D.state server.old.disk).failures ≤ (D.state server.new.disk).failures }
+    ensures only_reads { OnlyReads (D.state server.old.disk) (D.state server.new.disk) }
     ensures calm { OnOk result
         ((D.state server.new.disk).failures ≡ (D.state server.old.disk).failures) }
     ensures fault { IfErr result (λ refusal. IsSendFault server.old
         (D.state server.old.disk) (D.state server.new.disk) refusal) }
     ensures view { server.new.view ≡ server.old.view }
-    ensures unchanged { (D.state server.new.disk).IsHonest
-        → IsUnchanged (D.state server.old.disk) (D.state server.new.disk) }
     ensures sent { (s : Standing) → Holds server.old.view s (D.state server.old.disk)
         → (D.state server.new.disk).IsHonest
         → OnOk result (Sends (place_in server.old s) count (place_in server.new s)
@@ -50,15 +47,12 @@ pub(crate) fn send_one<D: Disk, O: Outlet>(
     server: &mut Server<D>,
     outlet: &mut O,
 ) -> Result<bool, Refusal>
-    ensures keeps { KeepsLength (D.state server.old.disk) (D.state server.new.disk) }
-    ensures later { (D.state server.old.disk).failures ≤ (D.state server.new.disk).failures }
+    ensures only_reads { OnlyReads (D.state server.old.disk) (D.state server.new.disk) }
     ensures calm { OnOk result
         ((D.state server.new.disk).failures ≡ (D.state server.old.disk).failures) }
     ensures fault { IfErr result (λ refusal. IsSendFault server.old
         (D.state server.old.disk) (D.state server.new.disk) refusal) }
     ensures view { server.new.view ≡ server.old.view }
-    ensures unchanged { (D.state server.new.disk).IsHonest
-        → IsUnchanged (D.state server.old.disk) (D.state server.new.disk) }
     ensures sent { (s : Standing) → Holds server.old.view s (D.state server.old.disk)
         → (D.state server.new.disk).IsHonest
         → SendsOne result (place_in server.old s) (place_in server.new s)

@@ -1,5 +1,5 @@
 //! A look at a folder, and looks between the turns of a feed.
-ghost use Rattle.std.specs.Prelude.{◌≡◌, ◌≤◌, ◌-◌, true, false};
+ghost use Rattle.std.specs.Prelude.{◌≡◌, ◌-◌, true, false};
 ghost use Rattle.disk_store.specs.Disk.{KeepsLength};
 ghost use Rattle.mot_feed.specs.Feeding.{IsUpdating, may_change};
 ghost use Rattle.mot_folder.specs.Looked.{HasLookedAtFolder, is_due};
@@ -37,7 +37,6 @@ pub fn look_at_folder<T: Files<File = File>, D: Disk>(
     report: &mut Report,
 ) -> Result<(), Refusal>
     ensures keeps { KeepsLength (D.state server.old.disk) (D.state server.new.disk) }
-    ensures later { (D.state server.old.disk).failures ≤ (D.state server.new.disk).failures }
     ensures faults { TellsFaults server.old server.new
         (D.state server.old.disk) (D.state server.new.disk) result }
     ensures looked { (s : Standing) → Holds server.old.view s (D.state server.old.disk)
@@ -109,7 +108,6 @@ impl<'a, T: Files<File = File>, W: Write + Drop> Update for Looks<'a, T, W> {
         between_turns: bool,
     ) -> Result<(), Refusal>
         ensures keeps { KeepsLength (D.state server.old.disk) (D.state server.new.disk) }
-        ensures later { (D.state server.old.disk).failures ≤ (D.state server.new.disk).failures }
         ensures faults { TellsFaults server.old server.new
             (D.state server.old.disk) (D.state server.new.disk) result }
         ensures run { (s : Standing) → Holds server.old.view s (D.state server.old.disk)

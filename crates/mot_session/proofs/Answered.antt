@@ -2,6 +2,7 @@
 use Rattle.std.proofs.Common.{◌≡◌, ℕ, ◌≤◌, inl, inr, Bool, true, false, List, [], ◌∷◌, ◌++◌}
 use Rattle.std.proofs.Common.{Ok, Err, Result, refl, sym, ap, ◌∙◌, subst, arith, append-nil}
 use Rattle.std.specs.Prelude.{IsTrue, IsFalse, if◌then◌else◌}
+use Rattle.disk_store.proofs.Laws.{unchanged_on}
 use Rattle.disk_store.specs.Disk.{State, IsHonestDisk, IsUnchanged, Throughout}
 use Rattle.disk_store.proofs.Laws.{begins, stays, weakens}
 use Rattle.mot_base.specs.declared.group_kind.GroupKind.{GroupKind}
@@ -26,7 +27,7 @@ use Rattle.mot_repository.specs.Repository.{RepositoryView, Agrees, Holds, IsBef
 use Rattle.mot_server.specs.Runs.{StandsAfterSome}
 use Rattle.mot_server.specs.Server.{ServerView, place_in, bodies_of}
 use Rattle.mot_server.proofs.Laws.{after_none, before_or_after, holds_still, more}
-use Rattle.mot_server.proofs.Laws.{none_of, not_halted, still_agrees, unchanged_on}
+use Rattle.mot_server.proofs.Laws.{none_of, not_halted, still_agrees}
 use Rattle.mot_session.specs.Raw.{raw_group, packets_at}
 use Rattle.mot_session.specs.Inner.Decision.{Decides, may_be_done, written_by}
 use Rattle.mot_session.specs.Session as session
@@ -37,7 +38,7 @@ use Rattle.mot_session.specs.declared.answering.Decision.TheVariants.{Refused, A
 use Rattle.mot_session.specs.declared.answering.Decision.TheVariants.{Packets, Next, Turn}
 use Rattle.mot_session.specs.State.{ServerState, StandsFor, Stays, state_of}
 use Rattle.mot_session.specs.Stored.{command_in}
-use Rattle.mot_session.specs.Inner.Writes.{Crosses, OnlyReads, may_have_done}
+use Rattle.mot_session.specs.Inner.Writes.{Crosses, ReadsAlone, may_have_done}
 use Rattle.mot_session.proofs.Outcomes.{done_by, failed_by_reply}
 
 pub stays-none : (state : ServerState) → Stays state state
@@ -336,7 +337,7 @@ pub Crosses-line : {D : Type 0} (old mid new : ServerView D) (s : Standing)
     (start between now : State)
     (line : List ℕ) (reply : Reply) (after : ServerState) (decision : Decision)
     (request : Result Line Refusal)
-    → StandsFor old.view s start → now.IsHonest → OnlyReads mid new between now
+    → StandsFor old.view s start → now.IsHonest → ReadsAlone mid new between now
     → IsParsed request (line_of line) → may_have_done reply ≡ may_be_done decision
     → (Holds old.view s start
     → Throughout start between (StandsAfterSome s [] (written_by decision request)))
@@ -350,9 +351,9 @@ Crosses-line old mid new s start between now line reply after decision request s
           (crossed (stands.holds going)) in
           let all = stays start between now
           (StandsAfterSome s [] (written_by decision (line_of line))) first
-          (reads.unchanged honest).time in
+          (reads.disk.unchanged honest).time in
           subst (λ l. Throughout start now (StandsAfterSome s [] l))
           (ap (λ b. if b then command_in (line_of line) else []) (sym same)
           ∙ line_did reply (line_of line)) all;
-      halted = λ is. unchanged_on start between now (kept is) (reads.unchanged honest);
+      halted = λ is. unchanged_on start between now (kept is) (reads.disk.unchanged honest);
     }

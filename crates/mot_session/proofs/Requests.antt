@@ -1,24 +1,24 @@
 -- Requests of packets on a disk that is only read.
 use Rattle.std.proofs.Common.{◌≡◌, ℕ, Bool, List, Option, Some, Result, refl, sym, ap, ◌∙◌}
-use Rattle.std.proofs.Common.{subst, arith}
+use Rattle.std.proofs.Common.{subst}
 use Rattle.std.specs.Prelude.{IfOk, IsFalse}
 use Rattle.disk_store.specs.Disk.{State}
+use Rattle.disk_store.proofs.Laws.{keeps_none, keeps_on, reads_none, reads_on, unchanged_none, unchanged_on}
 use Rattle.mot_journal.specs.Image.{Standing}
 use Rattle.mot_lines.specs.Text.{played_line}
 use Rattle.mot_packets.specs.Packet.{read_packet}
 use Rattle.mot_packets.specs.Written.{bytes_of_packet}
 use Rattle.mot_player.specs.Laws.{IsStep}
 use Rattle.mot_repository.specs.Repository.{RepositoryView, Agrees, Holds}
-use Rattle.mot_server.specs.Inner.Unread.{is_unchanged}
 use Rattle.mot_server.specs.Server.{ServerView, place_in}
-use Rattle.mot_server.proofs.Laws.{holds_still, keeps_on, unchanged_on}
+use Rattle.mot_server.proofs.Laws.{holds_still}
 use Rattle.mot_session.specs.declared.serving.writing.WriteFault.{WriteFault}
-use Rattle.mot_session.specs.Inner.Writes.{AnswersOne, OnlyReads, Writes, sends}
+use Rattle.mot_session.specs.Inner.Writes.{AnswersOne, ReadsAlone, Writes, sends}
 use Rattle.mot_session.specs.LineByLine.{GoesOn}
 use Rattle.mot_session.specs.State.{KeepsCarousel, ServerState, StandsFor, state_of}
 
 module _ {D : Type 0} (old new : ServerView D) (start now : State)
-    (reads : OnlyReads old new start now)
+    (reads : ReadsAlone old new start now)
     (honest : now.IsHonest) where
   -- only the player's place may be another
   pub keeps-read : (s : Standing) → KeepsCarousel (state_of old s start) (state_of new s now)
@@ -26,12 +26,12 @@ module _ {D : Type 0} (old new : ServerView D) (start now : State)
     standing = refl;
     layout = ap (λ (v : RepositoryView). v.journal.layout) reads.view;
     halted = ap (λ (v : RepositoryView). v.halted) reads.view;
-    later = record { moment = (reads.unchanged honest).time.later; failures = reads.later };
+    later = record { moment = (reads.disk.unchanged honest).time.later; failures = reads.disk.keeps.later };
   }
 
   pub holds-read : (s : Standing) → Holds old.view s start → Holds new.view s now
   holds-read s holds =
-      holds_still old.view new.view s start now holds honest (reads.unchanged honest) reads.view
+      holds_still old.view new.view s start now holds honest (reads.disk.unchanged honest) reads.view
 
   pub stands-read : (s : Standing) → StandsFor old.view s start → StandsFor new.view s now
   stands-read s stands = record {
@@ -61,38 +61,31 @@ module _ {D : Type 0} (old new : ServerView D) (start now : State)
 
 -- nothing was read yet
 pub reads-none : {D : Type 0} (server : ServerView D) (state : State)
-    → OnlyReads server server state state
+    → ReadsAlone server server state state
 reads-none server state = record {
   view = refl;
-  keeps = record { len = refl; was_honest = λ honest. honest };
-  later = omega arith;
-  unchanged = λ honest. is_unchanged state;
+  disk = reads_none state;
 }
 
 pub reads-more : {D : Type 0} (old mid new : ServerView D) (start between now : State)
-    → OnlyReads old mid start between → OnlyReads mid new between now → OnlyReads old new start now
+    → ReadsAlone old mid start between → ReadsAlone mid new between now → ReadsAlone old new start now
 reads-more old mid new start between now a b = record {
   view = b.view ∙ a.view;
-  keeps = keeps_on start between now a.keeps b.keeps;
-  later = omega (arith, a.later, b.later);
-  unchanged = λ honest.
-      unchanged_on start between now (a.unchanged (b.keeps.was_honest honest)) (b.unchanged honest);
+  disk = reads_on start between now a.disk b.disk;
 }
 
 -- nothing was asked yet
 pub goes_on-none : {D : Type 0} (server : ServerView D) (state : State)
     → GoesOn server server state state
 goes_on-none server state = record {
-  keeps = record { len = refl; was_honest = λ honest. honest };
-  later = omega arith;
-  halted = λ is. (refl, λ honest. is_unchanged state);
+  keeps = keeps_none state;
+  halted = λ is. (refl, λ honest. unchanged_none state);
 }
 
 pub goes_on-more : {D : Type 0} (old mid new : ServerView D) (start between now : State)
     → GoesOn old mid start between → GoesOn mid new between now → GoesOn old new start now
 goes_on-more old mid new start between now a b = record {
   keeps = keeps_on start between now a.keeps b.keeps;
-  later = omega (arith, a.later, b.later);
   halted = λ is.
       let first = a.halted is in
       let then = b.halted (ap (λ (v : RepositoryView). v.halted) first.0 ∙ is) in (

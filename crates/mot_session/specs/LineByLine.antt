@@ -1,6 +1,6 @@
 -- What is promised of each line of an input, told of the server as it was before the line and as it
 -- was after it: so what comes behind a line takes nothing of it back.
-use Rattle.std.specs.Prelude.{ℕ, ◌≡◌, ◌≤◌, List, [], ◌∷◌, ◌++◌, length, Option, IsTrue}
+use Rattle.std.specs.Prelude.{ℕ, ◌≡◌, List, [], ◌∷◌, ◌++◌, length, Option, IsTrue}
 use Rattle.std.specs.Io.KnownBytes.{Appends}
 use Rattle.disk_store.specs.Disk.{State, IsUnchanged, KeepsLength}
 use Rattle.mot_lines.specs.Line.{line_of}
@@ -13,7 +13,6 @@ use Rattle.mot_session.specs.State.{Leads}
 -- changes nothing.
 pub record GoesOn {D : Type 0} (old new : ServerView D) (before now : State) : Type 0 where
   pub keeps : KeepsLength before now
-  pub later : before.failures ≤ now.failures
   pub halted : IsTrue old.view.halted → (new.view ≡ old.view)
       × (now.IsHonest → IsUnchanged before now)
 

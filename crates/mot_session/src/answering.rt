@@ -1,5 +1,5 @@
 //! What the answer to a line is.
-ghost use Rattle.std.specs.Prelude.{◌≡◌, ◌≤◌, [], Ok, IsTrue, IsFalse};
+ghost use Rattle.std.specs.Prelude.{◌≡◌, [], Ok, IsTrue, IsFalse};
 ghost use Rattle.disk_store.specs.Disk.{IsUnchanged, KeepsLength, Throughout};
 ghost use Rattle.mot_journal.specs.Image.{Standing};
 ghost use Rattle.mot_repository.specs.Repository.{Holds};
@@ -56,7 +56,6 @@ pub(crate) fn answer<D: Disk>(
     ensures halted { IsTrue server.old.view.halted → (server.new.view ≡ server.old.view)
         × IsUnchanged (D.state server.old.disk) (D.state server.new.disk) }
     ensures keeps { KeepsLength (D.state server.old.disk) (D.state server.new.disk) }
-    ensures later { (D.state server.old.disk).failures ≤ (D.state server.new.disk).failures }
 {
     match request {
         Ok(request) => answer_request(alloc, &request, server),
@@ -77,7 +76,6 @@ fn answer_request<D: Disk>(alloc: Global, request: &Line, server: &mut Server<D>
     ensures halted { IsTrue server.old.view.halted → (server.new.view ≡ server.old.view)
         × IsUnchanged (D.state server.old.disk) (D.state server.new.disk) }
     ensures keeps { KeepsLength (D.state server.old.disk) (D.state server.new.disk) }
-    ensures later { (D.state server.old.disk).failures ≤ (D.state server.new.disk).failures }
 {
     match request {
         Line::Command(command) => answer_command(alloc, command, server),
@@ -116,7 +114,6 @@ fn answer_command<D: Disk>(alloc: Global, command: &Command, server: &mut Server
     ensures halted { IsTrue server.old.view.halted → (server.new.view ≡ server.old.view)
         × IsUnchanged (D.state server.old.disk) (D.state server.new.disk) }
     ensures keeps { KeepsLength (D.state server.old.disk) (D.state server.new.disk) }
-    ensures later { (D.state server.old.disk).failures ≤ (D.state server.new.disk).failures }
 {
     match server.execute(alloc, command) {
         Ok(done) => Decision::Accepted(done),

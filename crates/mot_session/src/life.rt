@@ -136,7 +136,6 @@ pub fn serve_and_restart<R: Read, W: Write, D: Disk, E: Disk>(
         → IfErr result.restarted (λ e. (E.state e.disk).IsHonest
         → IsPassing (E.state left) (E.state e.disk) e.refusal) }
     ensures keeps { KeepsLength (D.state server.old.disk) (D.state server.new.disk) }
-    ensures later { (D.state server.old.disk).failures ≤ (D.state server.new.disk).failures }
 {
     let end = serve(alloc, reader, writer, server, reads);
     let restarted = restart(alloc, left);

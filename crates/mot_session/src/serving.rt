@@ -106,7 +106,6 @@ pub fn serve<R: Read, W: Write, D: Disk>(
         × Keeps (W.contents writer.old) (W.contents writer.new) }
     ensures faults { EndsServing result.fault }
     ensures keeps { KeepsLength (D.state server.old.disk) (D.state server.new.disk) }
-    ensures later { (D.state server.old.disk).failures ≤ (D.state server.new.disk).failures }
 
     // A server that is halted changes nothing.
     ensures halted { IsTrue server.old.view.halted → (server.new.view ≡ server.old.view)
@@ -169,7 +168,6 @@ pub fn serve_line<W: Write, D: Disk>(
         (D.state server.old.disk).failures (D.state server.new.disk).failures (line_of line.now)
         text × WritesFront text (W.contents writer.old) (W.contents writer.new)) }
     ensures keeps { KeepsLength (D.state server.old.disk) (D.state server.new.disk) }
-    ensures later { (D.state server.old.disk).failures ≤ (D.state server.new.disk).failures }
 
     // A server that is halted changes nothing.
     ensures halted { IsTrue server.old.view.halted → (server.new.view ≡ server.old.view)

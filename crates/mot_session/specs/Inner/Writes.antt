@@ -1,10 +1,10 @@
 -- What a call that writes did. The writer's known bytes were old and are new.
-use Rattle.std.specs.Prelude.{ℕ, ◌≡◌, ◌≤◌, Bool, ◌||◌, List, [], ◌++◌, Option, Some, None, Result}
+use Rattle.std.specs.Prelude.{ℕ, ◌≡◌, Bool, ◌||◌, List, [], ◌++◌, Option, Some, None, Result}
 use Rattle.std.specs.Prelude.{Ok}
 use Rattle.std.specs.Prelude.{Err}
 use Rattle.std.specs.Prelude.{IfOk, IsTrue, IsFalse}
 use Rattle.std.specs.Io.KnownBytes.{Appends}
-use Rattle.disk_store.specs.Disk.{State, KeepsLength, IsUnchanged, Throughout}
+use Rattle.disk_store.specs.Disk.{State, IsUnchanged, OnlyReads, Throughout}
 use Rattle.mot_base.specs.declared.refusal.Refusal.{Refusal}
 use Rattle.mot_base.specs.declared.refusal.Refusal.TheVariants.{DeviceFault}
 use Rattle.mot_lines.specs.declared.line.Line.{Line}
@@ -85,9 +85,7 @@ pub data AnswersOne (result : Result (Option Bool) WriteFault) (before after : S
   fails : FailsToSend before after → IfOk result (λ shown. shown ≡ None)
       → Writes result (refusal_line DeviceFault) old new → AnswersOne result before after old new
 
--- the disk was only read, and nothing was stored or halted
-pub record OnlyReads {D : Type 0} (old new : ServerView D) (before now : State) : Type 0 where
+-- of a server: its disk was only read, and nothing was stored or halted
+pub record ReadsAlone {D : Type 0} (old new : ServerView D) (before now : State) : Type 0 where
   pub view : new.view ≡ old.view
-  pub keeps : KeepsLength before now
-  pub later : before.failures ≤ now.failures
-  pub unchanged : now.IsHonest → IsUnchanged before now
+  pub disk : OnlyReads before now

@@ -14,7 +14,7 @@ ghost use Rattle.mot_repository.specs.Repository.{Holds, RepositoryView};
 ghost use Rattle.mot_session.specs.Inner.Anyhow.{AnswersWithAnyhow, DecidesAnyhow, ShowsOne};
 ghost use Rattle.mot_session.specs.Inner.Decision.{Decides, may_be_done};
 ghost use Rattle.mot_session.specs.Inner.Writes.{Writes, AnswersLine, AnswersOne, AnswersRequest};
-ghost use Rattle.mot_session.specs.Inner.Writes.{OnlyReads};
+ghost use Rattle.mot_session.specs.Inner.Writes.{ReadsAlone};
 ghost use Rattle.mot_session.specs.LineByLine.{BreaksOff, GoesOn, ServesOne};
 ghost use Rattle.mot_session.specs.Raw.{packets_at};
 ghost use Rattle.mot_session.specs.State.{Leads, ServerState, StandsFor, state_of};
@@ -87,7 +87,7 @@ fn write_reply<W: Write, D: Disk>(
     server: &mut Server<D>,
     decision: &Decision,
 ) -> Result<(), WriteFault>
-    ensures reads { OnlyReads server.old server.new
+    ensures reads { ReadsAlone server.old server.new
         (D.state server.old.disk) (D.state server.new.disk) }
     ensures answers { (before : ServerState) (request : Result Line Refusal) (s : Standing)
         → StandsFor server.old.view s (D.state server.old.disk)
@@ -119,7 +119,7 @@ fn write_next<W: Write, D: Disk>(
     server: &mut Server<D>,
     count: u32,
 ) -> Result<(), WriteFault>
-    ensures reads { OnlyReads server.old server.new
+    ensures reads { ReadsAlone server.old server.new
         (D.state server.old.disk) (D.state server.new.disk) }
     ensures answers { (s : Standing) → Holds server.old.view s (D.state server.old.disk)
         → (D.state server.new.disk).IsHonest → AnswersRequest result false
@@ -143,7 +143,7 @@ fn write_next<W: Write, D: Disk>(
 /// Plays the packets up to the first that ends a turn, or those before a body that can't be read,
 /// and writes a line of each before the next is made.
 fn write_turn<W: Write, D: Disk>(writer: &mut W, server: &mut Server<D>) -> Result<(), WriteFault>
-    ensures reads { OnlyReads server.old server.new
+    ensures reads { ReadsAlone server.old server.new
         (D.state server.old.disk) (D.state server.new.disk) }
     ensures answers { (s : Standing) → Holds server.old.view s (D.state server.old.disk)
         → (D.state server.new.disk).IsHonest → AnswersRequest result false
@@ -173,7 +173,7 @@ fn write_next_packet<W: Write, D: Disk>(
     server: &mut Server<D>,
     line: &mut PacketLine,
 ) -> Result<Option<bool>, WriteFault>
-    ensures reads { OnlyReads server.old server.new
+    ensures reads { ReadsAlone server.old server.new
         (D.state server.old.disk) (D.state server.new.disk) }
     ensures answers { (s : Standing) → Holds server.old.view s (D.state server.old.disk)
         → (D.state server.new.disk).IsHonest → AnswersOne result

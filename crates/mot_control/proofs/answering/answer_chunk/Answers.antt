@@ -3,7 +3,7 @@ use Rattle.std.proofs.Common.{append_assoc, append-nil, arith}
 use Rattle.mot_lines.specs.Hand.{bytes_in_hand}
 use Rattle.mot_lines.specs.Lines.{rest_of, whole_lines}
 use Rattle.mot_lines.proofs.Laws.{rest_of-end, rest_of-within, whole_lines-end, whole_lines-within}
-use Rattle.mot_server.proofs.Laws.{keeps_on}
+use Rattle.disk_store.proofs.Laws.{keeps_none, keeps_on}
 use Rattle.mot_update.proofs.Faults.{calm_here, calm_on}
 use Rattle.mot_update.proofs.Runs.{not_none, same_error}
 use Rattle.mot_control.proofs.Taken.{joined, line_taken, lines_at_end, more_none, more_one}
@@ -16,8 +16,7 @@ loop-line-init g c =
     let state = g.D.Disk.state in
     let server = c.args.server.now in
     record {
-      keeps = record { len = refl; was_honest = λ honest. honest };
-      later = omega arith;
+      keeps = keeps_none (state c.args.server.now.disk);
       calm = calm_here server (state server.disk);
       run = λ s holds honest.
           updating_none state server s (g.met.D.Disk.sound server.disk honest) honest holds;
@@ -45,7 +44,6 @@ loop-line-preserved g c =
     let one = c.in_ok-answer_line.ensures in
     record {
       keeps = keeps_on (state old.disk) (state mid.disk) (state new.disk) is.keeps one.keeps;
-      later = let a = is.later in let b = one.later in omega (arith, a, b);
       calm = calm_on old mid new (state old.disk) (state mid.disk) (state new.disk) is.calm
           one.faults;
       run = λ s holds honest.

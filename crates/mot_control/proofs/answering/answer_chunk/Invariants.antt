@@ -1,4 +1,4 @@
-use Rattle.std.proofs.Common.{◌≡◌, ◌≤◌, ◌++◌, ℕ, List, length, true, None}
+use Rattle.std.proofs.Common.{◌≡◌, ◌++◌, ℕ, List, length, true, None}
 use Rattle.disk_store.specs.Disk.{KeepsLength}
 use Rattle.mot_control.specs.Answering.{AnswersMore}
 use Rattle.mot_feed.specs.Feeding.{IsUpdating}
@@ -14,7 +14,6 @@ invariant-loop-line g l =
     let state = g.D.Disk.state in
     let contents = g.W.Write.contents in record {
       keeps : KeepsLength (state l.initial.server.disk) (state l.server.disk);
-      later : (state l.initial.server.disk).failures ≤ (state l.server.disk).failures;
       calm : IsCalm l.initial.server l.server (state l.initial.server.disk) (state l.server.disk);
       run : (s : Standing) → Holds l.initial.server.view s (state l.initial.server.disk)
           → (state l.server.disk).IsHonest

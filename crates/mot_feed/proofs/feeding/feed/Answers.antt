@@ -1,6 +1,6 @@
 use Rattle.std.proofs.Common.{◌≡◌, ◌∙◌, ◌+◌, ap, refl, arith, inl, inr, None, Some}
 use Rattle.std.specs.Prelude.{if◌then◌else◌}
-use Rattle.mot_server.proofs.Laws.{keeps_on}
+use Rattle.disk_store.proofs.Laws.{keeps_none, keeps_on}
 use Rattle.mot_feed.proofs.Fed.{continuous, fed_all, fed_none, rest_else, rest_then, send_fault}
 use Rattle.mot_feed.proofs.Fed.{sent_on, update_fault, updated, updated_are, updated_turns}
 use Rattle.mot_feed.proofs.Fed.{updated_uncut}
@@ -14,8 +14,7 @@ pub loop-init : goal.loop-init
 loop-init g c =
     let state = g.D.Disk.state c.args.server.now.disk in
     record {
-      keeps = record { len = refl; was_honest = λ honest. honest };
-      later = omega arith;
+      keeps = keeps_none state;
       calm = calm_here c.args.server.now state;
       fed = λ s holds honest. fed_none c.args.server.now state s g.U.Update.waits c.args.turns
           (g.O.Outlet.writes c.args.outlet.now)
@@ -93,7 +92,7 @@ returns-in_err-between_turns-clause-part g c = λ s holds honest.
     let waits = g.U.Update.waits in
     let one = c.in_ok-update.ensures in
     let two = c.in_err-between_turns.ensures in
-    let then_honest = two.keeps.was_honest honest in
+    let then_honest = two.only_reads.keeps.was_honest honest in
     let so_far = c.loop.invariant.fed s holds (one.keeps.was_honest then_honest) in
     let t = so_far.fed.leaves.last in
     let update = one.run t (so_far.fed.leaves.going refl) then_honest in
@@ -107,7 +106,7 @@ returns-in_err-between_turns-clause-part g c = λ s holds honest.
     c.loop.left c.loop.between_turns c.loop.counter _ _ None so_far update) so_far.written
     (updated_uncut old mid up (state old.disk) (state mid.disk) (state up.disk) s waits c.args.turns
     c.loop.left c.loop.between_turns c.loop.counter _ _ None so_far update)
-    (g.met.D.Disk.sound up.disk then_honest) two.view honest (two.unchanged honest)
+    (g.met.D.Disk.sound up.disk then_honest) two.view honest (two.only_reads.unchanged honest)
     c.in_err-between_turns.field-0.0 (λ d held. two.sent d held honest))
 
 pub loop-preserved : goal.loop-preserved
@@ -131,13 +130,12 @@ loop-preserved g c =
     ] in
     record {
       keeps = keeps_on (state old.disk) (state up.disk) (state new.disk)
-          (keeps_on (state old.disk) (state mid.disk) (state up.disk) is.keeps one.keeps) two.keeps;
-      later = omega (arith, is.later, one.later, two.later);
+          (keeps_on (state old.disk) (state mid.disk) (state up.disk) is.keeps one.keeps) two.only_reads.keeps;
       calm = calm_on old up new (state old.disk) (state up.disk) (state new.disk)
           (calm_on old mid up (state old.disk) (state mid.disk) (state up.disk) is.calm one.faults)
           (sent_calm up new (state up.disk) (state new.disk) two.calm two.view);
       fed = λ s holds honest.
-          let then_honest = two.keeps.was_honest honest in
+          let then_honest = two.only_reads.keeps.was_honest honest in
           let so_far = is.fed s holds (one.keeps.was_honest then_honest) in
           let t = so_far.fed.leaves.last in
           let update = one.run t (so_far.fed.leaves.going refl) then_honest in
@@ -152,7 +150,7 @@ loop-preserved g c =
           so_far.written
           (updated_uncut old mid up (state old.disk) (state mid.disk) (state up.disk) s waits
           c.args.turns left c.loop.between_turns c.loop.counter _ _ None so_far update)
-          (g.met.D.Disk.sound up.disk then_honest) two.view honest (two.unchanged honest)
+          (g.met.D.Disk.sound up.disk then_honest) two.view honest (two.only_reads.unchanged honest)
           c.args.turns left c.loop.counter (ap (λ n. left + n) same ∙ so_far.counted) so_far.many
           c.if-left-eq0.false ends rest is_rest (λ d held. two.sent d held honest);
     }

@@ -1,5 +1,4 @@
 use Rattle.disk_store.specs.Disk.{KeepsLength}
-use Rattle.std.proofs.Common.{◌≤◌}
 use Rattle.mot_feed.proofs.Fed.{SoFar}
 use Rattle.mot_journal.specs.Image.{Standing}
 use Rattle.mot_repository.specs.Repository.{Holds}
@@ -9,7 +8,6 @@ use Rattle.mot_feed.proofs.feeding.feed.Given as goal
 abbrev pub invariant-loop : goal.invariant-loop
 invariant-loop g l = record {
   keeps : KeepsLength (g.D.Disk.state l.initial.server.disk) (g.D.Disk.state l.server.disk);
-  later : (g.D.Disk.state l.initial.server.disk).failures ≤ (g.D.Disk.state l.server.disk).failures;
   calm : IsCalm l.initial.server l.server (g.D.Disk.state l.initial.server.disk)
       (g.D.Disk.state l.server.disk);
   fed : (s : Standing) → Holds l.initial.server.view s (g.D.Disk.state l.initial.server.disk)

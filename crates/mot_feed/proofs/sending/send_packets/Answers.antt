@@ -1,20 +1,19 @@
 use Rattle.std.proofs.Common.{◌≡◌, ◌∙◌, refl, subst, arith}
-use Rattle.mot_server.proofs.Laws.{holds_still, keeps_on, unchanged_on}
+use Rattle.disk_store.proofs.Laws.{reads_none, reads_on}
+use Rattle.mot_server.proofs.Laws.{holds_still}
 use Rattle.mot_feed.specs.Sending.{Sends}
 use Rattle.mot_server.specs.Server.{place_in}
 use Rattle.mot_feed.proofs.Sent.{same_error, send_fault_on, sends_more, sends_none}
-use Rattle.mot_feed.proofs.Sent.{sends_part, stays_same}
+use Rattle.mot_feed.proofs.Sent.{sends_part}
 use Rattle.mot_feed.proofs.sending.send_packets.Goals as goal
 
 pub loop-init : goal.loop-init
 loop-init g c =
     let state = g.D.Disk.state c.args.server.now.disk in
     record {
-      keeps = record { len = refl; was_honest = λ honest. honest };
-      later = omega arith;
+      reads = reads_none state;
       calm = refl;
       view = refl;
-      unchanged = λ honest. stays_same state;
       sent = λ s holds honest. sends_none (place_in c.args.server.now s) (g.O.Outlet.writes c.args.outlet.now);
     }
 
@@ -26,8 +25,8 @@ returns-in_err-send_one-clause-part g c = λ s holds honest.
     let new = c.send_one.new.server in
     let is = c.loop.invariant in
     let one = c.in_err-send_one.ensures in
-    let was = one.keeps.was_honest honest in
-    let held = holds_still old.view mid.view s (state old.disk) (state mid.disk) holds was (is.unchanged was) is.view in
+    let was = one.only_reads.keeps.was_honest honest in
+    let held = holds_still old.view mid.view s (state old.disk) (state mid.disk) holds was (is.reads.unchanged was) is.view in
     rw (same_error c.from_residual.result c.in_err-send_one.field-0.0 c.from_residual.ensures.1)
     (sends_part (place_in old s) (place_in mid s) (place_in new s) c.loop.counter c.args.count
     _ _ _ c.in_err-send_one.field-0.0 c.loop-test.true (is.sent s holds was) (one.sent s held honest))
@@ -53,16 +52,12 @@ loop-preserved g c =
     let is = c.loop.invariant in
     let one = c.in_ok-send_one.ensures in
     record {
-      keeps = keeps_on (state old.disk) (state mid.disk) (state new.disk) is.keeps one.keeps;
-      later = omega (arith, is.later, one.later);
+      reads = reads_on (state old.disk) (state mid.disk) (state new.disk) is.reads one.only_reads;
       calm = one.calm ∙ is.calm;
       view = one.view ∙ is.view;
-      unchanged = λ honest.
-          let was = one.keeps.was_honest honest in
-          unchanged_on (state old.disk) (state mid.disk) (state new.disk) (is.unchanged was) (one.unchanged honest);
       sent = λ s holds honest.
-          let was = one.keeps.was_honest honest in
-          let held = holds_still old.view mid.view s (state old.disk) (state mid.disk) holds was (is.unchanged was) is.view in
+          let was = one.only_reads.keeps.was_honest honest in
+          let held = holds_still old.view mid.view s (state old.disk) (state mid.disk) holds was (is.reads.unchanged was) is.view in
           sends_more (place_in old s) (place_in mid s) (place_in new s) c.loop.counter _ _ _ c.in_ok-send_one.field-0
           (is.sent s holds was) (one.sent s held honest);
     }

@@ -1,5 +1,5 @@
-use Rattle.std.proofs.Common.{◌≡◌, ◌≤◌}
-use Rattle.disk_store.specs.Disk.{IsUnchanged, KeepsLength}
+use Rattle.std.proofs.Common.{◌≡◌}
+use Rattle.disk_store.specs.Disk.{OnlyReads}
 use Rattle.mot_feed.specs.Sending.{Sends}
 use Rattle.mot_journal.specs.Image.{Standing}
 use Rattle.mot_repository.specs.Repository.{Holds}
@@ -8,12 +8,9 @@ use Rattle.mot_feed.proofs.sending.send_packets.Given as goal
 
 abbrev pub invariant-loop : goal.invariant-loop
 invariant-loop g l = record {
-  keeps : KeepsLength (g.D.Disk.state l.initial.server.disk) (g.D.Disk.state l.server.disk);
-  later : (g.D.Disk.state l.initial.server.disk).failures ≤ (g.D.Disk.state l.server.disk).failures;
+  reads : OnlyReads (g.D.Disk.state l.initial.server.disk) (g.D.Disk.state l.server.disk);
   calm : (g.D.Disk.state l.server.disk).failures ≡ (g.D.Disk.state l.initial.server.disk).failures;
   view : l.server.view ≡ l.initial.server.view;
-  unchanged : (g.D.Disk.state l.server.disk).IsHonest
-      → IsUnchanged (g.D.Disk.state l.initial.server.disk) (g.D.Disk.state l.server.disk);
   sent : (s : Standing) → Holds l.initial.server.view s (g.D.Disk.state l.initial.server.disk)
       → (g.D.Disk.state l.server.disk).IsHonest
       → Sends (place_in l.initial.server s) l.counter (place_in l.server s)

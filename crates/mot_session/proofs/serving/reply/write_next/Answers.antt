@@ -33,7 +33,7 @@ returns-in_err-write_next_packet-clause-answers g c = λ s holds honest.
     let new = c.write_next_packet.new.server in
     let p = err_from_is_err_and c.from_residual.result c.from_residual.ensures.1 in
     let so_far = c.loop.invariant in
-    let was = c.in_err-write_next_packet.ensures.reads.keeps.was_honest honest in
+    let was = c.in_err-write_next_packet.ensures.reads.disk.keeps.was_honest honest in
     let sent = so_far.sent s holds was in
     let held = holds-read first mid (state first.disk) (state mid.disk) so_far.reads was s holds in
     rw p.1 (next-broken (state_of first s (state first.disk)) (state_of mid s (state mid.disk))
@@ -47,7 +47,7 @@ returns-in_default-clause-answers g c = λ s holds honest.
     let mid = c.loop.server in
     let new = c.write_next_packet.new.server in
     let so_far = c.loop.invariant in
-    let was = c.in_ok-write_next_packet.ensures.reads.keeps.was_honest honest in
+    let was = c.in_ok-write_next_packet.ensures.reads.disk.keeps.was_honest honest in
     let sent = so_far.sent s holds was in
     let held = holds-read first mid (state first.disk) (state mid.disk) so_far.reads was s holds in
     next-cut (state_of first s (state first.disk)) (state_of mid s (state mid.disk))
@@ -66,7 +66,7 @@ loop-preserved g c =
       reads = reads-more first mid new (state first.disk) (state mid.disk)
           (state new.disk) so_far.reads one.reads;
       sent = λ s holds honest.
-          let was = one.reads.keeps.was_honest honest in
+          let was = one.reads.disk.keeps.was_honest honest in
           let sent = so_far.sent s holds was in
           let held = holds-read first mid (state first.disk)
           (state mid.disk) so_far.reads was s holds in

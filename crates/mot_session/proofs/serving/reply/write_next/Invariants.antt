@@ -4,7 +4,7 @@ use Rattle.std.specs.Io.KnownBytes.{Appends}
 use Rattle.mot_journal.specs.Image.{Standing}
 use Rattle.mot_player.specs.Place.{Sent}
 use Rattle.mot_repository.specs.Repository.{Holds}
-use Rattle.mot_session.specs.Inner.Writes.{OnlyReads}
+use Rattle.mot_session.specs.Inner.Writes.{ReadsAlone}
 use Rattle.mot_session.specs.OnAnyDisk.{Shown, shown_lines}
 use Rattle.mot_session.specs.Played.{Sends, sent_lines}
 use Rattle.mot_session.specs.State.{state_of}
@@ -12,7 +12,7 @@ use Rattle.mot_session.proofs.serving.reply.write_next.Given as goal
 
 abbrev pub invariant-loop : goal.invariant-loop
 invariant-loop g l = record {
-  reads : OnlyReads l.initial.server l.server (g.D.Disk.state l.initial.server.disk)
+  reads : ReadsAlone l.initial.server l.server (g.D.Disk.state l.initial.server.disk)
       (g.D.Disk.state l.server.disk);
   sent : (s : Standing) → Holds l.initial.server.view s (g.D.Disk.state l.initial.server.disk)
       → (g.D.Disk.state l.server.disk).IsHonest

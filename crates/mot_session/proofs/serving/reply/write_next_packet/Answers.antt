@@ -12,7 +12,7 @@ returns-in_err-write_whole-in-Ok-clause-answers g c = λ s holds honest.
     let run = c.in-Ok.ensures in
     rw p.1 (AnswersOne-sent c.args.server.now c.next_packet.new.self (state c.args.server.now.disk)
     (state c.next_packet.new.self.disk)
-    (record { view = run.view; keeps = run.keeps; later = run.later; unchanged = run.unchanged })
+    (record { view = run.view; disk = run.only_reads })
     honest s
     c.in-Ok.field-0.packet.items c.in-Ok.field-0.ends_turn (run.sent s holds honest) (Err _) tt
     c.as_slice.result.now (c.as_slice.ensures.value ∙ c.set_played_text.ensures) _ _
@@ -25,7 +25,7 @@ returns-in_ok-write_whole-in-Ok-clause-answers g c = λ s holds honest.
     let run = c.in-Ok.ensures in
     AnswersOne-sent c.args.server.now c.next_packet.new.self (state c.args.server.now.disk)
     (state c.next_packet.new.self.disk)
-    (record { view = run.view; keeps = run.keeps; later = run.later; unchanged = run.unchanged })
+    (record { view = run.view; disk = run.only_reads })
     honest s
     c.in-Ok.field-0.packet.items c.in-Ok.field-0.ends_turn (run.sent s holds honest)
     (Ok (Some c.in-Ok.field-0.ends_turn)) refl

@@ -35,7 +35,7 @@ returns-in_err-ends_turn-clause-answers g c = λ s holds honest.
     let new = c.write_next_packet.new.server in
     let p = err_from_is_err_and c.from_residual.result c.from_residual.ensures.1 in
     let so_far = c.loop-ends_turn.invariant in
-    let was = c.in_err-ends_turn.ensures.reads.keeps.was_honest honest in
+    let was = c.in_err-ends_turn.ensures.reads.disk.keeps.was_honest honest in
     let sent = so_far.sent s holds was in
     let held = holds-read first mid (state first.disk) (state mid.disk) so_far.reads was s holds in
     rw p.1 (turn-broken (state_of first s (state first.disk)) (state_of mid s (state mid.disk))
@@ -49,7 +49,7 @@ returns-in_default-clause-answers g c = λ s holds honest.
     let mid = c.loop-ends_turn.server in
     let new = c.write_next_packet.new.server in
     let so_far = c.loop-ends_turn.invariant in
-    let was = c.in_ok-ends_turn.ensures.reads.keeps.was_honest honest in
+    let was = c.in_ok-ends_turn.ensures.reads.disk.keeps.was_honest honest in
     let sent = so_far.sent s holds was in
     let held = holds-read first mid (state first.disk) (state mid.disk) so_far.reads was s holds in
     turn-cut (state_of first s (state first.disk)) (state_of mid s (state mid.disk))
@@ -64,7 +64,7 @@ returns-then-ends_turn-clause-answers g c = λ s holds honest.
     let mid = c.loop-ends_turn.server in
     let new = c.write_next_packet.new.server in
     let so_far = c.loop-ends_turn.invariant in
-    let was = c.in_ok-ends_turn.ensures.reads.keeps.was_honest honest in
+    let was = c.in_ok-ends_turn.ensures.reads.disk.keeps.was_honest honest in
     let sent = so_far.sent s holds was in
     let held = holds-read first mid (state first.disk) (state mid.disk) so_far.reads was s holds in
     let shown = c.in-Some.is ∙ ap (λ e. Some e) c.if-ends_turn.true in
@@ -85,7 +85,7 @@ loop-ends_turn-preserved g c =
       reads = reads-more first mid new (state first.disk) (state mid.disk)
           (state new.disk) so_far.reads one.reads;
       sent = λ s holds honest.
-          let was = one.reads.keeps.was_honest honest in
+          let was = one.reads.disk.keeps.was_honest honest in
           let sent = so_far.sent s holds was in
           let held = holds-read first mid (state first.disk)
           (state mid.disk) so_far.reads was s holds in

@@ -5,7 +5,7 @@ use Rattle.mot_journal.specs.Image.{Standing}
 use Rattle.mot_player.specs.Laws.{bytes_left}
 use Rattle.mot_player.specs.Place.{Sent}
 use Rattle.mot_repository.specs.Repository.{Holds}
-use Rattle.mot_session.specs.Inner.Writes.{OnlyReads}
+use Rattle.mot_session.specs.Inner.Writes.{ReadsAlone}
 use Rattle.mot_session.specs.OnAnyDisk.{AreWithinTurn, Shown, shown_lines}
 use Rattle.mot_session.specs.Played.{SendsWithinTurn, sent_lines}
 use Rattle.mot_session.specs.State.{state_of}
@@ -13,7 +13,7 @@ use Rattle.mot_session.proofs.serving.reply.write_turn.Given as goal
 
 abbrev pub invariant-loop-ends_turn : goal.invariant-loop-ends_turn
 invariant-loop-ends_turn g l = record {
-  reads : OnlyReads l.initial.server l.server (g.D.Disk.state l.initial.server.disk)
+  reads : ReadsAlone l.initial.server l.server (g.D.Disk.state l.initial.server.disk)
       (g.D.Disk.state l.server.disk);
   sent : (s : Standing) → Holds l.initial.server.view s (g.D.Disk.state l.initial.server.disk)
       → (g.D.Disk.state l.server.disk).IsHonest
