@@ -33,9 +33,9 @@ use Rattle.mot_session.specs.Inner.Decision.{Decides, may_be_done, written_by}
 use Rattle.mot_session.specs.Session as session
 use Rattle.mot_session.specs.Session.{Reply, Answers, IsAnswer, Accepts, NeedsCarousel}
 use Rattle.mot_session.specs.Session.{decided, no_memory, accepts, refuses, fails}
-use Rattle.mot_session.specs.declared.answering.Decision.{Decision}
-use Rattle.mot_session.specs.declared.answering.Decision.TheVariants.{Refused, Accepted, Listing}
-use Rattle.mot_session.specs.declared.answering.Decision.TheVariants.{Packets, Next, Turn}
+use Rattle.mot_session.specs.declared.deciding.Decision.{Decision}
+use Rattle.mot_session.specs.declared.deciding.Decision.TheVariants.{Refused, Accepted, Listing}
+use Rattle.mot_session.specs.declared.deciding.Decision.TheVariants.{Packets, Next, Turn}
 use Rattle.mot_session.specs.State.{ServerState, StandsFor, Stays, state_of}
 use Rattle.mot_session.specs.Stored.{command_in}
 use Rattle.mot_session.specs.Inner.Writes.{Crosses, ReadsAlone, may_have_done}

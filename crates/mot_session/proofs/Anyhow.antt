@@ -19,10 +19,10 @@ use Rattle.mot_lines.specs.Line.{IsParsed, NeedsMemory}
 use Rattle.mot_lines.specs.Text.{done_line, played_line, refusal_line}
 use Rattle.mot_repository.specs.Answers.{IsAnswered, accepted, refused, failed}
 use Rattle.mot_repository.specs.Repository.{RepositoryView}
-use Rattle.mot_session.specs.declared.answering.Decision.{Decision}
-use Rattle.mot_session.specs.declared.answering.Decision.TheVariants.{Refused, Accepted, Listing}
-use Rattle.mot_session.specs.declared.answering.Decision.TheVariants.{Packets, Next, Turn}
-use Rattle.mot_session.specs.declared.serving.writing.WriteFault.{WriteFault}
+use Rattle.mot_session.specs.declared.deciding.Decision.{Decision}
+use Rattle.mot_session.specs.declared.deciding.Decision.TheVariants.{Refused, Accepted, Listing}
+use Rattle.mot_session.specs.declared.deciding.Decision.TheVariants.{Packets, Next, Turn}
+use Rattle.mot_session.specs.declared.serving.output.WriteFault.{WriteFault}
 use Rattle.mot_session.specs.Inner.Anyhow.{AnswersWithAnyhow, DecidesAnyhow, ShowsOne, fails, shows}
 use Rattle.mot_session.specs.Inner.Writes.{Writes}
 use Rattle.mot_session.specs.OnAnyDisk.{AnswersAnyhow, AreWithinTurn, BeginsAnyhow, Shown}

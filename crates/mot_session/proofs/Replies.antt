@@ -6,7 +6,7 @@ use Rattle.std.specs.Prelude.{IsFalse}
 use Rattle.std.specs.Io.KnownBytes.{Appends}
 use Rattle.mot_lines.specs.declared.line.Line.TheVariants as asks
 use Rattle.mot_player.specs.Place.{Sent}
-use Rattle.mot_session.specs.declared.serving.writing.WriteFault.{WriteFault}
+use Rattle.mot_session.specs.declared.serving.output.WriteFault.{WriteFault}
 use Rattle.mot_session.specs.Inner.Writes.{AnswersOne, AnswersRequest, sends, fails}
 use Rattle.mot_session.specs.Played.{Sends, SendsWithinTurn, sent_lines}
 use Rattle.mot_session.specs.State.{ServerState}

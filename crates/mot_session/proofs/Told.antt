@@ -12,7 +12,7 @@ use Rattle.mot_repository.specs.Repository.{IsOf}
 use Rattle.mot_server.specs.Runs.{IsAfter, StandsAfterSome}
 use Rattle.mot_server.specs.Server.{ServerView}
 use Rattle.mot_server.proofs.Laws.{after_both, more, none_of}
-use Rattle.mot_session.specs.declared.serving.writing.WriteFault.{WriteFault}
+use Rattle.mot_session.specs.declared.serving.output.WriteFault.{WriteFault}
 use Rattle.mot_session.specs.Inner.Writes.{AnswersLine, Crosses}
 use Rattle.mot_session.specs.Served.{ServedLine, StoppedLine}
 use Rattle.mot_session.specs.Session.{Exchange, Reply}

@@ -1,7 +1,7 @@
 //! Lines come in, a server on a disk does what they ask, and replies go out.
 #![tactic(auto)]
 
-mod answering;
+mod deciding;
 mod life;
 mod serving;
 

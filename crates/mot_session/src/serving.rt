@@ -15,19 +15,19 @@ ghost use Rattle.mot_session.specs.Served.{ServedLine, StoppedLine, WritesFront}
 ghost use Rattle.mot_server.specs.Server.{ServerView};
 ghost use Rattle.mot_session.specs.State.{Leads, ServerState};
 
+mod output;
 mod reading;
 mod reply;
-mod writing;
 
 use disk_store::Disk;
 use mot_base::Refusal;
 use mot_lines::{Hand, cut_at_line_end, parse_line};
 use mot_server::Server;
+pub use output::WriteFault;
 pub use reading::answer_reading;
 use reply::{answer_line, respond};
 use std::alloc::Global;
 use std::io::{Read, Write};
-pub use writing::WriteFault;
 
 /// The most bytes of one read.
 pub const READ_SIZE: usize = 4_096;

@@ -11,10 +11,10 @@ use Rattle.mot_lines.specs.declared.line.Line.TheVariants as asks
 use Rattle.mot_lines.specs.Listing.{listing_text_beside}
 use Rattle.mot_lines.specs.Text.{done_line, packet_line, played_line, refusal_line}
 use Rattle.mot_repository.specs.Repository.{RepositoryView}
-use Rattle.mot_session.specs.declared.answering.Decision.{Decision}
-use Rattle.mot_session.specs.declared.answering.Decision.TheVariants.{Refused, Accepted, Listing}
-use Rattle.mot_session.specs.declared.answering.Decision.TheVariants.{Packets, Next, Turn}
-use Rattle.mot_session.specs.declared.serving.writing.WriteFault.{WriteFault}
+use Rattle.mot_session.specs.declared.deciding.Decision.{Decision}
+use Rattle.mot_session.specs.declared.deciding.Decision.TheVariants.{Refused, Accepted, Listing}
+use Rattle.mot_session.specs.declared.deciding.Decision.TheVariants.{Packets, Next, Turn}
+use Rattle.mot_session.specs.declared.serving.output.WriteFault.{WriteFault}
 use Rattle.mot_session.specs.Inner.Writes.{Writes}
 use Rattle.mot_session.specs.OnAnyDisk.{AnswersAnyhow, BeginsAnyhow}
 use Rattle.mot_session.specs.Raw.{packets_at}

@@ -4,9 +4,9 @@ use Rattle.mot_base.specs.declared.refusal.Refusal.{Refusal}
 use Rattle.mot_carousel.specs.declared.command.Command as command
 use Rattle.mot_lines.specs.declared.line.Line.{Line}
 use Rattle.mot_lines.specs.declared.line.Line.TheVariants as asks
-use Rattle.mot_session.specs.declared.answering.Decision.{Decision}
-use Rattle.mot_session.specs.declared.answering.Decision.TheVariants.{Refused, Accepted, Listing}
-use Rattle.mot_session.specs.declared.answering.Decision.TheVariants.{Packets, Next, Turn}
+use Rattle.mot_session.specs.declared.deciding.Decision.{Decision}
+use Rattle.mot_session.specs.declared.deciding.Decision.TheVariants.{Refused, Accepted, Listing}
+use Rattle.mot_session.specs.declared.deciding.Decision.TheVariants.{Packets, Next, Turn}
 use Rattle.mot_session.specs.Raw.{packets_at}
 use Rattle.mot_session.specs.Session.{refused, accepted, listing, packets, Answers}
 use Rattle.mot_session.specs.State.{ServerState}

@@ -15,7 +15,7 @@ use Rattle.mot_packets.specs.Written.{bytes_of_packet}
 use Rattle.mot_player.specs.Place.{Sent, request}
 use Rattle.mot_server.specs.Runs.{StandsAfterSome}
 use Rattle.mot_server.specs.Server.{ServerView}
-use Rattle.mot_session.specs.declared.serving.writing.WriteFault.{WriteFault}
+use Rattle.mot_session.specs.declared.serving.output.WriteFault.{WriteFault}
 use Rattle.mot_session.specs.Played.{FailsToSend, sent_line}
 use Rattle.mot_session.specs.Served.{BrokenOff, WritesFront}
 use Rattle.mot_session.specs.Session.{Reply, Answers, Exchange, text_of}

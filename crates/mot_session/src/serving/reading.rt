@@ -9,9 +9,9 @@ ghost use Rattle.mot_session.specs.Inner.Writes.{Writes};
 ghost use Rattle.mot_session.specs.OnAnyDisk.{AnswersAnyhow, read_only};
 ghost use Rattle.mot_session.specs.Served.{WritesFront};
 
+use super::output::{WriteFault, write_whole};
 use super::reply::{write_carousel, write_packets};
-use super::writing::{WriteFault, write_whole};
-use crate::answering::group_of;
+use crate::deciding::group_of;
 use disk_store::Disk;
 use mot_base::{Geometry, GroupKind, Refusal, TransportId};
 use mot_lines::{Line, SegmentBytes, refusal_text};

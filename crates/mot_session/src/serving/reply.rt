@@ -19,8 +19,8 @@ ghost use Rattle.mot_session.specs.LineByLine.{BreaksOff, GoesOn, ServesOne};
 ghost use Rattle.mot_session.specs.Raw.{packets_at};
 ghost use Rattle.mot_session.specs.State.{Leads, ServerState, StandsFor, state_of};
 
-use super::writing::{WriteFault, write_whole};
-use crate::answering::{Decision, answer};
+use super::output::{WriteFault, write_whole};
+use crate::deciding::{Decision, decide};
 use disk_store::Disk;
 use mot_base::{Geometry, Refusal};
 use mot_carousel::{Carousel, Object};
@@ -76,7 +76,7 @@ pub(super) fn respond<W: Write, D: Disk>(
     ensures goes { GoesOn server.old server.new
         (D.state server.old.disk) (D.state server.new.disk) }
 {
-    let decision = answer(alloc, request, server);
+    let decision = decide(alloc, request, server);
     write_reply(writer, server, &decision)?;
     writer.flush().map_err(|_| WriteFault)
 }

@@ -11,18 +11,18 @@ pub returns-in_err-write_reply-clause-answers : goal.returns-in_err-write_reply-
 returns-in_err-write_reply-clause-answers g c = λ line parsed s stands honest.
     let state = g.D.Disk.state in
     let old = c.args.server.now in
-    let mid = c.answer-decision.new.server in
+    let mid = c.decide-decision.new.server in
     let new = c.write_reply.new.server in
     let p = err_from_is_err_and c.from_residual.result c.from_residual.ensures.1 in
     let reads = c.in_err-write_reply.ensures.reads in
     let was = reads.disk.keeps.was_honest honest in
-    let decided = c.answer-decision.ensures.decides s stands was in
+    let decided = c.decide-decision.ensures.decides s stands was in
     let before = state_of old s (state old.disk) in
     let between = state_of mid decided.0 (state mid.disk) in
     let after = state_of new decided.0 (state new.disk) in
     let written = c.in_err-write_reply.ensures.answers before
     (line_of line) decided.0 decided.1 honest
-    (Decides-parsed before between c.answer-decision.result c.args.request (line_of line) parsed
+    (Decides-parsed before between c.decide-decision.result c.args.request (line_of line) parsed
     decided.2) in (
       decided.0,
       stands-read mid new (state mid.disk) (state new.disk) reads honest decided.0 decided.1,
@@ -31,8 +31,8 @@ returns-in_err-write_reply-clause-answers g c = λ line parsed s stands honest.
         answers = rw p.1 written.2;
         crosses = Crosses-line old mid new s (state old.disk) (state mid.disk)
             (state new.disk) line written.0
-            after c.answer-decision.result c.args.request stands honest reads parsed written.1
-            (c.answer-decision.ensures.crosses s) (λ is. (c.answer-decision.ensures.halted is).1);
+            after c.decide-decision.result c.args.request stands honest reads parsed written.1
+            (c.decide-decision.ensures.crosses s) (λ is. (c.decide-decision.ensures.halted is).1);
       },
     )
 
@@ -40,17 +40,17 @@ pub returns-clause-answers : goal.returns-clause-answers
 returns-clause-answers g c = λ line parsed s stands honest.
     let state = g.D.Disk.state in
     let old = c.args.server.now in
-    let mid = c.answer-decision.new.server in
+    let mid = c.decide-decision.new.server in
     let new = c.write_reply.new.server in
     let reads = c.in_ok-write_reply.ensures.reads in
     let was = reads.disk.keeps.was_honest honest in
-    let decided = c.answer-decision.ensures.decides s stands was in
+    let decided = c.decide-decision.ensures.decides s stands was in
     let before = state_of old s (state old.disk) in
     let between = state_of mid decided.0 (state mid.disk) in
     let after = state_of new decided.0 (state new.disk) in
     let written = c.in_ok-write_reply.ensures.answers before
     (line_of line) decided.0 decided.1 honest
-    (Decides-parsed before between c.answer-decision.result c.args.request (line_of line) parsed
+    (Decides-parsed before between c.decide-decision.result c.args.request (line_of line) parsed
     decided.2) in (
       decided.0,
       stands-read mid new (state mid.disk) (state new.disk) reads honest decided.0 decided.1,
@@ -61,8 +61,8 @@ returns-clause-answers g c = λ line parsed s stands honest.
             c.flush.ensures.bytes;
         crosses = Crosses-line old mid new s (state old.disk) (state mid.disk)
             (state new.disk) line written.0
-            after c.answer-decision.result c.args.request stands honest reads parsed written.1
-            (c.answer-decision.ensures.crosses s) (λ is. (c.answer-decision.ensures.halted is).1);
+            after c.decide-decision.result c.args.request stands honest reads parsed written.1
+            (c.decide-decision.ensures.crosses s) (λ is. (c.decide-decision.ensures.halted is).1);
       },
     )
 
@@ -70,12 +70,12 @@ pub returns-in_err-write_reply-clause-anyhow : goal.returns-in_err-write_reply-c
 returns-in_err-write_reply-clause-anyhow g c = λ line parsed.
     let p = err_from_is_err_and c.from_residual.result c.from_residual.ensures.1 in
     rw p.1 (c.in_err-write_reply.ensures.anyhow c.args.server.now.view _ (line_of line)
-    (anyhow-parsed _ _ _ _ c.answer-decision.result c.args.request (line_of line) parsed
-    c.answer-decision.ensures.anyhow))
+    (anyhow-parsed _ _ _ _ c.decide-decision.result c.args.request (line_of line) parsed
+    c.decide-decision.ensures.anyhow))
 
 pub returns-clause-anyhow : goal.returns-clause-anyhow
 returns-clause-anyhow g c = λ line parsed.
     anyhow-kept _ _ _ _ c.map_err.result (line_of line) _ _ _
     (c.in_ok-write_reply.ensures.anyhow c.args.server.now.view _ (line_of line)
-    (anyhow-parsed _ _ _ _ c.answer-decision.result c.args.request (line_of line) parsed
-    c.answer-decision.ensures.anyhow)) c.flush.ensures.bytes
+    (anyhow-parsed _ _ _ _ c.decide-decision.result c.args.request (line_of line) parsed
+    c.decide-decision.ensures.anyhow)) c.flush.ensures.bytes

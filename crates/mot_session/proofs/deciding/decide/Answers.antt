@@ -2,13 +2,13 @@ use Rattle.mot_session.proofs.Answered.{Answers-refused, crosses-none}
 use Rattle.mot_session.specs.State.{state_of}
 use Rattle.std.proofs.Common.{refl}
 use Rattle.mot_session.specs.OnAnyDisk.{no_request}
-use Rattle.mot_session.proofs.answering.answer.Goals as goal
+use Rattle.mot_session.proofs.deciding.decide.Goals as goal
 
 pub returns-in-Ok-clause-crosses : goal.returns-in-Ok-clause-crosses
-returns-in-Ok-clause-crosses g c = rw c.in-Ok.is c.answer_request.ensures.crosses
+returns-in-Ok-clause-crosses g c = rw c.in-Ok.is c.decide_request.ensures.crosses
 
 pub returns-in-Ok-clause-decides : goal.returns-in-Ok-clause-decides
-returns-in-Ok-clause-decides g c = rw c.in-Ok.is c.answer_request.ensures.decides
+returns-in-Ok-clause-decides g c = rw c.in-Ok.is c.decide_request.ensures.decides
 
 pub returns-in-Err-clause-decides : goal.returns-in-Err-clause-decides
 returns-in-Err-clause-decides g c = rw c.in-Err.is (λ s stands honest. (
@@ -24,7 +24,7 @@ returns-in-Err-clause-crosses g c = λ s holds.
     (g.met.D.Disk.sound c.args.server.now.disk holds.journal.honest) holds
 
 pub returns-in-Ok-clause-anyhow : goal.returns-in-Ok-clause-anyhow
-returns-in-Ok-clause-anyhow g c = rw c.in-Ok.is c.answer_request.ensures.anyhow
+returns-in-Ok-clause-anyhow g c = rw c.in-Ok.is c.decide_request.ensures.anyhow
 
 pub returns-in-Err-clause-anyhow : goal.returns-in-Err-clause-anyhow
 returns-in-Err-clause-anyhow g c = rw c.in-Err.is (no_request c.in-Err.refusal refl refl refl)

@@ -37,7 +37,7 @@ pub(crate) enum Decision {
 }
 
 /// Does what a line asks for, and decides the reply.
-pub(crate) fn answer<D: Disk>(
+pub(crate) fn decide<D: Disk>(
     alloc: Global,
     request: Result<Line, Refusal>,
     server: &mut Server<D>,
@@ -58,13 +58,13 @@ pub(crate) fn answer<D: Disk>(
     ensures keeps { KeepsLength (D.state server.old.disk) (D.state server.new.disk) }
 {
     match request {
-        Ok(request) => answer_request(alloc, &request, server),
+        Ok(request) => decide_request(alloc, &request, server),
         Err(refusal) => Decision::Refused(refusal),
     }
 }
 
 /// Does what a request asks, and decides the reply. A halted server answers raw lines alone.
-fn answer_request<D: Disk>(alloc: Global, request: &Line, server: &mut Server<D>) -> Decision
+fn decide_request<D: Disk>(alloc: Global, request: &Line, server: &mut Server<D>) -> Decision
     ensures decides { Leads D.state server.old server.new
         (λ before after. Decides before (Ok request.now) result after) }
     ensures anyhow { DecidesAnyhow server.old.view server.new.view
@@ -78,7 +78,7 @@ fn answer_request<D: Disk>(alloc: Global, request: &Line, server: &mut Server<D>
     ensures keeps { KeepsLength (D.state server.old.disk) (D.state server.new.disk) }
 {
     match request {
-        Line::Command(command) => answer_command(alloc, command, server),
+        Line::Command(command) => decide_command(alloc, command, server),
         Line::Raw { kind, tid, body } => match group_of(alloc, *kind, *tid, body) {
             Ok(group) => Decision::Packets(group),
             Err(AllocError) => Decision::Refused(Refusal::OutOfMemory),
@@ -102,7 +102,7 @@ fn show<D: Disk>(server: &Server<D>, decision: Decision) -> Decision
 }
 
 /// Does what a command asks, and decides the reply.
-fn answer_command<D: Disk>(alloc: Global, command: &Command, server: &mut Server<D>) -> Decision
+fn decide_command<D: Disk>(alloc: Global, command: &Command, server: &mut Server<D>) -> Decision
     ensures decides { Leads D.state server.old server.new
         (λ before after. Decides before (Ok (Line.Command command.now)) result after) }
     ensures anyhow { DecidesAnyhow server.old.view server.new.view

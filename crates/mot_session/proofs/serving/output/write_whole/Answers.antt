@@ -5,7 +5,7 @@ use Rattle.std.proofs.KnownBytes.{Appends-trans, Appends-kept}
 use Rattle.std.proofs.Math.Seq.{take-add}
 use Rattle.std.proofs.lemmas.List.{take_all}
 use Rattle.mot_session.proofs.Fronts.{WritesFront-take}
-use Rattle.mot_session.proofs.serving.writing.write_whole.Goals as goal
+use Rattle.mot_session.proofs.serving.output.write_whole.Goals as goal
 
 slice_from : (xs : List ℕ) (at : ℕ) → take (length xs - at) (drop at xs) ≡ drop at xs
 slice_from xs at = take_all (length xs - at) (drop at xs) (rw length-drop (omega arith))

@@ -2,7 +2,7 @@ use Rattle.mot_session.proofs.Answered.{Answers-accepted, Answers-refused_comman
 use Rattle.mot_session.proofs.Answered.{crosses-accepted, crosses-refused, stays_halted}
 use Rattle.mot_server.proofs.Laws.{not_halted}
 use Rattle.mot_session.proofs.Anyhow.{anyhow-accepted, anyhow-refused}
-use Rattle.mot_session.proofs.answering.answer_command.Goals as goal
+use Rattle.mot_session.proofs.deciding.decide_command.Goals as goal
 
 pub returns-in-Ok-clause-decides : goal.returns-in-Ok-clause-decides
 returns-in-Ok-clause-decides g c = λ s stands honest.

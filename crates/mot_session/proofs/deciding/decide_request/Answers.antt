@@ -1,7 +1,7 @@
 use Rattle.std.proofs.Common.{refl}
 use Rattle.std.specs.Prelude.{Ok}
 use Rattle.mot_lines.specs.declared.line.Line.TheVariants as asks
-use Rattle.mot_session.specs.declared.answering.Decision.TheVariants as decision
+use Rattle.mot_session.specs.declared.deciding.Decision.TheVariants as decision
 use Rattle.mot_session.specs.State.{state_of}
 use Rattle.mot_session.proofs.Answered.{Answers-list, Answers-raw, Decides-shown, crosses-none}
 use Rattle.std.proofs.Common.{ap}
@@ -10,10 +10,10 @@ use Rattle.mot_lines.specs.Text.{packet_line}
 use Rattle.mot_session.specs.Raw.{packets_at}
 use Rattle.mot_session.specs.OnAnyDisk.{listed, no_memory, raw}
 use Rattle.mot_session.proofs.Anyhow.{anyhow-shown}
-use Rattle.mot_session.proofs.answering.answer_request.Goals as goal
+use Rattle.mot_session.proofs.deciding.decide_request.Goals as goal
 
 pub returns-in-Command-clause-crosses : goal.returns-in-Command-clause-crosses
-returns-in-Command-clause-crosses g c = rw c.in-Command.is c.answer_command.ensures.crosses
+returns-in-Command-clause-crosses g c = rw c.in-Command.is c.decide_command.ensures.crosses
 
 pub returns-in-Ok-clause-decides : goal.returns-in-Ok-clause-decides
 returns-in-Ok-clause-decides g c = rw c.in-Raw.is (λ s stands honest. (
@@ -77,7 +77,7 @@ returns-in-Turn-clause-crosses g c = λ s holds.
     (g.met.D.Disk.sound c.args.server.now.disk holds.journal.honest) holds
 
 pub returns-in-Command-clause-anyhow : goal.returns-in-Command-clause-anyhow
-returns-in-Command-clause-anyhow g c = rw c.in-Command.is c.answer_command.ensures.anyhow
+returns-in-Command-clause-anyhow g c = rw c.in-Command.is c.decide_command.ensures.anyhow
 
 pub returns-in-Ok-clause-anyhow : goal.returns-in-Ok-clause-anyhow
 returns-in-Ok-clause-anyhow g c = rw c.in-Raw.is (raw c.in-Raw.kind c.in-Raw.tid
