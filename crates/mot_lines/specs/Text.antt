@@ -1,5 +1,6 @@
 -- The lines of replies. The last byte of each is 0x0A.
-use Rattle.std.specs.Prelude.{ℕ, Bool, if◌then◌else◌, List, [], ◌∷◌, ◌++◌, Option, Some, None}
+use Rattle.std.specs.Prelude.{ℕ, Bool, false, if◌then◌else◌, List, [], ◌∷◌, ◌++◌, Option}
+use Rattle.std.specs.Prelude.{Some, None}
 use Rattle.std.specs.Prelude.{codes}
 use Rattle.std.specs.Fmt.{decimal}
 use Rattle.hex.specs.Hex.{encode_lower}
@@ -25,11 +26,12 @@ done_line d =
 abbrev pub refusal_line : Refusal → List ℕ
 refusal_line r = codes "refused " ++ decimal (number_of r) ++ codes " " ++ name_of r ++ 10 ∷ []
 
--- a packet's line, in small hexadecimal digits
-abbrev pub packet_line : List ℕ → List ℕ
-packet_line packet = codes "packet " ++ encode_lower packet ++ 10 ∷ []
-
--- the line of a packet that was played, with a word behind it where it ends a turn
+-- the line of a packet that was played, in small hexadecimal digits, with a word behind it where it
+-- ends a turn
 abbrev pub played_line : List ℕ → Bool → List ℕ
 played_line packet ends_turn =
     codes "packet " ++ encode_lower packet ++ (if ends_turn then codes " end" else []) ++ 10 ∷ []
+
+-- a packet's line
+abbrev pub packet_line : List ℕ → List ℕ
+packet_line packet = played_line packet false

@@ -5,7 +5,7 @@ ghost use Rattle.arrayvec.specs.ArrayVec.{array_vec_len};
 ghost use Rattle.hex.specs.Hex.{encode_lower, lower_digits};
 ghost use Rattle.mot_lines.specs.Listing.{numbers_line, mime_word};
 ghost use Rattle.mot_lines.specs.Listing.{object_line_beside};
-ghost use Rattle.mot_lines.specs.Text.{field, taken_words, done_line, packet_line, played_line};
+ghost use Rattle.mot_lines.specs.Text.{field, taken_words, done_line, played_line};
 ghost use Rattle.mot_lines.specs.Text.{refusal_line};
 
 use arrayvec::ArrayVec;
@@ -29,22 +29,9 @@ pub type PacketLine = ArrayVec<u8, PACKET_LINE_ROOM>;
 /// Places for the digits of the longest packet.
 const NO_DIGITS: [u8; 2 * MAX_PACKET] = [0; 2 * MAX_PACKET];
 
-/// A packet's line.
-// Inlined, the line would be copied once more.
-#[inline(never)]
-pub fn packet_text(packet: &Packet) -> PacketLine
-    ensures { result.items ≡ packet_line packet.now.items }
-{
-    let mut text = PacketLine::new();
-    array_append(&mut text, b"packet ");
-    append_digits(&mut text, packet.as_slice());
-    array_append(&mut text, b"\n");
-    text
-}
-
-/// Makes the line that of a packet that was played, with ` end` behind one that ends a turn.
+/// Makes the line that of a packet, with ` end` behind one that was played and ends a turn.
 // In place, since a line that is answered is copied.
-pub fn set_played_text(text: &mut PacketLine, packet: &Packet, ends_turn: bool)
+pub fn set_packet_text(text: &mut PacketLine, packet: &Packet, ends_turn: bool)
     ensures { text.new.items ≡ played_line packet.now.items ends_turn }
 {
     text.clear();

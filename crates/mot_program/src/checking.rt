@@ -13,11 +13,12 @@ ghost use Rattle.mot_program.specs.Report.{Checks, StopsChecking, clean_line, la
 
 use crate::ended::{Ended, Finished};
 use crate::file::open_file;
-use crate::printing::{write_bytes, write_carousel, write_last};
+use crate::printing::{write_bytes, write_last};
 use disk_store::{Disk, Start};
 use mot_base::Refusal;
 use mot_journal::Layout;
 use mot_server::Server;
+use mot_session::write_listing;
 use std::alloc::Global;
 use std::io::Write;
 
@@ -82,7 +83,7 @@ fn report<D: Disk, W: Write>(server: &mut Server<D>, writer: &mut W) -> Result<(
         × Keeps (W.contents writer.old) (W.contents writer.new))) }
 {
     let is_clean = server.is_clean()?;
-    write_carousel(writer, server.carousel())?;
+    write_listing(writer, server.carousel())?;
     write_bytes(writer, clean_text(is_clean))?;
     write_last(writer, layout_text(server.layout()))
 }

@@ -1,11 +1,9 @@
 //! What the program prints of its own.
 ghost use Rattle.std.specs.Prelude.{◌≡◌, ◌≢◌, ◌⊎◌, OnOk, IfErr, Some};
-ghost use Rattle.std.specs.List.{flat_map};
 ghost use Rattle.std.specs.Io.KnownBytes.{Appends, Keeps};
 ghost use Rattle.clap.specs.Words.{kind_of};
 ghost use Rattle.mot_base.specs.declared.refusal.Refusal.TheVariants.{OutOfMemory, WriteFault};
 ghost use Rattle.mot_program.specs.declared.ended.UsedDisk.TheVariants.{Untouched};
-ghost use Rattle.mot_lines.specs.Listing.{listing_text_beside, object_line_beside};
 
 use crate::ended::{Exit, UsedDisk};
 use crate::subject::{BadNumber, Subject};
@@ -13,8 +11,6 @@ use clap::Error;
 use clap::error::ErrorKind;
 use disk_store::Start;
 use mot_base::Refusal;
-use mot_carousel::{Carousel, Object};
-use mot_lines::{carousel_text, object_text};
 use std::io::Write;
 
 /// Writes all of the bytes.
@@ -40,28 +36,6 @@ pub(crate) fn write_last<W: Write>(writer: &mut W, bytes: &[u8]) -> Result<(), R
         Ok(()) => Ok(()),
         Err(_) => Err(Refusal::WriteFault),
     }
-}
-
-/// Writes what `list` shows of a carousel.
-pub(crate) fn write_carousel<W: Write>(writer: &mut W, carousel: &Carousel) -> Result<(), Refusal>
-    ensures written { OnOk result (Appends (W.contents writer.old) (W.contents writer.new)
-        (listing_text_beside carousel.now)) }
-    ensures fault { IfErr result (λ refusal. refusal ≡ WriteFault) }
-{
-    write_bytes(writer, carousel_text(carousel).as_slice())?;
-    write_objects(writer, &carousel.objects)
-}
-
-/// Writes the objects, a line each.
-fn write_objects<W: Write>(writer: &mut W, objects: &[Object]) -> Result<(), Refusal>
-    ensures written { OnOk result (Appends (W.contents writer.old) (W.contents writer.new)
-        (flat_map object_line_beside objects.now)) }
-    ensures fault { IfErr result (λ refusal. refusal ≡ WriteFault) }
-{
-    for object in objects {
-        write_bytes(writer, object_text(object).as_slice())?;
-    }
-    Ok(())
 }
 
 /// Prints what is wrong with the words, or the help that they ask for.

@@ -24,7 +24,7 @@ use Rattle.mot_session.specs.declared.deciding.Decision.TheVariants.{Refused, Ac
 use Rattle.mot_session.specs.declared.deciding.Decision.TheVariants.{Packets, Next, Turn}
 use Rattle.mot_session.specs.declared.serving.output.WriteFault.{WriteFault}
 use Rattle.mot_session.specs.Inner.Anyhow.{AnswersWithAnyhow, DecidesAnyhow, ShowsOne, fails, shows}
-use Rattle.mot_session.specs.Inner.Writes.{Writes}
+use Rattle.mot_session.specs.Output.{Writes}
 use Rattle.mot_session.specs.OnAnyDisk.{AnswersAnyhow, AreWithinTurn, BeginsAnyhow, Shown}
 use Rattle.mot_session.specs.OnAnyDisk.{shown_lines}
 use Rattle.mot_session.specs.OnAnyDisk as anyhow

@@ -13,7 +13,8 @@ use Rattle.mot_repository.specs.Repository.{RepositoryView, Agrees, Holds}
 use Rattle.mot_server.specs.Server.{ServerView, place_in}
 use Rattle.mot_server.proofs.Laws.{holds_still}
 use Rattle.mot_session.specs.declared.serving.output.WriteFault.{WriteFault}
-use Rattle.mot_session.specs.Inner.Writes.{AnswersOne, ReadsAlone, Writes, sends}
+use Rattle.mot_session.specs.Inner.Writes.{AnswersOne, ReadsAlone, sends}
+use Rattle.mot_session.specs.Output.{Writes}
 use Rattle.mot_session.specs.LineByLine.{GoesOn}
 use Rattle.mot_session.specs.State.{KeepsCarousel, ServerState, StandsFor, state_of}
 

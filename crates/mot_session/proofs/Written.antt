@@ -20,7 +20,8 @@ use Rattle.mot_packets.specs.Written.{bytes_of_packet}
 use Rattle.mot_player.specs.Place.{Place, Sent, Step, Request, sent_by}
 use Rattle.mot_player.proofs.Laws.{requests-go_on}
 use Rattle.mot_session.specs.declared.serving.output.WriteFault.{WriteFault}
-use Rattle.mot_session.specs.Inner.Writes.{Writes, Answered, AnswersWith, AnswersRequest, SendsOne}
+use Rattle.mot_session.specs.Inner.Writes.{Answered, AnswersWith, AnswersRequest, SendsOne}
+use Rattle.mot_session.specs.Output.{Writes}
 use Rattle.mot_session.specs.Inner.Writes.{may_have_done}
 use Rattle.mot_session.specs.Played.{FailsToSend, Sends, SendsTurn, SendsWithinTurn, packets_sent}
 use Rattle.mot_session.specs.Played.{sent_line, sent_lines}

@@ -3,6 +3,7 @@ pub mod Laws
 pub mod Life
 pub mod LineByLine
 pub mod OnAnyDisk
+pub mod Output
 pub mod Played
 pub mod Raw
 pub mod Served

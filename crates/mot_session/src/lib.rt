@@ -8,7 +8,9 @@ mod serving;
 pub use life::{ServedLife, ServedOn, format_serve_and_restart, serve_and_restart};
 pub use mot_base::Geometry;
 pub use mot_lines::{Description, Line, SegmentBytes, parse_line};
-pub use serving::{MAX_READS, READ_SIZE, ServeEnd, WriteFault, answer_reading, serve, serve_line};
+pub use serving::{
+    MAX_READS, READ_SIZE, ServeEnd, WriteFault, answer_reading, serve, serve_line, write_listing,
+};
 
 #[cfg(test)]
 mod tests;

@@ -15,11 +15,13 @@ ghost use Rattle.mot_session.specs.Served.{ServedLine, StoppedLine, WritesFront}
 ghost use Rattle.mot_server.specs.Server.{ServerView};
 ghost use Rattle.mot_session.specs.State.{Leads, ServerState};
 
+mod listing;
 mod output;
 mod reading;
 mod reply;
 
 use disk_store::Disk;
+pub use listing::write_listing;
 use mot_base::Refusal;
 use mot_lines::{Hand, cut_at_line_end, parse_line};
 use mot_server::Server;

@@ -15,7 +15,7 @@ use Rattle.mot_session.specs.declared.deciding.Decision.{Decision}
 use Rattle.mot_session.specs.declared.deciding.Decision.TheVariants.{Refused, Accepted, Listing}
 use Rattle.mot_session.specs.declared.deciding.Decision.TheVariants.{Packets, Next, Turn}
 use Rattle.mot_session.specs.declared.serving.output.WriteFault.{WriteFault}
-use Rattle.mot_session.specs.Inner.Writes.{Writes}
+use Rattle.mot_session.specs.Output.{Writes}
 use Rattle.mot_session.specs.OnAnyDisk.{AnswersAnyhow, BeginsAnyhow}
 use Rattle.mot_session.specs.Raw.{packets_at}
 use Rattle.mot_session.specs.Served.{WritesFront}

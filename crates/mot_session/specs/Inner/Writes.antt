@@ -22,12 +22,6 @@ use Rattle.mot_session.specs.Session.{Reply, Answers, Exchange, text_of}
 use Rattle.mot_session.specs.State.{KeepsCarousel, ServerState}
 use Rattle.mot_session.specs.Stored.{accepted_in, failed_in, is_accepting, is_failing}
 
--- it wrote these bytes, or, after a fault, some first of them
-abbrev pub Writes : {T : Type 0} → Result T WriteFault → List ℕ
-    → Option (List ℕ) → Option (List ℕ) → Type 0
-Writes (Ok done) bytes old new = Appends old new bytes
-Writes (Err fault) bytes old new = WritesFront bytes old new
-
 -- a request was answered, and the whole reply was written
 pub record Answered (before : ServerState) (request : Result Line Refusal) (reply : Reply)
     (after : ServerState) (old new : Option (List ℕ)) : Type 0 where

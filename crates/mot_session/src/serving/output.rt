@@ -1,11 +1,23 @@
 //! Writing replies.
-ghost use Rattle.mot_session.specs.Inner.Writes.{Writes};
+ghost use Rattle.std.specs.Prelude.{◌≡◌};
+ghost use Rattle.mot_session.specs.Output.{Writes};
 
+use mot_base::Refusal;
 use std::io::Write;
 
 /// A write or a flush failed.
 #[derive(Clone, Copy, Debug, PartialEq, Eq)]
 pub struct WriteFault;
+
+impl From<WriteFault> for Refusal {
+    ghost use Rattle.mot_base.specs.declared.refusal.Refusal.TheVariants.{WriteFault};
+
+    ghost from_gives = { λ _ refusal. refusal ≡ WriteFault };
+
+    fn from(_: WriteFault) -> Self {
+        Refusal::WriteFault
+    }
+}
 
 /// Writes all of the bytes; after a fault some first of them were written.
 pub(super) fn write_whole<W: Write>(writer: &mut W, bytes: &[u8]) -> Result<(), WriteFault>

@@ -5,12 +5,13 @@ ghost use Rattle.mot_base.specs.Geometry.{IsValid};
 ghost use Rattle.mot_lines.specs.Text.{refusal_line};
 ghost use Rattle.mot_lines.specs.declared.line.Line.TheVariants as asks;
 ghost use Rattle.mot_repository.specs.Repository.{RepositoryView};
-ghost use Rattle.mot_session.specs.Inner.Writes.{Writes};
+ghost use Rattle.mot_session.specs.Output.{Writes};
 ghost use Rattle.mot_session.specs.OnAnyDisk.{AnswersAnyhow, read_only};
 ghost use Rattle.mot_session.specs.Served.{WritesFront};
 
+use super::listing::write_listing;
 use super::output::{WriteFault, write_whole};
-use super::reply::{write_carousel, write_packets};
+use super::reply::write_packets;
 use crate::deciding::group_of;
 use disk_store::Disk;
 use mot_base::{Geometry, GroupKind, Refusal, TransportId};
@@ -97,7 +98,7 @@ fn write_list<W: Write, D: Disk>(writer: &mut W, server: &Server<D>) -> Result<(
     if server.halted() {
         write_refusal(writer, Refusal::Halted)
     } else {
-        write_carousel(writer, server.carousel())
+        write_listing(writer, server.carousel())
     }
 }
 

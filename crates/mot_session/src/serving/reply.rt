@@ -4,7 +4,6 @@ ghost use Rattle.std.specs.Prelude.{IsFalse};
 ghost use Rattle.std.specs.List.{flat_map};
 ghost use Rattle.mot_base.specs.Geometry.{IsValid};
 ghost use Rattle.mot_journal.specs.Image.{Standing};
-ghost use Rattle.mot_lines.specs.Listing.{object_line_beside, listing_text_beside};
 ghost use Rattle.mot_lines.specs.Line.{IsParsed, line_of};
 ghost use Rattle.mot_lines.specs.Text.{packet_line};
 ghost use Rattle.mot_lines.specs.Hand.{bytes_in_hand};
@@ -13,21 +12,19 @@ ghost use Rattle.mot_player.specs.Laws.{bytes_left};
 ghost use Rattle.mot_repository.specs.Repository.{Holds, RepositoryView};
 ghost use Rattle.mot_session.specs.Inner.Anyhow.{AnswersWithAnyhow, DecidesAnyhow, ShowsOne};
 ghost use Rattle.mot_session.specs.Inner.Decision.{Decides, may_be_done};
-ghost use Rattle.mot_session.specs.Inner.Writes.{Writes, AnswersLine, AnswersOne, AnswersRequest};
+ghost use Rattle.mot_session.specs.Inner.Writes.{AnswersLine, AnswersOne, AnswersRequest};
+ghost use Rattle.mot_session.specs.Output.{Writes};
 ghost use Rattle.mot_session.specs.Inner.Writes.{ReadsAlone};
 ghost use Rattle.mot_session.specs.LineByLine.{BreaksOff, GoesOn, ServesOne};
 ghost use Rattle.mot_session.specs.Raw.{packets_at};
 ghost use Rattle.mot_session.specs.State.{Leads, ServerState, StandsFor, state_of};
 
+use super::listing::write_listing;
 use super::output::{WriteFault, write_whole};
 use crate::deciding::{Decision, decide};
 use disk_store::Disk;
 use mot_base::{Geometry, Refusal};
-use mot_carousel::{Carousel, Object};
-use mot_lines::{
-    Hand, Line, PacketLine, carousel_text, done_text, object_text, packet_text, refusal_text,
-    set_played_text,
-};
+use mot_lines::{Hand, Line, PacketLine, done_text, refusal_text, set_packet_text};
 use mot_packets::{cut_packet, packet_count};
 use mot_player::Played;
 use mot_server::Server;
@@ -105,7 +102,7 @@ fn write_reply<W: Write, D: Disk>(
     match decision {
         Decision::Refused(refusal) => write_whole(writer, refusal_text(*refusal).as_slice()),
         Decision::Accepted(done) => write_whole(writer, done_text(*done).as_slice()),
-        Decision::Listing => write_carousel(writer, server.carousel()),
+        Decision::Listing => write_listing(writer, server.carousel()),
         Decision::Packets(group) => write_packets(writer, &server.geometry(), group),
         Decision::Next(count) => write_next(writer, server, *count),
         Decision::Turn => write_turn(writer, server),
@@ -188,7 +185,7 @@ fn write_next_packet<W: Write, D: Disk>(
 {
     match server.next_packet() {
         Ok(Played { packet, ends_turn }) => {
-            set_played_text(line, &packet, ends_turn);
+            set_packet_text(line, &packet, ends_turn);
             write_whole(writer, line.as_slice())?;
             Ok(Some(ends_turn))
         }
@@ -197,29 +194,6 @@ fn write_next_packet<W: Write, D: Disk>(
             Ok(None)
         }
     }
-}
-
-/// Writes the carousel's line, and then one for each object.
-pub(super) fn write_carousel<W: Write>(
-    writer: &mut W,
-    carousel: &Carousel,
-) -> Result<(), WriteFault>
-    ensures { Writes result (listing_text_beside carousel.now)
-        (W.contents writer.old) (W.contents writer.new) }
-{
-    write_whole(writer, carousel_text(carousel).as_slice())?;
-    write_objects(writer, &carousel.objects)
-}
-
-/// Writes the objects, a line each.
-fn write_objects<W: Write>(writer: &mut W, objects: &[Object]) -> Result<(), WriteFault>
-    ensures { Writes result (flat_map object_line_beside objects.now)
-        (W.contents writer.old) (W.contents writer.new) }
-{
-    for object in objects {
-        write_whole(writer, object_text(object).as_slice())?;
-    }
-    Ok(())
 }
 
 /// Writes the packets of a group, a line each.
@@ -235,10 +209,12 @@ pub(super) fn write_packets<W: Write>(
 {
     let length = geometry.length_of_packets();
     let address = geometry.address_of_packets();
+    let mut text = PacketLine::new();
     for number in 0..packet_count(group.len(), length) {
         let at = number * length.room();
         let packet = cut_packet(group, at, length, address, (number % 4) as u8);
-        write_whole(writer, packet_text(&packet).as_slice())?;
+        set_packet_text(&mut text, &packet, false);
+        write_whole(writer, text.as_slice())?;
     }
     Ok(())
 }

@@ -1,6 +1,7 @@
 use Rattle.std.proofs.Common.{◌≡◌, ◌++◌, ◌∙◌, ap, subst}
 use Rattle.std.specs.Io.KnownBytes.{Appends}
 use Rattle.std.proofs.KnownBytes.{Appends-trans}
+use Rattle.std.proofs.lemmas.Result.{err_from_is_err_and}
 use Rattle.mot_lines.specs.Listing.{listing_text_beside}
 use Rattle.mot_repository.specs.Repository.{RepositoryView}
 use Rattle.mot_program.specs.Report.{clean_line, layout_line}
@@ -29,9 +30,13 @@ returns-clause-told g c =
     let old = g.W.Write.contents c.args.writer.now in
     let new = g.W.Write.contents c.write_last.new.writer in
     let so_far = Appends-trans _ _ _ _ _
-    c.in_ok-write_carousel.ensures.written c.in_ok-write_bytes.ensures.written in
+    c.in_ok-write_listing.ensures c.in_ok-write_bytes.ensures.written in
     OnOk-one c.write_last.result (λ last. (
       clean,
       subst (Appends old new) text (Appends-trans _ _ _ _ _ so_far last),
       c.in_ok-is_clean.ensures.exact,
     )) c.write_last.ensures.written
+
+pub returns-in_err-write_listing-clause-silent : goal.returns-in_err-write_listing-clause-silent
+returns-in_err-write_listing-clause-silent g c =
+    err_from_is_err_and c.from_residual.result c.from_residual.ensures.1

@@ -15,7 +15,7 @@ returns-in_err-write_whole-in-Ok-clause-answers g c = λ s holds honest.
     (record { view = run.view; disk = run.only_reads })
     honest s
     c.in-Ok.field-0.packet.items c.in-Ok.field-0.ends_turn (run.sent s holds honest) (Err _) tt
-    c.as_slice.result.now (c.as_slice.ensures.value ∙ c.set_played_text.ensures) _ _
+    c.as_slice.result.now (c.as_slice.ensures.value ∙ c.set_packet_text.ensures) _ _
     c.in_err-write_whole-in-Ok.ensures)
 
 pub returns-in_ok-write_whole-in-Ok-clause-answers :
@@ -29,7 +29,7 @@ returns-in_ok-write_whole-in-Ok-clause-answers g c = λ s holds honest.
     honest s
     c.in-Ok.field-0.packet.items c.in-Ok.field-0.ends_turn (run.sent s holds honest)
     (Ok (Some c.in-Ok.field-0.ends_turn)) refl
-    c.as_slice.result.now (c.as_slice.ensures.value ∙ c.set_played_text.ensures) _ _
+    c.as_slice.result.now (c.as_slice.ensures.value ∙ c.set_packet_text.ensures) _ _
     c.in_ok-write_whole-in-Ok.ensures
 
 pub returns-in_err-write_whole-in-Ok-clause-anyhow :
@@ -37,12 +37,12 @@ pub returns-in_err-write_whole-in-Ok-clause-anyhow :
 returns-in_err-write_whole-in-Ok-clause-anyhow g c = λ going.
     let p = err_from_is_err_and c.from_residual.result c.from_residual.ensures.1 in
     rw p.1 (shows c.in-Ok.field-0.packet.items c.in-Ok.field-0.ends_turn c.in-Ok.ensures.no_fault
-    tt (rw (c.as_slice.ensures.value, c.set_played_text.ensures) at
+    tt (rw (c.as_slice.ensures.value, c.set_packet_text.ensures) at
     c.in_err-write_whole-in-Ok.ensures))
 
 pub returns-in_ok-write_whole-in-Ok-clause-anyhow :
     goal.returns-in_ok-write_whole-in-Ok-clause-anyhow
 returns-in_ok-write_whole-in-Ok-clause-anyhow g c = λ going.
     shows c.in-Ok.field-0.packet.items c.in-Ok.field-0.ends_turn c.in-Ok.ensures.no_fault
-    refl (rw (c.as_slice.ensures.value, c.set_played_text.ensures) at
+    refl (rw (c.as_slice.ensures.value, c.set_packet_text.ensures) at
     c.in_ok-write_whole-in-Ok.ensures)

@@ -19,7 +19,7 @@ loop-number-preserved g c =
     let n = c.loop-number.number in
     let all = packets_at c.args.geometry.now c.args.group.now in
     let text : c.as_slice.result.now ≡ packet_line c.cut_packet-packet.result.items =
-    c.as_slice.ensures.value ∙ c.packet_text.ensures in
+    c.as_slice.ensures.value ∙ c.set_packet_text.ensures in
     let more = packets-more c.args.geometry.now c.args.group.now c.cut_packet-packet.result.items n
     (rw (c.packet_count-number-end.ensures.count, c.length_of_packets-length.ensures)
     at c.loop-number-test.true)
@@ -36,7 +36,7 @@ returns-in_err-write_whole g c =
     let n = c.loop-number.number in
     let all = packets_at c.args.geometry.now c.args.group.now in
     let text : c.as_slice.result.now ≡ packet_line c.cut_packet-packet.result.items =
-    c.as_slice.ensures.value ∙ c.packet_text.ensures in
+    c.as_slice.ensures.value ∙ c.set_packet_text.ensures in
     let more = packets-more c.args.geometry.now c.args.group.now c.cut_packet-packet.result.items n
     (rw (c.packet_count-number-end.ensures.count, c.length_of_packets-length.ensures)
     at c.loop-number-test.true)

@@ -5,7 +5,7 @@ use Rattle.mot_lines.specs.Listing.{listing_text}
 use Rattle.mot_lines.specs.Text.{packet_line}
 use Rattle.std.specs.List.{flat_map}
 use Rattle.mot_lines.proofs.Laws.{listing_text-beside}
-use Rattle.mot_session.specs.Inner.Writes.{Writes}
+use Rattle.mot_session.specs.Output.{Writes}
 use Rattle.mot_session.specs.Raw.{packets_at}
 use Rattle.mot_session.specs.Session.{accepted, listing, packets, refused, text_of}
 use Rattle.mot_session.specs.State.{state_of}
@@ -40,12 +40,12 @@ returns-in-Listing-clause-answers g c = rw c.in-Listing.is (λ before request s 
     ap listing_text_beside c.carousel.ensures.value
     ∙ listing_text-beside c.args.server.now.view.carousel agrees.bodies agrees.are_bodies
     ∙ ap listing_text (sym agrees.carousel) in
-    AnswersRequest-written c.write_carousel.result before
+    AnswersRequest-written c.write_listing.result before
     (state_of c.args.server.now s (g.D.Disk.state c.args.server.now.disk)) request
     (listing s.carousel) _ _ refl d
-    (subst (λ t. Writes c.write_carousel.result t
-    (g.W.Write.contents c.args.writer.now) (g.W.Write.contents c.write_carousel.new.writer))
-    text c.write_carousel.ensures))
+    (subst (λ t. Writes c.write_listing.result t
+    (g.W.Write.contents c.args.writer.now) (g.W.Write.contents c.write_listing.new.writer))
+    text c.write_listing.ensures))
 
 pub returns-in-Packets-clause-answers : goal.returns-in-Packets-clause-answers
 unfolding text_of
@@ -72,10 +72,10 @@ returns-in-Accepted-clause-anyhow g c = rw c.in-Accepted.is (λ old before reque
 
 pub returns-in-Listing-clause-anyhow : goal.returns-in-Listing-clause-anyhow
 returns-in-Listing-clause-anyhow g c = rw c.in-Listing.is (λ old before request d.
-    anyhow-written old c.args.server.now.view before _ c.write_carousel.result request _ _ _ d
-    (subst (λ t. Writes c.write_carousel.result t
-    (g.W.Write.contents c.args.writer.now) (g.W.Write.contents c.write_carousel.new.writer))
-    (ap listing_text_beside c.carousel.ensures.value) c.write_carousel.ensures))
+    anyhow-written old c.args.server.now.view before _ c.write_listing.result request _ _ _ d
+    (subst (λ t. Writes c.write_listing.result t
+    (g.W.Write.contents c.args.writer.now) (g.W.Write.contents c.write_listing.new.writer))
+    (ap listing_text_beside c.carousel.ensures.value) c.write_listing.ensures))
 
 pub returns-in-Packets-clause-anyhow : goal.returns-in-Packets-clause-anyhow
 returns-in-Packets-clause-anyhow g c = rw c.in-Packets.is (λ old before request d.

@@ -7,7 +7,7 @@ use Rattle.mot_lines.specs.Listing.{object_line_beside}
 use Rattle.mot_session.specs.Served.{WritesFront}
 use Rattle.mot_session.proofs.Fronts.{WritesFront-after, WritesFront-before}
 use Rattle.mot_session.proofs.Joined.{lines-more, lines-parts}
-use Rattle.mot_session.proofs.serving.reply.write_objects.Goals as goal
+use Rattle.mot_session.proofs.serving.listing.write_objects.Goals as goal
 
 pub loop-object-preserved : goal.loop-object-preserved
 loop-object-preserved g c =

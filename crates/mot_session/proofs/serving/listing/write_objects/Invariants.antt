@@ -2,7 +2,7 @@ use Rattle.std.proofs.Common.{take}
 use Rattle.std.specs.List.{flat_map}
 use Rattle.std.specs.Io.KnownBytes.{Appends}
 use Rattle.mot_lines.specs.Listing.{object_line_beside}
-use Rattle.mot_session.proofs.serving.reply.write_objects.Given as goal
+use Rattle.mot_session.proofs.serving.listing.write_objects.Given as goal
 
 abbrev pub invariant-loop-object : goal.invariant-loop-object
 invariant-loop-object g l =

@@ -4,7 +4,7 @@ use Rattle.std.proofs.lemmas.Result.{err_from_is_err_and}
 use Rattle.mot_lines.specs.Listing.{object_line_beside}
 use Rattle.mot_lines.specs.Listing.{numbers_line}
 use Rattle.mot_session.proofs.Fronts.{WritesFront-before, Writes-after}
-use Rattle.mot_session.proofs.serving.reply.write_carousel.Goals as goal
+use Rattle.mot_session.proofs.serving.listing.write_listing.Goals as goal
 
 pub returns-in_err-write_whole : goal.returns-in_err-write_whole
 returns-in_err-write_whole g c =
