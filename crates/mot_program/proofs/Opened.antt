@@ -1,7 +1,7 @@
 -- What is known of a disk that was just opened.
 use Rattle.std.proofs.Common.{◌≡◌, ℕ, List, Result, Ok, refl, sym, ◌∙◌, subst}
 use Rattle.std.specs.Prelude.{IsFalse}
-use Rattle.disk_store.specs.Disk.{State, IsHonestDisk, IsStill, Keeps, KeepsLength, Throughout}
+use Rattle.disk_store.specs.Disk.{State, IsHonestDisk, IsStill, Keeps, KeepsLength, OnlySyncs, Throughout}
 use Rattle.disk_store.proofs.Laws.{only_bytes, begins, joins, stays}
 use Rattle.mot_base.specs.Geometry.{packet_room}
 use Rattle.mot_base.specs.declared.refusal.Refusal.{Refusal}
@@ -57,19 +57,18 @@ opened_throughout start old P sound here still =
 pub opens_to : {D : Type 0} (state : D → State) (start : D) (server new : ServerView D)
     (P : ServerState → ServerState → Type 0)
     → ((disk : D) → (state disk).IsHonest → IsHonestDisk (state disk))
-    → KeepsLength (state start) (state server.disk)
+    → OnlySyncs (state start) (state server.disk)
     → ((state server.disk).IsHonest → IsOpened (state start) (state server.disk) server.view)
-    → ((state server.disk).IsHonest → IsStill (state start) (state server.disk))
     → IsFalse server.view.halted
     → ((s : Standing) → Agrees server.view s
     → place_in server s ≡ opened_place s.geometry.address (packet_room s.geometry)
     s.geometry.segment_size (turn_of_carousel s.carousel s.geometry.segment_size))
     → KeepsLength (state server.disk) (state new.disk)
     → Leads state server new P → OpensTo (state start) (state new.disk) P
-opens_to state start server new P sound opens opened still going at_start keeps leads s honest all =
+opens_to state start server new P sound opens opened going at_start keeps leads s honest all =
     let was = keeps.was_honest honest in
     let holds = opened_holds (state start) (state server.disk) server.view s
-    (sound start (opens.was_honest was)) all (opened was) was (sound server.disk was) (still was)
+    (sound start (opens.keeps.was_honest was)) all (opened was) was (sound server.disk was) (opens.still was)
     going in
     let led = leads s (record { agrees = holds.agrees; holds = λ _. holds }) honest in (
       state_of server s (state server.disk),
@@ -82,18 +81,17 @@ opens_to state start server new P sound opens opened still going at_start keeps 
 -- what was opened of a disk that stands for something holds it, and migrates it
 module _ {D : Type 0} (state : D → State) (start : D) (server new : ServerView D)
     (sound : (disk : D) → (state disk).IsHonest → IsHonestDisk (state disk))
-    (opens : KeepsLength (state start) (state server.disk))
+    (opens : OnlySyncs (state start) (state server.disk))
     (opened : (state server.disk).IsHonest
     → IsOpened (state start) (state server.disk) server.view)
-    (still : (state server.disk).IsHonest → IsStill (state start) (state server.disk))
     (going : IsFalse server.view.halted) (keeps : Keeps (state server.disk) (state new.disk)) where
   pub migrates_held : (s : Standing) → (state new.disk).IsHonest → AllAre s (state start)
       → Holds server.view s (state server.disk)
   migrates_held s honest each =
       let was = keeps.was_honest honest in
       opened_holds (state start) (state server.disk) server.view s
-      (sound start (opens.was_honest was)) each (opened was) was (sound server.disk was)
-      (still was) going
+      (sound start (opens.keeps.was_honest was)) each (opened was) was (sound server.disk was)
+      (opens.still was) going
 
   pub migrates_under : ((s : Standing) → Holds server.view s (state server.disk)
       → Throughout (state server.disk) (state new.disk) (IsOf s))
@@ -102,5 +100,5 @@ module _ {D : Type 0} (state : D → State) (start : D) (server new : ServerView
       let was = keeps.was_honest honest in
       joins (state start) (state server.disk) (state new.disk) (IsOf s) (IsOf s)
       (opened_throughout (state start) (state server.disk) (IsOf s)
-      (sound start (opens.was_honest was)) each (still was))
+      (sound start (opens.keeps.was_honest was)) each (opens.still was))
       (any s (migrates_held s honest each)) (λ image is. is)

@@ -1,8 +1,8 @@
 //! What `check` does.
-ghost use Rattle.std.specs.Prelude.{◌≡◌, ◌↔◌, ◌≤◌, ◌++◌, ℕ, Bool, List, IsTrue, IsFalse, Ok, OnOk};
+ghost use Rattle.std.specs.Prelude.{◌≡◌, ◌↔◌, ◌++◌, ℕ, Bool, List, IsTrue, IsFalse, Ok, OnOk};
 ghost use Rattle.std.specs.Prelude.{IfErr, ◌⊎◌};
 ghost use Rattle.std.specs.Io.KnownBytes.{Appends, Keeps};
-ghost use Rattle.disk_store.specs.Disk.{KeepsLength, IsUnchanged};
+ghost use Rattle.disk_store.specs.Disk.{KeepsLength, OnlyReads};
 ghost use Rattle.disk_store.specs.Failures.{Rises};
 ghost use Rattle.mot_base.specs.declared.refusal.Refusal.TheVariants.{DeviceFault, WriteFault};
 ghost use Rattle.mot_journal.specs.Image.{Standing, stands_for, IsClean};
@@ -65,10 +65,7 @@ pub(crate) fn check_disk<D: Disk, W: Write>(alloc: Global, disk: D, writer: &mut
 /// Prints what an open server keeps, whether its disk is clean, and its layout.
 fn report<D: Disk, W: Write>(server: &mut Server<D>, writer: &mut W) -> Result<(), Refusal>
     requires { IsFalse server.old.view.halted }
-    ensures keeps { KeepsLength (D.state server.old.disk) (D.state server.new.disk) }
-    ensures later { (D.state server.old.disk).failures ≤ (D.state server.new.disk).failures }
-    ensures unchanged { (D.state server.new.disk).IsHonest
-        → IsUnchanged (D.state server.old.disk) (D.state server.new.disk) }
+    ensures only_reads { OnlyReads (D.state server.old.disk) (D.state server.new.disk) }
     ensures told { OnOk result ((clean : Bool)
         × Appends (W.contents writer.old) (W.contents writer.new)
         (listing_text_beside server.old.view.carousel

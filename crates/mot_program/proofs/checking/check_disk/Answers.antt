@@ -24,7 +24,7 @@ returns-in-Err-clause-refused g c =
     subst (λ (e : _). IfErr e.result (λ r.
     StopsChecking r old old (state c.args.disk) (state e.disk)))
     (sym c.unopened.ensures) (record {
-      still = opens.still_refused;
+      still = opens.only_syncs.still;
       unreported = unread opens.refused (calm_refused _ _ _ opens.calm) (Keeps-refl _);
     })
 
@@ -38,7 +38,7 @@ still g c honest =
     let calls = c.report-result.ensures in
     let now = subst (λ d. (state d).IsHonest) c.into_disk.ensures honest in
     subst (λ d. IsStill (state c.args.disk) (state d)) (sym c.into_disk.ensures)
-    (still_unchanged _ _ _ (opens.still (calls.keeps.was_honest now)) (calls.unchanged now))
+    (still_unchanged _ _ _ (opens.only_syncs.still (calls.only_reads.keeps.was_honest now)) (calls.only_reads.unchanged now))
 
 pub returns-clause-refused : goal.returns-clause-refused
 returns-clause-refused g c =
@@ -52,7 +52,7 @@ returns-clause-refused g c =
         | inr failed ↦ unread (device failed.0
             (subst (λ d. Rises (state c.args.disk).failures (state d).failures)
             (sym c.into_disk.ensures)
-            (rises_later _ _ _ opens.later calls.later failed.1))) (λ other. absurd (other failed.0))
+            (rises_later _ _ _ opens.only_syncs.keeps.later calls.only_reads.keeps.later failed.1))) (λ other. absurd (other failed.0))
             failed.2
       ];
     }) calls.silent
@@ -68,9 +68,9 @@ returns-clause-done g c = OnOk-one c.report-result.result (λ told. record {
       let view = server.view in
       let opens = c.in-Ok.ensures in
       let now = subst (λ d. (state d).IsHonest) c.into_disk.ensures honest in
-      let was = c.report-result.ensures.keeps.was_honest now in
+      let was = c.report-result.ensures.only_reads.keeps.was_honest now in
       let opened = opens.opened was in
-      let same = (opens.still was).bytes in
+      let same = (opens.only_syncs.still was).bytes in
       let bytes = (state c.args.disk).bytes in
       let exact = told.2 opened.standing now (ap stands_for same ∙ opened.stands)
       (subst (StandsWhere view.journal) (sym same)

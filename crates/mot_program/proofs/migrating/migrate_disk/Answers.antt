@@ -24,9 +24,9 @@ returns-in-Err-clause-refused g c =
     (sym c.unopened.ensures) (refused opens.refused
     (calm_refused _ _ _ opens.calm)
     (λ s honest each. opened_throughout (state c.args.disk) (state c.in-Err.refused.disk) (IsOf s)
-    (g.met.D.Disk.sound c.args.disk (opens.keeps_refused.was_honest honest)) each
-    (opens.still_refused honest))
-    (λ other. opens.still_refused) (Keeps-refl _))
+    (g.met.D.Disk.sound c.args.disk (opens.only_syncs.keeps.was_honest honest)) each
+    (opens.only_syncs.still honest))
+    (λ other. opens.only_syncs.still) (Keeps-refl _))
 
 -- what was migrated, whether that was printed or not
 migrated : (g : given.Over) (c : goal.After-into_disk g)
@@ -39,14 +39,14 @@ migrated g c =
     let opens = c.in-Ok.ensures in
     let calls = c.in-Ok-migrate.ensures in
     record {
-      under = migrates_under state c.args.disk server after g.met.D.Disk.sound opens.keeps
-          opens.opened opens.still opens.going calls.keeps calls.any_moment;
+      under = migrates_under state c.args.disk server after g.met.D.Disk.sound opens.only_syncs
+          opens.opened opens.going calls.keeps calls.any_moment;
       rewritten = λ honest.
           let opened = opens.opened (calls.keeps.was_honest honest) in
           (with_records server.view.journal opened.records, opened.read, calls.rewritten.0);
       is_two = λ s honest each image left.
           let then = calls.ok s (migrates_held state c.args.disk server after g.met.D.Disk.sound
-          opens.keeps opens.opened opens.still opens.going calls.keeps s honest each) in
+          opens.only_syncs opens.opened opens.going calls.keeps s honest each) in
           let records = with_records after.view.journal then.records in (
             then.each image left,
             (records, (then.journal.each image left).read, calls.rewritten.1),
@@ -81,8 +81,8 @@ returns-in-Err-migrate-clause-refused g c =
     let opens = c.in-Ok.ensures in
     let calls = c.in-Err-migrate.ensures in
     let old = g.W.Write.contents c.args.writer.now in
-    let under = migrates_under state c.args.disk server after g.met.D.Disk.sound opens.keeps
-    opens.opened opens.still opens.going calls.keeps calls.any_moment in
+    let under = migrates_under state c.args.disk server after g.met.D.Disk.sound opens.only_syncs
+    opens.opened opens.going calls.keeps calls.any_moment in
     let calm : IsCalm c.in-Err-migrate.refusal start (state after.disk) = λ other.
     elim calls.untouched [
       | inl is ↦ absurd (other is)
@@ -92,9 +92,9 @@ returns-in-Err-migrate-clause-refused g c =
     (sym c.into_disk-in-Err-migrate.ensures) (elim calls.refused [
       | halted on is view same ↦ absurd (cc (on, opens.going))
       | no_memory off is view same ↦ refused (no_room is) calm under
-          (λ other honest. still_unchanged _ _ _ (opens.still (calls.keeps.was_honest honest)) same)
+          (λ other honest. still_unchanged _ _ _ (opens.only_syncs.still (calls.keeps.was_honest honest)) same)
           (Keeps-refl _)
       | failed off is rises view ↦ refused
-          (device is (rises_later _ _ _ opens.later calls.later rises)) calm under
+          (device is (rises_later _ _ _ opens.only_syncs.keeps.later calls.keeps.later rises)) calm under
           (λ other. absurd (other is)) (Keeps-refl _)
     ])

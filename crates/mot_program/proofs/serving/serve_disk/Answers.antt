@@ -21,7 +21,7 @@ returns-in-Err-clause-refused g c =
     (sym c.unopened.ensures) (unopened opens.refused (calm_refused _ _ _ opens.calm) (record {
       kept = Keeps-refl _;
       silent = Keeps-refl _;
-      still = opens.still_refused;
+      still = opens.only_syncs.still;
     }))
 
 pub returns-in-None-clause-done : goal.returns-in-None-clause-done
@@ -41,7 +41,7 @@ returns-in-None-clause-done g c =
       at_end = r.2;
       served = opens_to state c.args.disk c.in-Ok.server new
           (λ before after. Served (state new.disk) before after (lines_of r.0) old written)
-          g.met.D.Disk.sound opens.keeps opens.opened opens.still opens.going opens.at_start
+          g.met.D.Disk.sound opens.only_syncs opens.opened opens.going opens.at_start
           c.serve-fault.ensures.keeps r.4;
     })
 
@@ -67,7 +67,7 @@ returns-in-Some-clause-refused g c =
       kept = r.2;
       silent = r.3;
       still = subst (λ (d : _). (state d).IsHonest → IsStill (state c.args.disk) (state d))
-          (sym (ap (λ s. s.disk) r.1)) opens.still;
+          (sym (ap (λ s. s.disk) r.1)) opens.only_syncs.still;
     }))
     (λ is e. let r = calls.unread e in
     unread is (record {
@@ -75,7 +75,7 @@ returns-in-Some-clause-refused g c =
       taken = r.1;
       served = opens_to state c.args.disk server new
           (λ before after. Served (state new.disk) before after (whole_lines r.0) old written)
-          g.met.D.Disk.sound opens.keeps opens.opened opens.still opens.going opens.at_start
+          g.met.D.Disk.sound opens.only_syncs opens.opened opens.going opens.at_start
           calls.keeps r.3;
     }))
     (λ is e. let r = calls.unwritten e in
@@ -87,14 +87,14 @@ returns-in-Some-clause-refused g c =
         | inl led ↦ inl (opens_to state c.args.disk server new
             (λ before after.
             Stopped (state new.disk) before after (whole_lines r.0) count old written)
-            g.met.D.Disk.sound opens.keeps opens.opened opens.still opens.going opens.at_start
+            g.met.D.Disk.sound opens.only_syncs opens.opened opens.going opens.at_start
             calls.keeps led.0)
         | inr led ↦ inr (
           led.0,
           opens_to state c.args.disk server new
               (λ before after.
               Stopped (state new.disk) before after (lines_of r.0) count old written)
-              g.met.D.Disk.sound opens.keeps opens.opened opens.still opens.going opens.at_start
+              g.met.D.Disk.sound opens.only_syncs opens.opened opens.going opens.at_start
               calls.keeps led.1,
         )
       ];
