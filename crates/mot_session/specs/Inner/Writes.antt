@@ -16,8 +16,9 @@ use Rattle.mot_player.specs.Place.{Sent, request}
 use Rattle.mot_server.specs.Runs.{StandsAfterSome}
 use Rattle.mot_server.specs.Server.{ServerView}
 use Rattle.mot_session.specs.declared.serving.output.WriteFault.{WriteFault}
+use Rattle.mot_session.specs.Output.{Writes}
 use Rattle.mot_session.specs.Played.{FailsToSend, sent_line}
-use Rattle.mot_session.specs.Served.{BrokenOff, WritesFront}
+use Rattle.mot_session.specs.Served.{BrokenOff}
 use Rattle.mot_session.specs.Session.{Reply, Answers, Exchange, text_of}
 use Rattle.mot_session.specs.State.{KeepsCarousel, ServerState}
 use Rattle.mot_session.specs.Stored.{accepted_in, failed_in, is_accepting, is_failing}
