@@ -3,7 +3,7 @@ use Rattle.std.proofs.Common.{◌≡◌, ◌<◌, ◌≤◌, ℕ, List, length, 
 use Rattle.std.proofs.Math.Logic.{⊎_elim}
 use Rattle.std.specs.Prelude.{All, IfErr, IsFalse, OnOk}
 use Rattle.std.specs.Io.KnownBytes.{Appends}
-use Rattle.disk_store.specs.Disk.{IsHonestDisk, IsStill, IsUnchanged, KeepsLength, State}
+use Rattle.disk_store.specs.Disk.{IsHonestDisk, IsStill, State, OnlyReads, OnlySyncs}
 use Rattle.mot_air.specs.Exporting.{Exports, RebuildsByLines, StopsExporting, unprinted, unread}
 use Rattle.mot_air.specs.Inner.Printing.{IsPrintingFault}
 use Rattle.mot_air.proofs.Opened.{opened_holds, rises_later, still_unchanged}
@@ -32,16 +32,14 @@ rebuilds_by_lines image s bytes stands first limit empty few = (
 
 module _ {D : Type 0} (state : D → State) (disk : D) (server new : ServerView D)
     (sound : (d : D) → (state d).IsHonest → IsHonestDisk (state d))
-    (opens : KeepsLength (state disk) (state server.disk))
+    (opens : OnlySyncs (state disk) (state server.disk))
     (opened : (state server.disk).IsHonest → IsOpened (state disk) (state server.disk) server.view)
-    (still : (state server.disk).IsHonest → IsStill (state disk) (state server.disk))
-    (going : IsFalse server.view.halted) (keeps : KeepsLength (state server.disk) (state new.disk))
-    (unchanged : (state new.disk).IsHonest → IsUnchanged (state server.disk) (state new.disk))
+    (going : IsFalse server.view.halted) (reads : OnlyReads (state server.disk) (state new.disk))
     (before after : Option (List ℕ)) where
   still_all : (state new.disk).IsHonest → IsStill (state disk) (state new.disk)
   still_all honest =
       still_unchanged (state disk) (state server.disk) (state new.disk)
-      (still (keeps.was_honest honest)) (unchanged honest)
+      (opens.still (reads.keeps.was_honest honest)) (reads.unchanged honest)
 
   pub exports : (result : Result Unit Refusal)
       → ((s : Standing) → Holds server.view s (state server.disk) → (state new.disk).IsHonest
@@ -51,22 +49,21 @@ module _ {D : Type 0} (state : D → State) (disk : D) (server new : ServerView 
   exports (Ok done) written = record {
     still = still_all;
     printed = λ s honest all.
-        let was = keeps.was_honest honest in
+        let was = reads.keeps.was_honest honest in
         written s (opened_holds (state disk) (state server.disk) server.view s
-        (sound disk (opens.was_honest was)) all (opened was) was (sound server.disk was)
-        (still was) going) honest;
+        (sound disk (opens.keeps.was_honest was)) all (opened was) was (sound server.disk was)
+        (opens.still was) going) honest;
     rebuilds = λ s honest all.
-        let first = sound disk (opens.was_honest (keeps.was_honest honest)) in
+        let first = sound disk (opens.keeps.was_honest (reads.keeps.was_honest honest)) in
         let bytes = (state disk).bytes in
         rebuilds_by_lines bytes s (first.images bytes first.bytes).are_bytes
         (all bytes first.bytes).stands;
   }
 
-  pub stops : (result : Result Unit Refusal) → (state disk).failures ≤ (state server.disk).failures
-      → (state server.disk).failures ≤ (state new.disk).failures
+  pub stops : (result : Result Unit Refusal)
       → IfErr result (λ r. IsPrintingFault r (state server.disk).failures (state new.disk).failures)
       → IfErr result (λ r. StopsExporting r before after (state disk) (state new.disk))
-  stops (Ok done) first second why = tt
-  stops (Err refusal) first second why =
+  stops (Ok done) why = tt
+  stops (Err refusal) why =
       ⊎_elim (λ is. unprinted is still_all)
-      (λ failed. unread failed.0 (rises_later _ _ _ first second failed.1) still_all) why
+      (λ failed. unread failed.0 (rises_later _ _ _ opens.keeps.later reads.keeps.later failed.1) still_all) why

@@ -1,12 +1,12 @@
 -- A disk inspected, from its opening on.
-use Rattle.std.proofs.Common.{◌≡◌, ◌∙◌, ◌≤◌, ℕ, suc, ◌+◌, List, [], ◌∷◌, ◌++◌, length, map, Option}
+use Rattle.std.proofs.Common.{◌≡◌, ◌∙◌, ℕ, suc, ◌+◌, List, [], ◌∷◌, ◌++◌, length, map, Option}
 use Rattle.std.proofs.Common.{Result, Ok, Err, refl, sym, ap, subst, arith}
 use Rattle.std.proofs.Math.Logic.{⊎_elim}
 use Rattle.std.proofs.lemmas.List.Sums.{sum_by-append}
 use Rattle.std.specs.Prelude.{IfErr, IsFalse, OnOk}
 use Rattle.std.specs.List.{fold, sum_by}
 use Rattle.std.specs.Io.KnownBytes.{Appends}
-use Rattle.disk_store.specs.Disk.{IsHonestDisk, IsStill, IsUnchanged, KeepsLength, State}
+use Rattle.disk_store.specs.Disk.{IsHonestDisk, IsStill, State, OnlyReads, OnlySyncs}
 use Rattle.mot_air.specs.Inspecting.{Inspects, StopsInspecting, bytes_of_all, bytes_of_bodies}
 use Rattle.mot_air.specs.Inspecting.{inspection_text, rates_text, sizes_text, turn_text, use_text}
 use Rattle.mot_air.specs.Inspecting.{uncounted, unprinted, unread}
@@ -98,18 +98,16 @@ module _ (view : RepositoryView) (s : Standing) (agrees : Agrees view s) where
 
 module _ {D : Type 0} (state : D → State) (disk : D) (server new : ServerView D)
     (sound : (d : D) → (state d).IsHonest → IsHonestDisk (state d))
-    (opens : KeepsLength (state disk) (state server.disk))
+    (opens : OnlySyncs (state disk) (state server.disk))
     (opened : (state server.disk).IsHonest → IsOpened (state disk) (state server.disk) server.view)
-    (still : (state server.disk).IsHonest → IsStill (state disk) (state server.disk))
     (going : IsFalse server.view.halted)
     (at_start : (s : Standing) → Agrees server.view s → place_in server s ≡ first_place s)
-    (keeps : KeepsLength (state server.disk) (state new.disk))
-    (unchanged : (state new.disk).IsHonest → IsUnchanged (state server.disk) (state new.disk))
+    (reads : OnlyReads (state server.disk) (state new.disk))
     (before after : Option (List ℕ)) where
   still_all : (state new.disk).IsHonest → IsStill (state disk) (state new.disk)
   still_all honest =
       still_unchanged (state disk) (state server.disk) (state new.disk)
-      (still (keeps.was_honest honest)) (unchanged honest)
+      (opens.still (reads.keeps.was_honest honest)) (reads.unchanged honest)
 
   pub inspects : (result : Result Unit Refusal)
       → ((s : Standing) → Holds server.view s (state server.disk) → (state new.disk).IsHonest
@@ -119,10 +117,10 @@ module _ {D : Type 0} (state : D → State) (disk : D) (server new : ServerView 
   inspects (Ok done) told = record {
     still = still_all;
     told = λ s honest all.
-        let was = keeps.was_honest honest in
+        let was = reads.keeps.was_honest honest in
         let first = opened was in
         let holds = opened_holds (state disk) (state server.disk) server.view s
-        (sound disk (opens.was_honest was)) all first was (sound server.disk was) (still was) going in
+        (sound disk (opens.keeps.was_honest was)) all first was (sound server.disk was) (opens.still was) going in
         let has = told s holds honest in
         record {
           journal = with_records server.view.journal first.records;
@@ -139,14 +137,13 @@ module _ {D : Type 0} (state : D → State) (disk : D) (server new : ServerView 
         };
   }
 
-  pub stops : (result : Result Unit Refusal) → (state disk).failures ≤ (state server.disk).failures
-      → (state server.disk).failures ≤ (state new.disk).failures
+  pub stops : (result : Result Unit Refusal)
       → IfErr result (λ r. IsInspectingFault r (state server.disk).failures
       (state new.disk).failures before after)
       → IfErr result (λ r. StopsInspecting r before after (state disk) (state new.disk))
-  stops (Ok done) first second why = tt
-  stops (Err refusal) first second why =
+  stops (Ok done) why = tt
+  stops (Err refusal) why =
       ⊎_elim (λ is. unprinted is still_all)
       (λ silent. ⊎_elim (λ is. uncounted is silent.1 still_all)
-      (λ failed. unread failed.0 (rises_later _ _ _ first second failed.1) silent.1 still_all)
+      (λ failed. unread failed.0 (rises_later _ _ _ opens.keeps.later reads.keeps.later failed.1) silent.1 still_all)
       silent.0) why

@@ -2,7 +2,7 @@
 use Rattle.std.proofs.Common.{◌≡◌, ◌∙◌, ◌<◌, arith, ℕ, Bool, true, List, Option, None, Result, Ok, Err, subst}
 use Rattle.std.specs.Prelude.{IsFalse, OnOk, IfErr}
 use Rattle.std.proofs.lemmas.Bool.Decides.{nat_tests}
-use Rattle.disk_store.specs.Disk.{State, IsHonestDisk, IsStill, KeepsLength}
+use Rattle.disk_store.specs.Disk.{State, IsHonestDisk, KeepsLength, OnlySyncs}
 use Rattle.mot_air.specs.Playing.{HasPlayed, Plays, StopsPlaying}
 use Rattle.mot_air.specs.Playing.{first_place}
 use Rattle.mot_air.specs.Playing.{stopped}
@@ -26,9 +26,8 @@ some_room g is = grind (arith, nat_tests)
 
 module _ {D : Type 0} (state : D → State) (disk : D) (server new : ServerView D)
     (sound : (d : D) → (state d).IsHonest → IsHonestDisk (state d))
-    (opens : KeepsLength (state disk) (state server.disk))
+    (opens : OnlySyncs (state disk) (state server.disk))
     (opened : (state server.disk).IsHonest → IsOpened (state disk) (state server.disk) server.view)
-    (still : (state server.disk).IsHonest → IsStill (state disk) (state server.disk))
     (calm : (state server.disk).failures ≡ (state disk).failures)
     (going : IsFalse server.view.halted)
     (at_start : (s : Standing) → Agrees server.view s → place_in server s ≡ first_place s)
@@ -40,7 +39,7 @@ module _ {D : Type 0} (state : D → State) (disk : D) (server new : ServerView 
   holds_opened s honest all =
       let was = keeps.was_honest honest in
       opened_holds (state disk) (state server.disk) server.view s
-      (sound disk (opens.was_honest was)) all (opened was) was (sound server.disk was) (still was)
+      (sound disk (opens.keeps.was_honest was)) all (opened was) was (sound server.disk was) (opens.still was)
       going
 
   room : (s : Standing) → Agrees server.view s → 0 < packet_room s.geometry
@@ -67,8 +66,8 @@ module _ {D : Type 0} (state : D → State) (disk : D) (server new : ServerView 
         marks = fed.marks;
         accepted = fed.accepted;
         leaves = opened_leaves (state disk) (state server.disk) (state new.disk) server.view
-            new.view s fed.commands fed.marks fault (sound disk (opens.was_honest was)) all
-            (still was) fed.leaves;
+            new.view s fed.commands fed.marks fault (sound disk (opens.keeps.was_honest was)) all
+            (opens.still was) fed.leaves;
         are = are;
         continuous = continuous s.geometry.objects s.geometry.segment_size s.carousel last.carousel
             s.geometry.address (packet_room s.geometry)

@@ -4,7 +4,7 @@ use Rattle.std.proofs.Common.{Option, Some, None, Result, Ok, Err, not, refl, sy
 use Rattle.std.proofs.Common.{append-nil}
 use Rattle.std.specs.Io.KnownBytes.{Appends}
 use Rattle.std.specs.Prelude.{◌⊎◌, IfErr, IfOk, IsFalse, OnOk}
-use Rattle.disk_store.specs.Disk.{State, IsHonestDisk, IsStill, KeepsLength}
+use Rattle.disk_store.specs.Disk.{State, IsHonestDisk, KeepsLength, OnlySyncs}
 use Rattle.mot_air.specs.Inner.Looked.{LooksAndTells}
 use Rattle.mot_air.specs.Inner.Looked as looks
 use Rattle.mot_air.specs.Syncing.{HasSynced, HasUpdated, IsBrokenOff, IsEqual, StopsSyncing, Syncs, SyncsAndTells}
@@ -46,9 +46,8 @@ all_accepted (c ∷ commands) (false ∷ marks) all whole = absurd (let e : fals
 
 module _ {D : Type 0} (state : D → State) (disk : D) (server new : ServerView D)
     (sound : (d : D) → (state d).IsHonest → IsHonestDisk (state d))
-    (opens : KeepsLength (state disk) (state server.disk))
+    (opens : OnlySyncs (state disk) (state server.disk))
     (opened : (state server.disk).IsHonest → IsOpened (state disk) (state server.disk) server.view)
-    (still : (state server.disk).IsHonest → IsStill (state disk) (state server.disk))
     (calm : (state server.disk).failures ≡ (state disk).failures)
     (going : IsFalse server.view.halted) (valid : is_valid server.view.journal.geometry ≡ true)
     (keeps : KeepsLength (state server.disk) (state new.disk)) where
@@ -57,13 +56,13 @@ module _ {D : Type 0} (state : D → State) (disk : D) (server new : ServerView 
   holds_opened s honest all =
       let was = keeps.was_honest honest in
       opened_holds (state disk) (state server.disk) server.view s
-      (sound disk (opens.was_honest was)) all (opened was) was (sound server.disk was) (still was)
+      (sound disk (opens.keeps.was_honest was)) all (opened was) was (sound server.disk was) (opens.still was)
       going
 
   sound_carousel : (s : Standing) → (state new.disk).IsHonest → AllAre s (state disk)
       → IsSound s.carousel
   sound_carousel s honest all =
-      let first = sound disk (opens.was_honest (keeps.was_honest honest)) in
+      let first = sound disk (opens.keeps.was_honest (keeps.was_honest honest)) in
       let bytes = (state disk).bytes in
       (standings-are_sound bytes s (first.images bytes first.bytes).are_bytes
       (all bytes first.bytes).stands).0
@@ -106,7 +105,7 @@ module _ {D : Type 0} (state : D → State) (disk : D) (server new : ServerView 
         entries,
         synced.unlisted (ap not refused) (opened_leaves (state disk) (state server.disk)
             (state new.disk) server.view new.view s [] [] None
-            (sound disk (opens.was_honest was)) all (still was) run.leaves) are,
+            (sound disk (opens.keeps.was_honest was)) all (opens.still was) run.leaves) are,
         told,
       )
   has_synced s path report fault honest all (listed names looked tells) =
@@ -121,7 +120,7 @@ module _ {D : Type 0} (state : D → State) (disk : D) (server new : ServerView 
           marks = looked.runs.marks;
           leaves = opened_leaves (state disk) (state server.disk) (state new.disk) server.view
               new.view s looked.runs.commands looked.runs.marks fault
-              (sound disk (opens.was_honest was)) all (still was) looked.runs.run.leaves;
+              (sound disk (opens.keeps.was_honest was)) all (opens.still was) looked.runs.run.leaves;
           answers = looked.runs.answers;
           answered = looked.runs.told;
         }) (equal (not report.any_refused) fault looked) tells.are,

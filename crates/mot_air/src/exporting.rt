@@ -2,7 +2,7 @@
 ghost use Rattle.std.specs.Prelude.{◌≡◌, ◌≤◌, ◌<◌, Some, length, vec_len, IfErr, IsFalse, OnOk};
 ghost use Rattle.std.specs.Prelude.{slice_get};
 ghost use Rattle.std.specs.Io.KnownBytes.{Appends};
-ghost use Rattle.disk_store.specs.Disk.{IsUnchanged, KeepsLength};
+ghost use Rattle.disk_store.specs.Disk.{KeepsLength, OnlyReads};
 ghost use Rattle.hex.specs.Hex.{encode_lower};
 ghost use Rattle.mot_air.specs.Exporting.{Exports, StopsExporting};
 ghost use Rattle.mot_air.specs.Inner.Printing.{IsPrintingFault};
@@ -47,10 +47,7 @@ pub fn export_disk<D: Disk, W: Write>(alloc: Global, disk: D, writer: &mut W) ->
 /// Writes the lines of an open server's carousel.
 fn write_export<D: Disk, W: Write>(server: &mut Server<D>, writer: &mut W) -> Result<(), Refusal>
     requires { IsFalse server.old.view.halted }
-    ensures keeps { KeepsLength (D.state server.old.disk) (D.state server.new.disk) }
-    ensures later { (D.state server.old.disk).failures ≤ (D.state server.new.disk).failures }
-    ensures unchanged { (D.state server.new.disk).IsHonest
-        → IsUnchanged (D.state server.old.disk) (D.state server.new.disk) }
+    ensures only_reads { OnlyReads (D.state server.old.disk) (D.state server.new.disk) }
     ensures written { (s : Standing) → Holds server.old.view s (D.state server.old.disk)
         → (D.state server.new.disk).IsHonest → OnOk result (Appends (W.contents writer.old)
         (W.contents writer.new) (export_text s.carousel)) }
@@ -87,11 +84,8 @@ fn write_object<D: Disk, W: Write>(
 ) -> Result<(), Refusal>
     requires place { place < vec_len server.old.view.carousel.objects }
     requires going { IsFalse server.old.view.halted }
-    ensures keeps { KeepsLength (D.state server.old.disk) (D.state server.new.disk) }
-    ensures later { (D.state server.old.disk).failures ≤ (D.state server.new.disk).failures }
+    ensures only_reads { OnlyReads (D.state server.old.disk) (D.state server.new.disk) }
     ensures view { server.new.view ≡ server.old.view }
-    ensures unchanged { (D.state server.new.disk).IsHonest
-        → IsUnchanged (D.state server.old.disk) (D.state server.new.disk) }
     ensures written { (s : Standing) (o : whole.Object)
         → Holds server.old.view s (D.state server.old.disk) → (D.state server.new.disk).IsHonest
         → slice_get s.carousel.objects place ≡ Some o → OnOk result
@@ -161,11 +155,8 @@ fn write_body<D: Disk, W: Write>(
 ) -> Result<(), Refusal>
     requires place { place < vec_len server.old.view.carousel.objects }
     requires going { IsFalse server.old.view.halted }
-    ensures keeps { KeepsLength (D.state server.old.disk) (D.state server.new.disk) }
-    ensures later { (D.state server.old.disk).failures ≤ (D.state server.new.disk).failures }
+    ensures only_reads { OnlyReads (D.state server.old.disk) (D.state server.new.disk) }
     ensures view { server.new.view ≡ server.old.view }
-    ensures unchanged { (D.state server.new.disk).IsHonest
-        → IsUnchanged (D.state server.old.disk) (D.state server.new.disk) }
     ensures written { (s : Standing) → Holds server.old.view s (D.state server.old.disk)
         → (D.state server.new.disk).IsHonest → OnOk result (Appends (W.contents writer.old)
         (W.contents writer.new) (encode_lower (body_at s.carousel.objects place))) }

@@ -2,7 +2,7 @@
 ghost use Rattle.std.specs.Prelude.{◌≡◌, ◌≤◌, ◌<◌, ◌^◌, ℕ, IfErr, IfOk, IsFalse, OnOk, length};
 ghost use Rattle.std.specs.List.{sum_by};
 ghost use Rattle.std.specs.Io.KnownBytes.{Appends};
-ghost use Rattle.disk_store.specs.Disk.{IsUnchanged, KeepsLength};
+ghost use Rattle.disk_store.specs.Disk.{KeepsLength, OnlyReads};
 ghost use Rattle.mot_air.specs.Inspecting.{Inspects, StopsInspecting, data_text, number_line};
 ghost use Rattle.mot_air.specs.Inspecting.{rates_text, seconds_line, shares_line, sizes_text};
 ghost use Rattle.mot_air.specs.Inspecting.{turn_text, use_text};
@@ -58,10 +58,7 @@ fn write_inspection<D: Disk, W: Write>(
     writer: &mut W,
 ) -> Result<(), Refusal>
     requires { IsFalse server.old.view.halted }
-    ensures keeps { KeepsLength (D.state server.old.disk) (D.state server.new.disk) }
-    ensures later { (D.state server.old.disk).failures ≤ (D.state server.new.disk).failures }
-    ensures unchanged { (D.state server.new.disk).IsHonest
-        → IsUnchanged (D.state server.old.disk) (D.state server.new.disk) }
+    ensures only_reads { OnlyReads (D.state server.old.disk) (D.state server.new.disk) }
     ensures told { (s : Standing) → Holds server.old.view s (D.state server.old.disk)
         → (D.state server.new.disk).IsHonest → OnOk result
         (HasTold server.old.view.journal (place_in server.old s) s
@@ -84,11 +81,8 @@ fn write_inspection<D: Disk, W: Write>(
 /// can't be read, and `BadNumber` for more packets than are counted.
 fn count_turn<D: Disk>(server: &mut Server<D>) -> Result<TurnSize, Refusal>
     requires { IsFalse server.old.view.halted }
-    ensures keeps { KeepsLength (D.state server.old.disk) (D.state server.new.disk) }
-    ensures later { (D.state server.old.disk).failures ≤ (D.state server.new.disk).failures }
+    ensures only_reads { OnlyReads (D.state server.old.disk) (D.state server.new.disk) }
     ensures view { server.new.view ≡ server.old.view }
-    ensures unchanged { (D.state server.new.disk).IsHonest
-        → IsUnchanged (D.state server.old.disk) (D.state server.new.disk) }
     ensures counted { (s : Standing) → Holds server.old.view s (D.state server.old.disk)
         → (D.state server.new.disk).IsHonest → IfOk result
         (λ size. IsTurnSize (place_in server.old s) size.packets size.bytes) }

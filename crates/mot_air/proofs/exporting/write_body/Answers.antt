@@ -6,8 +6,8 @@ use Rattle.std.proofs.lemmas.List.{take_all}
 use Rattle.hex.specs.Hex.{encode_lower}
 use Rattle.mot_air.proofs.Printed.{digits-more, digits-none}
 use Rattle.mot_repository.specs.Repository.{body_at}
-use Rattle.mot_server.proofs.Laws.{holds_still, keeps_on, unchanged_on}
-use Rattle.mot_update.proofs.Still.{stays_same}
+use Rattle.disk_store.proofs.Laws.{reads_none, reads_on}
+use Rattle.mot_server.proofs.Laws.{holds_still}
 use Rattle.mot_air.proofs.exporting.write_body.Goals as goal
 
 pub loop-from-init : goal.loop-from-init
@@ -16,10 +16,8 @@ loop-from-init g c =
     let known = g.W.Write.contents c.args.writer.now in
     record {
       within = omega arith;
-      keeps = record { len = refl; was_honest = λ honest. honest };
-      later = omega arith;
+      reads = reads_none state;
       view = refl;
-      unchanged = λ honest. stays_same state;
       written = λ s holds honest. subst (Appends known known) (sym digits-none) (Appends-nil known);
     }
 
@@ -33,17 +31,12 @@ loop-from-preserved g c =
     let one = c.in_ok-read_body.ensures in
     record {
       within = let h = c.min-count.ensures in let t = c.loop-from-test.true in omega (arith, h, t);
-      keeps = keeps_on (state old.disk) (state mid.disk) (state new.disk) is.keeps one.keeps;
-      later = omega (arith, is.later, one.later);
+      reads = reads_on (state old.disk) (state mid.disk) (state new.disk) is.reads one.only_reads;
       view = one.view ∙ is.view;
-      unchanged = λ honest.
-          let was = one.keeps.was_honest honest in
-          unchanged_on (state old.disk) (state mid.disk) (state new.disk) (is.unchanged was)
-          (one.unchanged honest);
       written = λ s holds honest.
-          let was = one.keeps.was_honest honest in
+          let was = one.only_reads.keeps.was_honest honest in
           let held = holds_still old.view mid.view s (state old.disk) (state mid.disk) holds was
-          (is.unchanged was) is.view in
+          (is.reads.unchanged was) is.view in
           let body = body_at s.carousel.objects c.args.place in
           let min = c.min-count.ensures in
           let long = c.min-count.array_long in

@@ -1,6 +1,6 @@
 use Rattle.std.proofs.Common.{◌≡◌, ◌-◌, ◌≤◌, take}
 use Rattle.std.specs.Io.KnownBytes.{Appends}
-use Rattle.disk_store.specs.Disk.{IsUnchanged, KeepsLength}
+use Rattle.disk_store.specs.Disk.{OnlyReads}
 use Rattle.hex.specs.Hex.{encode_lower}
 use Rattle.mot_journal.specs.Image.{Standing}
 use Rattle.mot_repository.specs.Repository.{Holds, body_at}
@@ -9,11 +9,8 @@ use Rattle.mot_air.proofs.exporting.write_body.Given as goal
 abbrev pub invariant-loop-from : goal.invariant-loop-from
 invariant-loop-from g l = record {
   within : l.from ≤ l.length;
-  keeps : KeepsLength (g.D.Disk.state l.initial.server.disk) (g.D.Disk.state l.server.disk);
-  later : (g.D.Disk.state l.initial.server.disk).failures ≤ (g.D.Disk.state l.server.disk).failures;
+  reads : OnlyReads (g.D.Disk.state l.initial.server.disk) (g.D.Disk.state l.server.disk);
   view : l.server.view ≡ l.initial.server.view;
-  unchanged : (g.D.Disk.state l.server.disk).IsHonest
-      → IsUnchanged (g.D.Disk.state l.initial.server.disk) (g.D.Disk.state l.server.disk);
   written : (s : Standing) → Holds l.initial.server.view s (g.D.Disk.state l.initial.server.disk)
       → (g.D.Disk.state l.server.disk).IsHonest
       → Appends (g.W.Write.contents l.initial.writer) (g.W.Write.contents l.writer)

@@ -8,18 +8,16 @@ use Rattle.mot_lines.specs.Export.{period_line, put_line}
 use Rattle.mot_carousel.specs.Carousel as whole
 use Rattle.mot_carousel.specs.declared.carousel.Carousel.{Carousel}
 use Rattle.mot_repository.specs.Repository.{RepositoryView}
-use Rattle.mot_server.proofs.Laws.{holds_still, keeps_on, unchanged_on}
-use Rattle.mot_update.proofs.Still.{stays_same}
+use Rattle.disk_store.proofs.Laws.{reads_none, reads_on}
+use Rattle.mot_server.proofs.Laws.{holds_still}
 use Rattle.mot_air.proofs.exporting.write_export.Goals as goal
 
 pub loop-place-init : goal.loop-place-init
 loop-place-init g c =
     let state = g.D.Disk.state c.args.server.now.disk in
     record {
-      keeps = record { len = refl; was_honest = λ honest. honest };
-      later = omega arith;
+      reads = reads_none state;
       view = refl;
-      unchanged = λ honest. stays_same state;
       written = λ s holds honest. Appends-nil (g.W.Write.contents c.args.writer.now);
     }
 
@@ -33,17 +31,12 @@ loop-place-preserved g c =
     let is = c.loop-place.invariant in
     let one = c.in_ok-write_object.ensures in
     record {
-      keeps = keeps_on (state old.disk) (state mid.disk) (state new.disk) is.keeps one.keeps;
-      later = omega (arith, is.later, one.later);
+      reads = reads_on (state old.disk) (state mid.disk) (state new.disk) is.reads one.only_reads;
       view = one.view ∙ is.view;
-      unchanged = λ honest.
-          let was = one.keeps.was_honest honest in
-          unchanged_on (state old.disk) (state mid.disk) (state new.disk) (is.unchanged was)
-          (one.unchanged honest);
       written = λ s holds honest.
-          let was = one.keeps.was_honest honest in
+          let was = one.only_reads.keeps.was_honest honest in
           let held = holds_still old.view mid.view s (state old.disk) (state mid.disk) holds was
-          (is.unchanged was) is.view in
+          (is.reads.unchanged was) is.view in
           let count = c.len-place-end.ensures
           ∙ ap (λ (k : Carousel). vec_len k.objects) c.carousel.ensures.value
           ∙ old.view.carousel.objects.ok.0 in

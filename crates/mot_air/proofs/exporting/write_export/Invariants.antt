@@ -1,7 +1,7 @@
-use Rattle.std.proofs.Common.{◌≡◌, ◌≤◌, take}
+use Rattle.std.proofs.Common.{◌≡◌, take}
 use Rattle.std.specs.Io.KnownBytes.{Appends}
 use Rattle.std.specs.List.{flat_map}
-use Rattle.disk_store.specs.Disk.{IsUnchanged, KeepsLength}
+use Rattle.disk_store.specs.Disk.{OnlyReads}
 use Rattle.mot_lines.specs.Export.{put_line}
 use Rattle.mot_journal.specs.Image.{Standing}
 use Rattle.mot_repository.specs.Repository.{Holds}
@@ -9,11 +9,8 @@ use Rattle.mot_air.proofs.exporting.write_export.Given as goal
 
 abbrev pub invariant-loop-place : goal.invariant-loop-place
 invariant-loop-place g l = record {
-  keeps : KeepsLength (g.D.Disk.state l.initial.server.disk) (g.D.Disk.state l.server.disk);
-  later : (g.D.Disk.state l.initial.server.disk).failures ≤ (g.D.Disk.state l.server.disk).failures;
+  reads : OnlyReads (g.D.Disk.state l.initial.server.disk) (g.D.Disk.state l.server.disk);
   view : l.server.view ≡ l.initial.server.view;
-  unchanged : (g.D.Disk.state l.server.disk).IsHonest
-      → IsUnchanged (g.D.Disk.state l.initial.server.disk) (g.D.Disk.state l.server.disk);
   written : (s : Standing) → Holds l.initial.server.view s (g.D.Disk.state l.initial.server.disk)
       → (g.D.Disk.state l.server.disk).IsHonest
       → Appends (g.W.Write.contents l.initial.writer) (g.W.Write.contents l.writer)

@@ -1,19 +1,16 @@
 use Rattle.std.proofs.Common.{◌∙◌, [], ◌∷◌, ◌++◌, length-append, refl, arith}
 use Rattle.mot_air.proofs.Inspected.{bytes_more}
 use Rattle.mot_server.proofs.Laws.{HasPlayedTurn-ended, IsGoing-more, IsGoing-none, holds_still}
-use Rattle.mot_server.proofs.Laws.{keeps_on, unchanged_on}
+use Rattle.disk_store.proofs.Laws.{reads_none, reads_on}
 use Rattle.mot_server.specs.Server.{place_in}
-use Rattle.mot_update.proofs.Still.{stays_same}
 use Rattle.mot_air.proofs.inspecting.count_turn.Goals as goal
 
 pub loop-others-init : goal.loop-others-init
 loop-others-init g c =
     let state = g.D.Disk.state c.args.server.now.disk in
     record {
-      keeps = record { len = refl; was_honest = λ honest. honest };
-      later = omega arith;
+      reads = reads_none state;
       view = refl;
-      unchanged = λ honest. stays_same state;
       few = omega arith;
       going = λ s holds honest. ([], IsGoing-none (place_in c.args.server.now s), refl, refl);
     }
@@ -27,9 +24,9 @@ returns-then-ends_turn-clause-counted g c = λ s holds honest.
     let is = c.loop-others.invariant in
     let one = c.in_ok-packet.ensures in
     let packet = c.in_ok-packet.field-0.packet.items in
-    let was = one.keeps.was_honest honest in
+    let was = one.only_reads.keeps.was_honest honest in
     let held = holds_still old.view mid.view s (state old.disk) (state mid.disk) holds was
-    (is.unchanged was) is.view in
+    (is.reads.unchanged was) is.view in
     let so_far = is.going s holds was in
     let size = length-append so_far.0 (packet ∷ []) in
     let bytes = bytes_more so_far.0 packet in
@@ -58,16 +55,13 @@ loop-others-preserved g c =
     let fits = c.is_full.ensures.fits in
     let few = is.few in
     record {
-      keeps = keeps_on (state old.disk) (state mid.disk) (state new.disk) is.keeps one.keeps;
-      later = omega (arith, is.later, one.later);
+      reads = reads_on (state old.disk) (state mid.disk) (state new.disk) is.reads one.only_reads;
       view = one.view ∙ is.view;
-      unchanged = λ honest. unchanged_on (state old.disk) (state mid.disk) (state new.disk)
-          (is.unchanged (one.keeps.was_honest honest)) (one.unchanged honest);
       few = omega (arith, few, len, fits);
       going = λ s holds honest.
-          let was = one.keeps.was_honest honest in
+          let was = one.only_reads.keeps.was_honest honest in
           let held = holds_still old.view mid.view s (state old.disk) (state mid.disk) holds was
-          (is.unchanged was) is.view in
+          (is.reads.unchanged was) is.view in
           let so_far = is.going s holds was in
           let size = length-append so_far.0 (packet ∷ []) in
           let bytes = bytes_more so_far.0 packet in

@@ -1,5 +1,5 @@
 use Rattle.std.proofs.Common.{◌≡◌, ◌≤◌, ◌*◌, ℕ, List, length}
-use Rattle.disk_store.specs.Disk.{IsUnchanged, KeepsLength}
+use Rattle.disk_store.specs.Disk.{OnlyReads}
 use Rattle.mot_air.specs.Inspecting.{bytes_of_all}
 use Rattle.mot_journal.specs.Image.{Standing}
 use Rattle.mot_repository.specs.Repository.{Holds}
@@ -9,11 +9,8 @@ use Rattle.mot_air.proofs.inspecting.count_turn.Given as goal
 
 abbrev pub invariant-loop-others : goal.invariant-loop-others
 invariant-loop-others g l = record {
-  keeps : KeepsLength (g.D.Disk.state l.initial.server.disk) (g.D.Disk.state l.server.disk);
-  later : (g.D.Disk.state l.initial.server.disk).failures ≤ (g.D.Disk.state l.server.disk).failures;
+  reads : OnlyReads (g.D.Disk.state l.initial.server.disk) (g.D.Disk.state l.server.disk);
   view : l.server.view ≡ l.initial.server.view;
-  unchanged : (g.D.Disk.state l.server.disk).IsHonest
-      → IsUnchanged (g.D.Disk.state l.initial.server.disk) (g.D.Disk.state l.server.disk);
   few : l.bytes ≤ l.others * 96;
   going : (s : Standing) → Holds l.initial.server.view s (g.D.Disk.state l.initial.server.disk)
       → (g.D.Disk.state l.server.disk).IsHonest

@@ -13,7 +13,7 @@ returns-in-Err-clause-refused g c =
     let old = g.W.Write.contents c.args.writer.now in
     subst (λ (e : _). IfErr e.result (λ r. StopsInspecting r old old (state c.args.disk) (state e.disk)))
     (sym c.unopened.ensures)
-    (unopened (unopened_is _ (state c.args.disk) _ opens.refused opens.calm opens.still_refused)
+    (unopened (unopened_is _ (state c.args.disk) _ opens.refused opens.calm opens.only_syncs.still)
     (Keeps-refl old))
 
 pub returns-clause-done : goal.returns-clause-done
@@ -26,7 +26,7 @@ returns-clause-done g c =
     let new = g.W.Write.contents c.write_inspection-result.new.writer in
     subst (λ d. OnOk result (Inspects old new (state c.args.disk) (state d))) (sym c.into_disk.ensures)
     (inspects state c.args.disk c.in-Ok.server c.write_inspection-result.new.server g.met.D.Disk.sound
-    opens.keeps opens.opened opens.still opens.going opens.at_start calls.keeps calls.unchanged old new result
+    opens.only_syncs opens.opened opens.going opens.at_start calls.only_reads old new result
     calls.told)
 
 pub returns-clause-refused : goal.returns-clause-refused
@@ -40,5 +40,5 @@ returns-clause-refused g c =
     subst (λ d. IfErr result (λ r. StopsInspecting r old new (state c.args.disk) (state d)))
     (sym c.into_disk.ensures)
     (stops state c.args.disk c.in-Ok.server c.write_inspection-result.new.server g.met.D.Disk.sound
-    opens.keeps opens.opened opens.still opens.going opens.at_start calls.keeps calls.unchanged old new result
-    opens.later calls.later calls.fault)
+    opens.only_syncs opens.opened opens.going opens.at_start calls.only_reads old new result
+    calls.fault)

@@ -13,7 +13,7 @@ returns-in-Err-clause-refused g c =
     let writes = g.O.Outlet.writes c.args.outlet.now in
     subst (λ (e : _). IfErr e.result (λ r. StopsPlaying r g.U.Update.waits writes writes
     (state c.args.disk) (state e.disk))) (sym c.unopened.ensures)
-    (unopened (unopened_is _ (state c.args.disk) _ opens.refused opens.calm opens.still_refused)
+    (unopened (unopened_is _ (state c.args.disk) _ opens.refused opens.calm opens.only_syncs.still)
     (grows_nil writes))
 
 pub returns-clause-done : goal.returns-clause-done
@@ -26,8 +26,8 @@ returns-clause-done g c =
     let new = g.O.Outlet.writes c.feed-result.new.outlet in
     subst (λ d. OnOk result (Plays g.U.Update.waits c.args.turns old new (state c.args.disk) (state d)))
     (sym c.into_disk.ensures)
-    (plays state c.args.disk c.in-Ok.server c.feed-result.new.server g.met.D.Disk.sound opens.keeps
-    opens.opened opens.still opens.calm opens.going opens.at_start c.geometry.ensures.valid feeds.keeps
+    (plays state c.args.disk c.in-Ok.server c.feed-result.new.server g.met.D.Disk.sound opens.only_syncs
+    opens.opened opens.calm opens.going opens.at_start c.geometry.ensures.valid feeds.keeps
     feeds.continuous g.U.Update.waits c.args.turns old new result feeds.calm feeds.fed)
 
 pub returns-clause-refused : goal.returns-clause-refused
@@ -40,6 +40,6 @@ returns-clause-refused g c =
     let new = g.O.Outlet.writes c.feed-result.new.outlet in
     subst (λ d. IfErr result (λ r. StopsPlaying r g.U.Update.waits old new (state c.args.disk) (state d)))
     (sym c.into_disk.ensures)
-    (stops state c.args.disk c.in-Ok.server c.feed-result.new.server g.met.D.Disk.sound opens.keeps
-    opens.opened opens.still opens.calm opens.going opens.at_start c.geometry.ensures.valid feeds.keeps
+    (stops state c.args.disk c.in-Ok.server c.feed-result.new.server g.met.D.Disk.sound opens.only_syncs
+    opens.opened opens.calm opens.going opens.at_start c.geometry.ensures.valid feeds.keeps
     feeds.continuous g.U.Update.waits old new result feeds.fault feeds.part)

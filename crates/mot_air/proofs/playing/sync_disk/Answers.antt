@@ -12,7 +12,7 @@ returns-in-Err-clause-refused g c =
     subst (λ (e : _). IfErr e.result (λ r. StopsSyncing r c.args.folder.now
     (state c.args.disk) (state e.disk)))
     (sym c.unopened.ensures)
-    (unopened (unopened_is _ (state c.args.disk) _ opens.refused opens.calm opens.still_refused))
+    (unopened (unopened_is _ (state c.args.disk) _ opens.refused opens.calm opens.only_syncs.still))
 
 pub returns-clause-done : goal.returns-clause-done
 returns-clause-done g c =
@@ -26,7 +26,7 @@ returns-clause-done g c =
     subst (λ d. IfOk result (λ all. Syncs all folder old new (state c.args.disk) (state d)))
     (sym c.into_disk.ensures)
     (syncs state c.args.disk c.in-Ok.server c.look_and_tell-result.new.server g.met.D.Disk.sound
-    opens.keeps opens.opened opens.still opens.calm opens.going c.geometry.ensures.valid looks.keeps
+    opens.only_syncs opens.opened opens.calm opens.going c.geometry.ensures.valid looks.keeps
     folder old new result looks.calm looks.looked)
 
 pub returns-clause-refused : goal.returns-clause-refused
@@ -41,5 +41,5 @@ returns-clause-refused g c =
     subst (λ d. IfErr result (λ r. StopsSyncing r folder (state c.args.disk) (state d)))
     (sym c.into_disk.ensures)
     (stops state c.args.disk c.in-Ok.server c.look_and_tell-result.new.server g.met.D.Disk.sound
-    opens.keeps opens.opened opens.still opens.calm opens.going c.geometry.ensures.valid looks.keeps
+    opens.only_syncs opens.opened opens.calm opens.going c.geometry.ensures.valid looks.keeps
     folder old new result looks.fault looks.looked)
