@@ -11,6 +11,7 @@ use Rattle.mot_player.specs.Place.{opened_place}
 use Rattle.mot_player.specs.Turn.{turn_of_carousel}
 use Rattle.mot_program.specs.Report.{IsUnderMigration}
 use Rattle.mot_program.specs.Serving.{OpensTo}
+use Rattle.mot_repository.specs.OnDisk.{OnDisk}
 use Rattle.mot_repository.specs.Repository.{RepositoryView, Agrees, IsOf, Holds}
 use Rattle.mot_repository.specs.Opening.{IsOpened}
 use Rattle.mot_server.specs.Server.{ServerView, place_in}
@@ -79,26 +80,26 @@ opens_to state start server new P sound opens opened going at_start keeps leads 
     )
 
 -- what was opened of a disk that stands for something holds it, and migrates it
-module _ {D : Type 0} (state : D → State) (start : D) (server new : ServerView D)
+module _ {D : Type 0} (state : D → State) (start : D) (repository new : OnDisk D)
     (sound : (disk : D) → (state disk).IsHonest → IsHonestDisk (state disk))
-    (opens : OnlySyncs (state start) (state server.disk))
-    (opened : (state server.disk).IsHonest
-    → IsOpened (state start) (state server.disk) server.view)
-    (going : IsFalse server.view.halted) (keeps : Keeps (state server.disk) (state new.disk)) where
+    (opens : OnlySyncs (state start) (state repository.disk))
+    (opened : (state repository.disk).IsHonest
+    → IsOpened (state start) (state repository.disk) repository.view)
+    (going : IsFalse repository.view.halted) (keeps : Keeps (state repository.disk) (state new.disk)) where
   pub migrates_held : (s : Standing) → (state new.disk).IsHonest → AllAre s (state start)
-      → Holds server.view s (state server.disk)
+      → Holds repository.view s (state repository.disk)
   migrates_held s honest each =
       let was = keeps.was_honest honest in
-      opened_holds (state start) (state server.disk) server.view s
-      (sound start (opens.keeps.was_honest was)) each (opened was) was (sound server.disk was)
+      opened_holds (state start) (state repository.disk) repository.view s
+      (sound start (opens.keeps.was_honest was)) each (opened was) was (sound repository.disk was)
       (opens.still was) going
 
-  pub migrates_under : ((s : Standing) → Holds server.view s (state server.disk)
-      → Throughout (state server.disk) (state new.disk) (IsOf s))
+  pub migrates_under : ((s : Standing) → Holds repository.view s (state repository.disk)
+      → Throughout (state repository.disk) (state new.disk) (IsOf s))
       → IsUnderMigration (state start) (state new.disk)
   migrates_under any s honest each =
       let was = keeps.was_honest honest in
-      joins (state start) (state server.disk) (state new.disk) (IsOf s) (IsOf s)
-      (opened_throughout (state start) (state server.disk) (IsOf s)
+      joins (state start) (state repository.disk) (state new.disk) (IsOf s) (IsOf s)
+      (opened_throughout (state start) (state repository.disk) (IsOf s)
       (sound start (opens.keeps.was_honest was)) each (opens.still was))
       (any s (migrates_held s honest each)) (λ image is. is)

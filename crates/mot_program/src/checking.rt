@@ -17,7 +17,7 @@ use crate::printing::{write_bytes, write_last};
 use disk_store::{Disk, Start};
 use mot_base::Refusal;
 use mot_journal::Layout;
-use mot_server::Server;
+use mot_repository::Repository;
 use mot_session::write_listing;
 use std::alloc::Global;
 use std::io::Write;
@@ -51,38 +51,38 @@ pub(crate) fn check_disk<D: Disk, W: Write>(alloc: Global, disk: D, writer: &mut
     ensures refused { IfErr result.result (λ r. StopsChecking r
         (W.contents writer.old) (W.contents writer.new) (D.state disk) (D.state result.disk)) }
 {
-    let mut server = match Server::open(alloc, disk) {
-        Ok(server) => server,
+    let mut repository = match Repository::open(alloc, disk) {
+        Ok(repository) => repository,
         Err(refused) => return Ended::unopened(refused),
     };
-    let result = report(&mut server, writer);
+    let result = report(&mut repository, writer);
     Ended {
-        disk: server.into_disk(),
+        disk: repository.into_disk(),
         result,
     }
 }
 
-/// Prints what an open server keeps, whether its disk is clean, and its layout.
-fn report<D: Disk, W: Write>(server: &mut Server<D>, writer: &mut W) -> Result<(), Refusal>
-    requires { IsFalse server.old.view.halted }
-    ensures only_reads { OnlyReads (D.state server.old.disk) (D.state server.new.disk) }
+/// Prints what an open repository keeps, whether its disk is clean, and its layout.
+fn report<D: Disk, W: Write>(repository: &mut Repository<D>, writer: &mut W) -> Result<(), Refusal>
+    requires { IsFalse repository.old.view.halted }
+    ensures only_reads { OnlyReads (D.state repository.old.disk) (D.state repository.new.disk) }
     ensures told { OnOk result ((clean : Bool)
         × Appends (W.contents writer.old) (W.contents writer.new)
-        (listing_text_beside server.old.view.carousel
-        ++ clean_line clean ++ layout_line server.old.view.journal.layout)
-        × ((s : Standing) → (D.state server.new.disk).IsHonest
-        → stands_for (D.state server.old.disk).bytes ≡ Ok s
-        → StandsWhere server.old.view.journal (D.state server.old.disk).bytes
-        → IsTrue clean ↔ IsClean (D.state server.old.disk).bytes)) }
+        (listing_text_beside repository.old.view.carousel
+        ++ clean_line clean ++ layout_line repository.old.view.journal.layout)
+        × ((s : Standing) → (D.state repository.new.disk).IsHonest
+        → stands_for (D.state repository.old.disk).bytes ≡ Ok s
+        → StandsWhere repository.old.view.journal (D.state repository.old.disk).bytes
+        → IsTrue clean ↔ IsClean (D.state repository.old.disk).bytes)) }
     ensures silent { IfErr result (λ r. (r ≡ WriteFault)
         ⊎ ((r ≡ DeviceFault)
-        × Rises (D.state server.old.disk).failures (D.state server.new.disk).failures
+        × Rises (D.state repository.old.disk).failures (D.state repository.new.disk).failures
         × Keeps (W.contents writer.old) (W.contents writer.new))) }
 {
-    let is_clean = server.is_clean()?;
-    write_listing(writer, server.carousel())?;
+    let is_clean = repository.is_clean()?;
+    write_listing(writer, repository.carousel())?;
     write_bytes(writer, clean_text(is_clean))?;
-    write_last(writer, layout_text(server.layout()))
+    write_last(writer, layout_text(repository.layout()))
 }
 
 /// Whether a disk is clean, as a line.

@@ -9,7 +9,7 @@ use crate::ended::{Ended, Finished};
 use crate::file::open_file;
 use crate::printing::write_last;
 use disk_store::{Disk, Start};
-use mot_server::Server;
+use mot_repository::Repository;
 use std::alloc::Global;
 use std::io::Write;
 
@@ -43,18 +43,18 @@ pub(crate) fn migrate_disk<D: Disk, W: Write>(alloc: Global, disk: D, writer: &m
     ensures refused { IfErr result.result (λ r. StopsMigrating r
         (W.contents writer.old) (W.contents writer.new) (D.state disk) (D.state result.disk)) }
 {
-    let mut server = match Server::open(alloc, disk) {
-        Ok(server) => server,
+    let mut repository = match Repository::open(alloc, disk) {
+        Ok(repository) => repository,
         Err(refused) => return Ended::unopened(refused),
     };
-    match server.migrate(alloc) {
+    match repository.migrate(alloc) {
         Ok(is_rewritten) => Ended {
             result: write_last(writer, migrated_text(is_rewritten)),
-            disk: server.into_disk(),
+            disk: repository.into_disk(),
         },
         Err(refusal) => Ended {
             result: Err(refusal),
-            disk: server.into_disk(),
+            disk: repository.into_disk(),
         },
     }
 }

@@ -1,4 +1,4 @@
-use Rattle.std.proofs.Common.{◌≡◌, ◌++◌, ◌∙◌, ap, subst}
+use Rattle.std.proofs.Common.{◌≡◌, ◌++◌, ◌∙◌, ap, inl, subst}
 use Rattle.std.specs.Io.KnownBytes.{Appends}
 use Rattle.std.proofs.KnownBytes.{Appends-trans}
 use Rattle.std.proofs.lemmas.Result.{err_from_is_err_and}
@@ -10,7 +10,7 @@ use Rattle.mot_program.proofs.checking.report.Goals as goal
 
 pub returns-clause-told : goal.returns-clause-told
 returns-clause-told g c =
-    let view = c.args.server.now.view in
+    let view = c.args.repository.now.view in
     let clean = c.in_ok-is_clean.is_clean in
     let told = c.carousel.result.now in
     let second = c.clean_text.result.now in
@@ -39,4 +39,5 @@ returns-clause-told g c =
 
 pub returns-in_err-write_listing-clause-silent : goal.returns-in_err-write_listing-clause-silent
 returns-in_err-write_listing-clause-silent g c =
-    err_from_is_err_and c.from_residual.result c.from_residual.ensures.1
+    let p = err_from_is_err_and c.from_residual-in_err-write_listing.result c.from_residual-in_err-write_listing.ensures.1 in
+    rw p.1 (inl p.2)

@@ -34,22 +34,22 @@ migrated : (g : given.Over) (c : goal.After-into_disk g)
     (g.D.Disk.state c.migrate.new.self.disk)
 migrated g c =
     let state = g.D.Disk.state in
-    let server = c.in-Ok.server in
+    let repository = c.in-Ok.repository in
     let after = c.migrate.new.self in
     let opens = c.in-Ok.ensures in
     let calls = c.in-Ok-migrate.ensures in
     record {
-      under = migrates_under state c.args.disk server after g.met.D.Disk.sound opens.only_syncs
+      under = migrates_under state c.args.disk repository after g.met.D.Disk.sound opens.only_syncs
           opens.opened opens.going calls.keeps calls.any_moment;
       rewritten = λ honest.
           let opened = opens.opened (calls.keeps.was_honest honest) in
-          (with_records server.view.journal opened.records, opened.read, calls.rewritten.0);
+          (with_records repository.view.journal opened.records, opened.read, calls.rewritten);
       is_two = λ s honest each image left.
-          let then = calls.ok s (migrates_held state c.args.disk server after g.met.D.Disk.sound
+          let then = calls.ok s (migrates_held state c.args.disk repository after g.met.D.Disk.sound
           opens.only_syncs opens.opened opens.going calls.keeps s honest each) in
           let records = with_records after.view.journal then.records in (
             then.each image left,
-            (records, (then.journal.each image left).read, calls.rewritten.1),
+            (records, (then.journal.each image left).read, calls.layout),
           );
     }
 
@@ -76,12 +76,12 @@ pub returns-in-Err-migrate-clause-refused : goal.returns-in-Err-migrate-clause-r
 returns-in-Err-migrate-clause-refused g c =
     let state = g.D.Disk.state in
     let start = state c.args.disk in
-    let server = c.in-Ok.server in
+    let repository = c.in-Ok.repository in
     let after = c.migrate.new.self in
     let opens = c.in-Ok.ensures in
     let calls = c.in-Err-migrate.ensures in
     let old = g.W.Write.contents c.args.writer.now in
-    let under = migrates_under state c.args.disk server after g.met.D.Disk.sound opens.only_syncs
+    let under = migrates_under state c.args.disk repository after g.met.D.Disk.sound opens.only_syncs
     opens.opened opens.going calls.keeps calls.any_moment in
     let calm : IsCalm c.in-Err-migrate.refusal start (state after.disk) = λ other.
     elim calls.untouched [
