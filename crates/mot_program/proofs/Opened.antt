@@ -88,7 +88,7 @@ module _ {D : Type 0} (state : D → State) (start : D) (server new : ServerView
   pub migrates_held : (s : Standing) → (state new.disk).IsHonest → AllAre s (state start)
       → Holds server.view s (state server.disk)
   migrates_held s honest each =
-      let was = keeps.was_honest honest in
+      let was = keeps.frame.was_honest honest in
       opened_holds (state start) (state server.disk) server.view s
       (sound start (opens.keeps.was_honest was)) each (opened was) was (sound server.disk was)
       (opens.still was) going
@@ -97,7 +97,7 @@ module _ {D : Type 0} (state : D → State) (start : D) (server new : ServerView
       → Throughout (state server.disk) (state new.disk) (IsOf s))
       → IsUnderMigration (state start) (state new.disk)
   migrates_under any s honest each =
-      let was = keeps.was_honest honest in
+      let was = keeps.frame.was_honest honest in
       joins (state start) (state server.disk) (state new.disk) (IsOf s) (IsOf s)
       (opened_throughout (state start) (state server.disk) (IsOf s)
       (sound start (opens.keeps.was_honest was)) each (opens.still was))
