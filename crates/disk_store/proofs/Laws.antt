@@ -114,10 +114,8 @@ keeps_none state = record { len = refl; later = omega arith; was_honest = λ hon
 
 pub keeps_all_on : (start mid now : State) → Keeps start mid → Keeps mid now → Keeps start now
 keeps_all_on start mid now first second = record {
-  len = second.len ∙ first.len;
-  later = omega (arith, first.later, second.later);
+  frame = keeps_on start mid now first.frame second.frame;
   honest = λ is. second.honest (first.honest is);
-  was_honest = λ is. first.was_honest (second.was_honest is);
 }
 
 pub unchanged_on : (start mid now : State) → IsUnchanged start mid → IsUnchanged mid now → IsUnchanged start now

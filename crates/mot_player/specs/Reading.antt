@@ -67,8 +67,7 @@ read_segments segments =
 -- objects' bodies
 unfoldable pub read_turn : List (List ℕ) → Option TurnFields
 read_turn packets =
-    gather packets >>= λ groups.
-    read_each read_group groups >>= λ fields.
+    gather packets >>= λ groups. read_each read_group groups >>= λ fields.
     read_segments (map (λ (g : GroupFields). g.segment) fields)
 
 -- the packets read as exactly this carousel, in segments of this size

@@ -89,7 +89,7 @@ module _ {D : Type 0} (state : D → State) (start : D) (repository new : OnDisk
   pub migrates_held : (s : Standing) → (state new.disk).IsHonest → AllAre s (state start)
       → Holds repository.view s (state repository.disk)
   migrates_held s honest each =
-      let was = keeps.was_honest honest in
+      let was = keeps.frame.was_honest honest in
       opened_holds (state start) (state repository.disk) repository.view s
       (sound start (opens.keeps.was_honest was)) each (opened was) was (sound repository.disk was)
       (opens.still was) going
@@ -98,7 +98,7 @@ module _ {D : Type 0} (state : D → State) (start : D) (repository new : OnDisk
       → Throughout (state repository.disk) (state new.disk) (IsOf s))
       → IsUnderMigration (state start) (state new.disk)
   migrates_under any s honest each =
-      let was = keeps.was_honest honest in
+      let was = keeps.frame.was_honest honest in
       joins (state start) (state repository.disk) (state new.disk) (IsOf s) (IsOf s)
       (opened_throughout (state start) (state repository.disk) (IsOf s)
       (sound start (opens.keeps.was_honest was)) each (opens.still was))

@@ -12,7 +12,7 @@ write-requires g c =
     let ends = slot_ends geometry c.args.half c.args.layout c.loop-number.number c.requires.two_halves (subst (λ n. c.loop-number.number < n) c.slot_count-number-end.ensures c.loop-number-test.true) in
     let size : length c.deref.result.now ≡ slot_size c.args.layout =
     ap length c.deref.ensures.0 ∙ c.slot_or_zeros.ensures.size geometry c.requires.sound in
-    omega (arith, c.place_of_slot-place.ensures.value, ends.1, size, c.requires.long_enough, c.loop-number.invariant.keeps.len)
+    omega (arith, c.place_of_slot-place.ensures.value, ends.1, size, c.requires.long_enough, c.loop-number.invariant.keeps.frame.len)
 
 pub returns-in_err-write-clause-range : goal.returns-in_err-write-clause-range
 returns-in_err-write-clause-range g c = λ honest.

@@ -78,7 +78,7 @@ returns-clause-ok g c = λ honest.
     let bytes = subst (λ l. slice_range wrote.bytes (at + 1) (at + 1 + length l) ≡ l) (tail_whole slot) (c.in_ok-write.ensures.bytes honest) in
     let sound3 = g.met.D.Disk.sound c.write-2.new.self honest3 in
     let long : length opened.bytes ≡ old.len =
-    omega (arith, (sound3.images opened.bytes sound3.bytes).len_is, c.write.ensures.keeps.len, c.sync.ensures.keeps.len, c.write-2.ensures.keeps.len) in
+    omega (arith, (sound3.images opened.bytes sound3.bytes).len_is, c.write.ensures.keeps.frame.len, c.sync.ensures.keeps.frame.len, c.write-2.ensures.keeps.frame.len) in
     let inside : at < length opened.bytes = omega (arith, long, c.requires.fits, c.requires.some) in
     written at slot c.requires.some old (g.met.D.Disk.sound c.args.disk.now honest) wrote writes (state c.sync.new.self)
     (c.sync.ensures.still honest1) bytes (g.met.D.Disk.sound c.sync.new.self honest2) (c.in_ok-sync.ensures.firm honest1)

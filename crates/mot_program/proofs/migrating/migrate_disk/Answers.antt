@@ -42,7 +42,7 @@ migrated g c =
       under = migrates_under state c.args.disk repository after g.met.D.Disk.sound opens.only_syncs
           opens.opened opens.going calls.keeps calls.any_moment;
       rewritten = λ honest.
-          let opened = opens.opened (calls.keeps.was_honest honest) in
+          let opened = opens.opened (calls.keeps.frame.was_honest honest) in
           (with_records repository.view.journal opened.records, opened.read, calls.rewritten);
       is_two = λ s honest each image left.
           let then = calls.ok s (migrates_held state c.args.disk repository after g.met.D.Disk.sound
@@ -92,9 +92,9 @@ returns-in-Err-migrate-clause-refused g c =
     (sym c.into_disk-in-Err-migrate.ensures) (elim calls.refused [
       | halted on is view same ↦ absurd (cc (on, opens.going))
       | no_memory off is view same ↦ refused (no_room is) calm under
-          (λ other honest. still_unchanged _ _ _ (opens.only_syncs.still (calls.keeps.was_honest honest)) same)
+          (λ other honest. still_unchanged _ _ _ (opens.only_syncs.still (calls.keeps.frame.was_honest honest)) same)
           (Keeps-refl _)
       | failed off is rises view ↦ refused
-          (device is (rises_later _ _ _ opens.only_syncs.keeps.later calls.keeps.later rises)) calm under
+          (device is (rises_later _ _ _ opens.only_syncs.keeps.later calls.keeps.frame.later rises)) calm under
           (λ other. absurd (other is)) (Keeps-refl _)
     ])

@@ -17,7 +17,7 @@ returns-clause-headline g c = λ honest blank left.
     let done = c.run-end.result.done.items in
     let all = accepted_commands c.args.commands.now done ++ commands_in_flight c.args.commands.now done c.run-end.result.fault in
     let run_honest = subst (λ d. (state d).IsHonest) c.into_disk.ensures honest in
-    let open_honest = run.keeps.was_honest run_honest in
+    let open_honest = run.keeps.frame.was_honest run_honest in
     let time = opens.any_moment open_honest blank in
     let leaves = run.leaves (new_standing c.args.geometry.now) (opens.holds open_honest) in
     ⊎_elim
@@ -34,7 +34,7 @@ returns-clause-acknowledged g c = λ honest left.
     let first = g.E.Disk.state c.args.left in
     let done = c.run-end.result.done.items in
     let run_honest = subst (λ d. (state d).IsHonest) c.into_disk.ensures honest in
-    let open_honest = c.run-end.ensures.keeps.was_honest run_honest in
+    let open_honest = c.run-end.ensures.keeps.frame.was_honest run_honest in
     let leaves = c.run-end.ensures.leaves (new_standing c.args.geometry.now) (c.in_ok-server.ensures.holds open_honest) in
     plays_after c.first_turn-after_crash.result (λ a. (g.E.Disk.state a.disk).IsHonest) (λ a. bytes_of_packets a.packets.items)
     c.args.geometry.now first.bytes c.first_turn-after_crash.ensures.reads
@@ -46,7 +46,7 @@ returns-clause-opens g c = λ honest left.
     let state = g.D.Disk.state in
     let first = g.E.Disk.state c.args.left in
     let run_honest = subst (λ d. (state d).IsHonest) c.into_disk.ensures honest in
-    let open_honest = c.run-end.ensures.keeps.was_honest run_honest in
+    let open_honest = c.run-end.ensures.keeps.frame.was_honest run_honest in
     let leaves = c.run-end.ensures.leaves (new_standing c.args.geometry.now) (c.in_ok-server.ensures.holds open_honest) in
     let stands = leaves.at_end first.bytes (subst (λ d. (state d).MayLeave first.bytes) c.into_disk.ensures left) in
     if_err _ _ c.first_turn-after_crash.result

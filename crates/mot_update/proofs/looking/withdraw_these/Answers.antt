@@ -1,4 +1,4 @@
-use Rattle.std.proofs.Common.{◌∙◌, [], ◌∷◌, Ok, None, Some, refl, subst, arith}
+use Rattle.std.proofs.Common.{◌∙◌, [], ◌∷◌, Ok, None, Some, refl, subst}
 use Rattle.mot_base.specs.declared.refusal.Refusal.TheVariants.{OutOfMemory}
 use Rattle.mot_carousel.specs.declared.command.Command.TheVariants.{Withdraw}
 use Rattle.mot_server.specs.Attempts.{marks_of}

@@ -39,7 +39,7 @@ invariant_of-self g c =
     (sym c.in-Ok.ensures.rewrites.moves)
     (record {
       valid = is.valid;
-      long_enough = omega (arith, is.long_enough, c.migrate.ensures.keeps.len);
+      long_enough = omega (arith, is.long_enough, c.migrate.ensures.keeps.frame.len);
       whole = whole_in_two r.journal.geometry kept whole;
       paired = is.paired;
       going = is.going;

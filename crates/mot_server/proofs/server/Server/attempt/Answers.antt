@@ -20,7 +20,7 @@ returns-then-ends_run-clause-fault g c =
     let old = c.args.self.now in
     let state = g.D.Disk.state in
     run_fault old.view old.view c.execute.new.self.view (state old.disk) (state old.disk) (state c.execute.new.self.disk)
-    c.args.command.now c.in-Err.refusal (le_refl (state old.disk).failures) c.in-Err.ensures.keeps.later refl (sym c.ends_run.ensures ∙ c.if-ends_run.true)
+    c.args.command.now c.in-Err.refusal (le_refl (state old.disk).failures) c.in-Err.ensures.keeps.frame.later refl (sym c.ends_run.ensures ∙ c.if-ends_run.true)
     c.in-Err.ensures.answered
 
 -- what is refused, and ends no run, changes nothing

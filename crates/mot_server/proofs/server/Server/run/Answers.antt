@@ -1,4 +1,4 @@
-use Rattle.std.proofs.Common.{◌≡◌, ◌∙◌, rules, arith, refl, sym, ap, subst, Bool, true, false, length, ◌≤◌, [], Some, None, Ok, Err}
+use Rattle.std.proofs.Common.{◌≡◌, ◌∙◌, rules, refl, sym, ap, subst, Bool, true, false, length, ◌≤◌, [], Some, None, Ok, Err}
 use Rattle.std.specs.Prelude.{slice_get, vec_capacity}
 use Rattle.std.specs.Global.{Vec}
 use Rattle.std.proofs.lemmas.Option.{slice_get_read}
@@ -139,7 +139,7 @@ returns-then-ends_run-clause-place g c = λ s last holds after.
 pub returns-then-ends_run-clause-fault : goal.returns-then-ends_run-clause-fault
 returns-then-ends_run-clause-fault g c =
     let state = g.D.Disk.state in
-    run_fault c.args.self.now.view c.loop-command.self.view c.execute.new.self.view (state c.args.self.now.disk) (state c.loop-command.self.disk) (state c.execute.new.self.disk) c.command-item.result c.in-Err.refusal c.loop-command.invariant.keeps.later c.in-Err.ensures.keeps.later c.loop-command.invariant.halted (sym c.ends_run.ensures ∙ c.if-ends_run.true) c.in-Err.ensures.answered
+    run_fault c.args.self.now.view c.loop-command.self.view c.execute.new.self.view (state c.args.self.now.disk) (state c.loop-command.self.disk) (state c.execute.new.self.disk) c.command-item.result c.in-Err.refusal c.loop-command.invariant.keeps.frame.later c.in-Err.ensures.keeps.frame.later c.loop-command.invariant.halted (sym c.ends_run.ensures ∙ c.if-ends_run.true) c.in-Err.ensures.answered
 
 pub returns-then-halted-clause-answers : goal.returns-then-halted-clause-answers
 returns-then-halted-clause-answers g c = answered_halted c.args.self.now.view

@@ -18,10 +18,12 @@ invariant_of-self-in-Ok g c =
 
 pub returns-clause-keeps : goal.returns-clause-keeps
 returns-clause-keeps g c = record {
-  len = ap (λ u. length u.bytes) (content_now g.S.Start.bytes _ _ Synced c.in-Ok.ensures.ok);
-  later = omega arith;
+  frame = record {
+    len = ap (λ u. length u.bytes) (content_now g.S.Start.bytes _ _ Synced c.in-Ok.ensures.ok);
+    later = omega arith;
+    was_honest = were_right g.S.Start.bytes _ _ Synced c.in-Ok.ensures.ok;
+  };
   honest = λ honest. goes_on_right g.S.Start.bytes _ _ Synced c.in-Ok.ensures.ok honest tt;
-  was_honest = were_right g.S.Start.bytes _ _ Synced c.in-Ok.ensures.ok;
 }
 
 pub returns-clause-still : goal.returns-clause-still
@@ -46,10 +48,12 @@ invariant_of-self-in_default g c =
 
 pub returns-in_default-clause-keeps : goal.returns-in_default-clause-keeps
 returns-in_default-clause-keeps g c = record {
-  len = ap (λ u. length u.bytes) (content_now g.S.Start.bytes _ _ FailedSync c.in_default.ensures.err);
-  later = omega arith;
+  frame = record {
+    len = ap (λ u. length u.bytes) (content_now g.S.Start.bytes _ _ FailedSync c.in_default.ensures.err);
+    later = omega arith;
+    was_honest = were_right g.S.Start.bytes _ _ FailedSync c.in_default.ensures.err;
+  };
   honest = λ honest. goes_on_right g.S.Start.bytes _ _ FailedSync c.in_default.ensures.err honest tt;
-  was_honest = were_right g.S.Start.bytes _ _ FailedSync c.in_default.ensures.err;
 }
 
 pub returns-in_default-clause-failed : goal.returns-in_default-clause-failed

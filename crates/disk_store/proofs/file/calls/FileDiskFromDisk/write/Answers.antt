@@ -25,10 +25,12 @@ pub returns-in_default-clause-keeps : goal.returns-in_default-clause-keeps
 returns-in_default-clause-keeps g c =
     let call = FailedWrite c.args.at c.args.bytes.now in
     record {
-      len = ap (λ u. length u.bytes) (content_now g.S.Start.bytes _ _ call c.in_default.ensures.err);
-      later = omega arith;
+      frame = record {
+        len = ap (λ u. length u.bytes) (content_now g.S.Start.bytes _ _ call c.in_default.ensures.err);
+        later = omega arith;
+        was_honest = were_right g.S.Start.bytes _ _ call c.in_default.ensures.err;
+      };
       honest = λ honest. goes_on_right g.S.Start.bytes _ _ call c.in_default.ensures.err honest tt;
-      was_honest = were_right g.S.Start.bytes _ _ call c.in_default.ensures.err;
     }
 
 pub returns-in_default-clause-range : goal.returns-in_default-clause-range
@@ -62,11 +64,13 @@ pub returns-clause-keeps : goal.returns-clause-keeps
 returns-clause-keeps g c =
     let call = Wrote c.args.at c.args.bytes.now in
     record {
-      len = ap (λ u. length u.bytes) (content_now g.S.Start.bytes _ _ call c.in-Ok.ensures.ok)
-          ∙ length-after_overwrite c.args.at c.args.bytes.now (file_content c.args.self.now).bytes c.requires;
-      later = omega arith;
+      frame = record {
+        len = ap (λ u. length u.bytes) (content_now g.S.Start.bytes _ _ call c.in-Ok.ensures.ok)
+            ∙ length-after_overwrite c.args.at c.args.bytes.now (file_content c.args.self.now).bytes c.requires;
+        later = omega arith;
+        was_honest = were_right g.S.Start.bytes _ _ call c.in-Ok.ensures.ok;
+      };
       honest = λ honest. goes_on_right g.S.Start.bytes _ _ call c.in-Ok.ensures.ok honest tt;
-      was_honest = were_right g.S.Start.bytes _ _ call c.in-Ok.ensures.ok;
     }
 
 pub returns-clause-range : goal.returns-clause-range
