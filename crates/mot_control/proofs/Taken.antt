@@ -188,7 +188,7 @@ module _ {D : Type 0} (state : D → State) where
       }
 
   -- nothing was taken
-  pub takes_none : (server : ServerView D) (before : List ℕ) (unread left hand : Option (List ℕ))
+  pub takes_none : (server : ServerView D) (before : List ℕ) (unread left : Option (List ℕ)) (hand : List ℕ)
       (is_told : Bool) (known : Option (List ℕ))
       → ((state server.disk).IsHonest → IsHonestDisk (state server.disk)) → Keeps unread left
       → hand ≡ bytes_in_hand (rest_of before)

@@ -73,7 +73,7 @@ module _ {D : Type 0} (state : D → State) where
   -- The reader gave so much more of an input, of which the rest behind its last line end was in
   -- hand; its lines were answered; and then the new rest is in hand.
   pub record TakesMore (old new : ServerView D) (before : List ℕ) (fault : Option Refusal)
-      (unread left hand : Option (List ℕ)) (was_told is_told : Bool)
+      (unread left : Option (List ℕ)) (hand : List ℕ) (was_told is_told : Bool)
       (written now : Option (List ℕ)) : Type 0 where
     pub more : List ℕ
     pub consumed : Consumes unread left more
@@ -83,7 +83,7 @@ module _ {D : Type 0} (state : D → State) where
 
   -- Another update was called, and then more was taken of the reader, or nothing.
   pub record TakesBetween (old new : ServerView D) (before : List ℕ) (may : Bool)
-      (unread left hand : Option (List ℕ)) (was_told is_told : Bool)
+      (unread left : Option (List ℕ)) (hand : List ℕ) (was_told is_told : Bool)
       (written now : Option (List ℕ)) : Type 0 where
     pub mid : ServerView D
     pub stopped : Option Refusal

@@ -17,7 +17,7 @@ use crate::Log;
 use disk_store::Disk;
 use mot_base::Refusal;
 use mot_carousel::Command;
-use mot_lines::{Hand, Line, TextLine, cut_at_line_end, done_text, refusal_text};
+use mot_lines::{Hand, Line, TextLine, cut_at_line_end, done_text, parse_line, refusal_text};
 use mot_server::{Attempt, Server};
 use mot_session::READ_SIZE;
 use std::alloc::Global;
@@ -109,7 +109,7 @@ fn answer_line<W: Write + Drop, D: Disk>(
         log.old.is_told log.new.is_told
         (W.contents log.old.writer) (W.contents log.new.writer) }
 {
-    let request = hand.parse(alloc);
+    let request = parse_line(alloc, hand.as_slice());
     answer_request(alloc, &request, log, server)
 }
 

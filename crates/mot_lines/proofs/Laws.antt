@@ -1,9 +1,10 @@
--- What crates above may cite: the lines of an input that grows, why a line is refused, what a list
--- shows, and what the lines ask for that rebuild a carousel.
+-- What crates above may cite: the lines of an input that grows, what is kept of a line in hand,
+-- why a line is refused, what a list shows, and what the lines ask for that rebuild a carousel.
 use Rattle.std.proofs.Common.{◌≡◌, ℕ, List, [], ◌∷◌, ◌++◌, Err}
 use Rattle.mot_base.specs.declared.refusal.Refusal.TheVariants.{DeviceFault}
 use Rattle.mot_carousel.specs.declared.carousel.Carousel.{Carousel}
 use Rattle.mot_carousel.specs.Stands.{carousel_of, AreBodiesOf}
+use Rattle.mot_lines.specs.Hand.{bytes_in_hand}
 use Rattle.mot_lines.specs.Lines.{HasNoLineEnd}
 use Rattle.mot_lines.specs.Listing.{listing_text_beside}
 use Rattle.mot_lines.specs.Line.{line_of}
@@ -14,6 +15,7 @@ use Rattle.mot_lines.proofs.Exported as exported
 use Rattle.mot_lines.proofs.Faults as faults
 use Rattle.mot_lines.proofs.Input as input
 use Rattle.mot_lines.proofs.Listed as listed
+use Rattle.mot_lines.proofs.Requests as requests
 
 -- an input of no bytes has no lines, and no line has begun
 pub whole_lines-none : whole_lines [] ≡ []
@@ -47,6 +49,10 @@ lines_of-ended xs none = input.lines_empty xs none
 
 pub lines_of-begun : (xs : List ℕ) → (rest_of xs ≡ [] → ⊥) → lines_of xs ≡ whole_lines xs ++ rest_of xs ∷ []
 lines_of-begun xs some = input.lines_last xs some
+
+-- what is kept of a line in hand asks for what the line asks for
+pub line_of-in_hand : (line : List ℕ) → line_of (bytes_in_hand line) ≡ line_of line
+line_of-in_hand line = requests.line_of-in_hand line
 
 -- no line is refused for a fault of the disk
 pub line_of-no_fault : (line : List ℕ) → line_of line ≡ Err DeviceFault → ⊥

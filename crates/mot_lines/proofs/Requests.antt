@@ -1,8 +1,9 @@
 -- What lines ask for.
-use Rattle.std.proofs.Common.{◌≡◌, ℕ, ◌<◌, ◌≤◌, Bool, true, false, cond, List, [], ◌∷◌, length}
-use Rattle.std.proofs.Common.{Some, None, Ok, Err, refl}
+use Rattle.std.proofs.Common.{◌≡◌, ◌∙◌, ℕ, ◌+◌, ◌<◌, ◌≤◌, Bool, true, false, List, [], ◌∷◌, length}
+use Rattle.std.proofs.Common.{Ok, Err, refl, sym, ap, arith}
 use Rattle.std.specs.Prelude.{bytes_eq, codes, nat_le}
-use Rattle.std.proofs.lemmas.Bool.{lt-leb, le-leb, leb-false}
+use Rattle.std.proofs.lemmas.Bool.{lt-leb, le-leb, leb-true, leb-false}
+use Rattle.std.proofs.lemmas.List.{length-take, take_all}
 use Rattle.mot_lines.specs.declared.line.TheConstants.{MAX_LINE}
 use Rattle.mot_lines.specs.Hand.{bytes_in_hand}
 use Rattle.hex.specs.Hex.{decode_of}
@@ -44,14 +45,19 @@ pub line_of-short : (line : List ℕ) → length line ≤ MAX_LINE → line_of l
 unfolding line_of
 line_of-short line h = rw (le-leb (length line) MAX_LINE h) refl
 
-long-cases : (line : List ℕ) (b : Bool) → nat_le (length line) MAX_LINE ≡ b → cond b (Some line) None ≡ None
-    → line_of line ≡ Err BadLine
-long-cases line true e h = absurd (cc)
-long-cases line false e h = line_of-long line (leb-false (length line) MAX_LINE e)
+in_hand-cases : (line : List ℕ) (b : Bool) → nat_le (length line) MAX_LINE ≡ b
+    → line_of (bytes_in_hand line) ≡ line_of line
+in_hand-cases line true e =
+    let short = leb-true (length line) MAX_LINE e in
+    ap line_of (take_all (MAX_LINE + 1) line (omega arith))
+in_hand-cases line false e =
+    let long = leb-false (length line) MAX_LINE e in
+    line_of-long (bytes_in_hand line) (omega (arith, length-take (MAX_LINE + 1) line))
+    ∙ sym (line_of-long line long)
 
--- a line of which nothing is kept is refused
-pub line_of-forgotten : (line : List ℕ) → bytes_in_hand line ≡ None → line_of line ≡ Err BadLine
-line_of-forgotten line h = long-cases line (nat_le (length line) MAX_LINE) refl h
+-- what is kept of a line in hand asks for what the line asks for
+pub line_of-in_hand : (line : List ℕ) → line_of (bytes_in_hand line) ≡ line_of line
+line_of-in_hand line = in_hand-cases line (nat_le (length line) MAX_LINE) refl
 
 module _ (first : List ℕ) (words : List (List ℕ)) where
   pub request_of-raw : bytes_eq first (codes "raw") ≡ true → request_of (first ∷ words) ≡ raw_of words

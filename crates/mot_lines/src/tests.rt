@@ -175,10 +175,12 @@ fn line_in_hand(rt: HostRuntime) -> Result<(), Fail> {
     assert!(rt; hand.is_empty());
     hand.add(b"li");
     hand.add(b"st");
-    assert!(rt; matches!(&hand.parse(alloc)?, Line::List));
+    assert_eq!(rt; hand.as_slice(), b"list".as_slice());
     let longest = line_with(alloc, b"", b' ', MAX_LINE, b"")?;
     hand.add(longest.as_slice());
-    assert_eq!(rt; hand.parse(alloc).err(), Some(Refusal::BadLine));
+    hand.add(b"list");
+    assert_eq!(rt; hand.as_slice().len(), MAX_LINE + 1);
+    assert_eq!(rt; refusal_of(alloc, hand.as_slice()), Some(Refusal::BadLine));
     hand.clear();
     assert!(rt; hand.is_empty());
     Ok(())

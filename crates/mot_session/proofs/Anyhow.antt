@@ -2,7 +2,7 @@
 use Rattle.std.proofs.Common.{◌≡◌, ℕ, ◌+◌, ◌<◌, Bool, true, false, List, [], ◌∷◌, ◌++◌}
 use Rattle.std.proofs.Common.{length, Option, Some, None, Result, Ok, Err, refl, sym, ap, ◌∙◌}
 use Rattle.std.proofs.Common.{subst, arith, append-nil, length-append, inl, inr}
-use Rattle.std.specs.Prelude.{replicate, OnOk, OnErr, IsTrue, IsFalse}
+use Rattle.std.specs.Prelude.{replicate, IsTrue, IsFalse}
 use Rattle.std.specs.Io.KnownBytes.{Appends, Keeps}
 use Rattle.std.proofs.KnownBytes.{Appends-kept, Appends-trans}
 use Rattle.std.proofs.lemmas.List.{map-append, replicate_more}
@@ -297,21 +297,3 @@ module _ (view view' : RepositoryView) (same : view' ≡ view) (going : IsFalse 
 pub within-one-more : (count : ℕ) (shown : List Shown) (p : Shown) → AreWithinTurn count shown
     → p.1 ≡ false → AreWithinTurn (count + 1) (shown ++ p ∷ [])
 within-one-more count shown p within e = within-more count shown p within e
-
--- ---- on each way out
-
-module _ (old new : RepositoryView) (before now : ℕ) (asked : Result Line Refusal)
-    (written then : Option (List ℕ)) where
-  pub OnOk-anyhow : {T : Type 0} (result : Result T WriteFault)
-      → AnswersWithAnyhow result old new before now asked written then
-      → OnOk result ((text : List ℕ) × AnswersAnyhow old new before now asked text
-      × Appends written then text)
-  OnOk-anyhow (Ok done) a = a
-  OnOk-anyhow (Err fault) a = tt
-
-  pub OnErr-anyhow : {T : Type 0} (result : Result T WriteFault)
-      → AnswersWithAnyhow result old new before now asked written then
-      → OnErr result ((text : List ℕ) × BeginsAnyhow old new before now asked text
-      × WritesFront text written then)
-  OnErr-anyhow (Ok done) a = tt
-  OnErr-anyhow (Err fault) a = a

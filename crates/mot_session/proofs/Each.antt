@@ -3,7 +3,6 @@ use Rattle.std.proofs.Common.{◌≡◌, ℕ, List, [], ◌∷◌, ◌++◌, len
 use Rattle.std.proofs.Common.{refl, subst, sym}
 use Rattle.std.specs.Prelude.{OnOk, OnErr}
 use Rattle.disk_store.specs.Disk.{State, IsHonestDisk}
-use Rattle.mot_lines.specs.Hand.{bytes_in_hand}
 use Rattle.mot_lines.specs.Line.{line_of}
 use Rattle.mot_lines.specs.Lines.{whole_lines}
 use Rattle.mot_lines.proofs.Laws.{whole_lines-none}
@@ -63,51 +62,46 @@ module _ {D : Type 0} (state : D → State) where
         breaks = b;
       }
 
--- what was told of the line in hand
+-- what was told of a line
 module _ {D : Type 0} (state : D → State) (old new : ServerView D) (known next : Option (List ℕ))
-    (hand : Option (List ℕ)) (sound : (state new.disk).IsHonest → IsHonestDisk (state new.disk))
+    (line : List ℕ) (sound : (state new.disk).IsHonest → IsHonestDisk (state new.disk))
   where
-    abbrev InHandIs : (List ℕ → Type 0) → Type 0
-    InHandIs P = (line : List ℕ) → hand ≡ bytes_in_hand line → P line
-
-    abbrev LeadsSo : {T : Type 0} → Result T WriteFault → List ℕ → Type 0
-    LeadsSo result line = Leads state old new (λ before after.
+    abbrev LeadsSo : {T : Type 0} → Result T WriteFault → Type 0
+    LeadsSo result = Leads state old new (λ before after.
         AnswersLine result (state old.disk) (state new.disk) before line after known next)
 
-    abbrev AnswersSo : {T : Type 0} → Result T WriteFault → List ℕ → Type 0
-    AnswersSo result line = AnswersWithAnyhow result old.view new.view
+    abbrev AnswersSo : {T : Type 0} → Result T WriteFault → Type 0
+    AnswersSo result = AnswersWithAnyhow result old.view new.view
         (state old.disk).failures (state new.disk).failures (line_of line) known next
 
-    pub ServesOne-told : {T : Type 0} (result : Result T WriteFault) → InHandIs (LeadsSo result)
-        → InHandIs (AnswersSo result) → GoesOn old new (state old.disk) (state new.disk)
-        → OnOk result (InHandIs (λ line. ServesOne state old line new known next))
-    ServesOne-told (Ok done) led answers goes = λ line is.
-        let anyhow = answers line is in record {
-          answered = ServedLine-told state old new line known next sound (Ok done) (led line is);
-          text = anyhow.0;
-          anyhow = anyhow.1;
-          appended = anyhow.2;
-          goes = goes;
-        }
-    ServesOne-told (Err fault) led answers goes = tt
+    pub ServesOne-told : {T : Type 0} (result : Result T WriteFault) → LeadsSo result
+        → AnswersSo result → GoesOn old new (state old.disk) (state new.disk)
+        → OnOk result (ServesOne state old line new known next)
+    ServesOne-told (Ok done) led anyhow goes = record {
+      answered = ServedLine-told state old new line known next sound (Ok done) led;
+      text = anyhow.0;
+      anyhow = anyhow.1;
+      appended = anyhow.2;
+      goes = goes;
+    }
+    ServesOne-told (Err fault) led anyhow goes = tt
 
-    pub BreaksOff-told : {T : Type 0} (result : Result T WriteFault) → InHandIs (LeadsSo result)
-        → InHandIs (AnswersSo result) → GoesOn old new (state old.disk) (state new.disk)
-        → OnErr result (InHandIs (λ line. BreaksOff state old line new known next))
-    BreaksOff-told (Ok done) led answers goes = tt
-    BreaksOff-told (Err fault) led answers goes = λ line is.
-        let anyhow = answers line is in record {
-          broken = StoppedLine-told state old new line known next sound (Err fault) (led line is);
-          text = anyhow.0;
-          anyhow = anyhow.1;
-          front = anyhow.2;
-          goes = goes;
-        }
+    pub BreaksOff-told : {T : Type 0} (result : Result T WriteFault) → LeadsSo result
+        → AnswersSo result → GoesOn old new (state old.disk) (state new.disk)
+        → OnErr result (BreaksOff state old line new known next)
+    BreaksOff-told (Ok done) led anyhow goes = tt
+    BreaksOff-told (Err fault) led anyhow goes = record {
+      broken = StoppedLine-told state old new line known next sound (Err fault) led;
+      text = anyhow.0;
+      anyhow = anyhow.1;
+      front = anyhow.2;
+      goes = goes;
+    }
 
 -- Lines that are cut off a chunk: whatever was served of the input before, these bytes of it more
 -- were served from a server to a server.
 abbrev pub GoesOnBy : {D : Type 0} → (D → State) → ServerView D → ServerView D
-    → Option (List ℕ) → ℕ → List ℕ → Option (List ℕ) → Option (List ℕ) → Type 0
+    → List ℕ → ℕ → List ℕ → Option (List ℕ) → Option (List ℕ) → Type 0
 GoesOnBy {D} state old new hand count front written now =
     (first : ServerView D) (known : Option (List ℕ)) (input : List ℕ) → InHand input hand count
     → ServesEach state first (whole_lines input) old known written

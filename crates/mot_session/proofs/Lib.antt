@@ -6,6 +6,7 @@ pub mod Faults
 pub mod Each
 pub mod Fronts
 pub mod Joined
+pub mod Kept
 pub mod Laws
 pub mod Lives
 pub mod Outcomes

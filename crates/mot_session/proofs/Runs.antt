@@ -5,7 +5,8 @@ use Rattle.std.proofs.lemmas.List.{map-append}
 use Rattle.std.specs.Io.KnownBytes.{Appends}
 use Rattle.std.proofs.KnownBytes.{Appends-trans, Appends-nil}
 use Rattle.std.proofs.lemmas.List.Concat.{flat_map-append}
-use Rattle.disk_store.specs.Disk.{State, IsHonestDisk}
+use Rattle.std.specs.Prelude.{IsTrue}
+use Rattle.disk_store.specs.Disk.{State, IsHonestDisk, IsUnchanged}
 use Rattle.mot_lines.specs.Hand.{bytes_in_hand}
 use Rattle.mot_lines.specs.Lines.{HasNoLineEnd}
 use Rattle.mot_lines.specs.Line.{line_of}
@@ -15,13 +16,14 @@ use Rattle.mot_lines.proofs.Laws.{whole_lines-within, rest_of-within}
 use Rattle.mot_server.specs.Server.{ServerView}
 use Rattle.mot_journal.specs.Image.{Standing}
 use Rattle.mot_session.specs.Inner.InHand.{InHand}
-use Rattle.mot_session.specs.Inner.Writes.{Answered, Crosses}
-use Rattle.mot_session.specs.Served.{BrokenOff, Served, Stopped}
+use Rattle.mot_server.proofs.Laws.{after_none}
+use Rattle.mot_session.specs.Inner.Writes.{Crosses}
+use Rattle.mot_session.specs.Served.{Served, ServedLine, Stopped, StoppedLine}
 use Rattle.mot_session.specs.Session.{Reply, Answers, Exchange, Session, text_of, texts_of}
 use Rattle.mot_session.specs.State.{ServerState, StandsFor, state_of}
-use Rattle.mot_session.specs.Stored.{IsStored, accepted_in, failed_by, failed_in}
+use Rattle.mot_session.specs.Stored.{IsStored, IsToldAndStored, accepted_in, failed_by, failed_in}
 use Rattle.mot_session.proofs.Crashes.{stored-push, stored-none}
-use Rattle.mot_session.proofs.Outcomes.{Outcome, outcome, begun_outcome}
+use Rattle.mot_session.proofs.Outcomes.{Outcome, outcome, begun_outcome, later-answers, later-begins}
 
 Session-push : (before mid : ServerState) (xs : List Exchange) (x : Exchange)
     → Session before xs mid → Answers mid (line_of x.line) x.reply x.after
@@ -77,61 +79,69 @@ module _ {D : Type 0} (mid_server after_server : ServerView D) (m last : Standin
       sound refl refl later what crosses
       (λ going image left. (stands.holds going).each image left) s is
 
+  crosses : (reply : Reply) → IsToldAndStored start now mid (exchange reply)
+      → (IsTrue mid.halted → IsUnchanged start now) → Crosses start now mid (exchange reply)
+  crosses reply told same = record {
+    going = λ going. (told going m [] (after_none m)).any_moment;
+    halted = same;
+  }
+
   -- one more line was answered
-  pub Served-push : Served start before mid lines old known → start.moment ≤ now.moment
-      → (reply : Reply)
-      → Answered mid (line_of line) reply after known new → Crosses start now mid (exchange reply)
+  pub Served-push : Served start before mid lines old known
+      → ServedLine start now mid line after known new → (IsTrue mid.halted → IsUnchanged start now)
       → Served now before after (lines ++ line ∷ []) old new
-  Served-push served later reply a crosses =
+  Served-push served one same =
       let xs = served.exchanges in
       let is = served.replied in record {
-        exchanges = xs ++ exchange reply ∷ [];
+        exchanges = xs ++ exchange one.reply ∷ [];
         replied = record {
-          are_lines = map-append (λ (x : Exchange). x.line) xs (exchange reply ∷ [])
+          are_lines = map-append (λ (x : Exchange). x.line) xs (exchange one.reply ∷ [])
               ∙ ap (λ l. l ++ line ∷ []) is.are_lines;
-          session = Session-push before mid xs (exchange reply) is.session a.answers;
-          appended = subst (Appends old new) (sym (texts-push xs (exchange reply)))
-              (Appends-trans old known new _ _ is.appended a.written);
+          session = Session-push before mid xs (exchange one.reply) is.session one.answers;
+          appended = subst (Appends old new) (sym (texts-push xs (exchange one.reply)))
+              (Appends-trans old known new _ _ is.appended one.appended);
         };
-        stored = λ going. stored later reply xs
-            (outcome mid after (line_of line) reply a.answers) crosses
-            is.session (served.stored going);
+        stored = λ going. stored
+            (later-answers mid after (line_of line) one.reply one.answers).moment one.reply xs
+            (outcome mid after (line_of line) one.reply one.answers)
+            (crosses one.reply one.stored same) is.session (served.stored going);
       }
 
   -- its reply was broken off
-  pub Stopped-here : Served start before mid lines old known → start.moment ≤ now.moment
-      → (reply : Reply)
-      → BrokenOff mid (line_of line) reply after known new → Crosses start now mid (exchange reply)
+  pub Stopped-here : Served start before mid lines old known
+      → StoppedLine start now mid line after known new → (IsTrue mid.halted → IsUnchanged start now)
       → (count : ℕ) → count ≡ length lines → (all unanswered : List (List ℕ))
       → all ≡ lines ++ line ∷ unanswered → Stopped now before after all count old new
-  Stopped-here served later reply b crosses count counted all unanswered e = record {
-    answered = lines;
-    line = line;
-    unanswered = unanswered;
-    split = e;
-    counted = counted;
-    exchanges = served.exchanges;
-    between = mid;
-    known = known;
-    replied = served.replied;
-    reply = reply;
-    broken = b;
-    stored = λ going. stored later reply served.exchanges
-        (begun_outcome mid after (line_of line) reply b.begins)
-        crosses served.replied.session (served.stored going);
-  }
+  Stopped-here served one same count counted all unanswered e =
+      let begins = one.broken.begins in record {
+        answered = lines;
+        line = line;
+        unanswered = unanswered;
+        split = e;
+        counted = counted;
+        exchanges = served.exchanges;
+        between = mid;
+        known = known;
+        replied = served.replied;
+        reply = one.reply;
+        broken = one.broken;
+        stored = λ going. stored
+            (later-begins mid after (line_of line) one.reply begins).moment one.reply
+            served.exchanges (begun_outcome mid after (line_of line) one.reply begins)
+            (crosses one.reply one.stored same) served.replied.session (served.stored going);
+      }
 
 -- ---- the line in hand
 
-pub InHand-none : (hand : Option (List ℕ)) → hand ≡ bytes_in_hand [] → InHand [] hand 0
+pub InHand-none : (hand : List ℕ) → hand ≡ bytes_in_hand [] → InHand [] hand 0
 InHand-none hand h = record {
   rest = h ∙ ap bytes_in_hand (sym rest_of-none);
   counted = ap length (sym whole_lines-none);
 }
 
-module _ (xs : List ℕ) (hand : Option (List ℕ)) (count : ℕ) (is : InHand xs hand count) where
+module _ (xs : List ℕ) (hand : List ℕ) (count : ℕ) (is : InHand xs hand count) where
   -- more bytes of a line came
-  pub InHand-within : (ys : List ℕ) (next : Option (List ℕ)) → HasNoLineEnd ys
+  pub InHand-within : (ys : List ℕ) (next : List ℕ) → HasNoLineEnd ys
       → next ≡ bytes_in_hand (rest_of xs ++ ys) → InHand (xs ++ ys) next count
   InHand-within ys next none h = record {
     rest = h ∙ ap bytes_in_hand (sym (rest_of-within xs ys none));
@@ -139,7 +149,7 @@ module _ (xs : List ℕ) (hand : Option (List ℕ)) (count : ℕ) (is : InHand x
   }
 
   -- a line ended
-  pub InHand-end : (next : Option (List ℕ)) → next ≡ bytes_in_hand []
+  pub InHand-end : (next : List ℕ) → next ≡ bytes_in_hand []
       → InHand (xs ++ 10 ∷ []) next (count + 1)
   InHand-end next h = record {
     rest = h ∙ ap bytes_in_hand (sym (rest_of-end xs));

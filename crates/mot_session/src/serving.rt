@@ -1,17 +1,15 @@
 //! Serving the lines of an input.
 ghost use Rattle.std.specs.Prelude.{◌≡◌, ℕ, ◌+◌, ◌-◌, ◌^◌, ◌≤◌, ◌<◌, ◌⊎◌, Option, List, ◌++◌};
 ghost use Rattle.std.specs.Prelude.{length, OnOk, OnErr, None, Some, IsTrue};
-ghost use Rattle.std.specs.Io.KnownBytes.{Appends, Keeps, IsAtEnd};
+ghost use Rattle.std.specs.Io.KnownBytes.{Keeps, IsAtEnd};
 ghost use Rattle.disk_store.specs.Disk.{IsUnchanged, KeepsLength};
 ghost use Rattle.mot_base.specs.declared.refusal.Refusal.TheVariants.{OutOfMemory, ReadFault};
-ghost use Rattle.mot_lines.specs.Line.{line_of};
 ghost use Rattle.mot_lines.specs.Lines.{whole_lines, lines_of};
 ghost use Rattle.mot_session.specs.Inner.InHand.{InHand};
-ghost use Rattle.mot_session.specs.LineByLine.{GoesOn, ServesEach, ServesSome};
+ghost use Rattle.mot_session.specs.LineByLine.{BreaksOff, GoesOn};
+ghost use Rattle.mot_session.specs.LineByLine.{ServesEach, ServesOne, ServesSome};
 ghost use Rattle.mot_session.specs.Laws.{SessionLaws};
 ghost use Rattle.mot_session.specs.Served.{TakesInput, Served, Stopped, EndsServing};
-ghost use Rattle.mot_session.specs.OnAnyDisk.{AnswersAnyhow, BeginsAnyhow};
-ghost use Rattle.mot_session.specs.Served.{ServedLine, StoppedLine, WritesFront};
 ghost use Rattle.mot_server.specs.Server.{ServerView};
 ghost use Rattle.mot_session.specs.State.{Leads, ServerState};
 
@@ -27,7 +25,7 @@ use mot_lines::{Hand, cut_at_line_end, parse_line};
 use mot_server::Server;
 pub use output::WriteFault;
 pub use reading::answer_reading;
-use reply::{answer_line, respond};
+use reply::respond;
 use std::alloc::Global;
 use std::io::{Read, Write};
 
@@ -47,7 +45,7 @@ pub struct ServeEnd {
 }
 
 /// Answers each line that the reader gives, in at most `reads` reads of at most 4,096 bytes each,
-/// each as `serve_line` does, so that the writer is flushed after each reply. Faults are
+/// each by a call of `serve_line`, so that the writer is flushed after each reply. Faults are
 /// `ReadFault`, where a read failed or the input did not end within the reads (a line in hand is
 /// not answered); `WriteFault`, where a write or a flush failed; and `OutOfMemory`, where there is
 /// no room for a line (nothing was read or written). A device fault ends no serving: it is a line's
@@ -139,8 +137,9 @@ pub fn serve<R: Read, W: Write, D: Disk>(
 }
 
 /// Answers one line, given without its end: does what it asks for, writes the whole reply, and
-/// flushes the writer. Err where a write or a flush failed. `serve` does the same for each line of
-/// its input, one after the other.
+/// flushes the writer. Err where a write or a flush failed. `serve` calls it for each line of its
+/// input, one after the other; of a line above 530,000 bytes it gives the first 530,001, which are
+/// refused as the whole line would be.
 ///
 /// Here the states of the disk are those of one line's beginning and of the call's return: whoever
 /// has the reply knows a moment of the disk's clock since which what it tells is stored. What is
@@ -151,30 +150,14 @@ pub fn serve_line<W: Write, D: Disk>(
     writer: &mut W,
     server: &mut Server<D>,
 ) -> Result<(), WriteFault>
-    // The whole reply was written, and what was told is stored.
-    ensures answered { OnOk result (Leads D.state server.old server.new (λ before after.
-        ServedLine (D.state server.old.disk) (D.state server.new.disk) before line.now after
-        (W.contents writer.old) (W.contents writer.new))) }
+    // The whole reply was written, and what was told is stored. On every disk the reply is right
+    // for what is kept in memory; and a server that is halted changes nothing.
+    ensures answered { OnOk result (ServesOne D.state server.old line.now server.new
+        (W.contents writer.old) (W.contents writer.new)) }
 
-    // Some first bytes of the reply were written, and its command is stored all the same.
-    ensures broken { OnErr result (Leads D.state server.old server.new (λ before after.
-        StoppedLine (D.state server.old.disk) (D.state server.new.disk) before line.now after
-        (W.contents writer.old) (W.contents writer.new))) }
-
-    // On every disk the reply is right for what is kept in memory.
-    ensures anyhow { OnOk result ((text : List ℕ) × AnswersAnyhow server.old.view server.new.view
-        (D.state server.old.disk).failures (D.state server.new.disk).failures (line_of line.now)
-        text × Appends (W.contents writer.old) (W.contents writer.new) text) }
-    ensures anyhow_broken { OnErr result ((text : List ℕ)
-        × BeginsAnyhow server.old.view server.new.view
-        (D.state server.old.disk).failures (D.state server.new.disk).failures (line_of line.now)
-        text × WritesFront text (W.contents writer.old) (W.contents writer.new)) }
-    ensures keeps { KeepsLength (D.state server.old.disk) (D.state server.new.disk) }
-
-    // A server that is halted changes nothing.
-    ensures halted { IsTrue server.old.view.halted → (server.new.view ≡ server.old.view)
-        × ((D.state server.new.disk).IsHonest
-        → IsUnchanged (D.state server.old.disk) (D.state server.new.disk)) }
+    // So, but some first bytes of the reply were written; its command is stored all the same.
+    ensures broken { OnErr result (BreaksOff D.state server.old line.now server.new
+        (W.contents writer.old) (W.contents writer.new)) }
 {
     respond(alloc, parse_line(alloc, line), writer, server)
 }
@@ -233,7 +216,7 @@ fn answer_last<W: Write, D: Disk>(
     if hand.is_empty() {
         return ServeEnd { lines, fault: None };
     }
-    match answer_line(alloc, hand, writer, server) {
+    match serve_line(alloc, hand.as_slice(), writer, server) {
         Ok(()) => ServeEnd {
             lines: lines + 1,
             fault: None,
@@ -283,7 +266,7 @@ fn answer_chunk<W: Write, D: Disk>(
     let mut rest = chunk;
     while let Some((line, next)) = cut_at_line_end(rest) {
         hand.add(line);
-        answer_line(alloc, hand, writer, server)?;
+        serve_line(alloc, hand.as_slice(), writer, server)?;
         hand.clear();
         *lines += 1;
         rest = next;

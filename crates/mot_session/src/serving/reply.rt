@@ -1,12 +1,11 @@
 //! Answering one line.
-ghost use Rattle.std.specs.Prelude.{◌≡◌, ◌<◌, ℕ, List, Result, Ok, Some, false, IfOk, OnOk, OnErr};
+ghost use Rattle.std.specs.Prelude.{◌≡◌, ◌<◌, ℕ, List, Result, Ok, Some, false, IfOk};
 ghost use Rattle.std.specs.Prelude.{IsFalse};
 ghost use Rattle.std.specs.List.{flat_map};
 ghost use Rattle.mot_base.specs.Geometry.{IsValid};
 ghost use Rattle.mot_journal.specs.Image.{Standing};
 ghost use Rattle.mot_lines.specs.Line.{IsParsed, line_of};
 ghost use Rattle.mot_lines.specs.Text.{packet_line};
-ghost use Rattle.mot_lines.specs.Hand.{bytes_in_hand};
 ghost use Rattle.mot_lines.specs.declared.line.Line.TheVariants as asks;
 ghost use Rattle.mot_player.specs.Laws.{bytes_left};
 ghost use Rattle.mot_repository.specs.Repository.{Holds, RepositoryView};
@@ -15,7 +14,7 @@ ghost use Rattle.mot_session.specs.Inner.Decision.{Decides, may_be_done};
 ghost use Rattle.mot_session.specs.Inner.Writes.{AnswersLine, AnswersOne, AnswersRequest};
 ghost use Rattle.mot_session.specs.Output.{Writes};
 ghost use Rattle.mot_session.specs.Inner.Writes.{ReadsAlone};
-ghost use Rattle.mot_session.specs.LineByLine.{BreaksOff, GoesOn, ServesOne};
+ghost use Rattle.mot_session.specs.LineByLine.{GoesOn};
 ghost use Rattle.mot_session.specs.Raw.{packets_at};
 ghost use Rattle.mot_session.specs.State.{Leads, ServerState, StandsFor, state_of};
 
@@ -24,35 +23,12 @@ use super::output::{WriteFault, write_whole};
 use crate::deciding::{Decision, decide};
 use disk_store::Disk;
 use mot_base::{Geometry, Refusal};
-use mot_lines::{Hand, Line, PacketLine, done_text, refusal_text, set_packet_text};
+use mot_lines::{Line, PacketLine, done_text, refusal_text, set_packet_text};
 use mot_packets::{cut_packet, packet_count};
 use mot_player::Played;
 use mot_server::Server;
 use std::alloc::Global;
 use std::io::Write;
-
-/// Answers the line in hand.
-pub(super) fn answer_line<W: Write, D: Disk>(
-    alloc: Global,
-    hand: &Hand,
-    writer: &mut W,
-    server: &mut Server<D>,
-) -> Result<(), WriteFault>
-    ensures answers { (line : List ℕ) → hand.now ≡ bytes_in_hand line
-        → Leads D.state server.old server.new (λ before after. AnswersLine result
-        (D.state server.old.disk) (D.state server.new.disk) before line after
-        (W.contents writer.old) (W.contents writer.new)) }
-    ensures serves { OnOk result ((line : List ℕ) → hand.now ≡ bytes_in_hand line
-        → ServesOne D.state server.old line server.new
-        (W.contents writer.old) (W.contents writer.new)) }
-    ensures breaks { OnErr result ((line : List ℕ) → hand.now ≡ bytes_in_hand line
-        → BreaksOff D.state server.old line server.new
-        (W.contents writer.old) (W.contents writer.new)) }
-    ensures goes { GoesOn server.old server.new
-        (D.state server.old.disk) (D.state server.new.disk) }
-{
-    respond(alloc, hand.parse(alloc), writer, server)
-}
 
 /// Does what a line was parsed to ask for, writes the whole reply, and flushes the writer; after a
 /// fault some first bytes of the reply were written.

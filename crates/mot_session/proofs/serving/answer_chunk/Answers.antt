@@ -6,11 +6,11 @@ use Rattle.mot_lines.proofs.Laws.{whole_lines-end, whole_lines-front, whole_line
 use Rattle.mot_session.specs.Inner.InHand.{InHand}
 use Rattle.mot_session.specs.Served.{Served}
 use Rattle.mot_session.specs.State.{state_of}
-use Rattle.mot_session.proofs.Outcomes.{later-answers, later-begins}
 use Rattle.mot_session.proofs.Requests.{goes_on-more, goes_on-none}
 use Rattle.mot_session.proofs.Runs.{InHand-end, InHand-within, Served-push, Stopped-here}
 use Rattle.mot_session.specs.LineByLine.{ServesEach}
 use Rattle.mot_session.proofs.Each.{each-more, some-here}
+use Rattle.mot_session.proofs.Kept.{BreaksOff-of_line, ServesOne-of_line}
 use Rattle.mot_session.proofs.serving.answer_chunk.Goals as goal
 
 -- a line and its end, taken from what is left
@@ -69,9 +69,9 @@ loop-line-preserved g c =
     let so_far = inv.taken in
     let first = c.args.server.now in
     let mid = c.loop-line.server in
-    let new = c.answer_line.new.server in
+    let new = c.serve_line.new.server in
     let line : List ℕ = c.in-Some.line.now in
-    let one = c.in_ok-answer_line.ensures in
+    let one = c.in_ok-serve_line.ensures.answered in
     let bound = inv.bound in
     record {
       bound = omega (
@@ -100,21 +100,19 @@ loop-line-preserved g c =
             let h0 = so_far.2 input is in
             let h1 = InHand-within xs c.loop-line.hand c.loop-line.lines h0 line c.add.new.self
             c.in-Some.ensures.first (c.add.ensures (rest_of xs) h0.rest) in
+            let whole = ServesOne-of_line c.as_slice.result.now (rest_of (xs ++ line))
+            (c.as_slice.ensures.asks (rest_of (xs ++ line)) h1.rest) state mid new _ _ one in
             let was = one.goes.keeps.was_honest honest in
             let f = so_far.3 before old input is s stands was in
-            let a = one.answers (rest_of (xs ++ line)) h1.rest f.0 f.1 honest in
-            let told = a.2 in
-            let later = later-answers (state_of mid f.0 (state mid.disk))
-            (state_of new a.0 (state new.disk)) _
-            told.reply told.answers.answers in (
+            let a = whole.answered f.0 f.1 honest in (
               a.0,
               a.1,
               λ served. subst (λ l. Served (state new.disk) before
                   (state_of new a.0 (state new.disk)) (whole_lines l)
-                  old (g.W.Write.contents c.answer_line.new.writer)) (joined input so_far.0 line)
+                  old (g.W.Write.contents c.serve_line.new.writer)) (joined input so_far.0 line)
                   (subst (λ l. Served (state new.disk) before
                   (state_of new a.0 (state new.disk)) l old
-                  (g.W.Write.contents c.answer_line.new.writer))
+                  (g.W.Write.contents c.serve_line.new.writer))
                   (sym (whole_lines-end (xs ++ line)))
                   (Served-push mid new f.0 a.0 (state mid.disk) (state new.disk)
                   (g.met.D.Disk.sound mid.disk was) (g.met.D.Disk.sound new.disk honest) a.1 before
@@ -123,7 +121,7 @@ loop-line-preserved g c =
                   (state_of mid f.0 (state mid.disk)) l old
                   (g.W.Write.contents c.loop-line.writer))
                   (sym (whole_lines-within xs line c.in-Some.ensures.first)) (f.2 served))
-                  later.moment told.reply told.answers told.crosses)),
+                  a.2 (λ halted. (one.goes.halted halted).1 honest))),
             ),
         λ before old input is each.
             let xs : List ℕ = input ++ so_far.0 in
@@ -131,28 +129,30 @@ loop-line-preserved g c =
             let h1 = InHand-within xs c.loop-line.hand c.loop-line.lines h0 line c.add.new.self
             c.in-Some.ensures.first (c.add.ensures (rest_of xs) h0.rest) in
             subst (λ l. ServesEach state before (whole_lines l) new old
-            (g.W.Write.contents c.answer_line.new.writer)) (joined input so_far.0 line)
+            (g.W.Write.contents c.serve_line.new.writer)) (joined input so_far.0 line)
             (subst (λ l. ServesEach state before l new old
-            (g.W.Write.contents c.answer_line.new.writer)) (sym (whole_lines-end (xs ++ line)))
+            (g.W.Write.contents c.serve_line.new.writer)) (sym (whole_lines-end (xs ++ line)))
             (each-more state before mid new (whole_lines (xs ++ line)) (rest_of (xs ++ line)) old
             _ _ (subst (λ l. ServesEach state before l mid old
             (g.W.Write.contents c.loop-line.writer))
             (sym (whole_lines-within xs line c.in-Some.ensures.first))
-            (so_far.4 before old input is each)) (one.serves (rest_of (xs ++ line)) h1.rest))),
+            (so_far.4 before old input is each))
+            (ServesOne-of_line c.as_slice.result.now (rest_of (xs ++ line))
+            (c.as_slice.ensures.asks (rest_of (xs ++ line)) h1.rest) state mid new _ _ one))),
       );
     }
 
-pub returns-in_err-answer_line-clause-err : goal.returns-in_err-answer_line-clause-err
-returns-in_err-answer_line-clause-err g c =
+pub returns-in_err-serve_line-clause-err : goal.returns-in_err-serve_line-clause-err
+returns-in_err-serve_line-clause-err g c =
     let state = g.D.Disk.state in
     let o = err_from_is_err_and c.from_residual.result c.from_residual.ensures.1 in
     let inv = c.loop-line.invariant in
     let so_far = inv.taken in
     let mid = c.loop-line.server in
-    let new = c.answer_line.new.server in
+    let new = c.serve_line.new.server in
     let line : List ℕ = c.in-Some.line.now in
     let rest : List ℕ = c.in-Some.next.now in
-    let one = c.in_err-answer_line.ensures in
+    let one = c.in_err-serve_line.ensures.broken in
     let taken : ((so_far.0 ++ line) ++ 10 ∷ []) ++ rest ≡ c.args.chunk.now =
     line_taken so_far.0 line rest c.loop-line.rest.now c.args.chunk.now so_far.1
     (sym c.in-Some.ensures.parts) in
@@ -161,13 +161,11 @@ returns-in_err-answer_line-clause-err g c =
     let h0 = so_far.2 input is in
     let h1 = InHand-within xs c.loop-line.hand c.loop-line.lines h0 line c.add.new.self
     c.in-Some.ensures.first (c.add.ensures (rest_of xs) h0.rest) in
+    let cut = BreaksOff-of_line c.as_slice.result.now (rest_of (xs ++ line))
+    (c.as_slice.ensures.asks (rest_of (xs ++ line)) h1.rest) state mid new _ _ one in
     let was = one.goes.keeps.was_honest honest in
     let f = so_far.3 before old input is s stands was in
-    let a = one.answers (rest_of (xs ++ line)) h1.rest f.0 f.1 honest in
-    let told = a.2 in
-    let later = later-begins (state_of mid f.0 (state mid.disk))
-    (state_of new a.0 (state new.disk)) _
-    told.reply told.answers.begins in
+    let a = cut.broken f.0 f.1 honest in
     let whole : ((xs ++ line) ++ 10 ∷ []) ++ rest ≡ input ++ c.args.chunk.now =
     ap (λ l. l ++ rest) (joined input so_far.0 line)
     ∙ append_assoc input ((so_far.0 ++ line) ++ 10 ∷ []) rest ∙ ap (λ l. input ++ l) taken in
@@ -180,7 +178,7 @@ returns-in_err-answer_line-clause-err g c =
           (subst (λ l. Served (state mid.disk) before (state_of mid f.0 (state mid.disk)) l old
           (g.W.Write.contents c.loop-line.writer))
           (sym (whole_lines-within xs line c.in-Some.ensures.first)) (f.2 served))
-          later.moment told.reply told.answers told.crosses c.loop-line.lines h1.counted
+          a.2 (λ halted. (one.goes.halted halted).1 honest) c.loop-line.lines h1.counted
           (whole_lines (input ++ c.args.chunk.now)) lines.0 lines.1,
     ))
 
@@ -213,8 +211,8 @@ returns-clause-ok g c = λ before old input is s stands honest.
           (f.2 served)),
     )
 
-pub returns-in_err-answer_line-clause-some : goal.returns-in_err-answer_line-clause-some
-returns-in_err-answer_line-clause-some g c =
+pub returns-in_err-serve_line-clause-some : goal.returns-in_err-serve_line-clause-some
+returns-in_err-serve_line-clause-some g c =
     let o = err_from_is_err_and c.from_residual.result c.from_residual.ensures.1 in
     let so_far = c.loop-line.invariant.taken in
     let line : List ℕ = c.in-Some.line.now in
@@ -231,13 +229,15 @@ returns-in_err-answer_line-clause-some g c =
     ap (λ l. l ++ rest) (joined input so_far.0 line)
     ∙ append_assoc input ((so_far.0 ++ line) ++ 10 ∷ []) rest ∙ ap (λ l. input ++ l) taken in
     let lines = lines_at_end (xs ++ line) rest (input ++ c.args.chunk.now) whole in
-    some-here g.D.Disk.state first c.loop-line.server c.answer_line.new.server
+    some-here g.D.Disk.state first c.loop-line.server c.serve_line.new.server
     (whole_lines (xs ++ line)) (rest_of (xs ++ line)) lines.0
     (whole_lines (input ++ c.args.chunk.now)) c.loop-line.lines old _ _ lines.1 h1.counted
     (subst (λ l. ServesEach g.D.Disk.state first l c.loop-line.server old
     (g.W.Write.contents c.loop-line.writer))
     (sym (whole_lines-within xs line c.in-Some.ensures.first)) (so_far.4 first old input is each))
-    (c.in_err-answer_line.ensures.breaks (rest_of (xs ++ line)) h1.rest))
+    (BreaksOff-of_line c.as_slice.result.now (rest_of (xs ++ line))
+    (c.as_slice.ensures.asks (rest_of (xs ++ line)) h1.rest) g.D.Disk.state c.loop-line.server
+    c.serve_line.new.server _ _ c.in_err-serve_line.ensures.broken))
 
 pub returns-clause-each : goal.returns-clause-each
 returns-clause-each g c = λ first old input is each.

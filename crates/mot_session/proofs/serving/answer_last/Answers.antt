@@ -5,10 +5,10 @@ use Rattle.mot_lines.specs.Lines.{whole_lines, rest_of, lines_of}
 use Rattle.mot_lines.proofs.Laws.{lines_of-ended, lines_of-begun}
 use Rattle.mot_session.specs.Served.{Served}
 use Rattle.mot_session.specs.State.{state_of}
-use Rattle.mot_session.proofs.Outcomes.{later-answers, later-begins}
 use Rattle.mot_session.proofs.Runs.{Served-push, Stopped-here}
 use Rattle.mot_session.specs.LineByLine.{ServesEach}
 use Rattle.mot_session.proofs.Each.{each-more, some-here}
+use Rattle.mot_session.proofs.Kept.{BreaksOff-of_line, ServesOne-of_line}
 use Rattle.mot_session.proofs.serving.answer_last.Goals as goal
 
 pub returns-then-is_empty-clause-lines : goal.returns-then-is_empty-clause-lines
@@ -39,45 +39,44 @@ pub returns-in-Ok-clause-ended : goal.returns-in-Ok-clause-ended
 returns-in-Ok-clause-ended g c = λ none before old input is s stands honest.
     let state = g.D.Disk.state in
     let mid = c.args.server.now in
-    let new = c.answer_line.new.server in
+    let new = c.serve_line.new.server in
     let some : rest_of input ≡ [] → ⊥ = λ h. both_ways _ c.if-is_empty.false
     ((c.is_empty.ensures (rest_of input) is.rest).1 h) in
     let e : lines_of input ≡ whole_lines input ++ rest_of input ∷ [] = lines_of-begun input some in
-    let was = c.in-Ok.ensures.goes.keeps.was_honest honest in
-    let a = c.in-Ok.ensures.answers (rest_of input) is.rest s stands honest in
-    let told = a.2 in
-    let later = later-answers (state_of mid s (state mid.disk))
-    (state_of new a.0 (state new.disk)) _
-    told.reply told.answers.answers in (
+    let one = c.in-Ok.ensures.answered in
+    let whole = ServesOne-of_line c.as_slice.result.now (rest_of input)
+    (c.as_slice.ensures.asks (rest_of input) is.rest) state mid new _ _ one in
+    let was = one.goes.keeps.was_honest honest in
+    let a = whole.answered s stands honest in (
       a.0,
       a.1,
       λ served. subst (λ l. Served (state new.disk) before (state_of new a.0 (state new.disk)) l old
-          (g.W.Write.contents c.answer_line.new.writer)) (sym e)
+          (g.W.Write.contents c.serve_line.new.writer)) (sym e)
           (Served-push mid new s a.0 (state mid.disk) (state new.disk)
           (g.met.D.Disk.sound mid.disk was) (g.met.D.Disk.sound new.disk honest) a.1 before
-          (whole_lines input) (rest_of input) old _ _ served later.moment told.reply told.answers
-          told.crosses),
+          (whole_lines input) (rest_of input) old _ _ served a.2
+          (λ halted. (one.goes.halted halted).1 honest)),
     )
 
 pub returns-in-Err-clause-unwritten : goal.returns-in-Err-clause-unwritten
 returns-in-Err-clause-unwritten g c = λ fault before old input is.
     let state = g.D.Disk.state in
     let mid = c.args.server.now in
-    let new = c.answer_line.new.server in
+    let new = c.serve_line.new.server in
     let some : rest_of input ≡ [] → ⊥ = λ h. both_ways _ c.if-is_empty.false
     ((c.is_empty.ensures (rest_of input) is.rest).1 h) in
     rw c.ended.ensures (λ s stands honest.
-    let was = c.in-Err.ensures.goes.keeps.was_honest honest in
-    let a = c.in-Err.ensures.answers (rest_of input) is.rest s stands honest in
-    let told = a.2 in
-    let later = later-begins (state_of mid s (state mid.disk)) (state_of new a.0 (state new.disk)) _
-    told.reply told.answers.begins in (
+    let one = c.in-Err.ensures.broken in
+    let cut = BreaksOff-of_line c.as_slice.result.now (rest_of input)
+    (c.as_slice.ensures.asks (rest_of input) is.rest) state mid new _ _ one in
+    let was = one.goes.keeps.was_honest honest in
+    let a = cut.broken s stands honest in (
       a.0,
       a.1,
       λ served. Stopped-here mid new s a.0 (state mid.disk) (state new.disk)
           (g.met.D.Disk.sound mid.disk was) (g.met.D.Disk.sound new.disk honest) a.1 before
           (whole_lines input)
-          (rest_of input) old _ _ served later.moment told.reply told.answers told.crosses
+          (rest_of input) old _ _ served a.2 (λ halted. (one.goes.halted halted).1 honest)
           c.args.lines is.counted (lines_of input) [] (lines_of-begun input some),
     ))
 
@@ -92,15 +91,20 @@ pub returns-in-Ok-clause-each : goal.returns-in-Ok-clause-each
 returns-in-Ok-clause-each g c = λ none first old input is each.
     let some : rest_of input ≡ [] → ⊥ = λ h. both_ways _ c.if-is_empty.false
     ((c.is_empty.ensures (rest_of input) is.rest).1 h) in
-    subst (λ l. ServesEach g.D.Disk.state first l c.answer_line.new.server old
-    (g.W.Write.contents c.answer_line.new.writer)) (sym (lines_of-begun input some))
-    (each-more g.D.Disk.state first c.args.server.now c.answer_line.new.server (whole_lines input)
-    (rest_of input) old _ _ each (c.in-Ok.ensures.serves (rest_of input) is.rest))
+    subst (λ l. ServesEach g.D.Disk.state first l c.serve_line.new.server old
+    (g.W.Write.contents c.serve_line.new.writer)) (sym (lines_of-begun input some))
+    (each-more g.D.Disk.state first c.args.server.now c.serve_line.new.server (whole_lines input)
+    (rest_of input) old _ _ each (ServesOne-of_line c.as_slice.result.now (rest_of input)
+    (c.as_slice.ensures.asks (rest_of input) is.rest) g.D.Disk.state c.args.server.now
+    c.serve_line.new.server _ _ c.in-Ok.ensures.answered))
 
 pub returns-in-Err-clause-some : goal.returns-in-Err-clause-some
 returns-in-Err-clause-some g c = λ fault first old input is each.
     let some : rest_of input ≡ [] → ⊥ = λ h. both_ways _ c.if-is_empty.false
     ((c.is_empty.ensures (rest_of input) is.rest).1 h) in
-    rw c.ended.ensures (some-here g.D.Disk.state first c.args.server.now c.answer_line.new.server
+    rw c.ended.ensures (some-here g.D.Disk.state first c.args.server.now c.serve_line.new.server
     (whole_lines input) (rest_of input) [] (lines_of input) c.args.lines old _ _
-    (lines_of-begun input some) is.counted each (c.in-Err.ensures.breaks (rest_of input) is.rest))
+    (lines_of-begun input some) is.counted each
+    (BreaksOff-of_line c.as_slice.result.now (rest_of input)
+    (c.as_slice.ensures.asks (rest_of input) is.rest) g.D.Disk.state c.args.server.now
+    c.serve_line.new.server _ _ c.in-Err.ensures.broken))
