@@ -235,14 +235,14 @@ module _ (view : RepositoryView) (command : Command) (next : Carousel) (done : D
 
 pub prepared_is : (view : RepositoryView) (command : Command) (p : Prepared) (from : ℕ)
     → IsWorkedOut view command p.inventory.carousel p.done from p.record → (IsFull view.journal → p.given.items ≡ records_of_catalogue (catalogue_in view))
-    → p.at ≡ area_start view.journal.geometry + from → p.body.items ≡ body_of command
+    → p.at ≡ area_start view.journal.geometry + from → p.body.now ≡ body_of command
     → p.inventory.extents.items ≡ extents_after (names_kept view.carousel) view.extents command from → IsPrepared view command p
 prepared_is view command p from is given at body extents =
     let g : Geometry = view.journal.geometry in
     let layout : Layout = view.journal.layout in
     let rewriting = is_rewriting g layout (catalogue_in view) is.whole in
     let within = body-within g view.extents command from is.lies in
-    let size : length p.body.items ≡ length (body_of command) = ap length body in
+    let size : length p.body.now ≡ length (body_of command) = ap length body in
     record {
       change = record {
         from = from;

@@ -13,9 +13,9 @@ use Rattle.mot_repository.specs.Repository.{RepositoryView}
 -- sound, and the body lies in the data area. What is kept after it has no fault either.
 pub record IsPrepared (view : RepositoryView) (command : Command) (p : Prepared) : Type 0 where
   pub change : IsPreparedChange view command p.done p.inventory.carousel p.inventory.extents.items
-      p.at p.body.items p.record p.given.items
+      p.at p.body.now p.record p.given.items
   pub given : IsFull view.journal → CanBeGiven view.journal p.given.items
   pub sound : is_sound view.journal.geometry view.journal.layout p.record ≡ true
-  pub within : p.at + length p.body.items ≤ length_of view.journal.geometry
+  pub within : p.at + length p.body.now ≤ length_of view.journal.geometry
   pub whole : IsWhole view.journal.geometry view.journal.layout
       (catalogue_with p.inventory.carousel p.inventory.extents.items)

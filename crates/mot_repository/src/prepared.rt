@@ -22,9 +22,9 @@ use mot_journal::{Layout, Record, area_start};
 use placing::{body_start, extents_after};
 use std::alloc::{AllocError, Global};
 
-/// A change that was worked out, with all memory that doing it takes.
+/// A change that was worked out, with all memory that doing it takes. Its body stays the command's.
 #[derive(Drop)]
-pub struct Prepared {
+pub struct Prepared<'a> {
     /// What is kept after it.
     pub(crate) inventory: Inventory,
     /// The transport ids that it takes.
@@ -32,14 +32,14 @@ pub struct Prepared {
     /// Where on the disk its body goes.
     pub(crate) at: u64,
     /// Its body, or no bytes.
-    pub(crate) body: Vec<u8>,
+    pub(crate) body: &'a [u8],
     /// Its record.
     pub(crate) record: Record,
     /// The records that a full half is rewritten to first; none where it has room.
     pub(crate) given: Vec<Record>,
 }
 
-impl Prepared {
+impl Prepared<'_> {
     /// The carousel after the change.
     pub fn next(&self) -> &Carousel
         ensures { result.now ≡ self.now.inventory.carousel }
@@ -52,14 +52,14 @@ impl Prepared {
 /// `BadName` where the layout has no room for the name, what the rules of the carousel refuse, and
 /// `NoRoom` where no gap holds the body. `OutOfMemory` may come at any point after the name. The
 /// records of a rewrite are made where the half is full.
-pub(crate) fn prepare_change(
+pub(crate) fn prepare_change<'a>(
     alloc: Global,
     geometry: &Geometry,
     layout: Layout,
     is_full: bool,
     inventory: &Inventory,
-    command: &Command,
-) -> Result<Prepared, Refusal>
+    command: &'a Command,
+) -> Result<Prepared<'a>, Refusal>
     requires valid { is_valid geometry.now ≡ true }
     requires whole { let kept = catalogue_with inventory.now.carousel inventory.now.extents.items in
         IsWhole geometry.now layout kept }
@@ -80,7 +80,6 @@ pub(crate) fn prepare_change(
         return Err(Refusal::NoRoom);
     };
     let given = records_to_give(alloc, is_full, inventory)?;
-    let body = body_copy(alloc, command)?;
     let record = record_of_change(&inventory.carousel, &change.next, command, start)?;
     let extents = extents_after(alloc, inventory, command, start)?;
     Ok(Prepared {
@@ -90,7 +89,7 @@ pub(crate) fn prepare_change(
         },
         done: change.done,
         at: place_in_area(geometry, start),
-        body,
+        body: body_bytes(command),
         record,
         given,
     })
@@ -124,14 +123,14 @@ fn is_name_too_long(layout: Layout, command: &Command) -> bool
 }
 
 /// The bytes that the command brings.
-fn body_copy(alloc: Global, command: &Command) -> Result<Vec<u8>, AllocError>
-    ensures { IfOk result (λ body. body.items ≡ body_of command.now) }
+fn body_bytes(command: &Command) -> &[u8]
+    ensures { result.now ≡ body_of command.now }
 {
     match command {
-        Command::Put { body, .. } => Vec::from_slice(alloc, body.as_bytes()),
-        Command::Replace { body, .. } => Vec::from_slice(alloc, body.as_bytes()),
-        Command::Withdraw { .. } => Ok(Vec::new(alloc)),
-        Command::Period(_) => Ok(Vec::new(alloc)),
+        Command::Put { body, .. } => body.as_bytes(),
+        Command::Replace { body, .. } => body.as_bytes(),
+        Command::Withdraw { .. } => &[],
+        Command::Period(_) => &[],
     }
 }
 

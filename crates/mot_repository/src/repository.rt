@@ -211,7 +211,7 @@ impl<D: Disk> Repository<D> {
     /// Works out what the command does, and takes all memory that doing it takes. It calls no
     /// device, and changes nothing. The refusals are `Halted`, those of the rules, `NoRoom` where
     /// no gap holds the body, `OutOfMemory`, and on layout 1 `BadName` for a name above 100 bytes.
-    pub fn prepare(&self, alloc: Global, command: &Command) -> Result<Prepared, Refusal>
+    pub fn prepare<'a>(&self, alloc: Global, command: &'a Command) -> Result<Prepared<'a>, Refusal>
         ensures prepared { IfOk result (λ p. IsPrepared self.now.view command.now p) }
         ensures going { OnOk result (IsFalse self.now.view.halted) }
         ensures refused { IfErr result
@@ -235,30 +235,30 @@ impl<D: Disk> Repository<D> {
         ensures keeps { Keeps (D.state self.old.disk) (D.state self.new.disk) }
         ensures cause { HasCause (D.state self.old.disk).failures
             (D.state self.new.disk).failures result }
-        ensures cost { (command : Command) → IsPrepared self.old.view command prepared
+        ensures cost { (command : Command) → IsPrepared self.old.view command prepared.entry
             → Costs (calls_of_command self.old.view.journal command)
             (D.state self.old.disk) (D.state self.new.disk) result }
         ensures fault { IfErr result (λ refusal. refusal ≡ DeviceFault) }
         ensures halted { OnErr result (IsHalted self.old.view self.new.view) }
-        ensures changed { (command : Command) → IsPrepared self.old.view command prepared
+        ensures changed { (command : Command) → IsPrepared self.old.view command prepared.entry
             → IfOk result (λ done. IsChanged self.old.view command done self.new.view) }
-        ensures kept { OnOk result (self.new.view.carousel ≡ prepared.inventory.carousel) }
+        ensures kept { OnOk result (self.new.view.carousel ≡ prepared.entry.inventory.carousel) }
 
         // At each moment a crash leaves what the disk stood for before the command, or what it
         // stands for after it.
-        ensures any_moment { (command : Command) → IsPrepared self.old.view command prepared
+        ensures any_moment { (command : Command) → IsPrepared self.old.view command prepared.entry
             → (s : Standing) → Holds self.old.view s (D.state self.old.disk)
             → Throughout (D.state self.old.disk) (D.state self.new.disk)
             (IsBeforeOrAfter self.old.view.journal.layout s command) }
 
         // So does a crash now, whether a device fault came or not.
-        ensures now { (command : Command) → IsPrepared self.old.view command prepared
+        ensures now { (command : Command) → IsPrepared self.old.view command prepared.entry
             → (s : Standing) → Holds self.old.view s (D.state self.old.disk)
             → (image : List ℕ) → (D.state self.new.disk).MayLeave image
             → IsBeforeOrAfter self.old.view.journal.layout s command image }
 
         // Once it is Ok, each crash leaves what it stands for after the command.
-        ensures ok { (command : Command) → IsPrepared self.old.view command prepared
+        ensures ok { (command : Command) → IsPrepared self.old.view command prepared.entry
             → (s : Standing) → Holds self.old.view s (D.state self.old.disk)
             → IfOk result (λ done. (next : Standing)
             × (after_command self.old.view.journal.layout s command ≡ Ok (next, done))
@@ -269,7 +269,7 @@ impl<D: Disk> Repository<D> {
             &mut self.disk,
             &prepared.given,
             prepared.at,
-            &prepared.body,
+            prepared.body,
             &prepared.record,
         );
         if let Err(refusal) = written {

@@ -86,4 +86,4 @@ returns-clause-prepared c = λ view k told.
       typed = c.in_ok-record.ensures.typed;
     } in
     prepared_is view c.args.command.now _ c.in-Some.start is (λ full. rw (carousel, extents) (c.in_ok-given.ensures (told full))) (rw geometry c.place_in_area.ensures)
-    c.in_ok-body.ensures (rw (carousel, extents) c.in_ok-extents.ensures)
+    c.body_bytes.ensures (rw (carousel, extents) c.in_ok-extents.ensures)

@@ -1,4 +1,4 @@
-use Rattle.std.proofs.Common.{◌∙◌, refl, sym, subst}
+use Rattle.std.proofs.Common.{refl, sym, subst}
 use Rattle.disk_store.proofs.Laws.{at_end}
 use Rattle.mot_repository.specs.Prepared.{IsPreparedFor, view_with}
 use Rattle.mot_repository.specs.Repository.{RepositoryView, IsBeforeOrAfter}
@@ -11,7 +11,7 @@ returns-in-Err-clause-any_moment g c = rw (← c.self.view_is) (λ command is s 
     let p = c.args.prepared in
     let view : RepositoryView = view_with r.journal r.inventory.carousel r.inventory.extents.items r.halted in
     c.commit_change-written.ensures.any_moment view s command p.done p.inventory.carousel is.change.from refl is.change.at_is
-    (c.deref-2.ensures.value ∙ is.change.body_is)
+    is.change.body_is
     (subst (λ l. IsPreparedFor view command p.done p.inventory.carousel is.change.from p.record l) (sym c.deref.ensures.value) is.change.prepared) holds)
 
 pub returns-clause-any_moment : goal.returns-clause-any_moment
@@ -20,7 +20,7 @@ returns-clause-any_moment g c = rw (← c.self.view_is) (λ command is s holds.
     let p = c.args.prepared in
     let view : RepositoryView = view_with r.journal r.inventory.carousel r.inventory.extents.items r.halted in
     c.commit_change-written.ensures.any_moment view s command p.done p.inventory.carousel is.change.from refl is.change.at_is
-    (c.deref-2.ensures.value ∙ is.change.body_is)
+    is.change.body_is
     (subst (λ l. IsPreparedFor view command p.done p.inventory.carousel is.change.from p.record l) (sym c.deref.ensures.value) is.change.prepared) holds)
 
 pub returns-clause-changed : goal.returns-clause-changed
@@ -45,7 +45,7 @@ returns-clause-ok g c = rw (← c.self.view_is) (λ command is s holds.
     let view : RepositoryView = view_with r.journal r.inventory.carousel r.inventory.extents.items r.halted in
     let new : RepositoryView = view_with c.commit_change-written.new.journal p.inventory.carousel p.inventory.extents.items r.halted in
     let found = c.in_default.ensures.ok view s command p.done p.inventory.carousel is.change.from refl is.change.at_is
-    (c.deref-2.ensures.value ∙ is.change.body_is)
+    is.change.body_is
     (subst (λ l. IsPreparedFor view command p.done p.inventory.carousel is.change.from p.record l) (sym c.deref.ensures.value) is.change.prepared) holds in
     (found.0, found.1, found.2 new refl holds.going refl is.change.extents_are))
 
