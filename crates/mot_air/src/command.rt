@@ -1,6 +1,6 @@
 //! The command line of the commands on air.
 ghost use Rattle.std.specs.Prelude.{◌≡◌, codes, false, IfOk};
-ghost use Rattle.clap.specs.Words.{app_of, rule_of};
+ghost use Rattle.clap.specs.Words.{app_of, new_app, rule_of};
 ghost use Rattle.clap.specs.declared.builder.Command.TheViews.{out-Command};
 ghost use Rattle.mot_air.specs.Command.{air_app, disk_app, path_rule, play_app, sync_app};
 ghost use Rattle.mot_air.specs.Command.{number_rule, word_rule};
@@ -12,27 +12,23 @@ use std::alloc::{AllocError, Global};
 pub(crate) fn command<'a>(alloc: Global) -> Result<Command<'a>, AllocError>
     ensures { IfOk result (λ command. app_of command ≡ air_app) }
 {
-    let play = play(alloc)?;
-    let sync = sync(alloc)?;
-    let export = on_disk(
-        alloc,
-        "export",
-        "Print the lines that rebuild the carousel of a disk",
-    )?;
-    let inspect = on_disk(
-        alloc,
-        "inspect",
-        "Print the sizes of a disk, what is free of them, and how long a turn takes",
-    )?;
     Command::new(alloc, "motcar")
         .bin_name("motcar")?
         .about("A data-service server for DAB digital radio")
         .no_binary_name(true)
         .subcommand_required(true)
-        .subcommand(play)?
-        .subcommand(sync)?
-        .subcommand(export)?
-        .subcommand(inspect)
+        .subcommand(play(alloc)?)?
+        .subcommand(sync(alloc)?)?
+        .subcommand(on_disk(
+            alloc,
+            "export",
+            "Print the lines that rebuild the carousel of a disk",
+        )?)?
+        .subcommand(on_disk(
+            alloc,
+            "inspect",
+            "Print the sizes of a disk, what is free of them, and how long a turn takes",
+        )?)
 }
 
 /// The command `play`.
@@ -40,44 +36,37 @@ fn play<'a>(alloc: Global) -> Result<Command<'a>, AllocError>
     ensures app { IfOk result (λ command. app_of command ≡ play_app) }
     ensures local { IfOk result (λ command. (out-Command command).has_globals ≡ false) }
 {
-    let disk = word(alloc, "DISK", "The file of the disk, or a block device");
-    let packets = word(
-        alloc,
-        "PACKETS",
-        "A named pipe, a device, a file, or - for standard output",
-    );
-    let folder = path(
-        alloc,
-        "folder",
-        "DIR",
-        "Make the carousel equal to this folder, at first and then between turns",
-    );
-    let types = types(alloc);
-    let lines = path(
-        alloc,
-        "lines",
-        "DIR",
-        "Answer the lines of the files in this folder, between packets, and take the files away",
-    );
-    let every = number(
-        alloc,
-        "every",
-        "Read lines behind so many packets [default: 8]",
-    );
-    let turns = number(
-        alloc,
-        "turns",
-        "End after so many whole turns [default: 16 into a file, else without end]",
-    );
-    Command::new(alloc, "play")
-        .about("Play a disk into a pipe, a device or a file, each packet in one write")
-        .arg(disk)?
-        .arg(packets)?
-        .arg(folder)?
-        .arg(types)?
-        .arg(lines)?
-        .arg(every)?
-        .arg(turns)
+    let about = "Play a disk into a pipe, a device or a file, each packet in one write";
+    bare(alloc, "play", about)
+        .arg(word(alloc, "DISK", "The file of the disk, or a block device"))?
+        .arg(word(
+            alloc,
+            "PACKETS",
+            "A named pipe, a device, a file, or - for standard output",
+        ))?
+        .arg(path(
+            alloc,
+            "folder",
+            "DIR",
+            "Make the carousel equal to this folder, at first and then between turns",
+        ))?
+        .arg(types(alloc))?
+        .arg(path(
+            alloc,
+            "lines",
+            "DIR",
+            "Answer the lines of the files in this folder, between packets, and take the files away",
+        ))?
+        .arg(number(
+            alloc,
+            "every",
+            "Read lines behind so many packets [default: 8]",
+        ))?
+        .arg(number(
+            alloc,
+            "turns",
+            "End after so many whole turns [default: 16 into a file, else without end]",
+        ))
 }
 
 /// The command `sync`.
@@ -85,14 +74,14 @@ fn sync<'a>(alloc: Global) -> Result<Command<'a>, AllocError>
     ensures app { IfOk result (λ command. app_of command ≡ sync_app) }
     ensures local { IfOk result (λ command. (out-Command command).has_globals ≡ false) }
 {
-    let disk = word(alloc, "DISK", "The file of the disk, or a block device");
-    let folder = word(alloc, "DIR", "The folder");
-    let types = types(alloc);
-    Command::new(alloc, "sync")
-        .about("Make the carousel of a disk equal to a folder")
-        .arg(disk)?
-        .arg(folder)?
-        .arg(types)
+    bare(
+        alloc,
+        "sync",
+        "Make the carousel of a disk equal to a folder",
+    )
+    .arg(word(alloc, "DISK", "The file of the disk, or a block device"))?
+    .arg(word(alloc, "DIR", "The folder"))?
+    .arg(types(alloc))
 }
 
 /// A command on a disk alone.
@@ -101,7 +90,15 @@ fn on_disk<'a>(alloc: Global, name: &'a str, about: &'a str) -> Result<Command<'
     ensures local { IfOk result (λ command. (out-Command command).has_globals ≡ false) }
 {
     let disk = word(alloc, "DISK", "The file of the disk, or a block device");
-    Command::new(alloc, name).about(about).arg(disk)
+    bare(alloc, name, about).arg(disk)
+}
+
+/// A command that has only its name and what the help says of it.
+fn bare<'a>(alloc: Global, name: &'a str, about: &'a str) -> Command<'a>
+    ensures app { app_of result ≡ new_app name.entry.now }
+    ensures local { (out-Command result).has_globals ≡ false }
+{
+    Command::new(alloc, name).about(about)
 }
 
 /// A word that has to be given.

@@ -10,6 +10,7 @@ use Rattle.mot_lines.specs.declared.line.Line.TheVariants.{Raw}
 use Rattle.mot_lines.specs.declared.line.Line.TheVariants as asks
 use Rattle.mot_lines.specs.declared.line.TheConstants.{MAX_LINE, MAX_PACKETS}
 use Rattle.mot_lines.specs.Export.{export_text}
+use Rattle.mot_lines.specs.Hand.{bytes_in_hand}
 use Rattle.mot_lines.specs.Line.{raw_of, request_of, line_of}
 use Rattle.mot_lines.specs.Lines.{whole_lines, rest_of, lines_of}
 use Rattle.mot_lines.specs.Text.{refusal_line}
@@ -54,6 +55,9 @@ last_line = refl
 no_last_line : lines_of (codes "a\n\n") ≡ codes "a" ∷ [] ∷ []
 unfolding lines_of whole_lines rest_of
 no_last_line = refl
+
+line_in_hand : bytes_in_hand (codes "list") ≡ codes "list"
+line_in_hand = refl
 
 list_line : line_of (codes "list") ≡ Ok asks.List
 unfolding line_of request_of

@@ -1,9 +1,9 @@
 //! The command line of the program.
-ghost use Rattle.std.specs.Prelude.{◌≡◌, false, IfOk};
+ghost use Rattle.std.specs.Prelude.{◌≡◌, [], false, IfOk};
 ghost use Rattle.clap.specs.Words.{app_of, rule_of};
 ghost use Rattle.clap.specs.declared.builder.Command.TheViews.{out-Command};
 ghost use Rattle.mot_program.specs.Command.{disk_app, disk_rule, format_app, memory_app};
-ghost use Rattle.mot_program.specs.Command.{option_rule, program_app, with_options};
+ghost use Rattle.mot_program.specs.Command.{option_rule, program_app, program_top, with_options};
 
 use clap::{Arg, ArgAction, Command, value_parser};
 use std::alloc::{AllocError, Global};
@@ -26,30 +26,34 @@ the log of sync tells, 2 where a word is wrong.";
 pub(crate) fn command<'a>(alloc: Global) -> Result<Command<'a>, AllocError>
     ensures { IfOk result (λ command. app_of command ≡ program_app) }
 {
-    let memory = memory(alloc)?;
-    let format = format(alloc)?;
-    let serve = on_disk(
-        alloc,
-        "serve",
-        "Serve standard input to standard output from a disk",
-    )?;
-    let check = on_disk(
-        alloc,
-        "check",
-        "Print what a disk keeps, whether it is clean, and its layout",
-    )?;
-    let migrate = on_disk(alloc, "migrate", "Rewrite a disk of layout 1 into layout 2")?;
-    Command::new(alloc, "motcar")
-        .bin_name("motcar")?
-        .about("A data-service server for DAB digital radio")
-        .after_help(NOTES)
-        .no_binary_name(true)
-        .subcommand_required(true)
-        .subcommand(memory)?
-        .subcommand(format)?
-        .subcommand(serve)?
-        .subcommand(check)?
-        .subcommand(migrate)
+    top(alloc)?
+        .subcommand(memory(alloc)?)?
+        .subcommand(format(alloc)?)?
+        .subcommand(on_disk(
+            alloc,
+            "serve",
+            "Serve standard input to standard output from a disk",
+        )?)?
+        .subcommand(on_disk(
+            alloc,
+            "check",
+            "Print what a disk keeps, whether it is clean, and its layout",
+        )?)?
+        .subcommand(on_disk(alloc, "migrate", "Rewrite a disk of layout 1 into layout 2")?)
+}
+
+/// The command line but for its commands.
+fn top<'a>(alloc: Global) -> Result<Command<'a>, AllocError>
+    ensures { IfOk result (λ command. app_of command ≡ record { top = program_top; subs = [] }) }
+{
+    let command = Command::new(alloc, "motcar").bin_name("motcar")?;
+    Ok(
+        command
+            .about("A data-service server for DAB digital radio")
+            .after_help(NOTES)
+            .no_binary_name(true)
+            .subcommand_required(true),
+    )
 }
 
 /// The command `memory`.
@@ -89,33 +93,28 @@ fn add_options<'a>(alloc: Global, command: Command<'a>) -> Result<Command<'a>, A
     ensures app { IfOk result (λ new. app_of new ≡ with_options (app_of command.entry)) }
     ensures local { IfOk result (λ new. (out-Command new).has_globals ≡ false) }
 {
-    let objects = option(alloc, "objects", "Objects at most, 1 to 250 [default: 16]");
-    let data = option(
-        alloc,
-        "data",
-        "Bytes for all bodies, 1 to 268435456 [default: 65536]",
-    );
-    let segment = option(
-        alloc,
-        "segment",
-        "Bytes of a segment, 64 to 8189 [default: 1024]",
-    );
-    let address = option(
-        alloc,
-        "address",
-        "Address of the packets, 1 to 1023 [default: 1]",
-    );
-    let packet = option(
-        alloc,
-        "packet",
-        "Bytes of a packet: 24, 48, 72 or 96 [default: 96]",
-    );
     command
-        .arg(objects)?
-        .arg(data)?
-        .arg(segment)?
-        .arg(address)?
-        .arg(packet)
+        .arg(option(alloc, "objects", "Objects at most, 1 to 250 [default: 16]"))?
+        .arg(option(
+            alloc,
+            "data",
+            "Bytes for all bodies, 1 to 268435456 [default: 65536]",
+        ))?
+        .arg(option(
+            alloc,
+            "segment",
+            "Bytes of a segment, 64 to 8189 [default: 1024]",
+        ))?
+        .arg(option(
+            alloc,
+            "address",
+            "Address of the packets, 1 to 1023 [default: 1]",
+        ))?
+        .arg(option(
+            alloc,
+            "packet",
+            "Bytes of a packet: 24, 48, 72 or 96 [default: 96]",
+        ))
 }
 
 /// An option that is a whole number.

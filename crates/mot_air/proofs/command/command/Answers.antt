@@ -9,12 +9,12 @@ returns c =
     let top : app_of c.subcommand_required.result ≡ record { top = air_top; subs = [] } =
     search rules in
     IfOk-weaker c.subcommand-4.result _ _ (λ command h.
-    h.shape c.in_ok-inspect.ensures.local ∙ ap₂ with_subcommand
-    (c.in_ok-subcommand-3.ensures.shape c.in_ok-export.ensures.local ∙ ap₂ with_subcommand
+    h.shape c.in_ok-on_disk-2.ensures.local ∙ ap₂ with_subcommand
+    (c.in_ok-subcommand-3.ensures.shape c.in_ok-on_disk.ensures.local ∙ ap₂ with_subcommand
     (c.in_ok-subcommand-2.ensures.shape c.in_ok-sync.ensures.local ∙ ap₂ with_subcommand
     (c.in_ok-subcommand.ensures.shape c.in_ok-play.ensures.local ∙ ap₂ with_subcommand
     top (ap (λ (a : App). a.top) c.in_ok-play.ensures.app))
     (ap (λ (a : App). a.top) c.in_ok-sync.ensures.app))
-    (ap (λ (a : App). a.top) c.in_ok-export.ensures.app))
-    (ap (λ (a : App). a.top) c.in_ok-inspect.ensures.app))
+    (ap (λ (a : App). a.top) c.in_ok-on_disk.ensures.app))
+    (ap (λ (a : App). a.top) c.in_ok-on_disk-2.ensures.app))
     c.subcommand-4.ensures

@@ -12,13 +12,13 @@ pub returns-clause-app : goal.returns-clause-app
 returns-clause-app c =
     let begun : app_of c.args.command ≡ app_of c.args.command = refl in
     IfOk-weaker c.arg-5.result _ _ (λ command h.
-    h.shape c.option-packet.ensures.local ∙ ap₂ with_rule
-    (c.in_ok-arg-4.ensures.shape c.option-address.ensures.local ∙ ap₂ with_rule
-    (c.in_ok-arg-3.ensures.shape c.option-segment.ensures.local ∙ ap₂ with_rule
-    (c.in_ok-arg-2.ensures.shape c.option-data.ensures.local ∙ ap₂ with_rule
-    (c.in_ok-arg.ensures.shape c.option-objects.ensures.local ∙ ap₂ with_rule
-    begun c.option-objects.ensures.rule) c.option-data.ensures.rule)
-    c.option-segment.ensures.rule) c.option-address.ensures.rule) c.option-packet.ensures.rule)
+    h.shape c.option-5.ensures.local ∙ ap₂ with_rule
+    (c.in_ok-arg-4.ensures.shape c.option-4.ensures.local ∙ ap₂ with_rule
+    (c.in_ok-arg-3.ensures.shape c.option-3.ensures.local ∙ ap₂ with_rule
+    (c.in_ok-arg-2.ensures.shape c.option-2.ensures.local ∙ ap₂ with_rule
+    (c.in_ok-arg.ensures.shape c.option.ensures.local ∙ ap₂ with_rule
+    begun c.option.ensures.rule) c.option-2.ensures.rule)
+    c.option-3.ensures.rule) c.option-4.ensures.rule) c.option-5.ensures.rule)
     c.arg-5.ensures
 
 pub returns-clause-local : goal.returns-clause-local
@@ -29,6 +29,6 @@ returns-clause-local c =
     (none _ _ _ c.in_ok-arg-3.ensures.globals
     (none _ _ _ c.in_ok-arg-2.ensures.globals
     (none _ _ _ c.in_ok-arg.ensures.globals c.requires
-    c.option-objects.ensures.local) c.option-data.ensures.local) c.option-segment.ensures.local)
-    c.option-address.ensures.local) c.option-packet.ensures.local)
+    c.option.ensures.local) c.option-2.ensures.local) c.option-3.ensures.local)
+    c.option-4.ensures.local) c.option-5.ensures.local)
     c.arg-5.ensures
