@@ -11,6 +11,7 @@ use Rattle.mot_air.specs.declared.used.AirDisk.{AirDisk}
 use Rattle.mot_air.specs.declared.used.AirDisk.TheVariants.{Opened}
 use Rattle.mot_base.specs.declared.refusal.Refusal.{Refusal}
 
+-- what holds since a file was opened is told of the disk that is handed out
 pub since_opened : {S : Type 0} {start : Ghosts S} (first disk : FileDiskFrom S start)
     (P : State → State → Type 0) → calls_on first ≡ opening_calls (file_state first).len
     → IsNew (file_state first).bytes (file_state first)
@@ -24,11 +25,13 @@ since_opened first disk P order new first_bytes since = record {
   since = since;
 }
 
+-- what follows from a fact of an Ok result
 pub IfOk-one : {T E : Type 0} {P Q : T → Type 0} (r : Result T E) → ((x : T) → P x → Q x)
     → IfOk r P → IfOk r Q
 IfOk-one (Ok x) f p = f x p
 IfOk-one (Err e) f p = tt
 
+-- what follows from a fact of an error
 pub IfErr-one : {T E : Type 0} {P Q : E → Type 0} (r : Result T E) → ((e : E) → P e → Q e)
     → IfErr r P → IfErr r Q
 IfErr-one (Ok x) f p = tt
@@ -44,20 +47,9 @@ pub done-is : {P : Type 0} (ended : Result Unit Refusal) (r : Result Bool Refusa
 done-is (Ok x) r p failed is = p
 done-is (Err e) r p failed is = absurd (subst IsFine (sym is ∙ failed) tt)
 
+-- an error of what was done before is the result's, with what is known of it
 pub refused-is : (Q : Refusal → Type 0) (ended : Result Unit Refusal) (r : Result Bool Refusal)
     → OnOk ended (r ≡ Ok true) → IfErr ended (λ e. r ≡ Err e) → IfErr ended Q → IfErr r Q
 refused-is Q (Ok x) r done failed why = subst (λ (t : Result Bool Refusal). IfErr t Q) (sym done) tt
 refused-is Q (Err e) r done failed why =
     subst (λ (t : Result Bool Refusal). IfErr t Q) (sym failed) why
-
--- a refusal is told with what it left
-pub part-is : {S : Type 0} {start : Ghosts S} (Q : Refusal → Type 0)
-    (P : Refusal → State → State → Type 0) (ended : Result Unit Refusal) (r : Result Bool Refusal)
-    (disk : FileDiskFrom S start) (used : AirDisk S start) → used ≡ Opened disk
-    → OnOk ended (r ≡ Ok true) → IfErr ended (λ e. r ≡ Err e)
-    → IfErr ended (λ e. SinceOpened (P e) disk) → IfErr r (λ e. Q e ⊎ OnOpened (P e) used)
-part-is Q P (Ok x) r disk used is done failed since =
-    subst (λ (t : Result Bool Refusal). IfErr t (λ e. Q e ⊎ OnOpened (P e) used)) (sym done) tt
-part-is Q P (Err e) r disk used is done failed since =
-    subst (λ (t : Result Bool Refusal). IfErr t (λ e. Q e ⊎ OnOpened (P e) used)) (sym failed)
-    (inr (subst (OnOpened (P e)) (sym is) since))

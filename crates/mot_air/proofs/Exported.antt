@@ -17,17 +17,19 @@ use Rattle.mot_repository.proofs.Laws.{rules_kept, standings-are_sound}
 use Rattle.mot_repository.specs.Opening.{IsOpened}
 use Rattle.mot_repository.specs.Repository.{Holds}
 use Rattle.mot_server.specs.Server.{ServerView}
-use Rattle.mot_update.proofs.Exported.{exports_are_taken}
+use Rattle.mot_update.proofs.Laws.{exports_are_taken}
 use Rattle.mot_update.specs.Export.{IsEmpty}
 
 -- the text of what an image stands for rebuilds it
-rebuilds_by_lines : (image : List ℕ) (s : Standing) → All (λ b. b < 256) image → stands_for image ≡ Ok s
+rebuilds_by_lines : (image : List ℕ) (s : Standing) → All (λ b. b < 256) image
+    → stands_for image ≡ Ok s
     → (first : Carousel) (limit : ℕ) → IsEmpty first → length s.carousel.objects ≤ limit
     → RebuildsByLines first limit (export_text s.carousel) s.carousel
 rebuilds_by_lines image s bytes stands first limit empty few = (
   rebuilding s.carousel,
   export_text-asks s.carousel (rules_kept image s bytes stands),
-  exports_are_taken s.carousel first limit empty few (standings-are_sound image s bytes stands).0.names,
+  exports_are_taken s.carousel first limit empty few
+      (standings-are_sound image s bytes stands).0.names,
 )
 
 module _ {D : Type 0} (state : D → State) (disk : D) (server new : ServerView D)
@@ -41,6 +43,7 @@ module _ {D : Type 0} (state : D → State) (disk : D) (server new : ServerView 
       still_unchanged (state disk) (state server.disk) (state new.disk)
       (opens.still (reads.keeps.was_honest honest)) (reads.unchanged honest)
 
+  -- lines that print what an open server holds export the disk's carousel, from its opening on
   pub exports : (result : Result Unit Refusal)
       → ((s : Standing) → Holds server.view s (state server.disk) → (state new.disk).IsHonest
       → OnOk result (Appends before after (export_text s.carousel)))
@@ -60,10 +63,12 @@ module _ {D : Type 0} (state : D → State) (disk : D) (server new : ServerView 
         (all bytes first.bytes).stands;
   }
 
+  -- a fault of the printing stops the export, from the disk's opening on
   pub stops : (result : Result Unit Refusal)
       → IfErr result (λ r. IsPrintingFault r (state server.disk).failures (state new.disk).failures)
       → IfErr result (λ r. StopsExporting r before after (state disk) (state new.disk))
   stops (Ok done) why = tt
   stops (Err refusal) why =
       ⊎_elim (λ is. unprinted is still_all)
-      (λ failed. unread failed.0 (rises_later _ _ _ opens.keeps.later reads.keeps.later failed.1) still_all) why
+      (λ failed. unread failed.0 (rises_later _ _ _ opens.keeps.later reads.keeps.later failed.1)
+      still_all) why

@@ -10,7 +10,7 @@ use Rattle.disk_store.specs.Disk.{IsHonestDisk, IsStill, State, OnlyReads, OnlyS
 use Rattle.mot_air.specs.Inspecting.{Inspects, StopsInspecting, bytes_of_all, bytes_of_bodies}
 use Rattle.mot_air.specs.Inspecting.{inspection_text, rates_text, sizes_text, turn_text, use_text}
 use Rattle.mot_air.specs.Inspecting.{uncounted, unprinted, unread}
-use Rattle.mot_air.specs.Inner.Inspected.{HasTold, IsInspectingFault}
+use Rattle.mot_air.specs.Inner.Inspected.{HasInspected, IsInspectingFault}
 use Rattle.mot_air.specs.Playing.{first_place}
 use Rattle.mot_air.proofs.Opened.{opened_holds, rises_later, still_unchanged}
 use Rattle.mot_base.specs.declared.geometry.Geometry.{Geometry}
@@ -78,7 +78,8 @@ module _ (view : RepositoryView) (s : Standing) (agrees : Agrees view s) where
       let number : length items ≡ length s.carousel.objects =
       same_count items agrees.bodies agrees.are_bodies
       ∙ ap (λ c. length (objects c)) (sym agrees.carousel) in
-      let used : sum_by (λ (o : beside.Object). o.length) items ≡ bytes_of_bodies s.carousel.objects =
+      let used : sum_by (λ (o : beside.Object). o.length) items
+      ≡ bytes_of_bodies s.carousel.objects =
       same_bytes 0 items agrees.bodies agrees.are_bodies
       ∙ ap (λ c. bytes_of_bodies (objects c)) (sym agrees.carousel) in
       let text : Geometry → Geometry → ℕ → ℕ → ℕ → ℕ → List ℕ =
@@ -109,9 +110,10 @@ module _ {D : Type 0} (state : D → State) (disk : D) (server new : ServerView 
       still_unchanged (state disk) (state server.disk) (state new.disk)
       (opens.still (reads.keeps.was_honest honest)) (reads.unchanged honest)
 
+  -- what is told of an open server inspects the disk, from its opening on
   pub inspects : (result : Result Unit Refusal)
       → ((s : Standing) → Holds server.view s (state server.disk) → (state new.disk).IsHonest
-      → OnOk result (HasTold server.view.journal (place_in server s) s before after))
+      → OnOk result (HasInspected server.view.journal (place_in server s) s before after))
       → OnOk result (Inspects before after (state disk) (state new.disk))
   inspects (Err refusal) told = tt
   inspects (Ok done) told = record {
@@ -120,7 +122,8 @@ module _ {D : Type 0} (state : D → State) (disk : D) (server new : ServerView 
         let was = reads.keeps.was_honest honest in
         let first = opened was in
         let holds = opened_holds (state disk) (state server.disk) server.view s
-        (sound disk (opens.keeps.was_honest was)) all first was (sound server.disk was) (opens.still was) going in
+        (sound disk (opens.keeps.was_honest was)) all first was (sound server.disk was)
+        (opens.still was) going in
         let has = told s holds honest in
         record {
           journal = with_records server.view.journal first.records;
@@ -137,6 +140,7 @@ module _ {D : Type 0} (state : D → State) (disk : D) (server new : ServerView 
         };
   }
 
+  -- a fault of the telling stops the inspection, from the disk's opening on
   pub stops : (result : Result Unit Refusal)
       → IfErr result (λ r. IsInspectingFault r (state server.disk).failures
       (state new.disk).failures before after)
@@ -145,5 +149,6 @@ module _ {D : Type 0} (state : D → State) (disk : D) (server new : ServerView 
   stops (Err refusal) why =
       ⊎_elim (λ is. unprinted is still_all)
       (λ silent. ⊎_elim (λ is. uncounted is silent.1 still_all)
-      (λ failed. unread failed.0 (rises_later _ _ _ opens.keeps.later reads.keeps.later failed.1) silent.1 still_all)
+      (λ failed. unread failed.0 (rises_later _ _ _ opens.keeps.later reads.keeps.later failed.1)
+      silent.1 still_all)
       silent.0) why

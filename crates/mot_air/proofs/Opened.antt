@@ -1,5 +1,6 @@
 -- What is known of a disk that was just opened.
-use Rattle.std.proofs.Common.{◌≡◌, ◌≢◌, ◌⊎◌, ◌∙◌, ℕ, List, [], ◌++◌, Bool, Option, Result, Ok, inl, inr}
+use Rattle.std.proofs.Common.{◌≡◌, ◌≢◌, ◌⊎◌, ◌∙◌, ℕ, List, [], ◌++◌, Bool, Option, Result, Ok, inl}
+use Rattle.std.proofs.Common.{inr}
 use Rattle.std.proofs.Common.{◌≤◌, arith, sym, subst}
 use Rattle.std.specs.Prelude.{IsFalse}
 use Rattle.std.proofs.Math.Logic.{⊎_elim}
@@ -113,6 +114,7 @@ calm_refused : (refusal : Refusal) (m n : ℕ) → (refusal ≡ DeviceFault) ⊎
 calm_refused refusal m n (inl is) other = absurd (other is)
 calm_refused refusal m n (inr same) other = same
 
+-- a disk that an opening refused, and that was only synced, is unopened
 pub unopened_is : (refusal : Refusal) (start now : State) → IsOpeningRefusal start now refusal
     → (refusal ≡ DeviceFault) ⊎ (now.failures ≡ start.failures)
     → (now.IsHonest → IsStill start now) → IsUnopened refusal start now

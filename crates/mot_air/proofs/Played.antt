@@ -1,9 +1,10 @@
 -- Playing a disk, from its opening on.
-use Rattle.std.proofs.Common.{◌≡◌, ◌∙◌, ◌<◌, arith, ℕ, Bool, true, List, Option, None, Result, Ok, Err, subst}
+use Rattle.std.proofs.Common.{◌≡◌, ◌∙◌, ◌<◌, arith, ℕ, Bool, true, List, Option, None, Result, Ok}
+use Rattle.std.proofs.Common.{Err, subst}
 use Rattle.std.specs.Prelude.{IsFalse, OnOk, IfErr}
 use Rattle.std.proofs.lemmas.Bool.Decides.{nat_tests}
 use Rattle.disk_store.specs.Disk.{State, IsHonestDisk, KeepsLength, OnlySyncs}
-use Rattle.mot_air.specs.Playing.{HasPlayed, Plays, StopsPlaying}
+use Rattle.mot_air.specs.Playing.{HasAired, Plays, StopsPlaying}
 use Rattle.mot_air.specs.Playing.{first_place}
 use Rattle.mot_air.specs.Playing.{stopped}
 use Rattle.mot_air.proofs.Opened.{AllAre, breaks_off, opened_holds, opened_leaves}
@@ -19,7 +20,7 @@ use Rattle.mot_player.specs.Turn.{turn_of_carousel}
 use Rattle.mot_repository.specs.Opening.{IsOpened}
 use Rattle.mot_repository.specs.Repository.{Agrees, Holds}
 use Rattle.mot_server.specs.Server.{ServerView, place_in}
-use Rattle.mot_update.specs.Faults.{IsCalm}
+use Rattle.mot_update.specs.Faults.{StaysCalm}
 
 some_room : (g : Geometry) → is_valid g ≡ true → 0 < packet_room g
 some_room g is = grind (arith, nat_tests)
@@ -39,7 +40,8 @@ module _ {D : Type 0} (state : D → State) (disk : D) (server new : ServerView 
   holds_opened s honest all =
       let was = keeps.was_honest honest in
       opened_holds (state disk) (state server.disk) server.view s
-      (sound disk (opens.keeps.was_honest was)) all (opened was) was (sound server.disk was) (opens.still was)
+      (sound disk (opens.keeps.was_honest was)) all (opened was) was (sound server.disk was)
+      (opens.still was)
       going
 
   room : (s : Standing) → Agrees server.view s → 0 < packet_room s.geometry
@@ -51,13 +53,14 @@ module _ {D : Type 0} (state : D → State) (disk : D) (server new : ServerView 
       (packets : List (List ℕ)) → (state new.disk).IsHonest → AllAre s (state disk)
       → HasFed server new (state server.disk) (state new.disk) s fault events
       → AreOf events packets → (waits ≡ true → are_uncut true events ≡ true)
-      → HasPlayed s waits fault events packets (state disk) (state new.disk)
+      → HasAired s waits fault events packets (state disk) (state new.disk)
   has_played s waits fault events packets honest all fed are uncut =
       let was = keeps.was_honest honest in
       let holds = holds_opened s honest all in
       let last : Standing = fed.leaves.last in
       let happened = subst (λ (p : Place). Happen s.geometry.objects s.geometry.segment_size
-      s.carousel p events last.carousel (place_in new last)) (at_start s holds.agrees) fed.happened in
+      s.carousel p events last.carousel (place_in new last)) (at_start s holds.agrees)
+      fed.happened in
       record {
         last = last.carousel;
         place = place_in new last;
@@ -76,11 +79,13 @@ module _ {D : Type 0} (state : D → State) (disk : D) (server new : ServerView 
         uncut = uncut;
       }
 
+  -- what is fed of an open server plays the disk, from its opening on
   pub plays : (waits : Bool) (turns : ℕ) (before after : Option (List (List ℕ)))
       (result : Result Unit Refusal)
-      → OnOk result (IsCalm server new (state server.disk) (state new.disk))
+      → OnOk result (StaysCalm server new (state server.disk) (state new.disk))
       → ((s : Standing) → Holds server.view s (state server.disk) → (state new.disk).IsHonest
-      → OnOk result (Feeds server new (state server.disk) (state new.disk) s waits turns before after))
+      → OnOk result (Feeds server new (state server.disk) (state new.disk) s waits turns before
+      after))
       → OnOk result (Plays waits turns before after (state disk) (state new.disk))
   plays waits turns before after (Err refusal) stays feeds = tt
   plays waits turns before after (Ok done) stays feeds = record {
@@ -97,6 +102,7 @@ module _ {D : Type 0} (state : D → State) (disk : D) (server new : ServerView 
         };
   }
 
+  -- a fault of the feed stops the playing, from the disk's opening on
   pub stops : (waits : Bool) (before after : Option (List (List ℕ)))
       (result : Result Unit Refusal)
       → IfErr result (λ r. IsFeedFault server (state server.disk) (state new.disk) r)

@@ -1,5 +1,6 @@
 -- The lines of a carousel, written one after the other.
-use Rattle.std.proofs.Common.{◌≡◌, ℕ, zero, suc, ◌+◌, ◌-◌, ◌/◌, ◌%◌, ◌<◌, ◌≤◌, List, [], ◌∷◌, ◌++◌, length, take, drop, get_or}
+use Rattle.std.proofs.Common.{◌≡◌, ℕ, zero, suc, ◌+◌, ◌-◌, ◌/◌, ◌%◌, ◌<◌, ◌≤◌, List, [], ◌∷◌, ◌++◌}
+use Rattle.std.proofs.Common.{length, take, drop, get_or}
 use Rattle.std.proofs.Common.{Some, map, refl, sym, ap, ◌∙◌, subst, arith, add-one, append-nil}
 use Rattle.std.specs.Prelude.{OnOk, Result, Ok, Err, slice_get, slice_index, slice_range}
 use Rattle.std.specs.List.{flat_map}
@@ -12,13 +13,15 @@ use Rattle.mot_carousel.specs.Carousel.{Object}
 use Rattle.mot_carousel.specs.Carousel as whole
 use Rattle.mot_journal.specs.Image.{Standing}
 use Rattle.mot_carousel.specs.Stands.{object_of, objects_of}
-use Rattle.mot_repository.specs.Repository.{Agrees, RepositoryView, body_at}
+use Rattle.mot_repository.specs.Repository.{Agrees, RepositoryView, object_body}
 
 digits-append : (t xs ys : List ℕ) → encode_with t (xs ++ ys) ≡ encode_with t xs ++ encode_with t ys
 unfolding encode_with
 digits-append t [] ys = refl
-digits-append t (x ∷ xs) ys = ap (λ l. slice_index t (x / 16) ∷ slice_index t (x % 16) ∷ l) (digits-append t xs ys)
+digits-append t (x ∷ xs) ys =
+    ap (λ l. slice_index t (x / 16) ∷ slice_index t (x % 16) ∷ l) (digits-append t xs ys)
 
+-- no bytes have no digits
 pub digits-none : encode_lower [] ≡ []
 unfolding encode_with
 digits-none = refl
@@ -44,6 +47,7 @@ take_next [] i x at = absurd (cc)
 take_next (y ∷ xs) zero x at = ap (λ z. z ∷ []) (same_some y x at)
 take_next (y ∷ xs) (suc i) x at = ap (λ l. y ∷ l) (take_next xs i x at)
 
+-- the lines of one more of a list are those before it, and its own
 pub lines-more : {A : Type 0} (line : A → List ℕ) (xs : List A) (i : ℕ) (x : A)
     → slice_get xs i ≡ Some x
     → flat_map line (take (i + 1) xs) ≡ flat_map line (take i xs) ++ line x
@@ -59,13 +63,14 @@ same_object x o e = cc
 -- the object at a place, from the one in memory and its body
 pub object_at : (os : List beside.Object) (bodies : List (List ℕ)) (i : ℕ) (o : beside.Object)
     → map length bodies ≡ map (λ (x : beside.Object). x.length) os → slice_get os i ≡ Some o
-    → slice_get (objects_of os bodies) i ≡ Some (object_of o (body_at (objects_of os bodies) i))
+    → slice_get (objects_of os bodies) i ≡ Some (object_of o (object_body (objects_of os bodies) i))
 object_at [] bodies i o sized at = absurd (cc)
 object_at (x ∷ os) [] i o sized at = absurd (cc)
 object_at (x ∷ os) (b ∷ bodies) zero o sized at =
     ap (λ (y : beside.Object). Some (object_of y b)) (same_object x o at)
 object_at (x ∷ os) (b ∷ bodies) (suc i) o sized at =
-    object_at os bodies i o (let e : map length bodies ≡ map (λ (y : beside.Object). y.length) os = cc in e) at
+    object_at os bodies i o (let e : map length bodies ≡ map (λ (y : beside.Object). y.length) os =
+    cc in e) at
 
 few-objects : (os : List beside.Object) (bodies : List (List ℕ))
     → length (objects_of os bodies) ≤ length os
@@ -89,17 +94,21 @@ module _ (view : RepositoryView) (s : Standing) (agrees : Agrees view s) where
   -- the object at this place
   pub object_here : (i : ℕ) (x : beside.Object) → i < length view.carousel.objects.items
       → x ≡ get_or view.carousel.objects.items i x
-      → slice_get objects i ≡ Some (object_of x (body_at objects i))
+      → slice_get objects i ≡ Some (object_of x (object_body objects i))
   object_here i x lt is =
-      let here = get-slice view.carousel.objects.items i x lt ∙ ap (λ (o : beside.Object). Some o) (sym is) in
-      subst (λ (os : List Object). slice_get os i ≡ Some (object_of x (body_at os i))) (sym whole_is)
+      let here = get-slice view.carousel.objects.items i x lt
+      ∙ ap (λ (o : beside.Object). Some o) (sym is) in
+      subst (λ (os : List Object). slice_get os i ≡ Some (object_of x (object_body os i)))
+      (sym whole_is)
       (object_at view.carousel.objects.items agrees.bodies i x agrees.are_bodies here)
 
+  -- an object that is kept, with its body on the disk, is the carousel's at that place
   pub object_is : (i : ℕ) (x : beside.Object) (o : Object)
       → i < length view.carousel.objects.items → x ≡ get_or view.carousel.objects.items i x
-      → slice_get objects i ≡ Some o → object_of x (body_at objects i) ≡ o
+      → slice_get objects i ≡ Some o → object_of x (object_body objects i) ≡ o
   object_is i x o lt is at = same_some _ o (sym (object_here i x lt is) ∙ at)
 
+  -- for each object that is kept the carousel has one at its place
   pub some_object : (i : ℕ) → i < length view.carousel.objects.items
       → (o : Object) × (slice_get objects i ≡ Some o)
   some_object i lt = first view.carousel.objects.items refl
@@ -108,9 +117,9 @@ module _ (view : RepositoryView) (s : Standing) (agrees : Agrees view s) where
           → (o : Object) × (slice_get objects i ≡ Some o)
       first [] is = absurd (omega (arith, lt, ap length is))
       first (x ∷ os) is = (
-        object_of (get_or view.carousel.objects.items i x) (body_at objects i),
+        object_of (get_or view.carousel.objects.items i x) (object_body objects i),
         subst (λ (os : List Object). slice_get os i
-            ≡ Some (object_of (get_or view.carousel.objects.items i x) (body_at os i)))
+            ≡ Some (object_of (get_or view.carousel.objects.items i x) (object_body os i)))
             (sym whole_is)
             (object_at view.carousel.objects.items agrees.bodies i
             (get_or view.carousel.objects.items i x) agrees.are_bodies
@@ -125,6 +134,7 @@ module _ (view : RepositoryView) (s : Standing) (agrees : Agrees view s) where
       ap length whole_is in
       take_all i objects (omega (arith, few, size, le))
 
+-- what follows from what holds on Ok, holds on Ok
 pub OnOk-one : {T E P R : Type 0} (r : Result T E) → (P → R) → OnOk r P → OnOk r R
 OnOk-one (Ok x) f p = f p
 OnOk-one (Err e) f p = tt

@@ -7,7 +7,8 @@ use Rattle.std.specs.Prelude.{◌⊎◌, IfErr, IfOk, IsFalse, OnOk}
 use Rattle.disk_store.specs.Disk.{State, IsHonestDisk, KeepsLength, OnlySyncs}
 use Rattle.mot_air.specs.Inner.Looked.{LooksAndTells}
 use Rattle.mot_air.specs.Inner.Looked as looks
-use Rattle.mot_air.specs.Syncing.{HasSynced, HasUpdated, IsBrokenOff, IsEqual, StopsSyncing, Syncs, SyncsAndTells}
+use Rattle.mot_air.specs.Syncing.{HasSynced, HasUpdated, IsBrokenOff, IsEqual, StopsSyncing, Syncs}
+use Rattle.mot_air.specs.Syncing.{SyncsAndTells}
 use Rattle.mot_air.specs.Syncing.{broken, untold, stopped}
 use Rattle.mot_air.specs.Syncing as synced
 use Rattle.mot_air.proofs.Opened.{AllAre, breaks_off, opened_holds, opened_leaves}
@@ -18,7 +19,7 @@ use Rattle.mot_base.specs.declared.refusal.Refusal.TheVariants.{OutOfMemory, Wri
 use Rattle.mot_carousel.specs.Carousel.{IsSound, carousel_after}
 use Rattle.mot_carousel.specs.declared.command.Command.{Command}
 use Rattle.mot_feed.specs.Feeding.{IsFeedFault}
-use Rattle.mot_folder.specs.Log.{Entry, HasTold}
+use Rattle.mot_folder.specs.Log.{LogEntry, ReportTells}
 use Rattle.mot_folder.specs.Looked.{HasLookedAtFolder, listed, unlisted}
 use Rattle.mot_folder.specs.declared.report.Report.{Report}
 use Rattle.mot_base.specs.Geometry.{is_valid}
@@ -29,8 +30,8 @@ use Rattle.mot_repository.specs.Repository.{Agrees, Holds}
 use Rattle.mot_server.proofs.Laws.{valid_is}
 use Rattle.mot_server.specs.Runs.{accepted_commands}
 use Rattle.mot_server.specs.Server.{ServerView}
-use Rattle.mot_update.proofs.Made.{made}
-use Rattle.mot_update.specs.Faults.{IsCalm}
+use Rattle.mot_update.proofs.Laws.{made}
+use Rattle.mot_update.specs.Faults.{StaysCalm}
 use Rattle.mot_update.specs.Looking.{AreAccepted, HasLooked}
 use Rattle.mot_update.specs.Updating.{updating}
 
@@ -56,7 +57,8 @@ module _ {D : Type 0} (state : D → State) (disk : D) (server new : ServerView 
   holds_opened s honest all =
       let was = keeps.was_honest honest in
       opened_holds (state disk) (state server.disk) server.view s
-      (sound disk (opens.keeps.was_honest was)) all (opened was) was (sound server.disk was) (opens.still was)
+      (sound disk (opens.keeps.was_honest was)) all (opened was) was (sound server.disk was)
+      (opens.still was)
       going
 
   sound_carousel : (s : Standing) → (state new.disk).IsHonest → AllAre s (state disk)
@@ -74,7 +76,8 @@ module _ {D : Type 0} (state : D → State) (disk : D) (server new : ServerView 
 
   is_equal : (s : Standing) (names : List (List ℕ)) → (state new.disk).IsHonest
       → AllAre s (state disk)
-      → (looked : HasLooked server new (state server.disk) (state new.disk) s names 0 None None true None)
+      → (looked : HasLooked server new (state server.disk) (state new.disk) s names 0 None None true
+      None)
       → IsEqual s names looked.wanted (state new.disk)
   is_equal s names honest all looked =
       let runs = looked.runs in
@@ -82,8 +85,10 @@ module _ {D : Type 0} (state : D → State) (disk : D) (server new : ServerView 
       let whole : runs.commands ≡ updating s.carousel names looked.wanted =
       sym (append-nil runs.commands) ∙ ap (λ l. runs.commands ++ l) (sym (runs.whole refl))
       ∙ sym runs.split in
-      let done = all_accepted runs.commands runs.marks (runs.accepted refl refl) (run.whole refl) ∙ whole in
-      let after = subst (λ l. carousel_after s.carousel s.geometry.objects l ≡ Some run.leaves.last.carousel)
+      let done = all_accepted runs.commands runs.marks (runs.accepted refl refl) (run.whole refl)
+      ∙ whole in
+      let after = subst (λ l. carousel_after s.carousel s.geometry.objects l
+      ≡ Some run.leaves.last.carousel)
       done run.leaves.after.carousel in
       record {
         every = looked.every refl refl;
@@ -98,8 +103,9 @@ module _ {D : Type 0} (state : D → State) (disk : D) (server new : ServerView 
   has_synced : (s : Standing) (path : List ℕ) (report : Report) (fault : Option Refusal)
       → (state new.disk).IsHonest → AllAre s (state disk)
       → HasLookedAtFolder server new (state server.disk) (state new.disk) s path report fault
-      → (entries : List Entry) × HasSynced (not report.any_refused) fault path entries (state disk)
-      (state new.disk) s × HasTold report entries
+      → (entries : List LogEntry)
+      × HasSynced (not report.any_refused) fault path entries (state disk)
+      (state new.disk) s × ReportTells report entries
   has_synced s path report fault honest all (unlisted refused none run entries told are) =
       let was = keeps.was_honest honest in (
         entries,
@@ -120,7 +126,8 @@ module _ {D : Type 0} (state : D → State) (disk : D) (server new : ServerView 
           marks = looked.runs.marks;
           leaves = opened_leaves (state disk) (state server.disk) (state new.disk) server.view
               new.view s looked.runs.commands looked.runs.marks fault
-              (sound disk (opens.keeps.was_honest was)) all (opens.still was) looked.runs.run.leaves;
+              (sound disk (opens.keeps.was_honest was)) all (opens.still was)
+              looked.runs.run.leaves;
           answers = looked.runs.answers;
           answered = looked.runs.told;
         }) (equal (not report.any_refused) fault looked) tells.are,
@@ -128,7 +135,8 @@ module _ {D : Type 0} (state : D → State) (disk : D) (server new : ServerView 
       )
     where
       equal : (fine : Bool) (fault : Option Refusal)
-          → (l : HasLooked server new (state server.disk) (state new.disk) s names 0 None None fine fault)
+          → (l : HasLooked server new (state server.disk) (state new.disk) s names 0 None None fine
+          fault)
           → fine ≡ true → fault ≡ None → IsEqual s names l.wanted (state new.disk)
       equal true None l e n = is_equal s names honest all l
       equal false fault l e n = absurd (cc)
@@ -161,8 +169,9 @@ module _ {D : Type 0} (state : D → State) (disk : D) (server new : ServerView 
     synced-cases s all honest each (looks.untold report refusal is why look) =
         absurd (subst IsFine is tt)
 
+    -- a look at the folder that came to its end syncs the disk, from its opening on
     pub syncs : (result : Result Bool Refusal)
-        → OnOk result (IsCalm server new (state server.disk) (state new.disk))
+        → OnOk result (StaysCalm server new (state server.disk) (state new.disk))
         → ((s : Standing) → Holds server.view s (state server.disk) → (state new.disk).IsHonest
         → LooksAndTells server new (state server.disk) (state new.disk) s path before after result)
         → IfOk result (λ all. Syncs all path before after (state disk) (state new.disk))
@@ -189,6 +198,7 @@ module _ {D : Type 0} (state : D → State) (disk : D) (server new : ServerView 
         (subst (λ (e : Refusal). (e ≡ WriteFault) ⊎ (e ≡ OutOfMemory))
         (sym (same_err r refusal is)) why) done.1
 
+    -- a look that broke off, or could not be told, stops the sync, from the disk's opening on
     pub stops : (result : Result Bool Refusal)
         → IfErr result (λ r. IsFeedFault server (state server.disk) (state new.disk) r)
         → ((s : Standing) → Holds server.view s (state server.disk) → (state new.disk).IsHonest

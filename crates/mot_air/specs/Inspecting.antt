@@ -57,7 +57,8 @@ seconds_line rate bytes =
 -- a turn of so many packets and bytes
 abbrev pub turn_text : ℕ → ℕ → List ℕ
 turn_text packets bytes =
-    codes "turn " ++ decimal packets ++ codes " packets " ++ decimal bytes ++ codes " bytes" ++ 10 ∷ []
+    codes "turn " ++ decimal packets ++ codes " packets " ++ decimal bytes ++ codes " bytes" ++ 10
+    ∷ []
 
 abbrev pub rates_text : ℕ → List ℕ
 rates_text bytes =
@@ -82,7 +83,7 @@ inspection_text s layout records gap packets =
 -- old and are new.
 
 -- it was told of a disk of these bytes, which stands for s
-pub record Tells (s : Standing) (bytes : List ℕ) (old new : Option (List ℕ)) : Type 0 where
+pub record TellsOfDisk (s : Standing) (bytes : List ℕ) (old new : Option (List ℕ)) : Type 0 where
   pub journal : DiskRecords
   pub read : records_of bytes ≡ Ok journal
   pub gap : ℕ
@@ -96,7 +97,7 @@ pub record Tells (s : Standing) (bytes : List ℕ) (old new : Option (List ℕ))
 -- the disk was only synced, and that was told of it
 pub record Inspects (old new : Option (List ℕ)) (start now : State) : Type 0 where
   pub still : now.IsHonest → IsStill start now
-  pub told : OfStanding (λ s. Tells s start.bytes old new) start now
+  pub told : OfStanding (λ s. TellsOfDisk s start.bytes old new) start now
 
 -- why it could not be; the disk was only synced all the same
 pub data StopsInspecting (refusal : Refusal) (old new : Option (List ℕ)) (start now : State) :

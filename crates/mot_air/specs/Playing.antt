@@ -6,7 +6,7 @@ use Rattle.mot_base.specs.declared.refusal.Refusal.{Refusal}
 use Rattle.mot_carousel.specs.Carousel.{Carousel}
 use Rattle.mot_carousel.specs.declared.command.Command.{Command}
 use Rattle.mot_air.specs.Opening.{IsBreak, IsUnopened, Leaves, OfStanding}
-use Rattle.mot_feed.specs.Feeding.{AreOf, Event, Happen, accepted_in, are_uncut, has_ended}
+use Rattle.mot_feed.specs.Feeding.{AreOf, Event, Happen, commands_among, are_uncut, has_ended}
 use Rattle.mot_feed.specs.Feeding.{turns_in}
 use Rattle.mot_feed.specs.Writing.{Grows, GrowsPart}
 use Rattle.mot_journal.specs.Image.{Standing}
@@ -23,7 +23,7 @@ first_place s =
 
 -- These happened on a server that was opened of a disk that stood for s: their commands left this
 -- of the disk, and their packets are these, with their continuity indexes.
-pub record HasPlayed (s : Standing) (waits : Bool) (fault : Option Refusal) (events : List Event)
+pub record HasAired (s : Standing) (waits : Bool) (fault : Option Refusal) (events : List Event)
     (packets : List (List ℕ)) (start now : State) : Type 0 where
   pub last : Carousel
   pub place : Place
@@ -31,7 +31,7 @@ pub record HasPlayed (s : Standing) (waits : Bool) (fault : Option Refusal) (eve
       events last place
   pub commands : List Command
   pub marks : List Bool
-  pub accepted : accepted_in events ≡ accepted_commands commands marks
+  pub accepted : commands_among events ≡ accepted_commands commands marks
   pub leaves : Leaves s commands marks fault start now
   pub are : AreOf events packets
   pub continuous : IsContinuous packets
@@ -44,7 +44,7 @@ pub record WritesTurns (waits : Bool) (turns : ℕ) (before after : Option (List
     (start now : State) (s : Standing) : Type 0 where
   pub events : List Event
   pub packets : List (List ℕ)
-  pub played : HasPlayed s waits None events packets start now
+  pub played : HasAired s waits None events packets start now
   pub written : Grows before after packets
   pub ended : ((turns_in events ≡ turns) × (has_ended true events ≡ true))
       ⊎ (length packets ≡ 18446744073709551615)
@@ -57,7 +57,7 @@ pub record WritesPart (refusal : Refusal) (waits : Bool) (before after : Option 
   pub told : (fault ≡ Some refusal) ⊎ (fault ≡ None)
   pub events : List Event
   pub packets : List (List ℕ)
-  pub played : HasPlayed s waits fault events packets start now
+  pub played : HasAired s waits fault events packets start now
   pub written : GrowsPart refusal packets before after
 
 -- the disk was played, and has not failed

@@ -25,8 +25,8 @@ use Rattle.mot_base.specs.declared.refusal.Refusal.TheVariants.{OutOfMemory, Rea
 use Rattle.mot_base.specs.declared.refusal.Refusal.TheVariants.{WriteFault}
 use Rattle.mot_folder.specs.Types.{IsTypesRefusal}
 
--- how many turns are played, where so many are asked for; and else sixteen into a file, behind which
--- its packets can begin anew, and as good as without end into all else
+-- how many turns are played, where so many are asked for; and else sixteen into a file, behind
+-- which its packets can begin anew, and as good as without end into all else
 abbrev pub turns_of : Target → Option ℕ → ℕ
 turns_of target (Some turns) = turns
 turns_of Output None = 18446744073709551615
@@ -37,8 +37,8 @@ turns_of File None = 16
 abbrev pub IsTarget : Text → Target → Type 0
 IsTarget path target = (path ≡ codes "-") ↔ (target ≡ Output)
 
--- why a disk was not played as it should be, in the turns that are asked for: playing stopped; or all
--- was played, and the file did not take its place
+-- why a disk was not played as it should be, in the turns that are asked for: playing stopped; or
+-- all was played, and the file did not take its place
 pub data FailsPlaying (target : Target) (waits : Bool) (turns : Option ℕ) (refusal : Refusal)
     (start now : State) : Type 0 where
   stopped : StopsPlaying refusal waits None None start now
@@ -78,8 +78,8 @@ module _ {S : Type 0} {start : Ghosts S} where
   StopsPlayingTo path waits turns r used =
       (target : Target) × IsTarget path target × OnOpened (FailsPlaying target waits turns r) used
 
-  -- In these the writer's known bytes were old and are new. Of what a pipe, a device or a file takes
-  -- no contract tells.
+  -- In these the writer's known bytes were old and are new. Of what a pipe, a device or a file
+  -- takes no contract tells.
 
   -- the task was done; where no lines are given, no command came within a turn
   abbrev pub Does : Task → AirDisk S start → (old new : Option (List ℕ)) → Type 0
@@ -108,8 +108,8 @@ module _ {S : Type 0} {start : Ghosts S} where
     pub untouched : IsUntouched used
     pub silent : Keeps old new
 
--- why there is no table of suffixes: there is no memory for it; or the file that adds some, where one
--- is given, can't be read, or a line of it is wrong
+-- why there is no table of suffixes: there is no memory for it; or the file that adds some, where
+-- one is given, can't be read, or a line of it is wrong
 abbrev pub IsUntyped : {A : Type 0} → (types : Option A) → Refusal → Type 0
 IsUntyped None r = r ≡ OutOfMemory
 IsUntyped (Some types) r = (r ≡ ReadFault) ⊎ IsTypesRefusal r
@@ -119,8 +119,8 @@ abbrev pub IsUnlined : {A : Type 0} → (lines : Option A) → Refusal → Type 
 IsUnlined None r = ⊥
 IsUnlined (Some lines) r = (r ≡ ReadFault) ⊎ (r ≡ OutOfMemory)
 
--- why a task is not begun: there is no table of suffixes, or no folder of lines, or the disk, or what
--- is to take the packets, can't be opened
+-- why a task is not begun: there is no table of suffixes, or no folder of lines, or the disk, or
+-- what is to take the packets, can't be opened
 abbrev pub IsBeginningRefusal : Task → Refusal → Type 0
 IsBeginningRefusal (Play p) r =
     IsUntyped p.types r ⊎ IsUnlined p.lines r ⊎ (r ≡ DeviceFault) ⊎ (r ≡ WriteFault)

@@ -8,7 +8,7 @@ use Rattle.mot_air.specs.Opening.{IsBreak, IsUnopened, Leaves, OfStanding}
 use Rattle.mot_base.specs.declared.refusal.Refusal.{Refusal}
 use Rattle.mot_base.specs.declared.refusal.Refusal.TheVariants.{OutOfMemory, ReadFault, WriteFault}
 use Rattle.mot_carousel.specs.declared.command.Command.{Command}
-use Rattle.mot_folder.specs.Log.{Entry, entry, entry_of, line_of, of_look}
+use Rattle.mot_folder.specs.Log.{LogEntry, entry, log_entry_of, log_line, of_look}
 use Rattle.mot_journal.specs.Image.{Standing}
 use Rattle.mot_repository.specs.Repository.{IsOf}
 use Rattle.mot_server.specs.declared.running.Attempt.TheVariants.{Refused}
@@ -44,7 +44,7 @@ pub record IsEqual (s : Standing) (names : List (List ℕ)) (wanted : List Wante
 
 -- What a look at the folder of this path made of a disk that stood for s; whether all of it is
 -- right, what broke it off, and what was told of it besides the files that could not be taken.
-pub data HasSynced (all : Bool) (fault : Option Refusal) (path : List ℕ) (entries : List Entry)
+pub data HasSynced (all : Bool) (fault : Option Refusal) (path : List ℕ) (entries : List LogEntry)
     (start now : State) (s : Standing) : Type 0 where
   -- the folder was not listed, and no command was run
   unlisted : all ≡ false → Leaves s [] [] None start now
@@ -53,15 +53,15 @@ pub data HasSynced (all : Bool) (fault : Option Refusal) (path : List ℕ) (entr
   listed : (names : List (List ℕ)) (wanted : List Wanted)
       → (updated : HasUpdated s names wanted fault start now)
       → (all ≡ true → fault ≡ None → IsEqual s names wanted now)
-      → of_look entries ≡ map entry_of updated.answers
+      → of_look entries ≡ map log_entry_of updated.answers
       → HasSynced all fault path entries start now s
 
 -- a look came to its end, and a line for each thing that is told of it was written to the log
 pub record SyncsAndTells (all : Bool) (path : List ℕ) (old new : Option (List ℕ))
     (start now : State) (s : Standing) : Type 0 where
-  pub entries : List Entry
+  pub entries : List LogEntry
   pub synced : HasSynced all None path entries start now s
-  pub written : Appends old new (flat_map line_of entries)
+  pub written : Appends old new (flat_map log_line entries)
 
 -- A look came to its end, and the disk has not failed; true where nothing was refused. The log's
 -- known bytes were old and are new.
@@ -73,10 +73,10 @@ pub record Syncs (all : Bool) (path : List ℕ) (old new : Option (List ℕ))
 -- the look broke off; or what is told of it could not be written, or had no memory
 pub data IsBrokenOff (refusal : Refusal) (path : List ℕ) (start now : State)
     (s : Standing) : Type 0 where
-  broken : (all : Bool) (entries : List Entry)
+  broken : (all : Bool) (entries : List LogEntry)
       → HasSynced all (Some refusal) path entries start now s
       → IsBrokenOff refusal path start now s
-  untold : (all : Bool) (entries : List Entry)
+  untold : (all : Bool) (entries : List LogEntry)
       → (refusal ≡ WriteFault) ⊎ (refusal ≡ OutOfMemory)
       → HasSynced all None path entries start now s → IsBrokenOff refusal path start now s
 

@@ -11,7 +11,7 @@ ghost use Rattle.mot_carousel.specs.Carousel as whole;
 ghost use Rattle.mot_journal.specs.Image.{Standing};
 ghost use Rattle.mot_lines.specs.Export.{content_words, export_text, front_words, mime_words};
 ghost use Rattle.mot_lines.specs.Export.{name_words, period_line, put_line};
-ghost use Rattle.mot_repository.specs.Repository.{Holds, body_at};
+ghost use Rattle.mot_repository.specs.Repository.{Holds, object_body};
 
 use crate::Ended;
 use disk_store::Disk;
@@ -159,7 +159,7 @@ fn write_body<D: Disk, W: Write>(
     ensures view { server.new.view ≡ server.old.view }
     ensures written { (s : Standing) → Holds server.old.view s (D.state server.old.disk)
         → (D.state server.new.disk).IsHonest → OnOk result (Appends (W.contents writer.old)
-        (W.contents writer.new) (encode_lower (body_at s.carousel.objects place))) }
+        (W.contents writer.new) (encode_lower (object_body s.carousel.objects place))) }
     ensures fault { IfErr result (λ r. IsPrintingFault r (D.state server.old.disk).failures
         (D.state server.new.disk).failures) }
 {

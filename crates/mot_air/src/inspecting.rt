@@ -6,7 +6,7 @@ ghost use Rattle.disk_store.specs.Disk.{KeepsLength, OnlyReads};
 ghost use Rattle.mot_air.specs.Inspecting.{Inspects, StopsInspecting, data_text, number_line};
 ghost use Rattle.mot_air.specs.Inspecting.{rates_text, seconds_line, shares_line, sizes_text};
 ghost use Rattle.mot_air.specs.Inspecting.{turn_text, use_text};
-ghost use Rattle.mot_air.specs.Inner.Inspected.{HasTold, IsCountingFault, IsInspectingFault};
+ghost use Rattle.mot_air.specs.Inner.Inspected.{HasInspected, IsCountingFault, IsInspectingFault};
 ghost use Rattle.mot_air.specs.Inner.Inspected.{IsTurnSize};
 ghost use Rattle.mot_base.specs.declared.refusal.Refusal.TheVariants.{WriteFault};
 ghost use Rattle.mot_carousel.specs.declared.object.Object.{Object};
@@ -61,7 +61,7 @@ fn write_inspection<D: Disk, W: Write>(
     ensures only_reads { OnlyReads (D.state server.old.disk) (D.state server.new.disk) }
     ensures told { (s : Standing) → Holds server.old.view s (D.state server.old.disk)
         → (D.state server.new.disk).IsHonest → OnOk result
-        (HasTold server.old.view.journal (place_in server.old s) s
+        (HasInspected server.old.view.journal (place_in server.old s) s
         (W.contents writer.old) (W.contents writer.new)) }
     ensures fault { IfErr result (λ r. IsInspectingFault r (D.state server.old.disk).failures
         (D.state server.new.disk).failures (W.contents writer.old) (W.contents writer.new)) }

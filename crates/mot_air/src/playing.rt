@@ -9,7 +9,7 @@ ghost use Rattle.mot_base.specs.declared.refusal.Refusal.TheVariants.{WriteFault
 ghost use Rattle.mot_feed.specs.Feeding.{IsFeedFault};
 ghost use Rattle.mot_journal.specs.Image.{Standing};
 ghost use Rattle.mot_repository.specs.Repository.{Holds};
-ghost use Rattle.mot_update.specs.Faults.{IsCalm};
+ghost use Rattle.mot_update.specs.Faults.{StaysCalm};
 
 use crate::log::SharedLog;
 use crate::spool::Spool;
@@ -166,7 +166,7 @@ fn look_and_tell<T: Files<File = File>, D: Disk, L: Write>(
 ) -> Result<bool, Refusal>
     ensures keeps { KeepsLength (D.state server.old.disk) (D.state server.new.disk) }
     ensures calm { OnOk result
-        (IsCalm server.old server.new (D.state server.old.disk) (D.state server.new.disk)) }
+        (StaysCalm server.old server.new (D.state server.old.disk) (D.state server.new.disk)) }
     ensures fault { IfErr result (λ r. IsFeedFault server.old
         (D.state server.old.disk) (D.state server.new.disk) r) }
     ensures looked { (s : Standing) → Holds server.old.view s (D.state server.old.disk)

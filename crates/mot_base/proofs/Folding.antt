@@ -1,11 +1,14 @@
 -- A word folded into those behind it: the divisor's sixteenth power has four terms.
-use Rattle.std.proofs.Common.{◌≡◌, ℕ, zero, suc, ◌+◌, ◌-◌, ◌*◌, ◌/◌, ◌%◌, ◌^◌, ◌<◌, Bool, true, false, not, ◌&&◌, List, [], ◌∷◌, ◌++◌, length, replicate, refl, sym, ap, ◌∙◌, arith, length-append, append_assoc, append-nil}
+use Rattle.std.proofs.Common.{◌≡◌, ℕ, zero, suc, ◌+◌, ◌-◌, ◌*◌, ◌/◌, ◌%◌, ◌^◌, ◌<◌, Bool, true}
+use Rattle.std.proofs.Common.{false, not, ◌&&◌, List, [], ◌∷◌, ◌++◌, length, replicate, refl, sym}
+use Rattle.std.proofs.Common.{ap, ◌∙◌, arith, length-append, append_assoc, append-nil}
 use Rattle.std.proofs.lemmas.List.{length-replicate}
 use Rattle.std.proofs.lemmas.Bool.{and_parts}
 use Rattle.std.specs.Int.RustNames.{bit_xor}
 use Rattle.mot_base.specs.Checksum.{xor, bits_of, added_to_front, remainder}
 use Rattle.mot_base.proofs.Bits.{add_zeros, add_parts, length_bits, bits_xor, bits_cat, low_bits}
-use Rattle.mot_base.proofs.Linear.{remainder-add, zeros_first, add_nothing, to_own_zeros, front_left}
+use Rattle.mot_base.proofs.Linear.{remainder-add, zeros_first, add_nothing, to_own_zeros}
+use Rattle.mot_base.proofs.Linear.{front_left}
 
 -- ---- sums
 
@@ -32,7 +35,8 @@ length-folded xs e =
       length-replicate 16 false,
     )
 
-length-far : (m : ℕ) (xs : List Bool) → length xs ≡ 64 → length (xs ++ replicate m false) ≡ 48 + m + 16
+length-far : (m : ℕ) (xs : List Bool) → length xs ≡ 64
+    → length (xs ++ replicate m false) ≡ 48 + m + 16
 length-far m xs e = omega (arith, length-append xs (replicate m false), length-replicate m false)
 
 -- zeros in both parts
@@ -153,7 +157,8 @@ length-one_at k p =
 
 length-others : (k : ℕ) (bits : List Bool) → k + length bits ≡ 64 →
     length (replicate k false ++ bits) ≡ 64
-length-others k bits e = omega (arith, length-append (replicate k false) bits, length-replicate k false)
+length-others k bits e =
+    omega (arith, length-append (replicate k false) bits, length-replicate k false)
 
 agree_behind : (bits : List Bool) (k : ℕ) → k + length bits ≡ 64 →
     far 256 (replicate k false ++ bits) ≡ near (replicate k false ++ bits)
@@ -197,7 +202,8 @@ fold_front m j xs tail e steps same =
     ap (λ n. remainder n (gap ++ tail)) steps ∙ zeros_first 64 (240 + j) tail in
     ap (remainder (48 + m + j)) (sym front)
     ∙ front_left (48 + m) j (xs ++ zeros) (gap ++ tail) (length-far m xs e)
-    ∙ ap (λ l. added_to_front (remainder j (l ++ replicate j false)) (remainder (48 + m + j) (gap ++ tail))) same
+    ∙ ap (λ l. added_to_front (remainder j (l ++ replicate j false))
+    (remainder (48 + m + j) (gap ++ tail))) same
     ∙ ap (added_to_front (remainder j (near xs ++ replicate j false))) behind
     ∙ sym (front_left 240 j (folded xs) tail (length-folded xs e))
 
@@ -223,7 +229,8 @@ moved_down x h =
     ap (bits_of 64) (let e : x ≡ 0 * 2 ^ 16 + x = omega arith in e) ∙ bits_cat 48 0 16 x h
     ∙ ap (λ l. l ++ bits_of 16 x) zero_bits
 
-moved_up : (a : ℕ) → bits_of 64 (a * 65536 % 18446744073709551616) ≡ bits_of 48 a ++ replicate 16 false
+moved_up : (a : ℕ) → bits_of 64 (a * 65536 % 18446744073709551616)
+    ≡ bits_of 48 a ++ replicate 16 false
 moved_up a =
     low_bits 64 (a * 65536)
     ∙ ap (bits_of 64) (let e : a * 65536 ≡ a * 2 ^ 16 + 0 = omega arith in e)
@@ -257,6 +264,7 @@ folded_words a h =
     ∙ ap (λ l. word ++ (bits_of 64 (a / 281474976710656)
     ++ (bits_of 64 (a * 65536 % 18446744073709551616) ++ l))) (sym (append-nil word))
 
+-- the first of five words, folded into those behind it, leaves the same remainder
 pub word_folded : (a b c d next n : ℕ) (rest : List Bool) → a < 18446744073709551616 →
     remainder (304 + n) (bits_of 64 a ++ (bits_of 64 b ++ (bits_of 64 c ++ (bits_of 64 d
     ++ (bits_of 64 next ++ rest)))))

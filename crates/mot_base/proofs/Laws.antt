@@ -1,5 +1,7 @@
 -- What holds of the definitions, for the crates above.
-use Rattle.std.proofs.Common.{◌≡◌, ℕ, zero, suc, ◌+◌, ◌-◌, ◌*◌, ◌/◌, ◌%◌, ◌^◌, ◌<◌, ◌≤◌, List, [], ◌∷◌, ◌++◌, true, false, eqb, refl, sym, length, drop, min, sum, arith, ap, ◌∙◌, length-append, eq-eqb, Option, Some, None}
+use Rattle.std.proofs.Common.{◌≡◌, ℕ, zero, suc, ◌+◌, ◌-◌, ◌*◌, ◌/◌, ◌%◌, ◌^◌, ◌<◌, ◌≤◌, List, []}
+use Rattle.std.proofs.Common.{◌∷◌, ◌++◌, true, false, eqb, refl, sym, length, drop, min, sum, arith}
+use Rattle.std.proofs.Common.{ap, ◌∙◌, length-append, eq-eqb, Option, Some, None}
 use Rattle.std.proofs.Math.Nat.{add-mul, mul-le-mul_right, pow-suc}
 use Rattle.std.proofs.Math.Seq.{take-append_seam, drop-append_seam}
 use Rattle.std.proofs.lemmas.List.{take-append-drop}
@@ -22,13 +24,16 @@ pub use Rattle.mot_base.proofs.Valid.{valid_is, is_valid_of}
 
 -- ---- lists
 
+-- lists of equal first elements and equal rests are equal
 pub cons_eq : {x y : ℕ} {xs ys : List ℕ} → x ≡ y → xs ≡ ys → x ∷ xs ≡ y ∷ ys
 cons_eq p q = cc
 
+-- a list with an element is not empty
 pub is_empty-some : (xs : List ℕ) → 0 < length xs → is_empty xs ≡ false
 is_empty-some [] h = absurd (omega arith)
 is_empty-some (x ∷ xs) h = refl
 
+-- a list that is not empty has an element
 pub length-some : (xs : List ℕ) → is_empty xs ≡ false → 0 < length xs
 length-some [] e = cc
 length-some (x ∷ xs) e = omega arith
@@ -36,29 +41,37 @@ length-some (x ∷ xs) e = omega arith
 -- ---- pieces: each has the size but the last, which is not empty
 
 -- n pieces of a size hold the bytes, and n - 1 do not
-pub record FullPieces (n size bytes : ℕ) : Type 0 where
+pub record PiecesRoundedUp (n size bytes : ℕ) : Type 0 where
+  -- how many pieces come before the last
   pub full : ℕ
+  -- there is one more than these
   pub one_more : n ≡ suc full
+  -- they do not hold all bytes
   pub too_few : full * size < bytes
+  -- with one piece more all bytes have room
   pub enough : bytes ≤ full * size + size
 
 full_pieces-parts : (quotient rest size bytes : ℕ) → quotient * size + rest ≡ bytes → rest < size →
-    0 < bytes → FullPieces (quotient + min 1 rest) size bytes
+    0 < bytes → PiecesRoundedUp (quotient + min 1 rest) size bytes
 full_pieces-parts zero zero size bytes e p b = absurd (omega arith)
 full_pieces-parts (suc q) zero size bytes e p b =
     record { full = q; one_more = omega arith; too_few = omega arith; enough = omega arith }
 full_pieces-parts q (suc r) size bytes e p b =
     record { full = q; one_more = omega arith; too_few = omega arith; enough = omega arith }
 
-pub full_pieces : (size bytes : ℕ) → 0 < size → 0 < bytes → FullPieces (div_ceil bytes size) size bytes
-full_pieces size bytes s b =
+-- a number of bytes, divided by a size and rounded up, is how many pieces hold them
+pub pieces_rounded_up : (size bytes : ℕ) → 0 < size → 0 < bytes
+    → PiecesRoundedUp (div_ceil bytes size) size bytes
+pieces_rounded_up size bytes s b =
     full_pieces-parts (bytes / size) (bytes % size) size bytes (omega arith) (omega arith) b
 
 -- ---- bytes
 
+-- bytes behind bytes are bytes
 pub AreBytes-append : (xs ys : List ℕ) → AreBytes xs → AreBytes ys → AreBytes (xs ++ ys)
 AreBytes-append xs ys x y = All-append IsByte xs ys x y
 
+-- a byte before bytes makes bytes
 pub AreBytes-cons : (b : ℕ) (bytes : List ℕ) → b < 256 → AreBytes bytes → AreBytes (b ∷ bytes)
 AreBytes-cons b bytes h all = All-cons IsByte b bytes h all
 
@@ -79,6 +92,7 @@ number_in-fits (x ∷ xs) all =
     add-mul x 1 (256 ^ length xs) in
     rw (pow-suc 256 (length xs)) (omega arith)
 
+-- bytes of one length that are the same number are the same
 pub number_in-injective : (xs ys : List ℕ) → length xs ≡ length ys → AreBytes xs → AreBytes ys →
     number_in xs ≡ number_in ys → xs ≡ ys
 number_in-injective [] [] l p q e = refl
@@ -121,11 +135,14 @@ bytes_eq-same : (xs : List ℕ) → bytes_eq xs xs ≡ true
 bytes_eq-same [] = refl
 bytes_eq-same (x ∷ xs) = rw (eqb-same x) (bytes_eq-same xs)
 
+-- bytes with two more are, without the checksum, the bytes
 pub without_crc-append : (xs : List ℕ) (a b : ℕ) → without_crc (xs ++ a ∷ b ∷ []) ≡ xs
 without_crc-append xs a b =
-    let e : length (xs ++ a ∷ b ∷ []) - 2 ≡ length xs = omega (arith, length-append xs (a ∷ b ∷ [])) in
+    let e : length (xs ++ a ∷ b ∷ []) - 2 ≡ length xs =
+    omega (arith, length-append xs (a ∷ b ∷ [])) in
     rw e (take-append_seam xs (a ∷ b ∷ []))
 
+-- bytes with their checksum behind them end in it
 pub ends_in_crc-append : (xs : List ℕ) → ends_in_crc (xs ++ to_be_bytes w16 (crc_of xs)) ≡ true
 ends_in_crc-append xs =
     let ys : List ℕ = to_be_bytes w16 (crc_of xs) in
@@ -145,12 +162,14 @@ append-without_crc bytes e =
 
 -- ---- packet lengths
 
+-- the code of a packet's length fits in two bits
 pub code_of-fits : (length : PacketLength) → code_of length < 4
 code_of-fits P24 = omega arith
 code_of-fits P48 = omega arith
 code_of-fits P72 = omega arith
 code_of-fits P96 = omega arith
 
+-- a packet's room, with five bytes more, is 24 bytes for its code and one more
 pub room_of-code : (length : PacketLength) → room_of length + 5 ≡ 24 * (code_of length + 1)
 room_of-code P24 = refl
 room_of-code P48 = refl
@@ -165,13 +184,15 @@ pub >>=-some : {A B : Type 0} (o : Option A) (f : A → Option B) (y : B) → (o
 >>=-some None f y e = absurd (none-some y e)
 >>=-some (Some x) f y e = (x, refl, e)
 
+-- as many are read as there are, where each is
 pub length-read_each : {A B : Type 0} (read : A → Option B) (xs : List A) (ys : List B) →
     read_each read xs ≡ Some ys → length xs ≡ length ys
 length-read_each read [] ys e = ap length (same_Some [] ys e)
 length-read_each read (x ∷ xs) ys e =
     let first = >>=-some (read x) (λ y. read_each read xs >>= λ zs. Some (y ∷ zs)) ys e in
     let others = >>=-some (read_each read xs) (λ zs. Some (first.0 ∷ zs)) ys first.2 in
-    ap suc (length-read_each read xs others.0 others.1) ∙ ap length (same_Some (first.0 ∷ others.0) ys others.2)
+    ap suc (length-read_each read xs others.0 others.1)
+    ∙ ap length (same_Some (first.0 ∷ others.0) ys others.2)
 
 read_each-cons : {A B : Type 0} (read : A → Option B) (x : A) (xs : List A) (y : B) (ys : List B) →
     read x ≡ Some y → read_each read xs ≡ Some ys → read_each read (x ∷ xs) ≡ Some (y ∷ ys)

@@ -17,12 +17,14 @@ xor_twice true true = refl
 xor_twice true false = refl
 xor_twice false z = refl
 
+-- nothing added to the front leaves the bits
 pub add_nothing : (bits : List Bool) → added_to_front [] bits ≡ bits
 unfolding added_to_front
 add_nothing bits = refl
 
 -- to zeros of its own number
-pub to_own_zeros : (k : ℕ) (xs : List Bool) → length xs ≡ k → added_to_front xs (replicate k false) ≡ xs
+pub to_own_zeros : (k : ℕ) (xs : List Bool) → length xs ≡ k
+    → added_to_front xs (replicate k false) ≡ xs
 to_own_zeros k xs e = ap (λ n. added_to_front xs (replicate n false)) (sym e) ∙ add_to_zeros xs
 
 add_to_none : (p : List Bool) → added_to_front p [] ≡ []
@@ -45,7 +47,8 @@ unfolding added_to_front
 add_twice [] l = refl
 add_twice (x ∷ p) [] = refl
 add_twice (x ∷ p) (z ∷ l) =
-    ap (λ b. b ∷ added_to_front p (added_to_front p l)) (xor_twice x z) ∙ ap (λ r. z ∷ r) (add_twice p l)
+    ap (λ b. b ∷ added_to_front p (added_to_front p l)) (xor_twice x z)
+    ∙ ap (λ r. z ∷ r) (add_twice p l)
 
 length_add : (p l : List Bool) → length (added_to_front p l) ≡ length l
 unfolding added_to_front
@@ -53,6 +56,7 @@ length_add [] l = refl
 length_add (x ∷ p) [] = refl
 length_add (x ∷ p) (z ∷ l) = ap suc (length_add p l)
 
+-- a division of no steps leaves the bits
 pub no_steps : (bits : List Bool) → remainder 0 bits ≡ bits
 unfolding remainder
 no_steps bits = refl
@@ -63,15 +67,18 @@ remainder-none zero = refl
 remainder-none (suc n) = refl
 
 -- some steps, and then others
-pub remainder-steps : (m n : ℕ) (bits : List Bool) → remainder (m + n) bits ≡ remainder n (remainder m bits)
+pub remainder-steps : (m n : ℕ) (bits : List Bool)
+    → remainder (m + n) bits ≡ remainder n (remainder m bits)
 unfolding remainder
 remainder-steps zero n bits = ap (λ k. remainder k bits) (let e : 0 + n ≡ n = omega arith in e)
 remainder-steps (suc m) n [] = rw suc-add (sym (remainder-none n))
-remainder-steps (suc m) n (true ∷ bits) = rw suc-add (remainder-steps m n (added_to_front divisor bits))
+remainder-steps (suc m) n (true ∷ bits) =
+    rw suc-add (remainder-steps m n (added_to_front divisor bits))
 remainder-steps (suc m) n (false ∷ bits) = rw suc-add (remainder-steps m n bits)
 
 -- zeros in front go
-pub zeros_first : (k n : ℕ) (bits : List Bool) → remainder (k + n) (replicate k false ++ bits) ≡ remainder n bits
+pub zeros_first : (k n : ℕ) (bits : List Bool)
+    → remainder (k + n) (replicate k false ++ bits) ≡ remainder n bits
 unfolding remainder
 zeros_first zero n bits = ap (λ k. remainder k bits) (let e : 0 + n ≡ n = omega arith in e)
 zeros_first (suc k) n bits = rw suc-add (zeros_first k n bits)
@@ -79,6 +86,7 @@ zeros_first (suc k) n bits = rw suc-add (zeros_first k n bits)
 divisor_fits : (p : List Bool) → 16 ≤ length p → length divisor ≤ length p
 divisor_fits p h = rw (length_bits 16 4129) h
 
+-- what a sum leaves is the sum of what its parts leave
 pub remainder-add : (m : ℕ) (p l : List Bool) → m + 16 ≤ length p →
     remainder m (added_to_front p l) ≡ added_to_front (remainder m p) (remainder m l)
 unfolding remainder added_to_front
@@ -89,7 +97,8 @@ remainder-add (suc m) (false ∷ p) [] h = sym (add_to_none (remainder m p))
 remainder-add (suc m) (true ∷ p) (true ∷ l) h =
     let long : m + 16 ≤ length (added_to_front divisor p) = omega (arith, length_add divisor p) in
     let fits : length divisor ≤ length p = divisor_fits p (omega arith) in
-    let same : added_to_front (added_to_front divisor p) (added_to_front divisor l) ≡ added_to_front p l =
+    let same : added_to_front (added_to_front divisor p) (added_to_front divisor l)
+    ≡ added_to_front p l =
     add_assoc_front divisor p (added_to_front divisor l) fits
     ∙ ap (added_to_front divisor) (add_swap p divisor l) ∙ add_twice divisor (added_to_front p l) in
     ap (remainder m) (sym same)
@@ -100,7 +109,8 @@ remainder-add (suc m) (true ∷ p) (false ∷ l) h =
     ap (remainder m) (sym (add_assoc_front divisor p l fits))
     ∙ remainder-add m (added_to_front divisor p) l long
 remainder-add (suc m) (false ∷ p) (true ∷ l) h =
-    ap (remainder m) (add_swap divisor p l) ∙ remainder-add m p (added_to_front divisor l) (omega arith)
+    ap (remainder m) (add_swap divisor p l)
+    ∙ remainder-add m p (added_to_front divisor l) (omega arith)
 remainder-add (suc m) (false ∷ p) (false ∷ l) h = remainder-add m p l (omega arith)
 
 -- what is added to a front of the list leaves the rest of it
@@ -122,7 +132,8 @@ remainder-append (suc m) [] s h = absurd (omega arith)
 remainder-append (suc m) (true ∷ p) s h =
     let fits : length divisor ≤ length p = divisor_fits p (omega arith) in
     let long : m + 16 ≤ length (added_to_front divisor p) = omega (arith, length_add divisor p) in
-    ap (remainder m) (add_short divisor p s fits) ∙ remainder-append m (added_to_front divisor p) s long
+    ap (remainder m) (add_short divisor p s fits)
+    ∙ remainder-append m (added_to_front divisor p) s long
 remainder-append (suc m) (false ∷ p) s h = remainder-append m p s (omega arith)
 
 -- what is added to the front leaves its own, while the division goes on behind it

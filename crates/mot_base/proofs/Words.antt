@@ -1,5 +1,7 @@
 -- Words of a message: their bytes, and what stands in front of all of it.
-use Rattle.std.proofs.Common.{◌≡◌, ℕ, zero, suc, ◌+◌, ◌*◌, ◌/◌, ◌%◌, ◌^◌, ◌<◌, Bool, true, false, List, [], ◌∷◌, ◌++◌, length, replicate, get_or, refl, sym, ap, ◌∙◌, arith, append_assoc, append-nil}
+use Rattle.std.proofs.Common.{◌≡◌, ℕ, zero, suc, ◌+◌, ◌*◌, ◌/◌, ◌%◌, ◌^◌, ◌<◌, Bool, true, false}
+use Rattle.std.proofs.Common.{List, [], ◌∷◌, ◌++◌, length, replicate, get_or, refl, sym, ap, ◌∙◌}
+use Rattle.std.proofs.Common.{arith, append_assoc, append-nil}
 use Rattle.std.proofs.lemmas.Nat.{be_bytes_8}
 use Rattle.std.specs.Int.{w64, to_be_bytes, from_be_bytes}
 use Rattle.mot_base.specs.Checksum.{bits_of, bits_of_bytes, added_to_front, remainder}
@@ -8,7 +10,8 @@ use Rattle.mot_base.proofs.Division.{ones, steps, zeros_out}
 use Rattle.mot_base.proofs.Linear.{zeros_first, add_nothing, to_own_zeros}
 
 -- the highest byte of so many bits, and the others
-byte_first : (k p w : ℕ) (rest : List Bool) → p ≡ 2 ^ k → w ≡ w / p * 2 ^ k + w % p → w % p < 2 ^ k →
+byte_first : (k p w : ℕ) (rest : List Bool) → p ≡ 2 ^ k → w ≡ w / p * 2 ^ k + w % p → w % p < 2 ^ k
+    →
     bits_of (8 + k) w ++ rest ≡ bits_of 8 (w / p % 256) ++ (bits_of k w ++ rest)
 byte_first k p w rest e split small =
     let low : bits_of k (w % p) ≡ bits_of k w =
@@ -41,6 +44,7 @@ word_bytes w rest =
     (byte_first 8 256 w rest refl (omega arith) (omega arith)
     ∙ ap (λ l. bits_of 8 (w / 256 % 256) ++ (l ++ rest)) (sym (low_bits 8 w))))))))
 
+-- the bits of a word are those of its eight bytes, high first
 pub word_as_bytes : (w : ℕ) (bytes : List ℕ) (rest : List Bool) → bytes ≡ to_be_bytes w64 w →
     bits_of 64 w ++ rest ≡ bits_of 8 (get_or bytes 0 0) ++ (bits_of 8 (get_or bytes 1 0)
     ++ (bits_of 8 (get_or bytes 2 0) ++ (bits_of 8 (get_or bytes 3 0)
@@ -83,7 +87,8 @@ next_word w front others tail e small is =
     ∙ ap (λ l. bits_of 8 b6 ++ l) (bytes_more b7 others tail)))))))
     ∙ sym (word_bytes w rest)
 
-small_behind : (byte : ℕ) (bytes : List ℕ) → byte < 256 → ((i : ℕ) → get_or bytes i 0 < 256) → (i : ℕ) →
+small_behind : (byte : ℕ) (bytes : List ℕ) → byte < 256 → ((i : ℕ) → get_or bytes i 0 < 256)
+    → (i : ℕ) →
     get_or (byte ∷ bytes) i 0 < 256
 small_behind byte bytes h rest zero = h
 small_behind byte bytes h rest (suc i) = rest i
@@ -92,7 +97,9 @@ none_small : (i : ℕ) → get_or {A = ℕ} [] i 0 < 256
 none_small zero = omega arith
 none_small (suc i) = omega arith
 
-pub eight_small : (a b c d e f g h : ℕ) → a < 256 → b < 256 → c < 256 → d < 256 → e < 256 → f < 256 → g < 256 →
+-- each of eight bytes is below 256, as is what stands behind them
+pub eight_small : (a b c d e f g h : ℕ) → a < 256 → b < 256 → c < 256 → d < 256 → e < 256 → f < 256
+    → g < 256 →
     h < 256 → (i : ℕ) → get_or (a ∷ b ∷ c ∷ d ∷ e ∷ f ∷ g ∷ h ∷ []) i 0 < 256
 eight_small a b c d e f g h sa sb sc sd se sf sg sh =
     small_behind a (b ∷ c ∷ d ∷ e ∷ f ∷ g ∷ h ∷ []) sa
@@ -119,7 +126,8 @@ leaves_ones = refl
 
 -- a register that stands in front goes in as if the message began with it
 register_first : (r n : ℕ) (rest : List Bool) →
-    remainder (16 + n) (bits_of 16 r ++ rest) ≡ remainder n (added_to_front (bits_of 16 (steps 16 r)) rest)
+    remainder (16 + n) (bits_of 16 r ++ rest)
+    ≡ remainder n (added_to_front (bits_of 16 (steps 16 r)) rest)
 register_first r n rest =
     let zeros : List Bool = replicate 16 false in
     let front : added_to_front (bits_of 16 r) (zeros ++ rest) ≡ bits_of 16 r ++ rest =
@@ -135,17 +143,22 @@ zeros_away k m n front rest e steps =
     ap (λ l. remainder m (l ++ rest)) e ∙ ap (λ j. remainder j (replicate k false ++ rest)) steps
     ∙ zeros_first k n rest
 
+-- three words of zero and a fourth leave what a register of ones leaves
 pub begins : (n : ℕ) (rest : List Bool) →
-    remainder (256 + n) (bits_of 64 0 ++ (bits_of 64 0 ++ (bits_of 64 0 ++ (bits_of 64 0x84CF ++ rest))))
+    remainder (256 + n) (bits_of 64 0
+    ++ (bits_of 64 0 ++ (bits_of 64 0 ++ (bits_of 64 0x84CF ++ rest))))
     ≡ remainder n (added_to_front (replicate 16 true) rest)
 begins n rest =
     let last : List Bool = bits_of 64 0x84CF ++ rest in
-    zeros_away 64 (256 + n) (192 + n) (bits_of 64 0) (bits_of 64 0 ++ (bits_of 64 0 ++ last)) zero_word (omega arith)
-    ∙ zeros_away 64 (192 + n) (128 + n) (bits_of 64 0) (bits_of 64 0 ++ last) zero_word (omega arith)
+    zeros_away 64 (256 + n) (192 + n) (bits_of 64 0) (bits_of 64 0 ++ (bits_of 64 0 ++ last))
+    zero_word (omega arith)
+    ∙ zeros_away 64 (192 + n) (128 + n) (bits_of 64 0) (bits_of 64 0 ++ last) zero_word
+    (omega arith)
     ∙ zeros_away 64 (128 + n) (64 + n) (bits_of 64 0) last zero_word (omega arith)
     ∙ ap (λ l. remainder (64 + n) (l ++ rest)) first_word
     ∙ ap (remainder (64 + n)) (append_assoc (replicate 48 false) (bits_of 16 0x84CF) rest)
-    ∙ zeros_away 48 (64 + n) (16 + n) (replicate 48 false) (bits_of 16 0x84CF ++ rest) refl (omega arith)
+    ∙ zeros_away 48 (64 + n) (16 + n) (replicate 48 false) (bits_of 16 0x84CF ++ rest) refl
+    (omega arith)
     ∙ register_first 0x84CF n rest
     ∙ ap (λ r. remainder n (added_to_front (bits_of 16 r) rest)) leaves_ones
     ∙ ap (λ l. remainder n (added_to_front l rest)) ones
@@ -156,14 +169,19 @@ no_register : (bits : List Bool) → added_to_front (bits_of 16 0) bits ≡ bits
 unfolding bits_of
 no_register bits = add_zeros 16 bits
 
+-- four words divided away, one after the other
 pub four_words_out : (a b c d p q r s n : ℕ) (rest : List Bool) →
-    ((m : ℕ) (tail : List Bool) → remainder (64 + m) (added_to_front (bits_of 16 0) (bits_of 64 a ++ tail))
+    ((m : ℕ) (tail : List Bool)
+    → remainder (64 + m) (added_to_front (bits_of 16 0) (bits_of 64 a ++ tail))
     ≡ remainder m (added_to_front (bits_of 16 p) tail)) →
-    ((m : ℕ) (tail : List Bool) → remainder (64 + m) (added_to_front (bits_of 16 p) (bits_of 64 b ++ tail))
+    ((m : ℕ) (tail : List Bool)
+    → remainder (64 + m) (added_to_front (bits_of 16 p) (bits_of 64 b ++ tail))
     ≡ remainder m (added_to_front (bits_of 16 q) tail)) →
-    ((m : ℕ) (tail : List Bool) → remainder (64 + m) (added_to_front (bits_of 16 q) (bits_of 64 c ++ tail))
+    ((m : ℕ) (tail : List Bool)
+    → remainder (64 + m) (added_to_front (bits_of 16 q) (bits_of 64 c ++ tail))
     ≡ remainder m (added_to_front (bits_of 16 r) tail)) →
-    ((m : ℕ) (tail : List Bool) → remainder (64 + m) (added_to_front (bits_of 16 r) (bits_of 64 d ++ tail))
+    ((m : ℕ) (tail : List Bool)
+    → remainder (64 + m) (added_to_front (bits_of 16 r) (bits_of 64 d ++ tail))
     ≡ remainder m (added_to_front (bits_of 16 s) tail)) →
     remainder (256 + n) (bits_of 64 a ++ (bits_of 64 b ++ (bits_of 64 c ++ (bits_of 64 d ++ rest))))
     ≡ remainder n (added_to_front (bits_of 16 s) rest)

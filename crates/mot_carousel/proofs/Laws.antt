@@ -9,3 +9,5 @@ pub use Rattle.mot_carousel.proofs.Runs.{goes_on}
 pub use Rattle.mot_carousel.proofs.Refused.{refused_by_rules}
 -- names and MIME types, by their rules and by their tests
 pub use Rattle.mot_carousel.proofs.Texts.{name_true, name_is, mime_true, mime_is}
+-- the place of the first object of a name, by recursion, and what it being there or not comes to
+pub use Rattle.mot_carousel.proofs.Beside.{Located, located, nowhere-cases, place, index_of-place}

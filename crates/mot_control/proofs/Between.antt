@@ -9,8 +9,8 @@ use Rattle.mot_journal.specs.Image.{Standing}
 use Rattle.mot_repository.specs.Repository.{Holds}
 use Rattle.mot_server.specs.Server.{ServerView}
 use Rattle.mot_update.specs.HasRun.{HasRun}
-use Rattle.mot_update.proofs.Runs.{has_read, join}
-use Rattle.mot_update.proofs.Still.{stays_same}
+use Rattle.mot_update.proofs.Laws.{has_read, join}
+use Rattle.disk_store.proofs.Laws.{unchanged_none}
 
 module _ {D : Type 0} (state : D → State) where
   -- commands that may come
@@ -25,13 +25,15 @@ module _ {D : Type 0} (state : D → State) where
     waits = λ e. absurd (never (sym e));
   }
 
+  -- an update that begins has run no commands
   pub updating_none : (server : ServerView D) (s : Standing) → IsHonestDisk (state server.disk)
       → (state server.disk).IsHonest → Holds server.view s (state server.disk)
       → IsUpdating server server (state server.disk) (state server.disk) s true None
   updating_none server s sound honest holds = updating_by server server s [] [] None
       (has_read server server (state server.disk) (state server.disk) s None sound refl refl
-      honest (stays_same (state server.disk)) holds).0
+      honest (unchanged_none (state server.disk)) holds).0
 
+  -- an update without a fault, and one more behind it, are one update
   pub updating_on : {may : Bool} (old mid new : ServerView D) (s : Standing)
       (fault : Option Refusal)
       → IsUpdating old mid (state old.disk) (state mid.disk) s may None

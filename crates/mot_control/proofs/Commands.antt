@@ -22,12 +22,13 @@ use Rattle.mot_server.specs.declared.running.Attempt.{Attempt}
 use Rattle.mot_server.specs.declared.running.Attempt.TheVariants.{Accepted, Refused}
 use Rattle.mot_session.specs.OnAnyDisk.{AnswersAnyhow}
 use Rattle.mot_session.proofs.Laws.{anyhow-accepted, anyhow-refused}
-use Rattle.mot_update.specs.Faults.{IsCalm, IsUpdateFault, TellsFaults}
+use Rattle.mot_update.specs.Faults.{StaysCalm, IsUpdateFault, TellsFaults}
 use Rattle.mot_update.specs.Faults as fault
 use Rattle.mot_update.specs.HasRun.{HasRun}
 
 -- ---- the reply
 
+-- what is said of a command's answer is a right reply to it, on every disk
 pub replied : (view view' : RepositoryView) (state state' : State) (c : Command)
     (r : Result Attempt Refusal) → IsFalse view.halted
     → IsAnswered view view' state state' c (attempts.answer_of r)
@@ -42,9 +43,10 @@ replied view view' state state' c (Err refusal) going a =
 wants_none : (done : Done) → is_want_of_memory (done_line done) ≡ false
 wants_none done = refl
 
-pub wants : is_want_of_memory (refusal_line OutOfMemory) ≡ true
+-- the line of want of memory is told as such
+pub out_of_memory_is_told : is_want_of_memory (refusal_line OutOfMemory) ≡ true
 unfolding digits
-wants = refl
+out_of_memory_is_told = refl
 
 halted_wants_none : is_want_of_memory (refusal_line Halted) ≡ false
 unfolding digits
@@ -114,13 +116,14 @@ module _ {D : Type 0} (old new : ServerView D) (start now : State) (s : Standing
   device_so run = subst (λ b. Ran b [] (Some DeviceFault)) (sym fault_wants_none) ([], refl, run)
 
   memory_so : RanSo OutOfMemory
-  memory_so run = subst (λ b. Ran b [] None) (sym wants) ([], refl, none_wanted run)
+  memory_so run = subst (λ b. Ran b [] None) (sym out_of_memory_is_told) ([], refl, none_wanted run)
 
   fault_so : (refusal : Refusal) → IsUpdateFault old start now refusal → RanSo refusal
   fault_so refusal (fault.halted is e same) = subst RanSo (sym e) halted_so
   fault_so refusal (fault.no_memory e same) = subst RanSo (sym e) memory_so
   fault_so refusal (fault.device is e rises) = subst RanSo (sym e) device_so
 
+  -- a command was run unless its reply is want of memory, and is done where it was accepted
   pub ran : (r : Result Attempt Refusal) → TellsFaults old new start now r
       → HasRun old new start now s (c ∷ []) (attempts.marks_of r) (attempts.fault_of r)
       → (marks : List Bool)

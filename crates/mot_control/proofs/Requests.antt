@@ -7,7 +7,7 @@ use Rattle.mot_base.specs.declared.refusal.Refusal.{Refusal}
 use Rattle.mot_base.specs.declared.refusal.Refusal.TheVariants.{OutOfMemory}
 use Rattle.mot_carousel.specs.declared.command.Command.{Command}
 use Rattle.mot_control.specs.Answering.{asked_here, is_want_of_memory, run_of}
-use Rattle.mot_control.specs.Inner.Request.{Answers, Tells, done_of}
+use Rattle.mot_control.specs.Inner.Request.{HasAnswered, TellsThere, done_of}
 use Rattle.mot_lines.specs.Line.{IsParsed, NeedsMemory}
 use Rattle.mot_lines.specs.Text.{refusal_line}
 use Rattle.mot_lines.specs.declared.line.Line.{Line}
@@ -21,11 +21,12 @@ use Rattle.mot_session.specs.OnAnyDisk as anyhow
 use Rattle.mot_session.specs.Session.{NeedsCarousel}
 use Rattle.mot_session.specs.Stored.{command_in}
 use Rattle.mot_session.proofs.Laws.{answers-parsed}
-use Rattle.mot_control.proofs.Commands.{wants}
+use Rattle.mot_control.proofs.Commands.{out_of_memory_is_told}
 use Rattle.mot_update.specs.HasRun.{HasRun}
-use Rattle.mot_update.proofs.Runs.{has_read}
-use Rattle.mot_update.proofs.Still.{stays_same}
+use Rattle.mot_update.proofs.Laws.{has_read}
+use Rattle.disk_store.proofs.Laws.{unchanged_none}
 
+-- false is not true
 pub never : false ≡ true → ⊥
 never e = absurd (cc)
 
@@ -57,16 +58,17 @@ runs_none : (request : Result Line Refusal) (text : List ℕ) → run_of (read_o
 runs_none request text =
     none_either (is_want_of_memory text) (command_in (read_only request)) (reads_none request)
 
+-- a request that was answered where the server is only read is answered here, with no fault
 pub shown : {D : Type 0} (state : D → State) (server : ServerView D)
     (request : Result Line Refusal) (was_told is_told : Bool) (written now : Option (List ℕ))
     → ((state server.disk).IsHonest → IsHonestDisk (state server.disk))
     → asked_here request ≡ read_only request
     → ((text : List ℕ) × AnswersAnyhow server.view server.view (state server.disk).failures
     (state server.disk).failures (read_only request) text
-    × Tells was_told is_told written now text)
-    → Answers state server server (asked_here request) None was_told is_told written now
+    × TellsThere was_told is_told written now text)
+    → HasAnswered state server server (asked_here request) None was_told is_told written now
 shown state server request was_told is_told written now sound same told =
-    subst (λ r. Answers state server server r None was_told is_told written now) (sym same)
+    subst (λ r. HasAnswered state server server r None was_told is_told written now) (sym same)
     (record {
       text = told.0;
       reply = told.1;
@@ -78,7 +80,7 @@ shown state server request was_told is_told written now sound same told =
         subst (λ l. HasRun server server (state server.disk) (state server.disk) s l [] None)
             (sym (runs_none request told.0))
             (has_read server server (state server.disk) (state server.disk) s None (sound honest)
-            refl refl honest (stays_same (state server.disk)) holds).0,
+            refl refl honest (unchanged_none (state server.disk)) holds).0,
       );
       log = told.2;
     })
@@ -128,7 +130,8 @@ same_run : (old new : RepositoryView) (before now : ℕ) (text : List ℕ)
 same_run old new before now text request asked (inl e) reply = ap (λ r. run_of r text) e
 same_run old new before now text request asked (inr e) reply =
     let is : is_want_of_memory text ≡ true =
-    ap is_want_of_memory (unparsed_text old new before now text request e.0 reply) ∙ wants in
+    ap is_want_of_memory (unparsed_text old new before now text request e.0 reply)
+    ∙ out_of_memory_is_told in
     ap (λ b. if b then [] else command_in request) is
     ∙ sym (ap (λ b. if b then [] else command_in asked) is)
 
@@ -142,11 +145,12 @@ same_done old new before now text request asked (inr e) reply =
     ap (λ b. if b then command_in request else []) is
     ∙ sym (ap (λ b. if b then command_in asked else []) is)
 
+-- an answer to what was parsed is one to what was asked
 pub parsed : {D : Type 0} (state : D → State) (old new : ServerView D)
     (request asked : Result Line Refusal) (fault : Option Refusal) (was_told is_told : Bool)
     (written now : Option (List ℕ)) → IsParsed request asked
-    → Answers state old new (asked_here request) fault was_told is_told written now
-    → Answers state old new (asked_here asked) fault was_told is_told written now
+    → HasAnswered state old new (asked_here request) fault was_told is_told written now
+    → HasAnswered state old new (asked_here asked) fault was_told is_told written now
 parsed state old new request asked fault was_told is_told written now is a =
     let here = parsed_here request asked is in
     record {

@@ -12,7 +12,7 @@ use Rattle.disk_store.specs.Disk.{State, IsHonestDisk}
 use Rattle.mot_base.specs.declared.refusal.Refusal.{Refusal}
 use Rattle.mot_control.specs.Answering.{AnswersMore, AreReplies, TakesMore, asked_here}
 use Rattle.mot_control.specs.Answering.{commands_run, run_in}
-use Rattle.mot_control.specs.Inner.Request.{Answers, done_of}
+use Rattle.mot_control.specs.Inner.Request.{HasAnswered, done_of}
 use Rattle.mot_lines.specs.Hand.{bytes_in_hand}
 use Rattle.mot_lines.specs.Line.{line_of}
 use Rattle.mot_lines.specs.Lines.{rest_of, whole_lines}
@@ -26,8 +26,8 @@ use Rattle.mot_session.specs.Life.{Told, commands_done, done_in, is_done}
 use Rattle.mot_session.specs.OnAnyDisk.{AnswersAnyhow}
 use Rattle.mot_session.specs.Stored.{command_in}
 use Rattle.mot_update.specs.HasRun.{HasRun}
-use Rattle.mot_update.proofs.Runs.{has_read, join}
-use Rattle.mot_update.proofs.Still.{stays_same}
+use Rattle.mot_update.proofs.Laws.{has_read, join}
+use Rattle.disk_store.proofs.Laws.{unchanged_none}
 
 -- ---- bytes
 
@@ -118,7 +118,7 @@ module _ {D : Type 0} (state : D → State) where
       [],
       refl,
       (has_read server server (state server.disk) (state server.disk) s None (sound honest) refl
-          refl honest (stays_same (state server.disk)) holds).0,
+          refl honest (unchanged_none (state server.disk)) holds).0,
     );
     log = λ e. (e, Appends-nil known);
   }
@@ -145,9 +145,10 @@ module _ {D : Type 0} (state : D → State) where
       → ((state new.disk).IsHonest → (state mid.disk).IsHonest)
       → whole_lines after ≡ whole_lines until ++ line ∷ extra → (fault ≡ None → extra ≡ [])
       → AnswersMore state old mid before until None was_told told_so written between
-      → Answers state mid new (asked_here (line_of line)) fault told_so is_told between now
+      → HasAnswered state mid new (asked_here (line_of line)) fault told_so is_told between now
       → AnswersMore state old new before after fault was_told is_told written now
-  more_one old mid new before until after line extra fault was_told told_so is_told written between now was same none more one =
+  more_one old mid new before until after line extra fault was_told told_so is_told written between
+      now was same none more one =
       let t : Told = record { line = line; text = one.text } in
       let text : Told → List ℕ = λ (u : Told). u.text in
       let lines : List (List ℕ) =
@@ -188,7 +189,8 @@ module _ {D : Type 0} (state : D → State) where
       }
 
   -- nothing was taken
-  pub takes_none : (server : ServerView D) (before : List ℕ) (unread left : Option (List ℕ)) (hand : List ℕ)
+  pub takes_none : (server : ServerView D) (before : List ℕ) (unread left : Option (List ℕ))
+      (hand : List ℕ)
       (is_told : Bool) (known : Option (List ℕ))
       → ((state server.disk).IsHonest → IsHonestDisk (state server.disk)) → Keeps unread left
       → hand ≡ bytes_in_hand (rest_of before)

@@ -2,8 +2,9 @@
 ghost use Rattle.std.specs.Prelude.{◌≡◌, ◌++◌, ℕ, List, Ok, Err, None, IfNone, IfSome, true};
 ghost use Rattle.disk_store.specs.Disk.{KeepsLength};
 ghost use Rattle.mot_control.specs.Answering.{AnswersMore, TakesMore, asked_here};
-ghost use Rattle.mot_control.specs.Inner.Request.{Answers, end_of, reply_of};
-ghost use Rattle.mot_feed.specs.Feeding.{IsUpdating, fault_of};
+ghost use Rattle.mot_control.specs.Inner.Request.{HasAnswered, end_of, reply_of};
+ghost use Rattle.mot_feed.specs.Feeding.{IsUpdating};
+ghost use Rattle.mot_server.specs.Attempts.{fault_of};
 ghost use Rattle.mot_journal.specs.Image.{Standing};
 ghost use Rattle.mot_lines.specs.Hand.{bytes_in_hand};
 ghost use Rattle.mot_lines.specs.Line.{line_of};
@@ -105,7 +106,7 @@ fn answer_line<W: Write + Drop, D: Disk>(
         → IsUpdating server.old server.new (D.state server.old.disk) (D.state server.new.disk) s
         true (fault_of result) }
     ensures answered { (line : List ℕ) → hand.now ≡ bytes_in_hand line
-        → Answers D.state server.old server.new (asked_here (line_of line)) (fault_of result)
+        → HasAnswered D.state server.old server.new (asked_here (line_of line)) (fault_of result)
         log.old.is_told log.new.is_told
         (W.contents log.old.writer) (W.contents log.new.writer) }
 {
@@ -123,7 +124,7 @@ fn answer_request<W: Write + Drop, D: Disk>(
     ensures keeps { KeepsLength (D.state server.old.disk) (D.state server.new.disk) }
     ensures faults { TellsFaults server.old server.new
         (D.state server.old.disk) (D.state server.new.disk) result }
-    ensures answered { Answers D.state server.old server.new (asked_here request.now)
+    ensures answered { HasAnswered D.state server.old server.new (asked_here request.now)
         (fault_of result) log.old.is_told log.new.is_told
         (W.contents log.old.writer) (W.contents log.new.writer) }
 {
@@ -171,7 +172,7 @@ fn answer_command<W: Write + Drop, D: Disk>(
     ensures keeps { KeepsLength (D.state server.old.disk) (D.state server.new.disk) }
     ensures faults { TellsFaults server.old server.new
         (D.state server.old.disk) (D.state server.new.disk) result }
-    ensures answered { Answers D.state server.old server.new (Ok (asks.Command command.now))
+    ensures answered { HasAnswered D.state server.old server.new (Ok (asks.Command command.now))
         (fault_of result) log.old.is_told log.new.is_told
         (W.contents log.old.writer) (W.contents log.new.writer) }
 {

@@ -8,6 +8,3 @@ mod log;
 pub use answering::answer_there;
 pub use lines::Lines;
 pub use log::Log;
-
-#[cfg(test)]
-mod tests;

@@ -2,7 +2,8 @@
 ghost use Rattle.std.specs.Prelude.{◌≡◌, ◌<◌, ◌-◌, ℕ, List, false, true, OnOk};
 ghost use Rattle.disk_store.specs.Disk.{KeepsLength};
 ghost use Rattle.mot_control.specs.Answering.{TakesBetween};
-ghost use Rattle.mot_feed.specs.Feeding.{IsUpdating, fault_of, may_change};
+ghost use Rattle.mot_feed.specs.Feeding.{IsUpdating, may_change};
+ghost use Rattle.mot_server.specs.Attempts.{fault_of};
 ghost use Rattle.mot_journal.specs.Image.{Standing};
 ghost use Rattle.mot_lines.specs.Hand.{bytes_in_hand};
 ghost use Rattle.mot_lines.specs.Lines.{rest_of};

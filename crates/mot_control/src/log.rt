@@ -1,6 +1,6 @@
 //! Where replies are told.
 ghost use Rattle.std.specs.Prelude.{ℕ, List};
-ghost use Rattle.mot_control.specs.Inner.Request.{Tells};
+ghost use Rattle.mot_control.specs.Inner.Request.{TellsThere};
 ghost use Rattle.mot_session.specs.OnAnyDisk.{AnswersAnyhow, read_only};
 
 use disk_store::Disk;
@@ -24,7 +24,7 @@ pub struct Log<W: Write + Drop> {
 impl<W: Write + Drop> Log<W> {
     /// Writes a reply, and flushes.
     pub(crate) fn tell(&mut self, text: &[u8])
-        ensures told { Tells self.old.is_told self.new.is_told
+        ensures told { TellsThere self.old.is_told self.new.is_told
             (W.contents self.old.writer) (W.contents self.new.writer) text.now }
     {
         if self.writer.write_all(text).is_err() || self.writer.flush().is_err() {
@@ -42,7 +42,7 @@ impl<W: Write + Drop> Log<W> {
         ensures told { (text : List ℕ) × AnswersAnyhow server.now.view server.now.view
             (D.state server.now.disk).failures (D.state server.now.disk).failures
             (read_only request.now) text
-            × Tells self.old.is_told self.new.is_told
+            × TellsThere self.old.is_told self.new.is_told
             (W.contents self.old.writer) (W.contents self.new.writer) text }
     {
         match answer_reading(alloc, request, &mut self.writer, server) {

@@ -9,11 +9,13 @@ use Rattle.mot_directory.specs.Entries.{parameters_with, text_parameter}
 use Rattle.mot_directory.specs.Sizes.{text_size, mime_size}
 use Rattle.mot_directory.proofs.Fits.{length-extension}
 
+-- the core, the name, the MIME type and the version, appended in turn, are the header
 pub header-appended : (out name : List ℕ) (mime : Option (List ℕ)) (body version : ℕ)
     (content : ContentNumbers) (size : ℕ) →
     size ≡ 7 + text_size (1 + length name) + mime_size mime + 2 →
     out ++ bytes_of_core body size content ++ bytes_of_parameter (text_parameter 12 (240 ∷ name))
-    ++ flat_map bytes_of_parameter (map (text_parameter 16) (option_to_list mime)) ++ 70 ∷ version ∷ []
+    ++ flat_map bytes_of_parameter (map (text_parameter 16) (option_to_list mime)) ++ 70 ∷ version
+    ∷ []
     ≡ out ++ bytes_of_header
     (record { body_size = body; content = content; parameters = parameters_with name mime version })
 unfolding bytes_of_header

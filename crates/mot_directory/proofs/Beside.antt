@@ -1,5 +1,6 @@
 -- The directory of a carousel whose bodies stand beside it, and how many bytes it has.
-use Rattle.std.proofs.Common.{◌≡◌, ℕ, ◌+◌, ◌<◌, ◌≤◌, List, [], ◌∷◌, ◌++◌, refl, sym, length, map, take, get_or, All, arith, ap, ◌∙◌, length-append, add-zero}
+use Rattle.std.proofs.Common.{◌≡◌, ℕ, ◌+◌, ◌<◌, ◌≤◌, List, [], ◌∷◌, ◌++◌, refl, sym, length, map}
+use Rattle.std.proofs.Common.{take, get_or, All, arith, ap, ◌∙◌, length-append, add-zero}
 use Rattle.std.proofs.lemmas.Grind.{flat_map-append}
 use Rattle.std.proofs.lemmas.List.{append-nil, length-map, map-append, take_more}
 use Rattle.std.proofs.lemmas.List.Elements.{All-push, All-same}
@@ -9,7 +10,9 @@ use Rattle.mot_carousel.specs.declared.object.Object.{Object}
 use Rattle.mot_carousel.specs.declared.carousel.Carousel.{Carousel}
 use Rattle.mot_carousel.specs.Stands.{object_of, objects_of, carousel_of, AreBodiesOf}
 use Rattle.mot_directory.specs.Header.{HeaderFields}
-use Rattle.mot_directory.specs.Directory.{Entry, DirectoryFields, IsEntry, IsDirectory, bytes_of_directory, bytes_of_entry, bytes_of_directory_header, bytes_of_entries}
+use Rattle.mot_directory.specs.Directory.{Entry, DirectoryFields, IsEntry, IsDirectory}
+use Rattle.mot_directory.specs.Directory.{bytes_of_directory, bytes_of_entry}
+use Rattle.mot_directory.specs.Directory.{bytes_of_directory_header, bytes_of_entries}
 use Rattle.mot_directory.specs.Entries.{parameters_with, header_of, entry_of, directory_of}
 use Rattle.mot_directory.specs.Inner.Beside.{header_beside, entry_beside, directory_beside}
 use Rattle.mot_directory.specs.Sizes.{directory_size, entry_size}
@@ -17,7 +20,12 @@ use Rattle.mot_directory.proofs.Fits.{length-bytes_of_entry, length-extension}
 
 header_of_size : Object → ℕ → HeaderFields
 header_of_size o n =
-    record { body_size = n; content = o.content; parameters = parameters_with o.name o.mime o.version }
+    record {
+      body_size = n;
+      content = o.content;
+      parameters =
+          parameters_with o.name o.mime o.version;
+    }
 
 -- the header is the object's, whatever the body of that length
 pub header_of-object_of : (o : Object) (body : List ℕ) → length body ≡ o.length →
@@ -50,15 +58,18 @@ directory_with_entries : Carousel → ℕ → List Entry → DirectoryFields
 directory_with_entries c segment_size entries =
     record { period = c.period; segment_size = segment_size; entries = entries }
 
+-- the directory of a carousel is that of its objects beside their bodies
 pub directory_of-carousel_of : (c : Carousel) (bodies : List (List ℕ)) (segment_size : ℕ) →
-    AreBodiesOf c bodies → directory_of (carousel_of c bodies) segment_size ≡ directory_beside c segment_size
+    AreBodiesOf c bodies → directory_of (carousel_of c bodies) segment_size
+    ≡ directory_beside c segment_size
 unfolding directory_with_entries
 directory_of-carousel_of c bodies segment_size e =
     ap (directory_with_entries c segment_size) (entries_of-objects_of c.objects.items bodies e)
 
 entry_beside-size : (o : Object) → length (bytes_of_entry (entry_beside o)) ≡ entry_size o
 entry_beside-size o =
-    length-bytes_of_entry (entry_beside o) ∙ ap (λ n. 2 + n) (length-extension o.name o.mime o.version)
+    length-bytes_of_entry (entry_beside o)
+    ∙ ap (λ n. 2 + n) (length-extension o.name o.mime o.version)
 
 length-bytes_of_entries : (objects : List Object) →
     length (bytes_of_entries (map entry_beside objects)) ≡ sum_by entry_size objects
@@ -66,13 +77,16 @@ length-bytes_of_entries [] = refl
 length-bytes_of_entries (o ∷ objects) =
     length-append (bytes_of_entry (entry_beside o)) (bytes_of_entries (map entry_beside objects))
     ∙ ap (λ n. n + length (bytes_of_entries (map entry_beside objects))) (entry_beside-size o)
-    ∙ ap (λ n. entry_size o + n) (length-bytes_of_entries objects) ∙ sym (sum_by-cons entry_size o objects)
+    ∙ ap (λ n. entry_size o + n) (length-bytes_of_entries objects)
+    ∙ sym (sum_by-cons entry_size o objects)
 
 -- one more object of the list
-pub one_more : (objects : List Object) (i : ℕ) (o : Object) → i < length objects → o ≡ get_or objects i o →
+pub one_more : (objects : List Object) (i : ℕ) (o : Object) → i < length objects
+    → o ≡ get_or objects i o →
     take (i + 1) objects ≡ take i objects ++ o ∷ []
 one_more objects i o l e = take_more objects i o l ∙ ap (λ x. take i objects ++ x ∷ []) (sym e)
 
+-- the bytes of one entry more come behind those of the others
 pub bytes_of_entries-push : (objects : List Object) (o : Object) →
     bytes_of_entries (map entry_beside (objects ++ o ∷ []))
     ≡ bytes_of_entries (map entry_beside objects) ++ bytes_of_entry (entry_beside o)
@@ -82,7 +96,9 @@ bytes_of_entries-push objects o =
     ∙ ap (λ rest. bytes_of_entries (map entry_beside objects) ++ rest)
     (append-nil (bytes_of_entry (entry_beside o)))
 
-pub are_entries-push : (objects : List Object) (o : Object) → All IsEntry (map entry_beside objects) →
+-- entries that can be written, and one more that can
+pub are_entries-push : (objects : List Object) (o : Object) → All IsEntry (map entry_beside objects)
+    →
     IsEntry (entry_beside o) → All IsEntry (map entry_beside (objects ++ o ∷ []))
 are_entries-push objects o all h =
     let some : List Entry = map entry_beside objects in
@@ -93,21 +109,26 @@ next_le : (a b c d e : ℕ) → a ≡ b + c → c ≡ d → a ≤ e → b + d �
 next_le a b c d e p q l = omega arith
 
 -- there is room for the next entry
-pub sum_by-next : (objects : List Object) (i : ℕ) (o : Object) → i < length objects → o ≡ get_or objects i o →
+pub sum_by-next : (objects : List Object) (i : ℕ) (o : Object) → i < length objects
+    → o ≡ get_or objects i o →
     sum_by entry_size (take i objects) + entry_size o ≤ sum_by entry_size objects
 sum_by-next objects i o l e =
     next_le (sum_by entry_size (take (i + 1) objects)) (sum_by entry_size (take i objects))
     (entry_size (get_or objects i o)) (entry_size o) (sum_by entry_size objects)
-    (sum_by_more entry_size objects i o l) (ap entry_size (sym e)) (sum_by-take-le entry_size objects (i + 1))
+    (sum_by_more entry_size objects i o l) (ap entry_size (sym e))
+    (sum_by-take-le entry_size objects (i + 1))
 
+-- the sizes of entries, with one more, come to its size more
 pub sum_by-push : (objects : List Object) (o : Object) →
     sum_by entry_size (objects ++ o ∷ []) ≡ sum_by entry_size objects + entry_size o
 sum_by-push objects o =
     sum_by-append entry_size objects (o ∷ [])
-    ∙ ap (λ n. sum_by entry_size objects + n) (sum_by-cons entry_size o [] ∙ add-zero (entry_size o))
+    ∙ ap (λ n. sum_by entry_size objects + n)
+    (sum_by-cons entry_size o [] ∙ add-zero (entry_size o))
 
 -- the header and the entries that are appended are the directory
-pub bytes_of_directory-beside : (c : Carousel) (segment_size size count : ℕ) → size ≡ directory_size c →
+pub bytes_of_directory-beside : (c : Carousel) (segment_size size count : ℕ)
+    → size ≡ directory_size c →
     count ≡ length c.objects.items →
     bytes_of_directory_header size count c.period segment_size
     ++ bytes_of_entries (map entry_beside c.objects.items)
@@ -116,11 +137,15 @@ unfolding bytes_of_directory
 bytes_of_directory-beside c segment_size size count e f =
     let objects : List Object = c.objects.items in
     let entries : List ℕ = bytes_of_entries (map entry_beside objects) in
-    let all : size ≡ 13 + length entries = e ∙ ap (λ n. 13 + n) (sym (length-bytes_of_entries objects)) in
-    let each : count ≡ length (map entry_beside objects) = f ∙ sym (length-map objects entry_beside) in
+    let all : size ≡ 13 + length entries =
+    e ∙ ap (λ n. 13 + n) (sym (length-bytes_of_entries objects)) in
+    let each : count ≡ length (map entry_beside objects) =
+    f ∙ sym (length-map objects entry_beside) in
     ap (λ n. bytes_of_directory_header n count c.period segment_size ++ entries) all
-    ∙ ap (λ n. bytes_of_directory_header (13 + length entries) n c.period segment_size ++ entries) each
+    ∙ ap (λ n. bytes_of_directory_header (13 + length entries) n c.period segment_size ++ entries)
+    each
 
+-- the directory of objects within the limits can be written
 pub IsDirectory-beside : (c : Carousel) (segment_size : ℕ) → directory_size c ≤ 84013 →
     length c.objects.items ≤ 250 → c.period ≤ 16777215 → segment_size ≤ 8189 →
     All IsEntry (map entry_beside c.objects.items) → IsDirectory (directory_beside c segment_size)

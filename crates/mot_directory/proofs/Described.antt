@@ -1,5 +1,6 @@
 -- The parameters of an object describe it.
-use Rattle.std.proofs.Common.{◌≡◌, ℕ, List, ◌∷◌, Bool, true, false, refl, length, ◌<◌, eq-eqb, Option, Some, None}
+use Rattle.std.proofs.Common.{◌≡◌, ℕ, List, ◌∷◌, Bool, true, false, refl, length, ◌<◌, eq-eqb}
+use Rattle.std.proofs.Common.{Option, Some, None}
 use Rattle.std.proofs.lemmas.Bool.{lt-ltb, leb-false}
 use Rattle.std.specs.Prelude.{if◌then◌else◌, nat_le}
 use Rattle.mot_directory.specs.Parameter.{Short, Long}
@@ -15,6 +16,7 @@ text_in-by_form id text false h =
 text_in-text_parameter : (id : ℕ) (text : List ℕ) → text_in id (text_parameter id text) ≡ Some text
 text_in-text_parameter id text = text_in-by_form id text (nat_le (length text) 127) refl
 
+-- an object's parameters give its name, its MIME type and its version
 pub description_in-parameters_with : (name : List ℕ) (mime : Option (List ℕ)) (version : ℕ) →
     description_in (parameters_with name mime version) ≡ Some (name, mime, version)
 description_in-parameters_with name None version = rw (text_in-text_parameter 12 (240 ∷ name)) refl

@@ -1,15 +1,20 @@
 -- How long headers and directories within the limits are, and that their lengths fit.
-use Rattle.std.proofs.Common.{◌≡◌, ℕ, ◌+◌, ◌*◌, ◌^◌, ◌<◌, ◌≤◌, List, [], ◌∷◌, ◌++◌, Bool, true, false, refl, length, map, All, Option, Some, None, arith, ap, ◌∙◌, length-append}
+use Rattle.std.proofs.Common.{◌≡◌, ℕ, ◌+◌, ◌*◌, ◌^◌, ◌<◌, ◌≤◌, List, [], ◌∷◌, ◌++◌, Bool, true}
+use Rattle.std.proofs.Common.{false, refl, length, map, All, Option, Some, None, arith, ap, ◌∙◌}
+use Rattle.std.proofs.Common.{length-append}
 use Rattle.std.proofs.lemmas.Bool.{le-leb, leb-true}
 use Rattle.std.proofs.lemmas.List.{length-map}
-use Rattle.std.proofs.lemmas.List.Elements.{All-cons, All-nil, All-head, All-tail, All-map, All-weaker}
+use Rattle.std.proofs.lemmas.List.Elements.{All-cons, All-nil, All-head, All-tail, All-map}
+use Rattle.std.proofs.lemmas.List.Elements.{All-weaker}
 use Rattle.std.specs.Prelude.{if◌then◌else◌, nat_le}
 use Rattle.mot_carousel.specs.Carousel.{Object, Carousel}
 use Rattle.mot_carousel.specs.Content.{ContentNumbers}
 use Rattle.mot_directory.specs.Parameter.{OneByte, Short, Long, IsParameter, bytes_of_parameter}
 use Rattle.mot_directory.specs.Header.{IsHeader, bytes_of_header, bytes_of_extension}
-use Rattle.mot_directory.specs.Directory.{Entry, IsEntry, IsDirectory, bytes_of_entry, bytes_of_entries, bytes_of_directory, read_directory}
-use Rattle.mot_directory.specs.Entries.{text_parameter, parameters_with, entry_of, directory_of, IsShortMime, IsWithinLimits, HasDirectory}
+use Rattle.mot_directory.specs.Directory.{Entry, IsEntry, IsDirectory, bytes_of_entry}
+use Rattle.mot_directory.specs.Directory.{bytes_of_entries, bytes_of_directory, read_directory}
+use Rattle.mot_directory.specs.Entries.{text_parameter, parameters_with, entry_of, directory_of}
+use Rattle.mot_directory.specs.Entries.{IsShortMime, IsWithinLimits, HasDirectory}
 use Rattle.mot_directory.specs.Sizes.{text_size, mime_size}
 use Rattle.mot_directory.proofs.ReadBack.{read_directory-bytes_of_directory}
 
@@ -35,7 +40,8 @@ pub length-extension : (name : List ℕ) (mime : Option (List ℕ)) (version : �
     ≡ 7 + text_size (1 + length name) + mime_size mime + 2
 length-extension name None version =
     let first : List ℕ = bytes_of_parameter (text_parameter 12 (240 ∷ name)) in
-    ap (λ n. 7 + n) (length-append first (70 ∷ version ∷ [])) ∙ omega (arith, length-name_parameter name)
+    ap (λ n. 7 + n) (length-append first (70 ∷ version ∷ []))
+    ∙ omega (arith, length-name_parameter name)
 length-extension name (Some mime) version =
     let first : List ℕ = bytes_of_parameter (text_parameter 12 (240 ∷ name)) in
     let second : List ℕ = bytes_of_parameter (text_parameter 16 mime) in
@@ -71,7 +77,8 @@ are_parameters name None version n m =
     (IsParameter-text_parameter 12 (240 ∷ name) (omega arith) (omega arith))
     (All-cons IsParameter (OneByte 6 version) [] (omega arith) (All-nil IsParameter))
 are_parameters name (Some mime) version n m =
-    All-cons IsParameter (text_parameter 12 (240 ∷ name)) (text_parameter 16 mime ∷ OneByte 6 version ∷ [])
+    All-cons IsParameter (text_parameter 12 (240 ∷ name))
+    (text_parameter 16 mime ∷ OneByte 6 version ∷ [])
     (IsParameter-text_parameter 12 (240 ∷ name) (omega arith) (omega arith))
     (All-cons IsParameter (text_parameter 16 mime) (OneByte 6 version ∷ [])
     (IsParameter-text_parameter 16 mime (omega arith) (omega arith))
@@ -84,14 +91,21 @@ lt_by : (a b n : ℕ) → a ≡ b → b < n → a < n
 lt_by a b n e l = omega arith
 
 -- a header whose numbers and texts are within the limits
-pub IsHeader-header : (name : List ℕ) (mime : Option (List ℕ)) (version : ℕ) (content : ContentNumbers)
+pub IsHeader-header : (name : List ℕ) (mime : Option (List ℕ)) (version : ℕ)
+    (content : ContentNumbers)
     (body : ℕ) → length name ≤ 255 → IsShortMime mime → content.content_type ≤ 63 →
     content.subtype ≤ 511 → body ≤ 262144 →
-    IsHeader (record { body_size = body; content = content; parameters = parameters_with name mime version })
+    IsHeader (record {
+      body_size = body;
+      content = content;
+      parameters =
+          parameters_with name mime version;
+    })
 IsHeader-header name mime version content body short short_mime content_type subtype few = record {
   body_size = omega arith;
   header_size = lt_by (7 + length (bytes_of_extension (parameters_with name mime version)))
-      (7 + text_size (1 + length name) + mime_size mime + 2) (2 ^ 13) (length-extension name mime version)
+      (7 + text_size (1 + length name) + mime_size mime + 2) (2 ^ 13)
+      (length-extension name mime version)
       (omega (arith, text_size-le (1 + length name), mime_size-le mime short_mime));
   content_type = omega arith;
   subtype = omega arith;
@@ -105,6 +119,7 @@ IsEntry-entry_of o l = record {
       l.name l.mime l.content_type l.subtype l.body;
 }
 
+-- an entry has two bytes for its id, seven of the header's core, and its extension
 pub length-bytes_of_entry : (e : Entry) →
     length (bytes_of_entry e) ≡ 2 + (7 + length (bytes_of_extension e.header.parameters))
 unfolding bytes_of_header
@@ -114,7 +129,8 @@ entry_of-size : (o : Object) → IsWithinLimits o → length (bytes_of_entry (en
 entry_of-size o l =
     le_by (length (bytes_of_entry (entry_of o)))
     (2 + (7 + text_size (1 + length o.name) + mime_size o.mime + 2)) 336
-    (length-bytes_of_entry (entry_of o) ∙ ap (λ n. 2 + n) (length-extension o.name o.mime o.version))
+    (length-bytes_of_entry (entry_of o)
+    ∙ ap (λ n. 2 + n) (length-extension o.name o.mime o.version))
     (omega (arith, text_size-le (1 + length o.name), mime_size-le o.mime l.mime, l.name))
 
 entries_of-size : (objects : List Object) → All IsWithinLimits objects →
@@ -139,11 +155,14 @@ IsDirectory-directory_of c segment_size has =
       period = omega (arith, has.period);
       segment_size = omega (arith, has.size);
       entries = All-map IsEntry entry_of c.objects
-          (All-weaker IsWithinLimits (λ o. IsEntry (entry_of o)) IsEntry-entry_of c.objects has.objects);
+          (All-weaker IsWithinLimits (λ o. IsEntry (entry_of o)) IsEntry-entry_of c.objects
+          has.objects);
     }
 
+-- a carousel's directory, where it has one, reads back from its bytes
 pub read_directory-directory_of : (c : Carousel) (segment_size : ℕ) → HasDirectory c segment_size →
-    read_directory (bytes_of_directory (directory_of c segment_size)) ≡ Some (directory_of c segment_size)
+    read_directory (bytes_of_directory (directory_of c segment_size))
+    ≡ Some (directory_of c segment_size)
 read_directory-directory_of c segment_size has =
     read_directory-bytes_of_directory (directory_of c segment_size)
     (IsDirectory-directory_of c segment_size has)

@@ -50,8 +50,8 @@ text_in id (Short own text) = if own == id then Some text else None
 text_in id (Long own text) = if own == id && nat_lt 127 (length text) then Some text else None
 text_in id _ = None
 
-abbrev pub name_in : Parameter → Option (List ℕ)
-name_in p = text_in 12 p >>= λ text. if slice_index text 0 == 240 then Some (drop 1 text) else None
+abbrev pub content_name_in : Parameter → Option (List ℕ)
+content_name_in p = text_in 12 p >>= λ t. if slice_index t 0 == 240 then Some (drop 1 t) else None
 
 abbrev pub version_in : Parameter → Option ℕ
 version_in (OneByte id version) = if id == 6 then Some version else None
@@ -60,11 +60,11 @@ version_in _ = None
 -- the name, MIME type and version in parameters of that order
 abbrev pub description_in : List Parameter → Option (List ℕ × Option (List ℕ) × ℕ)
 description_in (p ∷ q ∷ []) = do
-  name ← name_in p
+  name ← content_name_in p
   version ← version_in q
   Some (name, None, version)
 description_in (p ∷ q ∷ r ∷ []) = do
-  name ← name_in p
+  name ← content_name_in p
   mime ← text_in 16 q
   version ← version_in r
   Some (name, Some mime, version)

@@ -1,6 +1,7 @@
 -- Updates and packets, one after the other.
 use Rattle.std.proofs.Common.{◌≡◌, ℕ, zero, suc, ◌+◌, ◌-◌, Bool, true, false, ◌&&◌, List, []}
-use Rattle.std.proofs.Common.{◌∷◌, ◌++◌, length, map, Option, Some, None, Result, Ok, Err, refl, sym, ap}
+use Rattle.std.proofs.Common.{◌∷◌, ◌++◌, length, map, Option, Some, None, Result, Ok, Err, refl}
+use Rattle.std.proofs.Common.{sym, ap}
 use Rattle.std.proofs.Common.{◌∙◌, subst, arith, length-append, append-nil, inl, inr}
 use Rattle.std.proofs.lemmas.List.{map-append}
 use Rattle.std.specs.Prelude.{◌⊎◌, ◌≢◌, if◌then◌else◌}
@@ -13,10 +14,11 @@ use Rattle.mot_base.specs.declared.refusal.Refusal.TheVariants.{WriteFault}
 use Rattle.mot_carousel.specs.Carousel.{Carousel, carousel_after, carousel_if_accepted, change}
 use Rattle.mot_carousel.specs.declared.command.Command.{Command}
 use Rattle.mot_feed.specs.Feeding.{AreOf, Event, FedPacketsAreContinuous, Feeds, FeedsPart, Happen}
-use Rattle.mot_feed.specs.Feeding.{HasFed, IsUpdating, accepted_in, are_uncut, has_ended, may_change}
+use Rattle.mot_feed.specs.Feeding.{HasFed, IsUpdating, commands_among, are_uncut, has_ended}
+use Rattle.mot_feed.specs.Feeding.{may_change}
 use Rattle.mot_feed.specs.Feeding.{sents_in, turns_in}
 use Rattle.mot_feed.specs.Feeding.Event.{Accepted, Played}
-use Rattle.mot_feed.specs.Sending.{SendsOne}
+use Rattle.mot_feed.specs.Sending.{SendsPacket}
 use Rattle.mot_feed.specs.Sending as one
 use Rattle.mot_feed.specs.Writing.{Grows, GrowsPart}
 use Rattle.mot_feed.specs.Writing as part
@@ -55,12 +57,12 @@ happen-join limit size c mid last place between new (Accepted command ∷ events
       new events others one.2 two,
 )
 
-accepted_in-append : (events others : List Event)
-    → accepted_in (events ++ others) ≡ accepted_in events ++ accepted_in others
-accepted_in-append [] others = refl
-accepted_in-append (Played sent ∷ events) others = accepted_in-append events others
-accepted_in-append (Accepted command ∷ events) others =
-    ap (λ l. command ∷ l) (accepted_in-append events others)
+commands_among-append : (events others : List Event)
+    → commands_among (events ++ others) ≡ commands_among events ++ commands_among others
+commands_among-append [] others = refl
+commands_among-append (Played sent ∷ events) others = commands_among-append events others
+commands_among-append (Accepted command ∷ events) others =
+    ap (λ l. command ∷ l) (commands_among-append events others)
 
 sents_in-append : (events others : List Event)
     → sents_in (events ++ others) ≡ sents_in events ++ sents_in others
@@ -110,7 +112,8 @@ are-append events others packets more one two =
           ∙ sym (map-append packet_of sents rest) ∙ ap (map packet_of) all;
       read = subst (λ l. AreSent l (packets ++ more)) all
           (read_each-append read_packet packets more (fields sents) (fields rest) one.read two.read
-          ∙ ap (λ (ps : List PacketFields). Some ps) (sym (map-append (λ (s : Sent). s.packet) sents rest)));
+          ∙ ap (λ (ps : List PacketFields). Some ps)
+          (sym (map-append (λ (s : Sent). s.packet) sents rest)));
     }
 
 pub are-none : AreOf [] []
@@ -149,7 +152,8 @@ happen-cases : (limit size : ℕ) (command : Command) (commands : List Command) 
     → Happen limit size next p (map Accepted commands) last (behind size commands last p))
     → Happen limit size c place (Accepted command ∷ map Accepted commands) last
     (change_turn (turn_of_carousel last size) place)
-happen-cases limit size command commands c last place None is rest tail = absurd (not_there last rest)
+happen-cases limit size command commands c last place None is rest tail =
+    absurd (not_there last rest)
 happen-cases limit size command commands c last place (Some next) is rest tail = (
   next,
   is,
@@ -174,7 +178,7 @@ behind-is : (commands : List Command) (last : Standing) (place : Place)
 behind-is [] last place = refl
 behind-is (command ∷ commands) last place = refl
 
-accepted-map : (commands : List Command) → accepted_in (map Accepted commands) ≡ commands
+accepted-map : (commands : List Command) → commands_among (map Accepted commands) ≡ commands
 accepted-map [] = refl
 accepted-map (command ∷ commands) = ap (λ l. command ∷ l) (accepted-map commands)
 
@@ -182,7 +186,8 @@ sents-map : (commands : List Command) → sents_in (map Accepted commands) ≡ [
 sents-map [] = refl
 sents-map (command ∷ commands) = sents-map commands
 
-ended-map : (ended : Bool) (commands : List Command) → has_ended ended (map Accepted commands) ≡ ended
+ended-map : (ended : Bool) (commands : List Command)
+    → has_ended ended (map Accepted commands) ≡ ended
 ended-map ended [] = refl
 ended-map ended (command ∷ commands) = ended-map ended commands
 
@@ -239,6 +244,7 @@ done-cases : (ends : Bool) (rest left : ℕ) → rest ≡ 0 → rest + (if ends 
 done-cases true rest left none is some = refl
 done-cases false rest left none is some = absurd (some (omega (arith, none, is)))
 
+-- a turn that ends leaves one less to come
 pub rest_then : (ends : Bool) (rest left : ℕ) → ends ≡ true → rest ≡ left - 1 → (left ≡ 0 → ⊥)
     → rest + (if ends then 1 else 0) ≡ left
 rest_then true rest left is less some = not_zero left some less
@@ -248,6 +254,7 @@ rest_then true rest left is less some = not_zero left some less
     not_zero (suc n) some less = omega (arith, less)
 rest_then false rest left is less some = absurd (cc)
 
+-- a packet that ends no turn leaves as many to come
 pub rest_else : (ends : Bool) (rest left : ℕ) → ends ≡ false → rest ≡ left
     → rest + (if ends then 1 else 0) ≡ left
 rest_else true rest left is same = absurd (cc)
@@ -278,7 +285,8 @@ module _ {D : Type 0} where
       two.commands first.marks two.marks fault first.layout (first.whole refl) first.leaves
       two.leaves in
       let d : Standing = first.leaves.last in
-      let rest = subst (λ (g : Geometry). Happen g.objects g.segment_size d.carousel (place_in mid d)
+      let rest = subst (λ (g : Geometry).
+      Happen g.objects g.segment_size d.carousel (place_in mid d)
       others two.leaves.last.carousel (place_in new two.leaves.last)) first.leaves.after.geometry
       two.happened in
       record {
@@ -293,8 +301,8 @@ module _ {D : Type 0} where
               length-append first.commands two.commands,
             );
         layout = two.layout ∙ first.layout;
-        accepted = accepted_in-append events others
-            ∙ ap (λ l. l ++ accepted_in others) first.accepted
+        accepted = commands_among-append events others
+            ∙ ap (λ l. l ++ commands_among others) first.accepted
             ∙ ap (λ l. accepted_commands first.commands first.marks ++ l) two.accepted
             ∙ sym (accepted-join first.commands two.commands first.marks two.marks
             (first.whole refl));
@@ -334,7 +342,7 @@ module _ {D : Type 0} where
   -- nothing but packets
   fed-read : (old new : ServerView D) (start now : State) (s : Standing) (fault : Option Refusal)
       (events : List Event) → IsHonestDisk start → new.view ≡ old.view → now.IsHonest
-      → IsUnchanged start now → Holds old.view s start → accepted_in events ≡ []
+      → IsUnchanged start now → Holds old.view s start → commands_among events ≡ []
       → Happen s.geometry.objects s.geometry.segment_size s.carousel (place_in old s) events
       s.carousel (place_in new s)
       → HasFed old new start now s fault events
@@ -358,17 +366,28 @@ module _ {D : Type 0} where
   pub record SoFar (old new : ServerView D) (start now : State) (s : Standing) (waits : Bool)
       (turns left : ℕ) (between_turns : Bool) (count : ℕ)
       (before after : Option (List (List ℕ))) : Type 0 where
+    -- what happened so far
     pub events : List Event
+    -- this is what was fed, without a fault
     pub fed : HasFed old new start now s None events
+    -- the packets so far
     pub packets : List (List ℕ)
+    -- they are what was sent
     pub are : AreOf events packets
+    -- each was written in one write
     pub written : Grows before after packets
+    -- an update that waits has cut no turn
     pub uncut : waits ≡ true → are_uncut true events ≡ true
+    -- whether a turn has ended behind them, or none was begun
     pub ended : has_ended true events ≡ between_turns
+    -- the turns to come and those that ended are all
     pub counted : left + turns_in events ≡ turns
+    -- how many packets were sent
     pub many : length packets ≡ count
+    -- where no turn is to come, none is under way
     pub done : left ≡ 0 → between_turns ≡ true
 
+  -- feeding that begins has sent nothing
   pub fed_none : (old : ServerView D) (start : State) (s : Standing) (waits : Bool) (turns : ℕ)
       (contents : Option (List (List ℕ))) → IsHonestDisk start → start.IsHonest
       → IsUnchanged start start → Holds old.view s start
@@ -429,15 +448,18 @@ module _ {D : Type 0} where
     abbrev pub updated_events : List Event
     updated_events = so_far.events ++ map Accepted done_by
 
+    -- an update behind what was fed, as one run of all commands
     pub updated : HasFed old up start then_state s fault updated_events
     updated = fed-join old mid up start between then_state s fault so_far.events
         (map Accepted done_by) so_far.fed
         (fed-run mid up between then_state so_far.fed.leaves.last fault update.commands
         update.marks update.run)
 
+    -- it sends no packets
     pub updated_are : AreOf updated_events so_far.packets
     updated_are = are-more so_far.events done_by so_far.packets so_far.are
 
+    -- where it waits, it cuts no turn
     pub updated_uncut : waits ≡ true → are_uncut true updated_events ≡ true
     updated_uncut w = uncut-append true so_far.events (map Accepted done_by) (so_far.uncut w)
         (subst (λ e. are_uncut e (map Accepted done_by) ≡ true) (sym so_far.ended)
@@ -448,10 +470,12 @@ module _ {D : Type 0} where
     updated_ended = ended-append true so_far.events (map Accepted done_by)
         ∙ ended-map (has_ended true so_far.events) done_by ∙ so_far.ended
 
+    -- it ends no turn
     pub updated_turns : turns_in updated_events ≡ turns_in so_far.events
     updated_turns = turns-append so_far.events (map Accepted done_by)
         ∙ omega (arith, turns-map done_by)
 
+    -- feeding that a fault of an update ends, and not of a write
     pub update_fault : (refusal : Refusal) → fault ≡ Some refusal → refusal ≢ WriteFault
         → FeedsPart refusal old up start then_state s waits before after
     update_fault refusal is other = record {
@@ -511,7 +535,7 @@ module _ {D : Type 0} where
       }
 
     send_fault-cases : (refusal : Refusal)
-        → SendsOne (Err refusal) (place_in up t) (place_in new t) after last
+        → SendsPacket (Err refusal) (place_in up t) (place_in new t) after last
         → FeedsPart refusal old new start now s waits before last
     send_fault-cases refusal (one.whole packet e is step w) = absurd (not_fine e refusal (sym is))
     send_fault-cases refusal (one.short packet e n is step lt w) =
@@ -531,9 +555,10 @@ module _ {D : Type 0} where
       uncut = λ w. subst (λ l. are_uncut true l ≡ true) (sym (append-nil events)) (uncut w);
     }
 
+    -- feeding that a fault of a packet or of its write ends
     pub send_fault : (refusal : Refusal)
         → ((d : Standing) → Holds up.view d then_state
-        → SendsOne (Err refusal) (place_in up d) (place_in new d) after last)
+        → SendsPacket (Err refusal) (place_in up d) (place_in new d) after last)
         → FeedsPart refusal old new start now s waits before last
     send_fault refusal sends = send_fault-cases refusal (sends t held)
 
@@ -541,7 +566,7 @@ module _ {D : Type 0} where
     module _ (turns left : ℕ) (count : ℕ) (counted : left + turns_in events ≡ turns)
         (many : length packets ≡ count) (some : left ≡ 0 → ⊥) where
       sent_on-cases : (ends : Bool) (rest : ℕ) → rest + (if ends then 1 else 0) ≡ left
-          → SendsOne (Ok ends) (place_in up t) (place_in new t) after last
+          → SendsPacket (Ok ends) (place_in up t) (place_in new t) after last
           → SoFar old new start now s waits turns rest ends (count + 1) before last
       sent_on-cases ends rest is_rest (one.whole packet e is step w) =
           let same : step.sent.ends_turn ≡ ends = sym step.ends ∙ sym (same_ends ends e is) in
@@ -562,9 +587,10 @@ module _ {D : Type 0} where
       sent_on-cases ends rest is_rest (one.none refusal other is same w) =
           absurd (not_fine ends refusal is)
 
+      -- one more packet, which was made and written
       pub sent_on : (ends : Bool) (rest : ℕ) → rest + (if ends then 1 else 0) ≡ left
           → ((d : Standing) → Holds up.view d then_state
-          → SendsOne (Ok ends) (place_in up d) (place_in new d) after last)
+          → SendsPacket (Ok ends) (place_in up d) (place_in new d) after last)
           → SoFar old new start now s waits turns rest ends (count + 1) before last
       sent_on ends rest is_rest sends = sent_on-cases ends rest is_rest (sends t held)
 
@@ -583,8 +609,10 @@ steps-of limit size c last place new (Accepted command ∷ events) is =
     let rest = steps-of limit size is.0 last (change_turn turn place) new events is.2 in
     (NewTurn turn ∷ rest.0, rest.1)
 
+-- of a server just opened all packets that are fed have their continuity indexes
 pub continuous : FedPacketsAreContinuous
 continuous limit size c last address room turn events new packets some happened are =
-    let steps = steps-of limit size c last (opened_place address room size turn) new events happened in
+    let steps = steps-of limit size c last (opened_place address room size turn) new events
+    happened in
     steps-are-continuous address room size turn steps.0 (sents_in events) new packets some steps.1
     are.read

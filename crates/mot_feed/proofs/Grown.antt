@@ -4,10 +4,12 @@ use Rattle.std.proofs.Common.{sym, ap, ◌∙◌, subst, append_assoc, append-ni
 use Rattle.mot_base.specs.declared.refusal.Refusal.{Refusal}
 use Rattle.mot_feed.specs.Writing.{Grows, GrowsPart, whole, short}
 
+-- known writes go on by none
 pub grows_nil : (a : Option (List (List ℕ))) → Grows a a []
 grows_nil None = tt
 grows_nil (Some x) = sym (append-nil x)
 
+-- writes that go on by some, and then by others, go on by both
 pub grows_trans : (a b c : Option (List (List ℕ))) (xs ys : List (List ℕ)) → Grows a b xs
     → Grows b c ys → Grows a c (xs ++ ys)
 grows_trans None b c xs ys p q = tt

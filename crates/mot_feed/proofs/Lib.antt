@@ -1,3 +1,4 @@
 pub mod Fed
 pub mod Grown
+pub mod Laws
 pub mod Sent

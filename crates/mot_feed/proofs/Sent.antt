@@ -4,15 +4,15 @@ use Rattle.std.proofs.Common.{Option, Some, Result, Ok, Err, take, refl, sym, ap
 use Rattle.std.proofs.Common.{add-one}
 use Rattle.std.specs.Prelude.{◌≢◌, IsErrAnd, IsFalse, IsTrue}
 use Rattle.mot_journal.specs.Image.{Standing}
-use Rattle.mot_player.specs.Standing as player
+use Rattle.mot_player.specs.PlayerView as player
 use Rattle.mot_repository.specs.Repository.{RepositoryView}
 use Rattle.mot_server.specs.Server.{ServerView, bodies_of, place_in}
 use Rattle.disk_store.specs.Disk.{State, IsUnchanged}
 use Rattle.disk_store.specs.Failures.{Rises}
-use Rattle.mot_server.specs.Inner.Unread.{is_unchanged}
 use Rattle.mot_base.specs.declared.refusal.Refusal.{Refusal}
-use Rattle.mot_base.specs.declared.refusal.Refusal.TheVariants.{DeviceFault, Halted, OutOfMemory, WriteFault}
-use Rattle.mot_feed.specs.Sending.{IsSendFault, Sends, SendsOne, SendsPart}
+use Rattle.mot_base.specs.declared.refusal.Refusal.TheVariants.{DeviceFault, Halted, OutOfMemory}
+use Rattle.mot_base.specs.declared.refusal.Refusal.TheVariants.{WriteFault}
+use Rattle.mot_feed.specs.Sending.{IsSendFault, SendsPackets, SendsPacket, SendsPart}
 use Rattle.mot_feed.specs.Sending as one
 use Rattle.mot_feed.specs.Writing.{Grows, GrowsPart}
 use Rattle.mot_feed.specs.Writing as part
@@ -22,17 +22,20 @@ use Rattle.mot_player.specs.Place.{Place}
 use Rattle.mot_server.specs.Playing.{HasPlayed, IsReadRefusal}
 use Rattle.mot_server.specs.Playing as reading
 use Rattle.mot_server.proofs.Laws.{played_none, played_more}
-use Rattle.mot_update.specs.Faults.{IsCalm, IsUpdateFault}
+use Rattle.mot_update.specs.Faults.{StaysCalm, IsUpdateFault}
 use Rattle.mot_update.specs.Faults as update
 
 abbrev IsFine : {T : Type 0} → Result T Refusal → Type 0
 IsFine (Ok x) = Unit {0}
 IsFine (Err e) = ⊥
 
+-- what is Ok is no error
 pub not_fine : {T : Type 0} (x : T) (e : Refusal) → Ok x ≡ Err e → ⊥
 not_fine x e same = subst IsFine same tt
 
-pub sends_none : (place : Place) (known : Option (List (List ℕ))) → Sends place 0 place known known
+-- of no requests no packets are sent
+pub sends_none : (place : Place) (known : Option (List (List ℕ)))
+    → SendsPackets place 0 place known known
 sends_none place known = record {
   packets = [];
   played = played_none place;
@@ -41,8 +44,9 @@ sends_none place known = record {
 
 -- one more packet, in a write of its own
 pub sends_more : (old mid new : Place) (count : ℕ) (before between after : Option (List (List ℕ)))
-    (ends : Bool) → Sends old count mid before between → SendsOne (Ok ends) mid new between after
-    → Sends old (count + 1) new before after
+    (ends : Bool) → SendsPackets old count mid before between
+    → SendsPacket (Ok ends) mid new between after
+    → SendsPackets old (count + 1) new before after
 sends_more old mid new count before between after ends so_far (one.whole packet e is step written) =
     record {
       packets = so_far.packets ++ packet ∷ [];
@@ -57,13 +61,14 @@ sends_more old mid new count before between after ends so_far (one.short packet 
 sends_more old mid new count before between after ends so_far (one.none refusal other is same w) =
     absurd (not_fine ends refusal is)
 
+-- refusals that are one as results are one
 pub same_refusal : (a b : Refusal) → ◌≡◌ {A = Result Bool Refusal} (Err a) (Err b) → a ≡ b
 same_refusal a b e = cc
 
 -- one more, written in part, not written or not made
 pub sends_part : (old mid new : Place) (count limit : ℕ)
     (before between after : Option (List (List ℕ))) (refusal : Refusal) → count < limit
-    → Sends old count mid before between → SendsOne (Err refusal) mid new between after
+    → SendsPackets old count mid before between → SendsPacket (Err refusal) mid new between after
     → SendsPart refusal old limit new before after
 sends_part old mid new count limit before between after refusal lt so_far
     (one.whole packet e is step written) = absurd (not_fine e refusal (sym is))
@@ -94,17 +99,16 @@ unfolding read_packet
 some_bytes [] p is = absurd (cc)
 some_bytes (b ∷ bytes) p is = omega arith
 
-pub stays_same : (state : State) → IsUnchanged state state
-stays_same state = is_unchanged state
-
+-- an error that is a certain one is that result
 pub same_error : {A E : Type 0} (r : Result A E) (e : E) → IsErrAnd r (λ x. x ≡ e) → r ≡ Err e
 same_error (Ok a) e is = absurd is
 same_error (Err x) e is = ap Err is
 
+-- a server whose player stays stands in the same place
 pub same_place : {D : Type 0} (old new : ServerView D) (s : Standing) → new.player ≡ old.player
     → place_in new s ≡ place_in old s
 same_place old new s played =
-    ap (λ (p : player.Standing). player.place_of p (bodies_of s.carousel)) played
+    ap (λ (p : player.PlayerView). player.place_of p (bodies_of s.carousel)) played
 
 -- ---- faults
 
@@ -137,13 +141,13 @@ not_of_writing old start now refusal (update.device is e rises) w =
 
 -- a packet that was sent leaves all calm
 pub sent_calm : {D : Type 0} (old new : ServerView D) (start now : State)
-    → now.failures ≡ start.failures → new.view ≡ old.view → IsCalm old new start now
+    → now.failures ≡ start.failures → new.view ≡ old.view → StaysCalm old new start now
 sent_calm old new start now calm view =
     record { failures = calm; halted = ap (λ (v : RepositoryView). v.halted) view }
 
 -- a fault behind updates without one
 pub send_fault_behind : {D : Type 0} (old mid : ServerView D) (start between now : State)
-    (refusal : Refusal) → IsCalm old mid start between → IsSendFault mid between now refusal
+    (refusal : Refusal) → StaysCalm old mid start between → IsSendFault mid between now refusal
     → IsSendFault old start now refusal
 send_fault_behind old mid start between now refusal calm (one.halted is e same) =
     one.halted (subst IsTrue calm.halted is) e (same ∙ calm.failures)

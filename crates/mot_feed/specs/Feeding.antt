@@ -20,10 +20,6 @@ use Rattle.mot_server.specs.Server.{ServerView, place_in}
 use Rattle.mot_update.specs.Faults.{IsUpdateFault}
 use Rattle.mot_update.specs.HasRun.{HasRun}
 
-abbrev pub fault_of : {T : Type 0} → Result T Refusal → Option Refusal
-fault_of (Ok done) = None
-fault_of (Err refusal) = Some refusal
-
 -- whether an update may change the carousel: one that waits for a turn's end may only there
 abbrev pub may_change : Bool → Bool → Bool
 may_change waits between_turns = not waits || between_turns
@@ -42,10 +38,10 @@ pub data Event : Type 0 where
   Played : Sent → Event
 
 -- the commands among these
-abbrev pub accepted_in : List Event → List Command
-accepted_in [] = []
-accepted_in (Accepted command ∷ events) = command ∷ accepted_in events
-accepted_in (Played sent ∷ events) = accepted_in events
+abbrev pub commands_among : List Event → List Command
+commands_among [] = []
+commands_among (Accepted command ∷ events) = command ∷ commands_among events
+commands_among (Played sent ∷ events) = commands_among events
 
 -- what was sent among these
 abbrev pub sents_in : List Event → List Sent
@@ -96,7 +92,7 @@ pub record HasFed {D : Type 0} (old new : ServerView D) (start now : State) (s :
   pub leaves : RunLeaves old.view new.view start now s commands marks fault
   pub whole : fault ≡ None → length marks ≡ length commands
   pub layout : new.view.journal.layout ≡ old.view.journal.layout
-  pub accepted : accepted_in events ≡ accepted_commands commands marks
+  pub accepted : commands_among events ≡ accepted_commands commands marks
   pub happened : Happen s.geometry.objects s.geometry.segment_size s.carousel (place_in old s)
       events leaves.last.carousel (place_in new leaves.last)
 

@@ -12,7 +12,7 @@ use Rattle.mot_server.specs.Playing.{HasPlayed}
 use Rattle.mot_server.specs.Server.{ServerView}
 
 -- the packets of so many requests, each written in one write
-pub record Sends (old : Place) (count : ℕ) (new : Place)
+pub record SendsPackets (old : Place) (count : ℕ) (new : Place)
     (before after : Option (List (List ℕ))) : Type 0 where
   pub packets : List (List ℕ)
   pub played : HasPlayed old count packets new
@@ -29,15 +29,15 @@ pub record SendsPart (refusal : Refusal) (old : Place) (count : ℕ) (new : Plac
   pub written : GrowsPart refusal packets before after
 
 -- one request, whose packet was written in one write, in part or not at all, or not made
-pub data SendsOne (result : Result Bool Refusal) (old new : Place)
+pub data SendsPacket (result : Result Bool Refusal) (old new : Place)
     (before after : Option (List (List ℕ))) : Type 0 where
   whole : (packet : List ℕ) (ends : Bool) → result ≡ Ok ends → IsStep old packet ends new
-      → Grows before after (packet ∷ []) → SendsOne result old new before after
+      → Grows before after (packet ∷ []) → SendsPacket result old new before after
   short : (packet : List ℕ) (ends : Bool) (count : ℕ) → result ≡ Err WriteFault
       → IsStep old packet ends new → count < length packet
-      → Grows before after (take count packet ∷ []) → SendsOne result old new before after
+      → Grows before after (take count packet ∷ []) → SendsPacket result old new before after
   none : (refusal : Refusal) → refusal ≢ WriteFault → result ≡ Err refusal → new ≡ old
-      → Grows before after [] → SendsOne result old new before after
+      → Grows before after [] → SendsPacket result old new before after
 
 -- Why packets were not sent, on every disk: the server was halted, the disk failed, or a write did.
 pub data IsSendFault {D : Type 0} (old : ServerView D) (start now : State)

@@ -2,10 +2,11 @@
 ghost use Rattle.std.specs.Prelude.{◌≡◌, Bool, true, IfErr, OnOk};
 ghost use Rattle.disk_store.specs.Disk.{KeepsLength};
 ghost use Rattle.mot_feed.specs.Feeding.{FedPacketsAreContinuous, Feeds, FeedsPart};
-ghost use Rattle.mot_feed.specs.Feeding.{IsFeedFault, IsUpdating, fault_of, may_change};
+ghost use Rattle.mot_feed.specs.Feeding.{IsFeedFault, IsUpdating, may_change};
+ghost use Rattle.mot_server.specs.Attempts.{fault_of};
 ghost use Rattle.mot_journal.specs.Image.{Standing};
 ghost use Rattle.mot_repository.specs.Repository.{Holds};
-ghost use Rattle.mot_update.specs.Faults.{IsCalm, TellsFaults};
+ghost use Rattle.mot_update.specs.Faults.{StaysCalm, TellsFaults};
 
 use crate::Outlet;
 use crate::sending::send_one;
@@ -49,7 +50,7 @@ pub fn feed<D: Disk, O: Outlet, U: Update>(
 ) -> Result<(), Refusal>
     ensures keeps { KeepsLength (D.state server.old.disk) (D.state server.new.disk) }
     ensures calm { OnOk result
-        (IsCalm server.old server.new (D.state server.old.disk) (D.state server.new.disk)) }
+        (StaysCalm server.old server.new (D.state server.old.disk) (D.state server.new.disk)) }
     ensures fault { IfErr result (λ refusal. IsFeedFault server.old
         (D.state server.old.disk) (D.state server.new.disk) refusal) }
     ensures fed { (s : Standing) → Holds server.old.view s (D.state server.old.disk)

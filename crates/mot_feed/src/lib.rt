@@ -8,6 +8,3 @@ mod sending;
 pub use feeding::{NoUpdate, Update, feed};
 pub use outlet::{Direct, Outlet};
 pub use sending::send_packets;
-
-#[cfg(test)]
-mod tests;

@@ -1,7 +1,7 @@
 //! Packets, each in one write.
 ghost use Rattle.std.specs.Prelude.{◌≡◌, IfErr, OnOk};
 ghost use Rattle.disk_store.specs.Disk.{OnlyReads};
-ghost use Rattle.mot_feed.specs.Sending.{IsSendFault, Sends, SendsOne, SendsPart};
+ghost use Rattle.mot_feed.specs.Sending.{IsSendFault, SendsPackets, SendsPacket, SendsPart};
 ghost use Rattle.mot_journal.specs.Image.{Standing};
 ghost use Rattle.mot_repository.specs.Repository.{Holds};
 ghost use Rattle.mot_server.specs.Server.{place_in};
@@ -28,7 +28,7 @@ pub fn send_packets<D: Disk, O: Outlet>(
     ensures view { server.new.view ≡ server.old.view }
     ensures sent { (s : Standing) → Holds server.old.view s (D.state server.old.disk)
         → (D.state server.new.disk).IsHonest
-        → OnOk result (Sends (place_in server.old s) count (place_in server.new s)
+        → OnOk result (SendsPackets (place_in server.old s) count (place_in server.new s)
         (O.writes outlet.old) (O.writes outlet.new)) }
     ensures part { (s : Standing) → Holds server.old.view s (D.state server.old.disk)
         → (D.state server.new.disk).IsHonest
@@ -55,7 +55,7 @@ pub(crate) fn send_one<D: Disk, O: Outlet>(
     ensures view { server.new.view ≡ server.old.view }
     ensures sent { (s : Standing) → Holds server.old.view s (D.state server.old.disk)
         → (D.state server.new.disk).IsHonest
-        → SendsOne result (place_in server.old s) (place_in server.new s)
+        → SendsPacket result (place_in server.old s) (place_in server.new s)
         (O.writes outlet.old) (O.writes outlet.new) }
 {
     let Played { packet, ends_turn } = server.next_packet()?;

@@ -3,39 +3,42 @@ use Rattle.std.proofs.Common.{◌≡◌, [], ◌∷◌, Some, None, true, false,
 use Rattle.std.specs.Prelude.{codes}
 use Rattle.std.specs.Fmt.{digits}
 use Rattle.mot_base.specs.declared.refusal.Refusal.TheVariants.{EmptyBody, NoRoom, ReadFault}
-use Rattle.mot_folder.specs.Log.{entry, entry_of, line_of, of_look}
+use Rattle.mot_folder.specs.Log.{entry, log_entry_of, log_line, of_look}
 use Rattle.mot_folder.specs.Looked.{is_due}
 use Rattle.mot_server.specs.declared.running.Attempt.TheVariants.{Accepted, Refused}
 use Rattle.mot_update.specs.Told.{Put, Replaced, Withdrew}
 
-put_line : line_of (entry_of (Put (codes "a.png") (Accepted (record { object = Some 2; directory = 3 }))))
+put_line : log_line (log_entry_of
+    (Put (codes "a.png") (Accepted (record { object = Some 2; directory = 3 }))))
     ≡ codes "put a.png done object 2 directory 3\n"
 unfolding digits
 put_line = refl
 
-withdrawn_line : line_of (entry_of (Withdrew (codes "a") (Accepted (record { object = None; directory = 4 }))))
+withdrawn_line : log_line
+    (log_entry_of (Withdrew (codes "a") (Accepted (record { object = None; directory = 4 }))))
     ≡ codes "withdraw a done directory 4\n"
 unfolding digits
 withdrawn_line = refl
 
-refused_line : line_of (entry_of (Replaced (codes "a") (Refused NoRoom)))
+refused_line : log_line (log_entry_of (Replaced (codes "a") (Refused NoRoom)))
     ≡ codes "replace a refused 12 NoRoom\n"
 unfolding digits
 refused_line = refl
 
-unread_line : line_of (entry (codes "read") (codes "b.xml") (Refused EmptyBody))
+unread_line : log_line (entry (codes "read") (codes "b.xml") (Refused EmptyBody))
     ≡ codes "read b.xml refused 6 EmptyBody\n"
 unfolding digits
 unread_line = refl
 
-unlisted_line : line_of (entry (codes "look") (codes "d") (Refused ReadFault))
+unlisted_line : log_line (entry (codes "look") (codes "d") (Refused ReadFault))
     ≡ codes "look d refused 22 ReadFault\n"
 unfolding digits
 unlisted_line = refl
 
 -- a file that was not taken is told of no command
-beside : of_look (entry (codes "read") (codes "b") (Refused EmptyBody) ∷ entry_of (Put (codes "a") (Refused NoRoom)) ∷ [])
-    ≡ entry_of (Put (codes "a") (Refused NoRoom)) ∷ []
+beside : of_look (entry (codes "read") (codes "b") (Refused EmptyBody)
+    ∷ log_entry_of (Put (codes "a") (Refused NoRoom)) ∷ [])
+    ≡ log_entry_of (Put (codes "a") (Refused NoRoom)) ∷ []
 beside = refl
 
 -- before the first packet, behind the thousandth where it ends a turn, and behind a later one

@@ -9,12 +9,12 @@ use Rattle.mot_server.specs.declared.running.Attempt.TheVariants.{Accepted, Refu
 use Rattle.mot_update.specs.Told.{Answer, Put, Replaced, Withdrew}
 
 -- one thing that is told: what was done to which name, and what came of it
-pub record Entry : Type 0 where
+pub record LogEntry : Type 0 where
   pub what : List ℕ
   pub name : List ℕ
   pub came : Attempt
 
-abbrev pub entry : List ℕ → List ℕ → Attempt → Entry
+abbrev pub entry : List ℕ → List ℕ → Attempt → LogEntry
 entry what name came = record { what = what; name = name; came = came }
 
 abbrev pub reply_line : Attempt → List ℕ
@@ -22,33 +22,34 @@ reply_line (Accepted done) = done_line done
 reply_line (Refused refusal) = refusal_line refusal
 
 -- its line, with the end
-abbrev pub line_of : Entry → List ℕ
-line_of e = e.what ++ codes " " ++ e.name ++ codes " " ++ reply_line e.came
+abbrev pub log_line : LogEntry → List ℕ
+log_line e = e.what ++ codes " " ++ e.name ++ codes " " ++ reply_line e.came
 
 -- what is told of a command
-abbrev pub entry_of : Answer → Entry
-entry_of (Withdrew name came) = entry (codes "withdraw") name came
-entry_of (Put name came) = entry (codes "put") name came
-entry_of (Replaced name came) = entry (codes "replace") name came
+abbrev pub log_entry_of : Answer → LogEntry
+log_entry_of (Withdrew name came) = entry (codes "withdraw") name came
+log_entry_of (Put name came) = entry (codes "put") name came
+log_entry_of (Replaced name came) = entry (codes "replace") name came
 
 -- it is told of a command, or of the whole look, and not of a file that was not taken
-abbrev pub is_of_look : Entry → Bool
+abbrev pub is_of_look : LogEntry → Bool
 is_of_look e = not (bytes_eq e.what (codes "read"))
 
-abbrev pub of_look : List Entry → List Entry
+abbrev pub of_look : List LogEntry → List LogEntry
 of_look entries = filter is_of_look entries
 
 -- the report tells these, in order, each in a line of its own, where there was memory for all lines
-abbrev pub HasTold : Report → List Entry → Type 0
-HasTold report entries =
-    report.any_left_out ≡ false → report.lines.items ≡ flat_map line_of entries
+abbrev pub ReportTells : Report → List LogEntry → Type 0
+ReportTells report entries =
+    report.any_left_out ≡ false → report.lines.items ≡ flat_map log_line entries
 
 -- what was told goes on by one
-abbrev pub TellsOne : Report → Report → Entry → Type 0
-TellsOne old new e = (entries : List Entry) → HasTold old entries → HasTold new (entries ++ e ∷ [])
+abbrev pub TellsOne : Report → Report → LogEntry → Type 0
+TellsOne old new e = (entries : List LogEntry) → ReportTells old entries
+    → ReportTells new (entries ++ e ∷ [])
 
 -- it tells these answers, and beside them only files that were not taken
 pub record TellsAnswers (report : Report) (answers : List Answer) : Type 0 where
-  pub entries : List Entry
-  pub told : HasTold report entries
-  pub are : of_look entries ≡ map entry_of answers
+  pub entries : List LogEntry
+  pub told : ReportTells report entries
+  pub are : of_look entries ≡ map log_entry_of answers

@@ -4,7 +4,7 @@ use Rattle.std.specs.Prelude.{codes}
 use Rattle.disk_store.specs.Disk.{State}
 use Rattle.mot_base.specs.declared.refusal.Refusal.{Refusal}
 use Rattle.mot_base.specs.declared.refusal.Refusal.TheVariants.{ReadFault}
-use Rattle.mot_folder.specs.Log.{Entry, HasTold, TellsAnswers, entry, of_look}
+use Rattle.mot_folder.specs.Log.{LogEntry, ReportTells, TellsAnswers, entry, of_look}
 use Rattle.mot_folder.specs.declared.report.Report.{Report}
 use Rattle.mot_journal.specs.Image.{Standing}
 use Rattle.mot_server.specs.Server.{ServerView}
@@ -18,7 +18,7 @@ use Rattle.mot_update.specs.Looking.{HasLooked}
 pub data HasLookedAtFolder {D : Type 0} (old new : ServerView D) (start now : State)
     (s : Standing) (path : List ℕ) (report : Report) (fault : Option Refusal) : Type 0 where
   unlisted : report.any_refused ≡ true → fault ≡ None → HasRun old new start now s [] [] None
-      → (entries : List Entry) → HasTold report entries
+      → (entries : List LogEntry) → ReportTells report entries
       → of_look entries ≡ entry (codes "look") path (Refused ReadFault) ∷ []
       → HasLookedAtFolder old new start now s path report fault
   listed : (names : List (List ℕ))

@@ -1,10 +1,10 @@
 //! A folder of files, as a source of wanted objects.
 ghost use Rattle.std.specs.Prelude.{◌≡◌, ◌<◌, ◌≤◌, ◌-◌, [], Some, true, false, not, IfOk, length};
 ghost use Rattle.std.specs.Prelude.{slice_get, vec_len};
-ghost use Rattle.mot_folder.specs.Inner.Names.{name_of};
+ghost use Rattle.mot_folder.specs.Inner.Names.{name_or_none};
 ghost use Rattle.mot_folder.specs.Log.{TellsAnswers};
 ghost use Rattle.mot_update.specs.Looking.{was_settled};
-ghost use Rattle.mot_update.specs.Told.{Tells, answers_of};
+ghost use Rattle.mot_update.specs.Told.{TellsMore, answers_of};
 
 use crate::listing::{FileNames, joined};
 use crate::report::Report;
@@ -96,7 +96,7 @@ impl<'a, T: Files<File = File>> Source for Folder<'a, T> {
 
     ghost was_told = { λ folder. TellsAnswers folder.report };
 
-    ghost last = { λ folder. name_of (slice_get folder.names.names.items (folder.place - 1)) };
+    ghost last = { λ folder. name_or_none (slice_get folder.names.names.items (folder.place - 1)) };
 
     fn knows(&self, name: &Name) -> bool {
         self.names.has(name)
@@ -126,14 +126,14 @@ impl<'a, T: Files<File = File>> Source for Folder<'a, T> {
 /// Tells that the file of the name at this place could not be taken.
 fn tell_refused(report: &mut Report, names: &FileNames, place: usize, refusal: Refusal)
     ensures any { report.new.any_refused ≡ true }
-    ensures told { Tells (TellsAnswers report.old) (TellsAnswers report.new) [] }
+    ensures told { TellsMore (TellsAnswers report.old) (TellsAnswers report.new) [] }
 {
     report.refused("read", name_at(names, place), refusal);
 }
 
 /// The bytes of the name at this place; none where there is no such place.
 fn name_at(names: &FileNames, place: usize) -> &[u8]
-    ensures { result.now ≡ name_of (slice_get names.now.names.items place) }
+    ensures { result.now ≡ name_or_none (slice_get names.now.names.items place) }
 {
     match names.names.get(place) {
         Some(name) => name.as_bytes(),
@@ -145,8 +145,8 @@ fn name_at(names: &FileNames, place: usize) -> &[u8]
 fn tell_settled(report: &mut Report, names: &FileNames, place: usize, settled: Settled)
     ensures fine { report.new.any_refused ≡ false
         → (report.old.any_refused ≡ false) × (was_settled settled ≡ true) }
-    ensures told { Tells (TellsAnswers report.old) (TellsAnswers report.new)
-        (answers_of (name_of (slice_get names.now.names.items (place - 1))) settled) }
+    ensures told { TellsMore (TellsAnswers report.old) (TellsAnswers report.new)
+        (answers_of (name_or_none (slice_get names.now.names.items (place - 1))) settled) }
 {
     let name = name_at(names, place.saturating_sub(1));
     match settled {

@@ -10,6 +10,3 @@ mod types;
 pub use looking::{Looks, look_at_folder};
 pub use report::Report;
 pub use types::{FileType, FileTypes};
-
-#[cfg(test)]
-mod tests;

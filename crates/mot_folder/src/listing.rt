@@ -2,7 +2,7 @@
 ghost use Rattle.std.specs.Prelude.{◌≡◌, [], true};
 ghost use Rattle.mot_carousel.specs.Carousel.{are_names_distinct};
 ghost use Rattle.mot_folder.specs.Log.{TellsAnswers};
-ghost use Rattle.mot_update.specs.Told.{Tells};
+ghost use Rattle.mot_update.specs.Told.{TellsMore};
 ghost use Rattle.mot_update.specs.Updating.{is_known};
 
 use crate::report::Report;
@@ -60,7 +60,7 @@ pub(crate) fn list<T: Files<File = File>>(
     types: &FileTypes,
     report: &mut Report,
 ) -> io::Result<FileNames>
-    ensures told { Tells (TellsAnswers report.old) (TellsAnswers report.new) [] }
+    ensures told { TellsMore (TellsAnswers report.old) (TellsAnswers report.new) [] }
 {
     let mut names = FileNames::new(alloc);
     let mut dir = rt.open_dir(path)?;
@@ -85,7 +85,7 @@ fn add_all<T: Files<File = File>>(
     names: &mut FileNames,
     report: &mut Report,
 ) -> io::Result<()>
-    ensures told { Tells (TellsAnswers report.old) (TellsAnswers report.new) [] }
+    ensures told { TellsMore (TellsAnswers report.old) (TellsAnswers report.new) [] }
 {
     let mut rest = bytes;
     while let Some(end) = rest.iter().position(|byte| *byte == 0) {
@@ -105,7 +105,7 @@ fn add_one<T: Files<File = File>>(
     names: &mut FileNames,
     report: &mut Report,
 ) -> io::Result<()>
-    ensures told { Tells (TellsAnswers report.old) (TellsAnswers report.new) [] }
+    ensures told { TellsMore (TellsAnswers report.old) (TellsAnswers report.new) [] }
 {
     if types.of_name(name).is_none() || !is_file(rt, alloc, path, name)? {
         return Ok(());

@@ -6,7 +6,7 @@ ghost use Rattle.mot_folder.specs.Looked.{HasLookedAtFolder, is_due};
 ghost use Rattle.mot_journal.specs.Image.{Standing};
 ghost use Rattle.mot_repository.specs.Repository.{Holds};
 ghost use Rattle.mot_update.specs.Faults.{TellsFaults};
-ghost use Rattle.mot_update.specs.HasRun.{fault_of};
+ghost use Rattle.mot_server.specs.Attempts.{fault_of};
 
 use crate::folder::Folder;
 use crate::listing::list;

@@ -1,6 +1,6 @@
 //! What is told of a look at a folder, line by line.
 ghost use Rattle.std.specs.Prelude.{◌≡◌, ◌++◌, [], true, false, codes, OnOk};
-ghost use Rattle.mot_folder.specs.Log.{HasTold, TellsOne, entry};
+ghost use Rattle.mot_folder.specs.Log.{ReportTells, TellsOne, entry};
 ghost use Rattle.mot_server.specs.declared.running.Attempt.TheVariants.{Accepted, Refused};
 ghost use Rattle.mot_update.specs.Told.{was_accepted};
 
@@ -25,7 +25,7 @@ impl Report {
     /// Nothing was told.
     pub fn new(alloc: Global) -> Report
         ensures fine { result.any_refused ≡ false }
-        ensures told { HasTold result [] }
+        ensures told { ReportTells result [] }
     {
         Report {
             lines: Vec::new(alloc),
@@ -37,7 +37,7 @@ impl Report {
     /// A further look begins.
     pub fn begin(&mut self)
         ensures fine { self.new.any_refused ≡ false }
-        ensures told { HasTold self.new [] }
+        ensures told { ReportTells self.new [] }
     {
         self.lines.clear();
         self.any_refused = false;

@@ -1,5 +1,6 @@
 -- The bytes that are appended in turn are those of the group.
-use Rattle.std.proofs.Common.{◌≡◌, ℕ, ◌+◌, ◌-◌, ◌*◌, ◌%◌, ◌<◌, List, [], ◌∷◌, ◌++◌, refl, length, take, drop, arith, append_assoc, length-append}
+use Rattle.std.proofs.Common.{◌≡◌, ℕ, ◌+◌, ◌-◌, ◌*◌, ◌%◌, ◌<◌, List, [], ◌∷◌, ◌++◌, refl, length}
+use Rattle.std.proofs.Common.{take, drop, arith, append_assoc, length-append}
 use Rattle.std.proofs.Math.Seq.{drop-append_seam}
 use Rattle.std.proofs.lemmas.Grind.{numeral_or}
 use Rattle.std.proofs.lemmas.List.{take_all}
@@ -8,10 +9,12 @@ use Rattle.mot_base.specs.GroupKind.{kind_number}
 use Rattle.mot_base.specs.declared.group_kind.GroupKind.{GroupKind}
 use Rattle.mot_base.specs.declared.group_kind.GroupKind.TheVariants.{Body, Directory}
 
+-- the number of a group's type fits in four bits
 pub kind_number_fits : (kind : GroupKind) → kind_number kind < 16
 kind_number_fits Body = omega arith
 kind_number_fits Directory = omega arith
 
+-- two bytes of a header, and what comes behind them, appended in turn are the group's
 pub header-appended : (out head segment : List ℕ) (kind index : ℕ) → kind < 16 → index < 16 →
     out ++ bit_or 112 kind ∷ (index * 16 % 256) ∷ [] ++ head ++ segment
     ≡ out ++ ((112 + kind) ∷ (16 * index) ∷ (head ++ segment))

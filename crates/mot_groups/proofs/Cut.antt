@@ -1,5 +1,7 @@
 -- An entity that is cut into segments reads as itself.
-use Rattle.std.proofs.Common.{◌≡◌, ℕ, suc, zero, ◌+◌, ◌-◌, ◌*◌, ◌<◌, ◌≤◌, List, [], ◌∷◌, ◌++◌, true, false, refl, length, take, drop, arith, ap, ◌∙◌, length-take, length-drop, eq-eqb, Some}
+use Rattle.std.proofs.Common.{◌≡◌, ℕ, suc, zero, ◌+◌, ◌-◌, ◌*◌, ◌<◌, ◌≤◌, List, [], ◌∷◌, ◌++◌, true}
+use Rattle.std.proofs.Common.{false, refl, length, take, drop, arith, ap, ◌∙◌, length-take}
+use Rattle.std.proofs.Common.{length-drop, eq-eqb, Some}
 use Rattle.std.proofs.Math.Nat.{zero-div, zero-mod}
 use Rattle.std.proofs.lemmas.Bool.{le-leb}
 use Rattle.std.proofs.lemmas.List.{append-nil, take-append-drop, take_all}
@@ -7,10 +9,13 @@ use Rattle.std.proofs.lemmas.List.Elements.{All-cons, All-nil}
 use Rattle.std.specs.Int.{div_ceil}
 use Rattle.std.specs.Prelude.{◌==◌}
 use Rattle.mot_base.specs.Reading.{is_empty}
-use Rattle.mot_base.proofs.Laws.{FullPieces, full_pieces}
+use Rattle.mot_base.proofs.Laws.{PiecesRoundedUp, pieces_rounded_up}
 use Rattle.mot_groups.specs.Group.{Segment}
-use Rattle.mot_groups.specs.Entity.{first_pieces, pieces, all_but_last, IsCut, joined_bytes, numbered_segments, segments_of, own_segments, first_size, entity_of}
+use Rattle.mot_groups.specs.Entity.{first_pieces, pieces, all_but_last, IsCut, joined_bytes}
+use Rattle.mot_groups.specs.Entity.{numbered_segments, segments_of, own_segments, first_size}
+use Rattle.mot_groups.specs.Entity.{entity_of}
 
+-- so many first pieces of bytes are so many
 pub length-first_pieces : (n size : ℕ) (bytes : List ℕ) → length (first_pieces n size bytes) ≡ n
 length-first_pieces zero size bytes = refl
 length-first_pieces (suc n) size bytes = ap suc (length-first_pieces n size (drop size bytes))
@@ -36,8 +41,10 @@ IsCut-first_pieces size (suc n) bytes s low high =
     let others : List (List ℕ) = first_pieces (suc n) size (drop size bytes) in
     record {
       whole = ap (λ r. take size bytes ++ r) rest.whole ∙ take-append-drop size bytes;
-      none_empty = All-cons (λ piece. 0 < length piece) (take size bytes) others (omega arith) rest.none_empty;
-      others_full = All-cons (λ piece. length piece ≡ size) (take size bytes) (all_but_last others) len
+      none_empty = All-cons (λ piece. 0 < length piece) (take size bytes) others (omega arith)
+          rest.none_empty;
+      others_full = All-cons (λ piece. length piece ≡ size) (take size bytes) (all_but_last others)
+          len
           rest.others_full;
       none_longer = All-cons (λ piece. length piece ≤ size) (take size bytes) others (omega arith)
           rest.none_longer;
@@ -51,11 +58,12 @@ IsCut-none size = record {
   none_longer = All-nil (λ piece. length piece ≤ size);
 }
 
+-- the pieces of a size cut bytes in segments of that size
 pub IsCut-pieces : (size : ℕ) (bytes : List ℕ) → 0 < size → IsCut size bytes (pieces size bytes)
 IsCut-pieces size [] s = rw (zero-div size, zero-mod size) (IsCut-none size)
 IsCut-pieces size (b ∷ bytes) s =
-    let n : FullPieces (div_ceil (length (b ∷ bytes)) size) size (length (b ∷ bytes)) =
-    full_pieces size (length (b ∷ bytes)) s (omega arith) in
+    let n : PiecesRoundedUp (div_ceil (length (b ∷ bytes)) size) size (length (b ∷ bytes)) =
+    pieces_rounded_up size (length (b ∷ bytes)) s (omega arith) in
     rw n.one_more (IsCut-first_pieces size n.full (b ∷ bytes) s n.too_few n.enough)
 
 -- what is read of the segments behind the first one
@@ -70,9 +78,11 @@ joined_bytes-last : (number size : ℕ) (s : Segment) → (s.number == number) �
 joined_bytes-last number size s n l b = rw (n, l, le-leb (length s.bytes) size b) refl
 
 -- n + 1 pieces, of which n are full, join as the bytes again
-joined_bytes-numbered_segments : (kind tid number size n : ℕ) (bytes : List ℕ) → 0 < size → n * size < length bytes →
+joined_bytes-numbered_segments : (kind tid number size n : ℕ) (bytes : List ℕ) → 0 < size
+    → n * size < length bytes →
     length bytes ≤ n * size + size →
-    joined_bytes number size (numbered_segments kind tid number (first_pieces (suc n) size bytes)) ≡ Some bytes
+    joined_bytes number size (numbered_segments kind tid number (first_pieces (suc n) size bytes))
+    ≡ Some bytes
 joined_bytes-numbered_segments kind tid number size zero bytes s low high =
     let e : take size bytes ≡ bytes = take_all size bytes (omega arith) in
     joined_bytes-last number size
@@ -92,14 +102,16 @@ joined_bytes-numbered_segments kind tid number size (suc n) bytes s low high =
       bytes = take size (drop size bytes);
     })
     (numbered_segments kind tid (number + 1 + 1) others)
-    (drop size bytes) (joined_bytes-numbered_segments kind tid (number + 1) size n (drop size bytes) s (omega arith)
+    (drop size bytes) (joined_bytes-numbered_segments kind tid (number + 1) size n (drop size bytes)
+    s (omega arith)
     (omega arith))
     (eq-eqb number number refl) refl (eq-eqb (length (take size bytes)) size full)
     ∙ ap Some (take-append-drop size bytes)
 
 joined_bytes-own : (kind tid size n : ℕ) (bytes : List ℕ) → 0 < size → n * size < length bytes →
     length bytes ≤ n * size + size →
-    joined_bytes 0 (length (take size bytes)) (numbered_segments kind tid 0 (first_pieces (suc n) size bytes)) ≡ Some bytes
+    joined_bytes 0 (length (take size bytes))
+    (numbered_segments kind tid 0 (first_pieces (suc n) size bytes)) ≡ Some bytes
 joined_bytes-own kind tid size zero bytes s low high =
     let e : take size bytes ≡ bytes = take_all size bytes (omega arith) in
     joined_bytes-last 0 (length (take size bytes))
@@ -107,7 +119,8 @@ joined_bytes-own kind tid size zero bytes s low high =
     (omega arith) ∙ ap Some e
 joined_bytes-own kind tid size (suc n) bytes s low high =
     let full : length (take size bytes) ≡ size = omega (arith, length-take size bytes) in
-    ap (λ k. joined_bytes 0 k (numbered_segments kind tid 0 (first_pieces (suc (suc n)) size bytes))) full
+    ap (λ k. joined_bytes 0 k
+    (numbered_segments kind tid 0 (first_pieces (suc (suc n)) size bytes))) full
     ∙ joined_bytes-numbered_segments kind tid 0 size (suc n) bytes s low high
 
 -- an entity that is cut reads as itself, whatever segments of others stand among its own
@@ -116,9 +129,10 @@ pub entity_of-own : (kind tid size : ℕ) (bytes : List ℕ) (segments : List Se
     entity_of segments kind tid ≡ Some bytes
 unfolding entity_of
 entity_of-own kind tid size bytes segments s b own =
-    let n : FullPieces (div_ceil (length bytes) size) size (length bytes) =
-    full_pieces size (length bytes) s b in
+    let n : PiecesRoundedUp (div_ceil (length bytes) size) size (length bytes) =
+    pieces_rounded_up size (length bytes) s b in
     ap (λ o. joined_bytes 0 (first_size o) o) own
-    ∙ ap (λ c. joined_bytes 0 (first_size (numbered_segments kind tid 0 (first_pieces c size bytes)))
+    ∙ ap (λ c. joined_bytes 0
+    (first_size (numbered_segments kind tid 0 (first_pieces c size bytes)))
     (numbered_segments kind tid 0 (first_pieces c size bytes))) n.one_more
     ∙ joined_bytes-own kind tid size n.full bytes s n.too_few n.enough

@@ -1,6 +1,9 @@
 -- Only the bytes of a group read as it.
-use Rattle.std.proofs.Common.{◌≡◌, ℕ, ◌+◌, ◌-◌, ◌%◌, ◌^◌, ◌<◌, List, [], ◌∷◌, ◌++◌, true, inl, inr, refl, sym, length, take, drop, arith, ap, subst, ◌∙◌, length-take, length-drop, Some}
-use Rattle.std.proofs.lemmas.Bool.{and_parts, cases_eq, eq-eqb, eqb-true, leb-true, ltb-true, ne_eqb, not-true}
+use Rattle.std.proofs.Common.{◌≡◌, ℕ, ◌+◌, ◌-◌, ◌%◌, ◌^◌, ◌<◌, List, [], ◌∷◌, ◌++◌, true, inl, inr}
+use Rattle.std.proofs.Common.{refl, sym, length, take, drop, arith, ap, subst, ◌∙◌, length-take}
+use Rattle.std.proofs.Common.{length-drop, Some}
+use Rattle.std.proofs.lemmas.Bool.{and_parts, cases_eq, eq-eqb, eqb-true, leb-true, ltb-true}
+use Rattle.std.proofs.lemmas.Bool.{ne_eqb, not-true}
 use Rattle.std.proofs.lemmas.List.{take-append-drop, take-take}
 use Rattle.std.proofs.lemmas.List.Elements.{All-drop, All-same, All-take}
 use Rattle.std.proofs.Math.Nat.{mod-eq_of_lt}
@@ -11,8 +14,10 @@ use Rattle.mot_base.specs.Bytes.{IsByte, AreBytes}
 use Rattle.mot_base.specs.Checksum.{crc_of, without_crc, ends_in_crc}
 use Rattle.mot_base.specs.Fields.{number_in, fields}
 use Rattle.mot_base.specs.Reading.{is_empty}
-use Rattle.mot_base.proofs.Laws.{append-without_crc, fields-injective, length-some, number_in-fits, number_in-injective}
-use Rattle.mot_groups.specs.Group.{GroupFields, IsGroup, group_with, header_widths, read_group, bytes_of_group, group_of}
+use Rattle.mot_base.proofs.Laws.{append-without_crc, fields-injective, length-some, number_in-fits}
+use Rattle.mot_base.proofs.Laws.{number_in-injective}
+use Rattle.mot_groups.specs.Group.{GroupFields, IsGroup, group_with, header_widths, read_group}
+use Rattle.mot_groups.specs.Group.{bytes_of_group, group_of}
 use Rattle.mot_groups.proofs.ReadBack.{AreBytes-bytes_of_group, read_group-bytes_of_group}
 
 -- the header's fields, as a group has them
@@ -35,13 +40,16 @@ one_or_zero n h = elim (cases_eq n 1) [
 ]
 
 module _ (bytes : List ℕ)
-    (extension crc segment access kind index repetition last number rfa flag indicator tid count size : ℕ) where
+    (extension crc segment access kind index repetition last number rfa flag indicator tid count
+    size : ℕ) where
   abbrev header : List ℕ
   header =
-      extension ∷ crc ∷ segment ∷ access ∷ kind ∷ index ∷ repetition ∷ last ∷ number ∷ rfa ∷ flag ∷ indicator
+      extension ∷ crc ∷ segment ∷ access ∷ kind ∷ index ∷ repetition ∷ last ∷ number ∷ rfa ∷ flag
+      ∷ indicator
       ∷ tid ∷ count ∷ size ∷ []
 
-  IsRead-group_with : (g : GroupFields) → kind < 16 → index < 16 → last < 2 → number < 32768 → tid < 65536 →
+  IsRead-group_with : (g : GroupFields) → kind < 16 → index < 16 → last < 2 → number < 32768
+      → tid < 65536 →
       group_with bytes header ≡ Some g → IsRead bytes header g
   IsRead-group_with g k i l n t e =
       let part : List ℕ = drop 9 (without_crc bytes) in
@@ -80,7 +88,11 @@ module _ (bytes : List ℕ)
         tid = (ltb-true 0 tid identified.1, t);
         number = n;
         some = length-some part (not-true (is_empty part) filled.1);
-        fits = omega (arith, leb-true (size + 2) 8191 longest.1, eqb-true size (length part) sized.1);
+        fits = omega (
+          arith,
+          leb-true (size + 2) 8191 longest.1,
+          eqb-true size (length part) sized.1,
+        );
       } in
       subst (IsRead bytes header) some.1
       (record { as_group = as_group; part = refl; crc = checksum.1; is_group = is_group })
@@ -90,11 +102,13 @@ IsRead-read_group : (bytes : List ℕ) (g : GroupFields) → read_group bytes �
 unfolding read_group
 IsRead-read_group bytes g e =
     let n : ℕ = number_in (take 9 bytes) in
-    IsRead-group_with bytes _ _ _ _ _ _ _ _ _ _ _ _ _ _ _ g (omega arith) (omega arith) (omega arith)
+    IsRead-group_with bytes _ _ _ _ _ _ _ _ _ _ _ _ _ _ _ g (omega arith) (omega arith)
+    (omega arith)
     (omega arith) (omega arith) e
 
 -- a group with something in it has a whole header before it
-header_len : (bytes part : List ℕ) → drop 9 (without_crc bytes) ≡ part → 0 < length part → 11 < length bytes
+header_len : (bytes part : List ℕ) → drop 9 (without_crc bytes) ≡ part → 0 < length part
+    → 11 < length bytes
 header_len bytes part e some =
     let more : length (drop 9 (without_crc bytes)) ≡ length part = ap length e in
     omega (arith, length-drop 9 (without_crc bytes), length-take (length bytes - 2) bytes)
@@ -117,29 +131,35 @@ read_group-one_to_one one other g p q e f =
     let fits : number_in (take 9 one) < 2 ^ 72 =
     subst (λ (n : ℕ). number_in (take 9 one) < 256 ^ n) len (number_in-fits (take 9 one) front) in
     let fits' : number_in (take 9 other) < 2 ^ 72 =
-    subst (λ (n : ℕ). number_in (take 9 other) < 256 ^ n) len' (number_in-fits (take 9 other) front') in
+    subst (λ (n : ℕ). number_in (take 9 other) < 256 ^ n) len'
+    (number_in-fits (take 9 other) front') in
     let bits : number_in (take 9 one) % 2 ^ 72 ≡ number_in (take 9 other) % 2 ^ 72 =
     fields-injective header_widths _ _ (a.as_group ∙ sym b.as_group) in
     let number : number_in (take 9 one) ≡ number_in (take 9 other) = sym (mod-eq_of_lt fits) ∙ bits
     ∙ mod-eq_of_lt fits' in
     let header : take 9 one ≡ take 9 other =
     number_in-injective (take 9 one) (take 9 other) (len ∙ sym len') front front' number in
-    let header' : take 9 (without_crc one) ≡ take 9 (without_crc other) = take-without_crc one long ∙ header
+    let header' : take 9 (without_crc one) ≡ take 9 (without_crc other) =
+    take-without_crc one long ∙ header
     ∙ sym (take-without_crc other long') in
     let part : drop 9 (without_crc one) ≡ drop 9 (without_crc other) = a.part ∙ sym b.part in
     let covered : without_crc one ≡ without_crc other =
     sym (take-append-drop 9 (without_crc one)) ∙ ap (λ h. h ++ drop 9 (without_crc one)) header'
     ∙ ap (λ r. take 9 (without_crc other) ++ r) part ∙ take-append-drop 9 (without_crc other) in
-    append-without_crc one a.crc ∙ ap (λ c. c ++ to_be_bytes w16 (crc_of c)) covered ∙ sym (append-without_crc other b.crc)
+    append-without_crc one a.crc ∙ ap (λ c. c ++ to_be_bytes w16 (crc_of c)) covered
+    ∙ sym (append-without_crc other b.crc)
 
 -- what reads as a group is its bytes
-pub read_group-only : (bytes : List ℕ) (g : GroupFields) → AreBytes bytes → read_group bytes ≡ Some g →
+pub read_group-only : (bytes : List ℕ) (g : GroupFields) → AreBytes bytes
+    → read_group bytes ≡ Some g →
     bytes ≡ bytes_of_group g
 read_group-only bytes g all e =
-    let read : IsRead bytes (fields header_widths (number_in (take 9 bytes))) g = IsRead-read_group bytes g e in
+    let read : IsRead bytes (fields header_widths (number_in (take 9 bytes))) g =
+    IsRead-read_group bytes g e in
     let covered : AreBytes (without_crc bytes) = All-take IsByte (length bytes - 2) bytes all in
     let part : AreBytes g.segment.bytes =
     All-same IsByte g.segment.bytes (drop 9 (without_crc bytes)) (sym read.part)
     (All-drop IsByte 9 (without_crc bytes) covered) in
-    read_group-one_to_one bytes (bytes_of_group g) g all (AreBytes-bytes_of_group g read.is_group part) e
+    read_group-one_to_one bytes (bytes_of_group g) g all
+    (AreBytes-bytes_of_group g read.is_group part) e
     (read_group-bytes_of_group g read.is_group)

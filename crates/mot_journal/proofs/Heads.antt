@@ -1,5 +1,6 @@
 -- The geometry of an image, from its first bytes.
-use Rattle.std.proofs.Common.{◌≡◌, ℕ, ◌+◌, ◌<◌, ◌≤◌, Bool, true, false, List, [], ◌∷◌, ◌++◌, length, take, drop, Option, Some, None, refl, sym, ◌∙◌, ap, arith}
+use Rattle.std.proofs.Common.{◌≡◌, ℕ, ◌+◌, ◌<◌, ◌≤◌, Bool, true, false, List, [], ◌∷◌, ◌++◌, length}
+use Rattle.std.proofs.Common.{take, drop, Option, Some, None, refl, sym, ◌∙◌, ap, arith}
 use Rattle.std.specs.Prelude.{if◌then◌else◌, nat_le, ◌&&◌, bytes_eq}
 use Rattle.std.proofs.lemmas.Bool.{leb-true, false_from_ne_true}
 use Rattle.std.proofs.lemmas.List.{length-drop, length-append, drop-append-le, take-append-le}
@@ -12,35 +13,62 @@ use Rattle.mot_base.specs.Geometry.{is_valid}
 use Rattle.mot_journal.specs.Inner.Reading.{number_at}
 use Rattle.mot_journal.proofs.Decoded.{columns_from}
 
-number_front : (head rest : List ℕ) (at w : ℕ) → at + w ≤ length head → number_at at w (head ++ rest) ≡ number_at at w head
+number_front : (head rest : List ℕ) (at w : ℕ) → at + w ≤ length head
+    → number_at at w (head ++ rest) ≡ number_at at w head
 number_front head rest at w fits =
     ap (λ l. number_in (take w l)) (drop-append-le at head rest (omega (arith, fits)))
     ∙ ap number_in (take-append-le w (drop at head) rest (omega (arith, fits, length-drop at head)))
 
+-- a geometry, if a test holds
 abbrev pub geometry_if : Geometry → Bool → Option Geometry
 geometry_if g b = if b then Some g else None
 
+-- the geometry of these five numbers
 abbrev pub of : ℕ → ℕ → ℕ → ℕ → ℕ → Geometry
-of n area segment address packet = record { objects = n; data_area = area; segment_size = segment; address = address; packet_length = packet }
+of n area segment address packet =
+    record {
+      objects = n;
+      data_area = area;
+      segment_size = segment;
+      address = address;
+      packet_length = packet;
+    }
 
-pub same-geometry : (g : Geometry) (n area segment address packet : ℕ) → g.objects ≡ n → g.data_area ≡ area → g.segment_size ≡ segment → g.address ≡ address → g.packet_length ≡ packet
+-- the geometry made of a geometry's own numbers is that geometry
+pub same-geometry : (g : Geometry) (n area segment address packet : ℕ) → g.objects ≡ n
+    → g.data_area ≡ area → g.segment_size ≡ segment → g.address ≡ address → g.packet_length ≡ packet
     → of n area segment address packet ≡ g
 same-geometry g n area segment address packet e1 e2 e3 e4 e5 =
-    ap (λ x. of x area segment address packet) (sym e1) ∙ ap (λ x. of g.objects x segment address packet) (sym e2)
-    ∙ ap (λ x. of g.objects g.data_area x address packet) (sym e3) ∙ ap (λ x. of g.objects g.data_area g.segment_size x packet) (sym e4)
+    ap (λ x. of x area segment address packet) (sym e1)
+    ∙ ap (λ x. of g.objects x segment address packet) (sym e2)
+    ∙ ap (λ x. of g.objects g.data_area x address packet) (sym e3)
+    ∙ ap (λ x. of g.objects g.data_area g.segment_size x packet) (sym e4)
     ∙ ap (λ x. of g.objects g.data_area g.segment_size g.address x) (sym e5)
 
-pub by-places : (image : List ℕ) → geometry_of image
-    ≡ geometry_if (of (number_at 16 2 image) (number_at 24 4 image) (number_at 18 2 image) (number_at 20 2 image) (number_at 22 2 image))
-    (has_magic image && is_valid (of (number_at 16 2 image) (number_at 24 4 image) (number_at 18 2 image) (number_at 20 2 image) (number_at 22 2 image))
-    && nat_le (length_of (of (number_at 16 2 image) (number_at 24 4 image) (number_at 18 2 image) (number_at 20 2 image) (number_at 22 2 image))) (length image))
+-- an image's geometry is that of the numbers at their places, if three tests hold
+pub geometry_by_places : (image : List ℕ) → geometry_of image
+    ≡ geometry_if (of (number_at 16 2 image) (number_at 24 4 image) (number_at 18 2 image)
+    (number_at 20 2 image) (number_at 22 2 image))
+    (has_magic image && is_valid
+    (of (number_at 16 2 image) (number_at 24 4 image) (number_at 18 2 image)
+    (number_at 20 2 image) (number_at 22 2 image))
+    && nat_le (length_of (of (number_at 16 2 image) (number_at 24 4 image) (number_at 18 2 image)
+    (number_at 20 2 image) (number_at 22 2 image))) (length image))
 unfolding geometry_of
-by-places image =
-    ap (λ cs. geometry_in cs >>= (λ g. geometry_if g (has_magic image && is_valid g && nat_le (length_of g) (length image)))) (columns_from (8 ∷ 1 ∷ 7 ∷ 2 ∷ 2 ∷ 2 ∷ 2 ∷ 4 ∷ []) 0 image)
+geometry_by_places image =
+    ap (λ cs. geometry_in cs
+    >>= (λ g. geometry_if g (has_magic image && is_valid g
+    && nat_le (length_of g) (length image))))
+    (columns_from (8 ∷ 1 ∷ 7 ∷ 2 ∷ 2 ∷ 2 ∷ 2 ∷ 4 ∷ []) 0 image)
 
-pub geometry_from : (head rest : List ℕ) (g : Geometry) (len : ℕ) → length head ≡ 64 → 64 + length rest ≡ len
-    → g.objects ≡ number_at 16 2 head → g.data_area ≡ number_at 24 4 head → g.segment_size ≡ number_at 18 2 head → g.address ≡ number_at 20 2 head → g.packet_length ≡ number_at 22 2 head
-    → geometry_of (head ++ rest) ≡ geometry_if g (bytes_eq (take 8 head) magic && is_valid g && nat_le (length_of g) len)
+-- the geometry of 64 bytes and what follows, by the numbers that were read of the 64
+pub geometry_from : (head rest : List ℕ) (g : Geometry) (len : ℕ) → length head ≡ 64
+    → 64 + length rest ≡ len
+    → g.objects ≡ number_at 16 2 head → g.data_area ≡ number_at 24 4 head
+    → g.segment_size ≡ number_at 18 2 head → g.address ≡ number_at 20 2 head
+    → g.packet_length ≡ number_at 22 2 head
+    → geometry_of (head ++ rest)
+    ≡ geometry_if g (bytes_eq (take 8 head) magic && is_valid g && nat_le (length_of g) len)
 geometry_from head rest g len whole long e1 e2 e3 e4 e5 =
     let image : List ℕ = head ++ rest in
     let n1 = number_front head rest 16 2 (omega (arith, whole)) in
@@ -48,13 +76,19 @@ geometry_from head rest g len whole long e1 e2 e3 e4 e5 =
     let n3 = number_front head rest 18 2 (omega (arith, whole)) in
     let n4 = number_front head rest 20 2 (omega (arith, whole)) in
     let n5 = number_front head rest 22 2 (omega (arith, whole)) in
-    let same = same-geometry g (number_at 16 2 image) (number_at 24 4 image) (number_at 18 2 image) (number_at 20 2 image) (number_at 22 2 image)
+    let same = same-geometry g (number_at 16 2 image) (number_at 24 4 image) (number_at 18 2 image)
+    (number_at 20 2 image) (number_at 22 2 image)
     (e1 ∙ sym n1) (e2 ∙ sym n2) (e3 ∙ sym n3) (e4 ∙ sym n4) (e5 ∙ sym n5) in
-    let size : length image ≡ len = length-append head rest ∙ ap (λ k. k + length rest) whole ∙ long in
-    by-places image
-    ∙ ap (λ (x : Geometry). geometry_if x (has_magic image && is_valid x && nat_le (length_of x) (length image))) same
-    ∙ ap (λ l. geometry_if g (bytes_eq l magic && is_valid g && nat_le (length_of g) (length image))) (take-append-le 8 head rest (omega (arith, whole)))
-    ∙ ap (λ k. geometry_if g (bytes_eq (take 8 head) magic && is_valid g && nat_le (length_of g) k)) size
+    let size : length image ≡ len =
+    length-append head rest ∙ ap (λ k. k + length rest) whole ∙ long in
+    geometry_by_places image
+    ∙ ap (λ (x : Geometry). geometry_if x
+    (has_magic image && is_valid x && nat_le (length_of x) (length image))) same
+    ∙ ap (λ l. geometry_if g
+    (bytes_eq l magic && is_valid g && nat_le (length_of g) (length image)))
+    (take-append-le 8 head rest (omega (arith, whole)))
+    ∙ ap (λ k. geometry_if g (bytes_eq (take 8 head) magic && is_valid g && nat_le (length_of g) k))
+    size
 
 and-false : (a b : Bool) → b ≡ false → (a && b) ≡ false
 and-false true b e = e
@@ -63,23 +97,40 @@ and-false false b e = refl
 -- a disk of less than 64 bytes has none
 pub short_has_none : (image : List ℕ) → length image < 64 → geometry_of image ≡ None
 short_has_none image short =
-    let g : Geometry = of (number_at 16 2 image) (number_at 24 4 image) (number_at 18 2 image) (number_at 20 2 image) (number_at 22 2 image) in
+    let g : Geometry = of (number_at 16 2 image) (number_at 24 4 image) (number_at 18 2 image)
+    (number_at 20 2 image) (number_at 22 2 image) in
     let small : nat_le (length_of g) (length image) ≡ false =
-    false_from_ne_true (nat_le (length_of g) (length image)) (λ e. absurd (omega (arith, short, leb-true (length_of g) (length image) e))) in
-    by-places image ∙ ap (λ b. geometry_if g b) (and-false (has_magic image && is_valid g) (nat_le (length_of g) (length image)) small)
+    false_from_ne_true (nat_le (length_of g) (length image))
+    (λ e. absurd (omega (arith, short, leb-true (length_of g) (length image) e))) in
+    geometry_by_places image ∙ ap (λ b. geometry_if g b)
+    (and-false (has_magic image && is_valid g) (nat_le (length_of g) (length image)) small)
 
-pub all_three : (g : Geometry) (a b c : Bool) → a ≡ true → b ≡ true → c ≡ true → geometry_if g (a && b && c) ≡ Some g
-all_three g a b c ea eb ec = ap (λ x. geometry_if g (x && b && c)) ea ∙ ap (λ x. geometry_if g (x && c)) eb ∙ ap (λ x. geometry_if g x) ec
+-- three tests that hold leave the geometry
+pub all_three : (g : Geometry) (a b c : Bool) → a ≡ true → b ≡ true → c ≡ true
+    → geometry_if g (a && b && c) ≡ Some g
+all_three g a b c ea eb ec =
+    ap (λ x. geometry_if g (x && b && c)) ea ∙ ap (λ x. geometry_if g (x && c)) eb
+    ∙ ap (λ x. geometry_if g x) ec
 
+-- a failed first test leaves no geometry
 pub first_false : (g : Geometry) (a b c : Bool) → a ≡ false → geometry_if g (a && b && c) ≡ None
 first_false g a b c e = ap (λ x. geometry_if g (x && b && c)) e
 
+-- a failed second test leaves no geometry
 pub second_false : (g : Geometry) (a b c : Bool) → b ≡ false → geometry_if g (a && b && c) ≡ None
 second_false g true b c e = ap (λ x. geometry_if g (x && c)) e
 second_false g false b c e = refl
 
+-- a failed third test leaves no geometry
 pub third_false : (g : Geometry) (a b c : Bool) → c ≡ false → geometry_if g (a && b && c) ≡ None
 third_false g a b c e = ap (λ x. geometry_if g x) (and-false (a && b) c e)
 
-pub by_places : (image : List ℕ) → (g : Geometry) × (geometry_of image ≡ geometry_if g (has_magic image && is_valid g && nat_le (length_of g) (length image)))
-by_places image = (of (number_at 16 2 image) (number_at 24 4 image) (number_at 18 2 image) (number_at 20 2 image) (number_at 22 2 image), by-places image)
+-- each image has one geometry that it is of, if three tests hold
+pub has_geometry_if : (image : List ℕ)
+    → (g : Geometry) × (geometry_of image
+    ≡ geometry_if g (has_magic image && is_valid g && nat_le (length_of g) (length image)))
+has_geometry_if image = (
+  of (number_at 16 2 image) (number_at 24 4 image) (number_at 18 2 image)
+      (number_at 20 2 image) (number_at 22 2 image),
+  geometry_by_places image,
+)

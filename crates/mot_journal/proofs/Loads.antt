@@ -1,5 +1,8 @@
--- What `load` makes of two reads: of the first 64 bytes of a disk, and of the half that they select.
-use Rattle.std.proofs.Common.{◌≡◌, ℕ, ◌+◌, ◌-◌, ◌≤◌, Bool, true, false, List, ◌++◌, length, take, drop, replicate, Option, Some, None, Result, Ok, Err, refl, sym, ◌∙◌, ap, subst, arith, take-append-drop}
+-- What `load` makes of two reads: of the first 64 bytes of a disk, and of the half that they
+-- select.
+use Rattle.std.proofs.Common.{◌≡◌, ℕ, ◌+◌, ◌-◌, ◌≤◌, Bool, true, false, List, ◌++◌, length, take}
+use Rattle.std.proofs.Common.{drop, replicate, Option, Some, None, Result, Ok, Err, refl, sym, ◌∙◌}
+use Rattle.std.proofs.Common.{ap, subst, arith, take-append-drop}
 use Rattle.std.specs.Prelude.{if◌then◌else◌, nat_le, ◌&&◌, ◌==◌, slice_index, is_err, OnOk}
 use Rattle.std.proofs.lemmas.Bool.{leb-true}
 use Rattle.std.proofs.lemmas.List.{length-drop, length-append, length-replicate, get_or-take}
@@ -14,84 +17,113 @@ use Rattle.mot_base.specs.Geometry.{length_of, half_size, half_start}
 use Rattle.mot_journal.specs.Geometry.{geometry_of, selected_half}
 use Rattle.mot_base.specs.Geometry.{is_valid}
 use Rattle.mot_journal.specs.Catalogue.{result_then}
-use Rattle.mot_journal.specs.Image.{DiskRecords, records_of, half_of, journal_in_half, or_not_formatted}
+use Rattle.mot_journal.specs.Image.{DiskRecords, records_of, half_of, journal_in_half}
+use Rattle.mot_journal.specs.Image.{or_not_formatted}
 use Rattle.mot_journal.specs.Loading.{IsHalfRefusal}
-use Rattle.mot_journal.specs.Loading.IsHalfRefusal.{no_memory as half_memory, damaged as half_damaged}
+use Rattle.mot_journal.specs.Loading.IsHalfRefusal.{no_memory as half_memory}
+use Rattle.mot_journal.specs.Loading.IsHalfRefusal.{damaged as half_damaged}
 use Rattle.mot_journal.specs.Journal.{IsLoadRefusal}
 use Rattle.mot_journal.specs.Journal.IsLoadRefusal.{no_memory, damaged}
 use Rattle.std.proofs.lemmas.Bool.Decides.{nat_tests}
-use Rattle.mot_journal.proofs.Heads.{geometry_if, by_places}
+use Rattle.mot_journal.proofs.Heads.{geometry_if, has_geometry_if}
 
 and-parts : (a b : Bool) → (a && b) ≡ true → (a ≡ true) × (b ≡ true)
 and-parts true b e = (refl, e)
 and-parts false b e = cc
 
-some-if : (g : Geometry) (x : Geometry) (b : Bool) → geometry_if x b ≡ geometry_if g true → (b ≡ true) × (x ≡ g)
+some-if : (g : Geometry) (x : Geometry) (b : Bool) → geometry_if x b ≡ geometry_if g true
+    → (b ≡ true) × (x ≡ g)
 some-if g x true e = let same : x ≡ g = cc in (refl, same)
 some-if g x false e = cc
 
 -- a geometry that is told is valid, and its disk is long enough
-pub geometry_good : (image : List ℕ) (g : Geometry) → geometry_of image ≡ Some g → (is_valid g ≡ true) × (length_of g ≤ length image)
+pub geometry_good : (image : List ℕ) (g : Geometry) → geometry_of image ≡ Some g
+    → (is_valid g ≡ true) × (length_of g ≤ length image)
 geometry_good image g e =
-    let p = by_places image in
+    let p = has_geometry_if image in
     let is = some-if g p.0 _ (sym p.1 ∙ e) in
     let two = and-parts _ _ is.0 in (
       subst (λ (x : Geometry). is_valid x ≡ true) is.1 (and-parts _ _ two.0).1,
-      leb-true (length_of g) (length image) (subst (λ (x : Geometry). nat_le (length_of x) (length image) ≡ true) is.1 two.1),
+      leb-true (length_of g) (length image)
+          (subst (λ (x : Geometry). nat_le (length_of x) (length image) ≡ true) is.1 two.1),
     )
 
 abbrev found : Geometry → ℕ → Layout → List Record → Result DiskRecords Refusal
-found g half layout records = Ok (record { geometry = g; half = half; layout = layout; records = records })
+found g half layout records =
+    Ok (record { geometry = g; half = half; layout = layout; records = records })
 
 -- the first 64 bytes tell the geometry of the whole
-pub geometry_told : (bytes head : List ℕ) (len : ℕ) (o : Option Geometry) → length bytes ≡ len → 64 ≤ len → head ≡ take 64 bytes
-    → ((rest : List ℕ) → 64 + length rest ≡ len → o ≡ geometry_of (head ++ rest)) → o ≡ geometry_of bytes
+pub geometry_told : (bytes head : List ℕ) (len : ℕ) (o : Option Geometry) → length bytes ≡ len
+    → 64 ≤ len → head ≡ take 64 bytes
+    → ((rest : List ℕ) → 64 + length rest ≡ len → o ≡ geometry_of (head ++ rest))
+    → o ≡ geometry_of bytes
 geometry_told bytes head len o long fits is told =
     told (drop 64 bytes) (omega (arith, length-drop 64 bytes))
     ∙ ap (λ h. geometry_of (h ++ drop 64 bytes)) is ∙ ap geometry_of (take-append-drop 64 bytes)
 
 -- no geometry: the disk is not formatted
-pub none_formatted : (bytes : List ℕ) → geometry_of bytes ≡ None → records_of bytes ≡ Err NotFormatted
+pub none_formatted : (bytes : List ℕ) → geometry_of bytes ≡ None
+    → records_of bytes ≡ Err NotFormatted
 unfolding records_of
-none_formatted bytes e = ap (λ o. result_then (or_not_formatted o) (λ g. journal_in_half g (selected_half bytes) (half_of g bytes))) e
+none_formatted bytes e =
+    ap (λ o. result_then (or_not_formatted o)
+    (λ g. journal_in_half g (selected_half bytes) (half_of g bytes))) e
 
 -- the half that is selected has what the disk has
-pub half_told : (bytes head half_bytes : List ℕ) (g : Geometry) (half : ℕ) → head ≡ take 64 bytes → geometry_of bytes ≡ Some g
-    → half ≡ (if slice_index head 8 == 1 then 1 else 0) → half_bytes ≡ take (half_size g) (drop (half_start g half) bytes)
+pub half_told : (bytes head half_bytes : List ℕ) (g : Geometry) (half : ℕ) → head ≡ take 64 bytes
+    → geometry_of bytes ≡ Some g
+    → half ≡ (if slice_index head 8 == 1 then 1 else 0)
+    → half_bytes ≡ take (half_size g) (drop (half_start g half) bytes)
     → records_of bytes ≡ journal_in_half g half half_bytes
 unfolding records_of
 half_told bytes head half_bytes g half is told chosen read =
-    let eighth : slice_index head 8 ≡ slice_index bytes 8 = ap (λ l. slice_index l 8) is ∙ get_or-take 64 bytes 8 0 (omega arith) in
+    let eighth : slice_index head 8 ≡ slice_index bytes 8 =
+    ap (λ l. slice_index l 8) is ∙ get_or-take 64 bytes 8 0 (omega arith) in
     let same : half ≡ selected_half bytes = chosen ∙ ap (λ b. if b == 1 then 1 else 0) eighth in
-    ap (λ o. result_then (or_not_formatted o) (λ (x : Geometry). journal_in_half x (selected_half bytes) (half_of x bytes))) told
+    ap (λ o. result_then (or_not_formatted o)
+    (λ (x : Geometry). journal_in_half x (selected_half bytes) (half_of x bytes))) told
     ∙ ap (λ h. journal_in_half g h (take (half_size g) (drop (half_start g h) bytes))) (sym same)
     ∙ ap (λ l. journal_in_half g half l) (sym read)
 
 -- what a geometry that the first 64 bytes tell has
 pub told_good : (head : List ℕ) (len : ℕ) (g : Geometry) → length head ≡ 64 → 64 ≤ len
-    → ((rest : List ℕ) → 64 + length rest ≡ len → geometry_if g true ≡ geometry_of (head ++ rest)) → (is_valid g ≡ true) × (length_of g ≤ len) × (g.objects ≤ 250)
+    → ((rest : List ℕ) → 64 + length rest ≡ len → geometry_if g true ≡ geometry_of (head ++ rest))
+    → (is_valid g ≡ true) × (length_of g ≤ len) × (g.objects ≤ 250)
 told_good head len g whole fits told =
     let rest : List ℕ = replicate (len - 64) 0 in
     let n : length rest ≡ len - 64 = length-replicate (len - 64) 0 in
     let good = geometry_good (head ++ rest) g (sym (told rest (omega (arith, n)))) in
-    let first = and-parts _ _ (and-parts _ _ (and-parts _ _ (and-parts _ _ (and-parts _ _ good.0).0).0).0).0 in
-    (good.0, omega (arith, good.1, n, whole, length-append head rest), leb-true g.objects 250 first.1)
+    let first = and-parts _ _
+    (and-parts _ _ (and-parts _ _ (and-parts _ _ (and-parts _ _ good.0).0).0).0).0 in (
+      good.0,
+      omega (arith, good.1, n, whole, length-append head rest),
+      leb-true g.objects 250 first.1,
+    )
 
+-- what an Ok result claims holds where the result is no error
 pub on_ok : {T E P : Type 0} (r : Result T E) (b : Bool) → b ≡ is_err r → b ≡ false → OnOk r P → P
 on_ok (Ok x) b e isnt p = p
 on_ok (Err x) b e isnt p = absurd (cc)
 
+-- a selector of 1 selects half 1
 pub chosen_one : (n half : ℕ) → n ≡ 1 → half ≡ 1 → half ≡ (if n == 1 then 1 else 0)
 chosen_one n half e is = grind (arith, nat_tests)
 
+-- any other selector selects half 0
 pub chosen_none : (n half : ℕ) → (n ≡ 1 → ⊥) → half ≡ 0 → half ≡ (if n == 1 then 1 else 0)
 chosen_none n half e is = grind (arith, nat_tests)
 
-pub half_refused : (old new : State) (g : Geometry) (bytes : List ℕ) (refusal : Refusal) (half : ℕ) → IsHalfRefusal g bytes refusal
-    → (new.IsHonest → records_of old.bytes ≡ journal_in_half g half bytes) → IsLoadRefusal old new refusal
-half_refused old new g bytes refusal half (half_memory e) told = no_memory e
-half_refused old new g bytes refusal half (half_damaged slot e is) told = damaged slot e (λ honest. told honest ∙ is half)
+-- a half's refusal is the disk's, where the disk has the records of that half
+pub load_refused_of_half : (old new : State) (g : Geometry) (bytes : List ℕ) (refusal : Refusal)
+    (half : ℕ)
+    → IsHalfRefusal g bytes refusal
+    → (new.IsHonest → records_of old.bytes ≡ journal_in_half g half bytes)
+    → IsLoadRefusal old new refusal
+load_refused_of_half old new g bytes refusal half (half_memory e) told = no_memory e
+load_refused_of_half old new g bytes refusal half (half_damaged slot e is) told =
+    damaged slot e (λ honest. told honest ∙ is half)
 
+-- a number added to a place, and the place taken away
 pub sub-same : (at n : ℕ) → at + n - at ≡ n
 sub-same at n = omega arith
 

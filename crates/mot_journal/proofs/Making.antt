@@ -1,8 +1,9 @@
 -- What a crash leaves while a new disk is made.
-use Rattle.std.proofs.Common.{◌≡◌, ◌⊎◌, inl, inr, ⊎_elim, ℕ, ◌+◌, ◌-◌, ◌*◌, ◌≤◌, true, false, List, [], ◌∷◌, take, slice_range, sym, ◌∙◌, ap, arith}
+use Rattle.std.proofs.Common.{◌≡◌, ◌⊎◌, inl, inr, ⊎_elim, ℕ, ◌+◌, ◌-◌, ◌*◌, ◌≤◌, true, false, List}
+use Rattle.std.proofs.Common.{[], ◌∷◌, take, slice_range, sym, ◌∙◌, ap, arith}
 use Rattle.std.specs.Prelude.{bytes_eq}
 use Rattle.std.proofs.lemmas.Bool.{cases_Bool}
-use Rattle.disk_store.specs.Disk.{State, AgreeOutside, IsHonestDisk, Writes, Torn, Throughout}
+use Rattle.disk_store.specs.Disk.{State, AgreeOutside, IsHonestDisk, WritesWithin, Torn, Throughout}
 use Rattle.disk_store.proofs.Laws.{agree_trans, agree_more, at_end, joins, weakens}
 use Rattle.mot_base.specs.declared.geometry.Geometry.{Geometry}
 use Rattle.mot_base.specs.Geometry.{IsValid, length_of, half_size, half_start, area_start}
@@ -18,69 +19,101 @@ use Rattle.mot_journal.proofs.NewDisk.{is_new}
 use Rattle.mot_journal.proofs.NextSlot.{drop_behind}
 
 -- a run more within the range
-within_joins : (start n : ℕ) (old mid new : State) (at m : ℕ) → IsHonestDisk mid → ChangesWithin start n old mid
+within_joins : (start n : ℕ) (old mid new : State) (at m : ℕ) → IsHonestDisk mid
+    → ChangesWithin start n old mid
     → ChangesWithin at m mid new → start ≤ at → at + m ≤ start + n → ChangesWithin start n old new
 within_joins start n old mid new at m sound so_far then low high = record {
-  bytes = agree_trans start n old.bytes mid.bytes new.bytes so_far.bytes (agree_more at m start n mid.bytes new.bytes low high then.bytes);
+  bytes = agree_trans start n old.bytes mid.bytes new.bytes so_far.bytes
+      (agree_more at m start n mid.bytes new.bytes low high then.bytes);
   time = joins old mid new (Torn start n old) (Torn at m mid) so_far.time then.time (λ c torn.
-      let from = at_end old mid (Torn start n old) sound so_far.time torn.0 torn.1 in
-      (from.0, from.1, agree_trans start n from.0 torn.0 c from.2 (agree_more at m start n torn.0 c low high torn.2)));
+      let from = at_end old mid (Torn start n old) sound so_far.time torn.0 torn.1 in (
+        from.0,
+        from.1,
+        agree_trans start n from.0 torn.0 c from.2
+            (agree_more at m start n torn.0 c low high torn.2),
+      ));
 }
 
-module _ (g : Geometry) (old wrote : State) (sound : IsHonestDisk old) (writes : Writes 8 56 old wrote) where
-  abbrev rest : ℕ
-  rest = area_start g - 8
+-- what the calls up to the first half found
+pub record Found (g : Geometry) (old wrote mid : State) : Type 0 where
+  pub sound : IsHonestDisk old
+  pub writes : WritesWithin 8 56 old wrote
+  pub wrote_sound : IsHonestDisk wrote
+  pub first : ChangesWithin (half_start g 0) (half_size g) wrote mid
+  pub mid_sound : IsHonestDisk mid
+  pub still_honest : mid.IsHonest
 
-  pub head_written : ChangesWithin 8 rest old wrote
-  head_written = one_more 8 rest old old wrote 8 56 sound (unchanged 8 rest old sound) writes (omega arith) (omega arith)
+module _ {g : Geometry} {old wrote mid : State} (found : Found g old wrote mid) where
+  -- the head and half 0 written so change only what lies between the magic and the data area
+  pub first_filled : ChangesWithin 8 (area_start g - 8) old mid
+  first_filled =
+      let rest = area_start g - 8 in
+      let head_written = one_more 8 rest old old wrote 8 56 found.sound
+      (unchanged 8 rest old found.sound) found.writes (omega arith) (omega arith) in
+      within_joins 8 rest old wrote mid (half_start g 0) (half_size g) found.wrote_sound
+      head_written found.first (omega arith) (omega arith)
 
-  module _ (mid : State) (sound1 : IsHonestDisk wrote) (first : ChangesWithin (half_start g 0) (half_size g) wrote mid) where
-    pub first_filled : ChangesWithin 8 rest old mid
-    first_filled = within_joins 8 rest old wrote mid (half_start g 0) (half_size g) sound1 head_written first (omega arith) (omega arith)
+  -- so they do with half 1 written too
+  pub all_filled : {last : State} → ChangesWithin (half_start g 1) (half_size g) mid last
+      → ChangesWithin 8 (area_start g - 8) old last
+  all_filled {last} second = within_joins 8 (area_start g - 8) old mid last (half_start g 1)
+      (half_size g) found.mid_sound first_filled second (omega arith) (omega arith)
 
-    module _ (last : State) (sound2 : IsHonestDisk mid) (second : ChangesWithin (half_start g 1) (half_size g) mid last) where
-      pub all_filled : ChangesWithin 8 rest old last
-      all_filled = within_joins 8 rest old mid last (half_start g 1) (half_size g) sound2 first_filled second (omega arith) (omega arith)
-
-      pub is_made : (directory : ℕ) → slice_range wrote.bytes 8 (8 + 56) ≡ behind_magic g
-          → HasSlots g 0 Two (first_record directory ∷ []) (slot_count Two g) mid.bytes → HasSlots g 1 Two [] (slot_count Two g) last.bytes → IsMade g directory last.bytes
-      is_made directory head slots other = record {
-        other = other;
-        head = part (half_start g 1) (half_size g) mid.bytes last.bytes second.bytes 8 56 (omega arith)
-            ∙ part (half_start g 0) (half_size g) wrote.bytes mid.bytes first.bytes 8 56 (omega arith)
-            ∙ sym (range_whole 8 56 wrote.bytes) ∙ head;
-        slots = λ i lt.
-            let was = slots i lt in
-            let ends = (slot_ends g 0 Two i (omega arith) lt).0 in
-            let far : half_start g 0 + half_size g ≤ half_start g 1 = omega arith in (
-              part (half_start g 1) (half_size g) mid.bytes last.bytes second.bytes (half_start g 0 + i * slot_size Two) (slot_size Two)
-                  (omega (arith, ends, far)) ∙ was.0,
-              was.1,
-            );
-      }
+  -- the head and both halves written so are a new disk but for its magic
+  pub is_made : {last : State} → ChangesWithin (half_start g 1) (half_size g) mid last
+      → (directory : ℕ) → slice_range wrote.bytes 8 (8 + 56) ≡ behind_magic g
+      → HasSlots g 0 Two (first_record directory ∷ []) (slot_count Two g) mid.bytes
+      → HasSlots g 1 Two [] (slot_count Two g) last.bytes → IsMade g directory last.bytes
+  is_made {last} second directory head slots other = record {
+    other = other;
+    head = part (half_start g 1) (half_size g) mid.bytes last.bytes second.bytes 8 56
+        (omega arith)
+        ∙ part (half_start g 0) (half_size g) wrote.bytes mid.bytes found.first.bytes 8 56
+        (omega arith)
+        ∙ sym (range_whole 8 56 wrote.bytes) ∙ head;
+    slots = λ i lt.
+        let was = slots i lt in
+        let ends = (slot_ends g 0 Two i (omega arith) lt).0 in
+        let far : half_start g 0 + half_size g ≤ half_start g 1 = omega arith in (
+          part (half_start g 1) (half_size g) mid.bytes last.bytes second.bytes
+              (half_start g 0 + i * slot_size Two) (slot_size Two)
+              (omega (arith, ends, far)) ∙ was.0,
+          was.1,
+        );
+  }
 
 -- outside the magic a new disk stays one
-made_stays : (g : Geometry) (directory : ℕ) (b c : List ℕ) → AgreeOutside 0 8 b c → IsMade g directory b
+made_stays : (g : Geometry) (directory : ℕ) (b c : List ℕ) → AgreeOutside 0 8 b c
+    → IsMade g directory b
     → IsMade g directory c
 made_stays g directory b c agree made = record {
   head = ap (λ l. take 56 l) (drop_behind 0 8 b c agree 8 (omega arith)) ∙ made.head;
   slots = λ i lt.
-      let was = made.slots i lt in
-      (ap (λ l. take (slot_size Two) l) (drop_behind 0 8 b c agree (half_start g 0 + i * slot_size Two) (behind 0 i)) ∙ was.0, was.1);
+      let was = made.slots i lt in (
+        ap (λ l. take (slot_size Two) l)
+            (drop_behind 0 8 b c agree (half_start g 0 + i * slot_size Two) (behind 0 i)) ∙ was.0,
+        was.1,
+      );
   other = λ i lt.
-      let was = made.other i lt in
-      (ap (λ l. take (slot_size Two) l) (drop_behind 0 8 b c agree (half_start g 1 + i * slot_size Two) (behind 1 i)) ∙ was.0, was.1);
+      let was = made.other i lt in (
+        ap (λ l. take (slot_size Two) l)
+            (drop_behind 0 8 b c agree (half_start g 1 + i * slot_size Two) (behind 1 i)) ∙ was.0,
+        was.1,
+      );
 }
   where
     behind : (half i : ℕ) → 0 + 8 ≤ half_start g half + i * slot_size Two
     behind half i = omega arith
 
-module _ (g : Geometry) (directory : ℕ) (valid : IsValid g) (filled : State) (sound1 : IsHonestDisk filled) (long : length_of g ≤ filled.len)
+module _ (g : Geometry) (directory : ℕ) (valid : IsValid g) (filled : State)
+    (sound1 : IsHonestDisk filled) (long : length_of g ≤ filled.len)
     (made : IsMade g directory filled.bytes) where
-  new : (c : List ℕ) → AgreeOutside 0 8 filled.bytes c → has_magic c ≡ true → IsNewDisk g directory c
+  new : (c : List ℕ) → AgreeOutside 0 8 filled.bytes c → has_magic c ≡ true
+      → IsNewDisk g directory c
   new c agree named =
       let whole = (sound1.images filled.bytes sound1.bytes).len_is in
-      is_new g directory valid c (omega (arith, agree.len_is, whole, long)) named (made_stays g directory filled.bytes c agree made)
+      is_new g directory valid c (omega (arith, agree.len_is, whole, long)) named
+      (made_stays g directory filled.bytes c agree made)
 
   none_or_new : (c : List ℕ) → AgreeOutside 0 8 filled.bytes c → NoneOrFrom g directory c
   none_or_new c agree = elim (cases_Bool (has_magic c)) [
@@ -88,7 +121,9 @@ module _ (g : Geometry) (directory : ℕ) (valid : IsValid g) (filled : State) (
     | inr none ↦ inl none
   ]
 
-  pub published : (last : State) → LeavesWritten 0 magic filled last → (c : List ℕ) → last.MayLeave c → IsNewDisk g directory c
+  -- once the magic is written, each image is a new disk
+  pub published : (last : State) → LeavesWritten 0 magic filled last → (c : List ℕ)
+      → last.MayLeave c → IsNewDisk g directory c
   published last has c left =
       let named : has_magic c ≡ true =
       ap (λ l. bytes_eq l magic) (sym (range_whole 0 8 c) ∙ (has c left).slot_is) in
@@ -97,13 +132,20 @@ module _ (g : Geometry) (directory : ℕ) (valid : IsValid g) (filled : State) (
 module _ (g : Geometry) (directory : ℕ) (start filled : State)
     (no_magic : (image : List ℕ) → start.MayLeave image → has_magic image ≡ false)
     (changes : ChangesWithin 8 (area_start g - 8) start filled) where
+  -- while all but the magic is written, a crash leaves no magic, or a new disk
   pub filling : Throughout start filled (NoneOrFrom g directory)
-  filling = weakens start filled (Torn 8 (area_start g - 8) start) (NoneOrFrom g directory) changes.time (λ c torn.
-      inl (ap (λ l. bytes_eq l magic) (part 8 (area_start g - 8) torn.0 c torn.2 0 8 (omega arith)) ∙ no_magic torn.0 torn.1))
+  filling = weakens start filled (Torn 8 (area_start g - 8) start) (NoneOrFrom g directory)
+      changes.time (λ c torn.
+      inl (ap (λ l. bytes_eq l magic) (part 8 (area_start g - 8) torn.0 c torn.2 0 8 (omega arith))
+      ∙ no_magic torn.0 torn.1))
 
-  pub publishing : IsValid g → IsHonestDisk filled → length_of g ≤ filled.len → IsMade g directory filled.bytes → (last : State)
+  -- so it does until the magic is written
+  pub publishing : IsValid g → IsHonestDisk filled → length_of g ≤ filled.len
+      → IsMade g directory filled.bytes → (last : State)
       → Publishes 0 8 filled last → Throughout start last (NoneOrFrom g directory)
   publishing valid sound1 long made last publishes =
-      joins start filled last (NoneOrFrom g directory) (λ c. filled.MayLeave c ⊎ AgreeOutside 0 8 filled.bytes c) filling publishes.time (λ c outcome.
+      joins start filled last (NoneOrFrom g directory)
+      (λ c. filled.MayLeave c ⊎ AgreeOutside 0 8 filled.bytes c) filling publishes.time
+      (λ c outcome.
       ⊎_elim (λ left. at_end start filled (NoneOrFrom g directory) sound1 filling c left)
       (λ agree. none_or_new g directory valid filled sound1 long made c agree) outcome)

@@ -1,5 +1,6 @@
 -- The parts of an image that has a journal's records.
-use Rattle.std.proofs.Common.{◌≡◌, ℕ, true, List, take, drop, Option, Some, Result, Ok, Err, refl, sym, ◌∙◌, ap, subst}
+use Rattle.std.proofs.Common.{◌≡◌, ℕ, true, List, take, drop, Option, Some, Result, Ok, Err, refl}
+use Rattle.std.proofs.Common.{sym, ◌∙◌, ap, subst}
 use Rattle.std.specs.Prelude.{take_while, IsOk}
 use Rattle.mot_base.specs.declared.refusal.Refusal.{Refusal}
 use Rattle.mot_base.specs.declared.geometry.Geometry.{Geometry}
@@ -9,7 +10,9 @@ use Rattle.mot_journal.specs.declared.record.Record.{Record}
 use Rattle.mot_journal.specs.Geometry.{geometry_of, selected_half}
 use Rattle.mot_journal.specs.Slot.{is_open, layout_of, read_slot}
 use Rattle.mot_journal.specs.Catalogue.{catalogue_of, carousel_in, extents_of, result_then}
-use Rattle.mot_journal.specs.Image.{DiskRecords, Standing, records_in, slots_of, are_gates_clean, has_clean_gates, journal_in_half, or_not_formatted, half_of, records_of, stands_for, area_of}
+use Rattle.mot_journal.specs.Image.{DiskRecords, Standing, records_in, slots_of, are_gates_clean}
+use Rattle.mot_journal.specs.Image.{has_clean_gates, journal_in_half, or_not_formatted, half_of}
+use Rattle.mot_journal.specs.Image.{records_of, stands_for, area_of}
 use Rattle.mot_journal.specs.Journal.{JournalView, with_records, HasRecords, StandsWhere}
 use Rattle.mot_journal.proofs.Slots.{slots}
 use Rattle.mot_journal.proofs.Laws.{geometry_read, stands_by_parts}
@@ -22,16 +25,25 @@ half_at g half image = take (half_size g) (drop (half_start g half) image)
 abbrev pub slots_at : JournalView → List ℕ → List (List ℕ)
 slots_at j image = slots j.geometry j.layout (half_at j.geometry j.half image)
 
+-- the parts of an image that has a journal's records
 pub record HasParts (j : JournalView) (records : List Record) (image : List ℕ) : Type 0 where
+  -- the head gives the journal's geometry
   pub geometry : geometry_of image ≡ Some j.geometry
+  -- the journal's half is selected
   pub half : selected_half image ≡ j.half
+  -- the half is in the journal's layout
   pub layout : layout_of (half_at j.geometry j.half image) ≡ j.layout
-  pub read : records_in (read_slot j.geometry j.layout) 0 (take_while is_open (slots_at j image)) ≡ Ok records
+  -- the slots before the first closed gate read as the records
+  pub read : records_in (read_slot j.geometry j.layout) 0 (take_while is_open (slots_at j image))
+      ≡ Ok records
+  -- no gate is open behind a closed one
   pub gates : are_gates_clean (slots_at j image) ≡ true
+  -- the records make no fault of the list
   pub fold : IsOk (catalogue_of j.geometry.objects records)
 
 abbrev found : Geometry → ℕ → Layout → List Record → Result DiskRecords Refusal
-found g half layout records = Ok (record { geometry = g; half = half; layout = layout; records = records })
+found g half layout records =
+    Ok (record { geometry = g; half = half; layout = layout; records = records })
 
 abbrev whole : DiskRecords → Result DiskRecords Refusal
 whole w = Ok w
@@ -46,14 +58,20 @@ abbrev Fails : Result DiskRecords Refusal → Type 0
 Fails (Ok w) = ⊥
 Fails (Err refusal) = Unit {0}
 
-journal-parts : (g : Geometry) (half : ℕ) (layout : Layout) (r : Result (List Record) Refusal) (w : DiskRecords)
-    → result_then r (λ l. found g half layout l) ≡ whole w → (half ≡ w.half) × (layout ≡ w.layout) × (r ≡ ok w.records)
+journal-parts : (g : Geometry) (half : ℕ) (layout : Layout) (r : Result (List Record) Refusal)
+    (w : DiskRecords)
+    → result_then r (λ l. found g half layout l) ≡ whole w
+    → (half ≡ w.half) × (layout ≡ w.layout) × (r ≡ ok w.records)
 journal-parts g half layout (Ok l) w e =
-    let is = same-of (record { geometry = g; half = half; layout = layout; records = l }) w e in
-    (ap (λ (x : DiskRecords). x.half) is, ap (λ (x : DiskRecords). x.layout) is, ap (λ (x : DiskRecords). ok x.records) is)
+    let is = same-of (record { geometry = g; half = half; layout = layout; records = l }) w e in (
+      ap (λ (x : DiskRecords). x.half) is,
+      ap (λ (x : DiskRecords). x.layout) is,
+      ap (λ (x : DiskRecords). ok x.records) is,
+    )
 journal-parts g half layout (Err f) w e = absurd (subst Fails e tt)
 
-ok-then : {A B : Type 0} (r : Result A Refusal) (f : A → Result B Refusal) → IsOk (result_then r f) → IsOk r
+ok-then : {A B : Type 0} (r : Result A Refusal) (f : A → Result B Refusal) → IsOk (result_then r f)
+    → IsOk r
 ok-then (Ok x) f is = refl
 ok-then (Err e) f is = is
 
@@ -69,31 +87,54 @@ module _ (j : JournalView) (records : List Record) (image : List ℕ) where
   w = with_records j records
 
   abbrev tells : Option Geometry → Result DiskRecords Refusal
-  tells o = result_then (or_not_formatted o) (λ (x : Geometry). journal_in_half x (selected_half image) (half_of x image))
+  tells o = result_then (or_not_formatted o)
+      (λ (x : Geometry). journal_in_half x (selected_half image) (half_of x image))
 
   abbrev reads : Layout → List ℕ → Result (List Record) Refusal
   reads y bytes = records_in (read_slot g y) 0 (take_while is_open (slots g y bytes))
 
-  parts-of : geometry_of image ≡ Some g → tells (geometry_of image) ≡ whole w → HasRecords j records image → HasParts j records image
+  parts-of : geometry_of image ≡ Some g → tells (geometry_of image) ≡ whole w
+      → HasRecords j records image → HasParts j records image
   unfolding stands_for
   parts-of told e has =
-      let e' : journal_in_half g (selected_half image) (half_of g image) ≡ whole w = sym (ap tells told) ∙ e in
-      let three = journal-parts g (selected_half image) (layout_of (half_of g image)) (reads (layout_of (half_of g image)) (half_of g image)) w e' in
+      let e' : journal_in_half g (selected_half image) (half_of g image) ≡ whole w =
+      sym (ap tells told) ∙ e in
+      let three = journal-parts g (selected_half image) (layout_of (half_of g image))
+      (reads (layout_of (half_of g image)) (half_of g image)) w e' in
       let at : half_of g image ≡ half_at g j.half image = ap (λ h. half_at g h image) three.0 in
-      let layout : layout_of (half_at g j.half image) ≡ j.layout = sym (ap layout_of at) ∙ three.1 in
-      let clean : are_gates_clean (slots_of g (half_of g image)) ≡ true = sym (ap (λ o. has_clean_gates o image) told) ∙ has.clean.gates in
-      let gates : are_gates_clean (slots_of g (half_at g j.half image)) ≡ true = sym (ap (λ b. are_gates_clean (slots_of g b)) at) ∙ clean in
-      let stands : IsOk (result_then (catalogue_of g.objects records) (λ c. let s : Result Standing Refusal = Ok (record { geometry = g; carousel = carousel_in (area_of g image) c; extents = extents_of c }) in s)) =
-      subst (λ r. IsOk (result_then r (λ (k : DiskRecords). result_then (catalogue_of k.geometry.objects k.records) (λ c. let s : Result Standing Refusal = Ok (record { geometry = k.geometry; carousel = carousel_in (area_of k.geometry image) c; extents = extents_of c }) in s)))) has.read has.clean.stands in
+      let layout : layout_of (half_at g j.half image) ≡ j.layout =
+      sym (ap layout_of at) ∙ three.1 in
+      let clean : are_gates_clean (slots_of g (half_of g image)) ≡ true =
+      sym (ap (λ o. has_clean_gates o image) told) ∙ has.clean.gates in
+      let gates : are_gates_clean (slots_of g (half_at g j.half image)) ≡ true =
+      sym (ap (λ b. are_gates_clean (slots_of g b)) at) ∙ clean in
+      let stands : IsOk (result_then (catalogue_of g.objects records)
+      (λ c. let s : Result Standing Refusal =
+      Ok (record {
+        geometry = g;
+        carousel = carousel_in (area_of g image) c;
+        extents =
+            extents_of c;
+      }) in s)) =
+      subst (λ r. IsOk (result_then r
+      (λ (k : DiskRecords). result_then (catalogue_of k.geometry.objects k.records)
+      (λ c. let s : Result Standing Refusal =
+      Ok (record {
+        geometry = k.geometry;
+        carousel = carousel_in (area_of k.geometry image) c;
+        extents = extents_of c;
+      }) in s)))) has.read has.clean.stands in
       record {
         geometry = told;
         half = three.0;
         layout = layout;
-        read = sym (ap (λ y. reads y (half_at g j.half image)) layout) ∙ sym (ap (λ b. reads (layout_of b) b) at) ∙ three.2;
+        read = sym (ap (λ y. reads y (half_at g j.half image)) layout)
+            ∙ sym (ap (λ b. reads (layout_of b) b) at) ∙ three.2;
         gates = sym (ap (λ y. are_gates_clean (slots g y (half_at g j.half image))) layout) ∙ gates;
         fold = ok-then (catalogue_of g.objects records) _ stands;
       }
 
+  -- an image that has the records has the parts
   pub has_parts : HasRecords j records image → HasParts j records image
   unfolding records_of
   has_parts has = parts-of (geometry_read image w has.read) has.read has
@@ -103,9 +144,11 @@ module _ (j : JournalView) (records : List Record) (image : List ℕ) where
   read-of parts =
       ap tells parts.geometry
       ∙ ap (λ h. journal_in_half g h (half_at g h image)) parts.half
-      ∙ ap (λ y. result_then (reads y (half_at g j.half image)) (λ l. found g j.half y l)) parts.layout
+      ∙ ap (λ y. result_then (reads y (half_at g j.half image)) (λ l. found g j.half y l))
+      parts.layout
       ∙ ap (λ q. result_then q (λ l. found g j.half j.layout l)) parts.read
 
+  -- an image that has the parts has the records
   pub parts_have : HasParts j records image → HasRecords j records image
   parts_have parts =
       let c = ok-value (catalogue_of g.objects records) parts.fold in
@@ -115,16 +158,7 @@ module _ (j : JournalView) (records : List Record) (image : List ℕ) where
           stands = subst IsOk (sym (stands_by_parts g w c.0 image refl (read-of parts) c.1)) refl;
           gates = ap (λ o. has_clean_gates o image) parts.geometry
               ∙ ap (λ h. are_gates_clean (slots_of g (half_at g h image))) parts.half
-              ∙ ap (λ y. are_gates_clean (slots g y (half_at g j.half image))) parts.layout ∙ parts.gates;
+              ∙ ap (λ y. are_gates_clean (slots g y (half_at g j.half image))) parts.layout
+              ∙ parts.gates;
         };
       }
-
--- the gates of the journal's half are those of the image
-pub gates_told : (j : JournalView) (image : List ℕ) → StandsWhere j image
-    → are_gates_clean (slots_at j image) ≡ has_clean_gates (geometry_of image) image
-gates_told j image is =
-    let layout : layout_of (half_at j.geometry j.half image) ≡ j.layout =
-    sym (ap (λ h. layout_of (half_at j.geometry h image)) is.half) ∙ is.layout in
-    sym (ap (λ o. has_clean_gates o image) is.geometry
-    ∙ ap (λ h. are_gates_clean (slots_of j.geometry (half_at j.geometry h image))) is.half
-    ∙ ap (λ y. are_gates_clean (slots j.geometry y (half_at j.geometry j.half image))) layout)

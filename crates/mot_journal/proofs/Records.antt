@@ -1,5 +1,7 @@
 -- The records of slots: one more open gate, and slots as they are written.
-use Rattle.std.proofs.Common.{◌≡◌, ℕ, ◌+◌, Bool, true, false, List, [], ◌∷◌, ◌++◌, map, length, Option, Some, None, Result, Ok, Err, refl, sym, ◌∙◌, ap, arith, append_assoc, append-nil}
+use Rattle.std.proofs.Common.{◌≡◌, ℕ, ◌+◌, Bool, true, false, List, [], ◌∷◌, ◌++◌, map, length}
+use Rattle.std.proofs.Common.{Option, Some, None, Result, Ok, Err, refl, sym, ◌∙◌, ap, arith}
+use Rattle.std.proofs.Common.{append_assoc, append-nil}
 use Rattle.std.specs.Prelude.{if◌then◌else◌, take_while}
 use Rattle.std.proofs.lemmas.List.Sums.{take_while-cons}
 use Rattle.mot_base.specs.declared.refusal.Refusal.{Refusal}
@@ -16,10 +18,12 @@ use Rattle.mot_journal.proofs.Written.{slot_reads_back, written_is_open}
 abbrev ok : List Record → Result (List Record) Refusal
 ok records = Ok records
 
-more-step : (k : ℕ) (o : Option Record) (rest rest' : Result (List Record) Refusal) (records : List Record) (r : Record)
+more-step : (k : ℕ) (o : Option Record) (rest rest' : Result (List Record) Refusal)
+    (records : List Record) (r : Record)
     → ((xs : List Record) → rest ≡ ok xs → rest' ≡ ok (xs ++ r ∷ []))
     → result_then (or_damaged k o) (λ x. result_then rest (λ l. ok (x ∷ l))) ≡ ok records
-    → result_then (or_damaged k o) (λ x. result_then rest' (λ l. ok (x ∷ l))) ≡ ok (records ++ r ∷ [])
+    → result_then (or_damaged k o) (λ x. result_then rest' (λ l. ok (x ∷ l)))
+    ≡ ok (records ++ r ∷ [])
 more-step k None rest rest' records r more e = cc
 more-step k (Some x) (Err f) rest' records r more e = cc
 more-step k (Some x) (Ok xs) rest' records r more e =
@@ -27,35 +31,46 @@ more-step k (Some x) (Ok xs) rest' records r more e =
     ap (λ q. result_then q (λ l. ok (x ∷ l))) (more xs refl) ∙ ap (λ l. ok (l ++ r ∷ [])) is
 
 -- one slot more that reads is one record more
-pub records_more : (read : List ℕ → Option Record) (k : ℕ) (front : List (List ℕ)) (slot : List ℕ) (records : List Record) (r : Record)
-    → records_in read k front ≡ Ok records → read slot ≡ Some r → records_in read k (front ++ slot ∷ []) ≡ Ok (records ++ r ∷ [])
+pub records_more : (read : List ℕ → Option Record) (k : ℕ) (front : List (List ℕ)) (slot : List ℕ)
+    (records : List Record) (r : Record)
+    → records_in read k front ≡ Ok records → read slot ≡ Some r
+    → records_in read k (front ++ slot ∷ []) ≡ Ok (records ++ r ∷ [])
 records_more read k [] slot records r e is =
     let none : [] ≡ records = cc in
     ap (λ o. result_then (or_damaged k o) (λ x. ok (x ∷ []))) is ∙ ap (λ l. ok (l ++ r ∷ [])) none
 records_more read k (s ∷ front) slot records r e is =
-    more-step k (read s) (records_in read (k + 1) front) (records_in read (k + 1) (front ++ slot ∷ [])) records r
+    more-step k (read s) (records_in read (k + 1) front)
+    (records_in read (k + 1) (front ++ slot ∷ [])) records r
     (λ xs same. records_more read (k + 1) front slot xs r same is) e
 
-fault-step : (k n : ℕ) (o : Option Record) (rest rest' : Result (List Record) Refusal) (records : List Record)
+fault-step : (k n : ℕ) (o : Option Record) (rest rest' : Result (List Record) Refusal)
+    (records : List Record)
     → ((xs : List Record) → rest ≡ ok xs → rest' ≡ Err (Damaged n))
     → result_then (or_damaged k o) (λ x. result_then rest (λ l. ok (x ∷ l))) ≡ ok records
     → result_then (or_damaged k o) (λ x. result_then rest' (λ l. ok (x ∷ l))) ≡ Err (Damaged n)
 fault-step k n None rest rest' records more e = cc
 fault-step k n (Some x) (Err f) rest' records more e = cc
-fault-step k n (Some x) (Ok xs) rest' records more e = ap (λ q. result_then q (λ l. ok (x ∷ l))) (more xs refl)
+fault-step k n (Some x) (Ok xs) rest' records more e =
+    ap (λ q. result_then q (λ l. ok (x ∷ l))) (more xs refl)
 
 -- the first slot with a fault is named
-pub records_fault : (read : List ℕ → Option Record) (k : ℕ) (front : List (List ℕ)) (slot : List ℕ) (back : List (List ℕ)) (records : List Record)
-    → records_in read k front ≡ Ok records → read slot ≡ None → records_in read k (front ++ slot ∷ back) ≡ Err (Damaged (k + length front))
+pub records_fault : (read : List ℕ → Option Record) (k : ℕ) (front : List (List ℕ)) (slot : List ℕ)
+    (back : List (List ℕ)) (records : List Record)
+    → records_in read k front ≡ Ok records → read slot ≡ None
+    → records_in read k (front ++ slot ∷ back) ≡ Err (Damaged (k + length front))
 records_fault read k [] slot back records e is =
     let here : k ≡ k + 0 = omega arith in
-    ap (λ o. result_then (or_damaged k o) (λ x. result_then (records_in read (k + 1) back) (λ l. ok (x ∷ l)))) is
+    ap (λ o. result_then (or_damaged k o)
+    (λ x. result_then (records_in read (k + 1) back) (λ l. ok (x ∷ l)))) is
     ∙ ap (λ n. let f : Result (List Record) Refusal = Err (Damaged n) in f) here
 records_fault read k (s ∷ front) slot back records e is =
     let there : k + 1 + length front ≡ k + length (s ∷ front) = omega arith in
-    fault-step k (k + length (s ∷ front)) (read s) (records_in read (k + 1) front) (records_in read (k + 1) (front ++ slot ∷ back)) records
-    (λ xs same. records_fault read (k + 1) front slot back xs same is ∙ ap (λ n. let f : Result (List Record) Refusal = Err (Damaged n) in f) there) e
+    fault-step k (k + length (s ∷ front)) (read s) (records_in read (k + 1) front)
+    (records_in read (k + 1) (front ++ slot ∷ back)) records
+    (λ xs same. records_fault read (k + 1) front slot back xs same is
+    ∙ ap (λ n. let f : Result (List Record) Refusal = Err (Damaged n) in f) there) e
 
+-- the gate of each slot is open
 abbrev pub AreOpen : List (List ℕ) → Type 0
 AreOpen [] = Unit {0}
 AreOpen (slot ∷ slots) = (is_open slot ≡ true) × AreOpen slots
@@ -65,7 +80,9 @@ abbrev pub StartsShut : List (List ℕ) → Type 0
 StartsShut [] = Unit {0}
 StartsShut (slot ∷ slots) = is_open slot ≡ false
 
-pub open_front : (front back : List (List ℕ)) → AreOpen front → take_while is_open (front ++ back) ≡ front ++ take_while is_open back
+-- open slots in front are taken whole, and then what is taken of those behind them
+pub open_front : (front back : List (List ℕ)) → AreOpen front
+    → take_while is_open (front ++ back) ≡ front ++ take_while is_open back
 open_front [] back are = refl
 open_front (slot ∷ front) back are =
     take_while-cons is_open slot (front ++ back)
@@ -75,52 +92,27 @@ open_front (slot ∷ front) back are =
 pub shut_back : (back : List (List ℕ)) → StartsShut back → take_while is_open back ≡ []
 shut_back [] shut = refl
 shut_back (slot ∷ back) shut =
-    take_while-cons is_open slot back ∙ ap (λ (b : Bool). if b then slot ∷ take_while is_open back else []) shut
+    take_while-cons is_open slot back
+    ∙ ap (λ (b : Bool). if b then slot ∷ take_while is_open back else []) shut
 
-pub open_then_shut : (front back : List (List ℕ)) → AreOpen front → StartsShut back → take_while is_open (front ++ back) ≡ front
-open_then_shut front back are shut = open_front front back are ∙ ap (λ l. front ++ l) (shut_back back shut) ∙ append-nil front
+-- of open slots, and then none or a closed one, just the open ones are taken
+pub open_then_shut : (front back : List (List ℕ)) → AreOpen front → StartsShut back
+    → take_while is_open (front ++ back) ≡ front
+open_then_shut front back are shut =
+    open_front front back are ∙ ap (λ l. front ++ l) (shut_back back shut) ∙ append-nil front
 
-pub are_open_more : (front : List (List ℕ)) (slot : List ℕ) → AreOpen front → is_open slot ≡ true → AreOpen (front ++ slot ∷ [])
+-- one open slot more behind open slots
+pub are_open_more : (front : List (List ℕ)) (slot : List ℕ) → AreOpen front → is_open slot ≡ true
+    → AreOpen (front ++ slot ∷ [])
 are_open_more [] slot are is = (is, tt)
 are_open_more (s ∷ front) slot are is = (are.0, are_open_more front slot are.1 is)
 
--- One gate more is open: behind the open slots that have these records comes one that reads as this record.
-pub gate_opens : (read : List ℕ → Option Record) (front : List (List ℕ)) (slot : List ℕ) (back : List (List ℕ)) (records : List Record) (r : Record)
-    → AreOpen front → records_in read 0 front ≡ Ok records → is_open slot ≡ true → read slot ≡ Some r → StartsShut back
-    → records_in read 0 (take_while is_open (front ++ slot ∷ back)) ≡ Ok (records ++ r ∷ [])
-gate_opens read front slot back records r are e is reads shut =
-    let whole : front ++ slot ∷ back ≡ (front ++ slot ∷ []) ++ back = sym (append_assoc front (slot ∷ []) back) in
-    ap (λ l. records_in read 0 (take_while is_open l)) whole
-    ∙ ap (λ l. records_in read 0 l) (open_then_shut (front ++ slot ∷ []) back (are_open_more front slot are is) shut)
-    ∙ records_more read 0 front slot records r e reads
-
--- each record has no fault of fields, and its numbers fit their columns
-abbrev pub AreWritable : Geometry → Layout → List Record → Type 0
-AreWritable g layout [] = Unit {0}
-AreWritable g layout (r ∷ records) = FitsSlot r × (is_sound g layout r ≡ true) × AreWritable g layout records
-
-pub written_open : (layout : Layout) (records : List Record) → AreOpen (map (bytes_of_slot layout) records)
+-- the slots of records, as they are written, are open
+pub written_open : (layout : Layout) (records : List Record)
+    → AreOpen (map (bytes_of_slot layout) records)
 written_open layout [] = tt
 written_open layout (r ∷ records) = (written_is_open layout r, written_open layout records)
 
-written_read : (g : Geometry) (layout : Layout) (k : ℕ) (records : List Record) → AreWritable g layout records
-    → records_in (read_slot g layout) k (map (bytes_of_slot layout) records) ≡ Ok records
-written_read g layout k [] are = refl
-written_read g layout k (r ∷ records) are =
-    ap (λ o. result_then (or_damaged k o) (λ x. result_then (records_in (read_slot g layout) (k + 1) (map (bytes_of_slot layout) records)) (λ l. ok (x ∷ l))))
-    (slot_reads_back g layout r are.0 are.1)
-    ∙ ap (λ q. result_then q (λ l. ok (r ∷ l))) (written_read g layout (k + 1) records are.2)
-
 abbrev found : Geometry → ℕ → Layout → List Record → Result DiskRecords Refusal
-found g half layout records = Ok (record { geometry = g; half = half; layout = layout; records = records })
-
--- a half whose first slots are those of these records, with the next gate closed, has these records
-pub written_half : (g : Geometry) (half : ℕ) (layout : Layout) (bytes : List ℕ) (records : List Record) (back : List (List ℕ))
-    → layout_of bytes ≡ layout → slots_of g bytes ≡ map (bytes_of_slot layout) records ++ back → StartsShut back → AreWritable g layout records
-    → journal_in_half g half bytes ≡ Ok (record { geometry = g; half = half; layout = layout; records = records })
-written_half g half layout bytes records back same is shut are =
-    let slots : take_while is_open (slots_of g bytes) ≡ map (bytes_of_slot layout) records =
-    ap (λ l. take_while is_open l) is ∙ open_then_shut (map (bytes_of_slot layout) records) back (written_open layout records) shut in
-    ap (λ s. result_then (records_in (read_slot g (layout_of bytes)) 0 s) (λ l. found g half (layout_of bytes) l)) slots
-    ∙ ap (λ y. result_then (records_in (read_slot g y) 0 (map (bytes_of_slot layout) records)) (λ l. found g half y l)) same
-    ∙ ap (λ q. result_then q (λ l. found g half layout l)) (written_read g layout 0 records are)
+found g half layout records =
+    Ok (record { geometry = g; half = half; layout = layout; records = records })

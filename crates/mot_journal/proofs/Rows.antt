@@ -1,5 +1,6 @@
 -- The definitions, computed on worked rows.
-use Rattle.std.proofs.Common.{◌≡◌, ℕ, List, [], ◌∷◌, ◌++◌, Some, None, Ok, Err, take, drop, replicate, refl}
+use Rattle.std.proofs.Common.{◌≡◌, ℕ, List, [], ◌∷◌, ◌++◌, Some, None, Ok, Err, take, drop}
+use Rattle.std.proofs.Common.{replicate, refl}
 use Rattle.std.specs.Prelude.{codes}
 use Rattle.std.specs.Str.{is_utf8, chars}
 use lib.Utf8.{encode}
@@ -18,7 +19,14 @@ use Rattle.mot_journal.specs.Image.{records_of, stands_for}
 
 -- 16 objects, 65,536 bytes for bodies, segments of 1,024 bytes, address 1, packets of 96 bytes
 abbrev usual : Geometry
-usual = record { objects = 16; data_area = 65536; segment_size = 1024; address = 1; packet_length = 96 }
+usual = record {
+  objects = 16;
+  data_area = 65536;
+  segment_size = 1024;
+  address = 1;
+  packet_length =
+      96;
+}
 
 numbers_at_16 : take 12 (drop 16 (head_bytes usual 0)) ≡
     0x00 ∷ 0x10 ∷ 0x04 ∷ 0x00 ∷ 0x00 ∷ 0x01 ∷ 0x00 ∷ 0x60 ∷ 0x00 ∷ 0x01 ∷ 0x00 ∷ 0x00 ∷ []
@@ -42,12 +50,14 @@ picture = record {
   period = 0;
   directory = 3;
   cursor = 3;
-  action = Set 2 0 (record { content_type = 2; subtype = 3 }) 0 5 (codes "a") (Some (codes "image/png"));
+  action = Set 2 0 (record { content_type = 2; subtype = 3 }) 0 5 (codes "a")
+      (Some (codes "image/png"));
 }
 
 abbrev picture_with : ℕ → List ℕ
 picture_with kind =
-    0xA5 ∷ kind ∷ 0x00 ∷ 0x00 ∷ 0x00 ∷ 0x00 ∷ 0x03 ∷ 0x00 ∷ 0x03 ∷ 0x00 ∷ 0x02 ∷ 0x00 ∷ 0x02 ∷ 0x00 ∷ 0x03 ∷ 0x00
+    0xA5 ∷ kind ∷ 0x00 ∷ 0x00 ∷ 0x00 ∷ 0x00 ∷ 0x03 ∷ 0x00 ∷ 0x03 ∷ 0x00 ∷ 0x02 ∷ 0x00 ∷ 0x02 ∷ 0x00
+    ∷ 0x03 ∷ 0x00
     ∷ 0x00 ∷ 0x00 ∷ 0x00 ∷ 0x00 ∷ 0x00 ∷ 0x00 ∷ 0x05 ∷ 0x01 ∷ 0x61 ∷ 0x09 ∷ codes "image/png"
 
 object_is_written : bytes_of_slot One picture ≡ picture_with 0x02 ++ replicate 221 0
@@ -62,7 +72,8 @@ object_reads : read_slot usual One (picture_with 0x02 ++ replicate 221 0xFF) ≡
 unfolding read_slot is_utf8 chars encode
 object_reads = refl
 
-object_reads_in_layout_two : read_slot usual Two (picture_with 0x12 ++ replicate 477 0) ≡ Some picture
+object_reads_in_layout_two : read_slot usual Two (picture_with 0x12 ++ replicate 477 0)
+    ≡ Some picture
 unfolding read_slot is_utf8 chars encode
 object_reads_in_layout_two = refl
 
@@ -81,12 +92,14 @@ unfolding bytes_of_slot
 first_is_written = refl
 
 -- a new disk of layout 2
-formatted_stands : stands_for (head_bytes usual 0 ++ bytes_of_slot Two first_record ++ replicate 83456 0) ≡
+formatted_stands : stands_for
+    (head_bytes usual 0 ++ bytes_of_slot Two first_record ++ replicate 83456 0) ≡
     Ok (record { geometry = usual; carousel = new_carousel; extents = [] })
 unfolding stands_for records_of geometry_of read_slot fold_from bytes_of_slot
 formatted_stands = refl
 
-formatted_records : records_of (head_bytes usual 0 ++ bytes_of_slot Two first_record ++ replicate 83456 0) ≡
+formatted_records : records_of
+    (head_bytes usual 0 ++ bytes_of_slot Two first_record ++ replicate 83456 0) ≡
     Ok (record { geometry = usual; half = 0; layout = Two; records = first_record ∷ [] })
 unfolding records_of geometry_of read_slot bytes_of_slot
 formatted_records = refl

@@ -1,5 +1,6 @@
 -- The action of a slot that sets an object, from its parts.
-use Rattle.std.proofs.Common.{◌≡◌, inl, inr, ℕ, ◌+◌, ◌-◌, ◌≤◌, Bool, true, false, List, length, take, drop, Option, Some, None, sym, ◌∙◌, ap, arith}
+use Rattle.std.proofs.Common.{◌≡◌, inl, inr, ℕ, ◌+◌, ◌-◌, ◌≤◌, Bool, true, false, List, length}
+use Rattle.std.proofs.Common.{take, drop, Option, Some, None, sym, ◌∙◌, ap, arith}
 use Rattle.std.specs.Prelude.{if◌then◌else◌, nat_lt, nat_le}
 use Rattle.std.specs.Option.{option_map_or}
 use Rattle.std.proofs.Math.Seq.{take-length}
@@ -10,71 +11,102 @@ use Rattle.mot_base.specs.declared.geometry.Geometry.{Geometry}
 use Rattle.mot_journal.specs.declared.layout.Layout.{Layout}
 use Rattle.mot_journal.specs.declared.record.Action.{Action}
 use Rattle.mot_journal.specs.declared.record.Action.TheVariants.{Set}
-use Rattle.mot_journal.specs.Slot.{mime_in, is_sound_action, longest_name}
+use Rattle.mot_journal.specs.Slot.{short_text_in, is_sound_action, longest_name}
 use Rattle.mot_carousel.specs.Mime.{is_mime}
 use Rattle.mot_carousel.specs.Name.{is_name}
-use Rattle.mot_journal.specs.Inner.Reading.{number_at, content_at, if_sound, set_of, name_from, mime_from}
+use Rattle.mot_journal.specs.Inner.Reading.{number_at, content_at, if_sound, set_in_slot, name_from}
+use Rattle.mot_journal.specs.Inner.Reading.{mime_from}
 use Rattle.mot_journal.proofs.Decoded.{both, text, act-of, kept, and-false}
 
 -- what follows a name of n bytes
-pub rest_is : (xs : List ℕ) (at n : ℕ) → take (length xs - (at + n)) (drop (at + n) xs) ≡ drop n (drop at xs)
+pub rest_is : (xs : List ℕ) (at n : ℕ)
+    → take (length xs - (at + n)) (drop (at + n) xs) ≡ drop n (drop at xs)
 rest_is xs at n =
-    ap (λ k. take k (drop (at + n) xs)) (sym (length-drop (at + n) xs)) ∙ take-length (drop (at + n) xs) ∙ sym (drop-drop n at xs)
+    ap (λ k. take k (drop (at + n) xs)) (sym (length-drop (at + n) xs))
+    ∙ take-length (drop (at + n) xs) ∙ sym (drop-drop n at xs)
 
-name_parts : (longest : ℕ) (bytes name : List ℕ) → name_from longest bytes ≡ text name → (is_name longest bytes ≡ true) × (bytes ≡ name)
+name_parts : (longest : ℕ) (bytes name : List ℕ) → name_from longest bytes ≡ text name
+    → (is_name longest bytes ≡ true) × (bytes ≡ name)
 name_parts longest bytes name e = elim (cases_Bool (is_name longest bytes)) [
   | inl is ↦
-      let same : text bytes ≡ text name = sym (ap (λ (b : Bool). if b then text bytes else None) is) ∙ e in
+      let same : text bytes ≡ text name =
+      sym (ap (λ (b : Bool). if b then text bytes else None) is) ∙ e in
       let eq : bytes ≡ name = cc in (is, eq)
   | inr isnt ↦
-      let wrong : None ≡ text name = sym (ap (λ (b : Bool). if b then text bytes else None) isnt) ∙ e in absurd (cc)
+      let wrong : None ≡ text name =
+      sym (ap (λ (b : Bool). if b then text bytes else None) isnt) ∙ e in absurd (cc)
 ]
 
-mime_parts : (bytes : List ℕ) (mime : Option (List ℕ)) → mime_from bytes ≡ kept mime → (option_map_or is_mime (mime_in bytes) true ≡ true) × (mime_in bytes ≡ mime)
+mime_parts : (bytes : List ℕ) (mime : Option (List ℕ)) → mime_from bytes ≡ kept mime
+    → (option_map_or is_mime (short_text_in bytes) true ≡ true) × (short_text_in bytes ≡ mime)
 unfolding mime_from
-mime_parts bytes mime e = elim (cases_Bool (option_map_or is_mime (mime_in bytes) true)) [
+mime_parts bytes mime e = elim (cases_Bool (option_map_or is_mime (short_text_in bytes) true)) [
   | inl is ↦
-      let same : kept (mime_in bytes) ≡ kept mime = sym (ap (λ (b : Bool). if b then kept (mime_in bytes) else None) is) ∙ e in
-      let eq : mime_in bytes ≡ mime = cc in (is, eq)
+      let same : kept (short_text_in bytes) ≡ kept mime =
+      sym (ap (λ (b : Bool). if b then kept (short_text_in bytes) else None) is) ∙ e in
+      let eq : short_text_in bytes ≡ mime = cc in (is, eq)
   | inr isnt ↦
-      let wrong : None ≡ kept mime = sym (ap (λ (b : Bool). if b then kept (mime_in bytes) else None) isnt) ∙ e in absurd (cc)
+      let wrong : None ≡ kept mime =
+      sym (ap (λ (b : Bool). if b then kept (short_text_in bytes) else None) isnt) ∙ e in
+      absurd (cc)
 ]
 
-no_mime_parts : (bytes : List ℕ) → mime_from bytes ≡ None → option_map_or is_mime (mime_in bytes) true ≡ false
+no_mime_parts : (bytes : List ℕ) → mime_from bytes ≡ None
+    → option_map_or is_mime (short_text_in bytes) true ≡ false
 unfolding mime_from
-no_mime_parts bytes e = elim (cases_Bool (option_map_or is_mime (mime_in bytes) true)) [
+no_mime_parts bytes e = elim (cases_Bool (option_map_or is_mime (short_text_in bytes) true)) [
   | inl is ↦
-      let wrong : kept (mime_in bytes) ≡ None = sym (ap (λ (b : Bool). if b then kept (mime_in bytes) else None) is) ∙ e in absurd (cc)
+      let wrong : kept (short_text_in bytes) ≡ None =
+      sym (ap (λ (b : Bool). if b then kept (short_text_in bytes) else None) is) ∙ e in
+      absurd (cc)
   | inr isnt ↦ isnt
 ]
 
-same-set : (tid tid' version version' : ℕ) (content content' : ContentNumbers) (start start' size size' : ℕ) (name name' : List ℕ) (mime mime' : Option (List ℕ))
-    → tid' ≡ tid → version' ≡ version → content' ≡ content → start' ≡ start → size' ≡ size → name' ≡ name → mime' ≡ mime
-    → (let a : Action = Set tid' version' content' start' size' name' mime' in a) ≡ Set tid version content start size name mime
-same-set tid tid' version version' content content' start start' size size' name name' mime mime' e1 e2 e3 e4 e5 e6 e7 = cc
+same-set : (tid tid' version version' : ℕ) (content content' : ContentNumbers)
+    (start start' size size' : ℕ) (name name' : List ℕ) (mime mime' : Option (List ℕ))
+    → tid' ≡ tid → version' ≡ version → content' ≡ content → start' ≡ start → size' ≡ size
+    → name' ≡ name → mime' ≡ mime
+    → (let a : Action = Set tid' version' content' start' size' name' mime' in a)
+    ≡ Set tid version content start size name mime
+same-set tid tid' version version' content content' start start' size size' name name' mime mime' e1
+    e2 e3 e4 e5 e6 e7 = cc
 
 module _ (g : Geometry) (layout : Layout) (slot : List ℕ) where
-  pub no_mime_of : mime_from (drop (number_at 23 1 slot) (drop 24 slot)) ≡ None → if_sound g layout (set_of slot) ≡ None
+  -- a slot whose MIME type breaks its rule sets no object
+  pub no_mime_of : mime_from (drop (number_at 23 1 slot) (drop 24 slot)) ≡ None
+      → if_sound g layout (set_in_slot slot) ≡ None
   no_mime_of e =
-      let isnt : is_sound_action g layout (set_of slot) ≡ false =
-      and-false _ (option_map_or is_mime (mime_in (drop (number_at 23 1 slot) (drop 24 slot))) true) (no_mime_parts (drop (number_at 23 1 slot) (drop 24 slot)) e) in
-      ap (λ (b : Bool). if b then act-of (set_of slot) else None) isnt
+      let isnt : is_sound_action g layout (set_in_slot slot) ≡ false =
+      and-false _ (option_map_or is_mime (short_text_in (drop (number_at 23 1 slot) (drop 24 slot)))
+      true) (no_mime_parts (drop (number_at 23 1 slot) (drop 24 slot)) e) in
+      ap (λ (b : Bool). if b then act-of (set_in_slot slot) else None) isnt
 
-  pub set_sound : (tid version : ℕ) (content : ContentNumbers) (start size : ℕ) (name : List ℕ) (mime : Option (List ℕ))
-      → tid ≡ number_at 9 2 slot → version ≡ number_at 11 1 slot → content ≡ content_at slot → start ≡ number_at 15 4 slot → size ≡ number_at 19 4 slot
-      → 1 ≤ tid → number_at 12 1 slot ≤ 63 → number_at 13 2 slot ≤ 511 → 1 ≤ size → size ≤ 262144 → start + size ≤ g.data_area
+  -- a slot whose fields are all in their range sets the object of these fields
+  pub set_sound : (tid version : ℕ) (content : ContentNumbers) (start size : ℕ) (name : List ℕ)
+      (mime : Option (List ℕ))
+      → tid ≡ number_at 9 2 slot → version ≡ number_at 11 1 slot → content ≡ content_at slot
+      → start ≡ number_at 15 4 slot → size ≡ number_at 19 4 slot
+      → 1 ≤ tid → number_at 12 1 slot ≤ 63 → number_at 13 2 slot ≤ 511 → 1 ≤ size → size ≤ 262144
+      → start + size ≤ g.data_area
       → name_from (longest_name layout) (take (number_at 23 1 slot) (drop 24 slot)) ≡ Some name
       → mime_from (drop (number_at 23 1 slot) (drop 24 slot)) ≡ Some mime
-      → if_sound g layout (set_of slot) ≡ Some (Set tid version content start size name mime)
+      → if_sound g layout (set_in_slot slot) ≡ Some (Set tid version content start size name mime)
   set_sound tid version content start size name mime et ev ec es el lt lct lst l1 lmax larea en em =
-      let n = name_parts (longest_name layout) (take (number_at 23 1 slot) (drop 24 slot)) name en in
+      let n = name_parts (longest_name layout) (take (number_at 23 1 slot) (drop 24 slot)) name
+      en in
       let m = mime_parts (drop (number_at 23 1 slot) (drop 24 slot)) mime em in
       let b1 : nat_lt 0 (number_at 9 2 slot) ≡ true = lt-ltb 0 (number_at 9 2 slot) (omega arith) in
       let b2 : nat_le (number_at 12 1 slot) 63 ≡ true = le-leb (number_at 12 1 slot) 63 lct in
       let b3 : nat_le (number_at 13 2 slot) 511 ≡ true = le-leb (number_at 13 2 slot) 511 lst in
-      let b4 : nat_le 1 (number_at 19 4 slot) ≡ true = le-leb 1 (number_at 19 4 slot) (omega arith) in
-      let b5 : nat_le (number_at 19 4 slot) 262144 ≡ true = le-leb (number_at 19 4 slot) 262144 (omega arith) in
-      let b6 : nat_le (number_at 15 4 slot + number_at 19 4 slot) g.data_area ≡ true = le-leb (number_at 15 4 slot + number_at 19 4 slot) g.data_area (omega arith) in
-      let all : is_sound_action g layout (set_of slot) ≡ true = both _ _ (both _ _ (both _ _ (both _ _ (both _ _ (both _ _ b1 b2) b3) (both _ _ b4 b5)) b6) n.0) m.0 in
-      ap (λ (b : Bool). if b then act-of (set_of slot) else None) all
-      ∙ ap act-of (same-set tid _ version _ content _ start _ size _ name _ mime _ (sym et) (sym ev) (sym ec) (sym es) (sym el) n.1 m.1)
+      let b4 : nat_le 1 (number_at 19 4 slot) ≡ true =
+      le-leb 1 (number_at 19 4 slot) (omega arith) in
+      let b5 : nat_le (number_at 19 4 slot) 262144 ≡ true =
+      le-leb (number_at 19 4 slot) 262144 (omega arith) in
+      let b6 : nat_le (number_at 15 4 slot + number_at 19 4 slot) g.data_area ≡ true =
+      le-leb (number_at 15 4 slot + number_at 19 4 slot) g.data_area (omega arith) in
+      let all : is_sound_action g layout (set_in_slot slot) ≡ true =
+      both _ _ (both _ _ (both _ _ (both _ _ (both _ _ (both _ _ b1 b2) b3) (both _ _ b4 b5))
+      b6) n.0) m.0 in
+      ap (λ (b : Bool). if b then act-of (set_in_slot slot) else None) all
+      ∙ ap act-of (same-set tid _ version _ content _ start _ size _ name _ mime _ (sym et) (sym ev)
+      (sym ec) (sym es) (sym el) n.1 m.1)

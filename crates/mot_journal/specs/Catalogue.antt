@@ -37,10 +37,10 @@ put_in_place p (q ∷ rest) =
     else option_map (λ l. q ∷ l) (put_in_place p rest)
 
 -- the objects without the one of this id; none if there is none
-abbrev pub objects_without : ℕ → List Placed → Option (List Placed)
-objects_without tid [] = None
-objects_without tid (q ∷ rest) =
-    if q.object.tid == tid then Some rest else option_map (λ l. q ∷ l) (objects_without tid rest)
+abbrev pub placed_without : ℕ → List Placed → Option (List Placed)
+placed_without tid [] = None
+placed_without tid (q ∷ rest) =
+    if q.object.tid == tid then Some rest else option_map (λ l. q ∷ l) (placed_without tid rest)
 
 abbrev pub in_place_or_appended : ℕ → Placed → List Placed → Option (List Placed)
     → Option (List Placed)
@@ -52,7 +52,7 @@ in_place_or_appended limit p objects None =
 -- be removed
 abbrev pub objects_after : ℕ → List Placed → Action → Option (List Placed)
 objects_after limit objects Nothing = Some objects
-objects_after limit objects (Remove tid) = objects_without tid objects
+objects_after limit objects (Remove tid) = placed_without tid objects
 objects_after limit objects (Set tid version content start size name mime) =
     let o : Object =
     record {
@@ -113,8 +113,8 @@ fold_from limit number c (r ∷ records) =
 abbrev pub catalogue_of : ℕ → List Record → Result Catalogue Refusal
 catalogue_of limit records = fold_from limit 0 new_catalogue records
 
-abbrev pub body_in : List ℕ → Placed → List ℕ
-body_in area p = slice_range area p.start (p.start + p.object.length)
+abbrev pub body_in_area : List ℕ → Placed → List ℕ
+body_in_area area p = slice_range area p.start (p.start + p.object.length)
 
 -- the carousel, with its bodies out of the data area
 abbrev pub carousel_in : List ℕ → Catalogue → whole.Carousel
@@ -122,7 +122,7 @@ carousel_in area c = record {
   period = c.period;
   directory = c.directory;
   cursor = c.cursor;
-  objects = map (λ (p : Placed). object_of p.object (body_in area p)) c.objects;
+  objects = map (λ (p : Placed). object_of p.object (body_in_area area p)) c.objects;
 }
 
 -- where each body begins, and its length

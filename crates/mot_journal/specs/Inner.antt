@@ -1,7 +1,6 @@
 -- What only private contracts and proofs need.
 pub mod Fitting
 pub mod Format
-pub mod Gaps
 pub mod Places
 pub mod Reading
 pub mod Scan

@@ -1,4 +1,5 @@
 pub mod Catalogue
+pub mod Gaps
 pub mod Geometry
 pub mod Image
 pub mod Inner

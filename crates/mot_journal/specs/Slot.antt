@@ -51,15 +51,15 @@ abbrev pub layout_of : List ℕ → Layout
 layout_of half = if is_open half && is_within 17 19 (slice_index half 1) then Two else One
 
 -- a length, 0 for none, and the text
-abbrev pub mime_in : List ℕ → Option (List ℕ)
-mime_in bytes = let size = slice_index bytes 0 in if size == 0 then None
+abbrev pub short_text_in : List ℕ → Option (List ℕ)
+short_text_in bytes = let size = slice_index bytes 0 in if size == 0 then None
     else Some (take size (drop 1 bytes))
 
 abbrev pub action_in : ℕ → ℕ → ℕ → ContentNumbers → ℕ → ℕ → ℕ → List ℕ → Option Action
 action_in kind tid version content start size n texts =
     if kind == 1 then Some Nothing
     else if kind == 2
-    then Some (Set tid version content start size (take n texts) (mime_in (drop n texts)))
+    then Some (Set tid version content start size (take n texts) (short_text_in (drop n texts)))
     else if kind == 3 then Some (Remove tid)
     else None
 
@@ -98,10 +98,10 @@ abbrev pub mime_bytes : Option (List ℕ) → List ℕ
 mime_bytes None = 0 ∷ []
 mime_bytes (Some text) = length text ∷ text
 
-abbrev pub kind_of : Action → ℕ
-kind_of Nothing = 1
-kind_of (Set tid version content start size name mime) = 2
-kind_of (Remove tid) = 3
+abbrev pub action_kind : Action → ℕ
+action_kind Nothing = 1
+action_kind (Set tid version content start size name mime) = 2
+action_kind (Remove tid) = 3
 
 abbrev pub action_bytes : Action → List ℕ
 action_bytes Nothing = []
@@ -113,7 +113,7 @@ action_bytes (Set tid version content start size name mime) =
 -- the slot of a record as it is written, with an open gate; the rest of it is 0
 unfoldable pub bytes_of_slot : Layout → Record → List ℕ
 bytes_of_slot layout r =
-    let used = open_gate ∷ (kind_base layout + kind_of r.action) ∷ bytes_high_first 3 r.period
+    let used = open_gate ∷ (kind_base layout + action_kind r.action) ∷ bytes_high_first 3 r.period
     ++ to_be_bytes w16 r.directory ++ to_be_bytes w16 r.cursor ++ action_bytes r.action in
     used ++ replicate (slot_size layout - length used) 0
 

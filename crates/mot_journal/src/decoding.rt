@@ -2,7 +2,7 @@
 ghost use Rattle.std.specs.Prelude.{◌≡◌, ◌+◌, ◌-◌, ◌^◌, ◌<◌, ◌≤◌, length, drop, Some, IfOk};
 ghost use Rattle.mot_carousel.specs.declared.mime.TheConstants.{MAX_MIME};
 ghost use Rattle.mot_journal.specs.Slot.{slot_size, read_slot, longest_name};
-ghost use Rattle.mot_journal.specs.Inner.Reading.{number_at, sound_action_of, if_sound, set_of};
+ghost use Rattle.mot_journal.specs.Inner.Reading.{number_at, sound_action_of, if_sound, set_in_slot};
 ghost use Rattle.mot_journal.specs.Inner.Reading.{name_from, mime_from};
 
 use crate::{Action, Geometry, Layout, Record};
@@ -81,7 +81,7 @@ fn read_set(
     slot: &[u8],
 ) -> Result<Option<Action>, AllocError>
     requires { length slot.now ≡ slot_size layout }
-    ensures { IfOk result (λ action. action ≡ if_sound geometry.now layout (set_of slot.now)) }
+    ensures { IfOk result (λ action. action ≡ if_sound geometry.now layout (set_in_slot slot.now)) }
 {
     let Some(tid) = TransportId::new(number(slot, 9, 2) as u16) else {
         return Ok(None);

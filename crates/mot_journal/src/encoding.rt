@@ -5,7 +5,7 @@ ghost use Rattle.std.specs.Int.{bytes_high_first};
 ghost use Rattle.std.specs.Prelude.{Some};
 ghost use Rattle.arrayvec.specs.ArrayVec.{array_vec_len};
 ghost use Rattle.mot_base.specs.declared.geometry.Geometry.{Geometry as Sizes};
-ghost use Rattle.mot_journal.specs.Slot.{slot_size, bytes_of_slot, read_slot, is_sound, kind_of};
+ghost use Rattle.mot_journal.specs.Slot.{slot_size, bytes_of_slot, read_slot, is_sound, action_kind};
 ghost use Rattle.mot_journal.specs.Slot.{action_bytes, mime_bytes};
 ghost use Rattle.mot_journal.specs.Inner.Fitting.{FitsAction};
 ghost use Rattle.mot_journal.specs.Inner.Steps.{slot_from, IsReadable};
@@ -59,7 +59,7 @@ pub fn slot_or_zeros(layout: Layout, given: &[Record], number: usize) -> ArrayVe
 
 /// The kind of an action in layout 1.
 fn kind(action: &Action) -> u8
-    ensures value { result ≡ kind_of action.now }
+    ensures value { result ≡ action_kind action.now }
     ensures few { result ≤ 3 }
 {
     match action {

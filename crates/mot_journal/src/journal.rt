@@ -11,7 +11,7 @@ ghost use Rattle.mot_base.specs.Geometry.{is_valid};
 ghost use Rattle.mot_journal.specs.Slot.{is_sound, slot_count, slot_size};
 ghost use Rattle.mot_journal.specs.Image.{records_of, has_clean_gates, gate_reads};
 ghost use Rattle.mot_journal.specs.Journal.{JournalView, with_records, IsLoadRefusal};
-ghost use Rattle.mot_journal.specs.Inner.Places.{place_of};
+ghost use Rattle.mot_journal.specs.Inner.Places.{start_of_slot};
 ghost use Rattle.mot_journal.specs.Journal.{HoldsRecords, FoldOf, WithoutOrWith, OnlyReadArea};
 ghost use Rattle.mot_journal.specs.Journal.{StandsWhere, RewritesTo};
 ghost use Rattle.mot_journal.specs.Slot.{AreSound};
@@ -179,7 +179,7 @@ impl Journal {
     // Where the first closed slot lies.
     fn next_place(&self) -> u64
         requires { self.now.count < slot_count self.now.layout self.now.geometry }
-        ensures value { result ≡ place_of self.now self.now.count }
+        ensures value { result ≡ start_of_slot self.now self.now.count }
         ensures low { result < 2 ^ 62 }
     {
         place_of_slot(&self.geometry, self.half, self.layout, self.count)

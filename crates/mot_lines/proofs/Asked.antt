@@ -26,7 +26,8 @@ bound_err x f r (inl h) = inl (ap (λ y. y >>= f) h)
 bound_err x f r (inr h) = inr (let e : r ≡ OutOfMemory = cc in ap (λ q. Err q) e)
 
 -- a field is read, and the reading goes on
-pub bound_ok : {A B : Type 0} (x : Result A Refusal) (f : A → Result B Refusal) (v : A) (r : Result B Refusal)
+pub bound_ok : {A B : Type 0} (x : Result A Refusal) (f : A → Result B Refusal) (v : A)
+    (r : Result B Refusal)
     → OrOutOfMemory {T = A} (Ok v) x → OrOutOfMemory r (f v) → OrOutOfMemory r (x >>= f)
 bound_ok x f v r (inl h) (inl k) = inl (k ∙ ap (λ y. y >>= f) h)
 bound_ok x f v r (inl h) (inr k) = inr k
@@ -34,32 +35,39 @@ bound_ok x f v r (inr h) k = absurd (cc)
 
 -- ---- names
 
+-- a text that is taken just where its bytes are a name is what they are read as
 pub name_answer : (bytes : List ℕ) (r : Result (List ℕ) Refusal) → (IsOk r ↔ IsName bytes)
     → IfOk r (λ n. n ≡ bytes) → IfErr r (λ e. e ≡ BadName) → r ≡ name_in bytes
 unfolding name_in
-name_answer bytes (Ok n) v i e = rw (name_true 255 bytes (v.0 refl) (v.0 refl).short) (ap (λ x. Ok x) i)
+name_answer bytes (Ok n) v i e =
+    rw (name_true 255 bytes (v.0 refl) (v.0 refl).short) (ap (λ x. Ok x) i)
 name_answer bytes (Err r) v i e =
     let other : is_name 255 bytes ≡ false = false_from_ne_true (is_name 255 bytes)
-    (λ t. let k : is_ok {T = List ℕ} (Err r) ≡ true = v.1 (name_is 255 bytes (omega arith) t) in absurd (cc)) in
+    (λ t. let k : is_ok {T = List ℕ} (Err r) ≡ true = v.1 (name_is 255 bytes (omega arith) t) in
+    absurd (cc)) in
     rw other (ap (λ x. Err x) e)
 
 -- ---- MIME types
 
+-- the word `-` is read as no MIME type
 pub mime_none : (bytes : List ℕ) → bytes_eq bytes (codes "-") ≡ true → mime_in bytes ≡ Ok None
 unfolding mime_in
 mime_none bytes e = rw e refl
 
 module _ (bytes : List ℕ) (named : bytes_eq bytes (codes "-") ≡ false) (r : Result (List ℕ) Refusal)
     (v : IsOk r ↔ IsMime bytes) where
+  -- a word that was taken as a MIME type is read as it
   pub mime_some : (m : List ℕ) → r ≡ Ok m → m ≡ bytes → Ok (Some m) ≡ mime_in bytes
   unfolding mime_in
   mime_some m w i = rw (mime_true bytes (v.0 (ap is_ok w)), named) (ap (λ x. Ok (Some x)) i)
 
+  -- a word that was refused as a MIME type is read as that refusal
   pub mime_refused : (e : Refusal) → r ≡ Err e → e ≡ BadMime → Err e ≡ mime_in bytes
   unfolding mime_in
   mime_refused e w i =
       let other : is_mime bytes ≡ false = false_from_ne_true (is_mime bytes)
-      (λ t. let k : is_ok r ≡ true = v.1 (mime_is bytes t) in let n : is_ok r ≡ false = ap is_ok w in
+      (λ t. let k : is_ok r ≡ true = v.1 (mime_is bytes t) in let n : is_ok r ≡ false =
+      ap is_ok w in
       absurd (cc)) in
       rw (other, named) (ap (λ x. Err x) i)
 
@@ -84,26 +92,35 @@ module _ (words : List (List ℕ)) (name kind subtype mime hex : List ℕ)
   unfolding description_of
   steps = rw five refl
 
+  -- words whose name is refused are refused for it, or for want of memory
   pub describe_name : (r : Refusal) → OrOutOfMemory (Err r) (name_in name)
       → OrOutOfMemory (Err r) (description_of words)
   describe_name r h = rw steps (bound_err (name_in name) (from_content kind subtype mime hex) r h)
 
   module _ (n : List ℕ) (named : OrOutOfMemory (Ok n) (name_in name)) where
-    after_name : (r : Result Description Refusal) → OrOutOfMemory r (from_content kind subtype mime hex n)
+    after_name : (r : Result Description Refusal)
+        → OrOutOfMemory r (from_content kind subtype mime hex n)
         → OrOutOfMemory r (description_of words)
-    after_name r h = rw steps (bound_ok (name_in name) (from_content kind subtype mime hex) n r named h)
+    after_name r h = rw steps
+        (bound_ok (name_in name) (from_content kind subtype mime hex) n r named h)
 
-    pub describe_content : (r : Refusal) → Err r ≡ content_in (number_of_word kind) (number_of_word subtype)
+    -- words whose content is refused, behind a name, are refused for it
+    pub describe_content : (r : Refusal)
+        → Err r ≡ content_in (number_of_word kind) (number_of_word subtype)
         → OrOutOfMemory (Err r) (description_of words)
     describe_content r h = after_name (Err r) (bound_err
-        (content_in (number_of_word kind) (number_of_word subtype)) (from_mime mime hex n) r (inl h))
+        (content_in (number_of_word kind) (number_of_word subtype)) (from_mime mime hex n) r
+        (inl h))
 
-    module _ (c : ContentNumbers) (content : Ok c ≡ content_in (number_of_word kind) (number_of_word subtype)) where
+    module _ (c : ContentNumbers)
+        (content : Ok c ≡ content_in (number_of_word kind) (number_of_word subtype)) where
       after_content : (r : Result Description Refusal) → OrOutOfMemory r (from_mime mime hex n c)
           → OrOutOfMemory r (description_of words)
       after_content r h = after_name r (bound_ok
-          (content_in (number_of_word kind) (number_of_word subtype)) (from_mime mime hex n) c r (inl content) h)
+          (content_in (number_of_word kind) (number_of_word subtype)) (from_mime mime hex n) c r
+          (inl content) h)
 
+      -- words whose MIME type is refused, behind these, are refused for it
       pub describe_mime : (r : Refusal) → OrOutOfMemory (Err r) (mime_in mime)
           → OrOutOfMemory (Err r) (description_of words)
       describe_mime r h = after_content (Err r) (bound_err (mime_in mime) (from_body hex n c) r h)
@@ -113,11 +130,16 @@ module _ (words : List (List ℕ)) (name kind subtype mime hex : List ℕ)
             → OrOutOfMemory r (description_of words)
         after_mime r h = after_content r (bound_ok (mime_in mime) (from_body hex n c) m r typed h)
 
+        -- words whose body is refused, behind these, are refused for it
         pub describe_body : (r : Refusal) → OrOutOfMemory (Err r) (body_in (decode_of hex))
             → OrOutOfMemory (Err r) (description_of words)
-        describe_body r h = after_mime (Err r) (bound_err (body_in (decode_of hex)) (described n c m) r h)
+        describe_body r h = after_mime (Err r)
+            (bound_err (body_in (decode_of hex)) (described n c m) r h)
 
+        -- five words of which each was read describe an object
         pub describe_all : (b : List ℕ) → OrOutOfMemory (Ok b) (body_in (decode_of hex))
-            → OrOutOfMemory (Ok (record { name = n; content = c; mime = m; body = b })) (description_of words)
+            → OrOutOfMemory (Ok (record { name = n; content = c; mime = m; body = b }))
+            (description_of words)
         describe_all b h = after_mime (described n c m b)
-            (bound_ok (body_in (decode_of hex)) (described n c m) b (described n c m b) h (inl refl))
+            (bound_ok (body_in (decode_of hex)) (described n c m) b (described n c m b) h
+            (inl refl))

@@ -1,10 +1,14 @@
 -- The lines that rebuild a carousel, read.
-use Rattle.std.proofs.Common.{◌≡◌, ℕ, zero, suc, ◌^◌, ◌<◌, ◌≤◌, Bool, true, false, cond, List, [], ◌∷◌, ◌++◌, length, map}
-use Rattle.std.proofs.Common.{Option, Some, None, Result, Ok, refl, sym, ap, ◌∙◌, subst, arith, append_assoc, length-append, rules}
+use Rattle.std.proofs.Common.{◌≡◌, ℕ, zero, suc, ◌^◌, ◌<◌, ◌≤◌, Bool, true, false, cond, List, []}
+use Rattle.std.proofs.Common.{◌∷◌, ◌++◌, length, map}
+use Rattle.std.proofs.Common.{Option, Some, None, Result, Ok, refl, sym, ap, ◌∙◌, subst, arith}
+use Rattle.std.proofs.Common.{append_assoc, length-append, rules}
 use Rattle.std.proofs.lemmas.Bool.{le-leb, false_from_ne_true}
 use Rattle.std.proofs.lemmas.Bool.Decides.{nat_tests}
-use Rattle.std.proofs.lemmas.Fmt.{decimal_nonempty, length-decimal-le, digits_decimal, digits_value-decimal}
-use Rattle.std.proofs.lemmas.List.Elements.{All-append, All-cons, All-head, All-nil, All-tail, All-weaker}
+use Rattle.std.proofs.lemmas.Fmt.{decimal_nonempty, length-decimal-le, digits_decimal}
+use Rattle.std.proofs.lemmas.Fmt.{digits_value-decimal}
+use Rattle.std.proofs.lemmas.List.Elements.{All-append, All-cons, All-head, All-nil, All-tail}
+use Rattle.std.proofs.lemmas.List.Elements.{All-weaker}
 use Rattle.std.proofs.lemmas.List.Splits.{slice_split_at, slice_split_none}
 use Rattle.std.proofs.lemmas.List.Sums.{AllPass-from_list_all}
 use Rattle.std.proofs.lemmas.Slice.Eq.{bytes_eq-Decides}
@@ -29,7 +33,9 @@ use Rattle.mot_lines.specs.declared.line.Line.TheVariants.{Command}
 use Rattle.mot_lines.specs.Export.{ExportsAskForTheirCommands, front_words, period_line, put_line}
 use Rattle.mot_lines.specs.Fields.{body_in, content_in, mime_in, name_in}
 use Rattle.mot_lines.specs.Line.{description_of, line_of, period_of, put_of, request_of}
-use Rattle.mot_lines.specs.Lines.{HasNoLineEnd, all_but_last, last_of, lines_of, pieces_between, rest_of, unless_empty, whole_lines}
+use Rattle.mot_groups.specs.Entity.{all_but_last}
+use Rattle.mot_lines.specs.Lines.{HasNoLineEnd, last_of, lines_of, pieces_between, rest_of}
+use Rattle.mot_lines.specs.Lines.{unless_empty, whole_lines}
 use Rattle.mot_lines.specs.Listing.{mime_word}
 use Rattle.mot_lines.specs.Words.{decimal_value, number_of_word, words_of}
 use Rattle.mot_carousel.proofs.Laws.{mime_true, name_true}
@@ -56,7 +62,8 @@ joined word (next ∷ words) = word ++ 32 ∷ joined next words
 spaceless : (word : List ℕ) → IsPrinted word → All (λ b. nat_eq b 32 ≡ false) word
 spaceless word h = All-weaker (λ b. 32 < b) (λ b. nat_eq b 32 ≡ false) no-space word h
 
-joined-words : (word : List ℕ) (words : List (List ℕ)) → IsPrinted word → AllByRecursion IsPrinted words
+joined-words : (word : List ℕ) (words : List (List ℕ)) → IsPrinted word
+    → AllByRecursion IsPrinted words
     → words_of (joined word words) ≡ word ∷ words
 joined-words word [] h all = slice_split_none (λ b. nat_eq b 32) word (spaceless word h)
 joined-words word (next ∷ words) h all =
@@ -67,12 +74,14 @@ joined-words word (next ∷ words) h all =
 endless : (word : List ℕ) → IsPrinted word → HasNoLineEnd word
 endless word h = All-weaker (λ b. 32 < b) (λ b. nat_eq b 10 ≡ false) no-end word h
 
-joined-endless : (word : List ℕ) (words : List (List ℕ)) → IsPrinted word → AllByRecursion IsPrinted words
+joined-endless : (word : List ℕ) (words : List (List ℕ)) → IsPrinted word
+    → AllByRecursion IsPrinted words
     → HasNoLineEnd (joined word words)
 joined-endless word [] h all = endless word h
 joined-endless word (next ∷ words) h all =
     All-append (λ b. nat_eq b 10 ≡ false) word (32 ∷ joined next words) (endless word h)
-    (All-cons (λ b. nat_eq b 10 ≡ false) 32 (joined next words) refl (joined-endless next words all.0 all.1))
+    (All-cons (λ b. nat_eq b 10 ≡ false) 32 (joined next words) refl
+    (joined-endless next words all.0 all.1))
 
 -- ---- numbers
 
@@ -82,7 +91,8 @@ digits-model = numerals_by_weight _ (search rules) decimal_value (search rules)
 number-back : (n : ℕ) → n < 10 ^ 10 → number_of_word (decimal n) ≡ Some n
 number-back n h =
     number_of_digits (decimal n) (decimal_nonempty n (omega arith))
-    (length-decimal-le 10 n (omega arith) h (omega arith)) (digits_decimal digits-model n (omega arith))
+    (length-decimal-le 10 n (omega arith) h (omega arith))
+    (digits_decimal digits-model n (omega arith))
     ∙ ap Some (digits_value-decimal digits-model n (omega arith))
 
 digit-printed : (b : ℕ) → is_ascii_digit b ≡ true → 32 < b
@@ -112,13 +122,15 @@ body-printed body h =
 
 name-printed : (name : List ℕ) → IsName name → IsPrinted name
 name-printed name is =
-    All-weaker (λ b. (nat_lt 32 b && not (b == 127)) ≡ true) (λ b. 32 < b) (λ b e. grind (arith, nat_tests))
+    All-weaker (λ b. (nat_lt 32 b && not (b == 127)) ≡ true) (λ b. 32 < b)
+    (λ b e. grind (arith, nat_tests))
     name is.printed
 
 mime-printed : (mime : Option (List ℕ)) → MatchOption mime ⊤ IsMime → IsPrinted (mime_word mime)
 mime-printed None is = All-cons (λ b. 32 < b) 45 [] (omega arith) (All-nil (λ b. 32 < b))
 mime-printed (Some mime) is =
-    All-weaker (λ b. (nat_lt 32 b && nat_lt b 127) ≡ true) (λ b. 32 < b) (λ b e. grind (arith, nat_tests))
+    All-weaker (λ b. (nat_lt 32 b && nat_lt b 127) ≡ true) (λ b. 32 < b)
+    (λ b e. grind (arith, nat_tests))
     mime is.printed
 
 -- ---- the words of a put line
@@ -134,7 +146,8 @@ put_words o = front_words o.name o.content o.mime ++ encode_lower o.body
 -- the words behind the first
 abbrev other_words : Object → List (List ℕ)
 other_words o =
-    o.name ∷ decimal o.content.content_type ∷ decimal o.content.subtype ∷ mime_word o.mime ∷ encode_lower o.body ∷ []
+    o.name ∷ decimal o.content.content_type ∷ decimal o.content.subtype ∷ mime_word o.mime
+    ∷ encode_lower o.body ∷ []
 
 put_words-joined : (o : Object) → put_words o ≡ joined (codes "put") (other_words o)
 put_words-joined o =
@@ -151,7 +164,8 @@ unfolding name_in
 name-read name is = rw (name_true 255 name is is.short) refl
 
 content-read : (c : ContentNumbers) → c.content_type ≤ 63 → c.subtype ≤ 511
-    → content_in (number_of_word (decimal c.content_type)) (number_of_word (decimal c.subtype)) ≡ Ok c
+    → content_in (number_of_word (decimal c.content_type)) (number_of_word (decimal c.subtype))
+    ≡ Ok c
 content-read c kind subtype =
     rw (
       number-back c.content_type (omega (arith, kind)),
@@ -160,26 +174,30 @@ content-read c kind subtype =
       le-leb c.subtype 511 subtype,
     ) refl
 
-mime-read : (mime : Option (List ℕ)) → MatchOption mime ⊤ IsMime → mime_in (mime_word mime) ≡ Ok mime
+mime-read : (mime : Option (List ℕ)) → MatchOption mime ⊤ IsMime
+    → mime_in (mime_word mime) ≡ Ok mime
 unfolding mime_in
 mime-read None is = refl
 mime-read (Some mime) is =
     rw (
       mime_true mime is,
-      false_from_ne_true (bytes_eq mime (codes "-")) (λ e. is.named ((bytes_eq-Decides mime (45 ∷ [])).0 e)),
+      false_from_ne_true (bytes_eq mime (codes "-"))
+          (λ e. is.named ((bytes_eq-Decides mime (45 ∷ [])).0 e)),
     ) refl
 
 body-read : (body : List ℕ) → 1 ≤ length body → length body ≤ 262144 → IsBytes body
     → body_in (decode_of (encode_lower body)) ≡ Ok body
 body-read [] some few is = absurd (omega (arith, some))
 body-read (b ∷ bytes) some few is =
-    ap body_in (decode_of-encode_lower (b ∷ bytes) is) ∙ rw (le-leb (length (b ∷ bytes)) 262144 few) refl
+    ap body_in (decode_of-encode_lower (b ∷ bytes) is)
+    ∙ rw (le-leb (length (b ∷ bytes)) 262144 few) refl
 
 mime-short : (mime : Option (List ℕ)) → MatchOption mime ⊤ IsMime → length (mime_word mime) ≤ 64
 mime-short None is = omega arith
 mime-short (Some mime) is = is.short
 
-joined-short : (name kind subtype mime hex : List ℕ) → length name ≤ 255 → length kind ≤ 10 → length subtype ≤ 10
+joined-short : (name kind subtype mime hex : List ℕ) → length name ≤ 255 → length kind ≤ 10
+    → length subtype ≤ 10
     → length mime ≤ 64 → length hex ≤ 524288
     → length (joined (codes "put") (name ∷ kind ∷ subtype ∷ mime ∷ hex ∷ [])) ≤ 530000
 joined-short name kind subtype mime hex a b c d e =
@@ -241,12 +259,15 @@ module _ (o : Object) (is : KeepsRules o) where
   put-short : length (put_words o) ≤ 530000
   put-short =
       subst (λ l. length l ≤ 530000) (sym (put_words-joined o))
-      (joined-short o.name (decimal o.content.content_type) (decimal o.content.subtype) (mime_word o.mime)
+      (joined-short o.name (decimal o.content.content_type) (decimal o.content.subtype)
+      (mime_word o.mime)
       (encode_lower o.body) is.name.short
       (length-decimal-le 10 o.content.content_type (omega arith) kind-few (omega (arith, kind-few)))
-      (length-decimal-le 10 o.content.subtype (omega arith) subtype-few (omega (arith, subtype-few)))
+      (length-decimal-le 10 o.content.subtype (omega arith) subtype-few
+      (omega (arith, subtype-few)))
       (mime-short o.mime is.mime)
-      (let size = is.size.1 in let e = length-encode_with lower_digits o.body in omega (arith, size, e)))
+      (let size = is.size.1 in let e = length-encode_with lower_digits o.body in
+      omega (arith, size, e)))
 
   put-asks : line_of (put_words o) ≡ Ok (Command (put_again o))
   put-asks =
@@ -264,7 +285,8 @@ module _ (n : ℕ) (few : n ≤ 16777215) where
 
   period-words : words_of (period_words n) ≡ codes "period" ∷ decimal n ∷ []
   period-words =
-      joined-words (codes "period") (decimal n ∷ []) (tested (codes "period") refl) (number-printed n period-few, tt)
+      joined-words (codes "period") (decimal n ∷ []) (tested (codes "period") refl)
+      (number-printed n period-few, tt)
 
   period-endless : HasNoLineEnd (period_words n)
   period-endless =
@@ -276,7 +298,8 @@ module _ (n : ℕ) (few : n ≤ 16777215) where
 
   period-short : length (period_words n) ≤ 530000
   period-short =
-      let h = length-decimal-le 10 n (omega arith) period-few (omega (arith, few)) in omega (arith, h)
+      let h = length-decimal-le 10 n (omega arith) period-few (omega (arith, few)) in
+      omega (arith, h)
 
   period-asks : line_of (period_words n) ≡ Ok (Command (Period n))
   period-asks =
@@ -291,7 +314,8 @@ first-line : (line : List ℕ) (pieces : List (List ℕ)) → 0 < length pieces
 first-line line [] some = absurd (omega (arith, some))
 first-line line (piece ∷ pieces) some = refl
 
-lines_of-first : (line rest : List ℕ) → HasNoLineEnd line → lines_of (line ++ 10 ∷ rest) ≡ line ∷ lines_of rest
+lines_of-first : (line rest : List ℕ) → HasNoLineEnd line
+    → lines_of (line ++ 10 ∷ rest) ≡ line ∷ lines_of rest
 unfolding lines_of whole_lines rest_of
 lines_of-first line rest h =
     ap (λ pieces. all_but_last pieces ++ unless_empty (last_of pieces))
@@ -308,11 +332,14 @@ asked text = map line_of (lines_of text)
 abbrev asks_for : command.Command → Result Line Refusal
 asks_for k = Ok (Command k)
 
-asked-first : (line rest : List ℕ) (k : command.Command) → HasNoLineEnd line → line_of line ≡ asks_for k
+asked-first : (line rest : List ℕ) (k : command.Command) → HasNoLineEnd line
+    → line_of line ≡ asks_for k
     → asked (line ++ 10 ∷ rest) ≡ asks_for k ∷ asked rest
-asked-first line rest k h e = ap (map line_of) (lines_of-first line rest h) ∙ ap (λ r. r ∷ asked rest) e
+asked-first line rest k h e =
+    ap (map line_of) (lines_of-first line rest h) ∙ ap (λ r. r ∷ asked rest) e
 
-asked-period : (n : ℕ) (none : Bool) → n ≤ 16777215 → asked (cond none [] (period_words n ++ 10 ∷ []))
+asked-period : (n : ℕ) (none : Bool) → n ≤ 16777215
+    → asked (cond none [] (period_words n ++ 10 ∷ []))
     ≡ map asks_for (cond none [] (Period n ∷ []))
 asked-period n true few = ap (map line_of) lines_of-none
 asked-period n false few =
@@ -328,8 +355,10 @@ asked-puts (o ∷ objects) n all few =
     ap asked (
     append_assoc (put_line o) rest (period_line n)
     ∙ append_assoc (put_words o) (10 ∷ []) (rest ++ period_line n))
-    ∙ asked-first (put_words o) (rest ++ period_line n) (put_again o) (put-endless o all.0) (put-asks o all.0)
+    ∙ asked-first (put_words o) (rest ++ period_line n) (put_again o) (put-endless o all.0)
+    (put-asks o all.0)
     ∙ ap (λ l. asks_for (put_again o) ∷ l) (asked-puts objects n all.1 few)
 
+-- the lines that rebuild a carousel ask for the commands that rebuild it
 pub export_laws : ExportsAskForTheirCommands
 export_laws c is = asked-puts c.objects c.period is.objects is.period

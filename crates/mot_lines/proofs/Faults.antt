@@ -27,7 +27,8 @@ IsNoFault result = result ≡ Err DeviceFault → ⊥
 value : {T : Type 0} (it : T) → IsNoFault (Ok it)
 value it = λ e. cc
 
-either : {T : Type 0} (holds : Bool) (one other : Result T Refusal) → IsNoFault one → IsNoFault other
+either : {T : Type 0} (holds : Bool) (one other : Result T Refusal) → IsNoFault one
+    → IsNoFault other
     → IsNoFault (if holds then one else other)
 either true one other p q = p
 either false one other p q = q
@@ -49,7 +50,8 @@ segment : (bytes : Result (List ℕ) FromHexError) → IsNoFault (segment_in byt
 segment (Err e) = λ f. cc
 segment (Ok bytes) =
     either (is_empty bytes) (Err EmptyBody) _ (λ e. cc)
-    (either (nat_le (length bytes) MAX_SEGMENT) (Ok bytes) (Err BodyTooLong) (value bytes) (λ e. cc))
+    (either (nat_le (length bytes) MAX_SEGMENT) (Ok bytes) (Err BodyTooLong) (value bytes)
+    (λ e. cc))
 
 name : (word : List ℕ) → IsNoFault (name_in word)
 unfolding name_in
@@ -64,7 +66,8 @@ content (Some t) (Some s) =
 mime : (word : List ℕ) → IsNoFault (mime_in word)
 unfolding mime_in
 mime word =
-    either (bytes_eq word (codes "-")) _ _ (value None) (either (is_mime word) _ _ (value _) (λ e. cc))
+    either (bytes_eq word (codes "-")) _ _ (value None)
+    (either (is_mime word) _ _ (value _) (λ e. cc))
 
 body : (bytes : Result (List ℕ) FromHexError) → IsNoFault (body_in bytes)
 body (Err e) = λ f. cc
@@ -145,6 +148,7 @@ request (first ∷ words) =
     (either (bytes_eq first (codes "next")) _ _ (next words)
     (either (bytes_eq first (codes "turn")) _ _ (turn words) (λ e. cc))))))))
 
+-- no line is refused for a fault of the disk
 pub line : (bytes : List ℕ) → IsNoFault (line_of bytes)
 unfolding line_of
 line bytes =

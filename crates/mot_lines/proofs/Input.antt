@@ -3,7 +3,8 @@ use Rattle.std.proofs.Common.{◌≡◌, ℕ, ◌<◌, Bool, true, false, cond, 
 use Rattle.std.proofs.Common.{refl, sym, ap, ◌∙◌, arith, append_assoc, append-nil}
 use Rattle.std.specs.Prelude.{nat_eq}
 use Rattle.std.specs.List.{onto_first}
-use Rattle.mot_lines.specs.Lines.{pieces_between, all_but_last, last_of, whole_lines, rest_of}
+use Rattle.mot_groups.specs.Entity.{all_but_last}
+use Rattle.mot_lines.specs.Lines.{pieces_between, last_of, whole_lines, rest_of}
 use Rattle.mot_lines.specs.Lines.{lines_of, unless_empty}
 use Rattle.mot_lines.specs.Lines.{HasNoLineEnd}
 use Rattle.std.proofs.lemmas.Bool.{eqb-true}
@@ -19,10 +20,12 @@ last_of-push [] q = refl
 last_of-push (x ∷ []) q = refl
 last_of-push (x ∷ y ∷ zs) q = last_of-push (y ∷ zs) q
 
-all_but_last_and_last : (ps : List (List ℕ)) → 0 < length ps → all_but_last ps ++ last_of ps ∷ [] ≡ ps
+all_but_last_and_last : (ps : List (List ℕ)) → 0 < length ps
+    → all_but_last ps ++ last_of ps ∷ [] ≡ ps
 all_but_last_and_last [] h = absurd (omega arith)
 all_but_last_and_last (x ∷ []) h = refl
-all_but_last_and_last (x ∷ y ∷ zs) h = ap (λ l. x ∷ l) (all_but_last_and_last (y ∷ zs) (omega arith))
+all_but_last_and_last (x ∷ y ∷ zs) h =
+    ap (λ l. x ∷ l) (all_but_last_and_last (y ∷ zs) (omega arith))
 
 some_first : (x : ℕ) (ps : List (List ℕ)) → 0 < length (onto_first x ps)
 some_first x [] = omega arith
@@ -63,26 +66,32 @@ more_step false x c (p ∷ q ∷ ps) h = refl
 
 -- after another byte
 pieces_more : (xs : List ℕ) (c : ℕ) → nat_eq c 10 ≡ false
-    → pieces_between (xs ++ c ∷ []) ≡ all_but_last (pieces_between xs) ++ (last_of (pieces_between xs) ++ c ∷ []) ∷ []
+    → pieces_between (xs ++ c ∷ [])
+    ≡ all_but_last (pieces_between xs) ++ (last_of (pieces_between xs) ++ c ∷ []) ∷ []
 pieces_more [] c h = ap (λ b. cond b ([] ∷ [] ∷ []) ((c ∷ []) ∷ [])) h
-pieces_more (x ∷ xs) c h = ap (λ l. cond (nat_eq x 10) ([] ∷ l) (onto_first x l)) (pieces_more xs c h)
+pieces_more (x ∷ xs) c h =
+    ap (λ l. cond (nat_eq x 10) ([] ∷ l) (onto_first x l)) (pieces_more xs c h)
     ∙ more_step (nat_eq x 10) x c (pieces_between xs) (some_piece xs)
 
+-- a line's end makes one whole line more, of what was left over
 pub whole_end : (xs : List ℕ) → whole_lines (xs ++ 10 ∷ []) ≡ whole_lines xs ++ rest_of xs ∷ []
 unfolding whole_lines rest_of
 whole_end xs = ap all_but_last (pieces_end xs) ∙ all_but_last-push (pieces_between xs) []
     ∙ sym (all_but_last_and_last (pieces_between xs) (some_piece xs))
 
+-- behind a line's end nothing is left over
 pub rest_end : (xs : List ℕ) → rest_of (xs ++ 10 ∷ []) ≡ []
 unfolding rest_of
 rest_end xs = ap last_of (pieces_end xs) ∙ last_of-push (pieces_between xs) []
 
-whole_more : (xs : List ℕ) (c : ℕ) → nat_eq c 10 ≡ false → whole_lines (xs ++ c ∷ []) ≡ whole_lines xs
+whole_more : (xs : List ℕ) (c : ℕ) → nat_eq c 10 ≡ false
+    → whole_lines (xs ++ c ∷ []) ≡ whole_lines xs
 unfolding whole_lines
 whole_more xs c h = ap all_but_last (pieces_more xs c h)
     ∙ all_but_last-push (all_but_last (pieces_between xs)) (last_of (pieces_between xs) ++ c ∷ [])
 
-rest_more : (xs : List ℕ) (c : ℕ) → nat_eq c 10 ≡ false → rest_of (xs ++ c ∷ []) ≡ rest_of xs ++ c ∷ []
+rest_more : (xs : List ℕ) (c : ℕ) → nat_eq c 10 ≡ false
+    → rest_of (xs ++ c ∷ []) ≡ rest_of xs ++ c ∷ []
 unfolding rest_of
 rest_more xs c h = ap last_of (pieces_more xs c h)
     ∙ last_of-push (all_but_last (pieces_between xs)) (last_of (pieces_between xs) ++ c ∷ [])
@@ -96,6 +105,7 @@ whole_within xs (y ∷ ys) h =
     ∙ whole_within (xs ++ y ∷ []) ys (All-tail (λ b. nat_eq b 10 ≡ false) y ys h)
     ∙ whole_more xs y (All-head (λ b. nat_eq b 10 ≡ false) y ys h)
 
+-- bytes without a line's end are left over behind what was
 pub rest_within : (xs ys : List ℕ) → HasNoLineEnd ys → rest_of (xs ++ ys) ≡ rest_of xs ++ ys
 rest_within xs [] h = ap rest_of (append-nil xs) ∙ sym (append-nil (rest_of xs))
 rest_within xs (y ∷ ys) h =
@@ -125,14 +135,17 @@ whole_front xs (y ∷ ys) =
           ∙ ap (λ l. l ++ rest.0) first.1 ∙ append_assoc (whole_lines xs) first.0 rest.0,
     )
 
+-- of no input there are no whole lines
 pub no_lines : whole_lines [] ≡ []
 unfolding whole_lines
 no_lines = refl
 
+-- of no input nothing is left over
 pub no_rest : rest_of [] ≡ []
 unfolding rest_of
 no_rest = refl
 
+-- the lines of an input that ends with one are the whole ones
 pub lines_empty : (xs : List ℕ) → rest_of xs ≡ [] → lines_of xs ≡ whole_lines xs
 unfolding lines_of
 lines_empty xs h = ap (λ l. whole_lines xs ++ unless_empty l) h ∙ append-nil (whole_lines xs)
@@ -141,10 +154,8 @@ unless_some : (l : List ℕ) → (l ≡ [] → ⊥) → unless_empty l ≡ l ∷
 unless_some [] h = absurd (h refl)
 unless_some (x ∷ l) h = refl
 
-pub lines_last : (xs : List ℕ) → (rest_of xs ≡ [] → ⊥) → lines_of xs ≡ whole_lines xs ++ rest_of xs ∷ []
+-- the lines of an input that ends within one are the whole ones, and what is left over
+pub lines_last : (xs : List ℕ) → (rest_of xs ≡ [] → ⊥)
+    → lines_of xs ≡ whole_lines xs ++ rest_of xs ∷ []
 unfolding lines_of
 lines_last xs h = ap (λ l. whole_lines xs ++ l) (unless_some (rest_of xs) h)
-
-pub lines_front : (xs : List ℕ) → (extra : List (List ℕ)) × (lines_of xs ≡ whole_lines xs ++ extra)
-unfolding lines_of
-lines_front xs = (unless_empty (rest_of xs), refl)

@@ -21,20 +21,25 @@ use Rattle.mot_lines.proofs.Requests as requests
 pub whole_lines-none : whole_lines [] ≡ []
 whole_lines-none = input.no_lines
 
+-- of no input nothing is left over
 pub rest_of-none : rest_of [] ≡ []
 rest_of-none = input.no_rest
 
 -- a line end ends the line that has begun
-pub whole_lines-end : (xs : List ℕ) → whole_lines (xs ++ 10 ∷ []) ≡ whole_lines xs ++ rest_of xs ∷ []
+pub whole_lines-end : (xs : List ℕ)
+    → whole_lines (xs ++ 10 ∷ []) ≡ whole_lines xs ++ rest_of xs ∷ []
 whole_lines-end xs = input.whole_end xs
 
+-- behind a line's end nothing is left over
 pub rest_of-end : (xs : List ℕ) → rest_of (xs ++ 10 ∷ []) ≡ []
 rest_of-end xs = input.rest_end xs
 
 -- other bytes go on with it
-pub whole_lines-within : (xs ys : List ℕ) → HasNoLineEnd ys → whole_lines (xs ++ ys) ≡ whole_lines xs
+pub whole_lines-within : (xs ys : List ℕ) → HasNoLineEnd ys
+    → whole_lines (xs ++ ys) ≡ whole_lines xs
 whole_lines-within xs ys none = input.whole_within xs ys none
 
+-- bytes without a line's end are left over behind what was
 pub rest_of-within : (xs ys : List ℕ) → HasNoLineEnd ys → rest_of (xs ++ ys) ≡ rest_of xs ++ ys
 rest_of-within xs ys none = input.rest_within xs ys none
 
@@ -47,7 +52,9 @@ whole_lines-front xs ys = input.whole_front xs ys
 pub lines_of-ended : (xs : List ℕ) → rest_of xs ≡ [] → lines_of xs ≡ whole_lines xs
 lines_of-ended xs none = input.lines_empty xs none
 
-pub lines_of-begun : (xs : List ℕ) → (rest_of xs ≡ [] → ⊥) → lines_of xs ≡ whole_lines xs ++ rest_of xs ∷ []
+-- the lines of an input that ends within one are the whole ones, and what is left over
+pub lines_of-begun : (xs : List ℕ) → (rest_of xs ≡ [] → ⊥)
+    → lines_of xs ≡ whole_lines xs ++ rest_of xs ∷ []
 lines_of-begun xs some = input.lines_last xs some
 
 -- what is kept of a line in hand asks for what the line asks for

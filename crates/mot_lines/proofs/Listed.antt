@@ -26,14 +26,18 @@ beside-lines (o ∷ objects) [] h = absurd (cc)
 beside-lines (o ∷ objects) (body ∷ bodies) h =
     let first : o.length ≡ length body = cc in
     let rest : map length bodies ≡ map (λ (x : Object). x.length) objects = cc in
-    ap (λ n. object_words o.tid o.version o.content n o.name o.mime ++ flat_map object_line_beside objects) first
+    ap (λ n. object_words o.tid o.version o.content n o.name o.mime
+    ++ flat_map object_line_beside objects) first
     ∙ ap (λ l. object_words o.tid o.version o.content (length body) o.name o.mime ++ l)
     (beside-lines objects bodies rest)
 
+-- a list shows the same of a carousel with its bodies as without them
 pub listing_text_beside-whole : (c : Carousel) (bodies : List (List ℕ)) → AreBodiesOf c bodies
     → listing_text_beside c ≡ listing_text (carousel_of c bodies)
 listing_text_beside-whole c bodies b =
-    ap (λ n. numbers_line c.period c.directory c.cursor n ++ flat_map object_line_beside c.objects.items)
+    ap (λ n. numbers_line c.period c.directory c.cursor n
+    ++ flat_map object_line_beside c.objects.items)
     (beside-counted c.objects.items bodies b)
-    ∙ ap (λ l. numbers_line c.period c.directory c.cursor (length (objects_of c.objects.items bodies)) ++ l)
+    ∙ ap (λ l. numbers_line c.period c.directory c.cursor
+    (length (objects_of c.objects.items bodies)) ++ l)
     (beside-lines c.objects.items bodies b)

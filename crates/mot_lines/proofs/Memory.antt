@@ -15,28 +15,34 @@ needs-after : {A : Type 0} (x : Result A Refusal) (f : A → Result Line Refusal
 needs-after (Ok a) f h = h a
 needs-after (Err r) f h = tt
 
+-- whatever a raw line asks for may want memory
 pub raw-needs : (words : List (List ℕ)) → NeedsMemory (raw_of words)
 unfolding raw_of
 raw-needs [] = tt
 raw-needs (a ∷ []) = tt
 raw-needs (a ∷ b ∷ []) = tt
 raw-needs (a ∷ b ∷ c ∷ []) = needs-after (kind_in (number_of_word a)) _ (λ k.
-    needs-after (tid_in (number_of_word b)) _ (λ t. needs-after (segment_in (decode_of c)) _ (λ body. tt)))
+    needs-after (tid_in (number_of_word b)) _
+    (λ t. needs-after (segment_in (decode_of c)) _ (λ body. tt)))
 raw-needs (a ∷ b ∷ c ∷ d ∷ words) = tt
 
+-- whatever a put's line asks for may want memory
 pub put-needs : (words : List (List ℕ)) → NeedsMemory (put_of words)
 put-needs words = needs-after (description_of words) _ (λ d. tt)
 
+-- whatever a replace's line asks for may want memory
 pub replace-needs : (words : List (List ℕ)) → NeedsMemory (replace_of words)
 replace-needs words = needs-after (description_of words) _ (λ d. tt)
 
+-- whatever a withdraw's line asks for may want memory
 pub withdraw-needs : (words : List (List ℕ)) → NeedsMemory (withdraw_of words)
 withdraw-needs [] = tt
 withdraw-needs (name ∷ []) = needs-after (name_in name) _ (λ n. tt)
 withdraw-needs (name ∷ other ∷ words) = tt
 
 -- so a growth that is refused may stand in the place of what they ask for
-pub parsed : (result request : Result Line Refusal) → NeedsMemory request → OrOutOfMemory result request
+pub parsed : (result request : Result Line Refusal) → NeedsMemory request
+    → OrOutOfMemory result request
     → IsParsed result request
 parsed result request needs (inl e) = inl e
 parsed result request needs (inr e) = inr (e, needs)

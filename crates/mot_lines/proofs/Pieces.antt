@@ -32,7 +32,9 @@ module _ (c : ℕ) (xs : List ℕ) where
       ∙ ap (λ b. b ∷ drop (at + 1) xs) (eqb-true _ c e) in
       ap (λ l. take at xs ++ l) (sym rest) ∙ take-append-drop at xs
 
-  pub split_none : Nowhere (Passes (is_byte c) xs) 0 (length xs) → slice_split (λ b. nat_eq b c) xs ≡ xs ∷ []
+  -- bytes that do not have a byte, cut at it, are one piece
+  pub split_none : Nowhere (Passes (is_byte c) xs) 0 (length xs)
+      → slice_split (λ b. nat_eq b c) xs ≡ xs ∷ []
   split_none h = slice_split_none (λ b. nat_eq b c) xs (none_at_all h)
 
 -- what a slice from a place on holds

@@ -10,7 +10,8 @@ use Rattle.mot_lines.specs.Words.{words_of}
 use Rattle.mot_lines.specs.Line.{raw_of, list_of, turn_of, description_of}
 
 -- there is a word in every list of bytes
-some_cond : (b : Bool) (x : ℕ) (ps : List (List ℕ)) → 0 < length (cond b ([] ∷ ps) (onto_first x ps))
+some_cond : (b : Bool) (x : ℕ) (ps : List (List ℕ))
+    → 0 < length (cond b ([] ∷ ps) (onto_first x ps))
 some_cond true x ps = omega arith
 some_cond false x [] = omega arith
 some_cond false x (p ∷ ps) = omega arith
@@ -29,7 +30,8 @@ pub no_words : (o : Option (Bor (List ℕ))) → o ≡ None → length (words_af
 no_words o e = ap (λ r. length (words_after r)) e
 
 -- a word is left
-pub more_words : (o : Option (Bor (List ℕ))) (x : Bor (List ℕ)) → o ≡ Some x → 0 < length (words_after o)
+pub more_words : (o : Option (Bor (List ℕ))) (x : Bor (List ℕ)) → o ≡ Some x
+    → 0 < length (words_after o)
 more_words o x e = subst (λ r. 0 < length (words_after r)) (sym e) (some_word x.now)
 
 -- a raw line has three words after its first
@@ -41,6 +43,7 @@ raw_of-others (a ∷ b ∷ []) h = refl
 raw_of-others (a ∷ b ∷ c ∷ []) h = absurd (h refl)
 raw_of-others (a ∷ b ∷ c ∷ d ∷ words) h = refl
 
+-- where something follows a word, it has at least one word
 pub some_words : (o : Option (Bor (List ℕ))) → is_some o ≡ true → 0 < length (words_after o)
 some_words (Some x) e = some_word x.now
 some_words None e = absurd (cc)
@@ -50,6 +53,7 @@ list_of-words : (words : List (List ℕ)) → 0 < length words → list_of words
 list_of-words [] h = absurd (omega arith)
 list_of-words (word ∷ words) h = refl
 
+-- a list line with a word more is no request
 pub list_of-more : (o : Option (Bor (List ℕ))) (x : Bor (List ℕ)) → o ≡ Some x
     → list_of (words_after o) ≡ Err BadLine
 list_of-more o x e = list_of-words (words_after o) (more_words o x e)
@@ -59,12 +63,14 @@ turn_of-words : (words : List (List ℕ)) → 0 < length words → turn_of words
 turn_of-words [] h = absurd (omega arith)
 turn_of-words (word ∷ words) h = refl
 
+-- a turn line with a word more is no request
 pub turn_of-more : (o : Option (Bor (List ℕ))) (x : Bor (List ℕ)) → o ≡ Some x
     → turn_of (words_after o) ≡ Err BadLine
 turn_of-more o x e = turn_of-words (words_after o) (more_words o x e)
 
 -- a put or a replace line has five words after its first
-pub description_of-others : (words : List (List ℕ)) → length words ≢ 5 → description_of words ≡ Err BadLine
+pub description_of-others : (words : List (List ℕ)) → length words ≢ 5
+    → description_of words ≡ Err BadLine
 unfolding description_of
 description_of-others [] h = refl
 description_of-others (a ∷ []) h = refl

@@ -3,16 +3,11 @@
 use Rattle.std.specs.Prelude.{ℕ, ◌==◌, List, [], ◌∷◌, ◌++◌}
 use Rattle.std.specs.List.{slice_split}
 use Rattle.std.specs.Prelude.{◌≡◌, false, nat_eq, All}
+use Rattle.mot_groups.specs.Entity.{all_but_last}
 
 -- what stands between line ends; an input with none is one piece
 abbrev pub pieces_between : List ℕ → List (List ℕ)
 pieces_between input = slice_split (λ b. b == 10) input
-
--- all but the last
-abbrev pub all_but_last : List (List ℕ) → List (List ℕ)
-all_but_last [] = []
-all_but_last (x ∷ []) = []
-all_but_last (x ∷ y ∷ zs) = x ∷ all_but_last (y ∷ zs)
 
 -- the last
 abbrev pub last_of : List (List ℕ) → List ℕ

@@ -1,5 +1,7 @@
 -- The packets of a group can be written, and so they read back.
-use Rattle.std.proofs.Common.{◌≡◌, ap, ◌*◌, get_or, ◌∙◌, ℕ, suc, zero, ◌+◌, ◌%◌, ◌<◌, ◌≤◌, List, Bool, true, false, inl, inr, Some, refl, length, map, take, drop, arith, length-take}
+use Rattle.std.proofs.Common.{◌≡◌, ap, ◌*◌, get_or, ◌∙◌, ℕ, suc, zero, ◌+◌, ◌%◌, ◌<◌, ◌≤◌, List}
+use Rattle.std.proofs.Common.{Bool, true, false, inl, inr, Some, refl, length, map, take, drop}
+use Rattle.std.proofs.Common.{arith, length-take}
 use Rattle.std.proofs.lemmas.Bool.{leb-true}
 use Rattle.std.specs.Int.{div_ceil}
 use Rattle.std.specs.Prelude.{nat_le, if◌then◌else◌}
@@ -18,17 +20,23 @@ record Holds (n room : ℕ) : Type 0 where
   of_packet : IsLength (room + 5)
   holds : n ≤ room
 
-Holds-shortest_by : (n : ℕ) (a b c : Bool) → nat_le n 19 ≡ a → nat_le n 43 ≡ b → nat_le n 67 ≡ c → n ≤ 91 →
+Holds-shortest_by : (n : ℕ) (a b c : Bool) → nat_le n 19 ≡ a → nat_le n 43 ≡ b → nat_le n 67 ≡ c
+    → n ≤ 91 →
     Holds n (if a then 19 else (if b then 43 else (if c then 67 else 91)))
 Holds-shortest_by n true b c e f g h = record { of_packet = inl refl; holds = leb-true n 19 e }
-Holds-shortest_by n false true c e f g h = record { of_packet = inr (inl refl); holds = leb-true n 43 f }
-Holds-shortest_by n false false true e f g h = record { of_packet = inr (inr (inl refl)); holds = leb-true n 67 g }
-Holds-shortest_by n false false false e f g h = record { of_packet = inr (inr (inr refl)); holds = h }
+Holds-shortest_by n false true c e f g h =
+    record { of_packet = inr (inl refl); holds = leb-true n 43 f }
+Holds-shortest_by n false false true e f g h =
+    record { of_packet = inr (inr (inl refl)); holds = leb-true n 67 g }
+Holds-shortest_by n false false false e f g h =
+    record { of_packet = inr (inr (inr refl)); holds = h }
 
 Holds-shortest_room : (n : ℕ) → n ≤ 91 → Holds n (shortest_room n)
-Holds-shortest_room n h = Holds-shortest_by n (nat_le n 19) (nat_le n 43) (nat_le n 67) refl refl refl h
+Holds-shortest_room n h =
+    Holds-shortest_by n (nat_le n 19) (nat_le n 43) (nat_le n 67) refl refl refl h
 
-Holds-piece : (useful rest room : ℕ) (last : Bool) → nat_le rest room ≡ last → useful ≤ rest → useful ≤ room →
+Holds-piece : (useful rest room : ℕ) (last : Bool) → nat_le rest room ≡ last → useful ≤ rest
+    → useful ≤ room →
     room ≤ 91 → IsLength (room + 5) → Holds useful (if last then shortest_room rest else room)
 Holds-piece useful rest room true e u v h r =
     let fits : rest ≤ room = leb-true rest room e in
@@ -42,20 +50,25 @@ room_of-le P48 = omega arith
 room_of-le P72 = omega arith
 room_of-le P96 = omega arith
 
-pub IsPacket-piece_at : (size : PacketLength) (address index at : ℕ) (group : List ℕ) → 0 < address → address < 1024 →
+-- a piece of a group is a packet that can be written
+pub IsPacket-piece_at : (size : PacketLength) (address index at : ℕ) (group : List ℕ) → 0 < address
+    → address < 1024 →
     index < 4 → IsPacket (piece_at (room_of size) address index group at)
 IsPacket-piece_at size address index at group low high i =
     let room : ℕ = room_of size in
     let rest : List ℕ = drop at group in
     let useful : length (take room rest) ≤ length rest = omega (arith, length-take room rest) in
     let useful' : length (take room rest) ≤ room = omega (arith, length-take room rest) in
-    let holds = Holds-piece (length (take room rest)) (length rest) room (nat_le (length rest) room) refl useful useful'
+    let holds = Holds-piece (length (take room rest)) (length rest) room (nat_le (length rest) room)
+    refl useful useful'
     (room_of-le size) (IsLength-room_of size) in
     record { room = holds.of_packet; index = i; address = (low, high); useful = holds.holds }
 
-read_each-pieces_from : (size : PacketLength) (address index n at : ℕ) (group : List ℕ) → 0 < address →
+read_each-pieces_from : (size : PacketLength) (address index n at : ℕ) (group : List ℕ)
+    → 0 < address →
     address < 1024 →
-    read_each read_packet (map bytes_of_packet (pieces_from n (room_of size) address index group at))
+    read_each read_packet (map bytes_of_packet
+    (pieces_from n (room_of size) address index group at))
     ≡ Some (pieces_from n (room_of size) address index group at)
 read_each-pieces_from size address index zero at group low high = refl
 read_each-pieces_from size address index (suc n) at group low high =
@@ -65,12 +78,15 @@ read_each-pieces_from size address index (suc n) at group low high =
       read_each-pieces_from size address (index + 1) n (at + room_of size) group low high,
     ) refl
 
-pub read_each-packets_of_group : (size : PacketLength) (address index : ℕ) (group : List ℕ) → 0 < address →
+-- the packets of a group read back as its pieces
+pub read_each-packets_of_group : (size : PacketLength) (address index : ℕ) (group : List ℕ)
+    → 0 < address →
     address < 1024 →
     read_each read_packet (packets_of_group (room_of size) address index group)
     ≡ Some (pieces_of (room_of size) address index group)
 read_each-packets_of_group size address index group low high =
-    read_each-pieces_from size address index (div_ceil (length group) (room_of size)) 0 group low high
+    read_each-pieces_from size address index (div_ceil (length group) (room_of size)) 0 group low
+    high
 
 -- ---- how many they are, and each by its number
 
@@ -80,6 +96,7 @@ length-from room address zero index at group = refl
 length-from room address (suc n) index at group =
     ap suc (length-from room address n (index + 1) (at + room) group)
 
+-- a group is cut into as many packets as its bytes fill, rounded up
 pub length-packets_of_group : (room address index : ℕ) (group : List ℕ) →
     length (packets_of_group room address index group) ≡ div_ceil (length group) room
 length-packets_of_group room address index group =

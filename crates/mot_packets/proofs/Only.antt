@@ -1,7 +1,10 @@
 -- Only a packet's own bytes read as it.
-use Rattle.std.proofs.Common.{◌≡◌, ℕ, ◌+◌, ◌-◌, ◌*◌, ◌%◌, ◌^◌, ◌<◌, ◌≤◌, List, [], ◌∷◌, ◌++◌, true, inl, inr, refl, sym, length, take, drop, replicate, arith, ap, subst, ◌∙◌, length-take, length-drop, Some}
+use Rattle.std.proofs.Common.{◌≡◌, ℕ, ◌+◌, ◌-◌, ◌*◌, ◌%◌, ◌^◌, ◌<◌, ◌≤◌, List, [], ◌∷◌, ◌++◌, true}
+use Rattle.std.proofs.Common.{inl, inr, refl, sym, length, take, drop, replicate, arith, ap, subst}
+use Rattle.std.proofs.Common.{◌∙◌, length-take, length-drop, Some}
 use Rattle.std.proofs.Math.Nat.{mod-eq_of_lt}
-use Rattle.std.proofs.lemmas.Bool.{and_parts, cases_eq, eq-eqb, eqb-true, leb-true, ltb-true, ne_eqb}
+use Rattle.std.proofs.lemmas.Bool.{and_parts, cases_eq, eq-eqb, eqb-true, leb-true, ltb-true}
+use Rattle.std.proofs.lemmas.Bool.{ne_eqb}
 use Rattle.std.proofs.lemmas.List.{take-append-drop, take-take}
 use Rattle.std.proofs.lemmas.List.Elements.{All-take}
 use Rattle.std.proofs.lemmas.Option.{cond_some}
@@ -11,9 +14,12 @@ use Rattle.std.specs.List.{list_all}
 use Rattle.mot_base.specs.Bytes.{IsByte, AreBytes}
 use Rattle.mot_base.specs.Checksum.{crc_of, without_crc, ends_in_crc}
 use Rattle.mot_base.specs.Fields.{number_in, fields}
-use Rattle.mot_base.proofs.Laws.{AreBytes-append, AreBytes-cons, AreBytes-to_be_bytes, append-without_crc, cons_eq, fields-injective, number_in-fits, number_in-injective}
+use Rattle.mot_base.proofs.Laws.{AreBytes-append, AreBytes-cons, AreBytes-to_be_bytes}
+use Rattle.mot_base.proofs.Laws.{append-without_crc, cons_eq, fields-injective, number_in-fits}
+use Rattle.mot_base.proofs.Laws.{number_in-injective}
 use Rattle.mot_packets.specs.Packet.{PacketFields, packet_with, read_packet}
-use Rattle.mot_packets.specs.Written.{IsPacket, header_word, code_of_room, covered_bytes, bytes_of_packet}
+use Rattle.mot_packets.specs.Written.{IsPacket, header_word, code_of_room, covered_bytes}
+use Rattle.mot_packets.specs.Written.{bytes_of_packet}
 use Rattle.mot_packets.proofs.HeaderWord.{IsLength-code, fields-header_word}
 
 abbrev widths : List ℕ
@@ -22,7 +28,8 @@ widths = 2 ∷ 2 ∷ 1 ∷ 1 ∷ 10 ∷ 1 ∷ 7 ∷ []
 -- the header's fields, as a packet has them
 abbrev header_of : PacketFields → List ℕ
 header_of p =
-    code_of_room p.room ∷ p.index ∷ from_bool p.first ∷ from_bool p.last ∷ p.address ∷ 0 ∷ length p.useful ∷ []
+    code_of_room p.room ∷ p.index ∷ from_bool p.first ∷ from_bool p.last ∷ p.address ∷ 0
+    ∷ length p.useful ∷ []
 
 -- what was read of a packet's bytes, whose header has these fields
 record IsRead (bytes header : List ℕ) (p : PacketFields) : Type 0 where
@@ -46,7 +53,8 @@ only_zeros (x ∷ xs) e =
     cons_eq (eqb-true x 0 parts.0) (only_zeros xs parts.1)
 
 -- a data field by the part in use and the padding
-filled : (field : List ℕ) (count : ℕ) → count ≤ length field → list_all (λ b. b == 0) (drop count field) ≡ true →
+filled : (field : List ℕ) (count : ℕ) → count ≤ length field
+    → list_all (λ b. b == 0) (drop count field) ≡ true →
     field ≡ take count field ++ replicate (length field - length (take count field)) 0
 filled field count h z =
     let left : length (drop count field) ≡ length field - count = length-drop count field in
@@ -59,7 +67,8 @@ module _ (bytes : List ℕ) (code index first last address command useful : ℕ)
   abbrev header : List ℕ
   header = code ∷ index ∷ first ∷ last ∷ address ∷ command ∷ useful ∷ []
 
-  IsRead-packet_with : (p : PacketFields) → code < 4 → index < 4 → first < 2 → last < 2 → address < 1024 →
+  IsRead-packet_with : (p : PacketFields) → code < 4 → index < 4 → first < 2 → last < 2
+      → address < 1024 →
       useful < 128 → packet_with bytes header ≡ Some p → IsRead bytes header p
   IsRead-packet_with p c i f l a u e =
       let field : List ℕ = drop 3 (without_crc bytes) in
@@ -77,7 +86,8 @@ module _ (bytes : List ℕ) (code index first last address command useful : ℕ)
       let inside = and_parts _ _ zeros.0 in
       let plain = and_parts _ _ inside.0 in
       let addressed = and_parts _ _ plain.0 in
-      let size : length bytes ≡ 24 * (code + 1) = eqb-true (length bytes) (24 * (code + 1)) addressed.0 in
+      let size : length bytes ≡ 24 * (code + 1) =
+      eqb-true (length bytes) (24 * (code + 1)) addressed.0 in
       let fits : useful ≤ length field = leb-true useful (length field) inside.1 in
       let room : length field ≡ length bytes - 2 - 3 =
       omega (arith, length-drop 3 (without_crc bytes), length-take (length bytes - 2) bytes) in
@@ -111,11 +121,13 @@ IsRead-read_packet bytes p e =
     (omega arith) (omega arith) e
 
 -- what reads as a packet is its bytes
-pub read_packet-only : (bytes : List ℕ) (p : PacketFields) → AreBytes bytes → read_packet bytes ≡ Some p →
+pub read_packet-only : (bytes : List ℕ) (p : PacketFields) → AreBytes bytes
+    → read_packet bytes ≡ Some p →
     bytes ≡ bytes_of_packet p
 unfolding bytes_of_packet
 read_packet-only bytes p all e =
-    let read : IsRead bytes (fields widths (number_in (take 3 bytes))) p = IsRead-read_packet bytes p e in
+    let read : IsRead bytes (fields widths (number_in (take 3 bytes))) p =
+    IsRead-read_packet bytes p e in
     let word : ℕ = header_word (code_of_room p.room) p.index p.first p.last p.address in
     let start : List ℕ = to_be_bytes w16 word ++ length p.useful ∷ [] in
     let size : length bytes ≡ p.room + 5 = read.size in
@@ -127,15 +139,22 @@ read_packet-only bytes p all e =
     (AreBytes-cons (length p.useful) [] (omega arith) (All-take IsByte 0 bytes all)) in
     let len : length (take 3 bytes) ≡ 3 = omega (arith, length-take 3 bytes) in
     let fits : number_in (take 3 bytes) < 2 ^ 24 =
-    subst (λ (n : ℕ). number_in (take 3 bytes) < 256 ^ n) len (number_in-fits (take 3 bytes) front) in
+    subst (λ (n : ℕ). number_in (take 3 bytes) < 256 ^ n) len
+    (number_in-fits (take 3 bytes) front) in
     let fits' : number_in start < 2 ^ 24 = number_in-fits start front' in
-    let same : fields widths (number_in (take 3 bytes)) ≡ fields widths (number_in start) = read.as_packet
-    ∙ sym (fields-header_word (code_of_room p.room) p.index p.address (length p.useful) p.first p.last code
+    let same : fields widths (number_in (take 3 bytes)) ≡ fields widths (number_in start) =
+    read.as_packet
+    ∙ sym (fields-header_word (code_of_room p.room) p.index p.address (length p.useful) p.first
+    p.last code
     read.is_packet.index read.is_packet.address.1 (omega arith)) in
-    let bits : number_in (take 3 bytes) % 2 ^ 24 ≡ number_in start % 2 ^ 24 = fields-injective widths _ _ same in
-    let number : number_in (take 3 bytes) ≡ number_in start = sym (mod-eq_of_lt fits) ∙ bits ∙ mod-eq_of_lt fits' in
-    let header : take 3 bytes ≡ start = number_in-injective (take 3 bytes) start len front front' number in
-    let header' : take 3 (without_crc bytes) ≡ start = take-take 3 (length bytes - 2) bytes (omega arith) ∙ header in
+    let bits : number_in (take 3 bytes) % 2 ^ 24 ≡ number_in start % 2 ^ 24 =
+    fields-injective widths _ _ same in
+    let number : number_in (take 3 bytes) ≡ number_in start =
+    sym (mod-eq_of_lt fits) ∙ bits ∙ mod-eq_of_lt fits' in
+    let header : take 3 bytes ≡ start =
+    number_in-injective (take 3 bytes) start len front front' number in
+    let header' : take 3 (without_crc bytes) ≡ start =
+    take-take 3 (length bytes - 2) bytes (omega arith) ∙ header in
     let covered : without_crc bytes ≡ covered_bytes p =
     sym (take-append-drop 3 (without_crc bytes)) ∙ ap (λ h. h ++ drop 3 (without_crc bytes)) header'
     ∙ ap (λ r. start ++ r) read.field in

@@ -1,5 +1,6 @@
 -- All packets of a player have its address.
-use Rattle.std.proofs.Common.{◌≡◌, ℕ, List, [], ◌∷◌, Bool, true, Option, Some, None, refl, sym, subst, ap, ◌∙◌, eq-eqb}
+use Rattle.std.proofs.Common.{◌≡◌, ℕ, List, [], ◌∷◌, Bool, true, Option, Some, None, refl, sym}
+use Rattle.std.proofs.Common.{subst, ap, ◌∙◌, eq-eqb}
 use Rattle.std.proofs.lemmas.Bool.{and_parts, eqb-true}
 use Rattle.std.proofs.lemmas.Option.{none-some, same_Some}
 use Rattle.std.specs.Prelude.{◌==◌}
@@ -7,21 +8,28 @@ use Rattle.std.specs.List.{list_all}
 use Rattle.mot_packets.specs.Gather.{have_one_address}
 use Rattle.mot_packets.specs.Packet.{PacketFields}
 use Rattle.mot_groups.specs.Group.{Segment, GroupFields, bytes_of_group}
-use Rattle.mot_player.specs.Place.{UnderWay, Place, Sent, Step, Request, NewTurn, group_for, with_begun, packet_sent, first_sent, to_send, next_sent, request, change_turn, sent_by}
+use Rattle.mot_player.specs.Place.{UnderWay, Place, Sent, Step, Request, NewTurn, group_for}
+use Rattle.mot_player.specs.Place.{with_begun, packet_sent, first_sent, to_send, next_sent, request}
+use Rattle.mot_player.specs.Place.{change_turn, sent_by}
 use Rattle.mot_player.proofs.Requests.{FirstRequest, first_request, no_steps, packets_of}
 
+-- packets that all have a certain address have one address
 pub one_address : (address : ℕ) (packets : List PacketFields) →
-    list_all (λ (q : PacketFields). q.address == address) packets ≡ true → have_one_address packets ≡ true
+    list_all (λ (q : PacketFields). q.address == address) packets ≡ true
+    → have_one_address packets ≡ true
 one_address address [] e = refl
 one_address address (p ∷ packets) e =
-    let parts = and_parts (p.address == address) (list_all (λ (q : PacketFields). q.address == address) packets) e in
-    ap (λ a. list_all (λ (q : PacketFields). q.address == a) packets) (eqb-true p.address address parts.0) ∙ parts.1
+    let parts = and_parts (p.address == address)
+    (list_all (λ (q : PacketFields). q.address == address) packets) e in
+    ap (λ a. list_all (λ (q : PacketFields). q.address == a) packets)
+    (eqb-true p.address address parts.0) ∙ parts.1
 
 -- a request sends a packet with the address, and keeps it
 abbrev KeepsAddress : ℕ → Sent → Type 0
 KeepsAddress address s = (s.packet.address ≡ address) × (s.place.address ≡ address)
 
-first-address : (place : Place) (segments : List Segment) (s : Sent) → first_sent place segments ≡ Some s →
+first-address : (place : Place) (segments : List Segment) (s : Sent)
+    → first_sent place segments ≡ Some s →
     KeepsAddress place.address s
 first-address place [] s e = absurd (none-some s e)
 first-address place (t ∷ segments) s e =
@@ -29,16 +37,19 @@ first-address place (t ∷ segments) s e =
     let first : Sent = packet_sent (with_begun place group segments) (bytes_of_group group) 0 in
     subst (KeepsAddress place.address) (same_Some first s e) (refl, refl)
 
-next-address : (place : Place) (u : Option UnderWay) (s : Sent) → next_sent place u ≡ Some s → KeepsAddress place.address s
+next-address : (place : Place) (u : Option UnderWay) (s : Sent) → next_sent place u ≡ Some s
+    → KeepsAddress place.address s
 next-address place None s e = first-address place (to_send place) s e
 next-address place (Some u) s e =
     let first : Sent = packet_sent place u.group u.sent in
     subst (KeepsAddress place.address) (same_Some first s e) (refl, refl)
 
-all-cons : (p : PacketFields → Bool) (x : PacketFields) (xs : List PacketFields) → p x ≡ true → list_all p xs ≡ true →
+all-cons : (p : PacketFields → Bool) (x : PacketFields) (xs : List PacketFields) → p x ≡ true
+    → list_all p xs ≡ true →
     list_all p (x ∷ xs) ≡ true
 all-cons p x xs e f = rw (e, f) refl
 
+-- whatever steps come, all packets have the player's address
 pub steps-address : (steps : List Step) (place : Place) (sents : List Sent) (new : Place) →
     sent_by place steps ≡ Some (sents, new) →
     list_all (λ (q : PacketFields). q.address == place.address) (packets_of sents) ≡ true
@@ -48,11 +59,16 @@ steps-address [] place sents new h =
     (no_steps place sents new h) refl
 steps-address (Request ∷ steps) place sents new h =
     let q : FirstRequest place steps sents new = first_request place steps sents new h in
-    let keeps : KeepsAddress place.address q.first = next-address place place.under_way q.first q.asked in
-    let others : list_all (λ (p : PacketFields). p.address == place.address) (packets_of q.others) ≡ true =
+    let keeps : KeepsAddress place.address q.first =
+    next-address place place.under_way q.first q.asked in
+    let others : list_all (λ (p : PacketFields). p.address == place.address) (packets_of q.others)
+    ≡ true =
     ap (λ a. list_all (λ (p : PacketFields). p.address == a) (packets_of q.others)) (sym keeps.1)
     ∙ steps-address steps q.first.place q.others new q.rest in
-    subst (λ ss. list_all (λ (p : PacketFields). p.address == place.address) (packets_of ss) ≡ true) (sym q.all)
-    (all-cons (λ (p : PacketFields). p.address == place.address) q.first.packet (packets_of q.others)
+    subst (λ ss. list_all (λ (p : PacketFields). p.address == place.address) (packets_of ss) ≡ true)
+    (sym q.all)
+    (all-cons (λ (p : PacketFields). p.address == place.address) q.first.packet
+    (packets_of q.others)
     (eq-eqb q.first.packet.address place.address keeps.0) others)
-steps-address (NewTurn turn ∷ steps) place sents new h = steps-address steps (change_turn turn place) sents new h
+steps-address (NewTurn turn ∷ steps) place sents new h =
+    steps-address steps (change_turn turn place) sents new h

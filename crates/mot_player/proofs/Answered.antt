@@ -1,5 +1,6 @@
 -- What begins a group and what sends a packet of it answer a request together.
-use Rattle.std.proofs.Common.{◌≡◌, length, ℕ, ◌<◌, List, Bool, true, false, arith, Some, None, refl, sym, ap, ◌∙◌, subst, eq-eqb}
+use Rattle.std.proofs.Common.{◌≡◌, length, ℕ, ◌<◌, List, Bool, true, false, arith, Some, None, refl}
+use Rattle.std.proofs.Common.{sym, ap, ◌∙◌, subst, eq-eqb}
 use Rattle.std.proofs.lemmas.Bool.{eqb-false, ne_eqb}
 use Rattle.std.proofs.lemmas.Option.{none-some}
 use Rattle.std.specs.Prelude.{◌==◌, if◌then◌else◌, IfSome, ◌++◌}
@@ -12,18 +13,22 @@ use Rattle.mot_packets.specs.Written.{bytes_of_packet}
 use Rattle.mot_groups.specs.Group.{GroupFields, bytes_of_group}
 use Rattle.mot_player.specs.declared.state.State.{State}
 use Rattle.mot_player.specs.declared.last_group.LastGroup.{LastGroup}
-use Rattle.mot_player.specs.LastGroup.{last_of}
+use Rattle.mot_player.specs.LastGroup.{kept_last}
 use Rattle.mot_player.specs.Laws.{IsPlace, IsStep}
-use Rattle.mot_player.specs.Standing.{AreBodiesFor, Standing, TurnPlan, place_of}
-use Rattle.mot_player.specs.Place.{Last, Place, Sent, UnderWay, first_sent, group_for, next_sent, packet_sent, request, with_begun}
+use Rattle.mot_player.specs.PlayerView.{AreBodiesFor, PlayerView, TurnPlan, place_of}
+use Rattle.mot_player.specs.Place.{Last, Place, Sent, UnderWay, first_sent, group_for, next_sent}
+use Rattle.mot_player.specs.Place.{packet_sent, request, with_begun}
 use Rattle.mot_player.specs.Inner.Ready.{HasBegun, IsFitted, IsReady, place_with}
-use Rattle.mot_player.specs.State.{standing_of}
+use Rattle.mot_player.specs.State.{view_of}
 use Rattle.mot_player.proofs.Plans.{is_playable}
 
+-- what is sent next of the group that a state keeps
 abbrev pub sent_from : State → List (List ℕ) → Sent
 sent_from state bodies = packet_sent (place_with state bodies) state.group.items state.sent
 
-pub answers-under_way : (state : State) (bodies : List (List ℕ)) (packet : List ℕ) (ends : Bool) (new : Place) →
+-- the next packet of a group under way answers a request
+pub answers-under_way : (state : State) (bodies : List (List ℕ)) (packet : List ℕ) (ends : Bool)
+    (new : Place) →
     (state.sent ≡ 0 → ⊥) → packet ≡ bytes_of_packet (sent_from state bodies).packet →
     read_packet packet ≡ Some (sent_from state bodies).packet →
     ends ≡ (sent_from state bodies).ends_turn → new ≡ (sent_from state bodies).place →
@@ -31,7 +36,8 @@ pub answers-under_way : (state : State) (bodies : List (List ℕ)) (packet : Lis
 unfolding request
 answers-under_way state bodies packet ends new some b r e p =
     let u : UnderWay = record { group = state.group.items; sent = state.sent } in
-    let under_way : (if state.sent == 0 then None else Some u) ≡ Some u = rw (ne_eqb state.sent 0 some) refl in
+    let under_way : (if state.sent == 0 then None else Some u) ≡ Some u =
+    rw (ne_eqb state.sent 0 some) refl in
     record {
       sent = sent_from state bodies;
       asked = ap (next_sent (place_with state bodies)) under_way;
@@ -41,7 +47,9 @@ answers-under_way state bodies packet ends new some b r e p =
       place = p;
     }
 
-pub answers-begun : (old state : State) (bodies : List (List ℕ)) (packet : List ℕ) (ends : Bool) (new : Place) →
+-- the first packet of a group that was just begun answers a request
+pub answers-begun : (old state : State) (bodies : List (List ℕ)) (packet : List ℕ) (ends : Bool)
+    (new : Place) →
     old.sent ≡ 0 → state.sent ≡ 0 → HasBegun old state bodies →
     packet ≡ bytes_of_packet (sent_from state bodies).packet →
     read_packet packet ≡ Some (sent_from state bodies).packet →
@@ -54,9 +62,12 @@ answers-begun old state bodies packet ends new none none_sent begun b r e p =
     let first : Sent = packet_sent (with_begun place group begun.others) (bytes_of_group group) 0 in
     let same : sent_from state bodies ≡ first =
     ap (λ (x : Place). packet_sent x state.group.items state.sent) begun.place
-    ∙ ap (λ (g : List ℕ). packet_sent (with_begun place group begun.others) g state.sent) begun.group
-    ∙ ap (λ (n : ℕ). packet_sent (with_begun place group begun.others) (bytes_of_group group) n) none_sent in
-    let under_way : (if old.sent == 0 then None else Some (record { group = old.group.items; sent = old.sent })) ≡ None =
+    ∙ ap (λ (g : List ℕ). packet_sent (with_begun place group begun.others) g state.sent)
+    begun.group
+    ∙ ap (λ (n : ℕ). packet_sent (with_begun place group begun.others) (bytes_of_group group) n)
+    none_sent in
+    let under_way : (if old.sent == 0 then None
+    else Some (record { group = old.group.items; sent = old.sent })) ≡ None =
     rw (eq-eqb old.sent 0 none) refl in
     record {
       sent = first;
@@ -67,21 +78,18 @@ answers-begun old state bodies packet ends new none none_sent begun b r e p =
       place = p ∙ ap (λ (x : Sent). x.place) same;
     }
 
-pub under_way-some : (state : State) → (state.sent ≡ 0 → ⊥) → (standing_of state).under_way ≡ None → ⊥
-under_way-some state some e =
-    let u : UnderWay = record { group = state.group.items; sent = state.sent } in
-    let under_way : (if state.sent == 0 then None else Some u) ≡ Some u = rw (ne_eqb state.sent 0 some) refl in
-    none-some u (sym e ∙ under_way)
-
 index-cases : (none : Bool) (index : ℕ) (content : List ℕ) → index < 16 →
-    IfSome (if none then None else Some (record { index = index; content = content })) (λ (l : Last). l.index < 16)
+    IfSome (if none then None else Some (record { index = index; content = content }))
+    (λ (l : Last). l.index < 16)
 index-cases true index content l = tt
 index-cases false index content l = l
 
 -- from the places of a state that is fitted every group can be sent
-index-fits : (last : LastGroup) → IfSome (last_of last) (λ (l : Last). l.index < 16)
-index-fits last = index-cases (is_empty last.segment.items) last.index (last.front ++ last.segment.items) last.in_range
+index-fits : (last : LastGroup) → IfSome (kept_last last) (λ (l : Last). l.index < 16)
+index-fits last = index-cases (is_empty last.segment.items) last.index
+    (last.front ++ last.segment.items) last.in_range
 
+-- each length of packets has room for data
 pub room-some : (length : PacketLength) → 0 < room_of length
 room-some P24 = omega arith
 room-some P48 = omega arith
@@ -96,12 +104,14 @@ under_way-left : (state : State) (none : Bool) → (state.sent == 0) ≡ none �
 under_way-left state true e left = tt
 under_way-left state false e left = left (omega (arith, eqb-false state.sent 0 e))
 
-pub is_place : (state : State) (bodies : List (List ℕ)) → IsReady state → AreBodiesFor state.turn bodies →
+pub is_place : (state : State) (bodies : List (List ℕ)) → IsReady state
+    → AreBodiesFor state.turn bodies →
     IsPlace (place_with state bodies)
 is_place state bodies ready e =
     let f : IsFitted state = ready.fitted in
     record {
-      under_way = under_way-left state (state.sent == 0) refl (λ some. omega (arith, ready.left some));
+      under_way = under_way-left state (state.sent == 0) refl
+          (λ some. omega (arith, ready.left some));
       room = room-some state.full_length;
       size = (omega (arith, f.size.0), f.size.1);
       directory = index-fits state.last_directory;
@@ -110,8 +120,11 @@ is_place state bodies ready e =
     }
 
 -- as a player of that standing sees it
-pub place_is : (standing : Standing) (state : State) → standing_of state ≡ standing → IsReady state →
-    (bodies : List (List ℕ)) → AreBodiesFor standing.turn bodies → IsPlace (place_of standing bodies)
+pub place_is : (standing : PlayerView) (state : State) → view_of state ≡ standing → IsReady state →
+    (bodies : List (List ℕ)) → AreBodiesFor standing.turn bodies
+    → IsPlace (place_of standing bodies)
 place_is standing state e f bodies b =
-    subst (λ (s : Standing). IsPlace (place_of s bodies)) e
-    (is_place state bodies f (subst (λ (t : TurnPlan). AreBodiesFor t bodies) (sym (ap (λ (s : Standing). s.turn) e)) b))
+    subst (λ (s : PlayerView). IsPlace (place_of s bodies)) e
+    (is_place state bodies f
+    (subst (λ (t : TurnPlan). AreBodiesFor t bodies) (sym (ap (λ (s : PlayerView). s.turn) e))
+    b))

@@ -1,11 +1,12 @@
 -- Contents that come sixteen times change by a multiple of sixteen, so groups that are sent round
 -- and round keep their indexes.
 use Rattle.std.proofs.Common.{◌≡◌, ℕ, zero, suc, ◌+◌, ◌%◌, List, [], ◌∷◌, ◌++◌, Bool, refl}
-use Rattle.std.proofs.Common.{sym, ap, ◌∙◌, map, length, arith, append_assoc, append-nil, eq-eqb, add-zero}
+use Rattle.std.proofs.Common.{sym, ap, ◌∙◌, map, length, arith, append_assoc, append-nil, eq-eqb}
+use Rattle.std.proofs.Common.{add-zero}
 use Rattle.std.proofs.lemmas.List.{map-append}
 use Rattle.std.specs.Prelude.{if◌then◌else◌, slice_index_or}
 use Rattle.mot_groups.specs.Group.{content_of}
-use Rattle.mot_player.specs.Continuity.{changes, contents, index_after, index_of, indexes_after}
+use Rattle.mot_player.specs.Continuity.{changes, contents, index_after, group_index, indexes_after}
 use Rattle.mot_player.specs.Continuity.{kind_of}
 use Rattle.mot_player.specs.Rounds.{rounds_of}
 use Rattle.mot_player.proofs.Indexes.{contents-append}
@@ -117,10 +118,12 @@ index-same n groups before group behind come split =
     ∙ ap (λ (l : List (List ℕ)). front ++ l) (contents-append kind (group ∷ []) behind
     ∙ ap (λ (l : List (List ℕ)). l ++ contents kind behind) (contents-own group)) in
     let h = heads front (content_of group) (contents kind behind) in
-    let all : contents kind ((rounds_of n groups ++ before) ++ group ∷ []) ≡ rounds_of n whole ++ h.0 ∷ h.2 =
+    let all : contents kind ((rounds_of n groups ++ before) ++ group ∷ [])
+    ≡ rounds_of n whole ++ h.0 ∷ h.2 =
     ap (contents kind) (append_assoc (rounds_of n groups) before (group ∷ []))
     ∙ contents-append kind (rounds_of n groups) (before ++ group ∷ [])
-    ∙ ap (λ (l : List (List ℕ)). l ++ contents kind (before ++ group ∷ [])) (contents-rounds kind n groups)
+    ∙ ap (λ (l : List (List ℕ)). l ++ contents kind (before ++ group ∷ []))
+    (contents-rounds kind n groups)
     ∙ ap (λ (l : List (List ℕ)). rounds_of n whole ++ l) (own ∙ h.4) in
     let cycle = come kind in
     ap (λ (l : List (List ℕ)). changes l % 16) all
@@ -151,8 +154,10 @@ indexes-append : (before groups more : List (List ℕ)) →
 indexes-append before [] more =
     ap (λ (l : List (List ℕ)). indexes_after l more) (sym (append-nil before))
 indexes-append before (group ∷ groups) more =
-    ap (λ (l : List ℕ). index_after before group ∷ l) (indexes-append (before ++ group ∷ []) groups more
-    ∙ ap (λ (l : List (List ℕ)). indexes_after (before ++ group ∷ []) groups ++ indexes_after l more)
+    ap (λ (l : List ℕ). index_after before group ∷ l)
+    (indexes-append (before ++ group ∷ []) groups more
+    ∙ ap (λ (l : List (List ℕ)).
+    indexes_after (before ++ group ∷ []) groups ++ indexes_after l more)
     (append_assoc before (group ∷ []) groups))
 
 round-behind : (n : ℕ) (groups : List (List ℕ)) →
@@ -162,17 +167,20 @@ round-behind (suc n) groups =
     append_assoc groups (rounds_of n groups) groups
     ∙ ap (λ (l : List (List ℕ)). groups ++ l) (round-behind n groups)
 
+-- groups whose contents come sixteen times keep their indexes, sent round and round
 pub indexes-rounds : (n done : ℕ) (groups : List (List ℕ)) → ComeSixteenTimes groups →
-    map index_of groups ≡ indexes_after [] groups →
-    map index_of (rounds_of n groups) ≡ indexes_after (rounds_of done groups) (rounds_of n groups)
+    map group_index groups ≡ indexes_after [] groups →
+    map group_index (rounds_of n groups)
+    ≡ indexes_after (rounds_of done groups) (rounds_of n groups)
 indexes-rounds zero done groups come own = refl
 indexes-rounds (suc n) done groups come own =
-    let here : indexes_after (rounds_of done groups) groups ≡ map index_of groups =
+    let here : indexes_after (rounds_of done groups) groups ≡ map group_index groups =
     ap (λ (l : List (List ℕ)). indexes_after l groups) (sym (append-nil (rounds_of done groups)))
     ∙ indexes-same done groups [] groups come refl ∙ sym own in
-    map-append index_of groups (rounds_of n groups)
-    ∙ ap (λ (l : List ℕ). map index_of groups ++ l) (indexes-rounds n (suc done) groups come own)
-    ∙ ap (λ (l : List ℕ). l ++ indexes_after (rounds_of (suc done) groups) (rounds_of n groups)) (sym here)
+    map-append group_index groups (rounds_of n groups)
+    ∙ ap (λ (l : List ℕ). map group_index groups ++ l) (indexes-rounds n (suc done) groups come own)
+    ∙ ap (λ (l : List ℕ). l ++ indexes_after (rounds_of (suc done) groups) (rounds_of n groups))
+    (sym here)
     ∙ ap (λ (l : List (List ℕ)). indexes_after (rounds_of done groups) groups
     ++ indexes_after l (rounds_of n groups)) (sym (round-behind done groups))
     ∙ sym (indexes-append (rounds_of done groups) groups (rounds_of n groups))

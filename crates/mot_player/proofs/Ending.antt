@@ -1,5 +1,6 @@
 -- Each request brings the end of the turn nearer.
-use Rattle.std.proofs.Common.{◌≡◌, ℕ, ◌+◌, ◌-◌, ◌*◌, ◌<◌, Bool, true, false, List, [], ◌∷◌, length, Option, Some, None}
+use Rattle.std.proofs.Common.{◌≡◌, ℕ, ◌+◌, ◌-◌, ◌*◌, ◌<◌, Bool, true, false, List, [], ◌∷◌, length}
+use Rattle.std.proofs.Common.{Option, Some, None}
 use Rattle.std.proofs.Common.{refl, ap, ◌∙◌, subst, arith, length-append}
 use Rattle.std.proofs.lemmas.Option.{none-some, same_Some}
 use Rattle.std.specs.Prelude.{if◌then◌else◌, IfSome, ◌&&◌}
@@ -8,9 +9,11 @@ use Rattle.mot_base.specs.Checksum.{crc_of}
 use Rattle.mot_base.specs.Reading.{is_empty}
 use Rattle.mot_groups.specs.Group.{GroupFields, Segment, bytes_of_group, segment_content}
 use Rattle.mot_player.specs.Laws.{TurnsEnd, bytes_due, bytes_due_with, group_bytes_of}
-use Rattle.mot_player.specs.Place.{Place, Sent, UnderWay, first_sent, group_for, next_sent, packet_sent, request, to_send, with_begun}
+use Rattle.mot_player.specs.Place.{Place, Sent, UnderWay, first_sent, group_for, next_sent}
+use Rattle.mot_player.specs.Place.{packet_sent, request, to_send, with_begun}
 use Rattle.mot_player.specs.Turn.{segments_of_turn}
 
+-- a group has 11 bytes more than its segment
 pub length-group : (g : GroupFields) → length (bytes_of_group g) ≡ length g.segment.bytes + 11
 unfolding bytes_of_group
 length-group g =
@@ -18,9 +21,12 @@ length-group g =
     omega (arith, length-append g.segment.bytes (to_be_bytes w16 (crc_of covered)))
 
 -- what is left behind a packet: of a group with more, or of those that wait
-due-behind : (place : Place) (group : List ℕ) (at : ℕ) (last : Bool) → 0 < place.room → at < length group →
+due-behind : (place : Place) (group : List ℕ) (at : ℕ) (last : Bool) → 0 < place.room
+    → at < length group →
     (last && is_empty place.waiting) ≡ false →
-    (if last then group_bytes_of (if is_empty place.waiting then segments_of_turn place.turn place.segment_size else place.waiting)
+    (if last then group_bytes_of
+    (if is_empty place.waiting then segments_of_turn place.turn place.segment_size
+    else place.waiting)
     else length group - (at + place.room) + group_bytes_of place.waiting)
     < length group - at + group_bytes_of place.waiting
 due-behind place group at true r l e = rw e (omega arith)
@@ -28,10 +34,12 @@ due-behind place group at false r l e = omega arith
 
 due-as : (place : Place) (group : List ℕ) (at : ℕ) (last : Bool) →
     bytes_due_with place (if last then None else Some (record { group = group; sent = at }))
-    ≡ (if last then group_bytes_of (to_send place) else length group - at + group_bytes_of place.waiting)
+    ≡ (if last then group_bytes_of (to_send place)
+    else length group - at + group_bytes_of place.waiting)
 due-as place group at true = refl
 due-as place group at false = refl
 
+-- behind a packet that does not end the turn, fewer bytes are due
 pub packet-less : (place : Place) (group : List ℕ) (at : ℕ) → 0 < place.room → at < length group →
     (packet_sent place group at).ends_turn ≡ false →
     bytes_due (packet_sent place group at).place < length group - at + group_bytes_of place.waiting
@@ -41,7 +49,8 @@ packet-less place group at r l e =
     (due-behind place group at s.packet.last r l e)
 
 first-less : (place : Place) (segments : List Segment) (s : Sent) → 0 < place.room →
-    first_sent place segments ≡ Some s → s.ends_turn ≡ false → bytes_due s.place < group_bytes_of segments
+    first_sent place segments ≡ Some s → s.ends_turn ≡ false
+    → bytes_due s.place < group_bytes_of segments
 first-less place [] s r e f = absurd (none-some s e)
 first-less place (t ∷ segments) s r e f =
     let g : GroupFields = group_for place t in
@@ -50,9 +59,11 @@ first-less place (t ∷ segments) s r e f =
     let same : first ≡ s = same_Some first s e in
     let long : length (bytes_of_group g) ≡ length t.bytes + 11 = length-group g in
     let less : bytes_due first.place < length (bytes_of_group g) - 0 + group_bytes_of segments =
-    packet-less begun (bytes_of_group g) 0 r (omega (arith, long)) (ap (λ (x : Sent). x.ends_turn) same ∙ f) in
+    packet-less begun (bytes_of_group g) 0 r (omega (arith, long))
+    (ap (λ (x : Sent). x.ends_turn) same ∙ f) in
     let here : bytes_due s.place < length (bytes_of_group g) - 0 + group_bytes_of segments =
-    subst (λ (x : Sent). bytes_due x.place < length (bytes_of_group g) - 0 + group_bytes_of segments) same less in
+    subst (λ (x : Sent). bytes_due x.place
+    < length (bytes_of_group g) - 0 + group_bytes_of segments) same less in
     omega (arith, here, long)
 
 next-less : (place : Place) (u : Option UnderWay) (s : Sent) → 0 < place.room →
@@ -60,10 +71,13 @@ next-less : (place : Place) (u : Option UnderWay) (s : Sent) → 0 < place.room 
     s.ends_turn ≡ false → bytes_due s.place < bytes_due_with place u
 next-less place None s r h e f = first-less place (to_send place) s r e f
 next-less place (Some u) s r h e f =
-    let same : packet_sent place u.group u.sent ≡ s = same_Some (packet_sent place u.group u.sent) s e in
-    subst (λ (x : Sent). bytes_due x.place < length u.group - u.sent + group_bytes_of place.waiting) same
+    let same : packet_sent place u.group u.sent ≡ s =
+    same_Some (packet_sent place u.group u.sent) s e in
+    subst (λ (x : Sent). bytes_due x.place < length u.group - u.sent + group_bytes_of place.waiting)
+    same
     (packet-less place u.group u.sent r h (ap (λ (x : Sent). x.ends_turn) same ∙ f))
 
+-- each request brings the end of the turn nearer
 pub turns-end : TurnsEnd
 unfolding request
 turns-end place s p e f = next-less place place.under_way s p.room p.under_way e f

@@ -2,7 +2,8 @@
 use Rattle.std.proofs.Common.{◌≡◌, List, [], ◌∷◌, ◌++◌, Option, Some, sym, ap, ◌∙◌}
 use Rattle.std.proofs.lemmas.Option.{some_pair_parts}
 use Rattle.mot_player.specs.Laws.{ChangesGoOn, RequestsGoOn}
-use Rattle.mot_player.specs.Place.{Place, Sent, Step, Request, NewTurn, change_turn, request, sent_by}
+use Rattle.mot_player.specs.Place.{Place, Sent, Step, Request, NewTurn, change_turn, request}
+use Rattle.mot_player.specs.Place.{sent_by}
 use Rattle.mot_player.specs.Turn.{Turn}
 use Rattle.mot_player.proofs.Requests.{FirstRequest, first_request}
 
@@ -40,9 +41,11 @@ one-more_change (Request ∷ steps) place mid sents turn h =
 one-more_change (NewTurn next ∷ steps) place mid sents turn h =
     one-more_change steps (change_turn next place) mid sents turn h
 
+-- one more request goes on where the steps before left off
 pub requests-go_on : RequestsGoOn
 requests-go_on place mid steps sents s h r = one-more_request steps place mid sents s h r
 
+-- one more change of the turn goes on where the steps before left off
 pub changes-go_on : ChangesGoOn
 changes-go_on place mid steps sents turn h = one-more_change steps place mid sents turn h
 

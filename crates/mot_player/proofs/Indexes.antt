@@ -1,10 +1,11 @@
 -- The index that a group gets is the one that the contents before it give.
-use Rattle.std.proofs.Common.{◌≡◌, ℕ, ◌+◌, ◌%◌, ◌<◌, List, [], ◌∷◌, ◌++◌, Bool, true, false, Option, Some, None, refl, sym, map, length, arith, ap, ◌∙◌, append_assoc}
+use Rattle.std.proofs.Common.{◌≡◌, ℕ, ◌+◌, ◌%◌, ◌<◌, List, [], ◌∷◌, ◌++◌, Bool, true, false, Option}
+use Rattle.std.proofs.Common.{Some, None, refl, sym, map, length, arith, ap, ◌∙◌, append_assoc}
 use Rattle.std.proofs.lemmas.List.{map-append}
 use Rattle.std.proofs.lemmas.List.Elements.{filter-append}
 use Rattle.std.specs.Prelude.{◌==◌, if◌then◌else◌, filter, bytes_eq}
 use Rattle.mot_groups.specs.Group.{GroupFields, content_of, bytes_of_group}
-use Rattle.mot_player.specs.Continuity.{kind_of, index_of, contents, changes}
+use Rattle.mot_player.specs.Continuity.{kind_of, group_index, contents, changes}
 use Rattle.mot_player.specs.Place.{Last, next_index}
 
 -- what is kept of the last group is its content, and how often the content of its type has changed
@@ -25,8 +26,10 @@ one-more : (same : Bool) (last index changed : ℕ) → last ≡ changed % 16 �
 one-more true last index changed e = omega arith
 one-more false last index changed e = omega arith
 
+-- a content with its next index is the last one behind the contents before it
 pub IsLast-next : (last : Option Last) (cs : List (List ℕ)) (content : List ℕ) → IsLast last cs →
-    IsLast (Some (record { index = next_index last content; content = content })) (cs ++ content ∷ [])
+    IsLast (Some (record { index = next_index last content; content = content }))
+    (cs ++ content ∷ [])
 IsLast-next None cs content e = (cs, refl, ap (λ xs. changes (xs ++ content ∷ []) % 16) (sym e))
 IsLast-next (Some last) cs content h =
     let all : cs ++ content ∷ [] ≡ h.0 ++ last.content ∷ content ∷ [] =
@@ -41,6 +44,7 @@ IsLast-next (Some last) cs content h =
           ∙ ap (λ n. n % 16) (sym count),
     )
 
+-- the contents of a type of two runs of groups, one after the other
 pub contents-append : (kind : ℕ) (groups more : List (List ℕ)) →
     contents kind (groups ++ more) ≡ contents kind groups ++ contents kind more
 contents-append kind groups more =
@@ -49,14 +53,17 @@ contents-append kind groups more =
     (filter (λ (g : List ℕ). kind_of g == kind) more)
 
 -- the type and the index in a group's first two bytes
-pub kind_of-group : (g : GroupFields) → g.segment.kind < 16 → kind_of (bytes_of_group g) ≡ g.segment.kind
+pub kind_of-group : (g : GroupFields) → g.segment.kind < 16
+    → kind_of (bytes_of_group g) ≡ g.segment.kind
 unfolding bytes_of_group
 kind_of-group g k = omega arith
 
-pub index_of-group : (g : GroupFields) → index_of (bytes_of_group g) ≡ g.index
+-- the index in the bytes of a group is the group's
+pub group_index-group : (g : GroupFields) → group_index (bytes_of_group g) ≡ g.index
 unfolding bytes_of_group
-index_of-group g = omega arith
+group_index-group g = omega arith
 
+-- a group has at least one byte
 pub some_bytes-group : (g : GroupFields) → 0 < length (bytes_of_group g)
 unfolding bytes_of_group
 some_bytes-group g = omega arith

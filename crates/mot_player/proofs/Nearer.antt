@@ -7,11 +7,11 @@ use Rattle.std.proofs.lemmas.List.{length-replicate}
 use Rattle.std.specs.Prelude.{◌==◌, if◌then◌else◌, replicate}
 use Rattle.mot_player.specs.Inner.Next.{IsNext, segment_of}
 use Rattle.mot_player.specs.Inner.Ready.{HasTaken, place_with}
-use Rattle.mot_player.specs.State.{standing_of}
+use Rattle.mot_player.specs.State.{view_of}
 use Rattle.mot_player.specs.Laws.{blank_bodies, bytes_due, bytes_left, group_bytes_of}
 use Rattle.mot_player.specs.Place.{UnderWay}
-use Rattle.mot_player.specs.Standing.{AreBodiesFor, BodyPlan, TurnPlan, entities_of}
-use Rattle.mot_player.specs.Standing.{segments_from, turn_of}
+use Rattle.mot_player.specs.PlayerView.{AreBodiesFor, BodyPlan, TurnPlan, entities_of}
+use Rattle.mot_player.specs.PlayerView.{segments_from, turn_with}
 use Rattle.mot_player.specs.Inner.Entities.{entity_bytes, entity_length}
 use Rattle.mot_player.specs.declared.part.Part.{Part}
 use Rattle.mot_player.specs.declared.state.State.{State}
@@ -40,13 +40,14 @@ taken old new bodies p are next inside range same_turn same_size entity segment 
     let long = length-part old.turn bodies p.entity p.from p.len are inside range in
     record {
       segment = segment_of old.turn bodies p;
-      others = segments_from old.segment_size (entities_of (turn_of old.turn bodies))
+      others = segments_from old.segment_size (entities_of (turn_with old.turn bodies))
           p.next_entity p.next_segment;
       next = next bodies are;
       len = omega (arith, len, long);
       waiting = rw (same_turn, same_size, entity, segment) refl;
     }
 
+-- blank bodies have the lengths of the plan
 pub blank-lengths : (plans : List BodyPlan) →
     map (length {A = ℕ}) (map (λ (b : BodyPlan). replicate {A = ℕ} b.length 0) plans)
     ≡ map (λ (b : BodyPlan). b.length) plans
@@ -56,6 +57,7 @@ blank-lengths (b ∷ plans) =
     ap (λ (n : ℕ). n ∷ map (length {A = ℕ}) others) (length-replicate {A = ℕ} b.length 0)
     ∙ ap (λ ns. b.length ∷ ns) (blank-lengths plans)
 
+-- blank bodies are bodies for the plan
 pub are-blank : (plan : TurnPlan) → AreBodiesFor plan (blank_bodies plan)
 are-blank plan = blank-lengths plan.bodies
 
@@ -91,15 +93,15 @@ pub left-less : (old mid new : State) (ends : Bool) → mid.turn ≡ old.turn �
     ((bodies : List (List ℕ)) → AreBodiesFor old.turn bodies →
     (sent_from mid bodies).ends_turn ≡ false →
     bytes_due (sent_from mid bodies).place < bytes_due (place_with old bodies)) →
-    ends ≡ false → bytes_left (standing_of new) < bytes_left (standing_of old)
+    ends ≡ false → bytes_left (view_of new) < bytes_left (view_of old)
 left-less old mid new ends kept same ends_is place less goes_on =
     let bodies : List (List ℕ) = blank_bodies old.turn in
     let are : AreBodiesFor old.turn bodies = are-blank old.turn in
     let own : AreBodiesFor mid.turn bodies =
     subst (λ (t : TurnPlan). AreBodiesFor t bodies) (sym kept) are in
-    let here : bytes_left (standing_of new) ≡ bytes_due (sent_from mid bodies).place =
+    let here : bytes_left (view_of new) ≡ bytes_due (sent_from mid bodies).place =
     ap (λ (t : TurnPlan). bytes_due (place_with new (blank_bodies t))) (same ∙ kept)
     ∙ ap bytes_due (place bodies) in
-    let below : bytes_due (sent_from mid bodies).place < bytes_left (standing_of old) =
+    let below : bytes_due (sent_from mid bodies).place < bytes_left (view_of old) =
     less bodies are (sym (ends_is bodies own) ∙ goes_on) in
     omega (arith, here, below)

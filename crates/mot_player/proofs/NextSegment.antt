@@ -1,5 +1,7 @@
 -- The segment that comes next of a turn, and those behind it.
-use Rattle.std.proofs.Common.{◌≡◌, ℕ, suc, zero, ◌+◌, ◌-◌, ◌*◌, ◌<◌, ◌≤◌, List, [], ◌∷◌, ◌++◌, Bool, true, false, inl, inr, refl, sym, ap, ◌∙◌, subst, length, map, take, drop, min, arith, get_or, length-drop, eq-eqb, add-one}
+use Rattle.std.proofs.Common.{◌≡◌, ℕ, suc, zero, ◌+◌, ◌-◌, ◌*◌, ◌<◌, ◌≤◌, List, [], ◌∷◌, ◌++◌, Bool}
+use Rattle.std.proofs.Common.{true, false, inl, inr, refl, sym, ap, ◌∙◌, subst, length, map, take}
+use Rattle.std.proofs.Common.{drop, min, arith, get_or, length-drop, eq-eqb, add-one}
 use Rattle.std.proofs.Math.Nat.{mul-le-mul_right}
 use Rattle.std.proofs.lemmas.Bool.{cases_eq, cases_lt, eqb-true, eqb-false, ne_eqb}
 use Rattle.std.proofs.lemmas.Grind.{div_ceil_times}
@@ -12,34 +14,51 @@ use Rattle.mot_groups.specs.Entity.{first_pieces, numbered_segments}
 use Rattle.mot_groups.specs.Group.{Segment}
 use Rattle.mot_player.specs.Bodies.{body_at}
 use Rattle.mot_player.specs.Inner.Next.{due_from}
-use Rattle.mot_player.specs.Standing.{AreBodiesFor, BodyPlan, Entity, TurnPlan, entities_of, segments_from, segments_in, turn_of, with_bodies}
-use Rattle.mot_player.specs.Inner.Entities.{IsPlannable, IsWithinTurn, entity_bytes, entity_length, entity_tid}
+use Rattle.mot_player.specs.PlayerView.{AreBodiesFor, BodyPlan, Entity, TurnPlan, entities_of}
+use Rattle.mot_player.specs.PlayerView.{segments_from, segments_in, turn_with, with_bodies}
+use Rattle.mot_player.specs.Inner.Entities.{IsPlannable, IsWithinTurn, entity_bytes, entity_length}
+use Rattle.mot_player.specs.Inner.Entities.{entity_tid}
 use Rattle.mot_player.specs.Turn.{segments_of_turn}
-use Rattle.mot_player.proofs.Segments.{body_entity, length-with_bodies, segments_from-end, segments_from-whole}
+use Rattle.mot_player.proofs.Segments.{body_entity, length-with_bodies, segments_from-end}
+use Rattle.mot_player.proofs.Segments.{segments_from-whole}
 
 -- the entity at a place
 abbrev entity_at : TurnPlan → List (List ℕ) → ℕ → Entity
 entity_at plan bodies k =
-    record { kind = if k == 0 then 6 else 4; tid = entity_tid plan k; bytes = entity_bytes plan bodies k }
+    record {
+      kind = if k == 0 then 6 else 4;
+      tid = entity_tid plan k;
+      bytes =
+          entity_bytes plan bodies k;
+    }
 
 bodies-at : (plans : List BodyPlan) (bodies : List (List ℕ)) (j : ℕ) (d : Entity) →
     map length bodies ≡ map (λ (b : BodyPlan). b.length) plans → j < length plans →
     get_or (map body_entity (with_bodies plans bodies)) j d
-    ≡ record { kind = 4; tid = slice_index (map (λ (b : BodyPlan). b.tid) plans) j; bytes = body_at bodies j }
+    ≡ record {
+      kind = 4;
+      tid = slice_index (map (λ (b : BodyPlan). b.tid) plans) j;
+      bytes =
+          body_at bodies j;
+    }
 bodies-at [] bodies j d e l = absurd (omega arith)
 bodies-at (b ∷ plans) [] j d e l = absurd (omega (arith, ap length e))
 bodies-at (b ∷ plans) (x ∷ bodies) zero d e l = refl
-bodies-at (b ∷ plans) (x ∷ bodies) (suc j) d e l = bodies-at plans bodies j d (ap (drop 1) e) (omega arith)
+bodies-at (b ∷ plans) (x ∷ bodies) (suc j) d e l =
+    bodies-at plans bodies j d (ap (drop 1) e) (omega arith)
 
-entities-at : (plan : TurnPlan) (bodies : List (List ℕ)) (k : ℕ) (d : Entity) → AreBodiesFor plan bodies →
-    k < length plan.bodies + 1 → get_or (entities_of (turn_of plan bodies)) k d ≡ entity_at plan bodies k
+entities-at : (plan : TurnPlan) (bodies : List (List ℕ)) (k : ℕ) (d : Entity)
+    → AreBodiesFor plan bodies →
+    k < length plan.bodies + 1
+    → get_or (entities_of (turn_with plan bodies)) k d ≡ entity_at plan bodies k
 entities-at plan bodies zero d e l = refl
 entities-at plan bodies (suc j) d e l =
     let less : suc j - 1 ≡ j = omega arith in
-    rw (ne_eqb (suc j) 0 (λ z. omega arith), less) (bodies-at plan.bodies bodies j d e (omega arith))
+    rw (ne_eqb (suc j) 0 (λ z. omega arith), less)
+    (bodies-at plan.bodies bodies j d e (omega arith))
 
 length-entities : (plan : TurnPlan) (bodies : List (List ℕ)) → AreBodiesFor plan bodies →
-    length (entities_of (turn_of plan bodies)) ≡ length plan.bodies + 1
+    length (entities_of (turn_with plan bodies)) ≡ length plan.bodies + 1
 length-entities plan bodies e =
     let n : length (map body_entity (with_bodies plan.bodies bodies)) ≡ length plan.bodies =
     length-with_bodies plan.bodies bodies e in omega (arith, n)
@@ -48,7 +67,8 @@ length-lengths : (bodies : List (List ℕ)) → length (map length bodies) ≡ l
 length-lengths [] = refl
 length-lengths (x ∷ bodies) = ap suc (length-lengths bodies)
 
-length-plan_lengths : (plans : List BodyPlan) → length (map (λ (b : BodyPlan). b.length) plans) ≡ length plans
+length-plan_lengths : (plans : List BodyPlan)
+    → length (map (λ (b : BodyPlan). b.length) plans) ≡ length plans
 length-plan_lengths [] = refl
 length-plan_lengths (x ∷ plans) = ap suc (length-plan_lengths plans)
 
@@ -58,7 +78,9 @@ length-body [] j l = absurd (omega arith)
 length-body (x ∷ bodies) zero l = refl
 length-body (x ∷ bodies) (suc j) l = length-body bodies j (omega arith)
 
-pub length-at : (plan : TurnPlan) (bodies : List (List ℕ)) (k : ℕ) → AreBodiesFor plan bodies → k < length plan.bodies + 1 →
+-- an entity's bytes, with the bodies, are as many as planned
+pub length-at : (plan : TurnPlan) (bodies : List (List ℕ)) (k : ℕ) → AreBodiesFor plan bodies
+    → k < length plan.bodies + 1 →
     length (entity_bytes plan bodies k) ≡ entity_length plan k
 length-at plan bodies zero e l = refl
 length-at plan bodies (suc j) e l =
@@ -73,12 +95,14 @@ length-at plan bodies (suc j) e l =
 -- the segments from one of an entity on
 from-at : (size : ℕ) (entities : List Entity) (k s : ℕ) (d : Entity) → k < length entities →
     segments_from size entities k s
-    ≡ drop s (segments_in size (get_or entities k d)) ++ flat_map (segments_in size) (drop (suc k) entities)
+    ≡ drop s (segments_in size (get_or entities k d))
+    ++ flat_map (segments_in size) (drop (suc k) entities)
 from-at size [] k s d l = absurd (omega arith)
 from-at size (x ∷ entities) zero s d l = refl
 from-at size (x ∷ entities) (suc k) s d l = from-at size entities k s d (omega arith)
 
-from-first : (size : ℕ) (entities : List Entity) → segments_from size entities 0 0 ≡ flat_map (segments_in size) entities
+from-first : (size : ℕ) (entities : List Entity)
+    → segments_from size entities 0 0 ≡ flat_map (segments_in size) entities
 from-first size [] = refl
 from-first size (x ∷ entities) = refl
 
@@ -92,11 +116,14 @@ length-first_pieces : (n size : ℕ) (bytes : List ℕ) → length (first_pieces
 length-first_pieces zero size bytes = refl
 length-first_pieces (suc n) size bytes = ap suc (length-first_pieces n size (drop size bytes))
 
-length-numbered_segments : (kind tid number : ℕ) (ps : List (List ℕ)) → length (numbered_segments kind tid number ps) ≡ length ps
+length-numbered_segments : (kind tid number : ℕ) (ps : List (List ℕ))
+    → length (numbered_segments kind tid number ps) ≡ length ps
 length-numbered_segments kind tid number [] = refl
-length-numbered_segments kind tid number (p ∷ ps) = ap suc (length-numbered_segments kind tid (number + 1) ps)
+length-numbered_segments kind tid number (p ∷ ps) =
+    ap suc (length-numbered_segments kind tid (number + 1) ps)
 
-none_behind : (c size : ℕ) (bytes : List ℕ) (last : Bool) → (last ≡ true → 1 ≡ suc c) → (last ≡ false → 1 < suc c) →
+none_behind : (c size : ℕ) (bytes : List ℕ) (last : Bool) → (last ≡ true → 1 ≡ suc c)
+    → (last ≡ false → 1 < suc c) →
     is_empty (first_pieces c size bytes) ≡ last
 none_behind zero size bytes true t f = refl
 none_behind zero size bytes false t f = absurd (omega (arith, f refl))
@@ -107,7 +134,8 @@ abbrev segment : ℕ → ℕ → ℕ → Bool → List ℕ → Segment
 segment kind tid number last bytes =
     record { kind = kind; tid = tid; number = number; last = last; bytes = bytes }
 
-piece-at : (kind tid number size c s : ℕ) (bytes : List ℕ) (last : Bool) → s < c → (last ≡ true → suc s ≡ c) →
+piece-at : (kind tid number size c s : ℕ) (bytes : List ℕ) (last : Bool) → s < c
+    → (last ≡ true → suc s ≡ c) →
     (last ≡ false → suc s < c) →
     drop s (numbered_segments kind tid number (first_pieces c size bytes))
     ≡ segment kind tid (number + s) last (take size (drop (s * size) bytes))
@@ -118,30 +146,38 @@ piece-at kind tid number size (suc c) zero bytes last l t f =
     none_behind c size (drop size bytes) last (λ h. omega (arith, t h)) (λ h. omega (arith, f h)) in
     let same : number ≡ number + 0 = omega arith in
     let first : 0 ≡ 0 * size = omega arith in
-    let rest : List Segment = numbered_segments kind tid (number + 1) (first_pieces c size (drop size bytes)) in
+    let rest : List Segment =
+    numbered_segments kind tid (number + 1) (first_pieces c size (drop size bytes)) in
     ap (λ b. segment kind tid number b (take size bytes) ∷ rest) none
     ∙ ap (λ n. segment kind tid n last (take size bytes) ∷ rest) same
     ∙ ap (λ at. segment kind tid (number + 0) last (take size (drop at bytes)) ∷ rest) first
 piece-at kind tid number size (suc c) (suc s) bytes last l t f =
-    let rest : List Segment = drop (suc s) (numbered_segments kind tid (number + 1) (first_pieces c size (drop size bytes))) in
+    let rest : List Segment =
+    drop (suc s) (numbered_segments kind tid (number + 1)
+    (first_pieces c size (drop size bytes))) in
     let same : number + 1 + s ≡ number + suc s = omega arith in
     let place : size + s * size ≡ suc s * size = omega arith in
-    piece-at kind tid (number + 1) size c s (drop size bytes) last (omega arith) (λ h. omega (arith, t h)) (λ h. omega (arith, f h))
+    piece-at kind tid (number + 1) size c s (drop size bytes) last (omega arith)
+    (λ h. omega (arith, t h)) (λ h. omega (arith, f h))
     ∙ ap (λ n. segment kind tid n last (take size (drop (s * size) (drop size bytes))) ∷ rest) same
-    ∙ ap (λ bs. segment kind tid (number + suc s) last (take size bs) ∷ rest) (drop-drop (s * size) size bytes)
+    ∙ ap (λ bs. segment kind tid (number + suc s) last (take size bs) ∷ rest)
+    (drop-drop (s * size) size bytes)
     ∙ ap (λ at. segment kind tid (number + suc s) last (take size (drop at bytes)) ∷ rest) place
 
 -- how many pieces there are, against where one begins
-module _ (size s count len : ℕ) (some : 0 < size) (enough : len ≤ count * size) (few : count * size < len + size) where
+module _ (size s count len : ℕ) (some : 0 < size) (enough : len ≤ count * size)
+    (few : count * size < len + size) where
   below : s * size < len → s < count
   below l = elim (cases_lt s count) [
     | inl h ↦ h
-    | inr h ↦ (let more : count * size ≤ s * size = mul-le-mul_right size h in absurd (omega (arith, more, l, enough)))
+    | inr h ↦ (let more : count * size ≤ s * size = mul-le-mul_right size h in
+        absurd (omega (arith, more, l, enough)))
   ]
 
   is_end : s < count → len ≤ s * size + size → suc s ≡ count
   is_end l h = elim (cases_lt (suc s) count) [
-    | inl k ↦ (let more : (s + 2) * size ≤ count * size = mul-le-mul_right size (let e : s + 2 ≤ count = omega arith in e) in
+    | inl k ↦ (let more : (s + 2) * size ≤ count * size =
+        mul-le-mul_right size (let e : s + 2 ≤ count = omega arith in e) in
         absurd (omega (arith, more, few, h)))
     | inr k ↦ omega arith
   ]
@@ -149,7 +185,8 @@ module _ (size s count len : ℕ) (some : 0 < size) (enough : len ≤ count * si
   not_end : s * size + size < len → suc s < count
   not_end l = elim (cases_lt (suc s) count) [
     | inl h ↦ h
-    | inr h ↦ (let more : count * size ≤ (s + 1) * size = mul-le-mul_right size (let e : count ≤ s + 1 = omega arith in e) in
+    | inr h ↦ (let more : count * size ≤ (s + 1) * size =
+        mul-le-mul_right size (let e : count ≤ s + 1 = omega arith in e) in
         absurd (omega (arith, more, l, enough)))
   ]
 
@@ -160,23 +197,36 @@ eqb-cases a b t same other = elim (cases_eq a b) [
 ]
 
 -- a segment is an entity's last exactly where it reaches the entity's end
-pub is_last-count : (size s len at n : ℕ) → 0 < size → s * size < len → at ≡ s * size → n ≡ min (len - at) size →
+pub is_last-count : (size s len at n : ℕ) → 0 < size → s * size < len → at ≡ s * size
+    → n ≡ min (len - at) size →
     (s + 1 == div_ceil len size) ≡ (at + n == len)
 is_last-count size s len at n some begins a e =
     let count : ℕ = div_ceil len size in
     let all = div_ceil_times len size some in
     let inside : s < count = below size s count len some all.0 all.1 begins in
     sym (eqb-cases (at + n) len (s + 1 == count)
-    (λ h. eq-eqb (s + 1) count (let end : suc s ≡ count = is_end size s count len some all.0 all.1 inside (omega (arith, a, e, h)) in omega (arith, end)))
-    (λ h. ne_eqb (s + 1) count (λ k. let more : suc s < count = not_end size s count len some all.0 all.1 (omega (arith, a, e, h, begins)) in omega (arith, more, k))))
+    (λ h. eq-eqb (s + 1) count
+    (let end : suc s ≡ count =
+    is_end size s count len some all.0 all.1 inside (omega (arith, a, e, h)) in
+    omega (arith, end)))
+    (λ h. ne_eqb (s + 1) count
+    (λ k. let more : suc s < count =
+    not_end size s count len some all.0 all.1 (omega (arith, a, e, h, begins)) in
+    omega (arith, more, k))))
 
 -- the part of an entity that is a segment
 pub record IsPart (size s length_is at len : ℕ) (is_last : Bool) : Type 0 where
+  -- it begins behind so many segments of the size
   pub from : at ≡ s * size
+  -- it begins within the entity
   pub begins : s * size < length_is
+  -- it ends within the entity
   pub range : at + len ≤ length_is
+  -- it is not longer than a segment
   pub short : len ≤ size
+  -- it is a full segment where more of the entity follows
   pub full : at + len < length_is → len ≡ size
+  -- it is the last one where it reaches the entity's end
   pub last : is_last ≡ (at + len == length_is)
 
 true_is : true ≡ false → ⊥
@@ -202,10 +252,13 @@ segment-in size e s at len true some p rest =
     let all = div_ceil_times (length e.bytes) size some in
     let ends : at + len ≡ length e.bytes = eqb-true (at + len) (length e.bytes) (sym p.last) in
     let inside : s < count = below size s count (length e.bytes) some all.0 all.1 p.begins in
-    let end : suc s ≡ count = is_end size s count (length e.bytes) some all.0 all.1 inside (omega (arith, p.from, p.short, ends)) in
+    let end : suc s ≡ count =
+    is_end size s count (length e.bytes) some all.0 all.1 inside
+    (omega (arith, p.from, p.short, ends)) in
     let left : length (drop at e.bytes) ≡ length e.bytes - at = length-drop at e.bytes in
     let here : take size (drop (s * size) e.bytes) ≡ take len (drop at e.bytes) =
-    ap (λ n. take size (drop n e.bytes)) (sym p.from) ∙ take_all size (drop at e.bytes) (omega (arith, left, p.short, ends))
+    ap (λ n. take size (drop n e.bytes)) (sym p.from)
+    ∙ take_all size (drop at e.bytes) (omega (arith, left, p.short, ends))
     ∙ sym (take_all len (drop at e.bytes) (omega (arith, left, ends))) in
     let none : drop (suc s) (segments_in size e) ≡ [] =
     drop_all (suc s) (segments_in size e) (omega (
@@ -215,70 +268,92 @@ segment-in size e s at len true some p rest =
       end,
     )) in
     let number : 0 + s ≡ s = omega arith in
-    ap (λ ss. ss ++ rest) (piece-at e.kind e.tid 0 size count s e.bytes true inside (λ h. end) (λ h. absurd (true_is h)))
-    ∙ ap (λ ss. segment e.kind e.tid (0 + s) true (take size (drop (s * size) e.bytes)) ∷ (ss ++ rest)) none
+    ap (λ ss. ss ++ rest) (piece-at e.kind e.tid 0 size count s e.bytes true inside (λ h. end)
+    (λ h. absurd (true_is h)))
+    ∙ ap (λ ss. segment e.kind e.tid (0 + s) true (take size (drop (s * size) e.bytes))
+    ∷ (ss ++ rest)) none
     ∙ ap (λ n. segment e.kind e.tid n true (take size (drop (s * size) e.bytes)) ∷ rest) number
     ∙ ap (λ bs. segment e.kind e.tid s true bs ∷ rest) here
 segment-in size e s at len false some p rest =
     let count : ℕ = div_ceil (length e.bytes) size in
     let all = div_ceil_times (length e.bytes) size some in
-    let goes_on : at + len ≡ length e.bytes → ⊥ = eqb-false (at + len) (length e.bytes) (sym p.last) in
+    let goes_on : at + len ≡ length e.bytes
+    → ⊥ = eqb-false (at + len) (length e.bytes) (sym p.last) in
     let more : at + len < length e.bytes = omega (arith, p.range, goes_on) in
     let whole : len ≡ size = p.full more in
     let inside : s < count = below size s count (length e.bytes) some all.0 all.1 p.begins in
-    let later : suc s < count = not_end size s count (length e.bytes) some all.0 all.1 (omega (arith, p.from, whole, more)) in
+    let later : suc s < count =
+    not_end size s count (length e.bytes) some all.0 all.1
+    (omega (arith, p.from, whole, more)) in
     let number : 0 + s ≡ s = omega arith in
     let behind : List Segment = drop (suc s) (segments_in size e) ++ rest in
-    ap (λ ss. ss ++ rest) (piece-at e.kind e.tid 0 size count s e.bytes false inside (λ h. absurd (true_is (sym h))) (λ h. later))
+    ap (λ ss. ss ++ rest) (piece-at e.kind e.tid 0 size count s e.bytes false inside
+    (λ h. absurd (true_is (sym h))) (λ h. later))
     ∙ ap (λ n. segment e.kind e.tid n false (take size (drop (s * size) e.bytes)) ∷ behind) number
     ∙ ap (λ n. segment e.kind e.tid s false (take size (drop n e.bytes)) ∷ behind) (sym p.from)
     ∙ ap (λ n. segment e.kind e.tid s false (take n (drop at e.bytes)) ∷ behind) (sym whole)
 
 -- the same in a turn
-from-part : (plan : TurnPlan) (bodies : List (List ℕ)) (size k s at len : ℕ) (is_last : Bool) → 0 < size →
-    AreBodiesFor plan bodies → k < length plan.bodies + 1 → IsPart size s (entity_length plan k) at len is_last →
-    segments_from size (entities_of (turn_of plan bodies)) k s
-    ≡ segment (if k == 0 then 6 else 4) (entity_tid plan k) s is_last (take len (drop at (entity_bytes plan bodies k)))
-    ∷ segments_from size (entities_of (turn_of plan bodies)) (if is_last then k + 1 else k) (if is_last then 0 else s + 1)
+from-part : (plan : TurnPlan) (bodies : List (List ℕ)) (size k s at len : ℕ) (is_last : Bool)
+    → 0 < size →
+    AreBodiesFor plan bodies → k < length plan.bodies + 1
+    → IsPart size s (entity_length plan k) at len is_last →
+    segments_from size (entities_of (turn_with plan bodies)) k s
+    ≡ segment (if k == 0 then 6 else 4) (entity_tid plan k) s is_last
+    (take len (drop at (entity_bytes plan bodies k)))
+    ∷ segments_from size (entities_of (turn_with plan bodies)) (if is_last then k + 1 else k)
+    (if is_last then 0 else s + 1)
 from-part plan bodies size k s at len is_last some e l p =
-    let entities : List Entity = entities_of (turn_of plan bodies) in
+    let entities : List Entity = entities_of (turn_with plan bodies) in
     let x : Entity = entity_at plan bodies k in
     let inside : k < length entities = omega (arith, length-entities plan bodies e) in
     let rest : List Segment = flat_map (segments_in size) (drop (suc k) entities) in
     let own : IsPart size s (length x.bytes) at len is_last =
     subst (λ n. IsPart size s n at len is_last) (sym (length-at plan bodies k e l)) p in
-    let this : (n : ℕ) → segments_from size entities k n ≡ drop n (segments_in size x) ++ rest = λ n.
-    from-at size entities k n x inside ∙ ap (λ y. drop n (segments_in size y) ++ rest) (entities-at plan bodies k x e l) in
+    let this : (n : ℕ) → segments_from size entities k n ≡ drop n (segments_in size x) ++ rest =
+    λ n.
+    from-at size entities k n x inside
+    ∙ ap (λ y. drop n (segments_in size y) ++ rest) (entities-at plan bodies k x e l) in
     this s ∙ segment-in size x s at len is_last some own rest
     ∙ ap (λ ss. segment x.kind x.tid s is_last (take len (drop at x.bytes)) ∷ ss)
     (behind is_last size entities k s (drop (suc s) (segments_in size x) ++ rest) rest
     (from-next size entities k inside) (this (suc s)))
 
 -- whatever the bodies, the part is the first segment that is due
-pub is_next : (plan : TurnPlan) (size k s at len : ℕ) (is_last : Bool) (bodies : List (List ℕ)) → 0 < size →
-    AreBodiesFor plan bodies → k < length plan.bodies + 1 → IsPart size s (entity_length plan k) at len is_last →
+pub is_next : (plan : TurnPlan) (size k s at len : ℕ) (is_last : Bool) (bodies : List (List ℕ))
+    → 0 < size →
+    AreBodiesFor plan bodies → k < length plan.bodies + 1
+    → IsPart size s (entity_length plan k) at len is_last →
     due_from plan bodies size k s
-    ≡ segment (if k == 0 then 6 else 4) (entity_tid plan k) s is_last (take len (drop at (entity_bytes plan bodies k)))
-    ∷ segments_from size (entities_of (turn_of plan bodies)) (if is_last then k + 1 else k) (if is_last then 0 else s + 1)
+    ≡ segment (if k == 0 then 6 else 4) (entity_tid plan k) s is_last
+    (take len (drop at (entity_bytes plan bodies k)))
+    ∷ segments_from size (entities_of (turn_with plan bodies)) (if is_last then k + 1 else k)
+    (if is_last then 0 else s + 1)
 is_next plan size k s at len is_last bodies some e l p =
-    ap (λ w. if is_empty w then segments_of_turn (turn_of plan bodies) size else w)
+    ap (λ w. if is_empty w then segments_of_turn (turn_with plan bodies) size else w)
     (from-part plan bodies size k s at len is_last some e l p)
 
-pub is_next-whole : (plan : TurnPlan) (size k at len : ℕ) (is_last : Bool) (bodies : List (List ℕ)) → 0 < size →
-    AreBodiesFor plan bodies → k ≡ length plan.bodies + 1 → IsPart size 0 (entity_length plan 0) at len is_last →
+-- at the end of a turn the directory's first part is due, and then the whole turn's others
+pub is_next-whole : (plan : TurnPlan) (size k at len : ℕ) (is_last : Bool) (bodies : List (List ℕ))
+    → 0 < size →
+    AreBodiesFor plan bodies → k ≡ length plan.bodies + 1
+    → IsPart size 0 (entity_length plan 0) at len is_last →
     due_from plan bodies size k 0
     ≡ segment 6 plan.tid 0 is_last (take len (drop at plan.directory))
-    ∷ segments_from size (entities_of (turn_of plan bodies)) (if is_last then 0 + 1 else 0) (if is_last then 0 else 0 + 1)
+    ∷ segments_from size (entities_of (turn_with plan bodies)) (if is_last then 0 + 1 else 0)
+    (if is_last then 0 else 0 + 1)
 is_next-whole plan size k at len is_last bodies some e l p =
-    ap (λ w. if is_empty w then segments_of_turn (turn_of plan bodies) size else w)
+    ap (λ w. if is_empty w then segments_of_turn (turn_with plan bodies) size else w)
     (segments_from-end plan bodies size k e l)
-    ∙ sym (segments_from-whole (turn_of plan bodies) size)
+    ∙ sym (segments_from-whole (turn_with plan bodies) size)
     ∙ from-part plan bodies size 0 0 at len is_last some e (omega arith) p
 
 -- nothing waits exactly past the last entity
-pub waits-none : (plan : TurnPlan) (bodies : List (List ℕ)) (size k s : ℕ) → 0 < size → AreBodiesFor plan bodies →
+pub waits-none : (plan : TurnPlan) (bodies : List (List ℕ)) (size k s : ℕ) → 0 < size
+    → AreBodiesFor plan bodies →
     IsWithinTurn plan size k s →
-    is_empty (segments_from size (entities_of (turn_of plan bodies)) k s) ≡ (k == length plan.bodies + 1)
+    is_empty (segments_from size (entities_of (turn_with plan bodies)) k s)
+    ≡ (k == length plan.bodies + 1)
 waits-none plan bodies size k s some e (inl h) =
     let l : k < length plan.bodies + 1 = h.0 in
     let begins : s * size < entity_length plan k = h.1 in
@@ -286,13 +361,22 @@ waits-none plan bodies size k s some e (inl h) =
     let len : ℕ = min (entity_length plan k - at) size in
     let is_last : Bool = at + len == entity_length plan k in
     let p : IsPart size s (entity_length plan k) at len is_last =
-    record { from = refl; begins = begins; range = omega arith; short = omega arith; full = λ h. omega arith; last = refl } in
+    record {
+      from = refl;
+      begins = begins;
+      range = omega arith;
+      short = omega arith;
+      full = λ h.
+          omega arith;
+      last = refl;
+    } in
     ap is_empty (from-part plan bodies size k s at len is_last some e l p)
     ∙ sym (ne_eqb k (length plan.bodies + 1) (λ z. omega arith))
 waits-none plan bodies size k s some e (inr h) =
     let l : k ≡ length plan.bodies + 1 = h.0 in
-    ap (λ n. is_empty (segments_from size (entities_of (turn_of plan bodies)) k n)) h.1
-    ∙ ap is_empty (segments_from-end plan bodies size k e l) ∙ sym (eq-eqb k (length plan.bodies + 1) l)
+    ap (λ n. is_empty (segments_from size (entities_of (turn_with plan bodies)) k n)) h.1
+    ∙ ap is_empty (segments_from-end plan bodies size k e l)
+    ∙ sym (eq-eqb k (length plan.bodies + 1) l)
 
 -- the place behind a part is within the turn
 some-length : (plans : List BodyPlan) (j : ℕ) → j < length plans →
@@ -302,12 +386,15 @@ some-length [] j l h = absurd (omega arith)
 some-length (b ∷ plans) zero l h = let low : 1 ≤ b.length = h.0.0 in omega arith
 some-length (b ∷ plans) (suc j) l h = some-length plans j (omega arith) h.1
 
-entity-some : (plan : TurnPlan) (k : ℕ) → IsPlannable plan → k < length plan.bodies + 1 → 0 < entity_length plan k
+entity-some : (plan : TurnPlan) (k : ℕ) → IsPlannable plan → k < length plan.bodies + 1
+    → 0 < entity_length plan k
 entity-some plan zero p l = p.some
 entity-some plan (suc j) p l =
     let less : suc j - 1 ≡ j = omega arith in
-    rw (ne_eqb (suc j) 0 (λ z. omega arith), less) (some-length plan.bodies j (omega arith) p.bodies)
+    rw (ne_eqb (suc j) 0 (λ z. omega arith), less)
+    (some-length plan.bodies j (omega arith) p.bodies)
 
+-- behind a part of an entity comes another segment of the turn, or its end
 pub within-next : (plan : TurnPlan) (size k s at len : ℕ) (is_last : Bool) → IsPlannable plan →
     k < length plan.bodies + 1 → IsPart size s (entity_length plan k) at len is_last →
     IsWithinTurn plan size (if is_last then k + 1 else k) (if is_last then 0 else s + 1)
@@ -318,7 +405,8 @@ within-next plan size k s at len true plannable l p =
       | inr h ↦ inr (omega arith, refl)
     ]
 within-next plan size k s at len false plannable l p =
-    let goes_on : at + len ≡ entity_length plan k → ⊥ = eqb-false (at + len) (entity_length plan k) (sym p.last) in
+    let goes_on : at + len ≡ entity_length plan k
+    → ⊥ = eqb-false (at + len) (entity_length plan k) (sym p.last) in
     let more : at + len < entity_length plan k = omega (arith, p.range, goes_on) in
     let whole : len ≡ size = p.full more in
     let next : (s + 1) * size < entity_length plan k = omega (arith, p.from, whole, more) in
@@ -328,11 +416,16 @@ within-next plan size k s at len false plannable l p =
 pub within-first : (plan : TurnPlan) (size : ℕ) → IsPlannable plan → 0 * size < entity_length plan 0
 within-first plan size p = let first : 0 * size ≡ 0 = omega arith in rw first p.some
 
-pub first-at-end : (plan : TurnPlan) (size k s : ℕ) → IsWithinTurn plan size k s → k ≡ length plan.bodies + 1 → s ≡ 0
-first-at-end plan size k s (inl h) e = let l : k < length plan.bodies + 1 = h.0 in absurd (omega arith)
+-- at the end of the turn no segment of an entity was begun
+pub first-at-end : (plan : TurnPlan) (size k s : ℕ) → IsWithinTurn plan size k s
+    → k ≡ length plan.bodies + 1 → s ≡ 0
+first-at-end plan size k s (inl h) e = let l : k < length plan.bodies + 1 = h.0 in
+    absurd (omega arith)
 first-at-end plan size k s (inr h) e = h.1
 
-pub inside-turn : (plan : TurnPlan) (size k s : ℕ) → IsWithinTurn plan size k s → (k ≡ length plan.bodies + 1 → ⊥) →
+-- before the end of the turn the next segment lies within an entity
+pub inside-turn : (plan : TurnPlan) (size k s : ℕ) → IsWithinTurn plan size k s
+    → (k ≡ length plan.bodies + 1 → ⊥) →
     (k < length plan.bodies + 1) × (s * size < entity_length plan k)
 inside-turn plan size k s (inl h) e = h
 inside-turn plan size k s (inr h) e = absurd (e h.0)

@@ -6,7 +6,7 @@ use Rattle.std.proofs.lemmas.List.{length-replicate}
 use Rattle.std.specs.Prelude.{replicate, slice_index}
 use Rattle.mot_player.specs.Bodies.{body_at}
 use Rattle.mot_player.specs.Laws.{blank_bodies}
-use Rattle.mot_player.specs.Standing.{AreBodiesFor, BodyPlan, TurnPlan}
+use Rattle.mot_player.specs.PlayerView.{AreBodiesFor, BodyPlan, TurnPlan}
 use Rattle.mot_player.specs.Inner.Entities.{entity_bytes, entity_length}
 use Rattle.mot_player.proofs.Nearer.{are-blank, blank-lengths}
 
@@ -82,7 +82,8 @@ some_bodies plan (suc k) from bytes within fits own =
     let inside : k < length plan.bodies = omega (arith, within) in
     let some : List (List ℕ) = with_part plan.bodies k from bytes in
     let less : suc k - 1 ≡ k = omega arith in
-    let is : entity_length plan (suc k) ≡ slice_index (map (λ (b : BodyPlan). b.length) plan.bodies) k =
+    let is : entity_length plan (suc k)
+    ≡ slice_index (map (λ (b : BodyPlan). b.length) plan.bodies) k =
     rw (ne_eqb (suc k) 0 (λ z. omega arith), less) refl in
     let has : entity_bytes plan some (suc k) ≡ body_at some k =
     rw (ne_eqb (suc k) 0 (λ z. omega arith), less) refl in (

@@ -1,5 +1,7 @@
 -- The packets of a turn gather to its groups, and these read as its carousel.
-use Rattle.std.proofs.Common.{◌≡◌, ℕ, suc, zero, ◌+◌, ◌*◌, ◌%◌, ◌^◌, ◌<◌, ◌≤◌, List, [], ◌∷◌, ◌++◌, Bool, true, false, ◌&&◌, Option, Some, None, ◌⊎◌, inl, inr, refl, sym, subst, length, map, take, drop, replicate, All, ap, ◌∙◌, arith}
+use Rattle.std.proofs.Common.{◌≡◌, ℕ, suc, zero, ◌+◌, ◌*◌, ◌%◌, ◌^◌, ◌<◌, ◌≤◌, List, [], ◌∷◌, ◌++◌}
+use Rattle.std.proofs.Common.{Bool, true, false, ◌&&◌, Option, Some, None, ◌⊎◌, inl, inr, refl, sym}
+use Rattle.std.proofs.Common.{subst, length, map, take, drop, replicate, All, ap, ◌∙◌, arith}
 use Rattle.std.proofs.Math.Nat.{mul-le-mul_right}
 use Rattle.std.proofs.lemmas.Bool.{cases_lt, false≢true}
 use Rattle.std.proofs.lemmas.Grind.{div_ceil_times}
@@ -13,16 +15,20 @@ use Rattle.mot_packets.specs.Cut.{piece_at}
 use Rattle.mot_packets.specs.Gather.{groups_after, gather_front, gather}
 use Rattle.mot_packets.specs.Packet.{PacketFields, read_packet}
 use Rattle.mot_groups.specs.Entity.{first_pieces, numbered_segments, pieces, segments_of}
-use Rattle.mot_groups.specs.Group.{Segment, GroupFields, IsGroup, read_group, bytes_of_group, segment_content}
+use Rattle.mot_groups.specs.Group.{Segment, GroupFields, IsGroup, read_group, bytes_of_group}
+use Rattle.mot_groups.specs.Group.{segment_content}
 use Rattle.mot_carousel.specs.Carousel.{Object, Carousel, IsSound}
 use Rattle.mot_player.specs.Laws.{AreSent, IsAtTurnsBeginning, IsPlace, TurnsReadAsTheirCarousels}
-use Rattle.mot_player.specs.Place.{Last, Place, Sent, Request, next_index, group_for, with_begun, packet_sent, first_sent, to_send, next_sent, request, sent_by}
+use Rattle.mot_player.specs.Place.{Last, Place, Sent, Request, next_index, group_for, with_begun}
+use Rattle.mot_player.specs.Place.{packet_sent, first_sent, to_send, next_sent, request, sent_by}
 use Rattle.mot_player.specs.Reading.{ReadsAs, read_turn}
-use Rattle.mot_player.specs.Turn.{Turn, IsTurnOf, IsPlayable, IsSendable, bodies_of, segments_of_turn, segments_of_bodies}
+use Rattle.mot_player.specs.Turn.{Turn, IsTurnOf, IsPlayable, IsSendable, bodies_with_ids}
+use Rattle.mot_player.specs.Turn.{segments_of_turn, segments_of_bodies}
 use Rattle.mot_packets.proofs.Laws.{groups_after-last_piece, groups_after-piece, more_left}
 use Rattle.mot_groups.proofs.Laws.{IsCut-pieces, entity_of-own, read_group-bytes_of_group}
 use Rattle.mot_player.proofs.Indexes.{some_bytes-group}
-use Rattle.mot_player.proofs.Requests.{FirstRequest, first_request, no_steps, packets_of, place_behind}
+use Rattle.mot_player.proofs.Requests.{FirstRequest, first_request, no_steps, packets_of}
+use Rattle.mot_player.proofs.Requests.{place_behind}
 use Rattle.mot_player.proofs.Addresses.{one_address, steps-address}
 use Rattle.mot_player.proofs.TurnReads.{EntityLaws, read_segments-turn}
 
@@ -39,15 +45,18 @@ record IsFit (s : Segment) : Type 0 where
   some : 0 < length s.bytes
   fits : length s.bytes + 2 ≤ 8191
 
-are_fit-numbered_segments : (kind tid number size : ℕ) (ps : List (List ℕ)) → kind < 16 → (0 < tid) × (tid < 2 ^ 16) →
-    number + length ps ≤ 2 ^ 15 → All (λ p. 0 < length p) ps → All (λ p. length p ≤ size) ps → size ≤ 8189 →
+are_fit-numbered_segments : (kind tid number size : ℕ) (ps : List (List ℕ)) → kind < 16
+    → (0 < tid) × (tid < 2 ^ 16) →
+    number + length ps ≤ 2 ^ 15 → All (λ p. 0 < length p) ps → All (λ p. length p ≤ size) ps
+    → size ≤ 8189 →
     AllByRecursion IsFit (numbered_segments kind tid number ps)
 are_fit-numbered_segments kind tid number size [] k t n some short s = tt
 are_fit-numbered_segments kind tid number size (p ∷ ps) k t n some short s =
     let own : 0 < length p = All-head (λ p. 0 < length p) p ps some in
     let most : length p ≤ size = All-head (λ p. length p ≤ size) p ps short in (
       record { kind = k; tid = t; number = omega arith; some = own; fits = omega arith },
-      are_fit-numbered_segments kind tid (number + 1) size ps k t (omega arith) (All-tail (λ p. 0 < length p) p ps some)
+      are_fit-numbered_segments kind tid (number + 1) size ps k t (omega arith)
+          (All-tail (λ p. 0 < length p) p ps some)
           (All-tail (λ p. length p ≤ size) p ps short) s,
     )
 
@@ -58,7 +67,8 @@ length-first_pieces (suc n) size bytes = ap suc (length-first_pieces n size (dro
 few : (count size bytes : ℕ) → bytes ≤ 32768 * size → count * size < bytes + size → count ≤ 32768
 few count size bytes most less =
     elim (cases_lt 32768 count) [
-      | inl many ↦ (let more : 32769 * size ≤ count * size = mul-le-mul_right size (let e : 32769 ≤ count = omega arith in e) in
+      | inl many ↦ (let more : 32769 * size ≤ count * size =
+          mul-le-mul_right size (let e : 32769 ≤ count = omega arith in e) in
           absurd (omega (arith, more, less, most)))
       | inr enough ↦ enough
     ]
@@ -72,7 +82,8 @@ few_pieces size bytes some most =
     let enough : count ≤ 32768 = few count size (length bytes) most all.1 in
     rw (length-first_pieces count size bytes) enough
 
-append-fit : (xs ys : List Segment) → AllByRecursion IsFit xs → AllByRecursion IsFit ys → AllByRecursion IsFit (xs ++ ys)
+append-fit : (xs ys : List Segment) → AllByRecursion IsFit xs → AllByRecursion IsFit ys
+    → AllByRecursion IsFit (xs ++ ys)
 append-fit [] ys p q = q
 append-fit (x ∷ xs) ys p q = (p.0, append-fit xs ys p.1 q)
 
@@ -80,26 +91,32 @@ abbrev IsId : ℕ → Type 0
 IsId id = (1 ≤ id) × (id ≤ 65535)
 
 module _ (size : ℕ) (laws : EntityLaws size) (s : size ≤ 8189) where
-  are_fit-entity : (kind tid : ℕ) (bytes : List ℕ) → kind < 16 → (1 ≤ tid) × (tid ≤ 65535) → IsSendable size bytes →
+  are_fit-entity : (kind tid : ℕ) (bytes : List ℕ) → kind < 16 → (1 ≤ tid) × (tid ≤ 65535)
+      → IsSendable size bytes →
       AllByRecursion IsFit (segments_of kind tid size bytes)
   are_fit-entity kind tid bytes k t b =
       let cut = laws.cut bytes in
       let enough : length (pieces size bytes) ≤ 32768 = few_pieces size bytes b.some b.numbered in
       let all : 0 + length (pieces size bytes) ≤ 2 ^ 15 = omega (arith, enough) in
-      are_fit-numbered_segments kind tid 0 size (pieces size bytes) k (let e : 0 < tid = omega arith in e, let e : tid < 2 ^ 16 = omega arith in e)
+      are_fit-numbered_segments kind tid 0 size (pieces size bytes) k
+      (let e : 0 < tid = omega arith in e, let e : tid < 2 ^ 16 = omega arith in e)
       all cut.none_empty cut.none_longer s
 
-  are_fit-objects : (objects : List Object) → AllByRecursion IsId (map (λ (o : Object). o.tid) objects) →
-      All (λ (b : ℕ × List ℕ). IsSendable size b.1) (bodies_of objects) →
-      AllByRecursion IsFit (segments_of_bodies size (bodies_of objects))
+  are_fit-objects : (objects : List Object)
+      → AllByRecursion IsId (map (λ (o : Object). o.tid) objects) →
+      All (λ (b : ℕ × List ℕ). IsSendable size b.1) (bodies_with_ids objects) →
+      AllByRecursion IsFit (segments_of_bodies size (bodies_with_ids objects))
   are_fit-objects [] ids h = tt
   are_fit-objects (o ∷ objects) ids h =
       let fits : (ℕ × List ℕ) → Type 0 = λ b. IsSendable size b.1 in
-      append-fit (segments_of 4 o.tid size o.body) (segments_of_bodies size (bodies_of objects))
-      (are_fit-entity 4 o.tid o.body (omega arith) ids.0 (All-head fits (o.tid, o.body) (bodies_of objects) h))
-      (are_fit-objects objects ids.1 (All-tail fits (o.tid, o.body) (bodies_of objects) h))
+      append-fit (segments_of 4 o.tid size o.body)
+      (segments_of_bodies size (bodies_with_ids objects))
+      (are_fit-entity 4 o.tid o.body (omega arith) ids.0
+      (All-head fits (o.tid, o.body) (bodies_with_ids objects) h))
+      (are_fit-objects objects ids.1 (All-tail fits (o.tid, o.body) (bodies_with_ids objects) h))
 
-  are_fit-turn : (turn : Turn) (c : Carousel) → IsTurnOf turn c size → IsSound c → IsPlayable turn size →
+  are_fit-turn : (turn : Turn) (c : Carousel) → IsTurnOf turn c size → IsSound c
+      → IsPlayable turn size →
       AllByRecursion IsFit (segments_of_turn turn size)
   are_fit-turn turn c t sound p =
       let fits : List (ℕ × List ℕ) → Type 0 = All (λ (b : ℕ × List ℕ). IsSendable size b.1) in
@@ -111,24 +128,29 @@ module _ (size : ℕ) (laws : EntityLaws size) (s : size ≤ 8189) where
       (are_fit-entity 6 turn.tid turn.directory (omega arith) directory p.directory) bodies
 
 -- the index that a group gets fits its header, and so do those that are kept then
-next_index-cases : (same : Bool) (index : ℕ) → index < 16 → (if same then index else (index + 1) % 16) < 16
+next_index-cases : (same : Bool) (index : ℕ) → index < 16
+    → (if same then index else (index + 1) % 16) < 16
 next_index-cases true index l = l
 next_index-cases false index l = omega arith
 
-next_index-fits : (last : Option Last) (content : List ℕ) → IfSome last (λ (l : Last). l.index < 16) →
+next_index-fits : (last : Option Last) (content : List ℕ) → IfSome last (λ (l : Last). l.index < 16)
+    →
     next_index last content < 16
 next_index-fits None content h = omega arith
-next_index-fits (Some last) content h = next_index-cases (bytes_eq last.content content) last.index h
+next_index-fits (Some last) content h =
+    next_index-cases (bytes_eq last.content content) last.index h
 
 kept-cases : (b : Bool) (x y : Option Last) → IfSome x (λ (l : Last). l.index < 16) →
     IfSome y (λ (l : Last). l.index < 16) → IfSome (if b then x else y) (λ (l : Last). l.index < 16)
 kept-cases true x y p q = p
 kept-cases false x y p q = q
 
-group-index_fits : (place : Place) (s : Segment) → KeepsIndexes place → (group_for place s).index < 16
+group-index_fits : (place : Place) (s : Segment) → KeepsIndexes place
+    → (group_for place s).index < 16
 group-index_fits place s keeps =
     let is_directory : Bool = s.kind == 6 in
-    next_index-fits (if is_directory then place.last_directory else place.last_body) (segment_content s)
+    next_index-fits (if is_directory then place.last_directory else place.last_body)
+    (segment_content s)
     (kept-cases is_directory place.last_directory place.last_body keeps.directory keeps.body)
 
 begun-keeps : (place : Place) (s : Segment) (others : List Segment) → KeepsIndexes place →
@@ -143,12 +165,14 @@ begun-keeps place s others keeps =
     }
 
 -- the packets of these segments' groups, behind the front of one more
-record SendsBehind (front group : List ℕ) (segments : List Segment) (packets : List PacketFields) : Type 0 where
+record SendsBehind (front group : List ℕ) (segments : List Segment) (packets : List PacketFields) :
+    Type 0 where
   groups : List GroupFields
   gathered : groups_after front packets ≡ Some (group ∷ map bytes_of_group groups, [])
   carry : map (λ (g : GroupFields). g.segment) groups ≡ segments
   are_groups : AllByRecursion IsGroup groups
 
+-- of what was sent, which ends a turn
 abbrev pub ends_of : List Sent → List Bool
 ends_of sents = map (λ (s : Sent). s.ends_turn) sents
 
@@ -160,29 +184,46 @@ abbrev head_of : List Bool → Bool
 head_of [] = true
 head_of (b ∷ bs) = b
 
+-- a list that begins with false is not one that begins with true
 pub head-false : (bs cs : List Bool) → false ∷ bs ≡ true ∷ cs → ⊥
 head-false bs cs e = false≢true (ap head_of e)
 
+-- a list that begins with true is not one that begins with false
 pub head-true : (bs cs : List Bool) → true ∷ bs ≡ false ∷ cs → ⊥
 head-true bs cs e = false≢true (sym (ap head_of e))
 
-is_group : (index : ℕ) (s : Segment) → index < 16 → IsFit s → IsGroup (record { index = index; segment = s })
+is_group : (index : ℕ) (s : Segment) → index < 16 → IsFit s
+    → IsGroup (record { index = index; segment = s })
 is_group index s i f =
-    record { kind = f.kind; index = i; tid = f.tid; number = f.number; some = f.some; fits = f.fits }
+    record {
+      kind = f.kind;
+      index = i;
+      tid = f.tid;
+      number = f.number;
+      some = f.some;
+      fits =
+          f.fits;
+    }
 
-turn-behind : (n : ℕ) (last : Bool) (place : Place) (waiting : List Segment) (group : List ℕ) (at : ℕ)
-    (sents : List Sent) (new : Place) → (piece_at place.room place.address place.index group at).last ≡ last →
+turn-behind : (n : ℕ) (last : Bool) (place : Place) (waiting : List Segment) (group : List ℕ)
+    (at : ℕ)
+    (sents : List Sent) (new : Place)
+    → (piece_at place.room place.address place.index group at).last ≡ last →
     at < length group → 0 < place.room → KeepsIndexes place → AllByRecursion IsFit waiting →
-    sent_by (place_behind (record place { waiting = waiting }) group at last) (replicate n Request) ≡ Some (sents, new) →
+    sent_by (place_behind (record place { waiting = waiting }) group at last) (replicate n Request)
+    ≡ Some (sents, new) →
     (last && is_empty waiting) ∷ ends_of sents ≡ last_ends n →
-    SendsBehind (take at group) group waiting (piece_at place.room place.address place.index group at ∷ packets_of sents)
+    SendsBehind (take at group) group waiting
+    (piece_at place.room place.address place.index group at ∷ packets_of sents)
 unfolding request groups_after
 turn-behind zero true place [] group at sents new l inside r keeps fit h f =
-    let none : [] ≡ sents = no_steps (place_behind (record place { waiting = [] }) group at true) sents new h in
+    let none : [] ≡ sents = no_steps (place_behind (record place { waiting = [] }) group at true)
+    sents new h in
     let piece : PacketFields = piece_at place.room place.address place.index group at in
     subst (λ ss. SendsBehind (take at group) group [] (piece ∷ packets_of ss)) none (record {
       groups = [];
-      gathered = groups_after-last_piece place.room place.address place.index at group [] [] [] r inside l refl;
+      gathered = groups_after-last_piece place.room place.address place.index at group [] [] [] r
+          inside l refl;
       carry = refl;
       are_groups = tt;
     })
@@ -194,7 +235,8 @@ turn-behind (suc m) true place [] group at sents new l inside r keeps fit h f =
     absurd (head-true (ends_of sents) (last_ends m) f)
 turn-behind (suc m) true place (t ∷ waiting) group at sents new l inside r keeps fit h f =
     let here : Place = place_behind (record place { waiting = t ∷ waiting }) group at true in
-    let q : FirstRequest here (replicate m Request) sents new = first_request here (replicate m Request) sents new h in
+    let q : FirstRequest here (replicate m Request) sents new =
+    first_request here (replicate m Request) sents new h in
     let g : GroupFields = group_for here t in
     let begun : Place = with_begun here g waiting in
     let first : Sent = packet_sent begun (bytes_of_group g) 0 in
@@ -202,34 +244,42 @@ turn-behind (suc m) true place (t ∷ waiting) group at sents new l inside r kee
     let rest : sent_by first.place (replicate m Request) ≡ Some (q.others, new) =
     ap (λ (x : Sent). sent_by x.place (replicate m Request)) same ∙ q.rest in
     let flags : first.ends_turn ∷ ends_of q.others ≡ last_ends m =
-    ap (λ (x : Sent). x.ends_turn ∷ ends_of q.others) same ∙ ap ends_of (sym q.all) ∙ ap (drop 1) f in
+    ap (λ (x : Sent). x.ends_turn ∷ ends_of q.others) same ∙ ap ends_of (sym q.all)
+    ∙ ap (drop 1) f in
     let others : SendsBehind [] (bytes_of_group g) waiting (first.packet ∷ packets_of q.others) =
-    turn-behind m first.packet.last begun waiting (bytes_of_group g) 0 q.others new refl (some_bytes-group g) r
-    (begun-keeps here t waiting (record { directory = keeps.directory; body = keeps.body })) fit.1 rest flags in
+    turn-behind m first.packet.last begun waiting (bytes_of_group g) 0 q.others new refl
+    (some_bytes-group g) r
+    (begun-keeps here t waiting (record { directory = keeps.directory; body = keeps.body })) fit.1
+    rest flags in
     let piece : PacketFields = piece_at place.room place.address place.index group at in
     let all : first.packet ∷ packets_of q.others ≡ packets_of sents =
     ap (λ (x : Sent). x.packet ∷ packets_of q.others) same ∙ ap packets_of (sym q.all) in
     subst (λ ps. SendsBehind (take at group) group (t ∷ waiting) (piece ∷ ps)) all (record {
       groups = g ∷ others.groups;
       gathered = groups_after-last_piece place.room place.address place.index at group
-          (first.packet ∷ packets_of q.others) (bytes_of_group g ∷ map bytes_of_group others.groups) [] r inside l others.gathered;
+          (first.packet ∷ packets_of q.others) (bytes_of_group g ∷ map bytes_of_group others.groups)
+          [] r inside l others.gathered;
       carry = ap (λ segments. t ∷ segments) others.carry;
       are_groups = (
         is_group g.index t
-            (group-index_fits here t (record { directory = keeps.directory; body = keeps.body })) fit.0,
+            (group-index_fits here t (record { directory = keeps.directory; body = keeps.body }))
+            fit.0,
         others.are_groups,
       );
     })
 turn-behind (suc m) false place waiting group at sents new l inside r keeps fit h f =
     let here : Place = place_behind (record place { waiting = waiting }) group at false in
-    let q : FirstRequest here (replicate m Request) sents new = first_request here (replicate m Request) sents new h in
+    let q : FirstRequest here (replicate m Request) sents new =
+    first_request here (replicate m Request) sents new h in
     let first : Sent = packet_sent here group (at + place.room) in
     let same : first ≡ q.first = same_Some first q.first q.asked in
     let rest : sent_by first.place (replicate m Request) ≡ Some (q.others, new) =
     ap (λ (x : Sent). sent_by x.place (replicate m Request)) same ∙ q.rest in
     let flags : first.ends_turn ∷ ends_of q.others ≡ last_ends m =
-    ap (λ (x : Sent). x.ends_turn ∷ ends_of q.others) same ∙ ap ends_of (sym q.all) ∙ ap (drop 1) f in
-    let others : SendsBehind (take (at + place.room) group) group waiting (first.packet ∷ packets_of q.others) =
+    ap (λ (x : Sent). x.ends_turn ∷ ends_of q.others) same ∙ ap ends_of (sym q.all)
+    ∙ ap (drop 1) f in
+    let others : SendsBehind (take (at + place.room) group) group waiting
+    (first.packet ∷ packets_of q.others) =
     turn-behind m first.packet.last here waiting group (at + place.room) q.others new refl
     (more_left place.room place.address place.index at group l) r
     (record { directory = keeps.directory; body = keeps.body }) fit rest flags in
@@ -239,7 +289,8 @@ turn-behind (suc m) false place waiting group at sents new l inside r keeps fit 
     subst (λ ps. SendsBehind (take at group) group waiting (piece ∷ ps)) all (record {
       groups = others.groups;
       gathered = groups_after-piece place.room place.address place.index at group
-          (first.packet ∷ packets_of q.others) (group ∷ map bytes_of_group others.groups) [] r inside l others.gathered;
+          (first.packet ∷ packets_of q.others) (group ∷ map bytes_of_group others.groups) [] r
+          inside l others.gathered;
       carry = others.carry;
       are_groups = others.are_groups;
     })
@@ -251,9 +302,11 @@ record Sends (segments : List Segment) (packets : List PacketFields) : Type 0 wh
   carry : map (λ (g : GroupFields). g.segment) groups ≡ segments
   are_groups : AllByRecursion IsGroup groups
 
-turn-sends : (n : ℕ) (place : Place) (segments : List Segment) (s : Sent) (others : List Sent) (new : Place) →
+turn-sends : (n : ℕ) (place : Place) (segments : List Segment) (s : Sent) (others : List Sent)
+    (new : Place) →
     0 < place.room → KeepsIndexes place → place.under_way ≡ None → AllByRecursion IsFit segments →
-    first_sent place segments ≡ Some s → sent_by s.place (replicate n Request) ≡ Some (others, new) →
+    first_sent place segments ≡ Some s → sent_by s.place (replicate n Request) ≡ Some (others, new)
+    →
     s.ends_turn ∷ ends_of others ≡ last_ends n → Sends segments (s.packet ∷ packets_of others)
 turn-sends n place [] s others new r keeps u fit e h f = absurd (none-some s e)
 turn-sends n place (t ∷ segments) s others new r keeps u fit e h f =
@@ -266,7 +319,8 @@ turn-sends n place (t ∷ segments) s others new r keeps u fit e h f =
     let flags : first.ends_turn ∷ ends_of others ≡ last_ends n =
     ap (λ (x : Sent). x.ends_turn ∷ ends_of others) same ∙ f in
     let behind : SendsBehind [] (bytes_of_group g) segments (first.packet ∷ packets_of others) =
-    turn-behind n first.packet.last begun segments (bytes_of_group g) 0 others new refl (some_bytes-group g) r
+    turn-behind n first.packet.last begun segments (bytes_of_group g) 0 others new refl
+    (some_bytes-group g) r
     (begun-keeps place t segments keeps) fit.1 rest flags in
     subst (λ (x : Sent). Sends (t ∷ segments) (x.packet ∷ packets_of others)) same (record {
       groups = g ∷ behind.groups;
@@ -288,28 +342,35 @@ module _ (size : ℕ) (laws : EntityLaws size) (s : size ≤ 8189) where
   groups-read [] h = refl
   groups-read (g ∷ groups) h = rw (read_group-bytes_of_group g h.0, groups-read groups h.1) refl
 
-  turns-read : (old new : Place) (c : Carousel) (n : ℕ) (sents : List Sent) (packets : List (List ℕ)) →
-      old.segment_size ≡ size → IsPlace old → IsTurnOf old.turn c size → IsSound c → IsAtTurnsBeginning old →
+  turns-read : (old new : Place) (c : Carousel) (n : ℕ) (sents : List Sent)
+      (packets : List (List ℕ)) →
+      old.segment_size ≡ size → IsPlace old → IsTurnOf old.turn c size → IsSound c
+      → IsAtTurnsBeginning old →
       sent_by old (Request ∷ replicate n Request) ≡ Some (sents, new) →
       map (λ (s : Sent). s.ends_turn) sents ≡ replicate n false ++ true ∷ [] →
       AreSent sents packets → ReadsAs packets c size
   unfolding request read_turn gather gather_front
   turns-read old new c n sents packets same_size place is_turn sound begins h flags sent =
       let keeps : KeepsIndexes old = record { directory = place.directory; body = place.body } in
-      let playable : IsPlayable old.turn size = subst (IsPlayable old.turn) same_size place.playable in
-      let q : FirstRequest old (replicate n Request) sents new = first_request old (replicate n Request) sents new h in
+      let playable : IsPlayable old.turn size =
+      subst (IsPlayable old.turn) same_size place.playable in
+      let q : FirstRequest old (replicate n Request) sents new =
+      first_request old (replicate n Request) sents new h in
       let whole : to_send old ≡ segments_of_turn old.turn size =
       whole_or_none old.waiting (segments_of_turn old.turn old.segment_size) begins.waiting
       ∙ ap (segments_of_turn old.turn) same_size in
       let first : first_sent old (segments_of_turn old.turn size) ≡ Some q.first =
       ap (first_sent old) (sym whole) ∙ ap (next_sent old) (sym begins.under_way) ∙ q.asked in
       let sends : Sends (segments_of_turn old.turn size) (q.first.packet ∷ packets_of q.others) =
-      turn-sends n old (segments_of_turn old.turn size) q.first q.others new place.room keeps begins.under_way
-      (are_fit-turn size laws s old.turn c is_turn sound playable) first q.rest (ap ends_of (sym q.all) ∙ flags) in
+      turn-sends n old (segments_of_turn old.turn size) q.first q.others new place.room keeps
+      begins.under_way
+      (are_fit-turn size laws s old.turn c is_turn sound playable) first q.rest
+      (ap ends_of (sym q.all) ∙ flags) in
       let read : read_each read_packet packets ≡ Some (q.first.packet ∷ packets_of q.others) =
       sent ∙ ap (λ ss. Some (packets_of ss)) q.all in
       let address = one_address old.address (q.first.packet ∷ packets_of q.others)
-      (subst (λ ss. list_all (λ (p : PacketFields). p.address == old.address) (packets_of ss) ≡ true) q.all
+      (subst (λ ss. list_all (λ (p : PacketFields). p.address == old.address) (packets_of ss)
+      ≡ true) q.all
       (steps-address (Request ∷ replicate n Request) old sents new h)) in
       rw (
         read,
@@ -325,6 +386,7 @@ entity-laws size some = record {
   entity = λ kind tid bytes segments h own. entity_of-own kind tid size bytes segments some h own;
 }
 
+-- the packets of a turn from its beginning on read as its carousel
 pub turns_read_as_their_carousels : TurnsReadAsTheirCarousels
 turns_read_as_their_carousels old new c n sents packets place =
     turns-read old.segment_size (entity-laws old.segment_size place.size.0) place.size.1

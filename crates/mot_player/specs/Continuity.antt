@@ -19,8 +19,8 @@ packet_indexes_from n (packet ∷ packets) = n % 4 ∷ packet_indexes_from (n + 
 abbrev pub kind_of : List ℕ → ℕ
 kind_of group = slice_index group 0 % 16
 
-abbrev pub index_of : List ℕ → ℕ
-index_of group = slice_index group 1 / 16
+abbrev pub group_index : List ℕ → ℕ
+group_index group = slice_index group 1 / 16
 
 -- the contents of the groups of a type
 abbrev pub contents : ℕ → List (List ℕ) → List (List ℕ)
@@ -49,4 +49,4 @@ pub record IsContinuous (packets : List (List ℕ)) : Type 0 where
   pub begun : List ℕ
   pub gathered : gather_front packets ≡ Some (groups, begun)
   pub packet_indexes : read_each packet_index packets ≡ Some (packet_indexes_from 0 packets)
-  pub group_indexes : map index_of groups ≡ indexes_after [] groups
+  pub group_indexes : map group_index groups ≡ indexes_after [] groups

@@ -5,7 +5,7 @@ use Rattle.mot_player.specs.declared.last_group.LastGroup.{LastGroup}
 use Rattle.mot_player.specs.Place.{Last}
 
 -- none where there is no segment
-abbrev pub last_of : LastGroup → Option Last
-last_of kept =
+abbrev pub kept_last : LastGroup → Option Last
+kept_last kept =
     if is_empty kept.segment.items then None
     else Some (record { index = kept.index; content = kept.front ++ kept.segment.items })

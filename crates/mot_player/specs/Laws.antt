@@ -14,7 +14,7 @@ use Rattle.mot_player.specs.Place.{Last, UnderWay, to_send, Place, Sent, Step, R
 use Rattle.mot_player.specs.Place.{change_turn}
 use Rattle.mot_player.specs.Place.{opened_place, request, sent_by}
 use Rattle.mot_player.specs.Reading.{ReadsAs}
-use Rattle.mot_player.specs.Standing.{BodyPlan, Standing, TurnPlan, place_of}
+use Rattle.mot_player.specs.PlayerView.{BodyPlan, PlayerView, TurnPlan, place_of}
 use Rattle.mot_player.specs.Turn.{Turn, IsTurnOf, IsPlayable, segments_of_turn}
 
 -- a request was answered by a packet, which ends the turn or not, and the player stands elsewhere
@@ -59,7 +59,7 @@ abbrev pub blank_bodies : TurnPlan → List (List ℕ)
 blank_bodies plan = map (λ (b : BodyPlan). replicate b.length 0) plan.bodies
 
 -- the same from a standing: only the lengths of bodies count
-abbrev pub bytes_left : Standing → ℕ
+abbrev pub bytes_left : PlayerView → ℕ
 bytes_left standing = bytes_due (place_of standing (blank_bodies standing.turn))
 
 -- each request brings the end of the turn nearer

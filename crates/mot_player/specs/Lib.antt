@@ -6,8 +6,8 @@ pub mod LastGroup
 pub mod Laws
 pub mod Place
 pub mod Planned
+pub mod PlayerView
 pub mod Reading
 pub mod Rounds
-pub mod Standing
 pub mod State
 pub mod Turn

@@ -2,11 +2,11 @@
 use Rattle.std.specs.Prelude.{◌==◌, if◌then◌else◌, Some, None}
 use Rattle.mot_base.specs.PacketLength.{room_of}
 use Rattle.mot_player.specs.declared.state.State.{State}
-use Rattle.mot_player.specs.LastGroup.{last_of}
-use Rattle.mot_player.specs.Standing.{Standing}
+use Rattle.mot_player.specs.LastGroup.{kept_last}
+use Rattle.mot_player.specs.PlayerView.{PlayerView}
 
-abbrev pub standing_of : State → Standing
-standing_of p = record {
+abbrev pub view_of : State → PlayerView
+view_of p = record {
   address = p.address;
   room = room_of p.full_length;
   segment_size = p.segment_size;
@@ -15,6 +15,6 @@ standing_of p = record {
   entity = p.entity;
   segment = p.segment;
   index = p.index;
-  last_directory = last_of p.last_directory;
-  last_body = last_of p.last_body;
+  last_directory = kept_last p.last_directory;
+  last_body = kept_last p.last_body;
 }

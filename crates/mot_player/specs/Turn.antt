@@ -14,21 +14,21 @@ pub record Turn : Type 0 where
   pub bodies : List (ℕ × List ℕ)
 
 -- the bodies of objects, each behind its transport id
-abbrev pub bodies_of : List Object → List (ℕ × List ℕ)
-bodies_of objects = map (λ (o : Object). (o.tid, o.body)) objects
+abbrev pub bodies_with_ids : List Object → List (ℕ × List ℕ)
+bodies_with_ids objects = map (λ (o : Object). (o.tid, o.body)) objects
 
 -- the directory reads as the carousel's, and the bodies are its bodies in order
 pub record IsTurnOf (turn : Turn) (c : Carousel) (size : ℕ) : Type 0 where
   pub tid : turn.tid ≡ c.directory
   pub directory : read_directory turn.directory ≡ Some (directory_of c size)
-  pub bodies : turn.bodies ≡ bodies_of c.objects
+  pub bodies : turn.bodies ≡ bodies_with_ids c.objects
 
 -- the turn of a carousel with the one list of bytes that its directory is written as
 abbrev pub turn_of_carousel : Carousel → ℕ → Turn
 turn_of_carousel c size = record {
   tid = c.directory;
   directory = bytes_of_directory (directory_of c size);
-  bodies = bodies_of c.objects;
+  bodies = bodies_with_ids c.objects;
 }
 
 -- the segments of bodies, each body's in order

@@ -6,7 +6,7 @@ ghost use Rattle.mot_base.specs.declared.numbers.TheConstants.{MAX_SEGMENT};
 ghost use Rattle.mot_groups.specs.Group.{GroupFields, IsGroup, content_of, bytes_of_group};
 ghost use Rattle.mot_groups.specs.Group.{group_of};
 ghost use Rattle.mot_groups.specs.Group.{read_group, segment_content};
-ghost use Rattle.mot_player.specs.LastGroup.{last_of};
+ghost use Rattle.mot_player.specs.LastGroup.{kept_last};
 ghost use Rattle.mot_player.specs.Place.{Last, next_index};
 
 use crate::last_group::LastGroup;
@@ -30,12 +30,12 @@ pub(crate) fn begin_group(
     requires segment { (0 < length segment.now) × (length segment.now ≤ MAX_SEGMENT) }
     ensures written { let s = (group_of 0 (kind_number kind) tid number is_last
         segment.now).segment in
-        let index = next_index (last_of last.old) (segment_content s) in
+        let index = next_index (kept_last last.old) (segment_content s) in
         group.new.items ≡ bytes_of_group (record { index = index; segment = s }) }
     ensures last { let s = (group_of 0 (kind_number kind) tid number is_last
         segment.now).segment in
-        let index = next_index (last_of last.old) (segment_content s) in
-        last_of last.new ≡ Some (record { index = index; content = segment_content s }) }
+        let index = next_index (kept_last last.old) (segment_content s) in
+        kept_last last.new ≡ Some (record { index = index; content = segment_content s }) }
     ensures len { vec_len group.new ≡ length segment.now + 11 }
     ensures capacity { vec_capacity group.old ≤ vec_capacity group.new }
     ensures last_capacity { vec_capacity last.old.segment ≤ vec_capacity last.new.segment }

@@ -16,12 +16,12 @@ pub(crate) struct LastGroup {
 
 impl LastGroup {
     ghost use Rattle.std.specs.Prelude.{Some, None, ◌++◌, IfOk};
-    ghost use Rattle.mot_player.specs.LastGroup.{last_of};
+    ghost use Rattle.mot_player.specs.LastGroup.{kept_last};
     ghost use Rattle.mot_player.specs.Place.{Last, next_index};
 
     /// None was begun. There is room for segments of so many bytes.
     pub fn none(alloc: Global, capacity: usize) -> Result<Self, AllocError>
-        ensures none { IfOk result (λ last. last_of last ≡ None) }
+        ensures none { IfOk result (λ last. kept_last last ≡ None) }
         ensures capacity { IfOk result (λ last. vec_capacity last.segment ≡ capacity) }
     {
         Ok(LastGroup {
@@ -34,7 +34,7 @@ impl LastGroup {
     /// The continuity index of a group of this content.
     pub fn next_index(&self, front: &[u8; 7], segment: &[u8]) -> u8
         requires { length front.now ≡ 7 }
-        ensures value { result ≡ next_index (last_of self.now) (front.now ++ segment.now) }
+        ensures value { result ≡ next_index (kept_last self.now) (front.now ++ segment.now) }
         ensures range { result < 16 }
     {
         if self.segment.is_empty() {
@@ -52,7 +52,7 @@ impl LastGroup {
         requires front { length front.now ≡ 7 }
         requires some { 0 < length segment.now }
         requires room { length segment.now ≤ vec_capacity self.old.segment }
-        ensures last { last_of self.new
+        ensures last { kept_last self.new
             ≡ Some (record { index = index; content = front.now ++ segment.now }) }
         ensures capacity { vec_capacity self.old.segment ≤ vec_capacity self.new.segment }
     {

@@ -5,7 +5,7 @@ ghost use Rattle.mot_base.specs.PacketLength.{room_of};
 ghost use Rattle.mot_base.specs.declared.refusal.Refusal.TheVariants.{OutOfMemory, DeviceFault};
 ghost use Rattle.mot_packets.specs.Packet.{read_packet};
 ghost use Rattle.disk_store.specs.Failures.{Rises};
-ghost use Rattle.mot_player.specs.Standing.{AreBodiesFor, place_of, turn_of};
+ghost use Rattle.mot_player.specs.PlayerView.{AreBodiesFor, place_of, turn_with};
 ghost use Rattle.mot_player.specs.AnyBodies.{IsStepOfSome};
 ghost use Rattle.mot_player.specs.Laws.{ChangesGoOn, IsPlace, IsStep, RequestsGoOn};
 ghost use Rattle.mot_player.specs.Laws.{StepsAreContinuous, bytes_left};
@@ -27,14 +27,14 @@ pub struct Player {
 }
 
 impl Model for Player {
-    ghost use Rattle.mot_player.specs.Standing.{Standing};
+    ghost use Rattle.mot_player.specs.PlayerView.{PlayerView};
 
-    ghost Value = { Standing };
+    ghost Value = { PlayerView };
 
     ghost use Rattle.mot_player.specs.Inner.Ready.{IsReady};
-    ghost use Rattle.mot_player.specs.State.{standing_of};
+    ghost use Rattle.mot_player.specs.State.{view_of};
 
-    ghost view = { λ player. standing_of player.state };
+    ghost view = { λ player. view_of player.state };
 
     ghost invariant = { λ player. IsReady player.state };
 }
@@ -51,7 +51,7 @@ impl Player {
     ) -> Result<Player, Refusal>
         ensures opened { IfOk result (λ player. (bodies : List (List ℕ)) → AreBodiesFor turn bodies
             → place_of player bodies
-            ≡ opened_place address (room_of full_length) segment_size (turn_of turn bodies)) }
+            ≡ opened_place address (room_of full_length) segment_size (turn_with turn bodies)) }
         ensures turn { IfOk result (λ player. player.turn ≡ turn) }
         ensures size { IfOk result (λ player. player.segment_size ≡ segment_size) }
         ensures refused { IfErr result (λ refusal. refusal ≡ OutOfMemory) }
@@ -95,7 +95,7 @@ impl Player {
     /// The group under way stays; then the new turn begins.
     pub fn changed(&mut self, turn: Turn)
         ensures place { (bodies changed : List (List ℕ)) → place_of self.new changed
-            ≡ change_turn (turn_of turn changed) (place_of self.old bodies) }
+            ≡ change_turn (turn_with turn changed) (place_of self.old bodies) }
         ensures turn { self.new.turn ≡ turn }
         ensures size { self.new.segment_size ≡ self.old.segment_size }
     {

@@ -3,7 +3,7 @@ ghost use Rattle.std.specs.Prelude.{◌≡◌, ◌+◌, ◌<◌, ◌≤◌, leng
 ghost use Rattle.std.specs.Prelude.{slice_range, OnOk, OnErr, IfErr};
 ghost use Rattle.mot_base.specs.declared.refusal.Refusal.TheVariants.{DeviceFault};
 ghost use Rattle.disk_store.specs.Failures.{Rises};
-ghost use Rattle.mot_player.specs.Standing.{AreBodiesFor};
+ghost use Rattle.mot_player.specs.PlayerView.{AreBodiesFor};
 ghost use Rattle.mot_player.specs.Inner.Entities.{entity_bytes, entity_length};
 
 use crate::{Bodies, Turn};

@@ -46,9 +46,9 @@ impl State {
     ghost use Rattle.disk_store.specs.Failures.{Rises};
     ghost use Rattle.mot_player.specs.Place.{packet_sent};
     ghost use Rattle.mot_player.specs.Inner.Ready.{HasBegun, HasTaken, IsFitted, place_with};
-    ghost use Rattle.mot_player.specs.State.{standing_of};
+    ghost use Rattle.mot_player.specs.State.{view_of};
     ghost use Rattle.mot_player.specs.Inner.Next.{IsNext};
-    ghost use Rattle.mot_player.specs.Standing.{AreBodiesFor};
+    ghost use Rattle.mot_player.specs.PlayerView.{AreBodiesFor};
     ghost use Rattle.mot_player.specs.Inner.Entities.{IsWithinTurn, entity_bytes};
     ghost use Rattle.mot_player.specs.Inner.Entities.{entity_length};
 
@@ -72,7 +72,7 @@ impl State {
         ensures some { OnOk result (0 < vec_len self.new.group) }
         ensures turn { self.new.turn ≡ self.old.turn }
         ensures size { self.new.segment_size ≡ self.old.segment_size }
-        ensures stays { OnErr result (standing_of self.new ≡ standing_of self.old) }
+        ensures stays { OnErr result (view_of self.new ≡ view_of self.old) }
         ensures lengths { map length (B.bodies bodies.new) ≡ map length (B.bodies bodies.old) }
         ensures unchanged { B.IsHonest bodies.old → B.bodies bodies.new ≡ B.bodies bodies.old }
         ensures was_honest { B.IsHonest bodies.new → B.IsHonest bodies.old }

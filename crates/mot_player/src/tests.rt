@@ -1,5 +1,5 @@
 ghost use Rattle.std.specs.Prelude.{◌≡◌, ◌<◌, ℕ, List, [], vec_len, IfOk, map, length, ⊤};
-ghost use Rattle.mot_player.specs.Standing.{AreBodiesFor};
+ghost use Rattle.mot_player.specs.PlayerView.{AreBodiesFor};
 
 use super::*;
 use mot_base::{Address, PacketLength, Refusal, SegmentSize, TransportId};

@@ -23,7 +23,7 @@ pub struct Turn {
 }
 
 impl Model for Turn {
-    ghost use Rattle.mot_player.specs.Standing.{TurnPlan};
+    ghost use Rattle.mot_player.specs.PlayerView.{TurnPlan};
 
     ghost Value = { TurnPlan };
 
@@ -37,9 +37,9 @@ impl Model for Turn {
 }
 
 impl Turn {
-    ghost use Rattle.mot_player.specs.Standing.{AreBodiesFor};
+    ghost use Rattle.mot_player.specs.PlayerView.{AreBodiesFor};
     ghost use Rattle.mot_player.specs.Inner.Entities.{IsPlannable, entity_length};
-    ghost use Rattle.mot_player.specs.Standing.{turn_of};
+    ghost use Rattle.mot_player.specs.PlayerView.{turn_with};
     ghost use Rattle.mot_player.specs.Inner.Entities.{entity_tid};
     ghost use Rattle.mot_player.specs.Turn.{IsTurnOf, turn_of_carousel};
 
@@ -54,9 +54,9 @@ impl Turn {
             → AreBodiesOf carousel.now bodies → AreBodiesFor turn bodies) }
         ensures turn { IfOk result (λ turn. (bodies : List (List ℕ))
             → AreBodiesOf carousel.now bodies
-            → IsTurnOf (turn_of turn bodies) (carousel_of carousel.now bodies) segment_size) }
+            → IsTurnOf (turn_with turn bodies) (carousel_of carousel.now bodies) segment_size) }
         ensures exact { IfOk result (λ turn. (bodies : List (List ℕ))
-            → AreBodiesOf carousel.now bodies → turn_of turn bodies
+            → AreBodiesOf carousel.now bodies → turn_with turn bodies
             ≡ turn_of_carousel (carousel_of carousel.now bodies) segment_size) }
         ensures refused { IfErr result (λ refusal. refusal ≡ OutOfMemory) }
     {

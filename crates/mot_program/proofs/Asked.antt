@@ -45,6 +45,7 @@ module _ (words : List Text) (command : Command) (app : app_of command ≡ progr
       → subcommand_rows_of m ≡ subcommand_of program_app words
   rows_matched m h = (h (ap is_simple app ∙ simple)).1 ∙ ap (λ (a : App). subcommand_of a words) app
 
+  -- words that match a subcommand whose rows give a task ask for it
   pub AskFor-matched : (m : ArgMatches) (name : Text) (rows : List Row) (task : Task)
       → HasMatchesOf (app_of command) words m → Some name ≡ subcommand_name_of m
       → Some rows ≡ option_map (λ p. p.1) (subcommand_rows_of m) → IsTask name rows task
@@ -72,6 +73,7 @@ module _ (words : List Text) (command : Command) (app : app_of command ≡ progr
       (out-ArgMatches m).subcommand name rows n r in
       none task (same_task (Some-inj (sym asked.matched ∙ found)) task asked.is_task)
 
+  -- words that match the program but name no subcommand are wrong
   pub AreWrong-none : (m : ArgMatches) → HasMatchesOf (app_of command) words m
       → None ≡ subcommand_rows_of m → AreWrong words
   AreWrong-none m h r = inr (sym (r ∙ rows_matched m h))
@@ -87,6 +89,7 @@ module _ (words : List Text) (command : Command) (app : app_of command ≡ progr
     help_asked (inl h) k = absurd (cc)
     help_asked (inr h) k = subst (λ x. IsAmong x (fault_of program_app words)) k h
 
+    -- words that the parser answers with help ask for help
     pub AskForHelp-shown : kind_of e ≡ DisplayHelp → AskForHelp words
     AskForHelp-shown k = help_asked kinds_found k
 
@@ -95,5 +98,6 @@ module _ (words : List Text) (command : Command) (app : app_of command ≡ progr
     fault_found (inl h) k m = absurd (m h)
     fault_found (inr h) k m = inl (kind_of e, k, h)
 
+    -- words that it answers with any other fault, but want of memory, are wrong
     pub AreWrong-fault : kind_of e ≢ DisplayHelp → kind_of e ≢ OutOfMemory → AreWrong words
     AreWrong-fault k m = fault_found kinds_found k m

@@ -1,5 +1,6 @@
 -- What a call that may fail leaves.
-use Rattle.std.proofs.Common.{◌≡◌, ◌≢◌, ◌⊎◌, ◌∙◌, ℕ, ◌≤◌, Option, Some, Result, Ok, Err, inl, inr, arith}
+use Rattle.std.proofs.Common.{◌≡◌, ◌≢◌, ◌⊎◌, ◌∙◌, ℕ, ◌≤◌, Option, Some, Result, Ok, Err, inl, inr}
+use Rattle.std.proofs.Common.{arith}
 use Rattle.std.proofs.Common.{subst, sym}
 use Rattle.std.proofs.Math.Logic.{⊎_elim}
 use Rattle.std.proofs.Math.Nat.{eq-or-lt_of_le}
@@ -11,28 +12,23 @@ use Rattle.mot_base.specs.declared.refusal.Refusal.TheVariants.{DeviceFault, Out
 use Rattle.mot_base.specs.declared.refusal.Refusal.TheVariants.{ReadFault, WriteFault}
 use Rattle.mot_session.specs.Served.{EndsServing}
 
-pub OnOk-both : {T E P Q R : Type 0} (r : Result T E) → (P → Q → R) → OnOk r P → OnOk r Q
-    → OnOk r R
-OnOk-both (Ok x) f p q = f p q
-OnOk-both (Err e) f p q = tt
-
+-- what follows from what holds on Ok, holds on Ok
 pub OnOk-one : {T E P R : Type 0} (r : Result T E) → (P → R) → OnOk r P → OnOk r R
 OnOk-one (Ok x) f p = f p
 OnOk-one (Err e) f p = tt
 
-pub OnErr-one : {T E P R : Type 0} (r : Result T E) → (P → R) → OnErr r P → OnErr r R
-OnErr-one (Ok x) f p = tt
-OnErr-one (Err e) f p = f p
-
+-- what holds anyhow holds on an error
 pub OnErr-always : {T E P : Type 0} (r : Result T E) → P → OnErr r P
 OnErr-always (Ok x) p = tt
 OnErr-always (Err e) p = p
 
+-- what follows from a fact of an error
 pub IfErr-one : {T E : Type 0} {P Q : E → Type 0} (r : Result T E) → ((e : E) → P e → Q e)
     → IfErr r P → IfErr r Q
 IfErr-one (Ok x) f p = tt
 IfErr-one (Err e) f p = f e p
 
+-- a fault that ends serving is want of memory, a read's or a write's
 pub fault-cases : (P : Type 0) (fault : Option Refusal) (r : Refusal) → fault ≡ Some r
     → EndsServing fault → (r ≡ OutOfMemory → fault ≡ Some OutOfMemory → P)
     → (r ≡ ReadFault → fault ≡ Some ReadFault → P)

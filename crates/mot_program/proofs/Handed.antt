@@ -10,7 +10,7 @@ use Rattle.disk_store.specs.Disk.{IsNew, KeepsLength, State}
 use Rattle.disk_store.specs.File.{calls_on, file_state}
 use Rattle.disk_store.specs.declared.file.start.Start.{Ghosts}
 use Rattle.disk_store.specs.declared.file.FileDiskFrom.{FileDiskFrom}
-use Rattle.mot_program.specs.Files.{BeginWith, HasBegun, IsFirst, SinceMade, SinceOpened}
+use Rattle.mot_program.specs.Files.{BeginWith, HasFirstCalls, IsFirst, SinceMade, SinceOpened}
 use Rattle.mot_program.specs.Files.{first_calls, first_state, state_after}
 
 module _ {S : Type 0} {start : Ghosts S} where
@@ -29,7 +29,7 @@ module _ {S : Type 0} {start : Ghosts S} where
         (subst (λ n. P (counted (calls_on first) 0 n)) was.new.calls
         (subst (λ n. P (counted (calls_on first) n (file_state first).calls)) was.new.failures p)))
 
-    pub has_begun : HasBegun is_new disk
+    pub has_begun : HasFirstCalls is_new disk
     has_begun = record {
       order = begins;
       new = since_first (λ s. IsNew s.bytes s) was.new;
@@ -38,6 +38,7 @@ module _ {S : Type 0} {start : Ghosts S} where
     }
 
   module _ (first disk : FileDiskFrom S start) (P : State → State → Type 0) where
+    -- what holds since a file was opened is told of the disk that is handed out
     pub since_opened : IsFirst false first
         → BeginWith (first_calls false (file_state disk).len) (calls_on disk)
         → KeepsLength (file_state first) (file_state disk)
@@ -47,6 +48,7 @@ module _ {S : Type 0} {start : Ghosts S} where
       since = since_first false first disk was begins keeps (λ s. P s (file_state disk)) p;
     }
 
+    -- what holds since a file was made is told of the disk that is handed out
     pub since_made : (len : ℕ) → IsFirst true first → (file_state first).len ≡ len
         → BeginWith (first_calls true (file_state disk).len) (calls_on disk)
         → KeepsLength (file_state first) (file_state disk)

@@ -1,7 +1,8 @@
 -- What is known of a disk that was just opened.
 use Rattle.std.proofs.Common.{◌≡◌, ℕ, List, Result, Ok, refl, sym, ◌∙◌, subst}
 use Rattle.std.specs.Prelude.{IsFalse}
-use Rattle.disk_store.specs.Disk.{State, IsHonestDisk, IsStill, Keeps, KeepsLength, OnlySyncs, Throughout}
+use Rattle.disk_store.specs.Disk.{State, IsHonestDisk, IsStill, Keeps, KeepsLength, OnlySyncs}
+use Rattle.disk_store.specs.Disk.{Throughout}
 use Rattle.disk_store.proofs.Laws.{only_bytes, begins, joins, stays}
 use Rattle.mot_base.specs.Geometry.{packet_room}
 use Rattle.mot_base.specs.declared.refusal.Refusal.{Refusal}
@@ -69,7 +70,8 @@ pub opens_to : {D : Type 0} (state : D → State) (start : D) (server new : Serv
 opens_to state start server new P sound opens opened going at_start keeps leads s honest all =
     let was = keeps.was_honest honest in
     let holds = opened_holds (state start) (state server.disk) server.view s
-    (sound start (opens.keeps.was_honest was)) all (opened was) was (sound server.disk was) (opens.still was)
+    (sound start (opens.keeps.was_honest was)) all (opened was) was (sound server.disk was)
+    (opens.still was)
     going in
     let led = leads s (record { agrees = holds.agrees; holds = λ _. holds }) honest in (
       state_of server s (state server.disk),
@@ -85,7 +87,9 @@ module _ {D : Type 0} (state : D → State) (start : D) (repository new : OnDisk
     (opens : OnlySyncs (state start) (state repository.disk))
     (opened : (state repository.disk).IsHonest
     → IsOpened (state start) (state repository.disk) repository.view)
-    (going : IsFalse repository.view.halted) (keeps : Keeps (state repository.disk) (state new.disk)) where
+    (going : IsFalse repository.view.halted)
+    (keeps : Keeps (state repository.disk) (state new.disk)) where
+  -- a disk whose images all stand for one thing is held as that once it is opened
   pub migrates_held : (s : Standing) → (state new.disk).IsHonest → AllAre s (state start)
       → Holds repository.view s (state repository.disk)
   migrates_held s honest each =
@@ -94,6 +98,7 @@ module _ {D : Type 0} (state : D → State) (start : D) (repository new : OnDisk
       (sound start (opens.keeps.was_honest was)) each (opened was) was (sound repository.disk was)
       (opens.still was) going
 
+  -- what a crash leaves of a migration, it leaves from the disk's opening on
   pub migrates_under : ((s : Standing) → Holds repository.view s (state repository.disk)
       → Throughout (state repository.disk) (state new.disk) (IsOf s))
       → IsUnderMigration (state start) (state new.disk)

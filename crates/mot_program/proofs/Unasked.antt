@@ -8,9 +8,10 @@ use Rattle.mot_program.specs.declared.options.Options.{Options}
 use Rattle.mot_program.specs.declared.task.Task.{Task}
 use Rattle.mot_program.specs.declared.task.Task.TheVariants.{Memory, Format, Serve, Check, Migrate}
 use Rattle.mot_program.specs.Options.{AreGiven, GiveDirectory, GiveGeometry, IsGiven, field_in}
-use Rattle.mot_program.specs.Options.{geometry_of}
+use Rattle.mot_program.specs.Options.{geometry_asked}
 use Rattle.mot_program.specs.Task.{IsTask}
 
+-- what holds anyhow holds where there is nothing
 pub IfNone-always : {T P : Type 0} (o : Option T) → P → IfNone o P
 IfNone-always None p = p
 IfNone-always (Some x) p = tt
@@ -24,8 +25,8 @@ given_same None m n a b = a ∙ sym b
 given_same (Some text) m n a b = a.1 ∙ sym b.1
 
 geometry_same : (rows : List Row) (o p : Options) → AreGiven rows o → AreGiven rows p
-    → geometry_of o ≡ geometry_of p
-unfolding geometry_of
+    → geometry_asked o ≡ geometry_asked p
+unfolding geometry_asked
 geometry_same rows o p a b =
     let objects = given_same _ o.objects p.objects a.objects b.objects in
     let data_area = given_same _ o.data_area p.data_area a.data_area b.data_area in
@@ -34,12 +35,14 @@ geometry_same rows o p a b =
     let packet = given_same _ o.packet p.packet a.packet b.packet in
     rw (objects, data_area, segment, address, packet) refl
 
+-- options that make no geometry are words that give none
 pub no_geometry : (rows : List Row) (o : Options) → AreGiven rows o → (made : Option Geometry)
-    → made ≡ geometry_of o → IfNone made ((g : Geometry) → GiveGeometry rows g → ⊥)
+    → made ≡ geometry_asked o → IfNone made ((g : Geometry) → GiveGeometry rows g → ⊥)
 no_geometry rows o a (Some g) is = tt
 no_geometry rows o a None is = λ g gives. let same = geometry_same rows o gives.0 a gives.1 in
     let none : None ≡ Some g = is ∙ same ∙ gives.2 in absurd (cc)
 
+-- a number that is out of its range is one that gives no directory's id
 pub no_directory : (rows : List Row) (number : Option ℕ)
     → IsGiven (first_of (codes "after") rows) number → None ≡ field_in number 0
     → (directory : ℕ) → GiveDirectory rows directory → ⊥
@@ -49,26 +52,30 @@ no_directory rows number given none directory gives =
     absurd (cc)
 
 module _ (rows : List Row) (none : (g : Geometry) → GiveGeometry rows g → ⊥) where
-  pub no_memory : (name : Text) → name ≡ codes "memory" → (task : Task) → IsTask name rows task → ⊥
-  no_memory name is (Memory g) t = none g t.1
-  no_memory name is (Format path g directory) t =
+  -- words without a geometry ask for no disk in memory
+  pub memory_needs_geometry : (name : Text) → name ≡ codes "memory" → (task : Task)
+      → IsTask name rows task → ⊥
+  memory_needs_geometry name is (Memory g) t = none g t.1
+  memory_needs_geometry name is (Format path g directory) t =
       clash 0 109 102 (codes "memory") (codes "format") refl refl (omega arith) (sym is ∙ t.0)
-  no_memory name is (Serve path) t =
+  memory_needs_geometry name is (Serve path) t =
       clash 0 109 115 (codes "memory") (codes "serve") refl refl (omega arith) (sym is ∙ t.0)
-  no_memory name is (Check path) t =
+  memory_needs_geometry name is (Check path) t =
       clash 0 109 99 (codes "memory") (codes "check") refl refl (omega arith) (sym is ∙ t.0)
-  no_memory name is (Migrate path) t =
+  memory_needs_geometry name is (Migrate path) t =
       clash 1 101 105 (codes "memory") (codes "migrate") refl refl (omega arith) (sym is ∙ t.0)
 
 module _ (rows : List Row)
     (none : (g : Geometry) (d : ℕ) → GiveGeometry rows g → GiveDirectory rows d → ⊥) where
-  pub no_format : (name : Text) → name ≡ codes "format" → (task : Task) → IsTask name rows task → ⊥
-  no_format name is (Format path g directory) t = none g directory t.2 t.3
-  no_format name is (Memory g) t =
+  -- words without a geometry, or a directory's id, ask for no formatting
+  pub format_needs_both : (name : Text) → name ≡ codes "format" → (task : Task)
+      → IsTask name rows task → ⊥
+  format_needs_both name is (Format path g directory) t = none g directory t.2 t.3
+  format_needs_both name is (Memory g) t =
       clash 0 102 109 (codes "format") (codes "memory") refl refl (omega arith) (sym is ∙ t.0)
-  no_format name is (Serve path) t =
+  format_needs_both name is (Serve path) t =
       clash 0 102 115 (codes "format") (codes "serve") refl refl (omega arith) (sym is ∙ t.0)
-  no_format name is (Check path) t =
+  format_needs_both name is (Check path) t =
       clash 0 102 99 (codes "format") (codes "check") refl refl (omega arith) (sym is ∙ t.0)
-  no_format name is (Migrate path) t =
+  format_needs_both name is (Migrate path) t =
       clash 0 102 109 (codes "format") (codes "migrate") refl refl (omega arith) (sym is ∙ t.0)

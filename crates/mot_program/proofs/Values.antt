@@ -41,5 +41,6 @@ module _ (id : List ℕ) where
       (find (λ (x : Bor (List ℕ) × MatchedArg). bytes_eq x.0.now id) es) (row_of e)
       (find (λ (r : Row). bytes_eq r.id id) (map row_of es)) refl (entries_value es)
 
+  -- the first value that was found of an argument is the first in its rows
   pub first_found : (f : Found) → first_value f id ≡ first_of id (rows_of f)
   first_found f = entries_value f.entries.items

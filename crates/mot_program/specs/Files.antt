@@ -30,7 +30,7 @@ module _ {S : Type 0} {start : Ghosts S} where
 
   -- Its calls begin with those of its making or opening, and then it was a new disk. Where one that
   -- was opened is as long as those bytes, it held them.
-  pub record HasBegun (is_new : Bool) (disk : FileDiskFrom S start) : Type 0 where
+  pub record HasFirstCalls (is_new : Bool) (disk : FileDiskFrom S start) : Type 0 where
     pub order : BeginWith (first_calls is_new (file_state disk).len) (calls_on disk)
     pub new : IsNew (first_state is_new disk).bytes (first_state is_new disk)
     pub first_bytes : is_new ≡ false → (file_state disk).len ≡ length start.bytes
@@ -38,13 +38,13 @@ module _ {S : Type 0} {start : Ghosts S} where
 
   -- the file was opened, and this holds between what the disk was then and what it is
   pub record SinceOpened (P : State → State → Type 0) (disk : FileDiskFrom S start) : Type 0 where
-    pub begun : HasBegun false disk
+    pub begun : HasFirstCalls false disk
     pub since : P (first_state false disk) (file_state disk)
 
   -- it was made, so long, and this holds between what the disk was then and what it is
   pub record SinceMade (len : ℕ) (P : State → State → Type 0) (disk : FileDiskFrom S start) :
       Type 0 where
-    pub begun : HasBegun true disk
+    pub begun : HasFirstCalls true disk
     pub len_is : (file_state disk).len ≡ len
     pub since : P (first_state true disk) (file_state disk)
 

@@ -43,8 +43,8 @@ field_in None default = Some default
 field_in (Some n) default = if nat_le n 65535 then Some n else None
 
 -- whether its numbers are in their ranges is the geometry's concern
-unfoldable pub geometry_of : Options → Option Geometry
-geometry_of o = do
+unfoldable pub geometry_asked : Options → Option Geometry
+geometry_asked o = do
   objects ← field_in o.objects default_geometry.objects
   segment_size ← field_in o.segment default_geometry.segment_size
   address ← field_in o.address default_geometry.address
@@ -60,7 +60,7 @@ geometry_of o = do
 -- the words give this geometry
 abbrev pub GiveGeometry : List Row → Geometry → Type 0
 GiveGeometry rows geometry =
-    (options : Options) × AreGiven rows options × (geometry_of options ≡ Some geometry)
+    (options : Options) × AreGiven rows options × (geometry_asked options ≡ Some geometry)
 
 -- the words give this transport id to the directory of a new disk: the one behind the id that they
 -- name, or the first

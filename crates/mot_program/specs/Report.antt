@@ -56,18 +56,18 @@ pub record Formats (g : Geometry) (directory : ℕ) (old new : Option (List ℕ)
   pub printed : Appends old new (formatted_line g)
 
 -- why formatting it is refused
-pub data IsFormatRefusal (g : Geometry) (refusal : Refusal) (start now : State) : Type 0 where
+pub data IsFormattingRefusal (g : Geometry) (refusal : Refusal) (start now : State) : Type 0 where
   too_small : refusal ≡ DiskTooSmall → start.len < length_of g → IsUnchanged start now
-      → IsFormatRefusal g refusal start now
+      → IsFormattingRefusal g refusal start now
   already : refusal ≡ AlreadyFormatted → (now.IsHonest → has_magic start.bytes ≡ true)
-      → IsFormatRefusal g refusal start now
+      → IsFormattingRefusal g refusal start now
   device : refusal ≡ DeviceFault → Rises start.failures now.failures
-      → IsFormatRefusal g refusal start now
+      → IsFormattingRefusal g refusal start now
 
 -- it could not be formatted, and nothing was printed; or that it is could not be printed
 pub data StopsFormatting (g : Geometry) (directory : ℕ) (refusal : Refusal)
     (old new : Option (List ℕ)) (start now : State) : Type 0 where
-  refused : IsFormatRefusal g refusal start now → IsUnderFormat g directory start now
+  refused : IsFormattingRefusal g refusal start now → IsUnderFormat g directory start now
       → Keeps old new → StopsFormatting g directory refusal old new start now
   unprinted : refusal ≡ WriteFault → IsFormatted g directory start now
       → StopsFormatting g directory refusal old new start now
@@ -149,7 +149,8 @@ pub record Migrates (old new : Option (List ℕ)) (start now : State) : Type 0 w
 pub data StopsMigrating (refusal : Refusal) (old new : Option (List ℕ)) (start now : State) :
     Type 0 where
   refused : IsOpeningRefusal start now refusal → IsCalm refusal start now
-      → IsUnderMigration start now → (refusal ≢ DeviceFault → now.IsHonest → IsStill start now) → Keeps old new
+      → IsUnderMigration start now → (refusal ≢ DeviceFault → now.IsHonest → IsStill start now)
+      → Keeps old new
       → StopsMigrating refusal old new start now
   unprinted : refusal ≡ WriteFault → (done : Bool) → IsMigrated done start now
       → StopsMigrating refusal old new start now

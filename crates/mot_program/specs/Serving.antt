@@ -6,10 +6,10 @@ use Rattle.mot_base.specs.declared.refusal.Refusal.{Refusal}
 use Rattle.mot_base.specs.declared.refusal.Refusal.TheVariants.{OutOfMemory, ReadFault, WriteFault}
 use Rattle.mot_journal.specs.Image.{Standing}
 use Rattle.mot_lines.specs.Lines.{whole_lines, lines_of}
-use Rattle.mot_program.specs.declared.serving.TheConstants.{READS}
 use Rattle.mot_program.specs.Report.{IsCalm}
 use Rattle.mot_repository.specs.Opening.{IsOpeningRefusal}
 use Rattle.mot_repository.specs.Repository.{IsOf}
+use Rattle.mot_session.specs.declared.serving.TheConstants.{MAX_READS}
 use Rattle.mot_session.specs.Served.{TakesInput, Served, Stopped}
 use Rattle.mot_session.specs.State.{ServerState, HasJustOpened}
 
@@ -38,7 +38,7 @@ OpensTo start now P =
 -- the input was served whole
 pub record ServesInput (unread left old new : Option (List ℕ)) (start now : State) : Type 0 where
   pub input : List ℕ
-  pub taken : TakesInput READS unread left input
+  pub taken : TakesInput MAX_READS unread left input
   pub at_end : IsAtEnd left
   pub served : OpensTo start now (λ before after.
       Served now before after (lines_of input) old new)
@@ -47,15 +47,15 @@ pub record ServesInput (unread left old new : Option (List ℕ)) (start now : St
 pub record ServesWholeLines (unread left old new : Option (List ℕ)) (start now : State) :
     Type 0 where
   pub input : List ℕ
-  pub taken : TakesInput READS unread left input
+  pub taken : TakesInput MAX_READS unread left input
   pub served : OpensTo start now (λ before after.
       Served now before after (whole_lines input) old new)
 
 -- a fault of the writer ended it: the first lines were answered, and the reply to the one after
 -- them was broken off
-pub record BreaksOff (unread left old new : Option (List ℕ)) (start now : State) : Type 0 where
+pub record BreaksReply (unread left old new : Option (List ℕ)) (start now : State) : Type 0 where
   pub input : List ℕ
-  pub taken : TakesInput READS unread left input
+  pub taken : TakesInput MAX_READS unread left input
   pub count : ℕ
   pub stopped :
       OpensTo start now (λ before after.
@@ -80,5 +80,5 @@ pub data StopsServing (refusal : Refusal) (unread left old new : Option (List �
       → StopsServing refusal unread left old new start now
   unread : refusal ≡ ReadFault → ServesWholeLines unread left old new start now
       → StopsServing refusal unread left old new start now
-  unwritten : refusal ≡ WriteFault → BreaksOff unread left old new start now
+  unwritten : refusal ≡ WriteFault → BreaksReply unread left old new start now
       → StopsServing refusal unread left old new start now

@@ -38,7 +38,7 @@ pub struct BegunFile<S: Start, K: Beginning> {
 }
 
 impl<S: Start, K: Beginning> Disk for BegunFile<S, K> {
-    ghost use Rattle.disk_store.specs.Inner.FileSound.{file_sound};
+    ghost use Rattle.disk_store.specs.FileSound.{file_sound};
     ghost use Rattle.mot_program.specs.Begun.{begun_state};
 
     ghost state = { begun_state };

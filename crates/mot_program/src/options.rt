@@ -25,12 +25,12 @@ pub struct Options {
 }
 
 impl Options {
-    ghost use Rattle.mot_program.specs.Options.{geometry_of};
+    ghost use Rattle.mot_program.specs.Options.{geometry_asked};
 
     /// The geometry of these numbers, and of the default ones where none is given; `None` where one
     /// does not fit its field.
     pub fn geometry(self) -> Option<Geometry>
-        ensures { result ≡ geometry_of self }
+        ensures { result ≡ geometry_asked self }
     {
         let default = Geometry::default();
         Some(Geometry {

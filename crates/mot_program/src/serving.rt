@@ -12,12 +12,9 @@ use disk_store::{Disk, RamDisk, Start};
 use mot_base::{Geometry, Refusal};
 use mot_journal::format;
 use mot_server::Server;
-use mot_session::serve;
+use mot_session::{MAX_READS, serve};
 use std::alloc::Global;
 use std::io::{Read, Write};
-
-/// How many reads the program gives its input.
-pub const READS: u64 = 4_294_967_296;
 
 /// Serves the reader's lines from a new disk in memory; answers what ended it before the input's
 /// end.
@@ -103,7 +100,7 @@ fn serve_disk<R: Read, W: Write, D: Disk>(
         Ok(server) => server,
         Err(refused) => return Ended::unopened(refused),
     };
-    let fault = serve(alloc, reader, writer, &mut server, READS).fault;
+    let fault = serve(alloc, reader, writer, &mut server, MAX_READS).fault;
     let disk = server.into_disk();
     match fault {
         None => Ended {

@@ -1,5 +1,7 @@
 -- Where on the disk a body lies, and what is read there.
-use Rattle.std.proofs.Common.{◌≡◌, ℕ, zero, suc, ◌+◌, ◌-◌, ◌<◌, ◌≤◌, true, ◌&&◌, List, [], ◌∷◌, length, map, take, drop, slice_range, Result, Ok, refl, sym, ap, ◌∙◌, subst, arith}
+use Rattle.std.proofs.Common.{◌≡◌, ℕ, zero, suc, ◌+◌, ◌-◌, ◌<◌, ◌≤◌, true, ◌&&◌, List, [], ◌∷◌}
+use Rattle.std.proofs.Common.{length, map, take, drop, slice_range, Result, Ok, refl, sym, ap, ◌∙◌}
+use Rattle.std.proofs.Common.{subst, arith}
 use Rattle.std.proofs.lemmas.List.{take-take, drop-take, drop-drop}
 use Rattle.std.proofs.lemmas.Bool.{and_parts, leb-true}
 use Rattle.std.specs.Prelude.{nat_le}
@@ -14,57 +16,68 @@ use Rattle.mot_carousel.specs.Carousel as whole
 use Rattle.mot_carousel.specs.Stands.{object_of}
 use Rattle.mot_journal.specs.declared.layout.Layout.{Layout}
 use Rattle.mot_base.specs.Geometry.{is_valid, is_within, is_packet_length}
-use Rattle.mot_journal.specs.Catalogue.{Placed, body_in}
-use Rattle.mot_journal.specs.Inner.Gaps.{standing_of}
+use Rattle.mot_journal.specs.Catalogue.{Placed, body_in_area}
+use Rattle.mot_journal.specs.Gaps.{standing_of}
 use Rattle.mot_journal.specs.Image.{Standing, area_of}
 use Rattle.mot_journal.specs.Journal.{with_records}
 use Rattle.mot_journal.proofs.Laws.{stands_by_parts}
 use Rattle.mot_repository.specs.Extents.{objects_in, catalogue_with, ArePaired}
 use Rattle.mot_repository.specs.OnDisk.{extent_at, body_on}
-use Rattle.mot_repository.specs.Repository.{RepositoryView, body_at, Holds}
+use Rattle.mot_repository.specs.Repository.{RepositoryView, object_body, Holds}
 use Rattle.mot_repository.specs.Whole.{IsSoundPlaced, IsWhole}
 use Rattle.mot_repository.proofs.Preparing.{kept}
 use Rattle.mot_repository.proofs.Soundness.{placed_in}
 
 -- a part of a part
 pub part_of_part : (xs : List ℕ) (at size from n : ℕ) → from + n ≤ size
-    → slice_range (slice_range xs at (at + size)) from (from + n) ≡ slice_range xs (at + from) (at + from + n)
+    → slice_range (slice_range xs at (at + size)) from (from + n)
+    ≡ slice_range xs (at + from) (at + from + n)
 part_of_part xs at size from n within =
     let k : ℕ = from + n - from in
     let rest : List ℕ = drop at xs in
     let parts : at + size - at ≡ from + (size - from) = omega (arith, within) in
     let count : k ≡ at + from + n - (at + from) = omega arith in
-    ap (λ m. take k (drop from (take m rest))) parts ∙ ap (take k) (drop-take from (size - from) rest)
+    ap (λ m. take k (drop from (take m rest))) parts
+    ∙ ap (take k) (drop-take from (size - from) rest)
     ∙ take-take k (size - from) (drop from rest) (omega (arith, within))
     ∙ ap (take k) (drop-drop from at xs) ∙ ap (λ m. take m (drop (at + from) xs)) count
 
 -- a part of the data area
 area-part : (g : Geometry) (image : List ℕ) (from n : ℕ) → from + n ≤ g.data_area
-    → slice_range (area_of g image) from (from + n) ≡ slice_range image (area_start g + from) (area_start g + from + n)
+    → slice_range (area_of g image) from (from + n)
+    ≡ slice_range image (area_start g + from) (area_start g + from + n)
 area-part g image from n within =
     let at : ℕ = area_start g in
     let whole : g.data_area ≡ at + g.data_area - at = omega arith in
-    ap (λ m. slice_range (take m (drop at image)) from (from + n)) whole ∙ part_of_part image at g.data_area from n within
+    ap (λ m. slice_range (take m (drop at image)) from (from + n)) whole
+    ∙ part_of_part image at g.data_area from n within
 
 abbrev wholes : List ℕ → List Placed → List whole.Object
-wholes area objects = map (λ (p : Placed). object_of p.object (body_in area p)) objects
+wholes area objects = map (λ (p : Placed). object_of p.object (body_in_area area p)) objects
 
 abbrev extents-in : List Placed → List (ℕ × ℕ)
 extents-in objects = map (λ (p : Placed). (p.start, p.object.length)) objects
 
-body-lies : (g : Geometry) (layout : Layout) (image : List ℕ) (objects : List Placed) → AllByRecursion (IsSoundPlaced g layout) objects
-    → (place : ℕ) → place < length (extents-in objects) → body_at (wholes (area_of g image) objects) place ≡ body_on g (extents-in objects) place image
+body-lies : (g : Geometry) (layout : Layout) (image : List ℕ) (objects : List Placed)
+    → AllByRecursion (IsSoundPlaced g layout) objects
+    → (place : ℕ) → place < length (extents-in objects)
+    → object_body (wholes (area_of g image) objects) place
+    ≡ body_on g (extents-in objects) place image
 body-lies g layout image [] a place lt = absurd (omega (arith, lt))
-body-lies g layout image (p ∷ objects) a zero lt = area-part g image p.start p.object.length (placed_in g layout p a.0).within
-body-lies g layout image (p ∷ objects) a (suc place) lt = body-lies g layout image objects a.1 place (omega (arith, lt))
+body-lies g layout image (p ∷ objects) a zero lt =
+    area-part g image p.start p.object.length (placed_in g layout p a.0).within
+body-lies g layout image (p ∷ objects) a (suc place) lt =
+    body-lies g layout image objects a.1 place (omega (arith, lt))
 
 same-standing : (s t : Standing) → ◌≡◌ {A = Result Standing Refusal} (Ok s) (Ok t) → s ≡ t
 same-standing s t e = cc
 
 -- an object's body lies where its extent says
-pub body_held : (view : RepositoryView) (s : Standing) (state : State) → IsHonestDisk state → Holds view s state
+pub body_held : (view : RepositoryView) (s : Standing) (state : State) → IsHonestDisk state
+    → Holds view s state
     → (place : ℕ) → place < length view.extents
-    → body_at s.carousel.objects place ≡ body_on view.journal.geometry view.extents place state.bytes
+    → object_body s.carousel.objects place
+    ≡ body_on view.journal.geometry view.extents place state.bytes
 body_held view s state sound holds place lt =
     let k = kept view s state sound holds in
     let c = k.0 in
@@ -72,22 +85,33 @@ body_held view s state sound holds place lt =
     let g = view.journal.geometry in
     let image = state.bytes in
     let has = holds.journal.each image sound.bytes in
-    let here = stands_by_parts g (with_records view.journal holds.records) c image refl has.read is.fold in
-    let standing = same-standing (standing_of g c image) s (sym here ∙ (holds.each image sound.bytes).stands) in
-    let few : place < length (extents-in c.objects) = subst (λ (l : List (ℕ × ℕ)). place < length l) is.extents lt in
-    sym (ap (λ (t : Standing). body_at t.carousel.objects place) standing)
+    let here = stands_by_parts g (with_records view.journal holds.records) c image refl has.read
+    is.fold in
+    let standing = same-standing (standing_of g c image) s
+    (sym here ∙ (holds.each image sound.bytes).stands) in
+    let few : place < length (extents-in c.objects) =
+    subst (λ (l : List (ℕ × ℕ)). place < length l) is.extents lt in
+    sym (ap (λ (t : Standing). object_body t.carousel.objects place) standing)
     ∙ body-lies g view.journal.layout image c.objects is.whole.each place few
     ∙ sym (ap (λ (l : List (ℕ × ℕ)). body_on g l place image) is.extents)
 
 extent-lies : (g : Geometry) (layout : Layout) (objects : List Object) (extents : List (ℕ × ℕ))
     → map (λ (e : ℕ × ℕ). e.1) extents ≡ map (λ (o : Object). o.length) objects
-    → AllByRecursion (IsSoundPlaced g layout) (objects_in objects extents) → (place : ℕ) → place < length extents
+    → AllByRecursion (IsSoundPlaced g layout) (objects_in objects extents) → (place : ℕ)
+    → place < length extents
     → (extent_at extents place).0 + (extent_at extents place).1 ≤ g.data_area
 extent-lies g layout objects [] paired a place lt = absurd (omega (arith, lt))
 extent-lies g layout [] (e ∷ extents) paired a place lt = cc
 extent-lies g layout (o ∷ objects) (e ∷ extents) paired a zero lt =
     let placed : Placed = record {
-      object = record { name = o.name; content = o.content; mime = o.mime; version = o.version; tid = o.tid; length = e.1 };
+      object = record {
+        name = o.name;
+        content = o.content;
+        mime = o.mime;
+        version = o.version;
+        tid = o.tid;
+        length = e.1;
+      };
       start = e.0;
     } in
     (placed_in g layout placed a.0).within
@@ -97,9 +121,11 @@ extent-lies g layout (o ∷ objects) (e ∷ extents) paired a (suc place) lt =
 
 -- each body lies in the data area
 pub extent_within : (g : Geometry) (layout : Layout) (carousel : Carousel) (extents : List (ℕ × ℕ))
-    → IsWhole g layout (catalogue_with carousel extents) → ArePaired carousel extents → (place : ℕ) → place < length extents
+    → IsWhole g layout (catalogue_with carousel extents) → ArePaired carousel extents → (place : ℕ)
+    → place < length extents
     → (extent_at extents place).0 + (extent_at extents place).1 ≤ g.data_area
-extent_within g layout carousel extents is paired = extent-lies g layout carousel.objects.items extents paired is.each
+extent_within g layout carousel extents is paired =
+    extent-lies g layout carousel.objects.items extents paired is.each
 
 -- a valid geometry's data area is not large
 pub small_area : (g : Geometry) → is_valid g ≡ true → g.data_area ≤ 268435456
@@ -112,4 +138,5 @@ small_area g valid =
     let h3 = and_parts (b1 && b2 && b3) b4 h4.0 in
     let h2 = and_parts (b1 && b2) b3 h3.0 in
     let h1 = and_parts b1 b2 h2.0 in
-    leb-true g.data_area 268435456 (and_parts (nat_le 1 g.data_area) (nat_le g.data_area 268435456) h1.1).1
+    leb-true g.data_area 268435456
+    (and_parts (nat_le 1 g.data_area) (nat_le g.data_area 268435456) h1.1).1

@@ -1,5 +1,6 @@
 -- What has no fault in layout 1 has none in layout 2.
-use Rattle.std.proofs.Common.{◌≡◌, ℕ, ◌≤◌, ◌+◌, true, ◌&&◌, List, [], ◌∷◌, length, arith, subst, sym}
+use Rattle.std.proofs.Common.{◌≡◌, ℕ, ◌≤◌, ◌+◌, true, ◌&&◌, List, [], ◌∷◌, length, arith, subst}
+use Rattle.std.proofs.Common.{sym}
 use Rattle.std.proofs.lemmas.List.Elements.{All-from_recursion}
 use Rattle.std.proofs.lemmas.Bool.{and_parts, and_from, leb-true, le-leb}
 use Rattle.std.specs.Prelude.{All, nat_le, nat_lt, not, ◌==◌}
@@ -38,10 +39,12 @@ placed-in-two g p is =
     let k = and_parts numbers (is_name 100 o.name) h.0 in
     (and_from _ _ (and_from _ _ k.0 (longer-name o.name k.1)) h.1, is.1)
 
-all-in-two : (g : Geometry) (objects : List Placed) → AllByRecursion (IsSoundPlaced g One) objects → AllByRecursion (IsSoundPlaced g Two) objects
+all-in-two : (g : Geometry) (objects : List Placed) → AllByRecursion (IsSoundPlaced g One) objects
+    → AllByRecursion (IsSoundPlaced g Two) objects
 all-in-two g [] a = tt
 all-in-two g (p ∷ objects) a = (placed-in-two g p a.0, all-in-two g objects a.1)
 
+-- a catalogue without a fault in layout 1 has none in layout 2
 pub whole_in_two : (g : Geometry) (c : Catalogue) → IsWhole g One c → IsWhole g Two c
 whole_in_two g c is = record {
   good = is.good;
@@ -51,10 +54,15 @@ whole_in_two g c is = record {
 }
 
 -- what a migration asks of its records
-pub migrates : (g : Geometry) (c : Catalogue) (given : List Record) → IsWhole g One c → given ≡ records_of_catalogue c
+pub migrates : (g : Geometry) (c : Catalogue) (given : List Record) → IsWhole g One c
+    → given ≡ records_of_catalogue c
     → (length given ≤ slot_count Two g) × All (λ r. is_sound g Two r ≡ true) given
 migrates g c given is same =
     let rewriting = is_rewriting g Two c (whole_in_two g c is) in
     let few = rewriting.few in
-    let Meant : List Record → Type 0 = λ l. (length l ≤ slot_count Two g) × All (λ r. is_sound g Two r ≡ true) l in
-    subst Meant (sym same) (omega (arith, few), All-from_recursion (λ r. is_sound g Two r ≡ true) (records_of_catalogue c) rewriting.sound)
+    let Meant : List Record → Type 0 = λ l. (length l ≤ slot_count Two g)
+    × All (λ r. is_sound g Two r ≡ true) l in
+    subst Meant (sym same) (
+      omega (arith, few),
+      All-from_recursion (λ r. is_sound g Two r ≡ true) (records_of_catalogue c) rewriting.sound,
+    )

@@ -1,13 +1,16 @@
 -- Objects and the extents that stand beside them, as the code of a fold changes both.
-use Rattle.std.proofs.Common.{◌≡◌, ◌⊎◌, ℕ, zero, suc, ◌+◌, ◌<◌, ◌≤◌, Bool, true, false, cond, not, ◌&&◌, ◌||◌, List, [], ◌∷◌, ◌++◌, length, map, set, Option, Some, None, refl, sym, ap, ◌∙◌, arith, inl, inr}
+use Rattle.std.proofs.Common.{◌≡◌, ◌⊎◌, ℕ, zero, suc, ◌+◌, ◌<◌, ◌≤◌, Bool, true, false, cond, not}
+use Rattle.std.proofs.Common.{◌&&◌, ◌||◌, List, [], ◌∷◌, ◌++◌, length, map, set, Option, Some, None}
+use Rattle.std.proofs.Common.{refl, sym, ap, ◌∙◌, arith, inl, inr}
 use Rattle.std.specs.Prelude.{remove, option_map, bytes_eq, nat_eq, position, is_some, is_none}
 use Rattle.std.specs.List.{position_from, list_all, list_any}
 use Rattle.std.proofs.lemmas.Bool.{lt-ltb, le-ltb}
 use Rattle.std.proofs.lemmas.Iterator.Adapters.{position_from-zero}
 use Rattle.mot_carousel.specs.declared.object.Object.{Object}
 use Rattle.mot_carousel.specs.Ids.{contains}
-use Rattle.mot_carousel.specs.Stands.{place_of}
-use Rattle.mot_journal.specs.Catalogue.{Placed, put_in_place, objects_without, are_apart, are_all_apart}
+use Rattle.mot_carousel.specs.Stands.{index_of}
+use Rattle.mot_journal.specs.Catalogue.{Placed, put_in_place, placed_without, are_apart}
+use Rattle.mot_journal.specs.Catalogue.{are_all_apart}
 use Rattle.mot_repository.specs.Extents.{objects_in}
 use Rattle.mot_repository.specs.Gap.{is_free, is_beside}
 use Rattle.mot_repository.specs.Inner.Fold.{HaveLengths, are_extents_apart, objects_set}
@@ -21,7 +24,15 @@ head e = cc
 -- an object and its extent
 abbrev in-one : Object → ℕ × ℕ → Placed
 in-one o e = record {
-  object = record { name = o.name; content = o.content; mime = o.mime; version = o.version; tid = o.tid; length = e.1 };
+  object = record {
+    name = o.name;
+    content = o.content;
+    mime = o.mime;
+    version = o.version;
+    tid =
+        o.tid;
+    length = e.1;
+  };
   start = e.0;
 }
 
@@ -39,11 +50,13 @@ above-zero : (r : Option ℕ) → above 0 r ≡ r
 above-zero None = refl
 above-zero (Some i) = ap Some (omega arith)
 
-place-cases : (t : Bool) (k : ℕ) (r : Option ℕ) → cond t (Some k) (above (k + 1) r) ≡ above k (cond t (Some 0) (option_map suc r))
+place-cases : (t : Bool) (k : ℕ) (r : Option ℕ)
+    → cond t (Some k) (above (k + 1) r) ≡ above k (cond t (Some 0) (option_map suc r))
 place-cases true k r = ap Some (omega arith)
 place-cases false k r = above-suc k r
 
-nowhere-cases : (t : Bool) (r : Option ℕ) → cond t (Some 0) (option_map suc r) ≡ None → (t ≡ false) × (r ≡ None)
+nowhere-cases : (t : Bool) (r : Option ℕ) → cond t (Some 0) (option_map suc r) ≡ None
+    → (t ≡ false) × (r ≡ None)
 nowhere-cases true r e = cc
 nowhere-cases false None e = (refl, refl)
 nowhere-cases false (Some i) e = cc
@@ -55,16 +68,19 @@ module _ (test : Object → Bool) where
 
   place-from : (k : ℕ) (os : List Object) → position_from test k os ≡ above k (place os)
   place-from k [] = refl
-  place-from k (o ∷ os) = ap (cond (test o) (Some k)) (place-from (k + 1) os) ∙ place-cases (test o) k (place os)
+  place-from k (o ∷ os) = ap (cond (test o) (Some k)) (place-from (k + 1) os)
+      ∙ place-cases (test o) k (place os)
 
   place-is : (os : List Object) (r : Option ℕ) → position test os ≡ r → place os ≡ r
   place-is os r e = sym (position_from-zero test os ∙ place-from 0 os ∙ above-zero (place os)) ∙ e
 
   -- the first object passes, or the place is among the others
   abbrev Located : Object → List Object → ℕ → Type 0
-  Located o os i = ((test o ≡ true) × (i ≡ 0)) ⊎ ((j : ℕ) × (test o ≡ false) × (i ≡ suc j) × (place os ≡ Some j))
+  Located o os i = ((test o ≡ true) × (i ≡ 0))
+      ⊎ ((j : ℕ) × (test o ≡ false) × (i ≡ suc j) × (place os ≡ Some j))
 
-  located-cases : (o : Object) (os : List Object) (i : ℕ) (t : Bool) (r : Option ℕ) → test o ≡ t → place os ≡ r → cond t (Some 0) (option_map suc r) ≡ Some i → Located o os i
+  located-cases : (o : Object) (os : List Object) (i : ℕ) (t : Bool) (r : Option ℕ) → test o ≡ t
+      → place os ≡ r → cond t (Some 0) (option_map suc r) ≡ Some i → Located o os i
   located-cases o os i true r p q e = inl (p, cc)
   located-cases o os i false None p q e = cc
   located-cases o os i false (Some j) p q e = inr (j, p, cc, q)
@@ -80,7 +96,8 @@ has-name name o = bytes_eq o.name name
 abbrev has-id : ℕ → Object → Bool
 has-id tid o = nat_eq o.tid tid
 
-put-nowhere : (p : Placed) (os : List Object) (es : List (ℕ × ℕ)) → place (has-name p.object.name) os ≡ None
+put-nowhere : (p : Placed) (os : List Object) (es : List (ℕ × ℕ))
+    → place (has-name p.object.name) os ≡ None
     → put_in_place p (objects_in os es) ≡ None
 put-nowhere p [] es e = refl
 put-nowhere p (o ∷ os) [] e = refl
@@ -90,7 +107,8 @@ put-nowhere p (o ∷ os) (x ∷ es) e =
 
 put-there : (p : Placed) (os : List Object) (es : List (ℕ × ℕ)) (i : ℕ) → HaveLengths os es
     → place (has-name p.object.name) os ≡ Some i
-    → put_in_place p (objects_in os es) ≡ Some (objects_in (set os i p.object) (set es i (p.start, p.object.length)))
+    → put_in_place p (objects_in os es)
+    ≡ Some (objects_in (set os i p.object) (set es i (p.start, p.object.length)))
 put-there p [] es i l e = cc
 put-there p (o ∷ os) [] i l e = cc
 put-there p (o ∷ os) (x ∷ es) i l e = elim (located (has-name p.object.name) o os i e) [
@@ -99,7 +117,7 @@ put-there p (o ∷ os) (x ∷ es) i l e = elim (located (has-name p.object.name)
 ]
 
 gone-nowhere : (tid : ℕ) (os : List Object) (es : List (ℕ × ℕ)) → place (has-id tid) os ≡ None
-    → objects_without tid (objects_in os es) ≡ None
+    → placed_without tid (objects_in os es) ≡ None
 gone-nowhere tid [] es e = refl
 gone-nowhere tid (o ∷ os) [] e = refl
 gone-nowhere tid (o ∷ os) (x ∷ es) e =
@@ -108,7 +126,7 @@ gone-nowhere tid (o ∷ os) (x ∷ es) e =
 
 gone-there : (tid : ℕ) (os : List Object) (es : List (ℕ × ℕ)) (i : ℕ) → HaveLengths os es
     → place (has-id tid) os ≡ Some i
-    → objects_without tid (objects_in os es) ≡ Some (objects_in (remove os i) (remove es i))
+    → placed_without tid (objects_in os es) ≡ Some (objects_in (remove os i) (remove es i))
 gone-there tid [] es i l e = cc
 gone-there tid (o ∷ os) [] i l e = cc
 gone-there tid (o ∷ os) (x ∷ es) i l e = elim (located (has-id tid) o os i e) [
@@ -119,17 +137,20 @@ gone-there tid (o ∷ os) (x ∷ es) i l e = elim (located (has-id tid) o os i e
 -- ---- one object more, and lengths
 
 in-append : (os : List Object) (es : List (ℕ × ℕ)) (o : Object) (start : ℕ) → HaveLengths os es
-    → objects_in (os ++ o ∷ []) (es ++ (start, o.length) ∷ []) ≡ objects_in os es ++ in-one o (start, o.length) ∷ []
+    → objects_in (os ++ o ∷ []) (es ++ (start, o.length) ∷ [])
+    ≡ objects_in os es ++ in-one o (start, o.length) ∷ []
 in-append [] [] o start l = refl
 in-append [] (x ∷ es) o start l = cc
 in-append (p ∷ os) [] o start l = cc
 in-append (p ∷ os) (x ∷ es) o start l = ap (λ r. in-one p x ∷ r) (in-append os es o start (tail l))
 
-in-length : (os : List Object) (es : List (ℕ × ℕ)) → HaveLengths os es → length (objects_in os es) ≡ length os
+in-length : (os : List Object) (es : List (ℕ × ℕ)) → HaveLengths os es
+    → length (objects_in os es) ≡ length os
 in-length [] es l = refl
 in-length (o ∷ os) [] l = cc
 in-length (o ∷ os) (x ∷ es) l = ap suc (in-length os es (tail l))
 
+-- there are as many extents as objects
 pub same_count : (os : List Object) (es : List (ℕ × ℕ)) → HaveLengths os es → length es ≡ length os
 same_count [] [] l = refl
 same_count [] (x ∷ es) l = cc
@@ -145,23 +166,19 @@ extent-size e = e.1
 same-step : (c p : ℕ) (xs ys us vs : List ℕ) → c ∷ xs ≡ p ∷ ys → us ≡ vs → c ∷ us ≡ p ∷ vs
 same-step c p xs ys us vs e h = cc
 
-pub lengths_append : (os : List Object) (es : List (ℕ × ℕ)) (o : Object) (start : ℕ) → HaveLengths os es
-    → HaveLengths (os ++ o ∷ []) (es ++ (start, o.length) ∷ [])
-lengths_append [] [] o start l = refl
-lengths_append [] (x ∷ es) o start l = cc
-lengths_append (p ∷ os) [] o start l = cc
-lengths_append (p ∷ os) (x ∷ es) o start l =
-    same-step x.1 p.length (map extent-size es) (map size os) _ _ l (lengths_append os es o start (tail l))
-
-pub lengths_set : (os : List Object) (es : List (ℕ × ℕ)) (i : ℕ) (o : Object) (start : ℕ) → HaveLengths os es
+-- an object put in a place, with its extent there, keeps the lengths of the extents
+pub lengths_set : (os : List Object) (es : List (ℕ × ℕ)) (i : ℕ) (o : Object) (start : ℕ)
+    → HaveLengths os es
     → HaveLengths (set os i o) (set es i (start, o.length))
 lengths_set [] [] i o start l = refl
 lengths_set [] (x ∷ es) i o start l = cc
 lengths_set (p ∷ os) [] i o start l = cc
 lengths_set (p ∷ os) (x ∷ es) zero o start l = ap (λ r. o.length ∷ r) (tail l)
 lengths_set (p ∷ os) (x ∷ es) (suc i) o start l =
-    same-step x.1 p.length (map extent-size es) (map size os) _ _ l (lengths_set os es i o start (tail l))
+    same-step x.1 p.length (map extent-size es) (map size os) _ _ l
+    (lengths_set os es i o start (tail l))
 
+-- an object taken out, with its extent, keeps the lengths of the extents
 pub lengths_remove : (os : List Object) (es : List (ℕ × ℕ)) (i : ℕ) → HaveLengths os es
     → HaveLengths (remove os i) (remove es i)
 lengths_remove [] [] zero l = refl
@@ -170,7 +187,8 @@ lengths_remove [] (x ∷ es) i l = cc
 lengths_remove (p ∷ os) [] i l = cc
 lengths_remove (p ∷ os) (x ∷ es) zero l = tail l
 lengths_remove (p ∷ os) (x ∷ es) (suc i) l =
-    same-step x.1 p.length (map extent-size es) (map size os) _ _ l (lengths_remove os es i (tail l))
+    same-step x.1 p.length (map extent-size es) (map size os) _ _ l
+    (lengths_remove os es i (tail l))
 
 -- ---- as the code does it
 
@@ -179,29 +197,48 @@ module _ (os : List Object) (es : List (ℕ × ℕ)) (l : HaveLengths os es) whe
     abbrev here : Placed
     here = record { object = o; start = start }
 
-    pub set_there : (i : ℕ) → place_of o.name os ≡ Some i
-        → Some (objects_in (set os i o) (set es i (start, o.length))) ≡ objects_set limit here (objects_in os es)
+    -- an object of a name that is there takes the place of the first one of the name
+    pub set_there : (i : ℕ) → index_of o.name os ≡ Some i
+        → Some (objects_in (set os i o) (set es i (start, o.length)))
+        ≡ objects_set limit here (objects_in os es)
     set_there i e = rw (put-there here os es i l (place-is (has-name o.name) os (Some i) e)) refl
 
-    pub set_behind : place_of o.name os ≡ None → length os < limit
-        → Some (objects_in (os ++ o ∷ []) (es ++ (start, o.length) ∷ [])) ≡ objects_set limit here (objects_in os es)
+    -- an object of a new name comes behind the others, where there is room for one
+    pub set_behind : index_of o.name os ≡ None → length os < limit
+        → Some (objects_in (os ++ o ∷ []) (es ++ (start, o.length) ∷ []))
+        ≡ objects_set limit here (objects_in os es)
     set_behind e lt =
-        rw (put-nowhere here os es (place-is (has-name o.name) os None e), in-length os es l, lt-ltb (length os) limit lt, in-append os es o start l) refl
+        rw (
+          put-nowhere here os es (place-is (has-name o.name) os None e),
+          in-length os es l,
+          lt-ltb (length os) limit lt,
+          in-append os es o start l,
+        ) refl
 
-    pub set_nowhere : place_of o.name os ≡ None → limit ≤ length os → None ≡ objects_set limit here (objects_in os es)
+    -- an object of a new name has no place among as many as the limit
+    pub set_nowhere : index_of o.name os ≡ None → limit ≤ length os
+        → None ≡ objects_set limit here (objects_in os es)
     set_nowhere e le =
-        rw (put-nowhere here os es (place-is (has-name o.name) os None e), in-length os es l, le-ltb (length os) limit le) refl
+        rw (
+          put-nowhere here os es (place-is (has-name o.name) os None e),
+          in-length os es l,
+          le-ltb (length os) limit le,
+        ) refl
 
   module _ (tid : ℕ) where
+    -- an object of an id that is there is taken out with its extent
     pub remove_there : (i : ℕ) → position (has-id tid) os ≡ Some i
-        → Some (objects_in (remove os i) (remove es i)) ≡ objects_without tid (objects_in os es)
+        → Some (objects_in (remove os i) (remove es i)) ≡ placed_without tid (objects_in os es)
     remove_there i e = sym (gone-there tid os es i l (place-is (has-id tid) os (Some i) e))
 
-    pub remove_nowhere : position (has-id tid) os ≡ None → None ≡ objects_without tid (objects_in os es)
+    -- where no object has the id, none is removed
+    pub remove_nowhere : position (has-id tid) os ≡ None
+        → None ≡ placed_without tid (objects_in os es)
     remove_nowhere e = sym (gone-nowhere tid os es (place-is (has-id tid) os None e))
 
 -- ---- what a consistent list is
 
+-- the ids of objects beside their extents are those of the objects
 pub ids_in : (os : List Object) (es : List (ℕ × ℕ)) → HaveLengths os es
     → map (λ (p : Placed). p.object.tid) (objects_in os es) ≡ map (λ (o : Object). o.tid) os
 ids_in [] es l = refl
@@ -213,8 +250,10 @@ beside-in : (p : Placed) (os : List Object) (es : List (ℕ × ℕ)) → HaveLen
 beside-in p [] [] l = refl
 beside-in p [] (x ∷ es) l = cc
 beside-in p (o ∷ os) [] l = cc
-beside-in p (o ∷ os) (x ∷ es) l = ap (λ t. is_beside p.start p.object.length x && t) (beside-in p os es (tail l))
+beside-in p (o ∷ os) (x ∷ es) l =
+    ap (λ t. is_beside p.start p.object.length x && t) (beside-in p os es (tail l))
 
+-- objects beside their extents lie apart where the extents do
 pub apart_in : (os : List Object) (es : List (ℕ × ℕ)) → HaveLengths os es
     → are_all_apart (objects_in os es) ≡ are_extents_apart es
 apart_in [] [] l = refl
@@ -225,10 +264,7 @@ apart_in (o ∷ os) (x ∷ es) l =
     ∙ ap (λ t. is_free es x.1 x.0 && t) (apart_in os es (tail l))
 
 -- an id is used where one of the objects has it
-pub used_by : (tid : ℕ) (os : List Object) → contains (map (λ (o : Object). o.tid) os) tid ≡ list_any (λ (o : Object). nat_eq tid o.tid) os
+pub used_by : (tid : ℕ) (os : List Object)
+    → contains (map (λ (o : Object). o.tid) os) tid ≡ list_any (λ (o : Object). nat_eq tid o.tid) os
 used_by tid [] = refl
 used_by tid (o ∷ os) = ap (λ t. nat_eq tid o.tid || t) (used_by tid os)
-
-pub none_or_some : {X : Type 0} (r : Option X) → is_none r ≡ not (is_some r)
-none_or_some None = refl
-none_or_some (Some x) = refl

@@ -7,11 +7,6 @@ use Rattle.mot_repository.specs.Gap.{is_beside, is_free, least_gap}
 use Rattle.mot_repository.specs.Inner.LeastGap.{IsLeastGap}
 use Rattle.mot_repository.proofs.Gaps.{least_gap_is_least}
 
--- fewer bytes from the same start meet no more
-fewer_beside : (n m start : ℕ) (e : ℕ × ℕ) → n ≤ m → is_beside start m e ≡ true
-    → is_beside start n e ≡ true
-fewer_beside n m start e le is = grind (arith, nat_tests)
-
 fewer_free : (extents : List (ℕ × ℕ)) (n m start : ℕ) → n ≤ m → is_free extents m start ≡ true
     → is_free extents n start ≡ true
 fewer_free [] n m start le is = refl
@@ -33,15 +28,21 @@ some-cases : (extents : List (ℕ × ℕ)) (size : ℕ) (answer : Option ℕ)
 some-cases extents size None is = absurd (is 0 (omega arith, nothing_free extents))
 some-cases extents size (Some start) is = refl
 
-pub nothing_fits : (extents : List (ℕ × ℕ)) (size : ℕ) → is_none (least_gap extents 0 size) ≡ false
-nothing_fits extents size =
+-- a gap for no bytes at all is always there
+pub zero_bytes_fit : (extents : List (ℕ × ℕ)) (size : ℕ)
+    → is_none (least_gap extents 0 size) ≡ false
+zero_bytes_fit extents size =
     some-cases extents size (least_gap extents 0 size) (least_gap_is_least extents 0 size)
 
-pub more_than_all : (extents : List (ℕ × ℕ)) (n size : ℕ) → size < n → least_gap extents n size ≡ None
+-- more bytes than the area has have no gap
+pub more_than_all : (extents : List (ℕ × ℕ)) (n size : ℕ) → size < n
+    → least_gap extents n size ≡ None
 more_than_all extents n size lt =
     none-cases extents n size (least_gap extents n size)
-    (λ start fits. let within = fits.0 in omega (arith, within, lt)) (least_gap_is_least extents n size)
+    (λ start fits. let within = fits.0 in omega (arith, within, lt))
+    (least_gap_is_least extents n size)
 
+-- where so many bytes have no gap, more have none
 pub none_above : (extents : List (ℕ × ℕ)) (n m size : ℕ) → least_gap extents n size ≡ None → n ≤ m
     → least_gap extents m size ≡ None
 none_above extents n m size none le =

@@ -1,5 +1,6 @@
 -- What was loaded and folded is in order, and why a disk is not opened.
-use Rattle.std.proofs.Common.{◌≡◌, inl, inr, ⊎_elim, ℕ, ◌≤◌, true, false, List, [], ◌∷◌, map, Ok, Err, All, refl, sym, ap, ◌∙◌, subst, arith}
+use Rattle.std.proofs.Common.{◌≡◌, inl, inr, ⊎_elim, ℕ, ◌≤◌, true, false, List, [], ◌∷◌, map, Ok}
+use Rattle.std.proofs.Common.{Err, All, refl, sym, ap, ◌∙◌, subst, arith}
 use Rattle.std.specs.Prelude.{IsFalse, Result, IsErr, OnOk, is_err}
 use Rattle.std.proofs.Math.Nat.{eq-or-lt_of_le}
 use Rattle.std.specs.List.{AllByRecursion}
@@ -19,7 +20,9 @@ use Rattle.mot_journal.specs.Slot.{is_sound}
 use Rattle.mot_journal.specs.Catalogue.{Placed, catalogue_of, carousel_in, extents_of, result_then}
 use Rattle.mot_journal.specs.Image.{DiskRecords, records_of, stands_for, area_of}
 use Rattle.mot_journal.specs.Journal.{JournalView, with_records, IsLoadRefusal}
-use Rattle.mot_journal.specs.Journal.IsLoadRefusal.{not_formatted as no_format, damaged as no_record, no_memory as no_room, device as fault}
+use Rattle.mot_journal.specs.Journal.IsLoadRefusal.{not_formatted as no_format}
+use Rattle.mot_journal.specs.Journal.IsLoadRefusal.{damaged as no_record, no_memory as no_room}
+use Rattle.mot_journal.specs.Journal.IsLoadRefusal.{device as fault}
 use Rattle.mot_repository.specs.Extents.{ArePaired, catalogue_with, objects_in}
 use Rattle.mot_repository.specs.Inner.Fold.{HaveLengths, IsFoldRefusal, HasShortId, HasShortIds}
 use Rattle.mot_repository.specs.Inner.InOrder.{IsInOrder}
@@ -34,28 +37,52 @@ use Rattle.mot_repository.proofs.Soundness.{whole_fold}
 
 -- ---- refusals
 
-no-records : (image : List ℕ) (refusal : Refusal) → records_of image ≡ Err refusal → stands_for image ≡ Err refusal
+no-records : (image : List ℕ) (refusal : Refusal) → records_of image ≡ Err refusal
+    → stands_for image ≡ Err refusal
 unfolding stands_for
 no-records image refusal e =
-    ap (λ o. result_then o (λ (j : DiskRecords). result_then (catalogue_of j.geometry.objects j.records) (λ c.
-    Ok (record { geometry = j.geometry; carousel = carousel_in (area_of j.geometry image) c; extents = extents_of c })))) e
+    ap (λ o. result_then o (λ (j : DiskRecords).
+    result_then (catalogue_of j.geometry.objects j.records) (λ c.
+    Ok (record {
+      geometry = j.geometry;
+      carousel = carousel_in (area_of j.geometry image) c;
+      extents = extents_of c;
+    })))) e
 
-no-catalogue : (image : List ℕ) (j : JournalView) (records : List Record) (refusal : Refusal) → records_of image ≡ Ok (with_records j records)
+no-catalogue : (image : List ℕ) (j : JournalView) (records : List Record) (refusal : Refusal)
+    → records_of image ≡ Ok (with_records j records)
     → catalogue_of j.geometry.objects records ≡ Err refusal → stands_for image ≡ Err refusal
 unfolding stands_for
 no-catalogue image j records refusal read e =
-    ap (λ o. result_then o (λ (k : DiskRecords). result_then (catalogue_of k.geometry.objects k.records) (λ c.
-    Ok (record { geometry = k.geometry; carousel = carousel_in (area_of k.geometry image) c; extents = extents_of c })))) read
-    ∙ ap (λ o. result_then o (λ c. Ok (record { geometry = j.geometry; carousel = carousel_in (area_of j.geometry image) c; extents = extents_of c }))) e
+    ap (λ o. result_then o (λ (k : DiskRecords).
+    result_then (catalogue_of k.geometry.objects k.records) (λ c.
+    Ok (record {
+      geometry = k.geometry;
+      carousel = carousel_in (area_of k.geometry image) c;
+      extents = extents_of c;
+    })))) read
+    ∙ ap (λ o. result_then o
+    (λ c. Ok (record {
+      geometry = j.geometry;
+      carousel =
+          carousel_in (area_of j.geometry image) c;
+      extents = extents_of c;
+    }))) e
 
-pub load_refused : (old new : State) (refusal : Refusal) → IsLoadRefusal old new refusal → IsOpeningRefusal old new refusal
-load_refused old new refusal (no_format is told) = not_formatted is (λ honest. no-records old.bytes refusal (told honest))
-load_refused old new refusal (no_record slot is told) = damaged slot is (λ honest. no-records old.bytes refusal (told honest))
+-- what refuses a disk's loading refuses its opening
+pub load_refused : (old new : State) (refusal : Refusal) → IsLoadRefusal old new refusal
+    → IsOpeningRefusal old new refusal
+load_refused old new refusal (no_format is told) =
+    not_formatted is (λ honest. no-records old.bytes refusal (told honest))
+load_refused old new refusal (no_record slot is told) =
+    damaged slot is (λ honest. no-records old.bytes refusal (told honest))
 load_refused old new refusal (no_room is) = no_memory is
 load_refused old new refusal (fault is rises) = device is rises
 
+-- what refuses the fold of the records that a disk has refuses its opening
 pub fold_refused : (old new : State) (j : JournalView) (records : List Record) (refusal : Refusal)
-    → (new.IsHonest → records_of old.bytes ≡ Ok (with_records j records)) → IsFoldRefusal j.geometry.objects records refusal
+    → (new.IsHonest → records_of old.bytes ≡ Ok (with_records j records))
+    → IsFoldRefusal j.geometry.objects records refusal
     → IsOpeningRefusal old new refusal
 fold_refused old new j records refusal read (inl is) = no_memory is
 fold_refused old new j records refusal read (inr is) =
@@ -68,30 +95,47 @@ same-id Nothing h = h
 same-id (Remove tid) h = h
 same-id (Set tid version content start size name mime) h = h
 
-are-read : (g : Geometry) (layout : Layout) (records : List Record) → AllByRecursion (λ r. is_sound g layout r ≡ true) records
+are-read : (g : Geometry) (layout : Layout) (records : List Record)
+    → AllByRecursion (λ r. is_sound g layout r ≡ true) records
     → AllByRecursion HasShortIds records → AllByRecursion (IsRead g layout) records
 are-read g layout [] sound short = tt
 are-read g layout (r ∷ records) sound short = (
-  record { sound = sound.0; directory = short.0.directory; cursor = short.0.cursor; object = same-id r.action short.0.object },
+  record {
+    sound = sound.0;
+    directory = short.0.directory;
+    cursor = short.0.cursor;
+    object =
+        same-id r.action short.0.object;
+  },
   are-read g layout records sound.1 short.1,
 )
 
-pub is_in_order : (j : JournalView) (carousel : Carousel) (extents : List (ℕ × ℕ)) (records : List Record) (len : ℕ)
-    → is_valid j.geometry ≡ true → length_of j.geometry ≤ len → All (λ r. is_sound j.geometry j.layout r ≡ true) records
-    → All HasShortIds records → catalogue_of j.geometry.objects records ≡ Ok (catalogue_with carousel extents)
-    → ArePaired carousel extents → IsFalse j.spent → IsInOrder (view_with j carousel extents false) len
+-- what was loaded and folded without a fault is in order
+pub is_in_order : (j : JournalView) (carousel : Carousel) (extents : List (ℕ × ℕ))
+    (records : List Record) (len : ℕ)
+    → is_valid j.geometry ≡ true → length_of j.geometry ≤ len
+    → All (λ r. is_sound j.geometry j.layout r ≡ true) records
+    → All HasShortIds records
+    → catalogue_of j.geometry.objects records ≡ Ok (catalogue_with carousel extents)
+    → ArePaired carousel extents → IsFalse j.spent
+    → IsInOrder (view_with j carousel extents false) len
 is_in_order j carousel extents records len valid long sound short fold paired going = record {
   valid = valid;
   long_enough = long;
   whole = whole_fold j.geometry j.layout records (catalogue_with carousel extents)
-      (are-read j.geometry j.layout records (by_recursion (λ r. is_sound j.geometry j.layout r ≡ true) records sound) (by_recursion HasShortIds records short)) fold;
+      (are-read j.geometry j.layout records
+      (by_recursion (λ r. is_sound j.geometry j.layout r ≡ true) records sound)
+      (by_recursion HasShortIds records short)) fold;
   paired = paired;
   going = λ goes_on. going;
 }
 
-pub with_geometry : (g h : Geometry) (records : List Record) (refusal : Refusal) → g ≡ h → IsFoldRefusal g.objects records refusal
+-- a fold's refusal for the same geometry
+pub fold_refused_same : (g h : Geometry) (records : List Record) (refusal : Refusal) → g ≡ h
+    → IsFoldRefusal g.objects records refusal
     → IsFoldRefusal h.objects records refusal
-with_geometry g h records refusal same is = subst (λ (x : Geometry). IsFoldRefusal x.objects records refusal) same is
+fold_refused_same g h records refusal same is =
+    subst (λ (x : Geometry). IsFoldRefusal x.objects records refusal) same is
 
 -- ---- an open repository
 
@@ -101,25 +145,37 @@ tail e = cc
 head : {x y : ℕ} {xs ys : List ℕ} → x ∷ xs ≡ y ∷ ys → x ≡ y
 head e = cc
 
-objects-are : (os : List Object) (es : List (ℕ × ℕ)) → HaveLengths os es → os ≡ map (λ (p : Placed). p.object) (objects_in os es)
+objects-are : (os : List Object) (es : List (ℕ × ℕ)) → HaveLengths os es
+    → os ≡ map (λ (p : Placed). p.object) (objects_in os es)
 objects-are [] es l = refl
 objects-are (o ∷ os) [] l = cc
 objects-are (o ∷ os) (e ∷ es) l =
     let sized : ℕ → Object = λ n.
-    record { name = o.name; content = o.content; mime = o.mime; version = o.version; tid = o.tid; length = n } in
+    record {
+      name = o.name;
+      content = o.content;
+      mime = o.mime;
+      version = o.version;
+      tid = o.tid;
+      length = n;
+    } in
     ap (λ n. sized n ∷ os) (sym (head l)) ∙ ap (λ r. sized e.1 ∷ r) (objects-are os es (tail l))
 
-extents-are : (os : List Object) (es : List (ℕ × ℕ)) → HaveLengths os es → es ≡ map (λ (p : Placed). (p.start, p.object.length)) (objects_in os es)
+extents-are : (os : List Object) (es : List (ℕ × ℕ)) → HaveLengths os es
+    → es ≡ map (λ (p : Placed). (p.start, p.object.length)) (objects_in os es)
 extents-are [] [] l = refl
 extents-are [] (e ∷ es) l = cc
 extents-are (o ∷ os) [] l = cc
 extents-are (o ∷ os) (e ∷ es) l = ap (λ r. e ∷ r) (extents-are os es (tail l))
 
-is-opened : (old mid new : State) (j : JournalView) (carousel : Carousel) (extents : List (ℕ × ℕ)) → IsHonestDisk old → IsStill old mid → IsFirm mid
-    → IsUnchanged mid new → IsLoaded mid.bytes j carousel extents → ArePaired carousel extents → IsFalse j.spent
+is-opened : (old mid new : State) (j : JournalView) (carousel : Carousel) (extents : List (ℕ × ℕ))
+    → IsHonestDisk old → IsStill old mid → IsFirm mid
+    → IsUnchanged mid new → IsLoaded mid.bytes j carousel extents → ArePaired carousel extents
+    → IsFalse j.spent
     → IsOpened old new (view_with j carousel extents false)
 is-opened old mid new j carousel extents sound still firm unchanged loaded paired going =
-    opened (view_with j carousel extents false) old new loaded.records (catalogue_with carousel extents) sound
+    opened (view_with j carousel extents false) old new loaded.records
+    (catalogue_with carousel extents) sound
     (ap records_of (sym still.bytes) ∙ loaded.read) loaded.fold
     (record {
       period = refl;
@@ -130,12 +186,16 @@ is-opened old mid new j carousel extents sound still firm unchanged loaded paire
     })
     loaded.count going (λ k loose. firm k ((unchanged.loose k).0 loose))
 
-pub is_opened : (old mid new : State) (view : RepositoryView) (j : JournalView) (carousel : Carousel) (extents : List (ℕ × ℕ))
+-- a view that was loaded and folded is that of an open repository
+pub is_opened : (old mid new : State) (view : RepositoryView) (j : JournalView)
+    (carousel : Carousel) (extents : List (ℕ × ℕ))
     → view ≡ view_with j carousel extents false → IsHonestDisk old → IsStill old mid → IsFirm mid
-    → IsUnchanged mid new → IsLoaded mid.bytes j carousel extents → ArePaired carousel extents → IsFalse j.spent
+    → IsUnchanged mid new → IsLoaded mid.bytes j carousel extents → ArePaired carousel extents
+    → IsFalse j.spent
     → IsOpened old new view
 is_opened old mid new view j carousel extents same sound still firm unchanged loaded paired going =
-    subst (IsOpened old new) (sym same) (is-opened old mid new j carousel extents sound still firm unchanged loaded paired going)
+    subst (IsOpened old new) (sym same)
+    (is-opened old mid new j carousel extents sound still firm unchanged loaded paired going)
 
 -- ---- a refusal after the sync
 
@@ -150,16 +210,21 @@ no-err : {T E : Type 0} (r : Result T E) → is_err r ≡ false → IsErr r → 
 no-err (Ok x) e h = cc
 no-err (Err x) e h = cc
 
-pub refused_later : {T E : Type 0} (old mid new : State) (r : Result T E) (refusal : Refusal) → HasCause old.failures mid.failures r → is_err r ≡ false
-    → (new.IsHonest → mid.bytes ≡ old.bytes) → IsOpeningRefusal mid new refusal → IsOpeningRefusal old new refusal
+-- a refusal after a call that was Ok refuses the opening from before the call on
+pub refused_later : {T E : Type 0} (old mid new : State) (r : Result T E) (refusal : Refusal)
+    → HasCause old.failures mid.failures r → is_err r ≡ false
+    → (new.IsHonest → mid.bytes ≡ old.bytes) → IsOpeningRefusal mid new refusal
+    → IsOpeningRefusal old new refusal
 refused_later old mid new r refusal cause ok same (not_formatted is told) =
     not_formatted is (λ honest. ap stands_for (sym (same honest)) ∙ told honest)
 refused_later old mid new r refusal cause ok same (damaged slot is told) =
     damaged slot is (λ honest. ap stands_for (sym (same honest)) ∙ told honest)
 refused_later old mid new r refusal cause ok same (no_memory is) = no_memory is
 refused_later old mid new r refusal cause ok same (device is rises) =
-    device is (rises-on old.failures mid.failures new.failures cause.later (λ risen. no-err r ok (cause.shown risen)) rises)
+    device is (rises-on old.failures mid.failures new.failures cause.later
+    (λ risen. no-err r ok (cause.shown risen)) rises)
 
+-- what holds on Ok holds where the result is no error
 pub where_ok : {T E : Type 0} {P : Type 0} (r : Result T E) → is_err r ≡ false → OnOk r P → P
 where_ok (Ok x) e p = p
 where_ok (Err x) e p = cc

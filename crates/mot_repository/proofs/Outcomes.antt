@@ -25,6 +25,7 @@ use Rattle.mot_repository.specs.Outcome.{after_command}
 use Rattle.mot_repository.specs.Prepared.{IsPreparedFor}
 use Rattle.mot_repository.specs.Repository.{RepositoryView, Agrees}
 
+-- the names of a carousel's objects
 abbrev pub names_of : Carousel → List (List ℕ)
 names_of c = map (λ (o : Object). o.name) c.objects
 
@@ -33,11 +34,17 @@ names_of c = map (λ (o : Object). o.name) c.objects
 -- what is so of a command that is accepted
 pub record IsAccepted (layout : Layout) (s : Standing) (command : Command) (done : Done)
     (next : Standing) : Type 0 where
+  -- the layout has room for the name
   pub short : has_long_name layout command ≡ false
+  -- the rules of the carousel accept the command
   pub rules : change s.carousel s.geometry.objects command ≡ Ok (next.carousel, done)
+  -- where the body goes
   pub start : ℕ
+  -- that is the least gap
   pub lies : start_of s.extents s.geometry.data_area command ≡ Some start
+  -- the geometry stays
   pub geometry : next.geometry ≡ s.geometry
+  -- the extents are those after the command
   pub extents : next.extents ≡ extents_after (names_of s.carousel) s.extents command start
 
 same_pair : (x y : Standing × Done) → ◌≡◌ {A = Result (Standing × Done) Refusal} (Ok x) (Ok y)
@@ -97,6 +104,7 @@ module _ (layout : Layout) (s : Standing) (command : Command) where
       accepted-by (has_long_name layout command) ruled lying done next refl refl refl
       (sym by-parts ∙ e)
 
+  -- a command with room for its name and body, by the rules, comes to the next standing
   pub accepted_of : (done : Done) (next : Standing) → IsAccepted layout s command done next
       → after_command layout s command ≡ Ok (next, done)
   accepted_of done next is =
@@ -118,11 +126,13 @@ module _ (layout : Layout) (s : Standing) (command : Command) where
       → after_command layout s command ≡ Err BadName
   refused_name long = by-parts ∙ ap (λ b. whole b ruled lying) long
 
+  -- a command that the carousel's rules refuse is refused for that reason
   pub refused_rules : (refusal : Refusal) → has_long_name layout command ≡ false
       → ruled ≡ Err refusal → after_command layout s command ≡ Err refusal
   refused_rules refusal short is =
       by-parts ∙ ap (λ b. whole b ruled lying) short ∙ ap (λ r. whole false r lying) is
 
+  -- a command whose body has no gap is refused for want of room
   pub refused_room : (c : Carousel × Done) → has_long_name layout command ≡ false → ruled ≡ Ok c
       → lying ≡ None → after_command layout s command ≡ Err NoRoom
   refused_room c short is none =
@@ -169,17 +179,20 @@ module _ (view : RepositoryView) (s : Standing) (agrees : Agrees view s) (comman
   names-agree = sym (names-whole view.carousel.objects.items agrees.bodies agrees.are_bodies)
       ∙ ap names_of (sym agrees.carousel)
 
+  -- the body goes to the same place by what is kept as by what the disk stands for
   pub same_start : start_of view.extents view.journal.geometry.data_area command
       ≡ start_of s.extents s.geometry.data_area command
   same_start = ap (λ l. start_of l view.journal.geometry.data_area command) agrees.extents
       ∙ ap (λ (g : Geometry). start_of s.extents g.data_area command) agrees.geometry
 
+  -- the rules say the same of what is kept, with its bodies, as of what the disk stands for
   pub same_rules : change s.carousel s.geometry.objects command
       ≡ change (carousel_of view.carousel agrees.bodies) view.journal.geometry.objects command
   same_rules = ap (λ (c : Carousel). change c s.geometry.objects command) agrees.carousel
       ∙ ap (λ (g : Geometry). change (carousel_of view.carousel agrees.bodies) g.objects command)
       (sym agrees.geometry)
 
+  -- the extents after a command are the same by what is kept
   pub same_extents : (from : ℕ) → extents_after (names_kept view.carousel) view.extents command from
       ≡ extents_after (names_of s.carousel) s.extents command from
   same_extents from = ap (λ n. extents_after n view.extents command from) names-agree
@@ -192,10 +205,11 @@ module _ (view view' : RepositoryView) (command : Command) (done : Done) (next :
     (same_geometry : view'.journal.geometry ≡ view.journal.geometry)
     (has_next : view'.carousel ≡ next)
     (lie : view'.extents ≡ extents_after (names_kept view.carousel) view.extents command from) where
-  pub becomes : (s : Standing) → Agrees view s
+  -- a prepared command is accepted, and what is kept after it agrees with what it makes
+  pub prepared_is_accepted : (s : Standing) → Agrees view s
       → (last : Standing) × (after_command view.journal.layout s command ≡ Ok (last, done))
       × Agrees view' last
-  becomes s agrees =
+  prepared_is_accepted s agrees =
       let bodies : List (List ℕ) = bodies_after view.carousel command agrees.bodies in
       let changes = prepared.changes agrees.bodies agrees.are_bodies in
       let last : Standing = record {
@@ -221,10 +235,11 @@ module _ (view view' : RepositoryView) (command : Command) (done : Done) (next :
         },
       )
 
+  -- what is kept after a prepared command agrees with what the command makes
   pub agrees_after : (s last : Standing) → Agrees view s
       → after_command view.journal.layout s command ≡ Ok (last, done) → Agrees view' last
   agrees_after s last agrees e =
-      let made = becomes s agrees in
+      let made = prepared_is_accepted s agrees in
       let same : ◌≡◌ {A = Standing × Done} (made.0, done) (last, done) =
       same_pair (made.0, done) (last, done) (sym made.1 ∙ e) in
       subst (λ (x : Standing × Done). Agrees view' x.0) same made.2

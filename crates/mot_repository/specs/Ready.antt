@@ -9,8 +9,8 @@ use Rattle.mot_repository.specs.Whole.{IsWhole}
 use Rattle.mot_repository.specs.Prepared.{CanBeGiven, IsFull, IsPreparedChange}
 use Rattle.mot_repository.specs.Repository.{RepositoryView}
 
--- The change is that of the command, and can be written on any disk of the geometry: its records are
--- sound, and the body lies in the data area. What is kept after it has no fault either.
+-- The change is that of the command, and can be written on any disk of the geometry: its records
+-- are sound, and the body lies in the data area. What is kept after it has no fault either.
 pub record IsPrepared (view : RepositoryView) (command : Command) (p : Prepared) : Type 0 where
   pub change : IsPreparedChange view command p.done p.inventory.carousel p.inventory.extents.items
       p.at p.body.now p.record p.given.items

@@ -25,10 +25,10 @@ pub record RepositoryView : Type 0 where
   pub halted : Bool
 
 -- the body of the object at this place
-abbrev pub body_at : List Object → ℕ → List ℕ
-body_at [] place = []
-body_at (o ∷ objects) zero = o.body
-body_at (o ∷ objects) (suc place) = body_at objects place
+abbrev pub object_body : List Object → ℕ → List ℕ
+object_body [] place = []
+object_body (o ∷ objects) zero = o.body
+object_body (o ∷ objects) (suc place) = object_body objects place
 
 -- the image is clean and stands for this
 pub record IsOf (s : Standing) (image : List ℕ) : Type 0 where

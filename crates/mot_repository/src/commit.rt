@@ -17,7 +17,7 @@ ghost use Rattle.mot_repository.specs.Inner.Following.{RewritingKeepsTheCatalogu
 ghost use Rattle.mot_repository.specs.Extents.{names_kept};
 ghost use Rattle.mot_repository.specs.Outcome.{after_command, body_of, extents_after};
 ghost use Rattle.mot_repository.specs.Prepared.{CanBeGiven, IsFull, IsPreparedFor};
-ghost use Rattle.mot_repository.specs.Inner.Kept.{HasRoom};
+ghost use Rattle.mot_repository.specs.Inner.Kept.{HasSlotFree};
 ghost use Rattle.mot_repository.specs.Repository.{RepositoryView, IsOf, Holds};
 ghost use Rattle.mot_repository.specs.Repository.{IsBeforeOrAfter};
 
@@ -54,7 +54,7 @@ fn make_room<D: Disk>(journal: &mut Journal, disk: &mut D, given: &[Record]) -> 
         → view.journal ≡ journal.old → (holds : Holds view s (D.state disk.old))
         → catalogue_of view.journal.geometry.objects holds.records ≡ Ok c
         → (IsFull journal.old → catalogue_of view.journal.geometry.objects given.now ≡ Ok c)
-        → OnOk result (HasRoom s holds.records given.now journal.old journal.new
+        → OnOk result (HasSlotFree s holds.records given.now journal.old journal.new
         (D.state disk.new)) }
 {
     if !journal.is_full() {

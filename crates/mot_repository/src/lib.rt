@@ -13,6 +13,3 @@ pub use gap::{first_fit, longest_gap};
 pub use opening::Refused;
 pub use prepared::Prepared;
 pub use repository::Repository;
-
-#[cfg(test)]
-mod tests;

@@ -65,7 +65,7 @@ impl<D: Disk> Repository<D> {
     ghost use Rattle.mot_repository.specs.Outcome.{after_command};
     ghost use Rattle.mot_repository.specs.Prepared.{view_with};
     ghost use Rattle.mot_repository.specs.Ready.{IsPrepared};
-    ghost use Rattle.mot_repository.specs.Repository.{body_at, IsOf, Holds, IsBeforeOrAfter};
+    ghost use Rattle.mot_repository.specs.Repository.{object_body, IsOf, Holds, IsBeforeOrAfter};
 
     /// An open repository of these parts, not halted.
     pub(crate) fn of(disk: D, journal: Journal, inventory: Inventory) -> Self
@@ -198,7 +198,7 @@ impl<D: Disk> Repository<D> {
         // That is the body of the carousel that the disk stands for.
         ensures bytes { (s : Standing) → Holds self.old.view s (D.state self.old.disk)
             → (D.state self.new.disk).IsHonest → OnOk result
-            (out.new ≡ slice_range (body_at s.carousel.objects place) from
+            (out.new ≡ slice_range (object_body s.carousel.objects place) from
             (from + length out.old)) }
     {
         let at = self.place_on_disk(place, from);

@@ -1,5 +1,6 @@
 -- Playing, request by request.
-use Rattle.std.proofs.Common.{◌≡◌, ℕ, suc, zero, Bool, true, false, List, [], ◌∷◌, ◌++◌, length, map, replicate, Option, Some}
+use Rattle.std.proofs.Common.{◌≡◌, ℕ, suc, zero, Bool, true, false, List, [], ◌∷◌, ◌++◌, length}
+use Rattle.std.proofs.Common.{map, replicate, Option, Some}
 use Rattle.std.proofs.Common.{refl, sym, ap, ◌∙◌, subst, inl, inr}
 use Rattle.std.proofs.lemmas.Bool.{false≢true}
 use Rattle.std.proofs.lemmas.List.{map-append}
@@ -12,9 +13,9 @@ use Rattle.mot_packets.specs.Written.{bytes_of_packet}
 use Rattle.mot_player.specs.AnyBodies.{IsStepOfSome, PlaysOn, PlaysToTheEnd}
 use Rattle.mot_player.specs.Laws.{AreSent, IsStep}
 use Rattle.mot_player.specs.Place.{Place, Sent, Request, sent_by}
-use Rattle.mot_player.specs.Standing as player
+use Rattle.mot_player.specs.PlayerView as player
 use Rattle.mot_player.proofs.Laws.{requests-go_on}
-use Rattle.mot_server.specs.Inner.Going.{IsGoing}
+use Rattle.mot_server.specs.Playing.{IsGoing}
 use Rattle.mot_server.specs.Playing.{HasPlayed, HasPlayedTurn, bytes_of_packets}
 
 -- one more at the end is one more at the beginning
@@ -30,18 +31,22 @@ abbrev sends : List Sent → Place → Option (List Sent × Place)
 sends sents place = Some (sents, place)
 
 -- after these packets one more was sent
-module _ (old mid new : Place) (n : ℕ) (packets : List (List ℕ)) (played : HasPlayed old n packets mid)
+module _ (old mid new : Place) (n : ℕ) (packets : List (List ℕ))
+    (played : HasPlayed old n packets mid)
     (packet : List ℕ) (ends : Bool) (step : IsStep mid packet ends new) where
-  steps-more : sent_by old (Request ∷ replicate n Request) ≡ sends (played.sents ++ step.sent ∷ []) new
+  steps-more : sent_by old (Request ∷ replicate n Request)
+      ≡ sends (played.sents ++ step.sent ∷ []) new
   steps-more =
       ap (sent_by old) (sym (replicate-more n Request))
       ∙ requests-go_on old mid (replicate n Request) played.sents step.sent played.steps step.asked
       ∙ ap (sends (played.sents ++ step.sent ∷ [])) (sym step.place)
 
-  bytes-more : packets ++ packet ∷ [] ≡ map (λ (s : Sent). bytes_of_packet s.packet) (played.sents ++ step.sent ∷ [])
+  bytes-more : packets ++ packet ∷ []
+      ≡ map (λ (s : Sent). bytes_of_packet s.packet) (played.sents ++ step.sent ∷ [])
   bytes-more =
       ap (λ (ps : List (List ℕ)). ps ++ packet ∷ []) played.bytes
-      ∙ ap (λ (p : List ℕ). map (λ (s : Sent). bytes_of_packet s.packet) played.sents ++ p ∷ []) step.bytes
+      ∙ ap (λ (p : List ℕ). map (λ (s : Sent). bytes_of_packet s.packet) played.sents ++ p ∷ [])
+      step.bytes
       ∙ sym (map-append (λ (s : Sent). bytes_of_packet s.packet) played.sents (step.sent ∷ []))
 
   one-read : read_each read_packet (packet ∷ []) ≡ Some (step.sent.packet ∷ [])
@@ -51,7 +56,8 @@ module _ (old mid new : Place) (n : ℕ) (packets : List (List ℕ)) (played : H
   read-more =
       read_each-append read_packet packets (packet ∷ []) (map (λ (s : Sent). s.packet) played.sents)
       (step.sent.packet ∷ []) played.read one-read
-      ∙ ap (λ (ps : List PacketFields). Some ps) (sym (map-append (λ (s : Sent). s.packet) played.sents (step.sent ∷ [])))
+      ∙ ap (λ (ps : List PacketFields). Some ps)
+      (sym (map-append (λ (s : Sent). s.packet) played.sents (step.sent ∷ [])))
 
   ends-more : (before : List Bool) → map (λ (s : Sent). s.ends_turn) played.sents ≡ before →
       map (λ (s : Sent). s.ends_turn) (played.sents ++ step.sent ∷ []) ≡ before ++ ends ∷ []
@@ -60,12 +66,16 @@ module _ (old mid new : Place) (n : ℕ) (packets : List (List ℕ)) (played : H
       ∙ ap (λ (bs : List Bool). bs ++ step.sent.ends_turn ∷ []) e
       ∙ ap (λ (b : Bool). before ++ b ∷ []) (sym step.ends)
 
+-- of no requests no packets are played
 pub HasPlayed-none : (place : Place) → HasPlayed place 0 [] place
 unfolding sent_by
 HasPlayed-none place = record { sents = []; steps = refl; bytes = refl; read = refl }
 
-pub HasPlayed-more : (old mid new : Place) (n : ℕ) (packets : List (List ℕ)) → HasPlayed old n packets mid →
-    (packet : List ℕ) (ends : Bool) → IsStep mid packet ends new → HasPlayed old (suc n) (packets ++ packet ∷ []) new
+-- a request behind others plays one packet more
+pub HasPlayed-more : (old mid new : Place) (n : ℕ) (packets : List (List ℕ))
+    → HasPlayed old n packets mid →
+    (packet : List ℕ) (ends : Bool) → IsStep mid packet ends new
+    → HasPlayed old (suc n) (packets ++ packet ∷ []) new
 HasPlayed-more old mid new n packets played packet ends step = record {
   sents = played.sents ++ step.sent ∷ [];
   steps = steps-more old mid new n packets played packet ends step;
@@ -73,36 +83,47 @@ HasPlayed-more old mid new n packets played packet ends step = record {
   read = read-more old mid new n packets played packet ends step;
 }
 
+-- a turn of which no packet was played goes on
 pub IsGoing-none : (place : Place) → IsGoing place [] place
 unfolding HasPlayed-none
 IsGoing-none place = record { played = HasPlayed-none place; going = refl }
 
-going-more : (old mid new : Place) (packets : List (List ℕ)) (packet : List ℕ) (n : ℕ) → length (packets ++ packet ∷ []) ≡ n →
+going-more : (old mid new : Place) (packets : List (List ℕ)) (packet : List ℕ) (n : ℕ)
+    → length (packets ++ packet ∷ []) ≡ n →
     (played : HasPlayed old n (packets ++ packet ∷ []) new) →
-    map (λ (s : Sent). s.ends_turn) played.sents ≡ replicate n false → IsGoing old (packets ++ packet ∷ []) new
+    map (λ (s : Sent). s.ends_turn) played.sents ≡ replicate n false
+    → IsGoing old (packets ++ packet ∷ []) new
 going-more old mid new packets packet n e played going =
     let P : ℕ → Type 0 = λ k. (p : HasPlayed old k (packets ++ packet ∷ []) new)
     × (map (λ (s : Sent). s.ends_turn) p.sents ≡ replicate k false) in
     let q : P (length (packets ++ packet ∷ [])) = subst P (sym e) (played, going) in
     record { played = q.0; going = q.1 }
 
-pub IsGoing-more : (old mid new : Place) (packets : List (List ℕ)) → IsGoing old packets mid → (packet : List ℕ)
-    (ends : Bool) → IsStep mid packet ends new → ends ≡ false → IsGoing old (packets ++ packet ∷ []) new
+-- a packet more that does not end the turn lets it go on
+pub IsGoing-more : (old mid new : Place) (packets : List (List ℕ)) → IsGoing old packets mid
+    → (packet : List ℕ)
+    (ends : Bool) → IsStep mid packet ends new → ends ≡ false
+    → IsGoing old (packets ++ packet ∷ []) new
 unfolding HasPlayed-more
 IsGoing-more old mid new packets g packet ends step more =
     going-more old mid new packets packet (suc (length packets)) (length-more packets packet)
     (HasPlayed-more old mid new (length packets) packets g.played packet ends step)
-    (ends-more old mid new (length packets) packets g.played packet ends step (replicate (length packets) false) g.going
+    (ends-more old mid new (length packets) packets g.played packet ends step
+    (replicate (length packets) false) g.going
     ∙ ap (λ (b : Bool). replicate (length packets) false ++ b ∷ []) more
     ∙ replicate-more (length packets) false)
 
-pub HasPlayedTurn-ended : (old mid new : Place) (packets : List (List ℕ)) → IsGoing old packets mid → (packet : List ℕ)
-    (ends : Bool) → IsStep mid packet ends new → ends ≡ true → HasPlayedTurn old (packets ++ packet ∷ []) new
+-- a packet more that ends the turn makes it one that was played
+pub HasPlayedTurn-ended : (old mid new : Place) (packets : List (List ℕ)) → IsGoing old packets mid
+    → (packet : List ℕ)
+    (ends : Bool) → IsStep mid packet ends new → ends ≡ true
+    → HasPlayedTurn old (packets ++ packet ∷ []) new
 HasPlayedTurn-ended old mid new packets g packet ends step last = record {
   before = length packets;
   sents = g.played.sents ++ step.sent ∷ [];
   steps = steps-more old mid new (length packets) packets g.played packet ends step;
-  ends = ends-more old mid new (length packets) packets g.played packet ends step (replicate (length packets) false) g.going
+  ends = ends-more old mid new (length packets) packets g.played packet ends step
+      (replicate (length packets) false) g.going
       ∙ ap (λ (b : Bool). replicate (length packets) false ++ b ∷ []) last;
   bytes = bytes-more old mid new (length packets) packets g.played packet ends step;
   read = read-more old mid new (length packets) packets g.played packet ends step;
@@ -111,23 +132,25 @@ HasPlayedTurn-ended old mid new packets g packet ends step last = record {
 -- the bytes of one packet more
 pub bytes_of_packets-more : (packets : List (ArrayVec ℕ)) (packet : ArrayVec ℕ) →
     bytes_of_packets (packets ++ packet ∷ []) ≡ bytes_of_packets packets ++ packet.items ∷ []
-bytes_of_packets-more packets packet = map-append (λ (p : ArrayVec ℕ). p.items) packets (packet ∷ [])
+bytes_of_packets-more packets packet =
+    map-append (λ (p : ArrayVec ℕ). p.items) packets (packet ∷ [])
 
+-- what holds anyhow holds on an error
 pub OnErr-always : {A E : Type 0} (r : Result A E) (P : Type 0) → P → OnErr r P
 OnErr-always (Ok x) P p = tt
 OnErr-always (Err e) P p = p
 
 -- one packet more, of some bodies
-pub PlaysOn-more : (old mid new : player.Standing) (packets : List (List ℕ)) (packet : List ℕ) →
+pub PlaysOn-more : (old mid new : player.PlayerView) (packets : List (List ℕ)) (packet : List ℕ) →
     PlaysOn old packets mid → IsStepOfSome mid packet false new →
     PlaysOn old (packets ++ packet ∷ []) new
 PlaysOn-more old mid new [] packet on step =
-    (new, subst (λ (s : player.Standing). IsStepOfSome s packet false new) on step, refl)
+    (new, subst (λ (s : player.PlayerView). IsStepOfSome s packet false new) on step, refl)
 PlaysOn-more old mid new (p ∷ packets) packet on step =
     (on.0, on.1, PlaysOn-more on.0 mid new packets packet on.2 step)
 
 -- and whether it ends the turn
-pub plays_one_more : (old mid new : player.Standing) (packets : List (List ℕ)) (packet : List ℕ)
+pub plays_one_more : (old mid new : player.PlayerView) (packets : List (List ℕ)) (packet : List ℕ)
     (ends : Bool) → PlaysOn old packets mid → IsStepOfSome mid packet ends new →
     PlaysOn old (packets ++ packet ∷ []) new ⊎ PlaysToTheEnd old (packets ++ packet ∷ []) new
 plays_one_more old mid new packets packet true on step = inr (record {
@@ -141,6 +164,7 @@ plays_one_more old mid new packets packet true on step = inr (record {
 plays_one_more old mid new packets packet false on step =
     inl (PlaysOn-more old mid new packets packet on step)
 
+-- what is claimed of an error holds of a result that is one
 pub MatchResult-failed : {A E : Type 0} (r : Result A E) (P : A → Type 0) (Q : Type 0) → IsErr r →
     Q → MatchResult r P (λ e. Q)
 MatchResult-failed (Ok x) P Q err q = absurd (false≢true err)

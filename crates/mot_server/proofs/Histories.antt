@@ -1,5 +1,6 @@
 -- Runs in a row, from formatting on.
-use Rattle.std.proofs.Common.{◌≡◌, ℕ, Bool, false, List, [], ◌∷◌, ◌++◌, length, take, append_assoc, Option, Some, None, sym, subst}
+use Rattle.std.proofs.Common.{◌≡◌, ℕ, Bool, false, List, [], ◌∷◌, ◌++◌, length, take, append_assoc}
+use Rattle.std.proofs.Common.{Option, Some, None, sym, subst}
 use Rattle.std.specs.Prelude.{◌&&◌, nat_le, if◌then◌else◌}
 use Rattle.disk_store.specs.Disk.{State}
 use Rattle.mot_base.specs.declared.geometry.Geometry.{Geometry}
@@ -17,33 +18,46 @@ use Rattle.mot_server.specs.History.{IsHistory, HistoriesAreCommands, new, one_m
 use Rattle.mot_server.specs.Runs.{IsAfter, IsAfterSome}
 use Rattle.mot_server.proofs.Runs.{after_both, after_none}
 
+-- however often it crashed, a disk stands for what the commands that are done make
 pub histories_are : HistoriesAreCommands
 histories_are g done s new = after_none (new_standing g)
 histories_are g done s (one_more before sure others mid last history is) =
-    subst (λ l. IsAfter (new_standing g) l last) (sym (append_assoc before sure (take is.count others)))
-    (after_both (new_standing g) before (sure ++ take is.count others) mid last (histories_are g before mid history) is.after)
+    subst (λ l. IsAfter (new_standing g) l last)
+    (sym (append_assoc before sure (take is.count others)))
+    (after_both (new_standing g) before (sure ++ take is.count others) mid last
+    (histories_are g before mid history) is.after)
 
 -- one run more
-pub goes_on : (g : Geometry) (before sure others : List Command) (s last : Standing) → IsHistory g before s
-    → (is : IsAfterSome s sure others last) → IsHistory g (before ++ (sure ++ take is.count others)) last
+pub goes_on : (g : Geometry) (before sure others : List Command) (s last : Standing)
+    → IsHistory g before s
+    → (is : IsAfterSome s sure others last)
+    → IsHistory g (before ++ (sure ++ take is.count others)) last
 goes_on g before sure others s last history is =
-    subst (λ l. IsHistory g l last) (append_assoc before sure (take is.count others)) (one_more before sure others s last history is)
+    subst (λ l. IsHistory g l last) (append_assoc before sure (take is.count others))
+    (one_more before sure others s last history is)
 
 no-if : (b c : Bool) (g h : Geometry) → (if false && b && c then Some g else None) ≡ Some h → ⊥
 no-if b c g h e = cc
 
 no-geometry-cases : (image : List ℕ) (h : Geometry) (o : Option Geometry) → has_magic image ≡ false
-    → (o >>= λ g. if has_magic image && is_valid g && nat_le (length_of g) (length image) then Some g else None) ≡ Some h → ⊥
+    → (o >>= λ g. if has_magic image && is_valid g && nat_le (length_of g) (length image) then
+    Some g else None) ≡ Some h → ⊥
 no-geometry-cases image h None none e = cc
-no-geometry-cases image h (Some g) none e = no-if (is_valid g) (nat_le (length_of g) (length image)) g h
-    (subst (λ b. (if b && is_valid g && nat_le (length_of g) (length image) then Some g else None) ≡ Some h) none e)
+no-geometry-cases image h (Some g) none e =
+    no-if (is_valid g) (nat_le (length_of g) (length image)) g h
+    (subst (λ b. (if b && is_valid g && nat_le (length_of g) (length image) then Some g else None)
+    ≡ Some h) none e)
 
 -- bytes with no magic have no geometry
-no-geometry : (image : List ℕ) (h : Geometry) → has_magic image ≡ false → geometry_of image ≡ Some h → ⊥
+no-geometry : (image : List ℕ) (h : Geometry) → has_magic image ≡ false → geometry_of image ≡ Some h
+    → ⊥
 unfolding geometry_of
-no-geometry image h none e = no-geometry-cases image h (geometry_in (columns (8 ∷ 1 ∷ 7 ∷ 2 ∷ 2 ∷ 2 ∷ 2 ∷ 4 ∷ []) image)) none e
+no-geometry image h none e =
+    no-geometry-cases image h (geometry_in (columns (8 ∷ 1 ∷ 7 ∷ 2 ∷ 2 ∷ 2 ∷ 2 ∷ 4 ∷ []) image))
+    none e
 
 -- so they do not open
-pub not_opened : (old now : State) (view : RepositoryView) → has_magic old.bytes ≡ false → IsOpened old now view → ⊥
+pub not_opened : (old now : State) (view : RepositoryView) → has_magic old.bytes ≡ false
+    → IsOpened old now view → ⊥
 not_opened old now view none opened = no-geometry old.bytes view.journal.geometry none
     (geometry_read old.bytes (with_records view.journal opened.records) opened.read)

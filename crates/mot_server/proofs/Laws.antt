@@ -26,9 +26,14 @@ use Rattle.mot_player.specs.Laws.{IsStep}
 use Rattle.mot_player.specs.Place.{Place}
 use Rattle.mot_server.specs.Playing.{HasPlayed}
 
+-- of no requests no packets are played
 pub played_none : (place : Place) → HasPlayed place 0 [] place
 played_none place = HasPlayed-none place
 
-pub played_more : (old mid new : Place) (n : ℕ) (packets : List (List ℕ)) → HasPlayed old n packets mid →
-    (packet : List ℕ) (ends : Bool) → IsStep mid packet ends new → HasPlayed old (suc n) (packets ++ packet ∷ []) new
-played_more old mid new n packets played packet ends step = HasPlayed-more old mid new n packets played packet ends step
+-- a request behind others plays one packet more
+pub played_more : (old mid new : Place) (n : ℕ) (packets : List (List ℕ))
+    → HasPlayed old n packets mid →
+    (packet : List ℕ) (ends : Bool) → IsStep mid packet ends new
+    → HasPlayed old (suc n) (packets ++ packet ∷ []) new
+played_more old mid new n packets played packet ends step =
+    HasPlayed-more old mid new n packets played packet ends step

@@ -1,5 +1,7 @@
 -- What a disk that was just opened stands for, and what is played of it.
-use Rattle.std.proofs.Common.{◌≡◌, inl, ℕ, ◌<◌, ◌≤◌, Bool, true, false, List, [], ◌∷◌, length, replicate, Option, Some, None, Result, Ok, refl, sym, ◌∙◌, subst, arith}
+use Rattle.std.proofs.Common.{◌≡◌, inl, ℕ, ◌<◌, ◌≤◌, Bool, true, false, List, [], ◌∷◌, length}
+use Rattle.std.proofs.Common.{replicate, Option, Some, None, Result, Ok, refl, sym, ◌∙◌, subst}
+use Rattle.std.proofs.Common.{arith}
 use Rattle.std.proofs.lemmas.Bool.Decides.{nat_tests}
 use Rattle.std.specs.Prelude.{IsFalse, ◌&&◌, nat_le, if◌then◌else◌}
 use Rattle.disk_store.specs.Disk.{State, IsHonestDisk, IsStill}
@@ -27,14 +29,18 @@ use Rattle.mot_server.proofs.Read.{rises_on}
 same-standing : (r : Result Standing Refusal) (a b : Standing) → r ≡ Ok a → r ≡ Ok b → a ≡ b
 same-standing r a b is was = let e : Ok a ≡ Ok b = sym is ∙ was in cc
 
-module _ (old new : State) (view : RepositoryView) (s : Standing) (image : IsOf s old.bytes) (opened : IsOpened old new view) where
+module _ (old new : State) (view : RepositoryView) (s : Standing) (image : IsOf s old.bytes)
+    (opened : IsOpened old new view) where
   -- what was read at first stands for this, so the server keeps it
   pub opened_agrees : Agrees view s
   opened_agrees =
-      subst (λ d. Agrees view d) (same-standing (stands_for old.bytes) opened.standing s opened.stands image.stands) opened.agrees
+      subst (λ d. Agrees view d)
+      (same-standing (stands_for old.bytes) opened.standing s opened.stands image.stands)
+      opened.agrees
 
   -- and nothing is loose: it holds
-  pub opened_holds : new.IsHonest → IsHonestDisk new → IsStill old new → IsFalse view.halted → Holds view s new
+  pub opened_holds : new.IsHonest → IsHonestDisk new → IsStill old new → IsFalse view.halted
+      → Holds view s new
   opened_holds honest sound still going = record {
     going = going;
     agrees = opened_agrees;
@@ -43,13 +49,16 @@ module _ (old new : State) (view : RepositoryView) (s : Standing) (image : IsOf 
       going = opened.unspent;
       count = opened.count;
       honest = honest;
-      each = λ c left. subst (λ d. HasRecords view.journal opened.records d) (sym (only_bytes new sound opened.firm c left ∙ still.bytes))
+      each = λ c left. subst (λ d. HasRecords view.journal opened.records d)
+          (sym (only_bytes new sound opened.firm c left ∙ still.bytes))
           (record { read = opened.read; clean = image.clean });
     };
-    each = λ c left. subst (λ d. IsOf s d) (sym (only_bytes new sound opened.firm c left ∙ still.bytes)) image;
+    each = λ c left. subst (λ d. IsOf s d)
+        (sym (only_bytes new sound opened.firm c left ∙ still.bytes)) image;
   }
 
-valid-cases : (g h : Geometry) (b c : Bool) → (if b && is_valid g && c then Some g else None) ≡ Some h → is_valid h ≡ true
+valid-cases : (g h : Geometry) (b c : Bool)
+    → (if b && is_valid g && c then Some g else None) ≡ Some h → is_valid h ≡ true
 valid-cases g h b c e = valid-if (b && is_valid g && c) refl e
   where
     same : Some g ≡ Some h → g ≡ h
@@ -60,50 +69,63 @@ valid-cases g h b c e = valid-if (b && is_valid g && c) refl e
     is_so true false c is = cc
     is_so false x c is = cc
 
-    valid-if : (t : Bool) → (b && is_valid g && c) ≡ t → (if t then Some g else None) ≡ Some h → is_valid h ≡ true
+    valid-if : (t : Bool) → (b && is_valid g && c) ≡ t → (if t then Some g else None) ≡ Some h
+        → is_valid h ≡ true
     valid-if true t e = subst (λ x. is_valid x ≡ true) (same e) (is_so b (is_valid g) c t)
     valid-if false t e = cc
 
 valid-read : (image : List ℕ) (h : Geometry) (o : Option Geometry)
-    → (o >>= λ g. if has_magic image && is_valid g && nat_le (length_of g) (length image) then Some g else None) ≡ Some h → is_valid h ≡ true
+    → (o >>= λ g. if has_magic image && is_valid g && nat_le (length_of g) (length image) then
+    Some g else None) ≡ Some h → is_valid h ≡ true
 valid-read image h None e = cc
-valid-read image h (Some g) e = valid-cases g h (has_magic image) (nat_le (length_of g) (length image)) e
+valid-read image h (Some g) e =
+    valid-cases g h (has_magic image) (nat_le (length_of g) (length image)) e
 
 -- a geometry that is read is valid
 valid-geometry : (image : List ℕ) (g : Geometry) → geometry_of image ≡ Some g → is_valid g ≡ true
 unfolding geometry_of
-valid-geometry image g e = valid-read image g (geometry_in (columns (8 ∷ 1 ∷ 7 ∷ 2 ∷ 2 ∷ 2 ∷ 2 ∷ 4 ∷ []) image)) e
+valid-geometry image g e =
+    valid-read image g (geometry_in (columns (8 ∷ 1 ∷ 7 ∷ 2 ∷ 2 ∷ 2 ∷ 2 ∷ 4 ∷ []) image)) e
 
 has-room : (g : Geometry) → is_valid g ≡ true → 0 < packet_room g
 has-room g is = grind (arith, nat_tests)
 
 -- so a packet has room for data
-pub opened_room : (old new : State) (view : RepositoryView) (s : Standing) → Agrees view s → IsOpened old new view → 0 < packet_room s.geometry
+pub opened_room : (old new : State) (view : RepositoryView) (s : Standing) → Agrees view s
+    → IsOpened old new view → 0 < packet_room s.geometry
 opened_room old new view s agrees opened =
     let read = geometry_read old.bytes (with_records view.journal opened.records) opened.read in
-    subst (λ g. 0 < packet_room g) agrees.geometry (has-room view.journal.geometry (valid-geometry old.bytes view.journal.geometry read))
+    subst (λ g. 0 < packet_room g) agrees.geometry
+    (has-room view.journal.geometry (valid-geometry old.bytes view.journal.geometry read))
 
 -- a player just opened is at the beginning of its turn
-pub opened_beginning : (address room size : ℕ) (turn : Turn) (place : Place) → place ≡ opened_place address room size turn
+pub opened_beginning : (address room size : ℕ) (turn : Turn) (place : Place)
+    → place ≡ opened_place address room size turn
     → IsAtTurnsBeginning place
 opened_beginning address room size turn place is =
     subst IsAtTurnsBeginning (sym is) (record { under_way = refl; waiting = inl refl })
 
 -- its first turn has the continuity indexes
-pub opened_continuous : (address room size : ℕ) (turn : Turn) (packets : List (List ℕ)) (place : Place) → StepsAreContinuous → 0 < room
+pub opened_continuous : (address room size : ℕ) (turn : Turn) (packets : List (List ℕ))
+    (place : Place) → StepsAreContinuous → 0 < room
     → HasPlayedTurn (opened_place address room size turn) packets place → IsContinuous packets
 opened_continuous address room size turn packets place law some played =
-    law address room size turn (Request ∷ replicate played.before Request) played.sents place packets some played.steps played.read
+    law address room size turn (Request ∷ replicate played.before Request) played.sents place
+    packets some played.steps played.read
 
 abbrev Clash : Bool → Type 0
 Clash true = ⊥
 Clash false = Unit {0}
 
 -- want of memory for a turn, or a failure of the disk in it
-pub turn_refused : {D : Type 0} (old new : ServerView D) (start mid now : State) (refusal : Refusal) → IsFalse old.view.halted
-    → start.failures ≤ mid.failures → mid.failures ≤ now.failures → IsTurnRefusal old new mid.failures now.failures refusal
+pub turn_refused : {D : Type 0} (old new : ServerView D) (start mid now : State) (refusal : Refusal)
+    → IsFalse old.view.halted
+    → start.failures ≤ mid.failures → mid.failures ≤ now.failures
+    → IsTurnRefusal old new mid.failures now.failures refusal
     → IsOpeningRefusal start now refusal
-turn_refused old new start mid now refusal going le later (halted is e same) = absurd (subst Clash (sym going ∙ is) tt)
-turn_refused old new start mid now refusal going le later (no_memory still_going e) = openings.no_memory e
+turn_refused old new start mid now refusal going le later (halted is e same) =
+    absurd (subst Clash (sym going ∙ is) tt)
+turn_refused old new start mid now refusal going le later (no_memory still_going e) =
+    openings.no_memory e
 turn_refused old new start mid now refusal going le later (failed still_going e rises) =
     openings.device e (rises_on start.failures mid.failures now.failures le later rises)

@@ -7,7 +7,8 @@ use Rattle.mot_base.specs.declared.refusal.Refusal.{Refusal}
 use Rattle.mot_base.specs.declared.refusal.Refusal.TheVariants.{OutOfMemory, DeviceFault, Halted}
 use Rattle.mot_carousel.specs.declared.command.Command.{Command}
 use Rattle.mot_carousel.specs.declared.command.Done.{Done}
-use Rattle.mot_repository.specs.Answers.{IsAnswered, IsChanged, IsRefusal, accepted, refused, failed}
+use Rattle.mot_repository.specs.Answers.{IsAnswered, IsChanged, IsRefusal, accepted, refused}
+use Rattle.mot_repository.specs.Answers.{failed}
 use Rattle.mot_repository.specs.Repository.{RepositoryView}
 use Rattle.mot_server.specs.RunAnswers.{AreAnswered, EndsRun, RunAnswers}
 use Rattle.mot_server.specs.RunAnswers as run
@@ -139,6 +140,7 @@ answered_halted view commands marks none is =
     subst (λ l. RunAnswers view view commands l (Some Halted)) (sym none)
     (record { last = view; marked = refl; ends = run.halted is refl refl refl })
 
+-- without memory for the marks a run ends before its first command
 pub answered_no_memory : (view : RepositoryView) (commands : List Command) (marks : List Bool)
     → marks ≡ [] → IsFalse view.halted → RunAnswers view view commands marks (Some OutOfMemory)
 answered_no_memory view commands marks none going =
@@ -169,6 +171,7 @@ ends-layout last new others marks fault (run.halted is none same f) =
 ends-layout last new others marks fault (run.no_memory is none same f) =
     ap (λ (v : RepositoryView). v.journal.layout) same
 
+-- a run leaves the journal in its layout
 pub keeps_layout : (view new : RepositoryView) (commands : List Command) (marks : List Bool)
     (fault : Option Refusal) → RunAnswers view new commands marks fault
     → new.journal.layout ≡ view.journal.layout

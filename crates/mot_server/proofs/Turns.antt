@@ -9,10 +9,10 @@ use Rattle.mot_carousel.specs.declared.carousel.Carousel.{Carousel}
 use Rattle.mot_carousel.specs.declared.object.Object.{Object}
 use Rattle.mot_journal.specs.Image as journal
 use Rattle.mot_player.specs.Place.{change_turn, opened_place}
-use Rattle.mot_player.specs.Standing.{AreBodiesFor, Standing, TurnPlan, place_of, turn_of}
+use Rattle.mot_player.specs.PlayerView.{AreBodiesFor, PlayerView, TurnPlan, place_of, turn_with}
 use Rattle.mot_player.specs.Turn.{IsTurnOf, Turn, turn_of_carousel}
 use Rattle.mot_repository.specs.Repository.{Agrees, RepositoryView}
-use Rattle.mot_server.specs.Inner.Plays.{Plays}
+use Rattle.mot_server.specs.Inner.Plays.{PlaysCarousel}
 use Rattle.mot_server.specs.Server.{bodies_of}
 
 -- from two facts of an Ok a third
@@ -21,12 +21,14 @@ pub if_ok_both : {A E : Type 0} (r : Result A E) (P Q R : A → Type 0) → ((a 
 if_ok_both (Ok a) P Q R both p q = both a p q
 if_ok_both (Err e) P Q R both p q = tt
 
+-- an error that is a certain one is that result
 pub same_error : {A E : Type 0} (r : Result A E) (e : E) → IsErrAnd r (λ x. x ≡ e) → r ≡ Err e
 same_error (Ok a) e is = absurd is
 same_error (Err x) e is = ap Err is
 
 -- a carousel's bodies are those beside it
-bodies_of-objects : (objects : List Object) (bodies : List (List ℕ)) → map length bodies ≡ map (λ (o : Object). o.length) objects
+bodies_of-objects : (objects : List Object) (bodies : List (List ℕ))
+    → map length bodies ≡ map (λ (o : Object). o.length) objects
     → map (λ (o : whole.Object). o.body) (objects_of objects bodies) ≡ bodies
 bodies_of-objects [] [] e = refl
 bodies_of-objects [] (body ∷ bodies) e = cc
@@ -37,69 +39,99 @@ bodies_of-objects (o ∷ objects) (body ∷ bodies) e =
 
 -- the bodies of what is kept on the disk
 pub bodies_kept : (view : RepositoryView) (s : journal.Standing) → Agrees view s
-    → AreBodiesOf view.carousel (bodies_of s.carousel) × (s.carousel ≡ carousel_of view.carousel (bodies_of s.carousel))
+    → AreBodiesOf view.carousel (bodies_of s.carousel)
+    × (s.carousel ≡ carousel_of view.carousel (bodies_of s.carousel))
 bodies_kept view s agrees =
     let same : bodies_of s.carousel ≡ agrees.bodies =
-    ap bodies_of agrees.carousel ∙ bodies_of-objects view.carousel.objects.items agrees.bodies agrees.are_bodies in (
+    ap bodies_of agrees.carousel
+    ∙ bodies_of-objects view.carousel.objects.items agrees.bodies agrees.are_bodies in (
       subst (AreBodiesOf view.carousel) (sym same) agrees.are_bodies,
       agrees.carousel ∙ ap (carousel_of view.carousel) (sym same),
     )
 
 -- a player that was given a turn of the carousel plays it
-pub plays_of : (carousel : Carousel) (size : ℕ) (plan : TurnPlan) (player : Standing) → player.turn ≡ plan → player.segment_size ≡ size
+pub plays_of : (carousel : Carousel) (size : ℕ) (plan : TurnPlan) (player : PlayerView)
+    → player.turn ≡ plan → player.segment_size ≡ size
     → ((bodies : List (List ℕ)) → AreBodiesOf carousel bodies → AreBodiesFor plan bodies)
-    → ((bodies : List (List ℕ)) → AreBodiesOf carousel bodies → turn_of plan bodies ≡ turn_of_carousel (carousel_of carousel bodies) size)
-    → ((bodies : List (List ℕ)) → AreBodiesOf carousel bodies → IsTurnOf (turn_of plan bodies) (carousel_of carousel bodies) size)
-    → Plays carousel size player
+    → ((bodies : List (List ℕ)) → AreBodiesOf carousel bodies
+    → turn_with plan bodies ≡ turn_of_carousel (carousel_of carousel bodies) size)
+    → ((bodies : List (List ℕ)) → AreBodiesOf carousel bodies
+    → IsTurnOf (turn_with plan bodies) (carousel_of carousel bodies) size)
+    → PlaysCarousel carousel size player
 plays_of carousel size plan player same size_is sized exact is = record {
   size_is = size_is;
-  sized = λ bodies are. subst (λ (t : TurnPlan). AreBodiesFor t bodies) (sym same) (sized bodies are);
-  turn_is = λ bodies are. ap (λ (t : TurnPlan). turn_of t bodies) same ∙ exact bodies are;
-  is_turn = λ bodies are. subst (λ (t : TurnPlan). IsTurnOf (turn_of t bodies) (carousel_of carousel bodies) size) (sym same) (is bodies are);
+  sized = λ bodies are. subst (λ (t : TurnPlan). AreBodiesFor t bodies) (sym same)
+      (sized bodies are);
+  turn_is = λ bodies are. ap (λ (t : TurnPlan). turn_with t bodies) same ∙ exact bodies are;
+  is_turn = λ bodies are. subst
+      (λ (t : TurnPlan). IsTurnOf (turn_with t bodies) (carousel_of carousel bodies) size)
+      (sym same) (is bodies are);
 }
 
-pub plays_same : (carousel kept : Carousel) (size other : ℕ) (player : Standing) → carousel ≡ kept → size ≡ other
-    → Plays carousel size player → Plays kept other player
-plays_same carousel kept size other player c s plays = subst (λ (k : Carousel). Plays k other player) c (subst (λ (n : ℕ). Plays carousel n player) s plays)
+-- a player plays what it plays, also where the carousel and size are told otherwise
+pub plays_same : (carousel kept : Carousel) (size other : ℕ) (player : PlayerView) → carousel ≡ kept
+    → size ≡ other
+    → PlaysCarousel carousel size player → PlaysCarousel kept other player
+plays_same carousel kept size other player c s plays =
+    subst (λ (k : Carousel). PlaysCarousel k other player) c
+    (subst (λ (n : ℕ). PlaysCarousel carousel n player) s plays)
 
 -- an opened player stands at the beginning of the carousel's turn
-pub opened_at : (g h : Geometry) (carousel kept : Carousel) (plan : TurnPlan) (player : Standing) (bodies : List (List ℕ)) (address room size : ℕ)
+pub opened_at : (g h : Geometry) (carousel kept : Carousel) (plan : TurnPlan) (player : PlayerView)
+    (bodies : List (List ℕ)) (address room size : ℕ)
     → g ≡ h → carousel ≡ kept → address ≡ g.address → room ≡ packet_room g → size ≡ g.segment_size
-    → place_of player bodies ≡ opened_place address room size (turn_of plan bodies)
-    → turn_of plan bodies ≡ turn_of_carousel (carousel_of carousel bodies) size
-    → place_of player bodies ≡ opened_place h.address (packet_room h) h.segment_size (turn_of_carousel (carousel_of kept bodies) h.segment_size)
+    → place_of player bodies ≡ opened_place address room size (turn_with plan bodies)
+    → turn_with plan bodies ≡ turn_of_carousel (carousel_of carousel bodies) size
+    → place_of player bodies
+    ≡ opened_place h.address (packet_room h) h.segment_size
+    (turn_of_carousel (carousel_of kept bodies) h.segment_size)
 opened_at g h carousel kept plan player bodies address room size same c a r s opened turn =
-    opened ∙ ap (opened_place address room size) (turn ∙ ap (λ (k : Carousel). turn_of_carousel (carousel_of k bodies) size) c)
+    opened ∙ ap (opened_place address room size)
+    (turn ∙ ap (λ (k : Carousel). turn_of_carousel (carousel_of k bodies) size) c)
     ∙ ap (λ (n : ℕ). opened_place n room size (turn_of_carousel (carousel_of kept bodies) size)) a
-    ∙ ap (λ (n : ℕ). opened_place g.address n size (turn_of_carousel (carousel_of kept bodies) size)) r
-    ∙ ap (λ (n : ℕ). opened_place g.address (packet_room g) n (turn_of_carousel (carousel_of kept bodies) n)) s
-    ∙ ap (λ (k : Geometry). opened_place k.address (packet_room k) k.segment_size (turn_of_carousel (carousel_of kept bodies) k.segment_size)) same
+    ∙ ap (λ (n : ℕ). opened_place g.address n size
+    (turn_of_carousel (carousel_of kept bodies) size)) r
+    ∙ ap (λ (n : ℕ). opened_place g.address (packet_room g) n
+    (turn_of_carousel (carousel_of kept bodies) n)) s
+    ∙ ap (λ (k : Geometry). opened_place k.address (packet_room k) k.segment_size
+    (turn_of_carousel (carousel_of kept bodies) k.segment_size)) same
 
 -- where it stands in playing what the disk stands for
-pub start_in : (view : RepositoryView) (s : journal.Standing) (player : Standing) → Agrees view s
+pub start_in : (view : RepositoryView) (s : journal.Standing) (player : PlayerView) → Agrees view s
     → ((bodies : List (List ℕ)) → AreBodiesOf view.carousel bodies → place_of player bodies
-    ≡ opened_place view.journal.geometry.address (packet_room view.journal.geometry) view.journal.geometry.segment_size
+    ≡ opened_place view.journal.geometry.address (packet_room view.journal.geometry)
+    view.journal.geometry.segment_size
     (turn_of_carousel (carousel_of view.carousel bodies) view.journal.geometry.segment_size))
     → place_of player (bodies_of s.carousel)
-    ≡ opened_place s.geometry.address (packet_room s.geometry) s.geometry.segment_size (turn_of_carousel s.carousel s.geometry.segment_size)
+    ≡ opened_place s.geometry.address (packet_room s.geometry) s.geometry.segment_size
+    (turn_of_carousel s.carousel s.geometry.segment_size)
 start_in view s player agrees opened =
     let kept = bodies_kept view s agrees in
     opened (bodies_of s.carousel) kept.0
-    ∙ ap (λ (k : whole.Carousel). opened_place view.journal.geometry.address (packet_room view.journal.geometry) view.journal.geometry.segment_size
+    ∙ ap (λ (k : whole.Carousel).
+    opened_place view.journal.geometry.address (packet_room view.journal.geometry)
+    view.journal.geometry.segment_size
     (turn_of_carousel k view.journal.geometry.segment_size)) (sym kept.1)
-    ∙ ap (λ (g : Geometry). opened_place g.address (packet_room g) g.segment_size (turn_of_carousel s.carousel g.segment_size)) agrees.geometry
+    ∙ ap (λ (g : Geometry). opened_place g.address (packet_room g) g.segment_size
+    (turn_of_carousel s.carousel g.segment_size)) agrees.geometry
 
 -- after a change the turn of what is kept then comes next
-pub place_after : (view' : RepositoryView) (s next : journal.Standing) (old new : Standing) (plan : TurnPlan)
-    → Agrees view' next → new.turn ≡ plan → Plays view'.carousel view'.journal.geometry.segment_size new
-    → ((bodies changed : List (List ℕ)) → place_of new changed ≡ change_turn (turn_of plan changed) (place_of old bodies))
+pub place_after : (view' : RepositoryView) (s next : journal.Standing) (old new : PlayerView)
+    (plan : TurnPlan)
+    → Agrees view' next → new.turn ≡ plan
+    → PlaysCarousel view'.carousel view'.journal.geometry.segment_size new
+    → ((bodies changed : List (List ℕ))
+    → place_of new changed ≡ change_turn (turn_with plan changed) (place_of old bodies))
     → place_of new (bodies_of next.carousel)
-    ≡ change_turn (turn_of_carousel next.carousel next.geometry.segment_size) (place_of old (bodies_of s.carousel))
+    ≡ change_turn (turn_of_carousel next.carousel next.geometry.segment_size)
+    (place_of old (bodies_of s.carousel))
 place_after view' s next old new plan agrees same plays place =
     let kept = bodies_kept view' next agrees in
     let bodies : List (List ℕ) = bodies_of next.carousel in
-    let turn : turn_of plan bodies ≡ turn_of_carousel next.carousel next.geometry.segment_size =
-    ap (λ (t : TurnPlan). turn_of t bodies) (sym same) ∙ plays.turn_is bodies kept.0
-    ∙ ap (λ (k : whole.Carousel). turn_of_carousel k view'.journal.geometry.segment_size) (sym kept.1)
+    let turn : turn_with plan bodies ≡ turn_of_carousel next.carousel next.geometry.segment_size =
+    ap (λ (t : TurnPlan). turn_with t bodies) (sym same) ∙ plays.turn_is bodies kept.0
+    ∙ ap (λ (k : whole.Carousel). turn_of_carousel k view'.journal.geometry.segment_size)
+    (sym kept.1)
     ∙ ap (λ (g : Geometry). turn_of_carousel next.carousel g.segment_size) agrees.geometry in
-    place (bodies_of s.carousel) bodies ∙ ap (λ (t : Turn). change_turn t (place_of old (bodies_of s.carousel))) turn
+    place (bodies_of s.carousel) bodies
+    ∙ ap (λ (t : Turn). change_turn t (place_of old (bodies_of s.carousel))) turn

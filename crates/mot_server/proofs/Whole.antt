@@ -7,32 +7,41 @@ use Rattle.mot_journal.specs.Image as journal
 use Rattle.mot_player.specs.Laws.{IsAtTurnsBeginning, IsPlace}
 use Rattle.mot_player.specs.Place.{Place}
 use Rattle.mot_player.specs.Reading.{ReadsAs}
-use Rattle.mot_player.specs.Standing.{AreBodiesFor, Standing, place_of, turn_of}
+use Rattle.mot_player.specs.PlayerView.{AreBodiesFor, PlayerView, place_of, turn_with}
 use Rattle.mot_player.specs.Turn.{IsTurnOf}
 use Rattle.mot_player.proofs.Laws.{turns_read_as_their_carousels}
 use Rattle.mot_repository.specs.Repository.{RepositoryView, Holds}
 use Rattle.mot_repository.proofs.Laws.{standings-are_sound}
-use Rattle.mot_server.specs.Inner.Plays.{Plays}
+use Rattle.mot_server.specs.Inner.Plays.{PlaysCarousel}
 use Rattle.mot_server.specs.Playing.{HasPlayedTurn}
 use Rattle.mot_server.specs.Server.{bodies_of}
 use Rattle.mot_server.proofs.Turns.{bodies_kept}
 
-pub turn_reads : (view : RepositoryView) (s : journal.Standing) (state : State) (player : Standing) (packets : List (List ℕ)) (new : Place)
-    → IsHonestDisk state → Holds view s state → Plays view.carousel view.journal.geometry.segment_size player
-    → ((bodies : List (List ℕ)) → AreBodiesFor player.turn bodies → IsPlace (place_of player bodies))
-    → HasPlayedTurn (place_of player (bodies_of s.carousel)) packets new → IsAtTurnsBeginning (place_of player (bodies_of s.carousel))
+-- a whole turn, played from its beginning, reads as the carousel that the disk stands for
+pub turn_reads : (view : RepositoryView) (s : journal.Standing) (state : State)
+    (player : PlayerView) (packets : List (List ℕ)) (new : Place)
+    → IsHonestDisk state → Holds view s state
+    → PlaysCarousel view.carousel view.journal.geometry.segment_size player
+    → ((bodies : List (List ℕ)) → AreBodiesFor player.turn bodies
+    → IsPlace (place_of player bodies))
+    → HasPlayedTurn (place_of player (bodies_of s.carousel)) packets new
+    → IsAtTurnsBeginning (place_of player (bodies_of s.carousel))
     → ReadsAs packets s.carousel s.geometry.segment_size
 turn_reads view s state player packets new sound holds plays place turn begins =
     let bodies : List (List ℕ) = bodies_of s.carousel in
     let kept = bodies_kept view s holds.agrees in
     let image = sound.images state.bytes sound.bytes in
-    let whole_carousel = (standings-are_sound state.bytes s image.are_bytes (holds.each state.bytes sound.bytes).stands).0 in
-    let is : IsTurnOf (turn_of player.turn bodies) s.carousel view.journal.geometry.segment_size =
-    subst (λ (k : whole.Carousel). IsTurnOf (turn_of player.turn bodies) k view.journal.geometry.segment_size) (sym kept.1)
+    let whole_carousel = (standings-are_sound state.bytes s image.are_bytes
+    (holds.each state.bytes sound.bytes).stands).0 in
+    let is : IsTurnOf (turn_with player.turn bodies) s.carousel view.journal.geometry.segment_size =
+    subst (λ (k : whole.Carousel).
+    IsTurnOf (turn_with player.turn bodies) k view.journal.geometry.segment_size) (sym kept.1)
     (plays.is_turn bodies kept.0) in
     let size : player.segment_size ≡ s.geometry.segment_size =
     plays.size_is ∙ ap (λ (g : Geometry). g.segment_size) holds.agrees.geometry in
     subst (ReadsAs packets s.carousel) size
-    (turns_read_as_their_carousels (place_of player bodies) new s.carousel turn.before turn.sents packets (place bodies (plays.sized bodies kept.0))
-    (subst (IsTurnOf (turn_of player.turn bodies) s.carousel) (sym plays.size_is) is) whole_carousel begins
+    (turns_read_as_their_carousels (place_of player bodies) new s.carousel turn.before turn.sents
+    packets (place bodies (plays.sized bodies kept.0))
+    (subst (IsTurnOf (turn_with player.turn bodies) s.carousel) (sym plays.size_is) is)
+    whole_carousel begins
     turn.steps turn.ends turn.read)

@@ -10,8 +10,8 @@ marks_of (Ok (Accepted done)) = true ∷ []
 marks_of (Ok (Refused refusal)) = false ∷ []
 marks_of (Err refusal) = []
 
-abbrev pub fault_of : Result Attempt Refusal → Option Refusal
-fault_of (Ok answer) = None
+abbrev pub fault_of : {T : Type 0} → Result T Refusal → Option Refusal
+fault_of (Ok done) = None
 fault_of (Err refusal) = Some refusal
 
 -- the command's own answer

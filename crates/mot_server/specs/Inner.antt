@@ -1,4 +1,3 @@
 pub mod Bodies
-pub mod Going
 pub mod Plays
 pub mod Unread

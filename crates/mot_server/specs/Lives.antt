@@ -1,5 +1,5 @@
--- Lives in a row: a disk that was formatted is served, a crash comes, what it left is served, and so
--- on.
+-- Lives in a row: a disk that was formatted is served, a crash comes, what it left is served, and
+-- so on.
 use Rattle.std.specs.Prelude.{ℕ, ◌≤◌, List, [], ◌++◌, length, take}
 use Rattle.disk_store.specs.Disk.{State}
 use Rattle.mot_base.specs.declared.geometry.Geometry.{Geometry}

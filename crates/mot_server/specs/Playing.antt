@@ -1,5 +1,6 @@
 -- What a server plays.
-use Rattle.std.specs.Prelude.{ℕ, ◌≡◌, true, false, List, [], ◌∷◌, ◌++◌, map, replicate, Some}
+use Rattle.std.specs.Prelude.{ℕ, ◌≡◌, true, false, List, [], ◌∷◌, ◌++◌, length, map, replicate}
+use Rattle.std.specs.Prelude.{Some}
 use Rattle.std.specs.Prelude.{IsTrue, IsFalse}
 use Rattle.mot_packets.specs.Written.{bytes_of_packet}
 use Rattle.arrayvec.specs.ArrayVec.{ArrayVec}
@@ -30,6 +31,12 @@ pub record HasPlayedTurn (old : Place) (packets : List (List ℕ)) (new : Place)
   pub ends : map (λ (s : Sent). s.ends_turn) sents ≡ replicate before false ++ true ∷ []
   pub bytes : packets ≡ map (λ (s : Sent). bytes_of_packet s.packet) sents
   pub read : AreSent sents packets
+
+-- what playing a turn keeps true until it ends: the packets of the turn so far, none of which ended
+-- it
+pub record IsGoing (old : Place) (packets : List (List ℕ)) (new : Place) : Type 0 where
+  pub played : HasPlayed old (length packets) packets new
+  pub going : map (λ (s : Sent). s.ends_turn) played.sents ≡ replicate (length packets) false
 
 -- why a call that only reads the disk is refused; the counts of failures are those before and after
 pub data IsReadRefusal {D : Type 0} (old new : ServerView D) (before now : ℕ)

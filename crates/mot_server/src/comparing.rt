@@ -5,7 +5,7 @@ ghost use Rattle.disk_store.specs.Failures.{Rises};
 ghost use Rattle.mot_base.specs.declared.refusal.Refusal.TheVariants.{DeviceFault};
 ghost use Rattle.mot_journal.specs.Image.{Standing};
 ghost use Rattle.mot_repository.specs.OnDisk.{extent_at};
-ghost use Rattle.mot_repository.specs.Repository.{Holds, body_at};
+ghost use Rattle.mot_repository.specs.Repository.{Holds, object_body};
 
 use disk_store::Disk;
 use mot_base::Refusal;
@@ -30,7 +30,7 @@ pub(crate) fn is_body<D: Disk>(
         ≡ (D.state repository.old.disk).failures) }
     ensures exact { (s : Standing) → Holds repository.old.view s (D.state repository.old.disk)
         → (D.state repository.new.disk).IsHonest → IfOk result
-        (λ same. IsTrue same ↔ (body_at s.carousel.objects place ≡ bytes.now)) }
+        (λ same. IsTrue same ↔ (object_body s.carousel.objects place ≡ bytes.now)) }
 {
     // There is a body for each object.
     let _ = repository.body_count();

@@ -18,6 +18,3 @@ pub use mot_repository::Refused;
 pub use restarting::{Restarted, restart};
 pub use running::{Attempt, RunEnd};
 pub use server::Server;
-
-#[cfg(test)]
-mod tests;

@@ -4,9 +4,9 @@ ghost use Rattle.mot_base.specs.Geometry.{packet_room};
 ghost use Rattle.mot_base.specs.declared.refusal.Refusal.TheVariants.{OutOfMemory};
 ghost use Rattle.mot_carousel.specs.Stands.{AreBodiesOf, carousel_of};
 ghost use Rattle.mot_player.specs.Place.{opened_place};
-ghost use Rattle.mot_player.specs.Standing.{place_of};
+ghost use Rattle.mot_player.specs.PlayerView.{place_of};
 ghost use Rattle.mot_player.specs.Turn.{turn_of_carousel};
-ghost use Rattle.mot_server.specs.Inner.Plays.{Plays};
+ghost use Rattle.mot_server.specs.Inner.Plays.{PlaysCarousel};
 
 use disk_store::Disk;
 use mot_base::Refusal;
@@ -19,7 +19,7 @@ pub(crate) fn player_of<D: Disk>(
     alloc: Global,
     repository: &Repository<D>,
 ) -> Result<Player, Refusal>
-    ensures plays { IfOk result (λ player. Plays repository.now.view.carousel
+    ensures plays { IfOk result (λ player. PlaysCarousel repository.now.view.carousel
         repository.now.view.journal.geometry.segment_size player) }
     ensures opened { IfOk result (λ player. (bodies : List (List ℕ))
         → AreBodiesOf repository.now.view.carousel bodies → place_of player bodies

@@ -12,7 +12,7 @@ ghost use Rattle.mot_player.specs.Turn.{turn_of_carousel};
 ghost use Rattle.mot_repository.specs.OnDisk.{extent_at};
 ghost use Rattle.mot_repository.specs.Outcome.{after_command};
 ghost use Rattle.mot_repository.specs.Repository.{Agrees, Holds, IsBeforeOrAfter};
-ghost use Rattle.mot_repository.specs.Repository.{IsOf, body_at};
+ghost use Rattle.mot_repository.specs.Repository.{IsOf, object_body};
 
 use crate::bodies::DiskBodies;
 use crate::comparing::is_body;
@@ -37,7 +37,7 @@ pub struct Server<D: Disk> {
 }
 
 impl<D: Disk> Model for Server<D> {
-    ghost use Rattle.mot_server.specs.Inner.Plays.{Plays};
+    ghost use Rattle.mot_server.specs.Inner.Plays.{PlaysCarousel};
     ghost use Rattle.mot_server.specs.Server.{ServerView};
 
     ghost Value = { ServerView D };
@@ -48,7 +48,7 @@ impl<D: Disk> Model for Server<D> {
       player = server.player;
     } };
 
-    ghost invariant = { λ server. Plays server.bodies.repository.view.carousel
+    ghost invariant = { λ server. PlaysCarousel server.bodies.repository.view.carousel
         server.bodies.repository.view.journal.geometry.segment_size server.player };
 }
 
@@ -60,13 +60,13 @@ impl<D: Disk> Server<D> {
     ghost use Rattle.mot_player.specs.AnyBodies.{IsStepOfSome, PlaysOn, PlaysToTheEnd};
     ghost use Rattle.mot_player.specs.Laws.{IsAtTurnsBeginning, IsPlace, IsStep, bytes_left};
     ghost use Rattle.mot_player.specs.Reading.{ReadsAs};
-    ghost use Rattle.mot_player.specs.Standing.{AreBodiesFor, place_of};
+    ghost use Rattle.mot_player.specs.PlayerView.{AreBodiesFor, place_of};
     ghost use Rattle.mot_repository.specs.Answers.{IsAnswered, IsMigrationRefusal};
     ghost use Rattle.mot_journal.specs.Slot.{slot_count};
     ghost use Rattle.mot_repository.specs.Cost.{calls_of_command};
     ghost use Rattle.mot_repository.specs.Gap.{IsLongestGap};
     ghost use Rattle.mot_repository.specs.Opening.{IsOpened, IsOpeningRefusal};
-    ghost use Rattle.mot_server.specs.Inner.Plays.{Plays};
+    ghost use Rattle.mot_server.specs.Inner.Plays.{PlaysCarousel};
     ghost use Rattle.mot_server.specs.Playing.{HasPlayed, HasPlayedTurn, bytes_of_packets};
     ghost use Rattle.mot_server.specs.Playing.{IsReadRefusal, IsTurnRefusal};
     ghost use Rattle.mot_server.specs.Server.{place_in};
@@ -317,7 +317,7 @@ impl<D: Disk> Server<D> {
 
         // It is the length of the body in what the disk stands for.
         ensures body { (s : journal.Standing) → Agrees self.now.view s
-            → result ≡ length (body_at s.carousel.objects place) }
+            → result ≡ length (object_body s.carousel.objects place) }
     {
         let count = self.bodies.repository.body_count();
         prove!(place < count);
@@ -340,7 +340,7 @@ impl<D: Disk> Server<D> {
         // They are bytes of the body in what the disk stands for.
         ensures bytes { (s : journal.Standing) → Holds self.old.view s (D.state self.old.disk)
             → (D.state self.new.disk).IsHonest → OnOk result
-            (out.new ≡ slice_range (body_at s.carousel.objects place) from
+            (out.new ≡ slice_range (object_body s.carousel.objects place) from
             (from + length out.old)) }
     {
         if self.halted() {
@@ -368,7 +368,7 @@ impl<D: Disk> Server<D> {
         // It is the body of what the disk stands for.
         ensures exact { (s : journal.Standing) → Holds self.old.view s (D.state self.old.disk)
             → (D.state self.new.disk).IsHonest → IfOk result
-            (λ same. IsTrue same ↔ (body_at s.carousel.objects place ≡ bytes.now)) }
+            (λ same. IsTrue same ↔ (object_body s.carousel.objects place ≡ bytes.now)) }
     {
         if self.halted() {
             return Err(Refusal::Halted);
@@ -439,7 +439,7 @@ impl<D: Disk> Server<D> {
     /// The size of the segments that it plays.
     fn segment_size(&self) -> SegmentSize
         ensures value { result ≡ self.now.player.segment_size }
-        ensures plays { Plays self.now.view.carousel self.now.view.journal.geometry.segment_size
+        ensures plays { PlaysCarousel self.now.view.carousel self.now.view.journal.geometry.segment_size
             self.now.player }
         ensures place { (bodies : List (List ℕ)) → AreBodiesFor self.now.player.turn bodies
             → IsPlace (place_of self.now.player bodies) }

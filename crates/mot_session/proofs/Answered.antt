@@ -17,7 +17,7 @@ use Rattle.mot_lines.specs.declared.line.Line.{Line}
 use Rattle.mot_lines.specs.declared.line.Line.TheVariants as asks
 use Rattle.mot_lines.specs.Line.{IsParsed, NeedsMemory, line_of}
 use Rattle.mot_player.specs.Place.{change_turn}
-use Rattle.mot_player.specs.Standing as player
+use Rattle.mot_player.specs.PlayerView as player
 use Rattle.mot_player.specs.Turn.{turn_of_carousel}
 use Rattle.mot_repository.specs.Answers.{IsAnswered, IsChanged, IsRefusal, accepted, failed}
 use Rattle.mot_repository.specs.Answers.{refused}
@@ -80,6 +80,7 @@ module _ {D : Type 0} (old new : ServerView D) (s : Standing) (start now : State
   changed_of done (refused refusal e why same still) = absurd (not_ok done refusal (sym e))
   changed_of done (failed e going rises halts) = absurd (not_ok done DeviceFault (sym e))
 
+  -- an accepted command's ids answer it, on a server that stands for what it makes
   pub Answers-accepted : (done : Done) → IsAnswered old.view new.view start now c (Ok done)
       → IsFalse old.view.halted → (next : Standing)
       → after_command old.view.journal.layout s c ≡ Ok (next, done) → Holds new.view next now
@@ -112,7 +113,7 @@ module _ {D : Type 0} (old new : ServerView D) (s : Standing) (start now : State
       halted = ap (λ (v : RepositoryView). v.halted) same;
       later = record { moment = time; failures = later };
     };
-    place = ap (λ (p : player.Standing). player.place_of p (bodies_of s.carousel)) player_same;
+    place = ap (λ (p : player.PlayerView). player.place_of p (bodies_of s.carousel)) player_same;
   }
 
   why-refused : (r : Refusal) → IsRefusal old.view c r
@@ -125,6 +126,7 @@ module _ {D : Type 0} (old new : ServerView D) (s : Standing) (start now : State
       decided (λ needs. going) (refuses r refl (rules s stands.agrees) same)
   why-refused r (repository.no_memory going short e) same = no_memory tt (ap session.refused e) same
 
+  -- a refused command's refusal answers it, where its player stays
   pub Answers-refused_command : (r : Refusal) → IsAnswered old.view new.view start now c (Err r)
       → new.player ≡ old.player → now.IsHonest
       → (last : Standing) × StandsFor new.view last now
@@ -153,7 +155,7 @@ module _ {D : Type 0} (old new : ServerView D) (s : Standing) (start now : State
       rises = rises;
       standing = refl;
       layout = halts.layout;
-      place = ap (λ (p : player.Standing). player.place_of p (bodies_of s.carousel)) still_player;
+      place = ap (λ (p : player.PlayerView). player.place_of p (bodies_of s.carousel)) still_player;
       halted = halts.halted;
       later = record { moment = (any_moment (stands.holds going)).later; failures = later };
     })),
@@ -186,12 +188,14 @@ tried layout s start now c time =
     weakens start now (IsBeforeOrAfter layout s c) (StandsAfterSome s [] (c ∷ [])) time
     (λ image is. before_or_after layout s [] s c image (after_none s) is)
 
+-- during an accepted command a crash leaves the carousel before it or after it
 pub crosses-accepted : (layout : Layout) (s : Standing) (start now : State) (c : Command)
     (done : Done)
     → Throughout start now (IsBeforeOrAfter layout s c)
     → Throughout start now (StandsAfterSome s [] (written_by (Accepted done) (Ok (asks.Command c))))
 crosses-accepted layout s start now c done time = tried layout s start now c time
 
+-- during a refused one a crash leaves the one before it, or after a fault also the one after
 pub crosses-refused : (view view' : RepositoryView) (s : Standing) (start now : State) (c : Command)
     (r : Refusal)
     → IsHonestDisk start → Holds view s start → IsAnswered view view' start now c (Err r)
@@ -219,15 +223,18 @@ stays_halted view view' start now c r is (failed e going rises halts) =
 -- ---- other lines
 
 module _ (state : ServerState) where
+  -- a line that is no request is answered with its refusal
   pub Answers-refused : (r : Refusal) → Answers state (Err r) (session.refused r) state
   unfolding IsAnswer
   Answers-refused r = decided (λ needs. absurd needs) (refl, stays-none state)
 
+  -- a list line is answered with the carousel, where the server is not halted
   pub Answers-list : IsFalse state.halted
       → Answers state (Ok asks.List) (session.listing state.standing.carousel) state
   unfolding IsAnswer
   Answers-list going = decided (λ needs. going) (refl, stays-none state)
 
+  -- a raw line is answered with the packets of its group
   pub Answers-raw : (kind : GroupKind) (tid : ℕ) (body group : List ℕ)
       → group ≡ bytes_of_group (raw_group kind tid body)
       → Answers state (Ok (asks.Raw kind tid body))
@@ -236,10 +243,6 @@ module _ (state : ServerState) where
   unfolding IsAnswer
   Answers-raw kind tid body group e = decided (λ needs. absurd needs)
       (ap (λ g. session.packets (packets_at state.standing.geometry g)) e, stays-none state)
-
-  pub Answers-no_memory : (request : Result Line Refusal) → NeedsMemory request
-      → Answers state request (session.refused OutOfMemory) state
-  Answers-no_memory request needs = no_memory needs refl (stays-none state)
 
   -- a halted server shows nothing
   pub Answers-halted : (request : Result Line Refusal) → NeedsCarousel request → IsTrue state.halted
@@ -282,6 +285,7 @@ module _ (before after : ServerState) where
   plays-parsed line request asked (inl e) h = sym e ∙ h
   plays-parsed line request asked (inr e) h = let failed = e.0 in absurd (cc)
 
+  -- a decision on what was parsed is one on what was asked
   pub Decides-parsed : (decision : Decision) (request asked : Result Line Refusal)
       → IsParsed request asked → Decides before request decision after
       → Decides before asked decision after

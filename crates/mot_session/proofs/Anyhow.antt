@@ -54,6 +54,7 @@ same_done : (d done : Done) → success done ≡ success d → d ≡ done
 same_done d done e = cc
 
 module _ (view view' : RepositoryView) (state state' : State) (c : Command) where
+  -- an accepted command is answered with its ids, on every disk
   pub anyhow-accepted : (done : Done) → IsFalse view.halted
       → IsAnswered view view' state state' c (Ok done)
       → AnswersAnyhow view view' state.failures state'.failures (Ok (asks.Command c))
@@ -63,6 +64,7 @@ module _ (view view' : RepositoryView) (state state' : State) (c : Command) wher
   anyhow-accepted done going (refused r e why same still) = absurd (not_ok done r (sym e))
   anyhow-accepted done going (failed e was rises halts) = absurd (not_ok done DeviceFault (sym e))
 
+  -- a refused command is answered with its refusal, on every disk
   pub anyhow-refused : (refusal : Refusal) → IsAnswered view view' state state' c (Err refusal)
       → AnswersAnyhow view view' state.failures state'.failures (Ok (asks.Command c))
       (refusal_line refusal)
@@ -122,6 +124,7 @@ module _ (old new : RepositoryView) (before now : ℕ) where
   answers-unparsed text request asked wrong needs (anyhow.no_memory n same t) =
       anyhow.no_memory needs same t
 
+  -- a text that answers what was parsed answers what was asked, on every disk
   pub answers-parsed : (text : List ℕ) (request asked : Result Line Refusal)
       → IsParsed request asked → AnswersAnyhow old new before now request text
       → AnswersAnyhow old new before now asked text
@@ -135,6 +138,7 @@ module _ (old new : RepositoryView) (before now : ℕ) where
   plays-parsed line request asked (inl e) h = sym e ∙ h
   plays-parsed line request asked (inr e) h = let failed = e.0 in absurd (cc)
 
+  -- a decision on what was parsed is one on what was asked, on every disk
   pub anyhow-parsed : (decision : Decision) (request asked : Result Line Refusal)
       → IsParsed request asked → DecidesAnyhow old new before now request decision
       → DecidesAnyhow old new before now asked decision
@@ -149,6 +153,7 @@ module _ (old new : RepositoryView) (before now : ℕ) where
 
   -- ---- what was written
 
+  -- a text that answers, written whole or in part, answers so or is broken off
   pub anyhow-written : {T : Type 0} (result : Result T WriteFault)
       (request : Result Line Refusal) (text : List ℕ) (written then : Option (List ℕ))
       → AnswersAnyhow old new before now request text → Writes result text written then
@@ -227,6 +232,7 @@ module _ (view view' : RepositoryView) (same : view' ≡ view) (going : IsFalse 
     Appends-trans written so_far then (shown_lines shown) (refusal_line DeviceFault) appended w,
   )
 
+  -- a `next` line's packets, cut short by a device fault, where both were written
   pub next-cut : (value : Option Bool) (count : ℕ) → ShowsOne (Ok value) mid now so_far then
       → value ≡ None → length shown < count
       → AnswersWithAnyhow {T = Unit {0}} (Ok tt) view view' before now (Ok (asks.Next count))
@@ -234,6 +240,7 @@ module _ (view view' : RepositoryView) (same : view' ≡ view) (going : IsFalse 
   next-cut value count one e few = let c = cut value one e in
       (_, anyhow.next_cut count shown refl going same few c.0 refl, c.1)
 
+  -- a `turn` line's packets, cut short by a device fault, where both were written
   pub turn-cut : (value : Option Bool) (count : ℕ) → ShowsOne (Ok value) mid now so_far then
       → value ≡ None → AreWithinTurn count shown
       → AnswersWithAnyhow {T = Unit {0}} (Ok tt) view view' before now (Ok asks.Turn)
@@ -241,6 +248,7 @@ module _ (view view' : RepositoryView) (same : view' ≡ view) (going : IsFalse 
   turn-cut value count one e within = let c = cut value one e in
       (_, anyhow.turn_cut count shown refl going same within c.0 refl, c.1)
 
+  -- a `turn` line's packets up to one that ends the turn, where all were written
   pub turn-ended : (value : Option Bool) (count : ℕ) → ShowsOne (Ok value) mid now so_far then
       → value ≡ Some true → AreWithinTurn count shown
       → AnswersWithAnyhow {T = Unit {0}} (Ok tt) view view' before now (Ok asks.Turn)
@@ -275,6 +283,7 @@ module _ (view view' : RepositoryView) (same : view' ≡ view) (going : IsFalse 
         appended w,
   )
 
+  -- a `turn` line's packets, where the line of the next one or of a fault was broken off
   pub turn-broken : (fault : WriteFault) (count : ℕ)
       → ShowsOne (Err fault) mid now so_far then → AreWithinTurn count shown
       → AnswersWithAnyhow {T = Unit {0}} (Err fault) view view' before now (Ok asks.Turn)

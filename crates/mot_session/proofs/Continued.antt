@@ -33,9 +33,13 @@ use Rattle.mot_session.specs.State.{HasJustOpened, ServerState}
 
 -- steps that led from a place to another, and the packets that they sent
 record Leads (before after : Place) (sent : List (List ℕ)) : Type 0 where
+  -- the requests and new turns between two places
   pub steps : List Step
+  -- what they send
   pub sents : List Sent
+  -- they lead from the one place to the other
   pub taken : sent_by before steps ≡ Some (sents, after)
+  -- what they send are these packets
   pub read : AreSent sents sent
 
 Leads-none : (place : Place) → Leads place place []
@@ -163,11 +167,13 @@ continuous before after sent v opened l =
     (some_room g.packet_length v.8)
     (subst (λ (p : Place). sent_by p l.steps ≡ Some (l.sents, after)) opened l.taken) l.read
 
+-- all packets of a session on a server just opened have their indexes
 pub sessions-are-continuous : SessionsAreContinuous
 sessions-are-continuous before exchanges after v opened s =
     continuous before after.place (packets_played exchanges) v opened
     (session exchanges before after s)
 
+-- so they do with those of a reply that was broken off
 pub stopped_sessions-are-continuous : StoppedSessionsAreContinuous
 stopped_sessions-are-continuous before exchanges between request reply after v opened s b =
     continuous before after.place (packets_played exchanges ++ packets_in reply) v opened

@@ -23,6 +23,7 @@ use Rattle.mot_session.proofs.Outcomes.{Outcome, nothing, one, halts, outcome, l
 -- ---- a session, from its lines
 
 module _ (before : ServerState) (x : Exchange) where
+  -- the command that a reply accepts makes the standing after it of the one before
   pub made : Outcome before x.after (accepted_in x) (failed_in x)
       → IsAfter before.standing (accepted_in x) x.after.standing
   made (nothing none fine standing same) =
@@ -74,6 +75,7 @@ session-after before (x ∷ xs) after s =
     after_both before.standing (accepted_in x) (accepted_by xs) x.after.standing after.standing
     (made before x (outcome_of before x s.0)) (session-after x.after xs after s.1)
 
+-- a server is later behind a session than before it
 pub session-later : (before : ServerState) (xs : List Exchange) (after : ServerState)
     → Session before xs after → IsLater before after
 unfolding Session
@@ -93,6 +95,7 @@ session-halted before [] after s is = subst (λ (a : ServerState). IsTrue a.halt
 session-halted before (x ∷ xs) after s is =
     session-halted x.after xs after s.1 (halted-on before x (outcome_of before x s.0) is)
 
+-- a server is halted, or it is not
 pub halted_or_not : (b : Bool) → IsTrue b ⊎ IsFalse b
 halted_or_not true = inl refl
 halted_or_not false = inr refl
@@ -108,16 +111,6 @@ session-fine before (x ∷ xs) after s going =
     (λ isnt. isnt) (halted_or_not x.after.halted) in
     ap (λ l. l ++ failed_by xs) (none_failed before x (outcome_of before x s.0) still)
     ∙ session-fine x.after xs after s.1 going
-
--- the end of a session
-stored-end : (now : State) (failed : List Command) (before : ServerState) (xs : List Exchange)
-    (after : ServerState) → Session before xs after → IsStored now failed before xs
-    → LeavesSince now after failed
-unfolding Session
-stored-end now failed before [] after s stored =
-    subst (λ a. LeavesSince now a failed) (sym s) stored
-stored-end now failed before (x ∷ xs) after s stored =
-    stored-end now failed x.after xs after s.1 stored.1
 
 -- ---- one line more, which begins at start and ends now
 

@@ -74,6 +74,7 @@ module _ {D : Type 0} (state : D → State) (old new : ServerView D) (known next
     AnswersSo result = AnswersWithAnyhow result old.view new.view
         (state old.disk).failures (state new.disk).failures (line_of line) known next
 
+    -- a line that was answered so, and whose reply was written, is served
     pub ServesOne-told : {T : Type 0} (result : Result T WriteFault) → LeadsSo result
         → AnswersSo result → GoesOn old new (state old.disk) (state new.disk)
         → OnOk result (ServesOne state old line new known next)
@@ -86,6 +87,7 @@ module _ {D : Type 0} (state : D → State) (old new : ServerView D) (known next
     }
     ServesOne-told (Err fault) led anyhow goes = tt
 
+    -- a line that was answered so, and whose reply was not written whole, is broken off
     pub BreaksOff-told : {T : Type 0} (result : Result T WriteFault) → LeadsSo result
         → AnswersSo result → GoesOn old new (state old.disk) (state new.disk)
         → OnErr result (BreaksOff state old line new known next)

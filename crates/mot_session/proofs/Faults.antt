@@ -32,7 +32,8 @@ module _ (before after : ServerState) (reply : Reply) where
 
   commanded : (c : Command) → IsCommandAnswer before c reply after → Counted before reply after
   commanded c (accepts d e a) = fine (accepted d) e refl
-  commanded c (refuses r e why s) = fine (refused r) e (refused-fine before.layout before.standing c r why)
+  commanded c (refuses r e why s) =
+      fine (refused r) e (refused-fine before.layout before.standing c r why)
   commanded c (fails e h) = inr h.rises
 
   nexts : (count : ℕ) → IsNextAnswer before count reply after → Counted before reply after
@@ -52,7 +53,8 @@ other-refusal : (r : Refusal) → ((r ≡ refusal.DeviceFault) → ⊥) → is_d
 other-refusal refusal.DeviceFault isnt = absurd (isnt refl)
 other-refusal r isnt = refl
 
-answered : (before after : ServerState) (line : List ℕ) (request : Result Line Refusal) (reply : Reply)
+answered : (before after : ServerState) (line : List ℕ) (request : Result Line Refusal)
+    (reply : Reply)
     → line_of line ≡ request → IsAnswer before request reply after → Counted before reply after
 unfolding IsAnswer
 answered before after line (Err r) reply is a =
@@ -86,6 +88,7 @@ adds true before mid after count le (inr (inl lt)) (inl rest) on = inl (omega (a
 adds true before mid after count le (inr (inr most)) (inl rest) on =
     inr (omega (arith, le, on, sym most))
 
+-- replies hold no more device faults than the disk had, unless its count is full
 pub faults-are_the_disks : FaultsAreTheDisks
 unfolding Session
 faults-are_the_disks before [] after s =

@@ -8,6 +8,7 @@ use Rattle.mot_session.specs.declared.serving.output.WriteFault.{WriteFault}
 use Rattle.mot_session.specs.Output.{Writes}
 use Rattle.mot_session.specs.Served.{WritesFront}
 
+-- bytes up to a place, if they were written, are some first ones
 pub WritesFront-take : (bytes : List ℕ) (at : ℕ) (old new : Option (List ℕ))
     → Appends old new (take at bytes) → WritesFront bytes old new
 WritesFront-take bytes at old new h = record {

@@ -40,7 +40,8 @@ module _ (bytes line : List ℕ) (same : line_of bytes ≡ line_of line) where
         → KeepsAcknowledged start now s acknowledged (exchange line)
     acknowledged-of_line s acknowledged keeps = record {
       after = subst (λ l. IsAfter s (acknowledged ++ l) after.standing) accepted keeps.after;
-      at_end = both (λ done cut. HoldsSince now now.moment s (acknowledged ++ done) cut) keeps.at_end;
+      at_end = both (λ done cut. HoldsSince now now.moment s (acknowledged ++ done) cut)
+          keeps.at_end;
       any_moment = both (λ done cut. Throughout start now
           (StandsAfterSome s acknowledged (done ++ cut))) keeps.any_moment;
       earlier = λ moment sure others early parts stored.
@@ -90,6 +91,7 @@ module _ (bytes line : List ℕ) (same : line_of bytes ≡ line_of line) where
         goes = one.goes;
       }
 
+      -- a reply to bytes that was broken off is one to a line that asks for the same
       pub BreaksOff-of_line : BreaksOff state old bytes new written now
           → BreaksOff state old line new written now
       BreaksOff-of_line one = record {

@@ -64,6 +64,7 @@ gathered room address group size e low high some =
     (room_some size) some
     (read_each-packets_of_group size address 0 group (omega arith) (omega arith)))
 
+-- the packets of a raw reply read as the segment that was asked for
 pub raw_packets-read : RawRepliesRead
 raw_packets-read g kind tid body v low high some short =
     let size = length_of g.packet_length v.8 in

@@ -35,7 +35,8 @@ use Rattle.mot_session.specs.Served.{EndsServing, TakesInput}
 use Rattle.mot_session.specs.Session.{Exchange, Reply, text_of}
 use Rattle.mot_session.specs.Session.{accepted, refused, listing, packets, played, cut_short}
 use Rattle.mot_session.specs.State.{ServerState, StandsFor, state_of}
-use Rattle.mot_session.specs.Stored.{HoldsSince, IsToldAndStored, accepted_in, command_in, failed_in}
+use Rattle.mot_session.specs.Stored.{HoldsSince, IsToldAndStored, accepted_in, command_in}
+use Rattle.mot_session.specs.Stored.{failed_in}
 use Rattle.mot_session.specs.Stored.{is_accepting, is_failing}
 use Rattle.mot_session.proofs.Crashes.{halted_or_not}
 use Rattle.mot_session.proofs.Outcomes.{Outcome, nothing, one, halts, begun_outcome, outcome}
@@ -43,24 +44,36 @@ use Rattle.mot_session.proofs.Telling.{done_told, failing_told}
 use Rattle.mot_session.proofs.Told.{less_of_sure}
 
 -- what a crash now leaves, where these commands are sure and those may be there besides
-pub record At (s : Standing) (now : State) (is_halted : Bool) (sure early : List command.Command) : Type 0
+pub record At (s : Standing) (now : State) (is_halted : Bool) (sure early : List command.Command) :
+    Type 0
   where
+    -- a crash now leaves all of the sure commands, and a beginning of the early ones
     pub leaves : (image : List ℕ) → now.MayLeave image → StandsAfterSome s sure early image
+    -- where the server is not halted, there are no early ones
     pub going : IsFalse is_halted → early ≡ []
+    -- there is at most one early one
     pub few : length early ≤ 1
 
 -- one line more, which brought commands that are done and ones that the disk cut off
 pub record Step (s : Standing) (old mid : State) (was is : Bool) (standing : Standing)
     (sure early done failing : List command.Command) : Type 0 where
+  -- the disk's clock does not go back
   pub later : old.moment ≤ mid.moment
+  -- the sure commands and those done make the standing
   pub after : IsAfter s (sure ++ done) standing
+  -- a crash then leaves these, and a beginning of the early and of the failed ones
   pub leaves : (image : List ℕ) → mid.MayLeave image
       → StandsAfterSome s (sure ++ done) (early ++ failing) image
+  -- where the server is not halted then, no others may be there
   pub going : IsFalse is → early ++ failing ≡ []
+  -- what a crash leaves, it left before the line, or it has the sure ones and some of the line's
   pub before : (t : ℕ) (image : List ℕ) → t ≤ old.moment → mid.LeftSince t image
       → old.LeftSince t image ⊎ (IsFalse was × StandsAfterSome s sure (done ++ failing) image)
+  -- a halted server stays halted, and does nothing
   pub halted : IsTrue was → IsTrue is × (done ≡ []) × (failing ≡ [])
+  -- no command failed, or none was done and the server is halted
   pub stops : (failing ≡ []) ⊎ ((done ≡ []) × IsTrue is)
+  -- at most one command may be there besides
   pub few : length (early ++ failing) ≤ 1
   pub few_all : length (early ++ (done ++ failing)) ≤ 1
 
@@ -146,7 +159,8 @@ module _ (s : Standing) (start now : State) (before : ServerState) (x : Exchange
             (sym same_sure) (subst (λ l. StandsAfterSome s sure l image) (sym same_early)
             (at.leaves image ((unchanged.images image).0 left)));
         going = λ going. absurd (not_halted x.after.halted none.3 going);
-        before = λ t image early_enough left. ⊎_elim {C = start.LeftSince t image ⊎ (IsFalse before.halted
+        before = λ t image early_enough left.
+            ⊎_elim {C = start.LeftSince t image ⊎ (IsFalse before.halted
             × StandsAfterSome s sure (accepted_in x ++ failed_in x) image)}
             (λ was. inl was) (λ never. absurd never)
             (unchanged.time.nothing_else t image early_enough left);
@@ -167,10 +181,12 @@ module _ (s : Standing) (start now : State) (before : ServerState) (x : Exchange
         later = kept.any_moment.later;
         after = kept.after;
         leaves = λ image left.
-            subst (λ l. StandsAfterSome s (sure ++ accepted_in x) (l ++ failed_in x) image) (sym none)
+            subst (λ l. StandsAfterSome s (sure ++ accepted_in x) (l ++ failed_in x) image)
+            (sym none)
             (kept.at_end image (sound.counts_now now.moment image (omega arith) left));
         going = λ is. subst (λ l. l ++ failed_in x ≡ []) (sym none) (fine_behind what is);
-        before = λ t image early_enough left. ⊎_elim {C = start.LeftSince t image ⊎ (IsFalse before.halted
+        before = λ t image early_enough left.
+            ⊎_elim {C = start.LeftSince t image ⊎ (IsFalse before.halted
             × StandsAfterSome s sure (accepted_in x ++ failed_in x) image)}
             (λ was. inl was) (λ came. inr (going, came))
             (kept.any_moment.before t image early_enough left);
@@ -188,17 +204,24 @@ module _ (s : Standing) (start now : State) (before : ServerState) (x : Exchange
 
 -- What a crash leaves of lines that follow, with the commands that may be in flight behind them;
 -- early are those that were before. These are the commands of the line behind the last.
-pub record Kept (s : Standing) (now old : State) (was : Bool) (sure early next : List command.Command)
+pub record Kept (s : Standing) (now old : State) (was : Bool)
+    (sure early next : List command.Command)
     (told : List Told) (flight : List command.Command) : Type 0 where
+  -- what a crash leaves, it left before the lines, or it has the sure ones and some of theirs
   pub before : (t : ℕ) (image : List ℕ) → t ≤ old.moment → now.LeftSince t image
       → old.LeftSince t image
       ⊎ (IsFalse was × StandsAfterSome s sure (commands_done told ++ flight) image)
+  -- since each moment a crash leaves what was sure then, and a beginning of the later ones
   pub since : IsKeptFrom (λ t sure others. HoldsSince now t s sure others) old.moment sure told
       (early ++ flight)
+  -- now it leaves all that was told done, and a beginning of those in flight
   pub at_end : (image : List ℕ) → now.MayLeave image
       → StandsAfterSome s (sure ++ commands_done told) (early ++ flight) image
+  -- a halted server does nothing, and has nothing in flight
   pub halted : IsTrue was → (commands_done told ≡ []) × (flight ≡ [])
+  -- at most one command may be there besides
   pub few : length (early ++ flight) ≤ 1
+  -- in flight are those that were told to have failed, or else those of the line behind
   pub which : (flight ≡ commands_failing told)
       ⊎ ((commands_failing told ≡ []) × (flight ≡ next))
 
@@ -364,8 +387,10 @@ module _ (s : Standing) (now old mid : State) (was is : Bool) (standing : Standi
           (subst (λ l. StandsAfterSome s ((sure ++ done_in x) ++ commands_done told) l image)
           (append_assoc early (failing_in x) flight) (rest.at_end image left));
       halted = λ h. let none = step.halted h in
-          let others = rest.halted none.0 in
-          (ap (λ l. l ++ commands_done told) none.1 ∙ others.0, ap (λ l. l ++ flight) none.2 ∙ others.1);
+          let others = rest.halted none.0 in (
+            ap (λ l. l ++ commands_done told) none.1 ∙ others.0,
+            ap (λ l. l ++ flight) none.2 ∙ others.1,
+          );
       few = subst (λ l. length l ≤ 1) (append_assoc early (failing_in x) flight) rest.few;
       which = which_is;
     }
@@ -491,6 +516,7 @@ module _ {D : Type 0} (state : D → State)
 
 module _ (P Q : ℕ → List command.Command → List command.Command → Type 0)
     (turns : (t : ℕ) (sure others : List command.Command) → P t sure others → Q t sure others) where
+  -- what is kept line by line stays kept with a weaker fact of each moment
   pub kept_so : (t : ℕ) (sure : List command.Command) (told : List Told)
       (flight : List command.Command) → IsKeptFrom P t sure told flight
       → IsKeptFrom Q t sure told flight
@@ -529,7 +555,8 @@ module _ {A B : Type 0} (result : Result A B) (IsHonest : A → Type 0)
       → Throughout start opened (NoneOrNew g)
       → IsKeptFrom (λ t sure others. IsLeft t → Plays sure others) start.moment [] told flight
   life_kept start IsLeft is_left blank time =
-      kept_from (λ t sure others. IsLeft t → Plays sure others) start.moment opened.moment time.later
+      kept_from (λ t sure others. IsLeft t → Plays sure others) start.moment opened.moment
+      time.later
       told flight all
       (kept_so (λ t sure others. HoldsSince now t (new_standing g) sure others)
       (λ t sure others. IsLeft t → Plays sure others)
@@ -552,6 +579,7 @@ module _ {A B : Type 0} (result : Result A B) (IsHonest : A → Type 0)
 
 -- ---- what was told
 
+-- a refusal that is there is not none
 pub not_none : (r : Refusal) (o : Option Refusal) → o ≡ Some r → o ≡ None → ⊥
 not_none r o some none = let e : None ≡ Some r = sym none ∙ some in cc
 
@@ -600,7 +628,8 @@ module _ (input : List ℕ) (count : ℕ) (fault : Option Refusal) (told : List 
   }
 
 -- the lines that are whole come first
-pub lines_split : (input : List ℕ) → lines_of input ≡ whole_lines input ++ unless_empty (rest_of input)
+pub lines_split : (input : List ℕ)
+    → lines_of input ≡ whole_lines input ++ unless_empty (rest_of input)
 unfolding lines_of
 lines_split input = refl
 
@@ -660,7 +689,11 @@ module _ {D : Type 0} (state : D → State)
       → ServedSo
   none_served same none faulty kept keeps =
       all_served []
-      (record { consumed = Consumes-kept unread unread left [] (Consumes-nil unread) kept; bounded = omega arith })
+      (record {
+        consumed = Consumes-kept unread unread left [] (Consumes-nil unread) kept;
+        bounded =
+            omega arith;
+      })
       [] (lines_of []) refl none (λ fine. absurd (faulty fine)) old keeps
       (subst (λ (v : ServerView D). KeptFrom state sound s (state new.disk) [] v [] old old) same
       (kept_here state sound s new old honest))
@@ -702,7 +735,8 @@ module _ {D : Type 0} (state : D → State)
       → (count ≡ 0) × (new ≡ opened) × Keeps unread left × Keeps old now) → ServedSo
   served_so ends ended unended unwritten none = ⊎_elim {C = ServedSo}
       (λ is. let e = ended is in
-      each_served e.0 e.1 (lines_of e.0) [] (sym (append-nil (lines_of e.0))) e.2 (λ fine. refl) e.3)
+      each_served e.0 e.1 (lines_of e.0) [] (sym (append-nil (lines_of e.0))) e.2 (λ fine. refl)
+      e.3)
       (⊎_elim {C = ServedSo}
       (λ is. let e = none is in
       none_served e.1 e.0 (not_none OutOfMemory fault is) e.2 e.3)
@@ -712,11 +746,13 @@ module _ {D : Type 0} (state : D → State)
       (λ fine. absurd (not_none ReadFault fault is fine)) e.3)
       (λ is. let e = unwritten is in
       ⊎_elim {C = ServedSo}
-      (λ some. some_served e.0 e.1 (whole_lines e.0) (unless_empty (rest_of e.0)) (lines_split e.0) is
+      (λ some. some_served e.0 e.1 (whole_lines e.0) (unless_empty (rest_of e.0)) (lines_split e.0)
+      is
       some)
       (λ some. some_served e.0 e.1 (lines_of e.0) [] (sym (append-nil (lines_of e.0))) is some)
       e.2))) ends
 
+-- of two cases, the last part of either
 pub some_of : {A B C D E : Type 0} → (A × B) ⊎ (C × D × E) → B ⊎ E
 some_of (inl some) = inl some.1
 some_of (inr some) = inr some.2
@@ -743,6 +779,7 @@ module _ {D A B : Type 0} (state : D → State) (result : Result A B) (server_of
     → Holds (server_of a).view s (state (server_of a).disk)))
     (reads : (s : Standing) → IsOf s image → IfOk result (λ a. (state (server_of a).disk).IsHonest
     → ReadsAs (packets_of a) s.carousel s.geometry.segment_size)) where
+  -- a server that opened what a crash left lives on, with the sure ones and some of the others
   pub lives_on : (sure others : List command.Command)
       → StandsAfterSome (new_standing g) sure others image
       → IfOk result (λ a. (state (server_of a).disk).IsHonest

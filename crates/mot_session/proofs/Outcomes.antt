@@ -35,9 +35,11 @@ pub data Outcome (before after : ServerState) (done failed : List command.Comman
   halts : done ≡ [] → IsFalse before.halted → IsTrue after.halted
       → after.standing ≡ before.standing → Outcome before after done failed
 
+-- the command of a request, where the reply accepts it
 abbrev pub done_by : Reply → Result Line Refusal → List command.Command
 done_by reply request = if is_accepting reply then command_in request else []
 
+-- the command of a request, where the reply is a device fault
 abbrev pub failed_by_reply : Reply → Result Line Refusal → List command.Command
 failed_by_reply reply request = if is_failing reply then command_in request else []
 
@@ -122,6 +124,7 @@ answered before after (Ok (asks.Next count)) reply going a =
     nexts before after (Ok (asks.Next count)) count reply a
 answered before after (Ok asks.Turn) reply going a = turns before after (Ok asks.Turn) reply a
 
+-- an answer leaves the carousel, makes one command's, or halts on a disk that fails
 pub outcome : (before after : ServerState) (request : Result Line Refusal) (reply : Reply)
     → Answers before request reply after
     → Outcome before after (done_by reply request) (failed_by_reply reply request)
@@ -182,12 +185,14 @@ module _ (before after : ServerState) where
   later-answered (Ok (asks.Next count)) reply a = later-next count reply a
   later-answered (Ok asks.Turn) reply a = later-turn reply a
 
+  -- a server is later behind an answer than before it
   pub later-answers : (request : Result Line Refusal) (reply : Reply)
       → Answers before request reply after → IsLater before after
   later-answers request reply (decided going a) = later-answered request reply a
   later-answers request reply (halted is needs e s) = s.keeps.later
   later-answers request reply (no_memory needs e s) = s.keeps.later
 
+  -- a server is later behind an answer that was begun than before it
   pub later-begins : (request : Result Line Refusal) (reply : Reply)
       → Begins before request reply after → IsLater before after
   later-begins request reply (whole a) = later-answers request reply a

@@ -33,6 +33,7 @@ module _ (before mid after : ServerState) (going : IsFalse before.halted)
       (Err fault) before mid after going old now new made sents so_far failing w
       count few s
 
+  -- a `turn` line's packets, where the line of the next one or of a fault was broken off
   pub turn-broken : (fault : WriteFault) → SendsWithinTurn before made sents mid
       → AnswersOne (Err fault) mid after now new
       → AnswersRequest {T = Unit {0}} (Err fault) false before (Ok asks.Turn) after old new
@@ -55,6 +56,7 @@ module _ (before mid after : ServerState) (going : IsFalse before.halted)
         (Ok tt) before mid after going old now new made sents so_far
         failing w count few s
 
+    -- a `next` line's packets, and the device fault of the request behind them
     pub next-cut : shown ≡ None → (count : ℕ) → made < count → Sends before made sents mid
         → AnswersRequest {T = Unit {0}} (Ok tt) false before (Ok (asks.Next count)) after old new
     next-cut none count few s = next-cut-of one none count few s
@@ -69,6 +71,7 @@ module _ (before mid after : ServerState) (going : IsFalse before.halted)
         (Ok tt) before mid after going old now new made sents so_far
         failing w s
 
+    -- a `turn` line's packets, and the device fault of the request behind them
     pub turn-cut : shown ≡ None → SendsWithinTurn before made sents mid
         → AnswersRequest {T = Unit {0}} (Ok tt) false before (Ok asks.Turn) after old new
     turn-cut none s = turn-cut-of one none s
@@ -84,6 +87,7 @@ module _ (before mid after : ServerState) (going : IsFalse before.halted)
     )
     next-more-of (fails failing is w) e some s = let both : Some e ≡ None = sym some ∙ is in cc
 
+    -- one more packet of a `next` line, behind those that were sent
     pub next-more : (e : Bool) → shown ≡ Some e → Sends before made sents mid
         → (all : List Sent) × Sends before (made + 1) all after × Appends old new (sent_lines all)
     next-more e some s = next-more-of one e some s
@@ -100,6 +104,7 @@ module _ (before mid after : ServerState) (going : IsFalse before.halted)
     )
     turn-more-of (fails failing is w) some s = let both : Some false ≡ None = sym some ∙ is in cc
 
+    -- one more packet of a `turn` line that does not end the turn
     pub turn-more : shown ≡ Some false → SendsWithinTurn before made sents mid
         → (all : List Sent) × SendsWithinTurn before (made + 1) all after
         × Appends old new (sent_lines all)
@@ -115,6 +120,7 @@ module _ (before mid after : ServerState) (going : IsFalse before.halted)
         (appended-more sents sent old now new so_far w)
     turn-ended-of (fails failing is w) some s = let both : Some true ≡ None = sym some ∙ is in cc
 
+    -- a `turn` line's packets up to one that ends the turn
     pub turn-ended : shown ≡ Some true → SendsWithinTurn before made sents mid
         → AnswersRequest {T = Unit {0}} (Ok tt) false before (Ok asks.Turn) after old new
     turn-ended some s = turn-ended-of one some s

@@ -3,7 +3,8 @@ use Rattle.std.proofs.Common.{◌≡◌, ℕ, Bool, List, Option, Some, Result, 
 use Rattle.std.proofs.Common.{subst}
 use Rattle.std.specs.Prelude.{IfOk, IsFalse}
 use Rattle.disk_store.specs.Disk.{State}
-use Rattle.disk_store.proofs.Laws.{keeps_none, keeps_on, reads_none, reads_on, unchanged_none, unchanged_on}
+use Rattle.disk_store.proofs.Laws.{keeps_none, keeps_on, reads_none, reads_on, unchanged_none}
+use Rattle.disk_store.proofs.Laws.{unchanged_on}
 use Rattle.mot_journal.specs.Image.{Standing}
 use Rattle.mot_lines.specs.Text.{played_line}
 use Rattle.mot_packets.specs.Packet.{read_packet}
@@ -27,13 +28,20 @@ module _ {D : Type 0} (old new : ServerView D) (start now : State)
     standing = refl;
     layout = ap (λ (v : RepositoryView). v.journal.layout) reads.view;
     halted = ap (λ (v : RepositoryView). v.halted) reads.view;
-    later = record { moment = (reads.disk.unchanged honest).time.later; failures = reads.disk.keeps.later };
+    later = record {
+      moment = (reads.disk.unchanged honest).time.later;
+      failures =
+          reads.disk.keeps.later;
+    };
   }
 
+  -- what a server's disk holds, it holds when it was only read
   pub holds-read : (s : Standing) → Holds old.view s start → Holds new.view s now
   holds-read s holds =
-      holds_still old.view new.view s start now holds honest (reads.disk.unchanged honest) reads.view
+      holds_still old.view new.view s start now holds honest (reads.disk.unchanged honest)
+      reads.view
 
+  -- what a server stands for, it stands for when its disk was only read
   pub stands-read : (s : Standing) → StandsFor old.view s start → StandsFor new.view s now
   stands-read s stands = record {
     agrees = subst (λ v. Agrees v s) (sym reads.view) stands.agrees;
@@ -68,8 +76,10 @@ reads-none server state = record {
   disk = reads_none state;
 }
 
+-- calls that only read, one after the other, only read
 pub reads-more : {D : Type 0} (old mid new : ServerView D) (start between now : State)
-    → ReadsAlone old mid start between → ReadsAlone mid new between now → ReadsAlone old new start now
+    → ReadsAlone old mid start between → ReadsAlone mid new between now
+    → ReadsAlone old new start now
 reads-more old mid new start between now a b = record {
   view = b.view ∙ a.view;
   disk = reads_on start between now a.disk b.disk;
@@ -83,6 +93,7 @@ goes_on-none server state = record {
   halted = λ is. (refl, λ honest. unchanged_none state);
 }
 
+-- what keeps the disk's length and a halted server, one after the other, keeps both
 pub goes_on-more : {D : Type 0} (old mid new : ServerView D) (start between now : State)
     → GoesOn old mid start between → GoesOn mid new between now → GoesOn old new start now
 goes_on-more old mid new start between now a b = record {
@@ -95,9 +106,3 @@ goes_on-more old mid new start between now a b = record {
             (then.1 honest),
       );
 }
-
--- a server of that state is halted where the state is
-pub going-of : {D : Type 0} (server : ServerView D) (s : Standing) (state : State)
-    (before : ServerState)
-    → state_of server s state ≡ before → IsFalse before.halted → IsFalse server.view.halted
-going-of server s state before same going = ap (λ (b : ServerState). b.halted) same ∙ going

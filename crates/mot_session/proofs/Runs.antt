@@ -23,7 +23,8 @@ use Rattle.mot_session.specs.Session.{Reply, Answers, Exchange, Session, text_of
 use Rattle.mot_session.specs.State.{ServerState, StandsFor, state_of}
 use Rattle.mot_session.specs.Stored.{IsStored, IsToldAndStored, accepted_in, failed_by, failed_in}
 use Rattle.mot_session.proofs.Crashes.{stored-push, stored-none}
-use Rattle.mot_session.proofs.Outcomes.{Outcome, outcome, begun_outcome, later-answers, later-begins}
+use Rattle.mot_session.proofs.Outcomes.{Outcome, outcome, begun_outcome, later-answers}
+use Rattle.mot_session.proofs.Outcomes.{later-begins}
 
 Session-push : (before mid : ServerState) (xs : List Exchange) (x : Exchange)
     → Session before xs mid → Answers mid (line_of x.line) x.reply x.after
@@ -133,6 +134,7 @@ module _ {D : Type 0} (mid_server after_server : ServerView D) (m last : Standin
 
 -- ---- the line in hand
 
+-- of no input nothing is in hand, and no lines are counted
 pub InHand-none : (hand : List ℕ) → hand ≡ bytes_in_hand [] → InHand [] hand 0
 InHand-none hand h = record {
   rest = h ∙ ap bytes_in_hand (sym rest_of-none);

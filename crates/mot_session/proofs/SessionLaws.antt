@@ -4,6 +4,7 @@ use Rattle.mot_session.proofs.Continued.{sessions-are-continuous, stopped_sessio
 use Rattle.mot_session.proofs.Faults.{faults-are_the_disks}
 use Rattle.mot_session.proofs.Laws.{raw_packets-read}
 
+-- what holds of every session
 pub session-laws : SessionLaws
 session-laws = record {
   raw = raw_packets-read;

@@ -10,7 +10,8 @@ use Rattle.mot_carousel.specs.declared.command.Done.{Done}
 use Rattle.mot_lines.specs.declared.line.Line.{Line}
 use Rattle.mot_lines.specs.declared.line.Line.TheVariants as asks
 use Rattle.mot_session.specs.Life.{is_done, is_fault}
-use Rattle.mot_session.specs.Session.{Answers, decided, halted, no_memory, IsAnswer, IsCommandAnswer}
+use Rattle.mot_session.specs.Session.{Answers, decided, halted, no_memory, IsAnswer}
+use Rattle.mot_session.specs.Session.{IsCommandAnswer}
 use Rattle.mot_session.specs.Session.{Reply, accepted, refused, accepts, refuses, fails, text_of}
 use Rattle.mot_session.specs.State.{ServerState}
 use Rattle.mot_session.specs.Stored.{command_in, is_accepting, is_failing}
@@ -109,7 +110,8 @@ module _ (request : Result Line Refusal) where
   failing_by_kind reply (inr (inr (r, e))) = ap where_so
       (ap (λ (r : Reply). is_fault (text_of r)) e ∙ fault_of_refused r ∙ sym (ap is_failing e))
 
-  module _ (before after : ServerState) (reply : Reply) (answers : Answers before request reply after)
+  module _ (before after : ServerState) (reply : Reply)
+      (answers : Answers before request reply after)
     where
       -- the text says `done` where the command was accepted
       pub done_told : where_so (is_done (text_of reply)) ≡ where_so (is_accepting reply)

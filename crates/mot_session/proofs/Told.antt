@@ -75,7 +75,8 @@ module _ (start now : State) (before : ServerState) (x : Exchange) (sound : IsHo
   keeps = record {
     after = accepted_more;
     at_end = λ image left. leaves what image (sound.only_now image left);
-    any_moment = weakens start now (StandsAfterSome before.standing [] (accepted_in x ++ failed_in x))
+    any_moment = weakens start now
+        (StandsAfterSome before.standing [] (accepted_in x ++ failed_in x))
         (StandsAfterSome s acknowledged (accepted_in x ++ failed_in x)) (crosses.going going) came;
     earlier = λ moment sure others early parts stored image left.
         ⊎_elim {C = StandsAfterSome s sure (others ++ (accepted_in x ++ failed_in x)) image}
@@ -112,6 +113,7 @@ module _ {D : Type 0} (state : D → State) (old new : ServerView D) (line : Lis
       (sound honest) what crosses
       (λ going image left. (stands.holds going).each image left)
 
+  -- a line whose whole reply was written is served, and what was told is stored
   pub ServedLine-told : {T : Type 0} (result : Result T WriteFault)
       → Leads state old new (AnswersSo result)
       → OnOk result (Leads state old new (λ before after.
@@ -132,6 +134,7 @@ module _ {D : Type 0} (state : D → State) (old new : ServerView D) (line : Lis
       )
   ServedLine-told (Err fault) led = tt
 
+  -- a line whose reply was broken off is stopped, and its command stored all the same
   pub StoppedLine-told : {T : Type 0} (result : Result T WriteFault)
       → Leads state old new (AnswersSo result)
       → OnErr result (Leads state old new (λ before after.

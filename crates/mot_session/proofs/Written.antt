@@ -12,6 +12,7 @@ use Rattle.std.proofs.lemmas.List.Concat.{flat_map-append}
 use Rattle.mot_base.proofs.Laws.{read_each-append}
 use Rattle.mot_base.specs.declared.refusal.Refusal.{Refusal}
 use Rattle.mot_base.specs.declared.refusal.Refusal.TheVariants.{DeviceFault}
+use Rattle.mot_groups.specs.Entity.{all_but_last}
 use Rattle.mot_lines.specs.declared.line.Line.{Line}
 use Rattle.mot_lines.specs.declared.line.Line.TheVariants as asks
 use Rattle.mot_lines.specs.Text.{refusal_line}
@@ -54,13 +55,7 @@ is_cut_short (packets ps) = false
 is_cut_short (played sents) = false
 is_cut_short (cut_short sents) = true
 
-unfoldable all_but_last : List Sent → List Sent
-all_but_last [] = []
-all_but_last (s ∷ []) = []
-all_but_last (s ∷ t ∷ sents) = s ∷ all_but_last (t ∷ sents)
-
 all_but_last-more : (sents : List Sent) (s : Sent) → all_but_last (sents ++ s ∷ []) ≡ sents
-unfolding all_but_last
 all_but_last-more [] s = refl
 all_but_last-more (t ∷ []) s = refl
 all_but_last-more (t ∷ u ∷ sents) s = ap (λ l. t ∷ l) (all_but_last-more (u ∷ sents) s)
@@ -126,6 +121,7 @@ not_played sents others e = subst (λ r. Yes (is_cut_short r)) e tt
 
 -- ---- replies that were decided at once
 
+-- a reply without packets, written whole or in part, answers its request so
 pub AnswersRequest-written : {T : Type 0} (result : Result T WriteFault)
     (before after : ServerState)
     (request : Result Line Refusal) (reply : Reply) (old new : Option (List ℕ))
@@ -144,16 +140,6 @@ AnswersRequest-written (Err fault) before after request reply old new none a w =
     cut_in_order = λ sents e. cut_in_order-none reply sents (length w.written) none e;
   },
 )
-
--- a reply that was played was written
-pub AnswersRequest-played : {T : Type 0} (result : Result T WriteFault)
-    (before now after : ServerState)
-    (line : Line) (request : Result Line Refusal) (old new : Option (List ℕ))
-    → request ≡ Ok line → now ≡ before → AnswersRequest result false now (Ok line) after old new
-    → AnswersRequest result false before request after old new
-AnswersRequest-played result before now after line request old new e s a =
-    subst (λ (r : Result Line Refusal). AnswersRequest result false before r after old new) (sym e)
-    (subst (λ (state : ServerState). AnswersRequest result false state (Ok line) after old new) s a)
 
 -- a flush keeps what was written, and may fail after all of it
 pub AnswersWith-kept : {T : Type 0} (result : Result T WriteFault) (before after : ServerState)
@@ -326,12 +312,14 @@ module _ {T : Type 0} (result : Result T WriteFault) (before mid after : ServerS
             omega (arith, long, length-append (sent_lines sents) w.written);
       }
 
+  -- fewer packets than a `next` line asks for, and the line of the fault behind them
   pub AnswersRequest-next_cut : (count : ℕ) → made < count → Sends before made sents mid
       → AnswersRequest result false before (Ok (asks.Next count)) after old new
   unfolding IsAnswer
   AnswersRequest-next_cut count few s =
       answers-cut (Ok (asks.Next count)) (cut made sents mid few refl s failing)
 
+  -- packets within a turn, and the line of the fault behind them
   pub AnswersRequest-turn_cut : SendsWithinTurn before made sents mid
       → AnswersRequest result false before (Ok asks.Turn) after old new
   unfolding IsAnswer

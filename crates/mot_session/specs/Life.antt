@@ -1,6 +1,7 @@
 -- What becomes of a disk that is formatted and served lines, in the words of the bytes that were
 -- read and written.
-use Rattle.std.specs.Prelude.{◌≡◌, ◌⊎◌, ℕ, ◌≤◌, Bool, List, [], ◌∷◌, ◌++◌, length, map, take, Option}
+use Rattle.std.specs.Prelude.{◌≡◌, ◌⊎◌, ℕ, ◌≤◌, Bool, List, [], ◌∷◌, ◌++◌, length, map, take}
+use Rattle.std.specs.Prelude.{Option}
 use Rattle.std.specs.Prelude.{None, Some, bytes_eq, codes, if◌then◌else◌}
 use Rattle.std.specs.List.{flat_map}
 use Rattle.std.specs.Io.KnownBytes.{Appends}
@@ -60,9 +61,9 @@ pub record Tells (input : List ℕ) (count : ℕ) (fault : Option Refusal) (told
   pub which : (in_flight ≡ commands_failing told)
       ⊎ ((fault ≡ Some WriteFault) × (in_flight ≡ next_command unanswered))
 
--- P tells of a moment of the disk's clock what a crash leaves that comes since then: all of the sure
--- commands, and a beginning of the others. Of each reply there is a moment, none before that of an
--- earlier one, since which its command is sure.
+-- P tells of a moment of the disk's clock what a crash leaves that comes since then: all of the
+-- sure commands, and a beginning of the others. Of each reply there is a moment, none before that
+-- of an earlier one, since which its command is sure.
 unfoldable pub IsKeptFrom : (ℕ → List Command → List Command → Type 0) → ℕ → List Command
     → List Told → List Command → Type 0
 IsKeptFrom P moment sure [] in_flight = P moment sure in_flight

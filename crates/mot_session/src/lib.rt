@@ -11,6 +11,3 @@ pub use mot_lines::{Description, Line, SegmentBytes, parse_line};
 pub use serving::{
     MAX_READS, READ_SIZE, ServeEnd, WriteFault, answer_reading, serve, serve_line, write_listing,
 };
-
-#[cfg(test)]
-mod tests;

@@ -1,33 +1,37 @@
 -- What is told of commands, one after the other.
-use Rattle.std.proofs.Common.{◌≡◌, ℕ, Bool, List, [], ◌∷◌, ◌++◌, length, Ok, refl, sym, subst, arith}
+use Rattle.std.proofs.Common.{◌≡◌, ℕ, Bool, List, [], ◌∷◌, ◌++◌, length, Ok, refl, sym, subst}
+use Rattle.std.proofs.Common.{arith}
 use Rattle.std.proofs.Common.{append_assoc, append-nil}
 use Rattle.mot_carousel.specs.declared.command.Command.{Command}
 use Rattle.mot_carousel.specs.declared.command.Command.TheVariants as command
 use Rattle.mot_server.specs.Attempts as attempts
 use Rattle.mot_server.specs.declared.running.Attempt.{Attempt}
 use Rattle.mot_server.specs.declared.running.Attempt.TheVariants.{Accepted, Refused}
-use Rattle.mot_update.specs.HasRun.{marks_of}
-use Rattle.mot_update.specs.Told.{Answer, AreAnswers, Tells, Withdrew}
+use Rattle.mot_update.specs.HasRun.{marks_of_settling}
+use Rattle.mot_update.specs.Told.{Answer, AreAnswers, TellsMore, Withdrew}
 use Rattle.mot_update.specs.Told.{answers_of, commands_of}
 use Rattle.mot_update.specs.declared.settling.Settled.{Settled}
 use Rattle.mot_update.specs.declared.settling.Settled.TheVariants as settled
 use Rattle.mot_update.specs.declared.wanted.Wanted.{Wanted}
 
-pub tells_trans : (a b c : List Answer → Type 0) (xs ys : List Answer) → Tells a b xs
-    → Tells b c ys → Tells a c (xs ++ ys)
-tells_trans a b c xs ys p q = λ told was. subst c (append_assoc told xs ys) (q (told ++ xs) (p told was))
+pub tells_trans : (a b c : List Answer → Type 0) (xs ys : List Answer) → TellsMore a b xs
+    → TellsMore b c ys → TellsMore a c (xs ++ ys)
+tells_trans a b c xs ys p q = λ told was.
+    subst c (append_assoc told xs ys) (q (told ++ xs) (p told was))
 
-pub tells_nil : (a : List Answer → Type 0) → Tells a a []
+pub tells_nil : (a : List Answer → Type 0) → TellsMore a a []
 tells_nil a = λ told was. subst a (sym (append-nil told)) was
 
 -- nothing more was told
-pub tells_kept : (a b c : List Answer → Type 0) (xs : List Answer) → Tells a b xs → Tells b c []
-    → Tells a c xs
-tells_kept a b c xs p q = subst (Tells a c) (append-nil xs) (tells_trans a b c xs [] p q)
+pub tells_kept : (a b c : List Answer → Type 0) (xs : List Answer) → TellsMore a b xs
+    → TellsMore b c []
+    → TellsMore a c xs
+tells_kept a b c xs p q = subst (TellsMore a c) (append-nil xs) (tells_trans a b c xs [] p q)
 
 -- nothing was told before
-pub tells_on : (a b c : List Answer → Type 0) (xs : List Answer) → Tells a b [] → Tells b c xs
-    → Tells a c xs
+pub tells_on : (a b c : List Answer → Type 0) (xs : List Answer) → TellsMore a b []
+    → TellsMore b c xs
+    → TellsMore a c xs
 tells_on a b c xs p q = λ told was. q told (subst b (append-nil told) (p told was))
 
 -- commands that were not answered
@@ -75,7 +79,8 @@ answer-withdrew name (Refused refusal) = ((refl, refl), refl)
 
 -- one wanted object
 pub answers-settled : (settled : Settled) (w : Wanted)
-    → AreAnswers (answers_of w.name settled) (commands_of settled w) (marks_of (Ok settled))
+    → AreAnswers (answers_of w.name settled) (commands_of settled w)
+    (marks_of_settling (Ok settled))
 answers-settled settled.Right w = refl
 answers-settled (settled.Put (Accepted done)) w = ((refl, refl), refl)
 answers-settled (settled.Put (Refused refusal)) w = ((refl, refl), refl)

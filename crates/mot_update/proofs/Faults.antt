@@ -11,15 +11,18 @@ use Rattle.mot_server.specs.RunEnds.{IsRunFault}
 use Rattle.mot_server.specs.RunEnds as run
 use Rattle.mot_server.specs.Server.{ServerView}
 use Rattle.mot_server.specs.declared.running.Attempt.{Attempt}
-use Rattle.mot_update.specs.Faults.{IsCalm, IsUpdateFault, TellsFaults}
+use Rattle.mot_update.specs.Faults.{StaysCalm, IsUpdateFault, TellsFaults}
 use Rattle.mot_update.specs.Faults as fault
 
 module _ {D : Type 0} where
-  pub calm_here : (server : ServerView D) (start : State) → IsCalm server server start start
+  -- where nothing was done, the disk did not fail
+  pub calm_here : (server : ServerView D) (start : State) → StaysCalm server server start start
   calm_here server start = record { failures = refl; halted = refl }
 
+  -- calls without a failure, one after the other, have none together
   pub calm_on : (old mid new : ServerView D) (start between now : State)
-      → IsCalm old mid start between → IsCalm mid new between now → IsCalm old new start now
+      → StaysCalm old mid start between → StaysCalm mid new between now
+      → StaysCalm old new start now
   calm_on old mid new start between now one two = record {
     failures = two.failures ∙ one.failures;
     halted = two.halted ∙ one.halted;
@@ -27,7 +30,7 @@ module _ {D : Type 0} where
 
   -- a fault behind calls without one
   pub fault_on : (old mid : ServerView D) (start between now : State) (refusal : Refusal)
-      → IsCalm old mid start between → IsUpdateFault mid between now refusal
+      → StaysCalm old mid start between → IsUpdateFault mid between now refusal
       → IsUpdateFault old start now refusal
   fault_on old mid start between now refusal calm (fault.halted is e same) =
       fault.halted (subst IsTrue calm.halted is) e (same ∙ calm.failures)
@@ -37,8 +40,9 @@ module _ {D : Type 0} where
       fault.device (subst IsFalse calm.halted is) e
       (subst (λ n. Rises n now.failures) calm.failures rises)
 
+  -- a call behind calls without a failure tells the faults of all of them
   pub tells_on : {T : Type 0} (old mid new : ServerView D) (start between now : State)
-      (result : Result T Refusal) → IsCalm old mid start between
+      (result : Result T Refusal) → StaysCalm old mid start between
       → TellsFaults mid new between now result → TellsFaults old new start now result
   tells_on old mid new start between now (Ok answer) calm tells =
       calm_on old mid new start between now calm tells

@@ -1,7 +1,9 @@
 -- Looks: names that differ, objects settled one after the other, and what is not known withdrawn.
-use Rattle.std.proofs.Common.{◌≡◌, ℕ, zero, suc, ◌+◌, ◌<◌, ◌≤◌, Bool, true, false, not, ◌||◌, List, []}
+use Rattle.std.proofs.Common.{◌≡◌, ℕ, zero, suc, ◌+◌, ◌<◌, ◌≤◌, Bool, true, false, not, ◌||◌, List}
+use Rattle.std.proofs.Common.{[]}
 use Rattle.std.proofs.Common.{◌∷◌, ◌++◌, length, map, take, Option, Some, None, refl, sym, ap, ◌∙◌}
-use Rattle.std.proofs.Common.{subst, arith, append_assoc, append-nil, cond, drop, get_or, Result, Ok, Err}
+use Rattle.std.proofs.Common.{subst, arith, append_assoc, append-nil, cond, drop, get_or, Result}
+use Rattle.std.proofs.Common.{Ok, Err}
 use Rattle.std.proofs.Common.{add-one, take-append-drop}
 use Rattle.std.specs.Prelude.{IsErr}
 use Rattle.std.proofs.lemmas.List.{take_all, take_more}
@@ -28,7 +30,7 @@ use Rattle.mot_update.specs.Laws.{names_of}
 use Rattle.mot_server.specs.Attempts as attempts
 use Rattle.mot_server.specs.declared.running.Attempt.{Attempt}
 use Rattle.mot_server.specs.declared.running.Attempt.TheVariants.{Accepted, Refused}
-use Rattle.mot_update.specs.HasRun.{marks_of}
+use Rattle.mot_update.specs.HasRun.{marks_of_settling}
 use Rattle.mot_update.specs.Looking.{AreAccepted, Gives, HasLooked, HasSettled, RunsThrough}
 use Rattle.mot_update.specs.Looking.{unknown_names, was_settled, withdraw_all}
 use Rattle.mot_update.specs.Told.{Answer, AreAnswers, Withdrew, was_accepted}
@@ -37,7 +39,7 @@ use Rattle.mot_update.specs.declared.settling.Settled.{Settled}
 use Rattle.mot_update.specs.declared.settling.Settled.TheVariants.{Right, Put, Replaced}
 use Rattle.mot_update.specs.Updating.{is_known, settling, settling_of, withdrawal}
 use Rattle.mot_update.specs.Updating.{withdrawals}
-use Rattle.mot_update.proofs.Found.{from_no, not_both, own_name, same_name, turned}
+use Rattle.mot_update.proofs.Found.{false_if_not_true, not_both, own_name, same_name, turned}
 use Rattle.mot_update.proofs.Made.{IsOfOther, settlings-others, untouched, withdrawals-others}
 use Rattle.mot_update.proofs.Runs.{has_read, join, not_none}
 
@@ -71,7 +73,7 @@ apart [] i j n m d lt at also = absurd (nowhere n at)
 apart (x ∷ names) i zero n m d lt at also = absurd (omega (arith, lt))
 apart (x ∷ names) zero (suc j) n m d lt at also =
     let p = and_parts (not (is_known names x)) (are_names_distinct names) d in
-    from_no (bytes_eq n m) (λ e. not_both (is_known names m) (known_at names j m also)
+    false_if_not_true (bytes_eq n m) (λ e. not_both (is_known names m) (known_at names j m also)
     (subst (λ y. is_known names y ≡ false) (some_is x n at ∙ same_name n m e)
     (not-true (is_known names x) p.0)))
 apart (x ∷ names) (suc i) (suc j) n m d lt at also =
@@ -93,12 +95,15 @@ fresh names place i w (v ∷ wanted) d le at below =
     (turned v.name w.name (apart names b.0 i v.name w.name d (omega (arith, lt, le)) b.2 at))
     (fresh names place i w wanted d le at below.1)
 
+-- what holds of each wanted object and of one more, holds of each of them
 pub all-push : (P : Wanted → Type 0) (wanted : List Wanted) (w : Wanted) → AllByRecursion P wanted
     → P w → AllByRecursion P (wanted ++ w ∷ [])
 all-push P [] w all p = (p, tt)
 all-push P (v ∷ wanted) w all p = (all.0, all-push P wanted w all.1 p)
 
-pub below_more : (names : List (List ℕ)) (place further : ℕ) (wanted : List Wanted) → place ≤ further
+-- names that stand before a place stand before a later one
+pub below_more : (names : List (List ℕ)) (place further : ℕ) (wanted : List Wanted)
+    → place ≤ further
     → AllByRecursion (IsBelow names place) wanted → AllByRecursion (IsBelow names further) wanted
 below_more names place further [] le all = tt
 below_more names place further (w ∷ wanted) le all =
@@ -112,6 +117,7 @@ known-push (x ∷ names) n m e f =
     let p = or_parts (bytes_eq m x) (is_known names m) e in
     or_from (bytes_eq m x) (is_known (names ++ n ∷ []) m) p.0 (known-push names n m p.1 f)
 
+-- names that differ, and one that is none of them, differ
 pub names-push : (names : List (List ℕ)) (n : List ℕ) → are_names_distinct names ≡ true
     → is_known names n ≡ false → are_names_distinct (names ++ n ∷ []) ≡ true
 names-push [] n d e = refl
@@ -134,8 +140,9 @@ pub accepted_one : (attempt : Attempt) → was_accepted attempt ≡ true
 accepted_one (Accepted done) is = (refl, tt)
 accepted_one (Refused refusal) is = (is, tt)
 
+-- an object that was settled has its command, if there was one, accepted
 pub accepted_settled : (settled : Settled) → was_settled settled ≡ true
-    → AreAccepted (marks_of (Ok settled))
+    → AreAccepted (marks_of_settling (Ok settled))
 accepted_settled Right is = tt
 accepted_settled (Put attempt) is = accepted_one attempt is
 accepted_settled (Replaced attempt) is = accepted_one attempt is
@@ -148,6 +155,7 @@ take_next (x ∷ names) (suc i) n at = ap (λ l. x ∷ l) (take_next names i n a
 
 -- ---- what was given
 
+-- where nothing more is given, the given objects go on by none
 pub gives_nil : (a : Option (List Wanted)) → Gives a a []
 gives_nil None = tt
 gives_nil (Some x) = sym (append-nil x)
@@ -186,18 +194,30 @@ flat_map-push f wanted w =
 pub record SettledSoFar {D : Type 0} (old new : ServerView D) (start now : State) (s : Standing)
     (names : List (List ℕ)) (first place : ℕ) (before after : Option (List Wanted))
     (fine : Bool) : Type 0 where
+  -- the objects that were given
   pub wanted : List Wanted
+  -- those that are told go on by them
   pub gives : Gives before after wanted
+  -- each one's name is known
   pub known : AllByRecursion (λ (w : Wanted). is_known names w.name ≡ true) wanted
+  -- their names differ
   pub distinct : are_names_distinct (names_of wanted) ≡ true
+  -- each one's name stands before the place
   pub below : AllByRecursion (IsBelow names place) wanted
+  -- the marks of their commands
   pub marks : List Bool
+  -- their commands were run, without a fault
   pub run : HasRun old new start now s (flat_map (settling s.carousel.objects) wanted) marks None
+  -- where nothing was refused, one of each name up to the place was given, but for the first ones
   pub every : fine ≡ true → take first names ++ names_of wanted ≡ take place names
+  -- where nothing was refused, each command was accepted
   pub accepted : fine ≡ true → AreAccepted marks
+  -- what was told of the commands
   pub answers : List Answer
+  -- each answer is told, in order
   pub told : AreAnswers answers (flat_map (settling s.carousel.objects) wanted) marks
 
+-- a look that begins has settled nothing
 abbrev pub settled_none : {D : Type 0} (old : ServerView D) (start : State) (s : Standing)
     (names : List (List ℕ)) (place : ℕ) (given : Option (List Wanted)) (fine : Bool)
     → IsHonestDisk start → start.IsHonest → IsUnchanged start start → Holds old.view s start
@@ -218,7 +238,8 @@ settled_none old start s names place given fine sound honest still holds = recor
 
 module _ {D : Type 0} (old mid new : ServerView D) (start between now : State) (s : Standing)
     (names : List (List ℕ)) (first place further : ℕ)
-    (before after then_given last : Option (List Wanted)) (fine : Bool) (w : Wanted) (distinct : are_names_distinct names ≡ true)
+    (before after then_given last : Option (List Wanted)) (fine : Bool) (w : Wanted)
+    (distinct : are_names_distinct names ≡ true)
     (is : (i : ℕ) × (place ≤ i) × (i < further) × (slice_get names i ≡ Some w.name))
     (one_given : Gives after then_given (w ∷ [])) (rest_given : Gives then_given last [])
     (so_far : SettledSoFar old mid start between s names first place before after fine) where
@@ -228,7 +249,8 @@ module _ {D : Type 0} (old mid new : ServerView D) (start between now : State) (
   pub run_more : (marks : List Bool) (fault : Option Refusal)
       → ((t : Standing) → Holds mid.view t between
       → HasRun mid new between now t (settling t.carousel.objects w) marks fault)
-      → HasRun old new start now s (flat_map (settling s.carousel.objects) (so_far.wanted ++ w ∷ []))
+      → HasRun old new start now s
+      (flat_map (settling s.carousel.objects) (so_far.wanted ++ w ∷ []))
       (so_far.marks ++ marks) fault
   run_more marks fault run =
       let f : Wanted → List Command = settling s.carousel.objects in
@@ -288,7 +310,8 @@ module _ {D : Type 0} (old mid new : ServerView D) (start between now : State) (
       let low = is.1 in
       let high = is.2 in
       let at : is.0 ≡ place = omega (arith, low, high, next) in
-      let there : slice_get names place ≡ Some w.name = subst (λ i. slice_get names i ≡ Some w.name) at is.3 in
+      let there : slice_get names place ≡ Some w.name =
+      subst (λ i. slice_get names i ≡ Some w.name) at is.3 in
       ap (λ l. take first names ++ l) (map-append (λ (v : Wanted). v.name) so_far.wanted (w ∷ []))
       ∙ sym (append_assoc (take first names) (names_of so_far.wanted) (w.name ∷ []))
       ∙ ap (λ l. l ++ w.name ∷ []) (so_far.every was)
@@ -351,30 +374,32 @@ abbrev pub settled_all : {D : Type 0} (old new : ServerView D) (start now : Stat
     → SettledSoFar old new start now s names first place before after fine → Gives after last []
     → (later ≡ true → (fine ≡ true) × (length names ≤ place))
     → HasSettled old new start now s names first before last later None
-settled_all old new start now s names first place before after last fine later so_far gives told = record {
-  wanted = so_far.wanted;
-  gives = gives_kept before after last so_far.wanted so_far.gives gives;
-  is_update = record { distinct = so_far.distinct; known = so_far.known };
-  every = λ e n. let t = told e in so_far.every t.0 ∙ take_all place names t.1;
-  runs = record {
-    commands = flat_map (settling s.carousel.objects) so_far.wanted;
-    others = [];
-    split = sym (append-nil (flat_map (settling s.carousel.objects) so_far.wanted));
-    whole = λ e. refl;
-    marks = so_far.marks;
-    run = so_far.run;
-    accepted = λ e n. so_far.accepted (told e).0;
-    answers = so_far.answers;
-    told = so_far.told;
-  };
-}
+settled_all old new start now s names first place before after last fine later so_far gives told =
+    record {
+      wanted = so_far.wanted;
+      gives = gives_kept before after last so_far.wanted so_far.gives gives;
+      is_update = record { distinct = so_far.distinct; known = so_far.known };
+      every = λ e n. let t = told e in so_far.every t.0 ∙ take_all place names t.1;
+      runs = record {
+        commands = flat_map (settling s.carousel.objects) so_far.wanted;
+        others = [];
+        split = sym (append-nil (flat_map (settling s.carousel.objects) so_far.wanted));
+        whole = λ e. refl;
+        marks = so_far.marks;
+        run = so_far.run;
+        accepted = λ e n. so_far.accepted (told e).0;
+        answers = so_far.answers;
+        told = so_far.told;
+      };
+    }
 
 -- ---- withdrawing one after the other
 
 -- a fault came before the next command
 abbrev cut_fault : {D : Type 0} (old mid : ServerView D) (start between : State) (s : Standing)
     (all commands others : List Command) (marks : List Bool) (answers : List Answer) (fine : Bool)
-    (refusal : Refusal) → AreAnswers answers commands marks → all ≡ commands ++ others → IsHonestDisk between → between.IsHonest
+    (refusal : Refusal) → AreAnswers answers commands marks → all ≡ commands ++ others
+    → IsHonestDisk between → between.IsHonest
     → IsUnchanged between between → HasRun old mid start between s commands marks None
     → RunsThrough old mid start between s all fine (Some refusal)
 cut_fault old mid start between s all commands others marks answers fine refusal told split sound
@@ -397,15 +422,21 @@ cut_fault old mid start between s all commands others marks answers fine refusal
 -- these withdrawals were run
 pub record WithdrewSoFar {D : Type 0} (old new : ServerView D) (start now : State) (s : Standing)
     (commands : List Command) (fine : Bool) : Type 0 where
+  -- the marks of the withdraws
   pub marks : List Bool
+  -- they were run, without a fault
   pub run : HasRun old new start now s commands marks None
+  -- where nothing was refused, each was accepted
   pub accepted : fine ≡ true → AreAccepted marks
+  -- what was told of them
   pub answers : List Answer
+  -- each answer is told, in order
   pub told : AreAnswers answers commands marks
 
 module _ {D : Type 0} (old mid : ServerView D) (start between : State) (s : Standing)
     (names : List (List ℕ)) (i : ℕ) (fine : Bool)
     (one : WithdrewSoFar old mid start between s (withdraw_all (take i names)) fine) where
+  -- withdraws that a refusal ends before the next one were run up to there
   abbrev pub withdrew_cut : (refusal : Refusal) → IsHonestDisk between → between.IsHonest
       → IsUnchanged between between
       → RunsThrough old mid start between s (withdraw_all names) fine (Some refusal)
@@ -416,6 +447,7 @@ module _ {D : Type 0} (old mid : ServerView D) (start between : State) (s : Stan
       ∙ map-append Withdraw (take i names) (drop i names))
       sound honest still one.run
 
+  -- at the end of the names all withdraws were run
   abbrev pub withdrew_all : length names ≤ i
       → RunsThrough old mid start between s (withdraw_all names) fine None
   withdrew_all le = record {
@@ -432,8 +464,10 @@ module _ {D : Type 0} (old mid : ServerView D) (start between : State) (s : Stan
 
   module _ (new : ServerView D) (now : State) (n : List ℕ) (there : i < length names)
       (is : n ≡ get_or names i n) where
-    pub next-is : withdraw_all (take (i + 1) names) ≡ withdraw_all (take i names) ++ Withdraw n ∷ []
-    next-is = ap withdraw_all (take_more names i n there
+    -- the withdraws of one name more are those before it, and its own
+    pub withdraw_one_more : withdraw_all (take (i + 1) names)
+        ≡ withdraw_all (take i names) ++ Withdraw n ∷ []
+    withdraw_one_more = ap withdraw_all (take_more names i n there
         ∙ ap (λ m. take i names ++ m ∷ []) (sym is)) ∙ map-append Withdraw (take i names) (n ∷ [])
 
     pub run_next : (others : List Bool) (fault : Option Refusal)
@@ -445,6 +479,7 @@ module _ {D : Type 0} (old mid : ServerView D) (start between : State) (s : Stan
         join old mid new start between now s (withdraw_all (take i names)) (Withdraw n ∷ [])
         one.marks others fault one.run (run one.run.leaves.last (one.run.leaves.going refl))
 
+    -- one more withdraw that was answered
     abbrev pub withdrew_next : (attempt : Attempt) (later : Bool)
         → ((t : Standing) → Holds mid.view t between → HasRun mid new between now t
         (Withdraw n ∷ []) (attempts.marks_of (Ok attempt)) None)
@@ -455,17 +490,18 @@ module _ {D : Type 0} (old mid : ServerView D) (start between : State) (s : Stan
         record {
           marks = one.marks ++ marks;
           run = subst (λ l. HasRun old new start now s l (one.marks ++ marks) None)
-              (sym next-is) (run_next marks None run);
+              (sym withdraw_one_more) (run_next marks None run);
           accepted = λ e. let t = told e in
               accepted-append one.marks marks (one.accepted t.0) (accepted_one attempt t.1);
           answers = one.answers ++ Withdrew n attempt ∷ [];
           told = subst (λ l. AreAnswers (one.answers ++ Withdrew n attempt ∷ []) l
-              (one.marks ++ marks)) (sym next-is)
+              (one.marks ++ marks)) (sym withdraw_one_more)
               (answers-join one.answers (Withdrew n attempt ∷ []) (withdraw_all (take i names))
               (Withdraw n ∷ []) one.marks marks one.told (one.run.whole refl)
               (answer-withdrew n attempt));
         }
 
+    -- one more withdraw that a fault ended
     abbrev pub withdrew_fault : (later : Bool) (refusal : Refusal)
         → ((t : Standing) → Holds mid.view t between
         → HasRun mid new between now t (Withdraw n ∷ []) [] (Some refusal))
@@ -475,7 +511,7 @@ module _ {D : Type 0} (old mid : ServerView D) (start between : State) (s : Stan
       others = withdraw_all (drop (i + 1) names);
       split = ap withdraw_all (sym (take-append-drop (i + 1) names))
           ∙ map-append Withdraw (take (i + 1) names) (drop (i + 1) names)
-          ∙ ap (λ l. l ++ withdraw_all (drop (i + 1) names)) next-is;
+          ∙ ap (λ l. l ++ withdraw_all (drop (i + 1) names)) withdraw_one_more;
       whole = λ e. absurd (not_none refusal e);
       marks = one.marks ++ [];
       run = run_next [] (Some refusal) run;
@@ -485,7 +521,9 @@ module _ {D : Type 0} (old mid : ServerView D) (start between : State) (s : Stan
           one.told;
     }
 
-abbrev pub withdrew_none : {D : Type 0} (old : ServerView D) (start : State) (s : Standing) (fine : Bool)
+-- a look that begins has withdrawn nothing
+abbrev pub withdrew_none : {D : Type 0} (old : ServerView D) (start : State) (s : Standing)
+    (fine : Bool)
     → IsHonestDisk start → start.IsHonest → IsUnchanged start start → Holds old.view s start
     → WithdrewSoFar old old start start s [] fine
 withdrew_none old start s fine sound honest still holds = record {
@@ -515,6 +553,7 @@ withdrawals-by names (o ∷ os) (b ∷ bodies) e =
     ∙ cut-cases (is_known names o.name) o.name (withdrawals names (objects_of os bodies))
     (unknown_names names os) (withdrawals-by names os bodies tail)
 
+-- what is to be withdrawn are the names that are not known, of those kept
 pub withdrawals-are : (names : List (List ℕ)) (view : RepositoryView) (s : Standing) → Agrees view s
     → withdrawals names s.carousel.objects
     ≡ withdraw_all (unknown_names names view.carousel.objects.items)
@@ -566,7 +605,8 @@ look_cut old new start now s names gone first before after fine refusal are give
 }
 
 -- all were withdrawn, and then what was given was settled
-abbrev pub look_on : {D : Type 0} (old mid new : ServerView D) (start between now : State) (s : Standing)
+abbrev pub look_on : {D : Type 0} (old mid new : ServerView D) (start between now : State)
+    (s : Standing)
     (names gone : List (List ℕ)) (first : ℕ) (before after last : Option (List Wanted))
     (fine later : Bool) (fault : Option Refusal)
     → withdrawals names s.carousel.objects ≡ withdraw_all gone → Gives before after []
@@ -574,7 +614,8 @@ abbrev pub look_on : {D : Type 0} (old mid new : ServerView D) (start between no
     → (later ≡ true → fine ≡ true)
     → HasSettled mid new between now one.run.leaves.last names first after last later fault
     → HasLooked old new start now s names first before last later fault
-look_on old mid new start between now s names gone first before after last fine later fault are gives one was two =
+look_on old mid new start between now s names gone first before after last fine later fault are
+    gives one was two =
     let t : Standing = one.run.leaves.last in
     let gone_all : one.commands ≡ withdrawals names s.carousel.objects =
     sym (append-nil one.commands) ∙ ap (λ l. one.commands ++ l) (sym (one.whole refl))

@@ -7,7 +7,7 @@ use Rattle.mot_base.specs.declared.refusal.Refusal.TheVariants.{OutOfMemory, Dev
 use Rattle.mot_server.specs.Server.{ServerView}
 
 -- the disk did not fail, and the server is halted where it was
-pub record IsCalm {D : Type 0} (old new : ServerView D) (start now : State) : Type 0 where
+pub record StaysCalm {D : Type 0} (old new : ServerView D) (start now : State) : Type 0 where
   pub failures : now.failures ≡ start.failures
   pub halted : new.view.halted ≡ old.view.halted
 
@@ -25,5 +25,5 @@ pub data IsUpdateFault {D : Type 0} (old : ServerView D) (start now : State)
 abbrev pub TellsFaults : {D T : Type 0} → (old new : ServerView D) → (start now : State)
     → Result T Refusal → Type 0
 TellsFaults old new start now result =
-    MatchResult result (λ answer. IsCalm old new start now)
+    MatchResult result (λ answer. StaysCalm old new start now)
     (λ refusal. IsUpdateFault old start now refusal)

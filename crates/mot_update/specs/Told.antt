@@ -31,14 +31,14 @@ was_accepted (Accepted done) = true
 was_accepted (Refused refusal) = false
 
 -- it is what came of this command, which was marked so
-abbrev pub IsAnswer : Answer → Command → Bool → Type 0
-IsAnswer (Withdrew name attempt) (command.Withdraw n) mark =
+abbrev pub IsAnswerTo : Answer → Command → Bool → Type 0
+IsAnswerTo (Withdrew name attempt) (command.Withdraw n) mark =
     (name ≡ n) × (was_accepted attempt ≡ mark)
-IsAnswer (Put name attempt) (command.Put n content mime body) mark =
+IsAnswerTo (Put name attempt) (command.Put n content mime body) mark =
     (name ≡ n) × (was_accepted attempt ≡ mark)
-IsAnswer (Replaced name attempt) (command.Replace n content mime body) mark =
+IsAnswerTo (Replaced name attempt) (command.Replace n content mime body) mark =
     (name ≡ n) × (was_accepted attempt ≡ mark)
-IsAnswer answer other mark = ⊥
+IsAnswerTo answer other mark = ⊥
 
 -- each command that was answered is told, in order, and nothing else
 abbrev pub AreAnswers : List Answer → List Command → List Bool → Type 0
@@ -46,8 +46,8 @@ AreAnswers answers commands [] = answers ≡ []
 AreAnswers [] commands (mark ∷ marks) = ⊥
 AreAnswers (answer ∷ answers) [] (mark ∷ marks) = ⊥
 AreAnswers (answer ∷ answers) (command ∷ commands) (mark ∷ marks) =
-    IsAnswer answer command mark × AreAnswers answers commands marks
+    IsAnswerTo answer command mark × AreAnswers answers commands marks
 
 -- what was told goes on by these
-abbrev pub Tells : (List Answer → Type 0) → (List Answer → Type 0) → List Answer → Type 0
-Tells before after answers = (told : List Answer) → before told → after (told ++ answers)
+abbrev pub TellsMore : (List Answer → Type 0) → (List Answer → Type 0) → List Answer → Type 0
+TellsMore before after answers = (told : List Answer) → before told → after (told ++ answers)

@@ -6,10 +6,10 @@ ghost use Rattle.mot_carousel.specs.Carousel.{are_names_distinct};
 ghost use Rattle.mot_journal.specs.Image.{Standing};
 ghost use Rattle.mot_repository.specs.Repository.{Holds};
 ghost use Rattle.mot_update.specs.Faults.{TellsFaults};
-ghost use Rattle.mot_update.specs.HasRun.{fault_of};
+ghost use Rattle.mot_server.specs.Attempts.{fault_of};
 ghost use Rattle.mot_update.specs.Looking.{Gives, HasLooked, HasSettled, RunsThrough};
 ghost use Rattle.mot_update.specs.Looking.{unknown_names, withdraw_all};
-ghost use Rattle.mot_update.specs.Told.{Tells};
+ghost use Rattle.mot_update.specs.Told.{TellsMore};
 
 use crate::{Source, settle, withdraw};
 use disk_store::Disk;
@@ -37,7 +37,7 @@ pub fn look<D: Disk, S: Source>(
         (D.state server.old.disk) (D.state server.new.disk) s
         (S.names source.old) (S.place source.old) (S.given source.old) (S.given source.new)
         (S.is_fine source.new) (fault_of result))
-        × Tells (S.was_told source.old) (S.was_told source.new) looked.runs.answers }
+        × TellsMore (S.was_told source.old) (S.was_told source.new) looked.runs.answers }
     ensures fine { S.is_fine source.new ≡ true → S.is_fine source.old ≡ true }
 {
     let names = names_to_withdraw(alloc, server.carousel(), source)?;
@@ -82,7 +82,7 @@ fn withdraw_these<D: Disk, S: Source>(
         → (runs : RunsThrough server.old server.new
         (D.state server.old.disk) (D.state server.new.disk) s
         (withdraw_all names.now) (S.is_fine source.new) (fault_of result))
-        × Tells (S.was_told source.old) (S.was_told source.new) runs.answers }
+        × TellsMore (S.was_told source.old) (S.was_told source.new) runs.answers }
     ensures fine { S.is_fine source.new ≡ true → S.is_fine source.old ≡ true }
 {
     for name in names {
@@ -108,7 +108,7 @@ fn settle_all<D: Disk, S: Source>(
         (D.state server.old.disk) (D.state server.new.disk) s
         (S.names source.old) (S.place source.old) (S.given source.old) (S.given source.new)
         (S.is_fine source.new) (fault_of result))
-        × Tells (S.was_told source.old) (S.was_told source.new) settled.runs.answers }
+        × TellsMore (S.was_told source.old) (S.was_told source.new) settled.runs.answers }
     ensures fine { S.is_fine source.new ≡ true → S.is_fine source.old ≡ true }
 {
     loop {

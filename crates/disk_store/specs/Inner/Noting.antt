@@ -26,7 +26,7 @@ abbrev pub call_of : List ℕ → List ℕ → Call
 call_of numbers bytes = call_of_kind (slice_index numbers 0) (slice_index numbers 1) bytes
 
 -- The file is this long, and nothing but its opening has happened.
-pub record HasBegun (first : List ℕ) (len : ℕ) (calls : List Call) : Type 0 where
+pub record HasOnlyOpened (first : List ℕ) (len : ℕ) (calls : List Call) : Type 0 where
   pub firm : content_after first calls ≡ at_start (content_after first calls).bytes
   pub len_is : length (content_after first calls).bytes ≡ len
   pub are_bytes : All (λ b. b < 256) (content_after first calls).bytes

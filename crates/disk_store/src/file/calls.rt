@@ -4,7 +4,7 @@ ghost use Rattle.std.specs.Prelude.{◌≡◌, ◌⊎◌, ◌+◌, ◌≤◌, []
 ghost use Rattle.std.specs.Prelude.{OnOk, OnErr, IsErr};
 ghost use Rattle.disk_store.specs.Calls.{Gave, FailedRead, Wrote, FailedWrite, Synced};
 ghost use Rattle.disk_store.specs.Calls.{FailedSync};
-ghost use Rattle.disk_store.specs.Disk.{Keeps, KeepsLength, IsUnchanged, IsStill, Writes};
+ghost use Rattle.disk_store.specs.Disk.{Keeps, KeepsLength, IsUnchanged, IsStill, WritesWithin};
 ghost use Rattle.disk_store.specs.Failures.{HasCause};
 ghost use Rattle.disk_store.specs.Disk.{IsMarked, IsFirm, LeavesAll};
 ghost use Rattle.disk_store.specs.Failures.{most_failures};
@@ -14,7 +14,7 @@ use crate::{Disk, DiskFault};
 
 impl<S: Start> Disk for FileDiskFrom<S> {
     ghost use Rattle.disk_store.specs.File.{file_state, calls_on, CanSync, HasFailedSync};
-    ghost use Rattle.disk_store.specs.Inner.FileSound.{file_sound};
+    ghost use Rattle.disk_store.specs.FileSound.{file_sound};
 
     ghost state = { file_state };
 
@@ -65,7 +65,7 @@ impl<S: Start> Disk for FileDiskFrom<S> {
             (file_state self.new).failures result }
         ensures called { (file_state self.new).calls ≡ (file_state self.old).calls + 1 }
         ensures range { (file_state self.old).IsHonest
-            → Writes at (length bytes.now) (file_state self.old) (file_state self.new) }
+            → WritesWithin at (length bytes.now) (file_state self.old) (file_state self.new) }
         ensures bytes { (file_state self.old).IsHonest → OnOk result
             (slice_range (file_state self.new).bytes at (at + length bytes.now) ≡ bytes.now) }
         ensures marked { (file_state self.old).IsHonest

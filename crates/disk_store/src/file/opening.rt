@@ -1,7 +1,7 @@
 //! How a file is opened as a disk, and how a new one is made.
 ghost use Rattle.std.specs.Prelude.{◌≡◌, [], ◌∷◌, ◌++◌, length, replicate, IfOk, OnOk};
 ghost use Rattle.disk_store.specs.Calls.{content_after, opening_calls, making_calls};
-ghost use Rattle.disk_store.specs.Inner.Noting.{HasBegun};
+ghost use Rattle.disk_store.specs.Inner.Noting.{HasOnlyOpened};
 ghost use Rattle.disk_store.specs.Disk.{IsNew, LeavesAll};
 ghost use Rattle.disk_store.specs.File.{file_state, calls_on, CanSync};
 
@@ -174,7 +174,7 @@ impl<S: Start> FileDiskFrom<S> {
 
     // The disk before its first call.
     fn begin(file: HeldFile, len: u64) -> FileDiskFrom<S>
-        requires { HasBegun S.Start.bytes len file.history.calls }
+        requires { HasOnlyOpened S.Start.bytes len file.history.calls }
         ensures new { IsNew (content_after S.Start.bytes file.history.calls).bytes
             (file_state result) }
         ensures can_sync { CanSync result }

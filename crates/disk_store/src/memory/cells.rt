@@ -21,11 +21,11 @@ pub struct Cells {
 }
 
 impl Cells {
-    ghost use Rattle.disk_store.specs.Cells.{content_of};
+    ghost use Rattle.disk_store.specs.Cells.{content_of_cells};
 
     /// These bytes, all of them synced. None for want of memory.
     pub fn holding(alloc: Global, bytes: Vec<u8>) -> Option<Self>
-        ensures { IfSome result (λ cells. content_of cells ≡ at_start bytes.items) }
+        ensures { IfSome result (λ cells. content_of_cells cells ≡ at_start bytes.items) }
     {
         let synced = bytes.to_vec(alloc).ok()?;
         let loose = vec![in alloc; false; bytes.len()].ok()?;
@@ -39,7 +39,7 @@ impl Cells {
     /// Writes these bytes from a position on.
     pub fn write(&mut self, at: usize, new: &[u8])
         requires { at + length new.now ≤ length self.old.bytes.items }
-        ensures { content_of self.new ≡ after_write at new.now (content_of self.old) }
+        ensures { content_of_cells self.new ≡ after_write at new.now (content_of_cells self.old) }
     {
         overwrite(&mut self.bytes, at, new);
         mark(&mut self.loose, at, new.len());
@@ -48,14 +48,14 @@ impl Cells {
     /// A write of n bytes from a position on that failed: the old bytes are read.
     pub fn touch(&mut self, at: usize, n: usize)
         requires { at + n ≤ length self.old.bytes.items }
-        ensures { content_of self.new ≡ after_touch at n (content_of self.old) }
+        ensures { content_of_cells self.new ≡ after_touch at n (content_of_cells self.old) }
     {
         mark(&mut self.loose, at, n);
     }
 
     /// Makes what is read firm.
     pub fn sync(&mut self)
-        ensures { content_of self.new ≡ after_sync (content_of self.old) }
+        ensures { content_of_cells self.new ≡ after_sync (content_of_cells self.old) }
     {
         unmark(&mut self.loose);
         self.synced.copy_from_slice(&self.bytes);
@@ -63,7 +63,7 @@ impl Cells {
 
     /// The bytes that a crash leaves by these choices. None for want of memory.
     pub fn crash(&self, alloc: Global, choices: &[u8]) -> Option<Vec<u8>>
-        ensures { IfSome result (λ image. IsCrash choices.now (content_of self.now) image.items) }
+        ensures { IfSome result (λ image. IsCrash choices.now (content_of_cells self.now) image.items) }
     {
         let mut image = self.bytes.to_vec(alloc).ok()?;
         tear(&mut image, &self.loose, &self.synced, choices);

@@ -4,7 +4,7 @@ ghost use Rattle.std.specs.Prelude.{OnErr};
 ghost use Rattle.disk_store.specs.Disk.{IsNew};
 ghost use Rattle.disk_store.specs.Failures.{most_failures};
 ghost use Rattle.disk_store.specs.Faults.{no_plan};
-ghost use Rattle.disk_store.specs.Memory.{plan_of};
+ghost use Rattle.disk_store.specs.Memory.{fault_plan};
 
 use super::MemoryDisk;
 use crate::{Disk, DiskFault};
@@ -15,7 +15,7 @@ use std::alloc::Global;
 #[derive(Drop)]
 pub struct RamDisk {
     disk: MemoryDisk,
-    ghost unplanned: { plan_of disk ≡ no_plan },
+    ghost unplanned: { fault_plan disk ≡ no_plan },
 }
 
 impl RamDisk {
@@ -31,7 +31,7 @@ impl RamDisk {
 }
 
 impl Disk for RamDisk {
-    ghost use Rattle.disk_store.specs.Disk.{Keeps, IsUnchanged, IsStill, IsFirm, Writes};
+    ghost use Rattle.disk_store.specs.Disk.{Keeps, IsUnchanged, IsStill, IsFirm, WritesWithin};
     ghost use Rattle.disk_store.specs.Failures.{HasCause};
     ghost use Rattle.disk_store.specs.Disk.{IsMarked};
     ghost use Rattle.disk_store.specs.Ram.{ram_state};

@@ -12,51 +12,90 @@ fn make_empty_folder(rt: &HostRuntime, name: &str) -> Result<(), Fail> {
     Ok(())
 }
 
+// The functions below that hold a disk have few ways out: at each, its end is proved anew.
+
+// The bytes of a disk of 8, before three are written and one of them is copied behind.
+fn begin<D: Disk>(disk: &mut D) -> Result<[u8; 8], DiskFault> {
+    if disk.len() != 8 {
+        return Err(DiskFault);
+    }
+    let bytes = bytes_of(disk)?;
+    disk.write(2, &[1, 2, 3])?;
+    copy_byte(disk, 3, 7)?;
+    Ok(bytes)
+}
+
+// The bytes of a disk of 8, and how many zeros come first.
+fn found<D: Disk>(disk: &mut D) -> Result<([u8; 8], u64), DiskFault> {
+    if disk.len() != 8 {
+        return Err(DiskFault);
+    }
+    Ok((bytes_of(disk)?, leading_zeros(disk)?))
+}
+
+// What a new file of 8 bytes holds before it is written.
+fn begun_file(rt: &HostRuntime, path: &str) -> Result<[u8; 8], Fail> {
+    let mut disk = FileDisk::create(rt, path, 8)?;
+    let bytes = begin(&mut disk);
+    drop(disk);
+    Ok(bytes?)
+}
+
+// What a file of 8 bytes holds when it is opened.
+fn found_file(rt: &HostRuntime, path: &str) -> Result<([u8; 8], u64), Fail> {
+    let mut disk = FileDisk::open(rt, path)?;
+    let found = found(&mut disk);
+    drop(disk);
+    Ok(found?)
+}
+
+// What is read of a file that a crash of another disk may have left.
+fn read_of_left(rt: &HostRuntime, path: &str) -> Result<[u8; 3], Fail> {
+    let mut disk = MemoryDisk::new(rt.alloc(), 8).ok_or("memory")?;
+    let mut back = [0; 3];
+    let next = read_after_crash(&mut disk, 2, &[1, 2, 3], rt, path, Unknown, &mut back);
+    drop(disk);
+    drop(next?);
+    Ok(back)
+}
+
 // What was written and synced is read from the file that a crash of another disk may have left.
 #[test]
 fn a_synced_write_is_read_after_a_crash(rt: HostRuntime) -> Result<(), Fail> {
     make_empty_folder(&rt, "crash.test")?;
     let path = "crash.test/disk";
-    let mut file: FileDisk = FileDisk::create(&rt, path, 8)?;
-    if file.len() == 8 {
-        file.write(2, &[1, 2, 3])?;
-    }
-    drop(file);
-    let mut disk = MemoryDisk::new(rt.alloc(), 8).ok_or("memory")?;
-    let mut back = [0; 3];
-    let next = read_after_crash(&mut disk, 2, &[1, 2, 3], &rt, path, Unknown, &mut back)?;
-    assert_eq!(rt; back, [1, 2, 3]);
-    drop(next);
+    begun_file(&rt, path)?;
+    assert_eq!(rt; read_of_left(&rt, path)?, [1, 2, 3]);
     fs::remove_dir_all(&rt, "crash.test")?;
     Ok(())
 }
 
-// The bytes of a file come back when it is opened again, and no path is opened twice at a time.
+// How many zeros a program that starts on a file finds first.
+fn zeros_found(rt: &HostRuntime, path: &str) -> Result<u64, Fail> {
+    let (_disk, zeros) = zeros_of(rt, path, Unknown)?;
+    Ok(zeros)
+}
+
+// The bytes of a file come back when it is opened again.
 #[test]
 fn a_file_is_a_disk(rt: HostRuntime) -> Result<(), Fail> {
     make_empty_folder(&rt, "again.test")?;
     let path = "again.test/disk";
-    {
-        let mut disk = FileDisk::create(&rt, path, 8)?;
-        assert_eq!(rt; disk.len(), 8);
-        if disk.len() == 8 {
-            assert_eq!(rt; bytes_of(&mut disk)?, [0; 8]);
-            disk.write(2, &[1, 2, 3])?;
-            copy_byte(&mut disk, 3, 7)?;
-        }
-        assert!(rt; FileDisk::open(&rt, path).is_err());
-    }
-    let mut disk = FileDisk::open(&rt, path)?;
-    assert_eq!(rt; disk.len(), 8);
-    if disk.len() == 8 {
-        assert_eq!(rt; bytes_of(&mut disk)?, [0, 0, 1, 2, 3, 0, 0, 2]);
-        assert_eq!(rt; leading_zeros(&mut disk)?, 2);
-    }
-    drop(disk);
-    let (_disk, zeros) = zeros_of(&rt, path, Unknown)?;
-    assert_eq!(rt; zeros, 2);
+    assert_eq!(rt; begun_file(&rt, path)?, [0; 8]);
+    assert_eq!(rt; found_file(&rt, path)?, ([0, 0, 1, 2, 3, 0, 0, 2], 2));
+    assert_eq!(rt; zeros_found(&rt, path)?, 2);
     fs::remove_dir_all(&rt, "again.test")?;
     Ok(())
+}
+
+// Whether a new file is made at a path.
+fn is_made(rt: &HostRuntime, path: &str, len: u64) -> bool {
+    FileDisk::create(rt, path, len).is_ok()
+}
+
+// Whether a file is opened.
+fn is_opened(rt: &HostRuntime, path: &str) -> bool {
+    FileDisk::open(rt, path).is_ok()
 }
 
 // What has the name already is left as it is, a link to nothing among it.
@@ -66,14 +105,23 @@ fn only_a_new_name_is_made(rt: HostRuntime) -> Result<(), Fail> {
     fs::write(&rt, "made.test/file", "abc")?;
     fs::create_dir(&rt, "made.test/folder")?;
     unix::fs::symlink(&rt, "nothing", "made.test/link")?;
-    assert!(rt; FileDisk::create(&rt, "made.test/file", 8).is_err());
-    assert!(rt; FileDisk::create(&rt, "made.test/folder", 8).is_err());
-    assert!(rt; FileDisk::create(&rt, "made.test/link", 8).is_err());
-    assert!(rt; FileDisk::create(&rt, "made.test/missing/disk", 8).is_err());
+    assert!(rt; !is_made(&rt, "made.test/file", 8));
+    assert!(rt; !is_made(&rt, "made.test/folder", 8));
+    assert!(rt; !is_made(&rt, "made.test/link", 8));
+    assert!(rt; !is_made(&rt, "made.test/missing/disk", 8));
     assert_eq!(rt; fs::metadata(&rt, "made.test/file")?.len(), 3);
     assert!(rt; !fs::exists(&rt, "made.test/nothing")?);
     fs::remove_dir_all(&rt, "made.test")?;
     Ok(())
+}
+
+// How long a file is that is opened and synced.
+fn length_of_synced(rt: &HostRuntime, path: &str) -> Result<u64, Fail> {
+    let mut disk = FileDisk::open(rt, path)?;
+    let (len, synced) = (disk.len(), disk.sync());
+    drop(disk);
+    synced?;
+    Ok(len)
 }
 
 // A folder, nothing and a character device are no disks, nor is a file that may not be written: no
@@ -81,14 +129,12 @@ fn only_a_new_name_is_made(rt: HostRuntime) -> Result<(), Fail> {
 #[test]
 fn only_a_file_that_may_be_written_is_opened(rt: HostRuntime) -> Result<(), Fail> {
     make_empty_folder(&rt, "opened.test")?;
-    assert!(rt; FileDisk::open(&rt, "opened.test").is_err());
-    assert!(rt; FileDisk::open(&rt, "opened.test/missing").is_err());
-    assert!(rt; FileDisk::open(&rt, "/dev/null").is_err());
-    assert!(rt; FileDisk::open(&rt, "/proc/self/exe").is_err());
+    assert!(rt; !is_opened(&rt, "opened.test"));
+    assert!(rt; !is_opened(&rt, "opened.test/missing"));
+    assert!(rt; !is_opened(&rt, "/dev/null"));
+    assert!(rt; !is_opened(&rt, "/proc/self/exe"));
     fs::write(&rt, "opened.test/empty", "")?;
-    let mut disk = FileDisk::open(&rt, "opened.test/empty")?;
-    assert_eq!(rt; disk.len(), 0);
-    assert_eq!(rt; disk.sync(), Ok(()));
+    assert_eq!(rt; length_of_synced(&rt, "opened.test/empty")?, 0);
     fs::remove_dir_all(&rt, "opened.test")?;
     Ok(())
 }
@@ -135,7 +181,7 @@ fn why_a_file_is_not_opened(rt: HostRuntime) -> Result<(), Fail> {
 fn room_of_new(rt: &HostRuntime, path: &str, len: u64) -> Result<(u64, u64), Fail> {
     drop(FileDisk::create(rt, path, len)?);
     let room = 512 * fs::metadata(rt, path)?.blocks().min(1 << 40);
-    Ok((room, FileDisk::open(rt, path)?.len()))
+    Ok((room, length_of_synced(rt, path)?))
 }
 
 // Whether each byte of a file is zero.
@@ -164,9 +210,9 @@ fn a_new_file_has_no_holes(rt: HostRuntime) -> Result<(), Fail> {
 fn a_file_that_is_not_made_is_taken_away(rt: HostRuntime) -> Result<(), Fail> {
     make_empty_folder(&rt, "refused.test")?;
     let path = "refused.test/disk";
-    assert!(rt; FileDisk::create(&rt, path, u64::MAX).is_err());
+    assert!(rt; !is_made(&rt, path, u64::MAX));
     assert!(rt; !fs::exists(&rt, path)?);
-    assert!(rt; FileDisk::create(&rt, path, 1 << 63).is_err());
+    assert!(rt; !is_made(&rt, path, 1 << 63));
     assert!(rt; !fs::exists(&rt, path)?);
     fs::remove_dir_all(&rt, "refused.test")?;
     Ok(())
@@ -196,8 +242,9 @@ fn end_of<D: Disk>(disk: &mut D) -> Result<(u64, u8), DiskFault> {
 // The same of a file that is written at its very end, and opened again.
 fn end_of_written(rt: &HostRuntime, path: &str, byte: u8) -> Result<(u64, u8), DiskFault> {
     let mut disk = FileDisk::open(rt, path)?;
-    write_end(&mut disk, byte)?;
+    let written = write_end(&mut disk, byte);
     drop(disk);
+    written?;
     end_of(&mut FileDisk::open(rt, path)?)
 }
 
@@ -212,21 +259,41 @@ fn the_last_byte_of_a_long_file_is_written(rt: HostRuntime) -> Result<(), Fail> 
     Ok(())
 }
 
+// Whether 2 bytes are read of a disk of 8: at 2, at 3, and then at 0.
+fn reads<D: Disk>(disk: &mut D) -> [bool; 3] {
+    if disk.len() != 8 {
+        return [false; 3];
+    }
+    let mut bytes = [0; 2];
+    [
+        disk.read(2, &mut bytes).is_ok(),
+        disk.read(3, &mut bytes).is_ok(),
+        disk.read(0, &mut bytes).is_ok(),
+    ]
+}
+
+// The same of a new file of 8 bytes that is cut to 4 while it stands open.
+fn reads_of_shortened(rt: &HostRuntime, path: &str) -> Result<[bool; 3], Fail> {
+    let mut disk = FileDisk::create(rt, path, 8)?;
+    let shortened = shorten(rt, path);
+    let reads = reads(&mut disk);
+    drop(disk);
+    shortened?;
+    Ok(reads)
+}
+
+// Cuts a file to 4 bytes.
+fn shorten(rt: &HostRuntime, path: &str) -> Result<(), Fail> {
+    fs::File::options().write(true).open(rt, path)?.set_len(4)?;
+    Ok(())
+}
+
 // A file that lost its end behind the disk's back gives a fault, and not other bytes.
 #[test]
 fn a_short_read_is_a_fault(rt: HostRuntime) -> Result<(), Fail> {
     make_empty_folder(&rt, "short.test")?;
     let path = "short.test/disk";
-    let mut disk = FileDisk::create(&rt, path, 8)?;
-    fs::File::options().write(true).open(&rt, path)?.set_len(4)?;
-    assert_eq!(rt; disk.len(), 8);
-    if disk.len() == 8 {
-        let mut bytes = [0; 2];
-        assert_eq!(rt; disk.read(2, &mut bytes), Ok(()));
-        assert_eq!(rt; disk.read(3, &mut bytes), Err(DiskFault));
-        assert_eq!(rt; disk.read(0, &mut bytes), Ok(()));
-    }
-    drop(disk);
+    assert_eq!(rt; reads_of_shortened(&rt, path)?, [true, false, true]);
     fs::remove_dir_all(&rt, "short.test")?;
     Ok(())
 }
@@ -247,17 +314,17 @@ fn names_in(rt: &HostRuntime, path: &str) -> Result<usize, Fail> {
 fn an_empty_file_stands_beside(rt: HostRuntime) -> Result<(), Fail> {
     make_empty_folder(&rt, "beside.test")?;
     let path = "beside.test/disk";
-    drop(FileDisk::create(&rt, path, 8)?);
-    drop(FileDisk::open(&rt, path)?);
+    assert!(rt; is_made(&rt, path, 8));
+    assert!(rt; is_opened(&rt, path));
     assert_eq!(rt; names_in(&rt, "beside.test")?, 2);
     assert_eq!(rt; fs::read(&rt, "beside.test/disk-wal")?.len(), 0);
     fs::write(&rt, "beside.test/disk-wal", b"mine")?;
-    drop(FileDisk::open(&rt, path)?);
+    assert!(rt; is_opened(&rt, path));
     assert_eq!(rt;
         fs::read(&rt, "beside.test/disk-wal")?.as_slice(),
         b"mine".as_slice()
     );
-    assert!(rt; FileDisk::create(&rt, "beside.test/other", u64::MAX).is_err());
+    assert!(rt; !is_made(&rt, "beside.test/other", u64::MAX));
     assert_eq!(rt; names_in(&rt, "beside.test")?, 2);
     fs::remove_dir_all(&rt, "beside.test")?;
     Ok(())
@@ -268,9 +335,9 @@ fn an_empty_file_stands_beside(rt: HostRuntime) -> Result<(), Fail> {
 fn a_file_has_one_name(rt: HostRuntime) -> Result<(), Fail> {
     make_empty_folder(&rt, "names.test")?;
     let path = "names.test/disk";
-    drop(FileDisk::create(&rt, path, 8)?);
+    assert!(rt; is_made(&rt, path, 8));
     unix::fs::symlink(&rt, "disk", "names.test/link")?;
-    drop(FileDisk::open(&rt, "names.test/link")?);
+    assert!(rt; is_opened(&rt, "names.test/link"));
     fs::hard_link(&rt, path, "names.test/second")?;
     assert!(rt; is_refused(&rt, path, "the file has a second name (a hard link)")?);
     fs::remove_dir_all(&rt, "names.test")?;

@@ -25,7 +25,7 @@ IsCountingFault refusal before now =
     (refusal ≡ BadNumber) ⊎ ((refusal ≡ DeviceFault) × Rises before now)
 
 -- what was told of a server that plays from this place
-pub record HasTold (journal : JournalView) (place : Place) (s : Standing)
+pub record HasInspected (journal : JournalView) (place : Place) (s : Standing)
     (old new : Option (List ℕ)) : Type 0 where
   pub gap : ℕ
   pub longest : IsLongestGap s.extents s.geometry.data_area gap

@@ -21,8 +21,8 @@ use Rattle.mot_session.specs.Stored.{command_in}
 use Rattle.mot_update.specs.HasRun.{HasRun}
 
 -- a reply was told, where that is so
-abbrev pub Tells : Bool → Bool → Option (List ℕ) → Option (List ℕ) → List ℕ → Type 0
-Tells was_told is_told written now text =
+abbrev pub TellsThere : Bool → Bool → Option (List ℕ) → Option (List ℕ) → List ℕ → Type 0
+TellsThere was_told is_told written now text =
     is_told ≡ true → (was_told ≡ true) × Appends written now text
 
 -- the command of a request, where the reply says that it is done
@@ -42,7 +42,7 @@ end_of (Err OutOfMemory) = None
 end_of (Err refusal) = Some refusal
 
 -- a request was answered: the reply is right, its command was run, and the reply was told
-pub record Answers {D : Type 0} (state : D → State) (old new : ServerView D)
+pub record HasAnswered {D : Type 0} (state : D → State) (old new : ServerView D)
     (request : Result Line Refusal) (fault : Option Refusal) (was_told is_told : Bool)
     (written now : Option (List ℕ)) : Type 0 where
   pub text : List ℕ
@@ -52,4 +52,4 @@ pub record Answers {D : Type 0} (state : D → State) (old new : ServerView D)
       → (marks : List Bool)
       × (accepted_commands (run_of request text) marks ≡ done_of request text)
       × HasRun old new (state old.disk) (state new.disk) s (run_of request text) marks fault
-  pub log : Tells was_told is_told written now text
+  pub log : TellsThere was_told is_told written now text

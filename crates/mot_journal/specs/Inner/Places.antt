@@ -5,5 +5,5 @@ use Rattle.mot_journal.specs.Slot.{slot_size}
 use Rattle.mot_journal.specs.Journal.{JournalView}
 
 -- where a slot of the journal's half lies
-abbrev pub place_of : JournalView → ℕ → ℕ
-place_of j slot = half_start j.geometry j.half + slot * slot_size j.layout
+abbrev pub start_of_slot : JournalView → ℕ → ℕ
+start_of_slot j slot = half_start j.geometry j.half + slot * slot_size j.layout

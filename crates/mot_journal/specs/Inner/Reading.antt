@@ -9,7 +9,7 @@ use Rattle.mot_base.specs.declared.geometry.Geometry.{Geometry}
 use Rattle.mot_journal.specs.declared.layout.Layout.{Layout}
 use Rattle.mot_journal.specs.declared.record.Action.{Action}
 use Rattle.mot_journal.specs.declared.record.Action.TheVariants.{Set}
-use Rattle.mot_journal.specs.Slot.{kind_base, action_in, mime_in, is_sound_action}
+use Rattle.mot_journal.specs.Slot.{kind_base, action_in, short_text_in, is_sound_action}
 use Rattle.mot_carousel.specs.Mime.{is_mime}
 use Rattle.mot_carousel.specs.Name.{is_name}
 
@@ -25,15 +25,15 @@ abbrev pub if_sound : Geometry → Layout → Action → Option Action
 if_sound g layout a = if is_sound_action g layout a then Some a else None
 
 -- the action of a slot that sets an object
-abbrev pub set_of : List ℕ → Action
-set_of slot =
+abbrev pub set_in_slot : List ℕ → Action
+set_in_slot slot =
     Set (number_at 9 2 slot) (number_at 11 1 slot) (content_at slot) (number_at 15 4 slot)
     (number_at 19 4 slot) (take (number_at 23 1 slot) (drop 24 slot))
-    (mime_in (drop (number_at 23 1 slot) (drop 24 slot)))
+    (short_text_in (drop (number_at 23 1 slot) (drop 24 slot)))
 
 -- the action of a slot; none for another kind
-abbrev pub action_of : Layout → List ℕ → Option Action
-action_of layout slot =
+abbrev pub action_in_slot : Layout → List ℕ → Option Action
+action_in_slot layout slot =
     action_in (number_at 1 1 slot - kind_base layout) (number_at 9 2 slot) (number_at 11 1 slot)
     (content_at slot) (number_at 15 4 slot) (number_at 19 4 slot) (number_at 23 1 slot)
     (drop 24 slot)
@@ -41,7 +41,7 @@ action_of layout slot =
 -- the action of a slot; none for another kind, or where a field of it is out of its range
 unfoldable pub sound_action_of : Geometry → Layout → List ℕ → Option Action
 sound_action_of g layout slot = do
-  a ← action_of layout slot
+  a ← action_in_slot layout slot
   if_sound g layout a
 
 -- a name, if it keeps its rule
@@ -50,4 +50,5 @@ name_from longest bytes = if is_name longest bytes then Some bytes else None
 
 -- the MIME type at the head of these bytes, if it keeps its rule
 unfoldable pub mime_from : List ℕ → Option (Option (List ℕ))
-mime_from bytes = if option_map_or is_mime (mime_in bytes) true then Some (mime_in bytes) else None
+mime_from bytes = if option_map_or is_mime (short_text_in bytes) true then
+    Some (short_text_in bytes) else None

@@ -6,7 +6,7 @@ use Rattle.mot_base.specs.declared.geometry.TheConstants.{MAX_OBJECTS}
 use Rattle.mot_carousel.specs.declared.body.TheConstants.{MAX_BODY}
 use Rattle.mot_directory.specs.declared.directory.TheConstants.{MAX_DIRECTORY}
 use Rattle.mot_player.specs.Bodies.{body_at}
-use Rattle.mot_player.specs.Standing.{BodyPlan, TurnPlan}
+use Rattle.mot_player.specs.PlayerView.{BodyPlan, TurnPlan}
 
 -- a turn of a carousel within its limits: how long its entities are, and how many
 pub record IsPlannable (plan : TurnPlan) : Type 0 where

@@ -3,9 +3,9 @@ use Rattle.std.specs.Prelude.{◌≡◌, ℕ, ◌==◌, if◌then◌else◌, Lis
 use Rattle.mot_base.specs.Reading.{is_empty}
 use Rattle.mot_groups.specs.Group.{Segment}
 use Rattle.mot_player.specs.declared.part.Part.{Part}
-use Rattle.mot_player.specs.Standing.{AreBodiesFor, TurnPlan, entities_of}
+use Rattle.mot_player.specs.PlayerView.{AreBodiesFor, TurnPlan, entities_of}
 use Rattle.mot_player.specs.Inner.Entities.{entity_bytes, entity_tid}
-use Rattle.mot_player.specs.Standing.{segments_from, turn_of}
+use Rattle.mot_player.specs.PlayerView.{segments_from, turn_with}
 use Rattle.mot_player.specs.Turn.{segments_of_turn}
 
 -- a part as a segment
@@ -21,7 +21,7 @@ segment_of plan bodies p = record {
 -- the segments of a turn from a place on, or of the whole turn where that is its end
 abbrev pub due_from : TurnPlan → List (List ℕ) → ℕ → ℕ → ℕ → List Segment
 due_from plan bodies size entity segment =
-    let turn = turn_of plan bodies in
+    let turn = turn_with plan bodies in
     let waiting = segments_from size (entities_of turn) entity segment in
     if is_empty waiting then segments_of_turn turn size else waiting
 
@@ -32,4 +32,4 @@ IsNext plan size entity segment p =
     (bodies : List (List ℕ)) → AreBodiesFor plan bodies →
     due_from plan bodies size entity segment
     ≡ segment_of plan bodies p
-    ∷ segments_from size (entities_of (turn_of plan bodies)) p.next_entity p.next_segment
+    ∷ segments_from size (entities_of (turn_with plan bodies)) p.next_entity p.next_segment

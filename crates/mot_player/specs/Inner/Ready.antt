@@ -5,12 +5,12 @@ use Rattle.mot_base.specs.declared.numbers.TheConstants.{MAX_SEGMENT}
 use Rattle.mot_groups.specs.Group.{Segment, bytes_of_group}
 use Rattle.mot_player.specs.declared.state.State.{State}
 use Rattle.mot_player.specs.Place.{Place, group_for, to_send, with_begun}
-use Rattle.mot_player.specs.Standing.{place_of}
+use Rattle.mot_player.specs.PlayerView.{place_of}
 use Rattle.mot_player.specs.Inner.Entities.{IsPlannable, IsWithinTurn}
-use Rattle.mot_player.specs.State.{standing_of}
+use Rattle.mot_player.specs.State.{view_of}
 
 abbrev pub place_with : State → List (List ℕ) → Place
-place_with p bodies = place_of (standing_of p) bodies
+place_with p bodies = place_of (view_of p) bodies
 
 -- The next segment is one of the turn's, or nothing waits; and each buffer has room for the largest
 -- group.

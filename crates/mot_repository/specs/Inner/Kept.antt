@@ -24,7 +24,7 @@ pub record KeepsCatalogue (view : RepositoryView) (c : Catalogue) : Type 0 where
 
 -- each image now has the records from before, or where the half was full the given ones, and stands
 -- for what it stood for
-pub record HasRoom (s : Standing) (records given : List Record) (was j : JournalView)
+pub record HasSlotFree (s : Standing) (records given : List Record) (was j : JournalView)
     (state : State) : Type 0 where
   pub list : List Record
   pub one : (list ≡ records) ⊎ ((list ≡ given) × IsFull was)

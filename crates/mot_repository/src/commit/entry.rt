@@ -1,7 +1,7 @@
 //! What a commit writes where the half has room: the body into its gap, and then the record.
 ghost use Rattle.std.specs.Prelude.{◌≡◌, ◌+◌, ◌≤◌, ◌<◌, ◌++◌, [], ◌∷◌, ℕ, List, true, length};
 ghost use Rattle.std.specs.Prelude.{slice_range, Ok, OnOk, OnErr, IfErr, IsFalse};
-ghost use Rattle.disk_store.specs.Disk.{Keeps, Costs, Throughout, Writes};
+ghost use Rattle.disk_store.specs.Disk.{Keeps, Costs, Throughout, WritesWithin};
 ghost use Rattle.disk_store.specs.Failures.{HasCause};
 ghost use Rattle.mot_base.specs.declared.refusal.Refusal.TheVariants.{DeviceFault};
 ghost use Rattle.mot_base.specs.Geometry.{area_start, length_of};
@@ -13,7 +13,7 @@ ghost use Rattle.mot_journal.specs.Slot.{is_sound, slot_count};
 ghost use Rattle.mot_journal.specs.Catalogue.{Catalogue, catalogue_of};
 ghost use Rattle.mot_journal.specs.Image.{Standing};
 ghost use Rattle.mot_journal.specs.Journal.{HasRecords};
-ghost use Rattle.mot_journal.specs.Inner.Gaps.{AreBeside, standing_of};
+ghost use Rattle.mot_journal.specs.Gaps.{AreBeside, standing_of};
 ghost use Rattle.mot_repository.specs.Cost.{calls_for_body};
 ghost use Rattle.mot_repository.specs.Outcome.{after_command};
 ghost use Rattle.mot_repository.specs.Repository.{RepositoryView, Agrees, IsOf, Holds};
@@ -34,7 +34,7 @@ fn write_body<D: Disk>(disk: &mut D, at: u64, body: &[u8]) -> Result<(), Refusal
     ensures cost { Costs (calls_for_body body.now) (D.state disk.old) (D.state disk.new) result }
     ensures fault { IfErr result (λ refusal. refusal ≡ DeviceFault) }
     ensures range { (D.state disk.old).IsHonest
-        → Writes at (length body.now) (D.state disk.old) (D.state disk.new) }
+        → WritesWithin at (length body.now) (D.state disk.old) (D.state disk.new) }
     ensures bytes { (D.state disk.old).IsHonest → OnOk result
         (slice_range (D.state disk.new).bytes at (at + length body.now) ≡ body.now) }
 {

@@ -5,10 +5,10 @@ ghost use Rattle.std.specs.Prelude.{All, Ok, Some, None, IfOk, IfErr, IfSome, Ma
 ghost use Rattle.std.specs.Prelude.{true, nat_eq, position, remove};
 ghost use Rattle.std.specs.List.{list_any};
 ghost use Rattle.mot_carousel.specs.Ids.{is_distinct};
-ghost use Rattle.mot_carousel.specs.Stands.{place_of};
+ghost use Rattle.mot_carousel.specs.Stands.{index_of};
 ghost use Rattle.mot_carousel.specs.declared.object.Object.{Object};
 ghost use Rattle.mot_journal.specs.Catalogue.{new_catalogue, catalogue_after, catalogue_of};
-ghost use Rattle.mot_journal.specs.Catalogue.{objects_after, objects_without, is_consistent};
+ghost use Rattle.mot_journal.specs.Catalogue.{objects_after, placed_without, is_consistent};
 ghost use Rattle.mot_repository.specs.Extents.{catalogue_with, objects_in};
 ghost use Rattle.mot_repository.specs.Inner.Fold.{HaveLengths, are_extents_apart, are_consistent};
 ghost use Rattle.mot_repository.specs.Inner.Fold.{if_consistent, if_done, objects_set};
@@ -266,7 +266,7 @@ fn remove_object(objects: &mut Vec<Object>, extents: &mut Vec<(u32, u32)>, tid: 
     requires paired { HaveLengths objects.old.items extents.old.items }
     requires listed { vec_len objects.old ≤ MAX_OBJECTS }
     ensures done { if_done result (objects_in objects.new.items extents.new.items)
-        ≡ objects_without tid (objects_in objects.old.items extents.old.items) }
+        ≡ placed_without tid (objects_in objects.old.items extents.old.items) }
     ensures paired { HaveLengths objects.new.items extents.new.items }
     ensures listed { vec_len objects.new ≤ MAX_OBJECTS }
     ensures room { vec_capacity objects.new ≡ vec_capacity objects.old }
@@ -282,7 +282,7 @@ fn remove_object(objects: &mut Vec<Object>, extents: &mut Vec<(u32, u32)>, tid: 
 
 /// Where the object of this name stands.
 fn place_of_name(objects: &[Object], name: &Name) -> Option<usize>
-    ensures place { result ≡ place_of name.now objects.now }
+    ensures place { result ≡ index_of name.now objects.now }
     ensures within { IfSome result (λ place. place < length objects.now) }
 {
     let name = name.as_bytes();

@@ -15,5 +15,6 @@ returns g c = λ honest left as_long now_honest.
     let held = c.in_ok-next.ensures.first_bytes (sym c.read.ensures.keeps.len ∙ as_long) in
     c.in_ok-read.ensures.bytes now_honest
     ∙ ap (λ n. slice_range (file_state c.in_ok-next.next).bytes at (at + n)) same
-    ∙ ap (λ l. slice_range l at (at + length c.args.bytes.now)) (held ∙ image ∙ (c.sync.ensures.still honest1).bytes)
+    ∙ ap (λ l. slice_range l at (at + length c.args.bytes.now))
+    (held ∙ image ∙ (c.sync.ensures.still honest1).bytes)
     ∙ c.in_ok-write.ensures.bytes honest

@@ -5,7 +5,7 @@ use Rattle.std.proofs.KnownBytes.{Appends-nil, Appends-trans}
 use Rattle.std.proofs.lemmas.List.{take_all}
 use Rattle.hex.specs.Hex.{encode_lower}
 use Rattle.mot_air.proofs.Printed.{digits-more, digits-none}
-use Rattle.mot_repository.specs.Repository.{body_at}
+use Rattle.mot_repository.specs.Repository.{object_body}
 use Rattle.disk_store.proofs.Laws.{reads_none, reads_on}
 use Rattle.mot_server.proofs.Laws.{holds_still}
 use Rattle.mot_air.proofs.exporting.write_body.Goals as goal
@@ -37,14 +37,15 @@ loop-from-preserved g c =
           let was = one.only_reads.keeps.was_honest honest in
           let held = holds_still old.view mid.view s (state old.disk) (state mid.disk) holds was
           (is.reads.unchanged was) is.view in
-          let body = body_at s.carousel.objects c.args.place in
+          let body = object_body s.carousel.objects c.args.place in
           let min = c.min-count.ensures in
           let long = c.min-count.array_long in
           let size = length-take c.min-count.result c.loop-from.piece in
           let count : length (take c.min-count.result c.loop-from.piece) ≡ c.min-count.result =
           omega (arith, size, long, min) in
           let more = digits-more body c.read_body.new.out c.loop-from.from c.min-count.result
-          (subst (λ n. c.read_body.new.out ≡ slice_range body c.loop-from.from (c.loop-from.from + n))
+          (subst (λ n. c.read_body.new.out
+          ≡ slice_range body c.loop-from.from (c.loop-from.from + n))
           count (one.bytes s held honest)) in
           subst (Appends (g.W.Write.contents c.args.writer.now)
           (g.W.Write.contents c.write_digits.new.writer)) (sym more)
@@ -53,10 +54,11 @@ loop-from-preserved g c =
 
 pub returns-clause-written : goal.returns-clause-written
 returns-clause-written g c = λ s holds honest.
-    let body = body_at s.carousel.objects c.args.place in
+    let body = object_body s.carousel.objects c.args.place in
     let within = c.loop-from.invariant.within in
     let end = c.loop-from-test.false in
     let size = c.body_length-length.ensures.body s holds.agrees in
     let whole = take_all c.loop-from.from body (omega (arith, within, end, size)) in
-    subst (λ l. Appends (g.W.Write.contents c.args.writer.now) (g.W.Write.contents c.loop-from.writer)
+    subst (λ l. Appends (g.W.Write.contents c.args.writer.now)
+    (g.W.Write.contents c.loop-from.writer)
     (encode_lower l)) whole (c.loop-from.invariant.written s holds honest)

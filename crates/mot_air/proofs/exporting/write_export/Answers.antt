@@ -62,7 +62,8 @@ returns-in-Ok-clause-written g c = λ s holds honest.
     let period = c.get.ensures.value ∙ ap (λ (k : Carousel). k.period) c.carousel-2.ensures.value
     ∙ ap (λ (v : RepositoryView). v.carousel.period) is.view
     ∙ sym (ap (λ (k : whole.Carousel). k.period) holds.agrees.carousel) in
-    let lines = subst (λ l. Appends first mid (flat_map put_line l)) all (is.written s holds honest) in
+    let lines = subst (λ l. Appends first mid (flat_map put_line l)) all
+    (is.written s holds honest) in
     let last = subst (λ n. Appends mid (known c.write_period.new.writer) (period_line n)) period
     c.in_ok-write_period.ensures.written in
     Appends-kept _ _ _ _ (Appends-trans _ _ _ _ _ lines last) c.in-Ok.ensures.bytes

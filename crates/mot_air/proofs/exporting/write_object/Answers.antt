@@ -17,6 +17,7 @@ returns-clause-written g c = λ s o holds honest at.
     let within = subst (λ n. c.args.place < n) view.carousel.objects.ok.0 c.requires.place in
     let same = object_is view s holds.agrees c.args.place x o within is at in
     OnOk-one c.write_bytes.result (λ end.
-    subst (λ (p : Object). Appends (known c.args.writer.now) (known c.write_bytes.new.writer) (put_line p))
+    subst (λ (p : Object). Appends (known c.args.writer.now) (known c.write_bytes.new.writer)
+    (put_line p))
     same (Appends-trans _ _ _ _ _ (Appends-trans _ _ _ _ _ c.in_ok-write_words.ensures.written
     (c.in_ok-write_body.ensures.written s holds honest)) end)) c.write_bytes.ensures.written

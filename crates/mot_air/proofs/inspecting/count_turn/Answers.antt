@@ -36,7 +36,8 @@ returns-then-ends_turn-clause-counted g c = λ s holds honest.
     record {
       packets = so_far.0 ++ packet ∷ [];
       last = place_in new s;
-      turn = HasPlayedTurn-ended (place_in old s) (place_in mid s) (place_in new s) so_far.0 so_far.1
+      turn = HasPlayedTurn-ended (place_in old s) (place_in mid s) (place_in new s) so_far.0
+          so_far.1
           packet c.in_ok-packet.field-0.ends_turn (one.sent s held honest) c.if-ends_turn.true;
       count_is = omega (arith, others, size);
       bytes_are = omega (arith, all, bytes, len);

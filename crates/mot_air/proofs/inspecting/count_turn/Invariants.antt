@@ -3,7 +3,7 @@ use Rattle.disk_store.specs.Disk.{OnlyReads}
 use Rattle.mot_air.specs.Inspecting.{bytes_of_all}
 use Rattle.mot_journal.specs.Image.{Standing}
 use Rattle.mot_repository.specs.Repository.{Holds}
-use Rattle.mot_server.specs.Inner.Going.{IsGoing}
+use Rattle.mot_server.specs.Playing.{IsGoing}
 use Rattle.mot_server.specs.Server.{place_in}
 use Rattle.mot_air.proofs.inspecting.count_turn.Given as goal
 

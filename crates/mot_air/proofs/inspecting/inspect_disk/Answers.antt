@@ -11,7 +11,8 @@ returns-in-Err-clause-refused g c =
     let state = g.D.Disk.state in
     let opens = c.in-Err.ensures in
     let old = g.W.Write.contents c.args.writer.now in
-    subst (λ (e : _). IfErr e.result (λ r. StopsInspecting r old old (state c.args.disk) (state e.disk)))
+    subst (λ (e : _). IfErr e.result
+    (λ r. StopsInspecting r old old (state c.args.disk) (state e.disk)))
     (sym c.unopened.ensures)
     (unopened (unopened_is _ (state c.args.disk) _ opens.refused opens.calm opens.only_syncs.still)
     (Keeps-refl old))
@@ -24,8 +25,10 @@ returns-clause-done g c =
     let result = c.write_inspection-result.result in
     let old = g.W.Write.contents c.args.writer.now in
     let new = g.W.Write.contents c.write_inspection-result.new.writer in
-    subst (λ d. OnOk result (Inspects old new (state c.args.disk) (state d))) (sym c.into_disk.ensures)
-    (inspects state c.args.disk c.in-Ok.server c.write_inspection-result.new.server g.met.D.Disk.sound
+    subst (λ d. OnOk result (Inspects old new (state c.args.disk) (state d)))
+    (sym c.into_disk.ensures)
+    (inspects state c.args.disk c.in-Ok.server c.write_inspection-result.new.server
+    g.met.D.Disk.sound
     opens.only_syncs opens.opened opens.going opens.at_start calls.only_reads old new result
     calls.told)
 

@@ -19,7 +19,8 @@ returns-in-Ok-clause-told g c = λ s holds honest.
     let gap = used.0 in
     let packets = c.in_ok-packets.field-0.packets in
     let bytes = c.in_ok-packets.field-0.bytes in
-    let agrees : Agrees now s = subst (λ (v : RepositoryView). Agrees v s) (sym same) holds.agrees in
+    let agrees : Agrees now s =
+    subst (λ (v : RepositoryView). Agrees v s) (sym same) holds.agrees in
     let two = Appends-trans _ _ _ _ _ c.in_ok-write_sizes.ensures.written used.2 in
     let three = Appends-trans _ _ _ _ _ two c.in_ok-write_turn.ensures.written in
     let four = Appends-trans _ _ _ _ _ three c.in_ok-write_rates.ensures.written in

@@ -3,7 +3,7 @@ use Rattle.std.specs.Prelude.{IfErr, OnOk}
 use Rattle.mot_air.specs.Playing.{Plays, StopsPlaying, unopened}
 use Rattle.mot_air.proofs.Opened.{unopened_is}
 use Rattle.mot_air.proofs.Played.{plays, stops}
-use Rattle.mot_feed.proofs.Grown.{grows_nil}
+use Rattle.mot_feed.proofs.Laws.{grows_nil}
 use Rattle.mot_air.proofs.playing.play_with.Goals as goal
 
 pub returns-in-Err-clause-refused : goal.returns-in-Err-clause-refused
@@ -24,9 +24,11 @@ returns-clause-done g c =
     let result = c.feed-result.result in
     let old = g.O.Outlet.writes c.args.outlet.now in
     let new = g.O.Outlet.writes c.feed-result.new.outlet in
-    subst (λ d. OnOk result (Plays g.U.Update.waits c.args.turns old new (state c.args.disk) (state d)))
+    subst (λ d. OnOk result (Plays g.U.Update.waits c.args.turns old new (state c.args.disk)
+    (state d)))
     (sym c.into_disk.ensures)
-    (plays state c.args.disk c.in-Ok.server c.feed-result.new.server g.met.D.Disk.sound opens.only_syncs
+    (plays state c.args.disk c.in-Ok.server c.feed-result.new.server g.met.D.Disk.sound
+    opens.only_syncs
     opens.opened opens.calm opens.going opens.at_start c.geometry.ensures.valid feeds.keeps
     feeds.continuous g.U.Update.waits c.args.turns old new result feeds.calm feeds.fed)
 
@@ -38,8 +40,10 @@ returns-clause-refused g c =
     let result = c.feed-result.result in
     let old = g.O.Outlet.writes c.args.outlet.now in
     let new = g.O.Outlet.writes c.feed-result.new.outlet in
-    subst (λ d. IfErr result (λ r. StopsPlaying r g.U.Update.waits old new (state c.args.disk) (state d)))
+    subst (λ d. IfErr result
+    (λ r. StopsPlaying r g.U.Update.waits old new (state c.args.disk) (state d)))
     (sym c.into_disk.ensures)
-    (stops state c.args.disk c.in-Ok.server c.feed-result.new.server g.met.D.Disk.sound opens.only_syncs
+    (stops state c.args.disk c.in-Ok.server c.feed-result.new.server g.met.D.Disk.sound
+    opens.only_syncs
     opens.opened opens.calm opens.going opens.at_start c.geometry.ensures.valid feeds.keeps
     feeds.continuous g.U.Update.waits old new result feeds.fault feeds.part)

@@ -3,7 +3,8 @@ use Rattle.std.proofs.KnownBytes.{Keeps-refl}
 use Rattle.std.specs.Prelude.{IfErr}
 use Rattle.clap.specs.Words.{found_of, rows_of}
 use Rattle.mot_air.specs.Program.{DoesInPart, IsBeginningRefusal, IsRefused, IsUntold}
-use Rattle.mot_air.specs.Program.{IsUntouched, Succeeds, begun, no_help, no_memory, no_task, unbegun}
+use Rattle.mot_air.specs.Program.{IsUntouched, Succeeds, begun, no_help, no_memory, no_task}
+use Rattle.mot_air.specs.Program.{unbegun}
 use Rattle.mot_air.proofs.Asked.{AskFor-matched, AskFor-none, AskForHelp-shown, AreWrong-fault}
 use Rattle.mot_air.proofs.program.run_air_on.Goals as goal
 

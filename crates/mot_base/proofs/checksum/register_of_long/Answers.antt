@@ -1,4 +1,5 @@
-use Rattle.std.proofs.Common.{◌≡◌, ◌+◌, ◌-◌, ◌*◌, ◌<◌, false, Bool, List, ℕ, [], ◌∷◌, ◌++◌, length, replicate, take, drop, get_or, refl, sym, ap, ◌∙◌, arith}
+use Rattle.std.proofs.Common.{◌≡◌, ◌+◌, ◌-◌, ◌*◌, ◌<◌, false, Bool, List, ℕ, [], ◌∷◌, ◌++◌, length}
+use Rattle.std.proofs.Common.{replicate, take, drop, get_or, refl, sym, ap, ◌∙◌, arith}
 use Rattle.mot_base.specs.Checksum.{remainder, bits_of_bytes}
 use Rattle.mot_base.specs.Inner.Words.{words_before}
 use Rattle.mot_base.proofs.Division.{eight_front}
@@ -7,7 +8,8 @@ use Rattle.mot_base.proofs.checksum.register_of_long.Goals as goal
 
 pub loop-rest-init : goal.loop-rest-init
 loop-rest-init c =
-    c.before_all-front.ensures (8 * length c.args.bytes.now) (bits_of_bytes c.args.bytes.now ++ replicate 16 false)
+    c.before_all-front.ensures (8 * length c.args.bytes.now)
+    (bits_of_bytes c.args.bytes.now ++ replicate 16 false)
 
 pub loop-rest-preserved : goal.loop-rest-preserved
 loop-rest-preserved c =
@@ -25,20 +27,25 @@ loop-rest-preserved c =
     (get_or rest 4 0) (get_or rest 5 0) (get_or rest 6 0) (get_or rest 7 0)
     (omega arith) (omega arith) (omega arith) (omega arith)
     (omega arith) (omega arith) (omega arith) (omega arith) in
-    ap (λ j. remainder j (words_before c.folded-front.result tail)) (let e : 256 + 8 * length others ≡ 240 + left = omega arith in e)
+    ap (λ j. remainder j (words_before c.folded-front.result tail))
+    (let e : 256 + 8 * length others ≡ 240 + left = omega arith in e)
     ∙ sym (c.folded-front.ensures left tail)
     ∙ ap (λ l. remainder (304 + left) (words_before c.loop-rest.front l))
     (sym (next_word word eight others zeros refl small c.from_be_bytes.ensures))
-    ∙ ap (λ j. remainder j (words_before c.loop-rest.front (bits_of_bytes (eight ++ others) ++ zeros)))
+    ∙ ap (λ j. remainder j (words_before c.loop-rest.front
+    (bits_of_bytes (eight ++ others) ++ zeros)))
     (let e : 304 + left ≡ 256 + 8 * length (eight ++ others) = omega arith in e)
-    ∙ ap (λ l. remainder (256 + 8 * length l) (words_before c.loop-rest.front (bits_of_bytes l ++ zeros))) (sym cut)
+    ∙ ap (λ l. remainder (256 + 8 * length l)
+    (words_before c.loop-rest.front (bits_of_bytes l ++ zeros))) (sym cut)
     ∙ c.loop-rest.invariant
 
 pub loop-rest-smaller : goal.loop-rest-smaller
-loop-rest-smaller c = omega (arith, ap length (eight_front c.loop-rest.rest.now c.in-len8-up.len_at_least))
+loop-rest-smaller c = omega
+    (arith, ap length (eight_front c.loop-rest.rest.now c.in-len8-up.len_at_least))
 
 pub returns : goal.returns
 returns c =
     sym c.loop-rest.invariant
-    ∙ c.register.ensures (8 * length c.loop-rest.rest.now) (bits_of_bytes c.loop-rest.rest.now ++ replicate 16 false)
+    ∙ c.register.ensures (8 * length c.loop-rest.rest.now)
+    (bits_of_bytes c.loop-rest.rest.now ++ replicate 16 false)
     ∙ c.with_rest.ensures

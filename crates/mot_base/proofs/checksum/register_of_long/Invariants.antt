@@ -6,8 +6,10 @@ use Rattle.mot_base.proofs.checksum.register_of_long.Given as goal
 -- what is left to divide, with the four words in front, has the remainder of the whole
 abbrev pub invariant-loop-rest : goal.invariant-loop-rest
 invariant-loop-rest l =
-    remainder (256 + 8 * length l.rest) (words_before l.front (bits_of_bytes l.rest ++ replicate 16 false))
-    ≡ remainder (8 * length l.bytes) (added_to_front (replicate 16 true) (bits_of_bytes l.bytes ++ replicate 16 false))
+    remainder (256 + 8 * length l.rest)
+    (words_before l.front (bits_of_bytes l.rest ++ replicate 16 false))
+    ≡ remainder (8 * length l.bytes)
+    (added_to_front (replicate 16 true) (bits_of_bytes l.bytes ++ replicate 16 false))
 
 abbrev pub decreases-loop-rest : goal.decreases-loop-rest
 decreases-loop-rest l = length l.rest

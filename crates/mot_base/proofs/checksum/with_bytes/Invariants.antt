@@ -6,5 +6,7 @@ use Rattle.mot_base.proofs.checksum.with_bytes.Given as goal
 abbrev pub invariant-loop-byte : goal.invariant-loop-byte
 invariant-loop-byte l =
     let left = drop l.byte-index l.bytes in
-    remainder (8 * length left) (added_to_front (bits_of 16 l.register) (bits_of_bytes left ++ replicate 16 false))
-    ≡ remainder (8 * length l.bytes) (added_to_front (bits_of 16 l.fn.register) (bits_of_bytes l.bytes ++ replicate 16 false))
+    remainder (8 * length left)
+    (added_to_front (bits_of 16 l.register) (bits_of_bytes left ++ replicate 16 false))
+    ≡ remainder (8 * length l.bytes)
+    (added_to_front (bits_of 16 l.fn.register) (bits_of_bytes l.bytes ++ replicate 16 false))

@@ -6,12 +6,14 @@ use Rattle.mot_base.proofs.Table.{eight_out}
 use Rattle.mot_base.proofs.checksum.with_eight.Goals as goal
 
 pub returns : goal.returns
-returns c = eight_out c.args.register c.args.a c.args.b c.args.c c.args.d c.args.e c.args.f c.args.g c.args.h
+returns c = eight_out c.args.register c.args.a c.args.b c.args.c c.args.d c.args.e c.args.f c.args.g
+    c.args.h
     c.after_64.result c.after_56.result c.after_48.result c.after_40.result
     c.after_32.result c.after_24.result c.after_16.result c.after_8.result
     (omega arith) (omega arith) (omega arith) (omega arith) (omega arith)
     (omega arith) (omega arith) (omega arith) (omega arith)
     c.after_64.ensures
-    (c.after_56.ensures ∙ ap (λ low. get_or AFTER_56 (bit_xor low c.args.b) 0) (and_mask c.args.register 8))
+    (c.after_56.ensures ∙ ap (λ low. get_or AFTER_56 (bit_xor low c.args.b) 0)
+    (and_mask c.args.register 8))
     c.after_48.ensures c.after_40.ensures c.after_32.ensures c.after_24.ensures
     c.after_16.ensures c.after_8.ensures

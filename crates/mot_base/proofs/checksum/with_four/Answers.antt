@@ -10,5 +10,6 @@ returns c = four_out c.args.register c.args.first c.args.second c.args.third c.a
     c.after_32.result c.after_24.result c.after_16.result c.after_8.result
     (omega arith) (omega arith) (omega arith) (omega arith) (omega arith)
     c.after_32.ensures
-    (c.after_24.ensures ∙ ap (λ low. get_or AFTER_24 (bit_xor low c.args.second) 0) (and_mask c.args.register 8))
+    (c.after_24.ensures ∙ ap (λ low. get_or AFTER_24 (bit_xor low c.args.second) 0)
+    (and_mask c.args.register 8))
     c.after_16.ensures c.after_8.ensures

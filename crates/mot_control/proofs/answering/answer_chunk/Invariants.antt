@@ -6,7 +6,7 @@ use Rattle.mot_journal.specs.Image.{Standing}
 use Rattle.mot_lines.specs.Hand.{bytes_in_hand}
 use Rattle.mot_lines.specs.Lines.{rest_of}
 use Rattle.mot_repository.specs.Repository.{Holds}
-use Rattle.mot_update.specs.Faults.{IsCalm}
+use Rattle.mot_update.specs.Faults.{StaysCalm}
 use Rattle.mot_control.proofs.answering.answer_chunk.Given as goal
 
 abbrev pub invariant-loop-line : goal.invariant-loop-line
@@ -14,7 +14,8 @@ invariant-loop-line g l =
     let state = g.D.Disk.state in
     let contents = g.W.Write.contents in record {
       keeps : KeepsLength (state l.initial.server.disk) (state l.server.disk);
-      calm : IsCalm l.initial.server l.server (state l.initial.server.disk) (state l.server.disk);
+      calm : StaysCalm l.initial.server l.server (state l.initial.server.disk)
+          (state l.server.disk);
       run : (s : Standing) → Holds l.initial.server.view s (state l.initial.server.disk)
           → (state l.server.disk).IsHonest
           → IsUpdating l.initial.server l.server (state l.initial.server.disk)

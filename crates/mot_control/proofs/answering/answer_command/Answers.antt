@@ -3,8 +3,7 @@ use Rattle.mot_control.specs.Answering.{run_of}
 use Rattle.mot_control.specs.Inner.Request.{reply_of}
 use Rattle.mot_control.proofs.Commands.{ran, replied}
 use Rattle.mot_lines.specs.declared.line.Line.TheVariants as asks
-use Rattle.mot_update.proofs.Faults.{attempted}
-use Rattle.mot_update.proofs.Runs.{answered_one}
+use Rattle.mot_update.proofs.Laws.{answered_one, attempted}
 use Rattle.mot_update.specs.HasRun.{HasRun}
 use Rattle.mot_control.proofs.answering.answer_command.Goals as goal
 

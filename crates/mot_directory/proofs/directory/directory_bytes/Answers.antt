@@ -1,11 +1,16 @@
-use Rattle.std.proofs.Common.{◌≡◌, ℕ, ◌+◌, ◌<◌, ◌≤◌, List, [], ◌∷◌, ◌++◌, length, map, take, get_or, sym, ap, ◌∙◌, arith, append_assoc, vec_len, All, Some}
+use Rattle.std.proofs.Common.{◌≡◌, ℕ, ◌+◌, ◌<◌, ◌≤◌, List, [], ◌∷◌, ◌++◌, length, map, take, get_or}
+use Rattle.std.proofs.Common.{sym, ap, ◌∙◌, arith, append_assoc, vec_len, All, Some}
 use Rattle.std.proofs.lemmas.List.{take_all}
 use Rattle.mot_carousel.specs.declared.object.Object.{Object}
 use Rattle.mot_carousel.specs.declared.carousel.Carousel.{Carousel}
-use Rattle.mot_directory.specs.Directory.{DirectoryFields, IsDirectory, IsEntry, bytes_of_directory, bytes_of_entry, bytes_of_directory_header, bytes_of_entries, read_directory}
+use Rattle.mot_directory.specs.Directory.{DirectoryFields, IsDirectory, IsEntry, bytes_of_directory}
+use Rattle.mot_directory.specs.Directory.{bytes_of_entry, bytes_of_directory_header}
+use Rattle.mot_directory.specs.Directory.{bytes_of_entries, read_directory}
 use Rattle.mot_directory.specs.Inner.Beside.{directory_beside, entry_beside}
 use Rattle.mot_directory.specs.Sizes.{directory_size}
-use Rattle.mot_directory.proofs.Beside.{are_entries-push, bytes_of_directory-beside, directory_of-carousel_of, bytes_of_entries-push, IsDirectory-beside, one_more, sum_by-next, sum_by-push}
+use Rattle.mot_directory.proofs.Beside.{are_entries-push, bytes_of_directory-beside}
+use Rattle.mot_directory.proofs.Beside.{directory_of-carousel_of, bytes_of_entries-push}
+use Rattle.mot_directory.proofs.Beside.{IsDirectory-beside, one_more, sum_by-next, sum_by-push}
 use Rattle.mot_directory.proofs.Described.{description_in-parameters_with}
 use Rattle.mot_directory.proofs.Fits.{read_directory-directory_of}
 use Rattle.mot_directory.proofs.ReadBack.{read_directory-bytes_of_directory}
@@ -22,7 +27,8 @@ append_entry-requires c =
     let objects : List Object = c.args.carousel.now.objects.items in
     let i : ℕ = c.loop-object.object-index in
     let o : Object = c.object-item.result in
-    let within : i < length objects = rw c.deref-object-items.ensures.value at c.loop-object-test.true in
+    let within : i < length objects =
+    rw c.deref-object-items.ensures.value at c.loop-object-test.true in
     let item : o ≡ get_or objects i o = rw c.deref-object-items.ensures.value at c.object-item.is in
     omega (arith, sum_by-next objects i o within item)
 
@@ -32,11 +38,13 @@ loop-object-preserved c =
     let objects : List Object = carousel.objects.items in
     let i : ℕ = c.loop-object.object-index in
     let o : Object = c.object-item.result in
-    let within : i < length objects = rw c.deref-object-items.ensures.value at c.loop-object-test.true in
+    let within : i < length objects =
+    rw c.deref-object-items.ensures.value at c.loop-object-test.true in
     let item : o ≡ get_or objects i o = rw c.deref-object-items.ensures.value at c.object-item.is in
     let next : take (i + 1) objects ≡ take i objects ++ o ∷ [] = one_more objects i o within item in
     let header : List ℕ =
-    bytes_of_directory_header c.directory_size-size.result (vec_len carousel.objects) carousel.period
+    bytes_of_directory_header c.directory_size-size.result (vec_len carousel.objects)
+    carousel.period
     c.args.segment_size in
     let entries : List ℕ = bytes_of_entries (map entry_beside (take i objects)) in
     record {
@@ -50,12 +58,14 @@ loop-object-preserved c =
       room = omega arith;
       bytes = c.append_entry.ensures.bytes;
       fits = rw next
-          (are_entries-push (take i objects) o c.loop-object.invariant.fits c.append_entry.ensures.fits);
+          (are_entries-push (take i objects) o c.loop-object.invariant.fits
+          c.append_entry.ensures.fits);
     }
 
 -- at the end every object's entry was added
 all_done : (c : goal.After-loop-object) →
-    take c.loop-object.object-index c.args.carousel.now.objects.items ≡ c.args.carousel.now.objects.items
+    take c.loop-object.object-index c.args.carousel.now.objects.items
+    ≡ c.args.carousel.now.objects.items
 all_done c =
     let objects : List Object = c.args.carousel.now.objects.items in
     let past : length objects ≤ c.loop-object.object-index =
@@ -63,7 +73,8 @@ all_done c =
     take_all c.loop-object.object-index objects past
 
 whole : (c : goal.After-loop-object) →
-    c.loop-object.out.items ≡ bytes_of_directory (directory_beside c.args.carousel.now c.args.segment_size)
+    c.loop-object.out.items ≡ bytes_of_directory
+    (directory_beside c.args.carousel.now c.args.segment_size)
 whole c =
     let carousel : Carousel = c.args.carousel.now in
     let count : vec_len carousel.objects ≡ length carousel.objects.items =
@@ -81,7 +92,8 @@ fits c =
     rw (← c.directory_size-size.ensures.size) c.directory_size-size.ensures.longest in
     let entries : All IsEntry (map entry_beside carousel.objects.items) =
     rw (all_done c) at c.loop-object.invariant.fits in
-    IsDirectory-beside carousel c.args.segment_size longest few c.append_directory_header.ensures.period
+    IsDirectory-beside carousel c.args.segment_size longest few
+    c.append_directory_header.ensures.period
     c.append_directory_header.ensures.segment_size entries
 
 pub returns-clause-reads : goal.returns-clause-reads

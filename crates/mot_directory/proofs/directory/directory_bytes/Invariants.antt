@@ -11,7 +11,8 @@ invariant-loop-object l =
     let done = take l.object-index l.carousel.objects.items in
     record {
       items : l.out.items
-          ≡ bytes_of_directory_header l.size (vec_len l.carousel.objects) l.carousel.period l.fn.segment_size
+          ≡ bytes_of_directory_header l.size (vec_len l.carousel.objects) l.carousel.period
+          l.fn.segment_size
           ++ bytes_of_entries (map entry_beside done);
       len : vec_len l.out ≡ 13 + sum_by entry_size done;
       room : directory_size l.carousel ≤ vec_capacity l.out;

@@ -5,8 +5,8 @@ use Rattle.mot_feed.proofs.Fed.{continuous, fed_all, fed_none, rest_else, rest_t
 use Rattle.mot_feed.proofs.Fed.{sent_on, update_fault, updated, updated_are, updated_turns}
 use Rattle.mot_feed.proofs.Fed.{updated_uncut}
 use Rattle.mot_feed.proofs.Sent.{not_of_writing, same_error, send_fault_behind, sent_calm}
-use Rattle.mot_feed.proofs.Sent.{stays_same}
-use Rattle.mot_update.proofs.Faults.{calm_here, calm_on, fault_on}
+use Rattle.disk_store.proofs.Laws.{unchanged_none}
+use Rattle.mot_update.proofs.Laws.{calm_here, calm_on, fault_on}
 use Rattle.mot_feed.proofs.feeding.feed.Goals as goal
 use Rattle.mot_feed.proofs.feeding.feed.Goals.{else-between_turns, then-between_turns}
 
@@ -18,7 +18,7 @@ loop-init g c =
       calm = calm_here c.args.server.now state;
       fed = λ s holds honest. fed_none c.args.server.now state s g.U.Update.waits c.args.turns
           (g.O.Outlet.writes c.args.outlet.now)
-          (g.met.D.Disk.sound c.args.server.now.disk honest) honest (stays_same state) holds;
+          (g.met.D.Disk.sound c.args.server.now.disk honest) honest (unchanged_none state) holds;
     }
 
 pub returns-then-left-eq0-clause-fed : goal.returns-then-left-eq0-clause-fed
@@ -130,7 +130,8 @@ loop-preserved g c =
     ] in
     record {
       keeps = keeps_on (state old.disk) (state up.disk) (state new.disk)
-          (keeps_on (state old.disk) (state mid.disk) (state up.disk) is.keeps one.keeps) two.only_reads.keeps;
+          (keeps_on (state old.disk) (state mid.disk) (state up.disk) is.keeps one.keeps)
+          two.only_reads.keeps;
       calm = calm_on old up new (state old.disk) (state up.disk) (state new.disk)
           (calm_on old mid up (state old.disk) (state mid.disk) (state up.disk) is.calm one.faults)
           (sent_calm up new (state up.disk) (state new.disk) two.calm two.view);
@@ -164,5 +165,6 @@ returns-then-left-eq0-clause-continuous g c = continuous
 pub returns-in_err-update-clause-continuous : goal.returns-in_err-update-clause-continuous
 returns-in_err-update-clause-continuous g c = continuous
 
-pub returns-in_err-between_turns-clause-continuous : goal.returns-in_err-between_turns-clause-continuous
+pub returns-in_err-between_turns-clause-continuous :
+    goal.returns-in_err-between_turns-clause-continuous
 returns-in_err-between_turns-clause-continuous g c = continuous

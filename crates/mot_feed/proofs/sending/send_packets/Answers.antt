@@ -1,7 +1,7 @@
 use Rattle.std.proofs.Common.{◌≡◌, ◌∙◌, refl, subst, arith}
 use Rattle.disk_store.proofs.Laws.{reads_none, reads_on}
 use Rattle.mot_server.proofs.Laws.{holds_still}
-use Rattle.mot_feed.specs.Sending.{Sends}
+use Rattle.mot_feed.specs.Sending.{SendsPackets}
 use Rattle.mot_server.specs.Server.{place_in}
 use Rattle.mot_feed.proofs.Sent.{same_error, send_fault_on, sends_more, sends_none}
 use Rattle.mot_feed.proofs.Sent.{sends_part}
@@ -14,7 +14,8 @@ loop-init g c =
       reads = reads_none state;
       calm = refl;
       view = refl;
-      sent = λ s holds honest. sends_none (place_in c.args.server.now s) (g.O.Outlet.writes c.args.outlet.now);
+      sent = λ s holds honest.
+          sends_none (place_in c.args.server.now s) (g.O.Outlet.writes c.args.outlet.now);
     }
 
 pub returns-in_err-send_one-clause-part : goal.returns-in_err-send_one-clause-part
@@ -26,10 +27,12 @@ returns-in_err-send_one-clause-part g c = λ s holds honest.
     let is = c.loop.invariant in
     let one = c.in_err-send_one.ensures in
     let was = one.only_reads.keeps.was_honest honest in
-    let held = holds_still old.view mid.view s (state old.disk) (state mid.disk) holds was (is.reads.unchanged was) is.view in
+    let held = holds_still old.view mid.view s (state old.disk) (state mid.disk) holds was
+    (is.reads.unchanged was) is.view in
     rw (same_error c.from_residual.result c.in_err-send_one.field-0.0 c.from_residual.ensures.1)
     (sends_part (place_in old s) (place_in mid s) (place_in new s) c.loop.counter c.args.count
-    _ _ _ c.in_err-send_one.field-0.0 c.loop-test.true (is.sent s holds was) (one.sent s held honest))
+    _ _ _ c.in_err-send_one.field-0.0 c.loop-test.true (is.sent s holds was)
+    (one.sent s held honest))
 
 pub returns-in_err-send_one-clause-fault : goal.returns-in_err-send_one-clause-fault
 returns-in_err-send_one-clause-fault g c =
@@ -57,8 +60,10 @@ loop-preserved g c =
       view = one.view ∙ is.view;
       sent = λ s holds honest.
           let was = one.only_reads.keeps.was_honest honest in
-          let held = holds_still old.view mid.view s (state old.disk) (state mid.disk) holds was (is.reads.unchanged was) is.view in
-          sends_more (place_in old s) (place_in mid s) (place_in new s) c.loop.counter _ _ _ c.in_ok-send_one.field-0
+          let held = holds_still old.view mid.view s (state old.disk) (state mid.disk) holds was
+          (is.reads.unchanged was) is.view in
+          sends_more (place_in old s) (place_in mid s) (place_in new s) c.loop.counter _ _ _
+          c.in_ok-send_one.field-0
           (is.sent s holds was) (one.sent s held honest);
     }
 
@@ -68,5 +73,6 @@ returns-clause-sent g c = λ s holds honest.
     let last = c.loop-test.false in
     let bound = c.loop.auto.counter-end in
     let all : c.loop.counter ≡ c.args.count = omega (arith, last, bound) in
-    subst (λ n. Sends (place_in old s) n (place_in c.loop.server s) (g.O.Outlet.writes c.args.outlet.now) (g.O.Outlet.writes c.loop.outlet)) all
+    subst (λ n. SendsPackets (place_in old s) n (place_in c.loop.server s)
+    (g.O.Outlet.writes c.args.outlet.now) (g.O.Outlet.writes c.loop.outlet)) all
     (c.loop.invariant.sent s holds honest)

@@ -1,6 +1,6 @@
 use Rattle.std.proofs.Common.{◌≡◌}
 use Rattle.disk_store.specs.Disk.{OnlyReads}
-use Rattle.mot_feed.specs.Sending.{Sends}
+use Rattle.mot_feed.specs.Sending.{SendsPackets}
 use Rattle.mot_journal.specs.Image.{Standing}
 use Rattle.mot_repository.specs.Repository.{Holds}
 use Rattle.mot_server.specs.Server.{place_in}
@@ -13,6 +13,6 @@ invariant-loop g l = record {
   view : l.server.view ≡ l.initial.server.view;
   sent : (s : Standing) → Holds l.initial.server.view s (g.D.Disk.state l.initial.server.disk)
       → (g.D.Disk.state l.server.disk).IsHonest
-      → Sends (place_in l.initial.server s) l.counter (place_in l.server s)
+      → SendsPackets (place_in l.initial.server s) l.counter (place_in l.server s)
       (g.O.Outlet.writes l.initial.outlet) (g.O.Outlet.writes l.outlet);
 }

@@ -1,6 +1,6 @@
 use Rattle.std.proofs.Common.{[]}
 use Rattle.mot_folder.specs.Log.{TellsAnswers}
-use Rattle.mot_update.proofs.Answers.{tells_on}
+use Rattle.mot_update.proofs.Laws.{tells_on}
 use Rattle.mot_folder.proofs.listing.list.Goals as goal
 
 pub returns-in_err-add_all : goal.returns-in_err-add_all

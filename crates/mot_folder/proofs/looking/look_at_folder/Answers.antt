@@ -6,10 +6,10 @@ use Rattle.mot_folder.specs.declared.report.Report.{Report}
 use Rattle.mot_folder.specs.Looked.{listed, unlisted}
 use Rattle.mot_folder.proofs.Log.{tells_none}
 use Rattle.mot_server.specs.declared.running.Attempt.TheVariants.{Refused}
-use Rattle.mot_update.specs.HasRun.{fault_of}
+use Rattle.mot_server.specs.Attempts.{fault_of}
 use Rattle.mot_update.specs.Looking.{HasLooked}
-use Rattle.mot_update.proofs.Runs.{has_read}
-use Rattle.mot_update.proofs.Still.{stays_same}
+use Rattle.mot_update.proofs.Laws.{has_read}
+use Rattle.disk_store.proofs.Laws.{unchanged_none}
 use Rattle.mot_folder.proofs.looking.look_at_folder.Goals as goal
 
 pub returns-in_default-clause-looked : goal.returns-in_default-clause-looked
@@ -19,7 +19,7 @@ returns-in_default-clause-looked g c = λ s holds honest.
     let told = c.list.ensures.told [] (tells_none c.begin.new.self c.begin.ensures.told) in
     let last = entry (codes "look") c.as_bytes.result.now (Refused ReadFault) in
     unlisted c.refused.ensures.any refl (has_read old old state state s None
-    (g.met.D.Disk.sound old.disk honest) refl refl honest (stays_same state) holds).0
+    (g.met.D.Disk.sound old.disk honest) refl refl honest (unchanged_none state) holds).0
     (told.entries ++ last ∷ []) (c.refused.ensures.told told.entries told.told)
     (filter-append is_of_look told.entries (last ∷ []) ∙ ap (λ l. l ++ last ∷ []) told.are
     ∙ ap (λ n. entry (codes "look") n (Refused ReadFault) ∷ []) c.as_bytes.ensures.value)
@@ -35,11 +35,13 @@ returns-clause-looked g c = λ s holds honest.
     let begun : TellsAnswers c.list.new.report [] =
     c.list.ensures.told [] (tells_none c.begin.new.self c.begin.ensures.told) in
     let given : TellsAnswers c.new-folder.result.report [] =
-    subst (λ (r : Report). TellsAnswers r []) (sym (c.new-folder.ensures.report ∙ c.replace-told.ensures.value))
+    subst (λ (r : Report). TellsAnswers r [])
+    (sym (c.new-folder.ensures.report ∙ c.replace-told.ensures.value))
     begun in
     let looks = c.look-result.ensures.looked s holds honest in
     let Looks = λ (place : ℕ) (r : Report).
-    (x : HasLooked old new (state old.disk) (state new.disk) s names place None None (not r.any_refused)
+    (x : HasLooked old new (state old.disk) (state new.disk) s names place None None
+    (not r.any_refused)
     fault) × TellsAnswers r x.runs.answers in
     let told : Looks c.new-folder.result.place last = (looks.0, looks.1 [] given) in
     let all : Looks 0 c.into_report.result =

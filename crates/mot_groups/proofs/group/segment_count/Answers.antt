@@ -15,7 +15,8 @@ returns-clause-cut c = λ bytes. IsCut-pieces c.args.size bytes (omega arith)
 
 pub returns-clause-entities : goal.returns-clause-entities
 returns-clause-entities c =
-    λ kind tid bytes segments some own. entity_of-own kind tid c.args.size bytes segments (omega arith) some own
+    λ kind tid bytes segments some own.
+    entity_of-own kind tid c.args.size bytes segments (omega arith) some own
 
 pub returns-clause-groups : goal.returns-clause-groups
 returns-clause-groups c = read_group-bytes_of_group

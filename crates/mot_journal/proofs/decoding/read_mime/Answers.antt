@@ -8,16 +8,21 @@ pub returns-then-size-eq0 : goal.returns-then-size-eq0
 returns-then-size-eq0 c = sym (mime_none c.args.bytes.now c.if-size-eq0.true)
 
 pub returns-then-size-gt-MAX_MIME : goal.returns-then-size-gt-MAX_MIME
-returns-then-size-gt-MAX_MIME c = sym (mime_long c.args.bytes.now c.requires c.if-size-gt-MAX_MIME.true)
+returns-then-size-gt-MAX_MIME c =
+    sym (mime_long c.args.bytes.now c.requires c.if-size-gt-MAX_MIME.true)
 
 pub returns-in-Ok : goal.returns-in-Ok
 returns-in-Ok c =
-    let same : c.in_ok-to_vec.field-0.items ≡ take (slice_index c.args.bytes.now 0) (drop 1 c.args.bytes.now) = grind arith in
+    let same : c.in_ok-to_vec.field-0.items
+    ≡ take (slice_index c.args.bytes.now 0) (drop 1 c.args.bytes.now) = grind arith in
     let is : IsMime c.in_ok-to_vec.field-0.items = c.in-Ok.ensures.valid.0 (search rules) in
     let value : c.in-Ok.mime ≡ c.in_ok-to_vec.field-0.items = c.in-Ok.ensures.value in
-    ap kept-text (value ∙ same) ∙ sym (mime_ok c.args.bytes.now c.if-size-eq0.false (subst IsMime same is))
+    ap kept-text (value ∙ same)
+    ∙ sym (mime_ok c.args.bytes.now c.if-size-eq0.false (subst IsMime same is))
 
 pub returns-in-Err : goal.returns-in-Err
 returns-in-Err c =
-    let same : c.in_ok-to_vec.field-0.items ≡ take (slice_index c.args.bytes.now 0) (drop 1 c.args.bytes.now) = grind arith in
-    sym (mime_bad c.args.bytes.now c.if-size-eq0.false (λ is. wrong-ok (c.in-Err.ensures.valid.1 (subst IsMime (sym same) is))))
+    let same : c.in_ok-to_vec.field-0.items
+    ≡ take (slice_index c.args.bytes.now 0) (drop 1 c.args.bytes.now) = grind arith in
+    sym (mime_bad c.args.bytes.now c.if-size-eq0.false
+    (λ is. wrong-ok (c.in-Err.ensures.valid.1 (subst IsMime (sym same) is))))

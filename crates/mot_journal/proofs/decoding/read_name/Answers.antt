@@ -9,7 +9,8 @@ returns-in-Ok c =
     let same : c.in_ok-to_vec.field-0.items ≡ c.args.bytes.now = grind arith in
     let is : IsName c.in_ok-to_vec.field-0.items = c.in-Ok.ensures.valid.0 (search rules) in
     let value : c.in-Ok.name ≡ c.in_ok-to_vec.field-0.items = c.in-Ok.ensures.value in
-    ap text (value ∙ same) ∙ sym (name_ok (longest_name c.args.layout) c.args.bytes.now (subst IsName same is) (omega arith))
+    ap text (value ∙ same) ∙ sym
+    (name_ok (longest_name c.args.layout) c.args.bytes.now (subst IsName same is) (omega arith))
 
 pub returns-in-Err : goal.returns-in-Err
 returns-in-Err c =

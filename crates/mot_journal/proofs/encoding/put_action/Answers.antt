@@ -5,7 +5,8 @@ use Rattle.mot_journal.proofs.encoding.put_action.Goals as goal
 
 pub returns-in-Set-clause-written : goal.returns-in-Set-clause-written
 returns-in-Set-clause-written c =
-    put_set c.args.action.now c.in-Set.tid c.in-Set.version c.in-Set.content c.in-Set.start c.in-Set.length c.in-Set.name c.in-Set.mime c.in-Set.is
+    put_set c.args.action.now c.in-Set.tid c.in-Set.version c.in-Set.content c.in-Set.start
+    c.in-Set.length c.in-Set.name c.in-Set.mime c.in-Set.is
     _ _ _ _ _ _ _ _ _ _ _ _ _ _ _ _
     (ap (λ n. to_be_bytes w16 n) c.get-in-Set.ensures.value)
     (ap (λ t. c.in-Set.version ∷ t ∷ []) c.content_type.ensures.value)
@@ -14,5 +15,7 @@ returns-in-Set-clause-written c =
     (ap (bytes_high_first 4) c.get-in-Set-2.ensures.value)
     (ap (λ l. length l ∷ []) c.as_bytes.ensures.value)
     c.as_bytes-in-Set.ensures.value
-    c.array_append_number-in-Set.ensures.items c.array_append.ensures.items c.array_append_number-in-Set-2.ensures.items c.put_number.ensures
-    c.put_number-in-Set.ensures c.push.ensures.items c.array_append-in-Set.ensures.items c.put_mime.ensures.written
+    c.array_append_number-in-Set.ensures.items c.array_append.ensures.items
+    c.array_append_number-in-Set-2.ensures.items c.put_number.ensures
+    c.put_number-in-Set.ensures c.push.ensures.items c.array_append-in-Set.ensures.items
+    c.put_mime.ensures.written

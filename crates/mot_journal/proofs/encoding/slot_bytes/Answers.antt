@@ -9,8 +9,11 @@ pub returns-clause-written : goal.returns-clause-written
 returns-clause-written c =
     slot_pieces c.args.layout c.args.entry.now _ _ _ _ _ _ _ _ _ _ _ _ _ _
     c.kind_base.ensures c.kind.ensures.value c.slot_size.ensures
-    (ap (bytes_high_first 3) c.get.ensures.value) (ap (λ n. to_be_bytes w16 n) c.get-2.ensures.value) (ap (λ n. to_be_bytes w16 n) c.get-3.ensures.value)
-    c.new-slot.ensures c.push.ensures.items c.push-2.ensures.items c.put_number.ensures c.array_append_number.ensures.items
+    (ap (bytes_high_first 3) c.get.ensures.value)
+    (ap (λ n. to_be_bytes w16 n) c.get-2.ensures.value)
+    (ap (λ n. to_be_bytes w16 n) c.get-3.ensures.value)
+    c.new-slot.ensures c.push.ensures.items c.push-2.ensures.items c.put_number.ensures
+    c.array_append_number.ensures.items
     c.array_append_number-2.ensures.items
     c.put_action.ensures.written c.fill.ensures
 

@@ -15,5 +15,6 @@ invariant-loop-number g l =
       calm : now.failures ≡ old.failures;
       cost : now.calls ≡ old.calls + l.number;
       scanned : now.IsHonest
-          → scan false slots ≡ scan l.is_shut (slots_from l.geometry l.half l.layout old.bytes l.number);
+          → scan false slots ≡ scan l.is_shut
+          (slots_from l.geometry l.half l.layout old.bytes l.number);
     }

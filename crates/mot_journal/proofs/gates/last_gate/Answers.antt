@@ -1,7 +1,8 @@
-use Rattle.std.proofs.Common.{◌+◌, ◌*◌, ◌/◌, ◌<◌, ℕ, Bool, not, ◌==◌, List, length, drop, get_or, refl, sym, ◌∙◌, ap, arith, if◌then◌else◌}
+use Rattle.std.proofs.Common.{◌+◌, ◌*◌, ◌/◌, ◌<◌, ℕ, Bool, not, ◌==◌, List, length, drop, get_or}
+use Rattle.std.proofs.Common.{refl, sym, ◌∙◌, ap, arith, if◌then◌else◌}
 use Rattle.mot_journal.specs.Image.{slots_in}
 use Rattle.mot_journal.specs.Inner.Scan.{scan}
-use Rattle.mot_journal.proofs.NextSlot.{slot_some}
+use Rattle.mot_journal.proofs.NextSlot.{slot_longer_than_gate}
 use Rattle.mot_journal.proofs.Scan.{none, next_gate, scan_ends}
 use Rattle.mot_journal.proofs.gates.last_gate.Goals as goal
 
@@ -15,10 +16,13 @@ returns-then-is_behind c =
     let slots : List (List ℕ) = slots_in size (length bytes / size) bytes in
     let number : ℕ = c.loop-number.number in
     let is_open : Bool = get_or bytes (number * size) 0 == 0xA5 in
-    let some : 0 < size = omega (arith, slot_some c.args.layout, c.slot_size-size.ensures) in
+    let some : 0 < size = omega
+    (arith, slot_longer_than_gate c.args.layout, c.slot_size-size.ensures) in
     sym (c.loop-number.invariant
-    ∙ next_gate size (length bytes / size) bytes c.loop-number.is_shut number some c.loop-number-test.true
-    ∙ ap (λ (b : Bool). if b then none else scan (not is_open) (drop (number + 1) slots)) c.if-is_behind.true)
+    ∙ next_gate size (length bytes / size) bytes c.loop-number.is_shut number some
+    c.loop-number-test.true
+    ∙ ap (λ (b : Bool). if b then none else scan (not is_open) (drop (number + 1) slots))
+    c.if-is_behind.true)
     ∙ ap (λ s. scan c.args.was_shut (slots_in s (length bytes / s) bytes)) c.slot_size-size.ensures
 
 pub loop-number-preserved : goal.loop-number-preserved
@@ -28,15 +32,19 @@ loop-number-preserved c =
     let slots : List (List ℕ) = slots_in size (length bytes / size) bytes in
     let number : ℕ = c.loop-number.number in
     let is_open : Bool = get_or bytes (number * size) 0 == 0xA5 in
-    let some : 0 < size = omega (arith, slot_some c.args.layout, c.slot_size-size.ensures) in
+    let some : 0 < size = omega
+    (arith, slot_longer_than_gate c.args.layout, c.slot_size-size.ensures) in
     c.loop-number.invariant
-    ∙ next_gate size (length bytes / size) bytes c.loop-number.is_shut number some c.loop-number-test.true
-    ∙ ap (λ (b : Bool). if b then none else scan (not is_open) (drop (number + 1) slots)) c.if-is_behind.false
+    ∙ next_gate size (length bytes / size) bytes c.loop-number.is_shut number some
+    c.loop-number-test.true
+    ∙ ap (λ (b : Bool). if b then none else scan (not is_open) (drop (number + 1) slots))
+    c.if-is_behind.false
 
 pub returns : goal.returns
 returns c =
     let bytes : List ℕ = c.args.slots.now in
     let size : ℕ = c.slot_size-size.result in
     sym (c.loop-number.invariant
-    ∙ scan_ends size (length bytes / size) bytes c.loop-number.is_shut c.loop-number.number (omega (arith, c.loop-number-test.false)))
+    ∙ scan_ends size (length bytes / size) bytes c.loop-number.is_shut c.loop-number.number
+    (omega (arith, c.loop-number-test.false)))
     ∙ ap (λ s. scan c.args.was_shut (slots_in s (length bytes / s) bytes)) c.slot_size-size.ensures

@@ -1,5 +1,6 @@
-use Rattle.std.proofs.Common.{◌≡◌, ◌+◌, ◌*◌, ◌<◌, length, slice_range, sym, ◌∙◌, ap, subst, arith, rules}
-use Rattle.disk_store.specs.Disk.{Writes}
+use Rattle.std.proofs.Common.{◌≡◌, ◌+◌, ◌*◌, ◌<◌, length, slice_range, sym, ◌∙◌, ap, subst, arith}
+use Rattle.std.proofs.Common.{rules}
+use Rattle.disk_store.specs.Disk.{WritesWithin}
 use Rattle.disk_store.proofs.Laws.{keeps_all_on}
 use Rattle.mot_base.specs.Geometry.{half_start, half_size}
 use Rattle.mot_journal.specs.Slot.{slot_size}
@@ -9,10 +10,19 @@ use Rattle.mot_journal.proofs.writing.fill_half.Goals as goal
 pub write-requires : goal.write-requires
 write-requires g c =
     let geometry = c.args.geometry.now in
-    let ends = slot_ends geometry c.args.half c.args.layout c.loop-number.number c.requires.two_halves (subst (λ n. c.loop-number.number < n) c.slot_count-number-end.ensures c.loop-number-test.true) in
+    let ends = slot_ends geometry c.args.half c.args.layout c.loop-number.number
+    c.requires.two_halves (subst (λ n. c.loop-number.number < n) c.slot_count-number-end.ensures
+    c.loop-number-test.true) in
     let size : length c.deref.result.now ≡ slot_size c.args.layout =
     ap length c.deref.ensures.0 ∙ c.slot_or_zeros.ensures.size geometry c.requires.sound in
-    omega (arith, c.place_of_slot-place.ensures.value, ends.1, size, c.requires.long_enough, c.loop-number.invariant.keeps.frame.len)
+    omega (
+      arith,
+      c.place_of_slot-place.ensures.value,
+      ends.1,
+      size,
+      c.requires.long_enough,
+      c.loop-number.invariant.keeps.frame.len,
+    )
 
 pub returns-in_err-write-clause-range : goal.returns-in_err-write-clause-range
 returns-in_err-write-clause-range g c = λ honest.
@@ -20,11 +30,15 @@ returns-in_err-write-clause-range g c = λ honest.
     let geometry = c.args.geometry.now in
     let so_far = c.loop-number.invariant in
     let honest1 = so_far.keeps.honest honest in
-    let ends = slot_ends geometry c.args.half c.args.layout c.loop-number.number c.requires.two_halves (subst (λ n. c.loop-number.number < n) c.slot_count-number-end.ensures c.loop-number-test.true) in
+    let ends = slot_ends geometry c.args.half c.args.layout c.loop-number.number
+    c.requires.two_halves (subst (λ n. c.loop-number.number < n) c.slot_count-number-end.ensures
+    c.loop-number-test.true) in
     let size : length c.deref.result.now ≡ slot_size c.args.layout =
     ap length c.deref.ensures.0 ∙ c.slot_or_zeros.ensures.size geometry c.requires.sound in
-    one_more (half_start geometry c.args.half) (half_size geometry) (state c.args.disk.now) (state c.loop-number.disk)
-    (state c.write.new.self) _ _ (g.met.D.Disk.sound c.loop-number.disk honest1) (so_far.range honest)
+    one_more (half_start geometry c.args.half) (half_size geometry) (state c.args.disk.now)
+    (state c.loop-number.disk)
+    (state c.write.new.self) _ _ (g.met.D.Disk.sound c.loop-number.disk honest1)
+    (so_far.range honest)
     (c.write.ensures.range honest1) (omega (arith, c.place_of_slot-place.ensures.value))
     (omega (arith, c.place_of_slot-place.ensures.value, ends.0, size))
 
@@ -36,28 +50,39 @@ loop-number-preserved g c =
     let layout = c.args.layout in
     let number = c.loop-number.number in
     let so_far = c.loop-number.invariant in
-    let ends = slot_ends geometry half layout number c.requires.two_halves (subst (λ n. c.loop-number.number < n) c.slot_count-number-end.ensures c.loop-number-test.true) in
+    let ends = slot_ends geometry half layout number c.requires.two_halves
+    (subst (λ n. c.loop-number.number < n) c.slot_count-number-end.ensures
+    c.loop-number-test.true) in
     let size : length c.deref.result.now ≡ slot_size layout =
     ap length c.deref.ensures.0 ∙ c.slot_or_zeros.ensures.size geometry c.requires.sound in
-    let at : c.place_of_slot-place.result ≡ half_start geometry half + number * slot_size layout = c.place_of_slot-place.ensures.value in
+    let at : c.place_of_slot-place.result ≡ half_start geometry half + number * slot_size layout =
+    c.place_of_slot-place.ensures.value in
     record {
-      keeps = keeps_all_on (state c.args.disk.now) (state c.loop-number.disk) (state c.write.new.self) so_far.keeps c.write.ensures.keeps;
+      keeps = keeps_all_on (state c.args.disk.now) (state c.loop-number.disk)
+          (state c.write.new.self) so_far.keeps c.write.ensures.keeps;
       calm = search rules;
       cost = omega (arith, c.write.ensures.called, so_far.cost);
       range = λ honest.
           let honest1 = so_far.keeps.honest honest in
-          one_more (half_start geometry half) (half_size geometry) (state c.args.disk.now) (state c.loop-number.disk)
-          (state c.write.new.self) _ _ (g.met.D.Disk.sound c.loop-number.disk honest1) (so_far.range honest)
+          one_more (half_start geometry half) (half_size geometry) (state c.args.disk.now)
+          (state c.loop-number.disk)
+          (state c.write.new.self) _ _ (g.met.D.Disk.sound c.loop-number.disk honest1)
+          (so_far.range honest)
           (c.write.ensures.range honest1) (omega (arith, at)) (omega (arith, at, ends.0, size));
       slots = λ honest.
           let honest1 = so_far.keeps.honest honest in
           let new = (state c.write.new.self).bytes in
           let place = half_start geometry half + number * slot_size layout in
-          let writes = subst (λ n. Writes place n (state c.loop-number.disk) (state c.write.new.self)) size
-          (subst (λ p. Writes p (length c.deref.result.now) (state c.loop-number.disk) (state c.write.new.self)) at (c.write.ensures.range honest1)) in
+          let writes = subst (λ n.
+          WritesWithin place n (state c.loop-number.disk) (state c.write.new.self)) size
+          (subst (λ p. WritesWithin p (length c.deref.result.now) (state c.loop-number.disk)
+          (state c.write.new.self)) at (c.write.ensures.range honest1)) in
           let bytes = subst (λ n. slice_range new place (place + n) ≡ c.deref.result.now) size
-          (subst (λ p. slice_range new p (p + length c.deref.result.now) ≡ c.deref.result.now) at (c.in_ok-write.ensures.bytes honest1)) in
-          slot_more geometry half layout c.args.given.now number (state c.loop-number.disk).bytes new (so_far.slots honest) writes.bytes
-          (sym (range_whole place (slot_size layout) new) ∙ bytes ∙ c.deref.ensures.0 ∙ c.slot_or_zeros.ensures.value)
+          (subst (λ p. slice_range new p (p + length c.deref.result.now) ≡ c.deref.result.now) at
+          (c.in_ok-write.ensures.bytes honest1)) in
+          slot_more geometry half layout c.args.given.now number (state c.loop-number.disk).bytes
+          new (so_far.slots honest) writes.bytes
+          (sym (range_whole place (slot_size layout) new) ∙ bytes ∙ c.deref.ensures.0
+          ∙ c.slot_or_zeros.ensures.value)
           (c.slot_or_zeros.ensures.reads geometry c.requires.sound);
     }

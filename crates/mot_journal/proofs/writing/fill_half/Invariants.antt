@@ -12,6 +12,7 @@ invariant-loop-number g l =
       keeps : Keeps old now;
       calm : now.failures ≡ old.failures;
       cost : now.calls ≡ old.calls + l.number;
-      range : old.IsHonest → ChangesWithin (half_start l.geometry l.half) (half_size l.geometry) old now;
+      range : old.IsHonest → ChangesWithin (half_start l.geometry l.half) (half_size l.geometry) old
+          now;
       slots : old.IsHonest → HasSlots l.geometry l.half l.layout l.given l.number now.bytes;
     }

@@ -3,7 +3,8 @@ use Rattle.mot_lines.proofs.Requests.{line_of-long, line_of-short}
 use Rattle.mot_lines.proofs.line.parse_line.Goals as goal
 
 pub returns-then-line-gt-MAX_LINE : goal.returns-then-line-gt-MAX_LINE
-returns-then-line-gt-MAX_LINE c = inl (sym (line_of-long c.args.line.now c.if-line-gt-MAX_LINE.true))
+returns-then-line-gt-MAX_LINE c =
+    inl (sym (line_of-long c.args.line.now c.if-line-gt-MAX_LINE.true))
 
 pub returns : goal.returns
 returns c = rw (line_of-short c.args.line.now c.if-line-gt-MAX_LINE.false, c.cut_word.ensures)

@@ -7,9 +7,12 @@ use Rattle.mot_lines.proofs.text.write_digits.Goals as goal
 pub loop-number-preserved : goal.loop-number-preserved
 loop-number-preserved c =
     let byte : ℕ = slice_index c.args.bytes.now c.loop-number.number in
-    encode_step lower_digits c.args.bytes.now c.loop-number.digits c.loop-number.number _ _ (omega arith)
+    encode_step lower_digits c.args.bytes.now c.loop-number.digits c.loop-number.number _ _
+    (omega arith)
     (omega arith) c.digit.ensures
-    (c.digit-in-loop-number.ensures ∙ ap (λ (k : ℕ). slice_index lower_digits k) (and_mask byte 4)) c.loop-number.invariant
+    (c.digit-in-loop-number.ensures ∙ ap (λ (k : ℕ). slice_index lower_digits k) (and_mask byte 4))
+    c.loop-number.invariant
 
 pub returns : goal.returns
-returns c = encode_done lower_digits _ _ c.loop-number.number (omega arith) (omega arith) c.loop-number.invariant
+returns c = encode_done lower_digits _ _ c.loop-number.number (omega arith) (omega arith)
+    c.loop-number.invariant

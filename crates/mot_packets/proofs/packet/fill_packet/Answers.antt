@@ -10,7 +10,8 @@ use Rattle.mot_packets.proofs.ReadBack.{AreBytes-bytes_of_packet, read_packet-by
 use Rattle.mot_packets.proofs.packet.fill_packet.Goals as goal
 
 whole : (c : goal.After-array_append_number-2) →
-    c.array_append_number-2.new.out.items ≡ bytes_of_packet (fields_of c.args.header c.args.useful.now)
+    c.array_append_number-2.new.out.items
+    ≡ bytes_of_packet (fields_of c.args.header c.args.useful.now)
 unfolding bytes_of_packet
 whole c =
     let p : PacketFields = fields_of c.args.header c.args.useful.now in
@@ -25,7 +26,12 @@ whole c =
       c.word.ensures.word,
       code_of_room-room_of c.args.header.length,
     ) refl in
-    rw (c.array_append_number-2.ensures.items, c.crc16-checksum.ensures, c.as_slice.ensures.value, before) refl
+    rw (
+      c.array_append_number-2.ensures.items,
+      c.crc16-checksum.ensures,
+      c.as_slice.ensures.value,
+      before,
+    ) refl
 
 pub returns-clause-written : goal.returns-clause-written
 returns-clause-written c = whole c

@@ -13,15 +13,18 @@ returns-clause-gathers c = λ address index group packets len some read.
       length-of_pieces (room_of c.args.full_length) address index group packets read
           ∙ ap (λ n. div_ceil n (room_of c.args.full_length)) len
           ∙ sym (c.div_ceil.ensures ∙ ap (div_ceil c.args.len) c.room.ensures),
-      gather-of_pieces (room_of c.args.full_length) address index group packets (omega arith) (omega arith)
+      gather-of_pieces (room_of c.args.full_length) address index group packets (omega arith)
+          (omega arith)
           read,
     )
 
 pub returns-clause-goes_on : goal.returns-clause-goes_on
-returns-clause-goes_on c = λ address index group packets more parts groups len some read read' same e.
+returns-clause-goes_on c =
+    λ address index group packets more parts groups len some read read' same e.
     let code = code_of-fits c.args.full_length in
     let room = room_of-code c.args.full_length in
-    gather-goes_on (room_of c.args.full_length) address index group packets more parts groups (omega arith)
+    gather-goes_on (room_of c.args.full_length) address index group packets more parts groups
+    (omega arith)
     (omega arith) read read' same e
 
 pub returns-clause-packets : goal.returns-clause-packets

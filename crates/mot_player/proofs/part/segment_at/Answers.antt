@@ -13,8 +13,10 @@ returns-clause-is_last c =
     let same : c.from-size.result ≡ size = c.from-size.ensures ∙ c.get.ensures.value in
     let some : 0 < size = omega (arith, c.get.ensures.range.0) in
     ap (λ (k : ℕ). c.args.segment + 1 == k)
-    (c.segment_count.ensures.count ∙ ap (λ (l : ℕ). div_ceil l size) c.entity_length-entity_len.ensures.value)
+    (c.segment_count.ensures.count
+    ∙ ap (λ (l : ℕ). div_ceil l size) c.entity_length-entity_len.ensures.value)
     ∙ is_last-count size c.args.segment len at c.min-len.result some c.requires.segment
     (ap (λ (k : ℕ). c.args.segment * k) same)
-    (c.min-len.ensures ∙ ap (λ (l : ℕ). min (l - at) c.from-size.result) c.entity_length-entity_len.ensures.value
+    (c.min-len.ensures ∙ ap (λ (l : ℕ). min (l - at) c.from-size.result)
+    c.entity_length-entity_len.ensures.value
     ∙ ap (λ (k : ℕ). min (len - at) k) same)

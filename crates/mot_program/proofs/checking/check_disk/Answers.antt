@@ -38,7 +38,8 @@ still g c honest =
     let calls = c.report-result.ensures in
     let now = subst (λ d. (state d).IsHonest) c.into_disk.ensures honest in
     subst (λ d. IsStill (state c.args.disk) (state d)) (sym c.into_disk.ensures)
-    (still_unchanged _ _ _ (opens.only_syncs.still (calls.only_reads.keeps.was_honest now)) (calls.only_reads.unchanged now))
+    (still_unchanged _ _ _ (opens.only_syncs.still (calls.only_reads.keeps.was_honest now))
+    (calls.only_reads.unchanged now))
 
 pub returns-clause-refused : goal.returns-clause-refused
 returns-clause-refused g c =
@@ -52,7 +53,8 @@ returns-clause-refused g c =
         | inr failed ↦ unread (device failed.0
             (subst (λ d. Rises (state c.args.disk).failures (state d).failures)
             (sym c.into_disk.ensures)
-            (rises_later _ _ _ opens.only_syncs.keeps.later calls.only_reads.keeps.later failed.1))) (λ other. absurd (other failed.0))
+            (rises_later _ _ _ opens.only_syncs.keeps.later calls.only_reads.keeps.later failed.1)))
+            (λ other. absurd (other failed.0))
             failed.2
       ];
     }) calls.silent

@@ -39,5 +39,6 @@ returns-clause-told g c =
 
 pub returns-in_err-write_listing-clause-silent : goal.returns-in_err-write_listing-clause-silent
 returns-in_err-write_listing-clause-silent g c =
-    let p = err_from_is_err_and c.from_residual-in_err-write_listing.result c.from_residual-in_err-write_listing.ensures.1 in
+    let p = err_from_is_err_and c.from_residual-in_err-write_listing.result
+    c.from_residual-in_err-write_listing.ensures.1 in
     rw p.1 (inl p.2)

@@ -1,7 +1,7 @@
 use Rattle.std.proofs.Common.{Err, ap, inl, inr}
 use Rattle.std.proofs.KnownBytes.{Keeps-refl}
 use Rattle.mot_program.specs.Report.{IsFormatted, IsUnderFormat}
-use Rattle.mot_program.specs.Report.IsFormatRefusal.{already, device, too_small}
+use Rattle.mot_program.specs.Report.IsFormattingRefusal.{already, device, too_small}
 use Rattle.mot_program.specs.Report.StopsFormatting.{refused, unprinted}
 use Rattle.mot_program.proofs.Ends.{IfErr-one, OnOk-one}
 use Rattle.mot_program.proofs.formatting.format_disk.Given as given
@@ -20,7 +20,8 @@ returns-in-Err-clause-refused g c =
       | inl is ↦ absurd (calls.bad.0 (ap Err is) c.requires)
       | inr (inl is) ↦ refused (too_small is (calls.small.0 (ap Err is)).1
           (calls.untouched (inr (calls.small.0 (ap Err is)).1))) under (Keeps-refl _)
-      | inr (inr (inl is)) ↦ refused (already is (λ honest. calls.already_only honest (ap Err is))) under
+      | inr (inr (inl is)) ↦ refused (already is (λ honest. calls.already_only honest (ap Err is)))
+          under
           (Keeps-refl _)
       | inr (inr (inr is)) ↦ refused (device is.0 is.1) under (Keeps-refl _)
     ]

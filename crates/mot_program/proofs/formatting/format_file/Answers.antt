@@ -13,7 +13,8 @@ returns-in-Ok-clause-done g c =
     let last = c.format_disk-result.new.disk in
     let old = g.W.Write.contents c.args.writer.now in
     let new = g.W.Write.contents c.format_disk-result.new.writer in
-    subst (λ (f : _). OnOk f.result (OnOpenedOrMade geometry (Formats geometry directory old new) f.disk))
+    subst (λ (f : _). OnOk f.result
+    (OnOpenedOrMade geometry (Formats geometry directory old new) f.disk))
     (sym c.of_file.ensures)
     (OnOk-one c.format_disk-result.result (λ p. (
       c.if-not-is_valid.ensures.0 refl,
@@ -30,7 +31,8 @@ returns-in-Ok-clause-refused g c =
     let old = g.W.Write.contents c.args.writer.now in
     let new = g.W.Write.contents c.format_disk-result.new.writer in
     subst (λ (f : _). IfErr f.result (λ r. (IsMakingRefusal geometry r × IsUntold f.disk old new)
-    ⊎ OnOpenedOrMade geometry (StopsFormatting geometry directory r old new) f.disk)) (sym c.of_file.ensures)
+    ⊎ OnOpenedOrMade geometry (StopsFormatting geometry directory r old new) f.disk))
+    (sym c.of_file.ensures)
     (IfErr-one c.format_disk-result.result (λ r p. inr (
       c.if-not-is_valid.ensures.0 refl,
       inl (since_opened c.in-Ok.disk.disk last.disk (StopsFormatting geometry directory r old new)
@@ -44,5 +46,9 @@ returns-then-not-is_valid-clause-refused g c =
     let directory = c.args.directory in
     let old = g.W.Write.contents c.args.writer.now in
     subst (λ (f : _). IfErr f.result (λ r. (IsMakingRefusal geometry r × IsUntold f.disk old old)
-    ⊎ OnOpenedOrMade geometry (StopsFormatting geometry directory r old old) f.disk)) (sym c.untouched.ensures)
-    (inl (inr (refl, λ v. let e = c.if-not-is_valid.ensures.1 v in absurd (cc (e))), record { untouched = tt; silent = Keeps-refl _ }))
+    ⊎ OnOpenedOrMade geometry (StopsFormatting geometry directory r old old) f.disk))
+    (sym c.untouched.ensures)
+    (inl (
+      inr (refl, λ v. let e = c.if-not-is_valid.ensures.1 v in absurd (cc (e))),
+      record { untouched = tt; silent = Keeps-refl _ },
+    ))

@@ -14,7 +14,8 @@ returns-clause-done g c =
     let last = c.format_disk-result.new.disk in
     let old = g.W.Write.contents c.args.writer.now in
     let new = g.W.Write.contents c.format_disk-result.new.writer in
-    subst (λ (f : _). OnOk f.result (OnOpenedOrMade geometry (Formats geometry directory old new) f.disk))
+    subst (λ (f : _). OnOk f.result
+    (OnOpenedOrMade geometry (Formats geometry directory old new) f.disk))
     (sym c.of_file.ensures)
     (OnOk-one c.format_disk-result.result (λ p. (
       c.requires,
@@ -32,7 +33,8 @@ returns-clause-refused g c =
     let old = g.W.Write.contents c.args.writer.now in
     let new = g.W.Write.contents c.format_disk-result.new.writer in
     subst (λ (f : _). IfErr f.result (λ r. (IsMakingRefusal geometry r × IsUntold f.disk old new)
-    ⊎ OnOpenedOrMade geometry (StopsFormatting geometry directory r old new) f.disk)) (sym c.of_file.ensures)
+    ⊎ OnOpenedOrMade geometry (StopsFormatting geometry directory r old new) f.disk))
+    (sym c.of_file.ensures)
     (IfErr-one c.format_disk-result.result (λ r p. inr (
       c.requires,
       inr (since_made c.in-Ok.disk.disk last.disk (StopsFormatting geometry directory r old new)
@@ -47,5 +49,6 @@ returns-in-Err-clause-refused g c =
     let directory = c.args.directory in
     let old = g.W.Write.contents c.args.writer.now in
     subst (λ (f : _). IfErr f.result (λ r. (IsMakingRefusal geometry r × IsUntold f.disk old old)
-    ⊎ OnOpenedOrMade geometry (StopsFormatting geometry directory r old old) f.disk)) (sym c.unopened.ensures)
+    ⊎ OnOpenedOrMade geometry (StopsFormatting geometry directory r old old) f.disk))
+    (sym c.unopened.ensures)
     (inl (inl refl, record { untouched = tt; silent = Keeps-refl _ }))

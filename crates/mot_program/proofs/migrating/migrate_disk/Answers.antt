@@ -81,7 +81,8 @@ returns-in-Err-migrate-clause-refused g c =
     let opens = c.in-Ok.ensures in
     let calls = c.in-Err-migrate.ensures in
     let old = g.W.Write.contents c.args.writer.now in
-    let under = migrates_under state c.args.disk repository after g.met.D.Disk.sound opens.only_syncs
+    let under = migrates_under state c.args.disk repository after g.met.D.Disk.sound
+    opens.only_syncs
     opens.opened opens.going calls.keeps calls.any_moment in
     let calm : IsCalm c.in-Err-migrate.refusal start (state after.disk) = λ other.
     elim calls.untouched [
@@ -92,9 +93,11 @@ returns-in-Err-migrate-clause-refused g c =
     (sym c.into_disk-in-Err-migrate.ensures) (elim calls.refused [
       | halted on is view same ↦ absurd (cc (on, opens.going))
       | no_memory off is view same ↦ refused (no_room is) calm under
-          (λ other honest. still_unchanged _ _ _ (opens.only_syncs.still (calls.keeps.frame.was_honest honest)) same)
+          (λ other honest. still_unchanged _ _ _
+          (opens.only_syncs.still (calls.keeps.frame.was_honest honest)) same)
           (Keeps-refl _)
       | failed off is rises view ↦ refused
-          (device is (rises_later _ _ _ opens.only_syncs.keeps.later calls.keeps.frame.later rises)) calm under
+          (device is (rises_later _ _ _ opens.only_syncs.keeps.later calls.keeps.frame.later rises))
+          calm under
           (λ other. absurd (other is)) (Keeps-refl _)
     ])

@@ -15,7 +15,8 @@ returns-in-Ok-clause-done g c =
     subst (λ (f : _). OnOk f.result (OnOpened (Migrates old new) f.disk))
     (sym c.of_file.ensures)
     (OnOk-one ended.result (since_opened c.in-Ok.disk.disk ended.disk.disk (Migrates old new)
-    c.in-Ok.ensures.first ended.disk.begins c.migrate_disk.ensures.keeps) c.migrate_disk.ensures.done)
+    c.in-Ok.ensures.first ended.disk.begins c.migrate_disk.ensures.keeps)
+    c.migrate_disk.ensures.done)
 
 pub returns-in-Ok-clause-refused : goal.returns-in-Ok-clause-refused
 returns-in-Ok-clause-refused g c =

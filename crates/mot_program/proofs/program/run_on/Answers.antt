@@ -3,7 +3,8 @@ use Rattle.std.proofs.KnownBytes.{Keeps-refl}
 use Rattle.std.specs.Io.KnownBytes.{Keeps}
 use Rattle.clap.specs.Words.{found_of, rows_of}
 use Rattle.mot_base.specs.declared.refusal.Refusal.{Refusal}
-use Rattle.mot_base.specs.declared.refusal.Refusal.TheVariants.{BadGeometry, OutOfMemory, WriteFault}
+use Rattle.mot_base.specs.declared.refusal.Refusal.TheVariants.{BadGeometry, OutOfMemory}
+use Rattle.mot_base.specs.declared.refusal.Refusal.TheVariants.{WriteFault}
 use Rattle.mot_program.specs.Program.{Does, DoesInPart, IsBeginningRefusal, IsRefused, IsUntold}
 use Rattle.mot_program.specs.Program.{IsUntouched, Succeeds}
 use Rattle.mot_program.specs.Program.IsRefused.{begun, no_help, no_memory, no_task, unbegun}

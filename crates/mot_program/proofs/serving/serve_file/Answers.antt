@@ -17,7 +17,8 @@ returns-in-Ok-clause-done g c =
     let ended = c.serve_disk.result in
     subst (λ (f : _). OnOk f.result (OnOpened (ServesInput remains left old new) f.disk))
     (sym c.of_file.ensures)
-    (OnOk-one ended.result (since_opened c.in-Ok.disk.disk ended.disk.disk (ServesInput remains left old new)
+    (OnOk-one ended.result (since_opened c.in-Ok.disk.disk ended.disk.disk
+    (ServesInput remains left old new)
     c.in-Ok.ensures.first ended.disk.begins c.serve_disk.ensures.keeps) c.serve_disk.ensures.done)
 
 pub returns-in-Ok-clause-refused : goal.returns-in-Ok-clause-refused
@@ -27,7 +28,8 @@ returns-in-Ok-clause-refused g c =
     let old = g.W.Write.contents c.args.writer.now in
     let new = g.W.Write.contents c.serve_disk.new.writer in
     let ended = c.serve_disk.result in
-    subst (λ (f : _). IfErr f.result (λ r. ((r ≡ DeviceFault) × IsUntold f.disk old new × Keeps remains left)
+    subst (λ (f : _). IfErr f.result
+    (λ r. ((r ≡ DeviceFault) × IsUntold f.disk old new × Keeps remains left)
     ⊎ OnOpened (StopsServing r remains left old new) f.disk)) (sym c.of_file.ensures)
     (IfErr-one ended.result (λ r p. inr (since_opened c.in-Ok.disk.disk ended.disk.disk
     (StopsServing r remains left old new) c.in-Ok.ensures.first ended.disk.begins
@@ -37,6 +39,7 @@ pub returns-in-Err-clause-refused : goal.returns-in-Err-clause-refused
 returns-in-Err-clause-refused g c =
     let remains = g.R.Read.remaining c.args.reader.now in
     let old = g.W.Write.contents c.args.writer.now in
-    subst (λ (f : _). IfErr f.result (λ r. ((r ≡ DeviceFault) × IsUntold f.disk old old × Keeps remains remains)
+    subst (λ (f : _). IfErr f.result
+    (λ r. ((r ≡ DeviceFault) × IsUntold f.disk old old × Keeps remains remains)
     ⊎ OnOpened (StopsServing r remains remains old old) f.disk)) (sym c.unopened.ensures)
     (inl (refl, record { untouched = tt; silent = Keeps-refl _ }, Keeps-refl _))

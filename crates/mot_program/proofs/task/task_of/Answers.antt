@@ -1,18 +1,18 @@
 use Rattle.clap.specs.Words.{found_of, rows_of}
-use Rattle.mot_program.proofs.Unasked.{IfNone-always, no_format, no_memory}
+use Rattle.mot_program.proofs.Unasked.{IfNone-always, format_needs_both, memory_needs_geometry}
 use Rattle.mot_program.proofs.task.task_of.Goals as goal
 
 pub returns-in_err-geometry_of-in-memory-clause-none :
     goal.returns-in_err-geometry_of-in-memory-clause-none
 returns-in_err-geometry_of-in-memory-clause-none c = IfNone-always c.from_residual.result
-    (no_memory (rows_of (found_of c.args.words.now))
+    (memory_needs_geometry (rows_of (found_of c.args.words.now))
     c.in_err-geometry_of-in-memory.ensures.none c.args.name.now (cc))
 
 pub returns-in_err-geometry_of-in-format-clause-none :
     goal.returns-in_err-geometry_of-in-format-clause-none
 returns-in_err-geometry_of-in-format-clause-none c =
     IfNone-always c.from_residual-in_err-geometry_of-in-format.result
-    (no_format (rows_of (found_of c.args.words.now))
+    (format_needs_both (rows_of (found_of c.args.words.now))
     (λ g directory gives given. c.in_err-geometry_of-in-format.ensures.none g gives)
     c.args.name.now (cc))
 
@@ -20,6 +20,6 @@ pub returns-in_err-directory_of-in-format-clause-none :
     goal.returns-in_err-directory_of-in-format-clause-none
 returns-in_err-directory_of-in-format-clause-none c =
     IfNone-always c.from_residual-in_err-directory_of-in-format.result
-    (no_format (rows_of (found_of c.args.words.now))
+    (format_needs_both (rows_of (found_of c.args.words.now))
     (λ g directory gives given. c.in_err-directory_of-in-format.ensures.none directory given)
     c.args.name.now (cc))

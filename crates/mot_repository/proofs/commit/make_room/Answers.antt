@@ -23,7 +23,8 @@ returns-then-not-is_full-clause-room g c = λ view s k is holds fold fold'.
           going = going;
           agrees = agrees;
           records = holds.records;
-          journal = subst (λ j. HoldsRecords j holds.records (state old)) (is ∙ sym is') holds.journal;
+          journal = subst (λ j. HoldsRecords j holds.records (state old)) (is ∙ sym is')
+              holds.journal;
           each = holds.each;
         },
         refl,
@@ -37,9 +38,13 @@ returns-in_default-clause-any_moment g c = λ view s k is holds fold fold'.
     let new = state c.rewrite.new.disk in
     let j = c.args.journal.now in
     let given = c.args.given.now in
-    moments view s j.layout given k j old new is holds fold (fold' (c.if-not-is_full.ensures.0 refl))
-    (c.rewrite.ensures.rewrites.any_moment holds.records (here view s j.layout given k j old new is holds fold (fold' (c.if-not-is_full.ensures.0 refl)))
-    (folds view s j.layout given k j old new is holds fold (fold' (c.if-not-is_full.ensures.0 refl))))
+    moments view s j.layout given k j old new is holds fold
+    (fold' (c.if-not-is_full.ensures.0 refl))
+    (c.rewrite.ensures.rewrites.any_moment holds.records
+    (here view s j.layout given k j old new is holds fold
+    (fold' (c.if-not-is_full.ensures.0 refl)))
+    (folds view s j.layout given k j old new is holds fold
+    (fold' (c.if-not-is_full.ensures.0 refl))))
 
 pub returns-clause-any_moment : goal.returns-clause-any_moment
 returns-clause-any_moment g c = λ view s k is holds fold fold'.
@@ -48,9 +53,13 @@ returns-clause-any_moment g c = λ view s k is holds fold fold'.
     let new = state c.rewrite.new.disk in
     let j = c.args.journal.now in
     let given = c.args.given.now in
-    moments view s j.layout given k j old new is holds fold (fold' (c.if-not-is_full.ensures.0 refl))
-    (c.rewrite.ensures.rewrites.any_moment holds.records (here view s j.layout given k j old new is holds fold (fold' (c.if-not-is_full.ensures.0 refl)))
-    (folds view s j.layout given k j old new is holds fold (fold' (c.if-not-is_full.ensures.0 refl))))
+    moments view s j.layout given k j old new is holds fold
+    (fold' (c.if-not-is_full.ensures.0 refl))
+    (c.rewrite.ensures.rewrites.any_moment holds.records
+    (here view s j.layout given k j old new is holds fold
+    (fold' (c.if-not-is_full.ensures.0 refl)))
+    (folds view s j.layout given k j old new is holds fold
+    (fold' (c.if-not-is_full.ensures.0 refl))))
 
 pub returns-clause-room : goal.returns-clause-room
 returns-clause-room g c = λ view s k is holds fold fold'.
@@ -60,12 +69,16 @@ returns-clause-room g c = λ view s k is holds fold fold'.
     let j = c.args.journal.now in
     let given = c.args.given.now in
     let sound = g.met.D.Disk.sound c.args.disk.now holds.journal.honest in
-    let was = here view s j.layout given k j old new is holds fold (fold' (c.if-not-is_full.ensures.0 refl)) in
-    let fits = folds view s j.layout given k j old new is holds fold (fold' (c.if-not-is_full.ensures.0 refl)) in
+    let was = here view s j.layout given k j old new is holds fold
+    (fold' (c.if-not-is_full.ensures.0 refl)) in
+    let fits = folds view s j.layout given k j old new is holds fold
+    (fold' (c.if-not-is_full.ensures.0 refl)) in
     record {
       list = given;
       one = inr (refl, c.if-not-is_full.ensures.0 refl);
-      holds = held view s j.layout given k j old new is holds fold (fold' (c.if-not-is_full.ensures.0 refl)) sound c.rewrite.new.self
-          (ap (λ (i : JournalView). i.geometry) c.in-Ok.ensures.rewrites.moves) (c.in-Ok.ensures.rewrites.ok holds.records was fits)
+      holds = held view s j.layout given k j old new is holds fold
+          (fold' (c.if-not-is_full.ensures.0 refl)) sound c.rewrite.new.self
+          (ap (λ (i : JournalView). i.geometry) c.in-Ok.ensures.rewrites.moves)
+          (c.in-Ok.ensures.rewrites.ok holds.records was fits)
           (c.in-Ok.ensures.rewrites.area holds.records was fits);
     }

@@ -1,12 +1,12 @@
 use Rattle.std.proofs.Common.{◌∙◌, sym, arith}
-use Rattle.mot_repository.proofs.LongestGap.{more_than_all, none_above, nothing_fits}
+use Rattle.mot_repository.proofs.LongestGap.{more_than_all, none_above, zero_bytes_fit}
 use Rattle.mot_repository.proofs.gap.longest_gap.Goals as goal
 
 pub loop-fits-init : goal.loop-fits-init
 loop-fits-init c = record {
   low = omega arith;
   high = omega arith;
-  has = nothing_fits c.args.extents.now c.args.data_len;
+  has = zero_bytes_fit c.args.extents.now c.args.data_len;
   none = λ n le. more_than_all c.args.extents.now n c.args.data_len (omega (arith, le));
 }
 

@@ -2,25 +2,34 @@ use Rattle.std.proofs.Common.{sym, ap, ◌∙◌}
 use Rattle.std.proofs.lemmas.Result.{err_from_is_err_and}
 use Rattle.mot_base.specs.declared.geometry.Geometry.{Geometry}
 use Rattle.mot_journal.specs.Catalogue.{catalogue_of}
-use Rattle.mot_repository.proofs.OpenDisk.{load_refused, fold_refused, is_in_order, with_geometry}
+use Rattle.mot_repository.proofs.OpenDisk.{load_refused, fold_refused, is_in_order}
+use Rattle.mot_repository.proofs.OpenDisk.{fold_refused_same}
 use Rattle.mot_repository.proofs.opening.load_inventory.Goals as goal
 
 pub returns-in_err-loaded-clause-refused : goal.returns-in_err-loaded-clause-refused
 returns-in_err-loaded-clause-refused g c =
     let p = err_from_is_err_and c.from_residual.result c.from_residual.ensures.1 in
-    rw (p.1, p.2) (load_refused (g.D.Disk.state c.args.disk.now) (g.D.Disk.state c.load.new.disk) c.in_err-loaded.field-0.0 c.in_err-loaded.ensures.refused)
+    rw (p.1, p.2) (load_refused (g.D.Disk.state c.args.disk.now) (g.D.Disk.state c.load.new.disk)
+    c.in_err-loaded.field-0.0 c.in_err-loaded.ensures.refused)
 
 pub returns-in_err-inventory-clause-refused : goal.returns-in_err-inventory-clause-refused
 returns-in_err-inventory-clause-refused g c =
-    let p = err_from_is_err_and c.from_residual-in_err-inventory.result c.from_residual-in_err-inventory.ensures.1 in
+    let p = err_from_is_err_and c.from_residual-in_err-inventory.result
+    c.from_residual-in_err-inventory.ensures.1 in
     rw (p.1, p.2) (fold_refused (g.D.Disk.state c.args.disk.now) (g.D.Disk.state c.load.new.disk)
-    c.in_ok-loaded.loaded.journal c.in_ok-loaded.loaded.records.items c.in_err-inventory.field-0.0 c.in_ok-loaded.ensures.loaded
-    (with_geometry c.geometry-geometry.result c.in_ok-loaded.loaded.journal.geometry c.in_ok-loaded.loaded.records.items c.in_err-inventory.field-0.0 c.geometry-geometry.ensures c.in_err-inventory.ensures.refused))
+    c.in_ok-loaded.loaded.journal c.in_ok-loaded.loaded.records.items c.in_err-inventory.field-0.0
+    c.in_ok-loaded.ensures.loaded
+    (fold_refused_same c.geometry-geometry.result c.in_ok-loaded.loaded.journal.geometry
+    c.in_ok-loaded.loaded.records.items c.in_err-inventory.field-0.0 c.geometry-geometry.ensures
+    c.in_err-inventory.ensures.refused))
 
 pub returns-clause-in_order : goal.returns-clause-in_order
 returns-clause-in_order g c =
-    is_in_order c.in_ok-loaded.loaded.journal c.in_ok-inventory.inventory.carousel c.in_ok-inventory.inventory.extents.items c.in_ok-loaded.loaded.records.items
-    (g.D.Disk.state c.args.disk.now).len c.in_ok-loaded.ensures.valid c.in_ok-loaded.ensures.long_enough c.in_ok-loaded.ensures.sound
+    is_in_order c.in_ok-loaded.loaded.journal c.in_ok-inventory.inventory.carousel
+    c.in_ok-inventory.inventory.extents.items c.in_ok-loaded.loaded.records.items
+    (g.D.Disk.state c.args.disk.now).len c.in_ok-loaded.ensures.valid
+    c.in_ok-loaded.ensures.long_enough c.in_ok-loaded.ensures.sound
     c.in_ok-inventory.ensures.short
-    (ap (λ (x : Geometry). catalogue_of x.objects c.in_ok-loaded.loaded.records.items) (sym c.geometry-geometry.ensures) ∙ c.in_ok-inventory.ensures.folded)
+    (ap (λ (x : Geometry). catalogue_of x.objects c.in_ok-loaded.loaded.records.items)
+    (sym c.geometry-geometry.ensures) ∙ c.in_ok-inventory.ensures.folded)
     c.in_ok-inventory.inventory.paired c.in_ok-loaded.ensures.going

@@ -4,22 +4,26 @@ use Rattle.mot_repository.specs.Answers.{IsRefusal}
 use Rattle.mot_repository.specs.Outcome.{has_long_name, start_of}
 use Rattle.mot_repository.specs.Prepared.{view_with}
 use Rattle.mot_repository.specs.Repository.{RepositoryView}
-use Rattle.mot_repository.proofs.Planned.{name_refused, plan_refused, room_refused, IsWorkedOut, prepared_is, kept_after}
+use Rattle.mot_repository.proofs.Planned.{name_refused, plan_refused, room_refused, IsWorkedOut}
+use Rattle.mot_repository.proofs.Planned.{prepared_is, kept_after}
 use Rattle.mot_repository.proofs.prepared.prepare_change.Goals as goal
 
 pub returns-then-is_name_too_long-clause-refused : goal.returns-then-is_name_too_long-clause-refused
 returns-then-is_name_too_long-clause-refused c = λ view k going.
     name_refused view c.args.command.now going
-    (ap (λ l. has_long_name l c.args.command.now) k.layout_is ∙ sym c.is_name_too_long.ensures ∙ c.if-is_name_too_long.true)
+    (ap (λ l. has_long_name l c.args.command.now) k.layout_is ∙ sym c.is_name_too_long.ensures
+    ∙ c.if-is_name_too_long.true)
 
 pub returns-in_err-change-clause-refused : goal.returns-in_err-change-clause-refused
 returns-in_err-change-clause-refused c = λ view k going.
     let geometry : view.journal.geometry ≡ c.args.geometry.now = k.geometry_is in
     let carousel : view.carousel ≡ c.args.inventory.now.carousel = k.carousel_is in
     let short : has_long_name view.journal.layout c.args.command.now ≡ false =
-    ap (λ l. has_long_name l c.args.command.now) k.layout_is ∙ sym c.is_name_too_long.ensures ∙ c.if-is_name_too_long.false in
+    ap (λ l. has_long_name l c.args.command.now) k.layout_is ∙ sym c.is_name_too_long.ensures
+    ∙ c.if-is_name_too_long.false in
     let p = err_from_is_err_and c.from_residual.result c.from_residual.ensures.1 in
-    rw (p.1, p.2) (plan_refused view c.args.command.now going c.in_err-change.field-0.0 short (rw (geometry, carousel) c.in_err-change.ensures.planned))
+    rw (p.1, p.2) (plan_refused view c.args.command.now going c.in_err-change.field-0.0 short
+    (rw (geometry, carousel) c.in_err-change.ensures.planned))
 
 pub returns-in_default-clause-refused : goal.returns-in_default-clause-refused
 returns-in_default-clause-refused c = λ view k going.
@@ -27,45 +31,61 @@ returns-in_default-clause-refused c = λ view k going.
     let carousel : view.carousel ≡ c.args.inventory.now.carousel = k.carousel_is in
     let extents : view.extents ≡ c.args.inventory.now.extents.items = k.extents_are in
     let short : has_long_name view.journal.layout c.args.command.now ≡ false =
-    ap (λ l. has_long_name l c.args.command.now) k.layout_is ∙ sym c.is_name_too_long.ensures ∙ c.if-is_name_too_long.false in
+    ap (λ l. has_long_name l c.args.command.now) k.layout_is ∙ sym c.is_name_too_long.ensures
+    ∙ c.if-is_name_too_long.false in
     let nowhere : start_of view.extents view.journal.geometry.data_area c.args.command.now ≡ None =
-    rw geometry (ap (λ l. start_of l c.args.geometry.now.data_area c.args.command.now) (extents ∙ sym c.deref.ensures.value)
+    rw geometry (ap (λ l. start_of l c.args.geometry.now.data_area c.args.command.now)
+    (extents ∙ sym c.deref.ensures.value)
     ∙ sym c.in_ok-start.ensures ∙ c.in_default.is) in
-    room_refused view c.args.command.now going c.in_ok-change.change.next c.in_ok-change.change.done short
+    room_refused view c.args.command.now going c.in_ok-change.change.next c.in_ok-change.change.done
+    short
     (rw (geometry, carousel) c.in_ok-change.ensures.planned) nowhere
 
 pub returns-in_err-start-clause-refused : goal.returns-in_err-start-clause-refused
 returns-in_err-start-clause-refused c = λ view k going.
     let short : has_long_name view.journal.layout c.args.command.now ≡ false =
-    ap (λ l. has_long_name l c.args.command.now) k.layout_is ∙ sym c.is_name_too_long.ensures ∙ c.if-is_name_too_long.false in
-    let p = err_from_is_err_and c.from_residual-in_err-start.result c.from_residual-in_err-start.ensures.1 in
+    ap (λ l. has_long_name l c.args.command.now) k.layout_is ∙ sym c.is_name_too_long.ensures
+    ∙ c.if-is_name_too_long.false in
+    let p = err_from_is_err_and c.from_residual-in_err-start.result
+    c.from_residual-in_err-start.ensures.1 in
     rw p.1 (IsRefusal.no_memory going short p.2)
 
 pub returns-in_err-extents-clause-refused : goal.returns-in_err-extents-clause-refused
 returns-in_err-extents-clause-refused c = λ view k going.
     let short : has_long_name view.journal.layout c.args.command.now ≡ false =
-    ap (λ l. has_long_name l c.args.command.now) k.layout_is ∙ sym c.is_name_too_long.ensures ∙ c.if-is_name_too_long.false in
-    let p = err_from_is_err_and c.from_residual-in_err-extents.result c.from_residual-in_err-extents.ensures.1 in
+    ap (λ l. has_long_name l c.args.command.now) k.layout_is ∙ sym c.is_name_too_long.ensures
+    ∙ c.if-is_name_too_long.false in
+    let p = err_from_is_err_and c.from_residual-in_err-extents.result
+    c.from_residual-in_err-extents.ensures.1 in
     rw p.1 (IsRefusal.no_memory going short p.2)
 
 pub invariant_of-result : goal.invariant_of-result
 invariant_of-result c =
     let old = c.args.inventory.now in
     let view : RepositoryView =
-    view_with (record { geometry = c.args.geometry.now; half = 0; layout = c.args.layout; count = 0; spent = false }) old.carousel old.extents.items false in
-    let is : IsWorkedOut view c.args.command.now c.in_ok-change.change.next c.in_ok-change.change.done c.in-Some.start c.in_ok-record.record = record {
+    view_with (record {
+      geometry = c.args.geometry.now;
+      half = 0;
+      layout = c.args.layout;
+      count = 0;
+      spent = false;
+    }) old.carousel old.extents.items false in
+    let is : IsWorkedOut view c.args.command.now c.in_ok-change.change.next
+    c.in_ok-change.change.done c.in-Some.start c.in_ok-record.record = record {
       valid = c.requires.valid;
       whole = c.requires.whole;
       paired = old.paired;
       short = sym c.is_name_too_long.ensures ∙ c.if-is_name_too_long.false;
       changes = c.in_ok-change.ensures.planned;
-      lies = ap (λ l. start_of l c.args.geometry.now.data_area c.args.command.now) (sym c.deref.ensures.value) ∙ sym c.in_ok-start.ensures ∙ c.in-Some.is;
+      lies = ap (λ l. start_of l c.args.geometry.now.data_area c.args.command.now)
+          (sym c.deref.ensures.value) ∙ sym c.in_ok-start.ensures ∙ c.in-Some.is;
       record_is = c.in_ok-record.ensures.made;
       typed = c.in_ok-record.ensures.typed;
     } in
     record {
       paired = rw c.in_ok-extents.ensures
-          (kept_after view c.args.command.now c.in_ok-change.change.next c.in_ok-change.change.done c.in-Some.start c.in_ok-record.record is).paired;
+          (kept_after view c.args.command.now c.in_ok-change.change.next c.in_ok-change.change.done
+          c.in-Some.start c.in_ok-record.record is).paired;
     }
 
 pub returns-clause-prepared : goal.returns-clause-prepared
@@ -74,16 +94,21 @@ returns-clause-prepared c = λ view k told.
     let layout : view.journal.layout ≡ c.args.layout = k.layout_is in
     let carousel : view.carousel ≡ c.args.inventory.now.carousel = k.carousel_is in
     let extents : view.extents ≡ c.args.inventory.now.extents.items = k.extents_are in
-    let is : IsWorkedOut view c.args.command.now c.in_ok-change.change.next c.in_ok-change.change.done c.in-Some.start c.in_ok-record.record = record {
+    let is : IsWorkedOut view c.args.command.now c.in_ok-change.change.next
+    c.in_ok-change.change.done c.in-Some.start c.in_ok-record.record = record {
       valid = rw geometry c.requires.valid;
       whole = rw (geometry, layout, carousel, extents) c.requires.whole;
       paired = rw (carousel, extents) c.args.inventory.now.paired;
-      short = ap (λ l. has_long_name l c.args.command.now) layout ∙ sym c.is_name_too_long.ensures ∙ c.if-is_name_too_long.false;
+      short = ap (λ l. has_long_name l c.args.command.now) layout ∙ sym c.is_name_too_long.ensures
+          ∙ c.if-is_name_too_long.false;
       changes = rw (geometry, carousel) c.in_ok-change.ensures.planned;
-      lies = rw geometry (ap (λ l. start_of l c.args.geometry.now.data_area c.args.command.now) (extents ∙ sym c.deref.ensures.value)
+      lies = rw geometry (ap (λ l. start_of l c.args.geometry.now.data_area c.args.command.now)
+          (extents ∙ sym c.deref.ensures.value)
           ∙ sym c.in_ok-start.ensures ∙ c.in-Some.is);
       record_is = rw carousel c.in_ok-record.ensures.made;
       typed = c.in_ok-record.ensures.typed;
     } in
-    prepared_is view c.args.command.now _ c.in-Some.start is (λ full. rw (carousel, extents) (c.in_ok-given.ensures (told full))) (rw geometry c.place_in_area.ensures)
+    prepared_is view c.args.command.now _ c.in-Some.start is
+    (λ full. rw (carousel, extents) (c.in_ok-given.ensures (told full)))
+    (rw geometry c.place_in_area.ensures)
     c.body_bytes.ensures (rw (carousel, extents) c.in_ok-extents.ensures)

@@ -12,11 +12,16 @@ returns-clause-begins g c = λ honest none left.
     let time = c.format-formatted.ensures.any_moment honest none in
     ⊎_elim
     (λ magic. if_ok _ _ c.restart-restarted.result
-    (λ r opened still_honest. absurd (not_opened first (g.E.Disk.state r.server.disk) r.server.view magic (opened still_honest))) opens.opened)
+    (λ r opened still_honest.
+    absurd (not_opened first (g.E.Disk.state r.server.disk) r.server.view magic
+    (opened still_honest))) opens.opened)
     (λ made.
-    let image : IsOf (new_standing c.args.geometry.now) first.bytes = record { stands = made.0; clean = made.1 } in
-    if_both_ok _ _ _ c.restart-restarted.result (λ r holds reads still_honest. (holds still_honest, reads still_honest))
-    (opens.holds (new_standing c.args.geometry.now) image) (opens.reads (new_standing c.args.geometry.now) image))
+    let image : IsOf (new_standing c.args.geometry.now) first.bytes =
+    record { stands = made.0; clean = made.1 } in
+    if_both_ok _ _ _ c.restart-restarted.result
+    (λ r holds reads still_honest. (holds still_honest, reads still_honest))
+    (opens.holds (new_standing c.args.geometry.now) image)
+    (opens.reads (new_standing c.args.geometry.now) image))
     (time.each first.bytes left)
 
 pub returns-clause-histories : goal.returns-clause-histories

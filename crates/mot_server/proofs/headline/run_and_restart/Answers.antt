@@ -1,7 +1,8 @@
 use Rattle.std.proofs.Common.{[], ◌++◌}
 use Rattle.mot_server.specs.History.{one_more}
 use Rattle.mot_server.specs.Runs.{accepted_commands, commands_in_flight}
-use Rattle.mot_server.proofs.Survival.{after_history, after_history_none, passing, if_both_ok, if_ok, if_err}
+use Rattle.mot_server.proofs.Survival.{after_history, after_history_none, passing, if_both_ok}
+use Rattle.mot_server.proofs.Survival.{if_ok, if_err}
 use Rattle.mot_server.proofs.Histories.{goes_on}
 use Rattle.mot_server.proofs.headline.run_and_restart.Goals as goal
 
@@ -10,7 +11,8 @@ returns-clause-headline g c = λ s now acknowledged history holds left.
     let leaves = c.run-end.ensures.leaves now holds in
     let stands = leaves.any_moment.each (g.E.Disk.state c.args.left).bytes left in
     let first = accepted_commands c.args.commands.now c.run-end.result.done.items in
-    let flight = commands_in_flight c.args.commands.now c.run-end.result.done.items c.run-end.result.fault in
+    let flight = commands_in_flight c.args.commands.now c.run-end.result.done.items
+    c.run-end.result.fault in
     if_both_ok _ _ _ c.restart-restarted.result (λ r opened reads honest. (
       stands.last,
       after_history_none s now stands.last acknowledged (first ++ flight) history stands.after,
@@ -26,7 +28,8 @@ returns-clause-acknowledged g c = λ s now acknowledged history holds left.
     let leaves = c.run-end.ensures.leaves now holds in
     let stands = leaves.at_end (g.E.Disk.state c.args.left).bytes left in
     let first = accepted_commands c.args.commands.now c.run-end.result.done.items in
-    let flight = commands_in_flight c.args.commands.now c.run-end.result.done.items c.run-end.result.fault in
+    let flight = commands_in_flight c.args.commands.now c.run-end.result.done.items
+    c.run-end.result.fault in
     if_both_ok _ _ _ c.restart-restarted.result (λ r opened reads honest. (
       stands.last,
       after_history s now stands.last acknowledged first flight history stands.after,
@@ -56,7 +59,8 @@ returns-clause-opens g c = λ now holds left.
     let leaves = c.run-end.ensures.leaves now holds in
     let stands = leaves.any_moment.each (g.E.Disk.state c.args.left).bytes left in
     if_err _ _ c.restart-restarted.result
-    (λ e why honest. passing (g.E.Disk.state c.args.left) (g.E.Disk.state e.disk) stands.last e.refusal honest stands.image_is why)
+    (λ e why honest. passing (g.E.Disk.state c.args.left) (g.E.Disk.state e.disk) stands.last
+    e.refusal honest stands.image_is why)
     c.restart-restarted.ensures.refused
 
 pub returns-clause-in_a_row_after : goal.returns-clause-in_a_row_after

@@ -11,16 +11,20 @@ returns-clause-holds g c = λ honest.
     let formatted = c.format.new.disk in
     let server = c.in_ok-server.server in
     let was = opens.only_syncs.keeps.was_honest honest in
-    let made = c.in_default.ensures.ok was (state formatted).bytes (g.met.D.Disk.sound formatted was).bytes in
-    opened_holds (state formatted) (state server.disk) server.view (new_standing c.args.geometry.now)
-    (record { stands = made.0; clean = made.1 }) (opens.opened honest) honest (g.met.D.Disk.sound server.disk honest) (opens.only_syncs.still honest) opens.going
+    let made = c.in_default.ensures.ok was (state formatted).bytes
+    (g.met.D.Disk.sound formatted was).bytes in
+    opened_holds (state formatted) (state server.disk) server.view
+    (new_standing c.args.geometry.now)
+    (record { stands = made.0; clean = made.1 }) (opens.opened honest) honest
+    (g.met.D.Disk.sound server.disk honest) (opens.only_syncs.still honest) opens.going
 
 pub returns-clause-any_moment : goal.returns-clause-any_moment
 returns-clause-any_moment g c = λ honest blank.
     let state = g.D.Disk.state in
     let opens = c.in_ok-server.ensures in
     let was = opens.only_syncs.keeps.was_honest honest in
-    stays (state c.args.disk) (state c.format.new.disk) (state c.in_ok-server.server.disk) (NoneOrNew c.args.geometry.now)
+    stays (state c.args.disk) (state c.format.new.disk) (state c.in_ok-server.server.disk)
+    (NoneOrNew c.args.geometry.now)
     (c.in_default.ensures.any_moment was blank) (opens.only_syncs.still honest).time
 
 pub returns-clause-begins : goal.returns-clause-begins

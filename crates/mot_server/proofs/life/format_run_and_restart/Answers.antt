@@ -15,18 +15,22 @@ returns-clause-headline g c = λ honest blank left.
     let result = c.first_turn-after_crash.result in
     let reads = c.first_turn-after_crash.ensures.reads in
     let done = c.run-end.result.done.items in
-    let all = accepted_commands c.args.commands.now done ++ commands_in_flight c.args.commands.now done c.run-end.result.fault in
+    let all = accepted_commands c.args.commands.now done
+    ++ commands_in_flight c.args.commands.now done c.run-end.result.fault in
     let run_honest = subst (λ d. (state d).IsHonest) c.into_disk.ensures honest in
     let open_honest = run.keeps.frame.was_honest run_honest in
     let time = opens.any_moment open_honest blank in
     let leaves = run.leaves (new_standing c.args.geometry.now) (opens.holds open_honest) in
     ⊎_elim
-    (λ old. plays_new result (λ a. (g.E.Disk.state a.disk).IsHonest) (λ a. bytes_of_packets a.packets.items) c.args.geometry.now first.bytes reads
+    (λ old. plays_new result (λ a. (g.E.Disk.state a.disk).IsHonest)
+    (λ a. bytes_of_packets a.packets.items) c.args.geometry.now first.bytes reads
     all c.first_turn-after_crash.ensures.blank (time.each first.bytes old))
-    (λ stands. plays_after result (λ a. (g.E.Disk.state a.disk).IsHonest) (λ a. bytes_of_packets a.packets.items) c.args.geometry.now first.bytes reads
+    (λ stands. plays_after result (λ a. (g.E.Disk.state a.disk).IsHonest)
+    (λ a. bytes_of_packets a.packets.items) c.args.geometry.now first.bytes reads
     [] all stands)
     (leaves.any_moment.before (state c.args.disk).moment first.bytes time.later
-    (subst (λ d. (state d).LeftSince (state c.args.disk).moment first.bytes) c.into_disk.ensures left))
+    (subst (λ d. (state d).LeftSince (state c.args.disk).moment first.bytes) c.into_disk.ensures
+    left))
 
 pub returns-clause-acknowledged : goal.returns-clause-acknowledged
 returns-clause-acknowledged g c = λ honest left.
@@ -35,11 +39,15 @@ returns-clause-acknowledged g c = λ honest left.
     let done = c.run-end.result.done.items in
     let run_honest = subst (λ d. (state d).IsHonest) c.into_disk.ensures honest in
     let open_honest = c.run-end.ensures.keeps.frame.was_honest run_honest in
-    let leaves = c.run-end.ensures.leaves (new_standing c.args.geometry.now) (c.in_ok-server.ensures.holds open_honest) in
-    plays_after c.first_turn-after_crash.result (λ a. (g.E.Disk.state a.disk).IsHonest) (λ a. bytes_of_packets a.packets.items)
+    let leaves = c.run-end.ensures.leaves (new_standing c.args.geometry.now)
+    (c.in_ok-server.ensures.holds open_honest) in
+    plays_after c.first_turn-after_crash.result (λ a. (g.E.Disk.state a.disk).IsHonest)
+    (λ a. bytes_of_packets a.packets.items)
     c.args.geometry.now first.bytes c.first_turn-after_crash.ensures.reads
-    (accepted_commands c.args.commands.now done) (commands_in_flight c.args.commands.now done c.run-end.result.fault)
-    (leaves.at_end first.bytes (subst (λ d. (state d).MayLeave first.bytes) c.into_disk.ensures left))
+    (accepted_commands c.args.commands.now done)
+    (commands_in_flight c.args.commands.now done c.run-end.result.fault)
+    (leaves.at_end first.bytes
+    (subst (λ d. (state d).MayLeave first.bytes) c.into_disk.ensures left))
 
 pub returns-clause-opens : goal.returns-clause-opens
 returns-clause-opens g c = λ honest left.
@@ -47,8 +55,11 @@ returns-clause-opens g c = λ honest left.
     let first = g.E.Disk.state c.args.left in
     let run_honest = subst (λ d. (state d).IsHonest) c.into_disk.ensures honest in
     let open_honest = c.run-end.ensures.keeps.frame.was_honest run_honest in
-    let leaves = c.run-end.ensures.leaves (new_standing c.args.geometry.now) (c.in_ok-server.ensures.holds open_honest) in
-    let stands = leaves.at_end first.bytes (subst (λ d. (state d).MayLeave first.bytes) c.into_disk.ensures left) in
+    let leaves = c.run-end.ensures.leaves (new_standing c.args.geometry.now)
+    (c.in_ok-server.ensures.holds open_honest) in
+    let stands = leaves.at_end first.bytes
+    (subst (λ d. (state d).MayLeave first.bytes) c.into_disk.ensures left) in
     if_err _ _ c.first_turn-after_crash.result
-    (λ e why e_honest. passing first (g.E.Disk.state e.disk) stands.last e.refusal e_honest stands.image_is why)
+    (λ e why e_honest. passing first (g.E.Disk.state e.disk) stands.last e.refusal e_honest
+    stands.image_is why)
     c.first_turn-after_crash.ensures.refused

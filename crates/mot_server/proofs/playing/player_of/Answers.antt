@@ -5,9 +5,9 @@ use Rattle.mot_base.specs.declared.geometry.Geometry.{Geometry}
 use Rattle.mot_carousel.specs.Stands.{AreBodiesOf, carousel_of}
 use Rattle.mot_carousel.specs.declared.carousel.Carousel.{Carousel}
 use Rattle.mot_player.specs.Place.{opened_place}
-use Rattle.mot_player.specs.Standing.{AreBodiesFor, Standing, place_of, turn_of}
+use Rattle.mot_player.specs.PlayerView.{AreBodiesFor, PlayerView, place_of, turn_with}
 use Rattle.mot_player.specs.Turn.{turn_of_carousel}
-use Rattle.mot_server.specs.Inner.Plays.{Plays}
+use Rattle.mot_server.specs.Inner.Plays.{PlaysCarousel}
 use Rattle.mot_server.proofs.Turns.{if_ok_both, opened_at, plays_of, plays_same}
 use Rattle.mot_server.proofs.playing.player_of.Goals as goal
 
@@ -17,10 +17,14 @@ returns-clause-plays g c =
     let plan = c.in_ok-turn.turn in
     let size = c.size_of_segments-size.result in
     let is = c.in_ok-turn.ensures in
-    if_ok_both c.new.result (λ (p : Standing). p.turn ≡ plan) (λ (p : Standing). p.segment_size ≡ size)
-    (λ (p : Standing). Plays view.carousel view.journal.geometry.segment_size p)
-    (λ (p : Standing) same sized. plays_same c.carousel.result.now view.carousel size view.journal.geometry.segment_size p c.carousel.ensures.value
-    (c.size_of_segments-size.ensures ∙ ap (λ (k : Geometry). k.segment_size) c.geometry-geometry.ensures.value)
+    if_ok_both c.new.result (λ (p : PlayerView). p.turn ≡ plan)
+    (λ (p : PlayerView). p.segment_size ≡ size)
+    (λ (p : PlayerView). PlaysCarousel view.carousel view.journal.geometry.segment_size p)
+    (λ (p : PlayerView) same sized.
+    plays_same c.carousel.result.now view.carousel size view.journal.geometry.segment_size p
+    c.carousel.ensures.value
+    (c.size_of_segments-size.ensures
+    ∙ ap (λ (k : Geometry). k.segment_size) c.geometry-geometry.ensures.value)
     (plays_of c.carousel.result.now size plan p same sized is.bodies is.exact is.turn))
     c.new.ensures.turn c.new.ensures.size
 
@@ -33,13 +37,18 @@ returns-clause-opened g c =
     let is = c.in_ok-turn.ensures in
     let address = c.address_of_packets-address.result in
     let room = room_of c.length_of_packets-length.result in
-    if_ok_both c.new.result (λ (p : Standing). p.turn ≡ plan)
-    (λ (p : Standing). (bodies : List (List ℕ)) → AreBodiesFor plan bodies → place_of p bodies ≡ opened_place address room size (turn_of plan bodies))
-    (λ (p : Standing). (bodies : List (List ℕ)) → AreBodiesOf view.carousel bodies
-    → place_of p bodies ≡ opened_place h.address (packet_room h) h.segment_size (turn_of_carousel (carousel_of view.carousel bodies) h.segment_size))
-    (λ (p : Standing) same opened. λ bodies are.
-    let are' : AreBodiesOf c.carousel.result.now bodies = subst (λ (k : Carousel). AreBodiesOf k bodies) (sym c.carousel.ensures.value) are in
-    opened_at c.geometry-geometry.result h c.carousel.result.now view.carousel plan p bodies address room size
-    c.geometry-geometry.ensures.value c.carousel.ensures.value c.address_of_packets-address.ensures c.length_of_packets-length.ensures
+    if_ok_both c.new.result (λ (p : PlayerView). p.turn ≡ plan)
+    (λ (p : PlayerView). (bodies : List (List ℕ)) → AreBodiesFor plan bodies
+    → place_of p bodies ≡ opened_place address room size (turn_with plan bodies))
+    (λ (p : PlayerView). (bodies : List (List ℕ)) → AreBodiesOf view.carousel bodies
+    → place_of p bodies ≡ opened_place h.address (packet_room h) h.segment_size
+    (turn_of_carousel (carousel_of view.carousel bodies) h.segment_size))
+    (λ (p : PlayerView) same opened. λ bodies are.
+    let are' : AreBodiesOf c.carousel.result.now bodies =
+    subst (λ (k : Carousel). AreBodiesOf k bodies) (sym c.carousel.ensures.value) are in
+    opened_at c.geometry-geometry.result h c.carousel.result.now view.carousel plan p bodies address
+    room size
+    c.geometry-geometry.ensures.value c.carousel.ensures.value c.address_of_packets-address.ensures
+    c.length_of_packets-length.ensures
     c.size_of_segments-size.ensures (opened bodies (is.bodies bodies are')) (is.exact bodies are'))
     c.new.ensures.turn c.new.ensures.opened

@@ -12,7 +12,8 @@ returns-in-Ok-clause-decides g c = λ s stands honest.
     let step = run.ok s holds in
     Answers-accepted c.args.server.now c.execute.new.self s (state c.args.server.now.disk)
     (state c.execute.new.self.disk) c.args.command.now stands
-    run.keeps.frame.later (run.any_moment s) c.in-Ok.done run.answered run.going step.0 step.1 step.2
+    run.keeps.frame.later (run.any_moment s) c.in-Ok.done run.answered run.going step.0 step.1
+    step.2
     (run.place s step.0 stands.agrees step.2.agrees)
 
 pub returns-in-Ok-clause-crosses : goal.returns-in-Ok-clause-crosses

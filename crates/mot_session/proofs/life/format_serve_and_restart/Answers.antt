@@ -15,10 +15,13 @@ returns-clause-told g c = λ honest.
     let g0 = c.args.geometry.now in
     let now_honest = subst (λ d. (state d).IsHonest) c.into_disk.ensures honest in
     let open_honest = serve.keeps.was_honest now_honest in
-    let all = served_so state g.met.D.Disk.sound (new_standing g0) [] (new_standing g0) (after_none (new_standing g0))
-    opened new c.args.reads (g.R.Read.remaining c.args.reader.now) (g.R.Read.remaining c.serve-end.new.reader)
+    let all = served_so state g.met.D.Disk.sound (new_standing g0) [] (new_standing g0)
+    (after_none (new_standing g0))
+    opened new c.args.reads (g.R.Read.remaining c.args.reader.now)
+    (g.R.Read.remaining c.serve-end.new.reader)
     (g.W.Write.contents c.args.writer.now) (g.W.Write.contents c.serve-end.new.writer)
-    c.serve-end.result.lines c.serve-end.result.fault now_honest (c.in_ok-server.ensures.holds open_honest)
+    c.serve-end.result.lines c.serve-end.result.fault now_honest
+    (c.in_ok-server.ensures.holds open_honest)
     serve.faults
     (λ is. let e = serve.ended is in (e.0, e.1, e.3, e.5))
     (λ is. let e = serve.unread is in (e.0, e.1, e.2, e.4))
@@ -31,13 +34,18 @@ returns-clause-told g c = λ honest.
       all.2,
       all.3,
       all.5,
-      λ blank. life_kept result (λ a. (g.E.Disk.state a.disk).IsHonest) (λ a. bytes_of_packets a.packets.items) g0
-          first.bytes reads (state new.disk) (state opened.disk) opened.view.halted all.4 all.2 all.3 all.6
+      λ blank. life_kept result (λ a. (g.E.Disk.state a.disk).IsHonest)
+          (λ a. bytes_of_packets a.packets.items) g0
+          first.bytes reads (state new.disk) (state opened.disk) opened.view.halted all.4 all.2
+          all.3 all.6
           (state c.args.disk) (λ t. (state c.into_disk.result).LeftSince t first.bytes)
           (λ t since. subst (λ d. (state d).LeftSince t first.bytes) c.into_disk.ensures since)
-          c.first_turn-after_crash.ensures.blank (c.in_ok-server.ensures.any_moment open_honest blank),
-      λ may. life_after result (λ a. (g.E.Disk.state a.disk).IsHonest) (λ a. bytes_of_packets a.packets.items) g0
-          first.bytes reads (state new.disk) (state opened.disk) opened.view.halted all.4 all.2 all.3 all.6
+          c.first_turn-after_crash.ensures.blank
+          (c.in_ok-server.ensures.any_moment open_honest blank),
+      λ may. life_after result (λ a. (g.E.Disk.state a.disk).IsHonest)
+          (λ a. bytes_of_packets a.packets.items) g0
+          first.bytes reads (state new.disk) (state opened.disk) opened.view.halted all.4 all.2
+          all.3 all.6
           (subst (λ d. (state d).MayLeave first.bytes) c.into_disk.ensures may),
     )
 
@@ -48,16 +56,20 @@ returns-clause-opens g c = λ honest may.
     let serve = c.serve-end.ensures in
     let g0 = c.args.geometry.now in
     let now_honest = subst (λ d. (state d).IsHonest) c.into_disk.ensures honest in
-    let all = served_so state g.met.D.Disk.sound (new_standing g0) [] (new_standing g0) (after_none (new_standing g0))
+    let all = served_so state g.met.D.Disk.sound (new_standing g0) [] (new_standing g0)
+    (after_none (new_standing g0))
     c.in_ok-server.server c.serve-end.new.server c.args.reads (g.R.Read.remaining c.args.reader.now)
     (g.R.Read.remaining c.serve-end.new.reader) (g.W.Write.contents c.args.writer.now)
-    (g.W.Write.contents c.serve-end.new.writer) c.serve-end.result.lines c.serve-end.result.fault now_honest
+    (g.W.Write.contents c.serve-end.new.writer) c.serve-end.result.lines c.serve-end.result.fault
+    now_honest
     (c.in_ok-server.ensures.holds (serve.keeps.was_honest now_honest)) serve.faults
     (λ is. let e = serve.ended is in (e.0, e.1, e.3, e.5))
     (λ is. let e = serve.unread is in (e.0, e.1, e.2, e.4))
     (λ is. let e = serve.unwritten is in (e.0, e.1, some_of e.2))
     serve.none in
-    let stands = all.6.at_end first.bytes (subst (λ d. (state d).MayLeave first.bytes) c.into_disk.ensures may) in
+    let stands = all.6.at_end first.bytes
+    (subst (λ d. (state d).MayLeave first.bytes) c.into_disk.ensures may) in
     if_err _ _ c.first_turn-after_crash.result
-    (λ e why e_honest. passing first (g.E.Disk.state e.disk) stands.last e.refusal e_honest stands.image_is why)
+    (λ e why e_honest. passing first (g.E.Disk.state e.disk) stands.last e.refusal e_honest
+    stands.image_is why)
     c.first_turn-after_crash.ensures.refused

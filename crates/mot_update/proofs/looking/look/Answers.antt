@@ -1,13 +1,13 @@
 use Rattle.std.proofs.Common.{◌∙◌, ℕ, List, refl, sym, ap, subst}
 use Rattle.mot_carousel.specs.declared.carousel.Carousel.{Carousel}
-use Rattle.mot_update.specs.HasRun.{fault_of}
+use Rattle.mot_server.specs.Attempts.{fault_of}
 use Rattle.mot_update.specs.Looking.{HasSettled, withdraw_all, unknown_names}
-use Rattle.mot_update.specs.Told.{Tells}
+use Rattle.mot_update.specs.Told.{TellsMore}
 use Rattle.mot_update.proofs.Answers.{tells_nil, tells_trans}
 use Rattle.mot_update.proofs.Looks.{err_of, gives_nil, look_cut, look_on, withdrawals-are}
 use Rattle.mot_update.proofs.Looks.{withdrew_cut, withdrew_none}
 use Rattle.mot_update.proofs.Runs.{same_error}
-use Rattle.mot_update.proofs.Still.{stays_same}
+use Rattle.disk_store.proofs.Laws.{unchanged_none}
 use Rattle.mot_update.proofs.looking.look.Goals as goal
 
 pub returns-in_err-names-clause-looked : goal.returns-in_err-names-clause-looked
@@ -20,12 +20,12 @@ returns-in_err-names-clause-looked g c = λ s holds honest.
     let sound = g.met.D.Disk.sound old.disk honest in
     let e = err_of c.from_residual.result c.from_residual.ensures.0 in
     let fine = g.S.Source.is_fine c.args.source.now in
-    let none = withdrew_none old state s fine sound honest (stays_same state) holds in
+    let none = withdrew_none old state s fine sound honest (unchanged_none state) holds in
     rw e.1 (
       look_cut old old state state s names gone (g.S.Source.place c.args.source.now) given given
           fine e.0 (withdrawals-are names old.view s holds.agrees) (gives_nil given)
           (withdrew_cut old old state state s gone 0 fine none e.0 sound honest
-          (stays_same state)),
+          (unchanged_none state)),
       tells_nil (g.S.Source.was_told c.args.source.now),
     )
 
@@ -74,7 +74,8 @@ returns-clause-looked g c = λ s holds honest.
     (settled : HasSettled mid new (state mid.disk) (state new.disk) t names place
     (given c.withdraw_these.new.source) (given c.settle_all.new.source)
     (g.S.Source.is_fine c.settle_all.new.source) (fault_of c.settle_all.result))
-    × Tells (told c.withdraw_these.new.source) (told c.settle_all.new.source) settled.runs.answers in
+    × TellsMore (told c.withdraw_these.new.source) (told c.settle_all.new.source)
+    settled.runs.answers in
     let settled : Settles names (g.S.Source.place c.args.source.now) =
     subst (Settles names) one.stays
     (subst (λ n. Settles n (g.S.Source.place c.withdraw_these.new.source)) one.same

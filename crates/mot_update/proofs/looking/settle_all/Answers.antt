@@ -1,14 +1,14 @@
 use Rattle.std.proofs.Common.{◌≡◌, ◌∙◌, ◌≤◌, ◌<◌, length, Ok, Some, refl, sym, subst}
 use Rattle.std.specs.Prelude.{slice_get}
 use Rattle.disk_store.proofs.Laws.{keeps_none, keeps_on}
-use Rattle.mot_update.specs.HasRun.{marks_of}
-use Rattle.mot_update.specs.Told.{AreAnswers, Tells, answers_of}
+use Rattle.mot_update.specs.HasRun.{marks_of_settling}
+use Rattle.mot_update.specs.Told.{AreAnswers, TellsMore, answers_of}
 use Rattle.mot_update.proofs.Answers.{answers-settled, tells_kept, tells_nil, tells_on, tells_trans}
 use Rattle.mot_update.proofs.Faults.{calm_here, calm_on, fault_on}
 use Rattle.mot_update.proofs.Looks.{accepted_settled, gives_nil, settled_all, settled_fault}
 use Rattle.mot_update.proofs.Looks.{settled_more, settled_none}
 use Rattle.mot_update.proofs.Runs.{same_error}
-use Rattle.mot_update.proofs.Still.{stays_same}
+use Rattle.disk_store.proofs.Laws.{unchanged_none}
 use Rattle.mot_update.proofs.looking.settle_all.Goals as goal
 
 pub loop-wanted-init : goal.loop-wanted-init
@@ -22,7 +22,7 @@ loop-wanted-init g c =
         settled_none c.args.server.now state s (g.S.Source.names c.args.source.now)
             (g.S.Source.place c.args.source.now) (g.S.Source.given c.args.source.now)
             (g.S.Source.is_fine c.args.source.now)
-            (g.met.D.Disk.sound c.args.server.now.disk honest) honest (stays_same state) holds,
+            (g.met.D.Disk.sound c.args.server.now.disk honest) honest (unchanged_none state) holds,
         tells_nil (g.S.Source.was_told c.args.source.now),
       );
       fine = λ e. e;
@@ -127,10 +127,10 @@ loop-wanted-preserved g c =
                   subst (λ p. n.0 < p) (sym told.stays) n.2,
                   subst (λ l. slice_get l n.0 ≡ Some c.in-Some.wanted.name) is.same n.3,
                 )
-                next.gives told.gives so_far.0 (marks_of (Ok settled)) answers
+                next.gives told.gives so_far.0 (marks_of_settling (Ok settled)) answers
                 (g.S.Source.is_fine c.settled.new.self)
                 (λ t held. two.run t held honest)
-                (λ t held. subst (λ l. AreAnswers answers l (marks_of (Ok settled)))
+                (λ t held. subst (λ l. AreAnswers answers l (marks_of_settling (Ok settled)))
                 (sym (two.told t held honest)) (answers-settled settled c.in-Some.wanted))
                 (λ e. let f = told.fine e in (
                   next.fine f.0,
@@ -141,7 +141,7 @@ loop-wanted-preserved g c =
                 (was_told c.settled.new.self) so_far.0.answers answers so_far.1
                 (tells_on (was_told c.loop-wanted.source) (was_told c.next.new.self)
                 (was_told c.settled.new.self) answers next.told
-                (subst (λ l. Tells (was_told c.next.new.self) (was_told c.settled.new.self)
+                (subst (λ l. TellsMore (was_told c.next.new.self) (was_told c.settled.new.self)
                 (answers_of l settled)) next.last told.told)),
           );
       fine = λ e. is.fine (next.fine (told.fine e).0);

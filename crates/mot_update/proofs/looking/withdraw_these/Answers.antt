@@ -12,7 +12,7 @@ use Rattle.mot_update.proofs.Looks.{err_of, gives_kept, gives_nil, withdrew_all}
 use Rattle.mot_update.proofs.Looks.{withdrew_cut}
 use Rattle.mot_update.proofs.Looks.{withdrew_fault, withdrew_next, withdrew_none}
 use Rattle.mot_update.proofs.Runs.{same_error}
-use Rattle.mot_update.proofs.Still.{stays_same}
+use Rattle.disk_store.proofs.Laws.{unchanged_none}
 use Rattle.mot_update.proofs.looking.withdraw_these.Goals as goal
 
 pub loop-name-init : goal.loop-name-init
@@ -25,7 +25,7 @@ loop-name-init g c =
       gives = gives_nil (g.S.Source.given c.args.source.now);
       run = λ s holds honest. (
         withdrew_none c.args.server.now state s (g.S.Source.is_fine c.args.source.now)
-            (g.met.D.Disk.sound c.args.server.now.disk honest) honest (stays_same state) holds,
+            (g.met.D.Disk.sound c.args.server.now.disk honest) honest (unchanged_none state) holds,
         tells_nil (g.S.Source.was_told c.args.source.now),
       );
       stays = refl;
@@ -42,7 +42,7 @@ returns-in_err-clone-clause-runs g c = λ s holds honest.
     rw e.1 (
       withdrew_cut old mid (state old.disk) (state mid.disk) s c.args.names.now
           c.loop-name.name-index (g.S.Source.is_fine c.loop-name.source) so_far.0 e.0
-          (g.met.D.Disk.sound mid.disk honest) honest (stays_same (state mid.disk)),
+          (g.met.D.Disk.sound mid.disk honest) honest (unchanged_none (state mid.disk)),
       so_far.1,
     )
 

@@ -1,6 +1,6 @@
 use Rattle.std.proofs.Common.{None, [], refl}
-use Rattle.mot_update.proofs.Runs.{has_read}
-use Rattle.mot_feed.proofs.Sent.{stays_same}
+use Rattle.mot_update.proofs.Laws.{has_read}
+use Rattle.disk_store.proofs.Laws.{unchanged_none}
 use Rattle.mot_feed.proofs.feeding.NoUpdateUpdate.update.Goals as goal
 
 pub returns-clause-run : goal.returns-clause-run
@@ -11,6 +11,6 @@ returns-clause-run g c = λ s holds honest.
       commands = [];
       marks = [];
       run = (has_read old old state state s None (g.met.D.Disk.sound old.disk honest) refl refl
-          honest (stays_same state) holds).0;
+          honest (unchanged_none state) holds).0;
       waits = λ e. refl;
     }

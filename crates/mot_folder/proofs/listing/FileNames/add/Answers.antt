@@ -1,7 +1,7 @@
 use Rattle.std.proofs.Common.{◌≡◌, ◌++◌, ◌∷◌, ℕ, List, [], Bool, true, false, cond, sym, subst}
 use Rattle.mot_carousel.specs.Carousel.{are_names_distinct}
 use Rattle.mot_update.specs.Updating.{is_known}
-use Rattle.mot_update.proofs.Looks.{names-push}
+use Rattle.mot_update.proofs.Laws.{names-push}
 use Rattle.mot_folder.proofs.listing.FileNames.add.Goals as goal
 
 perhaps_one : (names new : List (List ℕ)) (n : List ℕ) (pushed : Bool)

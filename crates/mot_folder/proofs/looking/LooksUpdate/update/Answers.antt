@@ -1,13 +1,15 @@
-use Rattle.std.proofs.Common.{◌≡◌, ℕ, Bool, true, false, List, Option, None, [], refl, sym, subst, ◌∙◌}
+use Rattle.std.proofs.Common.{◌≡◌, ℕ, Bool, true, false, List, Option, None, [], refl, sym, subst}
+use Rattle.std.proofs.Common.{◌∙◌}
 use Rattle.disk_store.specs.Disk.{State}
 use Rattle.mot_base.specs.declared.refusal.Refusal.{Refusal}
-use Rattle.mot_feed.specs.Feeding.{IsUpdating, fault_of}
+use Rattle.mot_feed.specs.Feeding.{IsUpdating}
+use Rattle.mot_server.specs.Attempts.{fault_of}
 use Rattle.mot_folder.specs.declared.report.Report.{Report}
 use Rattle.mot_folder.specs.Looked.{HasLookedAtFolder, listed, unlisted}
 use Rattle.mot_journal.specs.Image.{Standing}
 use Rattle.mot_server.specs.Server.{ServerView}
-use Rattle.mot_update.proofs.Runs.{has_read}
-use Rattle.mot_update.proofs.Still.{stays_same}
+use Rattle.mot_update.proofs.Laws.{has_read}
+use Rattle.disk_store.proofs.Laws.{unchanged_none}
 use Rattle.mot_folder.proofs.looking.LooksUpdate.update.Goals as goal
 
 -- a look runs commands
@@ -15,7 +17,8 @@ updating_by : {D : Type 0} (old new : ServerView D) (start now : State) (s : Sta
     (may : Bool) (path : List ℕ) (report : Report) (fault : Option Refusal) → may ≡ true
     → HasLookedAtFolder old new start now s path report fault
     → IsUpdating old new start now s may fault
-updating_by old new start now s may path report fault is (unlisted refused none run entries told are) =
+updating_by old new start now s may path report fault is
+    (unlisted refused none run entries told are) =
     subst (λ f. IsUpdating old new start now s may f) (sym none)
     (record { commands = []; marks = []; run = run; waits = λ e. refl })
 updating_by old new start now s may path report fault is (listed names looked told) = record {
@@ -33,7 +36,7 @@ returns-then-not-between_turns-clause-run g c = λ s holds honest.
       commands = [];
       marks = [];
       run = (has_read old old state state s None (g.met.D.Disk.sound old.disk honest) refl refl
-          honest (stays_same state) holds).0;
+          honest (unchanged_none state) holds).0;
       waits = λ e. refl;
     }
 
@@ -47,4 +50,5 @@ returns-clause-run g c = λ s holds honest.
     (c.look_at_folder-result.ensures.looked s holds honest)
 
 pub returns-clause-looked : goal.returns-clause-looked
-returns-clause-looked g c = λ due s holds honest. c.look_at_folder-result.ensures.looked s holds honest
+returns-clause-looked g c = λ due s holds honest.
+    c.look_at_folder-result.ensures.looked s holds honest

@@ -1,134 +1,99 @@
-use Rattle.std.proofs.Common.{◌≡◌, ℕ, ◌≤◌, true, List, ◌++◌, [], ◌∷◌, length, Some, Ok, refl, sym, ◌∙◌, ap, subst, arith, length-append}
+use Rattle.std.proofs.Common.{◌≡◌, ◌≤◌, true, List, ◌++◌, [], ◌∷◌, length, Some, Ok, refl, sym}
+use Rattle.std.proofs.Common.{◌∙◌, ap, subst, arith, length-append}
 use Rattle.disk_store.specs.Disk.{Throughout}
+use Rattle.mot_journal.specs.declared.record.Record.{Record}
 use Rattle.mot_journal.specs.Slot.{is_sound, read_slot, slot_size, bytes_of_slot}
 use Rattle.mot_journal.specs.Image.{records_of}
-use Rattle.mot_journal.specs.Journal.{JournalView, with_records, HasRecords, HasReadArea}
-use Rattle.mot_journal.specs.Inner.Places.{place_of}
-use Rattle.mot_journal.specs.Inner.Steps.{IsGated, LeavesWritten}
+use Rattle.mot_journal.specs.Journal.{JournalView, with_records, HoldsRecords, FoldOf}
+use Rattle.mot_journal.specs.Journal.{WithoutOrWith}
 use Rattle.mot_journal.proofs.Written.{written_gate}
-use Rattle.mot_journal.proofs.Appending.{any_moment, with_slot}
+use Rattle.mot_journal.proofs.Appending.{Found, any_moment, with_slot}
+use Rattle.mot_journal.proofs.journal.Journal.append.Given as given
 use Rattle.mot_journal.proofs.journal.Journal.append.Goals as goal
+use Rattle.mot_journal.proofs.journal.Journal.append.Goals.{After-write_slot}
+
+-- the slot that is written
+slot_is : (g : given.Over) (c : After-write_slot g)
+    → c.slot_bytes-slot.result.items ≡ bytes_of_slot c.args.self.now.layout c.args.entry.now
+slot_is g c = c.slot_bytes-slot.ensures.written
+    ∙ ap (λ (x : JournalView). bytes_of_slot x.layout c.args.entry.now) c.self.view_is
+
+-- what was found of the journal and of that slot
+found : (g : given.Over) (c : After-write_slot g) (records : List Record)
+    → HoldsRecords c.args.self.now records (g.D.Disk.state c.args.disk.now)
+    → FoldOf c.args.self.now (records ++ c.args.entry.now ∷ [])
+    → Found c.args.self.now records c.args.entry.now (g.D.Disk.state c.args.disk.now)
+found g c records holds fold =
+    let j = c.args.self.now in
+    let r = c.args.entry.now in
+    let layout_is : c.self.inside.layout ≡ j.layout =
+    ap (λ (x : JournalView). x.layout) c.self.view_is in
+    let sound_inside = subst (λ y. is_sound j.geometry y r ≡ true) (sym layout_is)
+    c.requires.sound in
+    record {
+      sound = g.met.D.Disk.sound c.args.disk.now holds.honest;
+      holds = holds;
+      fold = fold;
+      room = c.requires.not_full;
+      two_halves = subst (λ (x : JournalView). x.half ≤ 1) c.self.view_is
+          c.self.inside.two_halves;
+      long = c.requires.long_enough;
+      reads = sym (ap (read_slot j.geometry j.layout) (slot_is g c))
+          ∙ subst (λ y. read_slot j.geometry y c.slot_bytes-slot.result.items ≡ Some r) layout_is
+          (c.slot_bytes-slot.ensures.reads j.geometry sound_inside);
+      size_is = sym (ap length (slot_is g c))
+          ∙ c.slot_bytes-slot.ensures.size j.geometry sound_inside ∙ ap slot_size layout_is;
+      gate_is = written_gate j.layout r;
+    }
+
+-- at each moment, without the record or with it
+without_or_with : (g : given.Over) (c : After-write_slot g) (records : List Record)
+    → HoldsRecords c.args.self.now records (g.D.Disk.state c.args.disk.now)
+    → FoldOf c.args.self.now (records ++ c.args.entry.now ∷ [])
+    → Throughout (g.D.Disk.state c.args.disk.now) (g.D.Disk.state c.write_slot.new.disk)
+    (WithoutOrWith c.args.self.now records c.args.entry.now (g.D.Disk.state c.args.disk.now))
+without_or_with g c records holds fold =
+    any_moment _ _ _ _ (found g c records holds fold) _
+    (rw (c.next_place-place.ensures.value, c.deref.ensures.0, slot_is g c)
+    at (c.write_slot.ensures.any_moment holds.honest))
 
 pub returns-in_err-write_slot-clause-any_moment : goal.returns-in_err-write_slot-clause-any_moment
-returns-in_err-write_slot-clause-any_moment g c = λ records holds fold.
-    let state = g.D.Disk.state in
-    let j = c.args.self.now in
-    let start = state c.args.disk.now in
-    let last = state c.write_slot.new.disk in
-    let r = c.args.entry.now in
-    let sound = g.met.D.Disk.sound c.args.disk.now holds.honest in
-    let layout_is : c.self.inside.layout ≡ j.layout = ap (λ (x : JournalView). x.layout) c.self.view_is in
-    let half_is : c.self.inside.half ≡ j.half = ap (λ (x : JournalView). x.half) c.self.view_is in
-    let two_halves : j.half ≤ 1 = subst (λ h. h ≤ 1) half_is c.self.inside.two_halves in
-    let is : c.slot_bytes-slot.result.items ≡ bytes_of_slot j.layout r =
-    c.slot_bytes-slot.ensures.written ∙ ap (λ y. bytes_of_slot y r) layout_is in
-    let slot_is : c.deref.result.now ≡ bytes_of_slot j.layout r = c.deref.ensures.0 ∙ is in
-    let place_is : c.next_place-place.result ≡ place_of j j.count = c.next_place-place.ensures.value in
-    let sound_inside = subst (λ y. is_sound j.geometry y r ≡ true) (sym layout_is) c.requires.sound in
-    let reads : read_slot j.geometry j.layout (bytes_of_slot j.layout r) ≡ Some r =
-    sym (ap (read_slot j.geometry j.layout) is)
-    ∙ subst (λ y. read_slot j.geometry y c.slot_bytes-slot.result.items ≡ Some r) layout_is
-    (c.slot_bytes-slot.ensures.reads j.geometry sound_inside) in
-    let size_is : length (bytes_of_slot j.layout r) ≡ slot_size j.layout =
-    sym (ap length is) ∙ c.slot_bytes-slot.ensures.size j.geometry sound_inside ∙ ap slot_size layout_is in
-    let gate_is = written_gate j.layout r in
-    let gated = subst (λ s. Throughout start last (IsGated (place_of j j.count) s start)) slot_is
-    (subst (λ p. Throughout start last (IsGated p c.deref.result.now start)) place_is (c.write_slot.ensures.any_moment holds.honest)) in
-    any_moment j records r start sound holds c.requires.not_full two_halves c.requires.long_enough reads size_is gate_is fold last gated
+returns-in_err-write_slot-clause-any_moment g c =
+    without_or_with g (goal.at.returns-in_err-write_slot-clause-any_moment g c).After-write_slot
 
 pub returns-clause-any_moment : goal.returns-clause-any_moment
-returns-clause-any_moment g c = λ records holds fold.
-    let state = g.D.Disk.state in
-    let j = c.args.self.now in
-    let start = state c.args.disk.now in
-    let last = state c.write_slot.new.disk in
-    let r = c.args.entry.now in
-    let sound = g.met.D.Disk.sound c.args.disk.now holds.honest in
-    let layout_is : c.self.inside.layout ≡ j.layout = ap (λ (x : JournalView). x.layout) c.self.view_is in
-    let half_is : c.self.inside.half ≡ j.half = ap (λ (x : JournalView). x.half) c.self.view_is in
-    let two_halves : j.half ≤ 1 = subst (λ h. h ≤ 1) half_is c.self.inside.two_halves in
-    let is : c.slot_bytes-slot.result.items ≡ bytes_of_slot j.layout r =
-    c.slot_bytes-slot.ensures.written ∙ ap (λ y. bytes_of_slot y r) layout_is in
-    let slot_is : c.deref.result.now ≡ bytes_of_slot j.layout r = c.deref.ensures.0 ∙ is in
-    let place_is : c.next_place-place.result ≡ place_of j j.count = c.next_place-place.ensures.value in
-    let sound_inside = subst (λ y. is_sound j.geometry y r ≡ true) (sym layout_is) c.requires.sound in
-    let reads : read_slot j.geometry j.layout (bytes_of_slot j.layout r) ≡ Some r =
-    sym (ap (read_slot j.geometry j.layout) is)
-    ∙ subst (λ y. read_slot j.geometry y c.slot_bytes-slot.result.items ≡ Some r) layout_is
-    (c.slot_bytes-slot.ensures.reads j.geometry sound_inside) in
-    let size_is : length (bytes_of_slot j.layout r) ≡ slot_size j.layout =
-    sym (ap length is) ∙ c.slot_bytes-slot.ensures.size j.geometry sound_inside ∙ ap slot_size layout_is in
-    let gate_is = written_gate j.layout r in
-    let gated = subst (λ s. Throughout start last (IsGated (place_of j j.count) s start)) slot_is
-    (subst (λ p. Throughout start last (IsGated p c.deref.result.now start)) place_is (c.write_slot.ensures.any_moment holds.honest)) in
-    any_moment j records r start sound holds c.requires.not_full two_halves c.requires.long_enough reads size_is gate_is fold last gated
+returns-clause-any_moment g c =
+    without_or_with g (goal.at.returns-clause-any_moment g c).After-write_slot
 
 pub returns-clause-ok : goal.returns-clause-ok
 returns-clause-ok g c = λ records holds fold.
-    let state = g.D.Disk.state in
-    let j = c.args.self.now in
-    let start = state c.args.disk.now in
-    let last = state c.write_slot.new.disk in
     let r = c.args.entry.now in
-    let sound = g.met.D.Disk.sound c.args.disk.now holds.honest in
-    let layout_is : c.self.inside.layout ≡ j.layout = ap (λ (x : JournalView). x.layout) c.self.view_is in
-    let half_is : c.self.inside.half ≡ j.half = ap (λ (x : JournalView). x.half) c.self.view_is in
-    let two_halves : j.half ≤ 1 = subst (λ h. h ≤ 1) half_is c.self.inside.two_halves in
-    let is : c.slot_bytes-slot.result.items ≡ bytes_of_slot j.layout r =
-    c.slot_bytes-slot.ensures.written ∙ ap (λ y. bytes_of_slot y r) layout_is in
-    let slot_is : c.deref.result.now ≡ bytes_of_slot j.layout r = c.deref.ensures.0 ∙ is in
-    let place_is : c.next_place-place.result ≡ place_of j j.count = c.next_place-place.ensures.value in
-    let sound_inside = subst (λ y. is_sound j.geometry y r ≡ true) (sym layout_is) c.requires.sound in
-    let reads : read_slot j.geometry j.layout (bytes_of_slot j.layout r) ≡ Some r =
-    sym (ap (read_slot j.geometry j.layout) is)
-    ∙ subst (λ y. read_slot j.geometry y c.slot_bytes-slot.result.items ≡ Some r) layout_is
-    (c.slot_bytes-slot.ensures.reads j.geometry sound_inside) in
-    let size_is : length (bytes_of_slot j.layout r) ≡ slot_size j.layout =
-    sym (ap length is) ∙ c.slot_bytes-slot.ensures.size j.geometry sound_inside ∙ ap slot_size layout_is in
-    let gate_is = written_gate j.layout r in
-    let left_written = subst (λ s. LeavesWritten (place_of j j.count) s start last) slot_is
-    (subst (λ p. LeavesWritten p c.deref.result.now start last) place_is (c.in_ok-write_slot.ensures.ok holds.honest)) in
-    let each : (image : List ℕ) → last.MayLeave image → HasRecords j (records ++ r ∷ []) image × HasReadArea j start image = λ image left.
-    with_slot j records r start sound holds c.requires.not_full two_halves c.requires.long_enough reads size_is gate_is fold
-    image (left_written image left) in
+    let from = (goal.at.returns-clause-ok g c).After-write_slot in
+    let written = rw (c.next_place-place.ensures.value, c.deref.ensures.0, slot_is g from)
+    at (c.in_ok-write_slot.ensures.ok holds.honest) in
     record {
       going = refl;
-      count = omega (arith, holds.count, ap (λ (x : JournalView). x.count) c.self.view_is, length-append records (r ∷ []));
+      count = omega (
+        arith,
+        holds.count,
+        ap (λ (x : JournalView). x.count) c.self.view_is,
+        length-append records (r ∷ []),
+      );
       honest = c.write_slot.ensures.keeps.honest holds.honest;
       each = λ image left.
-          let has = (each image left).0 in
+          let has = (with_slot _ _ _ _ (found g from records holds fold) image
+          (written image left)).0 in
           record {
-            read = subst (λ (x : JournalView). records_of image ≡ Ok (with_records x (records ++ r ∷ []))) (sym c.self.view_is) has.read;
+            read = subst (λ (x : JournalView).
+                records_of image ≡ Ok (with_records x (records ++ r ∷ []))) (sym c.self.view_is)
+                has.read;
             clean = has.clean;
           };
     }
 
 pub returns-clause-area : goal.returns-clause-area
-returns-clause-area g c = λ records holds fold.
-    let state = g.D.Disk.state in
-    let j = c.args.self.now in
-    let start = state c.args.disk.now in
-    let last = state c.write_slot.new.disk in
-    let r = c.args.entry.now in
-    let sound = g.met.D.Disk.sound c.args.disk.now holds.honest in
-    let layout_is : c.self.inside.layout ≡ j.layout = ap (λ (x : JournalView). x.layout) c.self.view_is in
-    let half_is : c.self.inside.half ≡ j.half = ap (λ (x : JournalView). x.half) c.self.view_is in
-    let two_halves : j.half ≤ 1 = subst (λ h. h ≤ 1) half_is c.self.inside.two_halves in
-    let is : c.slot_bytes-slot.result.items ≡ bytes_of_slot j.layout r =
-    c.slot_bytes-slot.ensures.written ∙ ap (λ y. bytes_of_slot y r) layout_is in
-    let slot_is : c.deref.result.now ≡ bytes_of_slot j.layout r = c.deref.ensures.0 ∙ is in
-    let place_is : c.next_place-place.result ≡ place_of j j.count = c.next_place-place.ensures.value in
-    let sound_inside = subst (λ y. is_sound j.geometry y r ≡ true) (sym layout_is) c.requires.sound in
-    let reads : read_slot j.geometry j.layout (bytes_of_slot j.layout r) ≡ Some r =
-    sym (ap (read_slot j.geometry j.layout) is)
-    ∙ subst (λ y. read_slot j.geometry y c.slot_bytes-slot.result.items ≡ Some r) layout_is
-    (c.slot_bytes-slot.ensures.reads j.geometry sound_inside) in
-    let size_is : length (bytes_of_slot j.layout r) ≡ slot_size j.layout =
-    sym (ap length is) ∙ c.slot_bytes-slot.ensures.size j.geometry sound_inside ∙ ap slot_size layout_is in
-    let gate_is = written_gate j.layout r in
-    let left_written = subst (λ s. LeavesWritten (place_of j j.count) s start last) slot_is
-    (subst (λ p. LeavesWritten p c.deref.result.now start last) place_is (c.in_ok-write_slot.ensures.ok holds.honest)) in
-    let each : (image : List ℕ) → last.MayLeave image → HasRecords j (records ++ r ∷ []) image × HasReadArea j start image = λ image left.
-    with_slot j records r start sound holds c.requires.not_full two_halves c.requires.long_enough reads size_is gate_is fold
-    image (left_written image left) in
-    λ image left. (each image left).1
+returns-clause-area g c = λ records holds fold image left.
+    let from = (goal.at.returns-clause-area g c).After-write_slot in
+    let written = rw (c.next_place-place.ensures.value, c.deref.ensures.0, slot_is g from)
+    at (c.in_ok-write_slot.ensures.ok holds.honest) in
+    (with_slot _ _ _ _ (found g from records holds fold) image (written image left)).1

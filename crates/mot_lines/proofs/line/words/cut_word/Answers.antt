@@ -9,7 +9,8 @@ returns-in-Some c =
     let first = c.in-Some.ensures.0 in
     ap words_of (sym (parts_at 32 c.args.bytes.now c.in-Some.at first.high c.in-Some.ensures.1))
     ∙ slice_split_at (λ b. nat_eq b 32) (take c.in-Some.at c.args.bytes.now) 32
-    (drop (c.in-Some.at + 1) c.args.bytes.now) (none_before 32 c.args.bytes.now c.in-Some.at first) refl
+    (drop (c.in-Some.at + 1) c.args.bytes.now) (none_before 32 c.args.bytes.now c.in-Some.at first)
+    refl
     ∙ ap (λ l. take c.in-Some.at c.args.bytes.now ∷ words_of l)
     (sym (slice_from c.args.bytes.now (c.in-Some.at + 1)))
 

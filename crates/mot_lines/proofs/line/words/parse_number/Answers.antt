@@ -38,7 +38,8 @@ loop-digit-preserved c =
             digit-high (get_or c.args.word.now c.loop-digit.digit-index 0)
                 digit,
           ));
-      digits = digits-more c.args.word.now c.loop-digit.digit-index c.loop-digit-test.true so_far.digits
+      digits = digits-more c.args.word.now c.loop-digit.digit-index c.loop-digit-test.true
+          so_far.digits
           digit;
       value = rw (so_far.value, c.from.ensures) (sym
           (decimal_value-more c.args.word.now c.loop-digit.digit-index c.loop-digit-test.true));
@@ -50,5 +51,6 @@ returns c =
     let all = take_all c.loop-digit.digit-index c.args.word.now c.loop-digit-test.false in
     ap Some (so_far.value ∙ ap decimal_value all)
     ∙ sym (number_of_digits c.args.word.now (let some : length c.args.word.now ≢ 0 =
-    eqb-false _ 0 (sym c.is_empty.ensures ∙ c.if-is_empty.false) in omega arith) c.if-word-gt10.false
+    eqb-false _ 0 (sym c.is_empty.ensures ∙ c.if-is_empty.false) in omega arith)
+    c.if-word-gt10.false
     (subst (λ w. list_all is_ascii_digit w ≡ true) all so_far.digits))

@@ -12,7 +12,8 @@ returns-clause-opened c = λ bodies e.
     rw (
       c.in_ok-last_directory.ensures.none,
       c.in_ok-last_body.ensures.none,
-      segments_from-end c.args.turn bodies c.args.segment_size c.entity_count-entity.result e c.entity_count-entity.ensures.count,
+      segments_from-end c.args.turn bodies c.args.segment_size c.entity_count-entity.result e
+          c.entity_count-entity.ensures.count,
     ) refl
 
 pub returns-clause-continuous : goal.returns-clause-continuous

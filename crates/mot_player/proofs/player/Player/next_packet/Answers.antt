@@ -4,65 +4,87 @@ use Rattle.mot_packets.specs.Written.{bytes_of_packet}
 use Rattle.mot_player.specs.AnyBodies.{IsStepOfSome}
 use Rattle.mot_player.specs.Laws.{IsStep, blank_bodies, bytes_due, bytes_left}
 use Rattle.mot_player.specs.Inner.Ready.{HasTaken, place_with}
-use Rattle.mot_player.specs.State.{standing_of}
-use Rattle.mot_player.specs.Standing.{AreBodiesFor, Standing, TurnPlan, place_of}
+use Rattle.mot_player.specs.State.{view_of}
+use Rattle.mot_player.specs.PlayerView.{AreBodiesFor, PlayerView, TurnPlan, place_of}
 use Rattle.mot_player.specs.declared.player.Player.TheInside.{Inside}
 use Rattle.mot_player.specs.declared.state.State.{State}
 use Rattle.mot_player.proofs.Answered.{place_is, answers-under_way, answers-begun, sent_from}
 use Rattle.mot_player.proofs.Nearer.{are-blank, left-less, nearer-begun, nearer-under_way}
 use Rattle.mot_player.proofs.player.Player.next_packet.Goals as goal
-use Rattle.mot_player.proofs.player.Player.next_packet.Goals.{then-self-eq0+in_ok-begin, else-self-eq0}
+use Rattle.mot_player.proofs.player.Player.next_packet.Goals.{then-self-eq0+in_ok-begin}
+use Rattle.mot_player.proofs.player.Player.next_packet.Goals.{else-self-eq0}
 
 pub returns-clause-sent : goal.returns-clause-sent
 returns-clause-sent g c = λ honest.
     let bodies : List (List ℕ) = g.B.Bodies.bodies c.args.bodies.now in
     let own : AreBodiesFor c.self.inside.state.turn bodies =
-    subst (λ (t : TurnPlan). AreBodiesFor t bodies) (sym (ap (λ (s : Standing). s.turn) c.self.view_is)) c.requires in
-    let answered : Standing → Type 0 = λ s. IsStep (place_of s bodies) c.send.result.packet.items c.send.result.ends_turn
+    subst (λ (t : TurnPlan). AreBodiesFor t bodies)
+    (sym (ap (λ (s : PlayerView). s.turn) c.self.view_is)) c.requires in
+    let answered : PlayerView
+    → Type 0 = λ s. IsStep (place_of s bodies) c.send.result.packet.items
+    c.send.result.ends_turn
     (place_with c.send.new.self bodies) in
     elim c.if-self-eq0.branch [
       | then-self-eq0+in_ok-begin w ↦ (
           let later : AreBodiesFor w.begin.new.self.turn bodies =
           subst (λ (t : TurnPlan). AreBodiesFor t bodies) (sym w.in_ok-begin.ensures.turn) own in
-          let same : c.if-self-eq0.self-inside.state ≡ w.begin.new.self = ap (λ (i : Inside). i.state) w.self-inside-is in
-          let bytes = subst (λ (s : State). c.send.result.packet.items ≡ bytes_of_packet (sent_from s bodies).packet) same
+          let same : c.if-self-eq0.self-inside.state ≡ w.begin.new.self =
+          ap (λ (i : Inside). i.state) w.self-inside-is in
+          let bytes = subst (λ (s : State).
+          c.send.result.packet.items ≡ bytes_of_packet (sent_from s bodies).packet) same
           (c.send.ensures.bytes bodies) in
-          let packet = subst (λ (s : State). read_packet c.send.result.packet.items ≡ Some (sent_from s bodies).packet) same
+          let packet = subst (λ (s : State).
+          read_packet c.send.result.packet.items ≡ Some (sent_from s bodies).packet) same
           (c.send.ensures.packet bodies) in
-          let ends = subst (λ (s : State). c.send.result.ends_turn ≡ (sent_from s bodies).ends_turn) same
-          (c.send.ensures.ends_turn bodies (subst (λ (s : State). AreBodiesFor s.turn bodies) (sym same) later)) in
-          let place = subst (λ (s : State). place_with c.send.new.self bodies ≡ (sent_from s bodies).place) same
+          let ends = subst (λ (s : State). c.send.result.ends_turn ≡ (sent_from s bodies).ends_turn)
+          same
+          (c.send.ensures.ends_turn bodies
+          (subst (λ (s : State). AreBodiesFor s.turn bodies) (sym same) later)) in
+          let place = subst (λ (s : State).
+          place_with c.send.new.self bodies ≡ (sent_from s bodies).place) same
           (c.send.ensures.place bodies) in
-          subst answered c.self.view_is (answers-begun c.self.inside.state w.begin.new.self bodies c.send.result.packet.items
-          c.send.result.ends_turn (place_with c.send.new.self bodies) w.if-self-eq0.true w.in_ok-begin.ensures.sent
-          (w.in_ok-begin.ensures.begun (subst g.B.Bodies.IsHonest w.bodies-is honest)) bytes packet ends place))
+          subst answered c.self.view_is
+          (answers-begun c.self.inside.state w.begin.new.self bodies c.send.result.packet.items
+          c.send.result.ends_turn (place_with c.send.new.self bodies) w.if-self-eq0.true
+          w.in_ok-begin.ensures.sent
+          (w.in_ok-begin.ensures.begun (subst g.B.Bodies.IsHonest w.bodies-is honest)) bytes packet
+          ends place))
       | else-self-eq0 w ↦ (
-          let same : c.if-self-eq0.self-inside.state ≡ c.self.inside.state = ap (λ (i : Inside). i.state) w.self-inside-is in
-          let bytes = subst (λ (s : State). c.send.result.packet.items ≡ bytes_of_packet (sent_from s bodies).packet) same
+          let same : c.if-self-eq0.self-inside.state ≡ c.self.inside.state =
+          ap (λ (i : Inside). i.state) w.self-inside-is in
+          let bytes = subst (λ (s : State).
+          c.send.result.packet.items ≡ bytes_of_packet (sent_from s bodies).packet) same
           (c.send.ensures.bytes bodies) in
-          let packet = subst (λ (s : State). read_packet c.send.result.packet.items ≡ Some (sent_from s bodies).packet) same
+          let packet = subst (λ (s : State).
+          read_packet c.send.result.packet.items ≡ Some (sent_from s bodies).packet) same
           (c.send.ensures.packet bodies) in
-          let ends = subst (λ (s : State). c.send.result.ends_turn ≡ (sent_from s bodies).ends_turn) same
-          (c.send.ensures.ends_turn bodies (subst (λ (s : State). AreBodiesFor s.turn bodies) (sym same) own)) in
-          let place = subst (λ (s : State). place_with c.send.new.self bodies ≡ (sent_from s bodies).place) same
+          let ends = subst (λ (s : State). c.send.result.ends_turn ≡ (sent_from s bodies).ends_turn)
+          same
+          (c.send.ensures.ends_turn bodies
+          (subst (λ (s : State). AreBodiesFor s.turn bodies) (sym same) own)) in
+          let place = subst (λ (s : State).
+          place_with c.send.new.self bodies ≡ (sent_from s bodies).place) same
           (c.send.ensures.place bodies) in
-          subst answered c.self.view_is (answers-under_way c.self.inside.state bodies c.send.result.packet.items
+          subst answered c.self.view_is
+          (answers-under_way c.self.inside.state bodies c.send.result.packet.items
           c.send.result.ends_turn (place_with c.send.new.self bodies) w.if-self-eq0.false
           bytes packet ends place))
     ]
 
 pub returns-clause-place : goal.returns-clause-place
-returns-clause-place g c = place_is c.args.self.now c.self.inside.state c.self.view_is c.self.invariant
+returns-clause-place g c =
+    place_is c.args.self.now c.self.inside.state c.self.view_is c.self.invariant
 
 pub returns-in_err-begin-clause-place : goal.returns-in_err-begin-clause-place
-returns-in_err-begin-clause-place g c = place_is c.args.self.now c.self.inside.state c.self.view_is c.self.invariant
+returns-in_err-begin-clause-place g c =
+    place_is c.args.self.now c.self.inside.state c.self.view_is c.self.invariant
 
 pub returns-clause-nearer : goal.returns-clause-nearer
 returns-clause-nearer g c = λ goes_on.
     let old : State = c.self.inside.state in
     let mid : State = c.if-self-eq0.self-inside.state in
     let new : State = c.send.new.self in
-    let left : (s : Standing) → Type 0 = λ s. bytes_left (standing_of new) < bytes_left s in
+    let left : (s : PlayerView) → Type 0 = λ s. bytes_left (view_of new) < bytes_left s in
     let ends = c.send.ensures.ends_turn in
     let place = c.send.ensures.place in
     elim c.if-self-eq0.branch [
@@ -91,46 +113,58 @@ returns-clause-sent_of_some g c =
     let old : State = c.self.inside.state in
     let new : State = c.send.new.self in
     let packet : List ℕ = c.send.result.packet.items in
-    let answered : Standing → Type 0 = λ s.
-    IsStepOfSome s packet c.send.result.ends_turn (standing_of new) in
+    let answered : PlayerView → Type 0 = λ s.
+    IsStepOfSome s packet c.send.result.ends_turn (view_of new) in
     elim c.if-self-eq0.branch [
       | then-self-eq0+in_ok-begin w ↦ (
           let mid : State = w.begin.new.self in
           let some = w.in_ok-begin.ensures.of_some in
           let bodies : List (List ℕ) = some.0 in
-          let same : c.if-self-eq0.self-inside.state ≡ mid = ap (λ (i : Inside). i.state) w.self-inside-is in
+          let same : c.if-self-eq0.self-inside.state ≡ mid =
+          ap (λ (i : Inside). i.state) w.self-inside-is in
           let are : AreBodiesFor mid.turn bodies =
           subst (λ (t : TurnPlan). AreBodiesFor t bodies) (sym w.in_ok-begin.ensures.turn) some.1 in
-          let bytes = subst (λ (s : State). packet ≡ bytes_of_packet (sent_from s bodies).packet) same
+          let bytes = subst (λ (s : State). packet ≡ bytes_of_packet (sent_from s bodies).packet)
+          same
           (c.send.ensures.bytes bodies) in
-          let reads = subst (λ (s : State). read_packet packet ≡ Some (sent_from s bodies).packet) same
+          let reads = subst (λ (s : State). read_packet packet ≡ Some (sent_from s bodies).packet)
+          same
           (c.send.ensures.packet bodies) in
-          let ends = subst (λ (s : State). c.send.result.ends_turn ≡ (sent_from s bodies).ends_turn) same
-          (c.send.ensures.ends_turn bodies (subst (λ (s : State). AreBodiesFor s.turn bodies) (sym same) are)) in
+          let ends = subst (λ (s : State). c.send.result.ends_turn ≡ (sent_from s bodies).ends_turn)
+          same
+          (c.send.ensures.ends_turn bodies
+          (subst (λ (s : State). AreBodiesFor s.turn bodies) (sym same) are)) in
           let place = subst (λ (s : State). place_with new bodies ≡ (sent_from s bodies).place) same
           (c.send.ensures.place bodies) in
           subst answered c.self.view_is (record {
             bodies = bodies;
             sized = some.1;
-            step = answers-begun old mid bodies packet c.send.result.ends_turn (place_with new bodies)
+            step = answers-begun old mid bodies packet c.send.result.ends_turn
+                (place_with new bodies)
                 w.if-self-eq0.true w.in_ok-begin.ensures.sent some.2 bytes reads ends place;
           }))
       | else-self-eq0 w ↦ (
           let bodies : List (List ℕ) = blank_bodies old.turn in
           let are : AreBodiesFor old.turn bodies = are-blank old.turn in
-          let same : c.if-self-eq0.self-inside.state ≡ old = ap (λ (i : Inside). i.state) w.self-inside-is in
-          let bytes = subst (λ (s : State). packet ≡ bytes_of_packet (sent_from s bodies).packet) same
+          let same : c.if-self-eq0.self-inside.state ≡ old =
+          ap (λ (i : Inside). i.state) w.self-inside-is in
+          let bytes = subst (λ (s : State). packet ≡ bytes_of_packet (sent_from s bodies).packet)
+          same
           (c.send.ensures.bytes bodies) in
-          let reads = subst (λ (s : State). read_packet packet ≡ Some (sent_from s bodies).packet) same
+          let reads = subst (λ (s : State). read_packet packet ≡ Some (sent_from s bodies).packet)
+          same
           (c.send.ensures.packet bodies) in
-          let ends = subst (λ (s : State). c.send.result.ends_turn ≡ (sent_from s bodies).ends_turn) same
-          (c.send.ensures.ends_turn bodies (subst (λ (s : State). AreBodiesFor s.turn bodies) (sym same) are)) in
+          let ends = subst (λ (s : State). c.send.result.ends_turn ≡ (sent_from s bodies).ends_turn)
+          same
+          (c.send.ensures.ends_turn bodies
+          (subst (λ (s : State). AreBodiesFor s.turn bodies) (sym same) are)) in
           let place = subst (λ (s : State). place_with new bodies ≡ (sent_from s bodies).place) same
           (c.send.ensures.place bodies) in
           subst answered c.self.view_is (record {
             bodies = bodies;
             sized = are;
-            step = answers-under_way old bodies packet c.send.result.ends_turn (place_with new bodies)
+            step = answers-under_way old bodies packet c.send.result.ends_turn
+                (place_with new bodies)
                 w.if-self-eq0.false bytes reads ends place;
           }))
     ]

@@ -1,5 +1,5 @@
 use Rattle.std.proofs.Common.{◌≡◌, ℕ, List, length, length-take-le, take, drop, sym, ap, ◌∙◌, arith}
-use Rattle.mot_player.specs.Standing.{TurnPlan}
+use Rattle.mot_player.specs.PlayerView.{TurnPlan}
 use Rattle.mot_player.specs.Inner.Entities.{entity_bytes}
 use Rattle.mot_player.proofs.SomeBodies.{some_bodies}
 use Rattle.mot_player.proofs.state.State.begin.Goals as goal

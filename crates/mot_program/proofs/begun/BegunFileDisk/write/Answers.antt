@@ -8,6 +8,8 @@ invariant_of-self g c =
     let new = c.write.new.self in
     let calls = c.write.ensures in
     record {
-      begins = begins_after g.K.Beginning.is_new old new c.args.self.now.begins calls.keeps.frame.len
-          (one_or_failed _ c.write.result (calls_on old) (calls_on new) _ _ calls.noted calls.noted_failure);
+      begins = begins_after g.K.Beginning.is_new old new c.args.self.now.begins
+          calls.keeps.frame.len
+          (one_or_failed _ c.write.result (calls_on old) (calls_on new) _ _ calls.noted
+          calls.noted_failure);
     }

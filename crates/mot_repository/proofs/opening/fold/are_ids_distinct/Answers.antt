@@ -4,11 +4,13 @@ use Rattle.mot_repository.proofs.opening.fold.are_ids_distinct.Goals as goal
 
 pub returns-then-has_id : goal.returns-then-has_id
 returns-then-has_id c =
-    id_before c.args.objects.now c.args.place c.index-objects-place.result c.requires.within c.index-objects-place.is c.requires.others
+    id_before c.args.objects.now c.args.place c.index-objects-place.result c.requires.within
+    c.index-objects-place.is c.requires.others
     (sym c.has_id.ensures ∙ c.if-has_id.true)
 
 pub returns : goal.returns
 returns c =
     ap not c.has_id-2.ensures
-    ∙ id_behind c.args.objects.now c.args.place c.index-objects-place.result c.requires.within c.index-objects-place.is c.requires.others
+    ∙ id_behind c.args.objects.now c.args.place c.index-objects-place.result c.requires.within
+    c.index-objects-place.is c.requires.others
     (sym c.has_id.ensures ∙ c.if-has_id.false)

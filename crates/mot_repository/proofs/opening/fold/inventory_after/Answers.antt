@@ -10,11 +10,15 @@ use Rattle.mot_repository.proofs.opening.fold.inventory_after.Goals as goal
 pub returns-then-has_id-clause-after : goal.returns-then-has_id-clause-after
 returns-then-has_id-clause-after c =
     let now : Catalogue = catalogue_with c.args.inventory.carousel c.args.inventory.extents.items in
-    breaks c.args.limit now c.args.entry c.apply.new.objects.items c.apply.new.extents.items c.apply.ensures.paired c.apply.result c.if-not-apply.false c.apply.ensures.applied
-    (ap (list_any (λ (o : Object). nat_eq c.args.entry.directory o.tid)) (sym c.deref.ensures.value) ∙ sym c.has_id.ensures ∙ c.if-has_id.true)
+    breaks c.args.limit now c.args.entry c.apply.new.objects.items c.apply.new.extents.items
+    c.apply.ensures.paired c.apply.result c.if-not-apply.false c.apply.ensures.applied
+    (ap (list_any (λ (o : Object). nat_eq c.args.entry.directory o.tid)) (sym c.deref.ensures.value)
+    ∙ sym c.has_id.ensures ∙ c.if-has_id.true)
 
 pub returns-clause-after : goal.returns-clause-after
 returns-clause-after c =
     let now : Catalogue = catalogue_with c.args.inventory.carousel c.args.inventory.extents.items in
-    goes_on c.args.limit now c.args.entry c.apply.new.objects.items c.apply.new.extents.items c.apply.ensures.paired c.apply.result c.if-not-apply.false c.apply.ensures.applied
-    (ap (list_any (λ (o : Object). nat_eq c.args.entry.directory o.tid)) (sym c.deref.ensures.value) ∙ sym c.has_id.ensures ∙ c.if-has_id.false)
+    goes_on c.args.limit now c.args.entry c.apply.new.objects.items c.apply.new.extents.items
+    c.apply.ensures.paired c.apply.result c.if-not-apply.false c.apply.ensures.applied
+    (ap (list_any (λ (o : Object). nat_eq c.args.entry.directory o.tid)) (sym c.deref.ensures.value)
+    ∙ sym c.has_id.ensures ∙ c.if-has_id.false)

@@ -13,5 +13,6 @@ invariant-loop-entry l = record {
   consistent : is_consistent (catalogue_with l.inventory.carousel l.inventory.extents.items) ≡ true;
   short : All HasShortIds l.yielded;
   folds : catalogue_of l.limit l.fn.records.items
-      ≡ fold_from l.limit l.slot (catalogue_with l.inventory.carousel l.inventory.extents.items) (drop l.slot l.fn.records.items);
+      ≡ fold_from l.limit l.slot (catalogue_with l.inventory.carousel l.inventory.extents.items)
+      (drop l.slot l.fn.records.items);
 }

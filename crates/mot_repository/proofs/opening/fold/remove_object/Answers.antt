@@ -6,29 +6,35 @@ use Rattle.mot_repository.specs.Inner.Fold.{HaveLengths}
 use Rattle.mot_repository.proofs.Listing.{remove_there, remove_nowhere, lengths_remove}
 use Rattle.mot_repository.proofs.opening.fold.remove_object.Goals as goal
 
-same-lists : (os ps : List Object) (es fs : List (ℕ × ℕ)) → os ≡ ps → es ≡ fs → Some (objects_in os es) ≡ Some (objects_in ps fs)
+same-lists : (os ps : List Object) (es fs : List (ℕ × ℕ)) → os ≡ ps → es ≡ fs
+    → Some (objects_in os es) ≡ Some (objects_in ps fs)
 same-lists os ps es fs d e = rw (d, e) refl
 
-same-lengths : (os ps : List Object) (es fs : List (ℕ × ℕ)) → os ≡ ps → es ≡ fs → HaveLengths ps fs → HaveLengths os es
+same-lengths : (os ps : List Object) (es fs : List (ℕ × ℕ)) → os ≡ ps → es ≡ fs → HaveLengths ps fs
+    → HaveLengths os es
 same-lengths os ps es fs d e h = rw (d, e) h
 
 pub returns-in_default-clause-done : goal.returns-in_default-clause-done
 returns-in_default-clause-done c =
     let os : List Object = c.args.objects.now.items in
     remove_nowhere os c.args.extents.now.items c.requires.paired c.args.tid
-    (ap (position (λ (o : Object). nat_eq o.tid c.args.tid)) (sym c.deref.ensures.value) ∙ sym c.place_of_id.ensures.place ∙ c.in_default.is)
+    (ap (position (λ (o : Object). nat_eq o.tid c.args.tid)) (sym c.deref.ensures.value)
+    ∙ sym c.place_of_id.ensures.place ∙ c.in_default.is)
 
 pub returns-clause-done : goal.returns-clause-done
 returns-clause-done c =
     let os : List Object = c.args.objects.now.items in
     let es : List (ℕ × ℕ) = c.args.extents.now.items in
-    same-lists c.remove.new.self.items (remove os c.in-Some.place) c.remove-4.new.self.items (remove es c.in-Some.place) c.remove.ensures.items c.remove-4.ensures.items
+    same-lists c.remove.new.self.items (remove os c.in-Some.place) c.remove-4.new.self.items
+    (remove es c.in-Some.place) c.remove.ensures.items c.remove-4.ensures.items
     ∙ remove_there os es c.requires.paired c.args.tid c.in-Some.place
-    (ap (position (λ (o : Object). nat_eq o.tid c.args.tid)) (sym c.deref.ensures.value) ∙ sym c.place_of_id.ensures.place ∙ c.in-Some.is)
+    (ap (position (λ (o : Object). nat_eq o.tid c.args.tid)) (sym c.deref.ensures.value)
+    ∙ sym c.place_of_id.ensures.place ∙ c.in-Some.is)
 
 pub returns-clause-paired : goal.returns-clause-paired
 returns-clause-paired c =
     let os : List Object = c.args.objects.now.items in
     let es : List (ℕ × ℕ) = c.args.extents.now.items in
-    same-lengths c.remove.new.self.items (remove os c.in-Some.place) c.remove-4.new.self.items (remove es c.in-Some.place) c.remove.ensures.items c.remove-4.ensures.items
+    same-lengths c.remove.new.self.items (remove os c.in-Some.place) c.remove-4.new.self.items
+    (remove es c.in-Some.place) c.remove.ensures.items c.remove-4.ensures.items
     (lengths_remove os es c.in-Some.place c.requires.paired)

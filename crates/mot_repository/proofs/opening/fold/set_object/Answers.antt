@@ -1,19 +1,23 @@
-use Rattle.std.proofs.Common.{◌≡◌, ◌<◌, ℕ, List, [], ◌∷◌, ◌++◌, length, set, Some, true, refl, sym, ap, ◌∙◌, arith, remove}
+use Rattle.std.proofs.Common.{◌≡◌, ◌<◌, ℕ, List, [], ◌∷◌, ◌++◌, length, set, Some, true, refl, sym}
+use Rattle.std.proofs.Common.{ap, ◌∙◌, arith, remove}
 use Rattle.mot_carousel.specs.declared.object.Object.{Object}
-use Rattle.mot_carousel.specs.Stands.{place_of}
+use Rattle.mot_carousel.specs.Stands.{index_of}
 use Rattle.mot_repository.specs.Extents.{objects_in}
 use Rattle.mot_repository.specs.Inner.Fold.{HaveLengths, are_consistent, if_consistent}
 use Rattle.mot_repository.proofs.Apart.{consistent_but_set, done_where}
 use Rattle.mot_repository.proofs.Listing.{set_there, set_behind, set_nowhere, lengths_set}
 use Rattle.mot_repository.proofs.opening.fold.set_object.Goals as goal
 
-same-objects : (os ps : List Object) (es fs : List (ℕ × ℕ)) → os ≡ ps → es ≡ fs → objects_in os es ≡ objects_in ps fs
+same-objects : (os ps : List Object) (es fs : List (ℕ × ℕ)) → os ≡ ps → es ≡ fs
+    → objects_in os es ≡ objects_in ps fs
 same-objects os ps es fs d e = rw (d, e) refl
 
-same-lengths : (os ps : List Object) (es fs : List (ℕ × ℕ)) → os ≡ ps → es ≡ fs → HaveLengths ps fs → HaveLengths os es
+same-lengths : (os ps : List Object) (es fs : List (ℕ × ℕ)) → os ≡ ps → es ≡ fs → HaveLengths ps fs
+    → HaveLengths os es
 same-lengths os ps es fs d e h = rw (d, e) h
 
-same-others : (os ps : List Object) (es fs : List (ℕ × ℕ)) (i : ℕ) → os ≡ ps → es ≡ fs → are_consistent (objects_in (remove ps i) (remove fs i)) ≡ true
+same-others : (os ps : List Object) (es fs : List (ℕ × ℕ)) (i : ℕ) → os ≡ ps → es ≡ fs
+    → are_consistent (objects_in (remove ps i) (remove fs i)) ≡ true
     → are_consistent (objects_in (remove os i) (remove es i)) ≡ true
 same-others os ps es fs i d e h = rw (d, e) h
 
@@ -22,8 +26,10 @@ stands_apart-requires-clause-paired c =
     let os : List Object = c.args.objects.now.items in
     let es : List (ℕ × ℕ) = c.args.extents.now.items in
     let i : ℕ = c.in-Some.place in
-    same-lengths c.deref-in-Some.result.now (set os i c.args.object) c.deref-in-Some-2.result.now (set es i (c.args.start, c.args.object.length))
-    c.deref-in-Some.ensures.value (c.deref-in-Some-2.ensures.value ∙ ap (λ n. set es i (c.args.start, n)) c.get.ensures.value)
+    same-lengths c.deref-in-Some.result.now (set os i c.args.object) c.deref-in-Some-2.result.now
+    (set es i (c.args.start, c.args.object.length))
+    c.deref-in-Some.ensures.value
+    (c.deref-in-Some-2.ensures.value ∙ ap (λ n. set es i (c.args.start, n)) c.get.ensures.value)
     (lengths_set os es i c.args.object c.args.start c.requires.paired)
 
 pub stands_apart-requires-clause-others : goal.stands_apart-requires-clause-others
@@ -33,21 +39,28 @@ stands_apart-requires-clause-others c =
     let i : ℕ = c.in-Some.place in
     let within : i < length c.deref.result.now = c.in-Some.ensures.within in
     let count : length c.deref.result.now ≡ length os = ap length c.deref.ensures.value in
-    same-others c.deref-in-Some.result.now (set os i c.args.object) c.deref-in-Some-2.result.now (set es i (c.args.start, c.get.result)) i
+    same-others c.deref-in-Some.result.now (set os i c.args.object) c.deref-in-Some-2.result.now
+    (set es i (c.args.start, c.get.result)) i
     c.deref-in-Some.ensures.value c.deref-in-Some-2.ensures.value
-    (consistent_but_set os es i c.args.object (c.args.start, c.get.result) c.requires.paired (omega (arith, within, count)) c.requires.consistent)
+    (consistent_but_set os es i c.args.object (c.args.start, c.get.result) c.requires.paired
+    (omega (arith, within, count)) c.requires.consistent)
 
 pub returns-in-Some-clause-done : goal.returns-in-Some-clause-done
 returns-in-Some-clause-done c =
     let os : List Object = c.args.objects.now.items in
     let es : List (ℕ × ℕ) = c.args.extents.now.items in
     let i : ℕ = c.in-Some.place in
-    let at : place_of c.args.object.name os ≡ Some i =
-    ap (place_of c.args.object.name) (sym c.deref.ensures.value) ∙ sym c.place_of_name.ensures.place ∙ c.in-Some.is in
-    done_where c.stands_apart.result (objects_in (set os i c.args.object) (set es i (c.args.start, c.get.result)))
-    (c.stands_apart.ensures ∙ ap are_consistent (same-objects c.deref-in-Some.result.now (set os i c.args.object) c.deref-in-Some-2.result.now (set es i (c.args.start, c.get.result))
+    let at : index_of c.args.object.name os ≡ Some i =
+    ap (index_of c.args.object.name) (sym c.deref.ensures.value) ∙ sym c.place_of_name.ensures.place
+    ∙ c.in-Some.is in
+    done_where c.stands_apart.result
+    (objects_in (set os i c.args.object) (set es i (c.args.start, c.get.result)))
+    (c.stands_apart.ensures ∙ ap are_consistent
+    (same-objects c.deref-in-Some.result.now (set os i c.args.object)
+    c.deref-in-Some-2.result.now (set es i (c.args.start, c.get.result))
     c.deref-in-Some.ensures.value c.deref-in-Some-2.ensures.value))
-    ∙ ap if_consistent (ap (λ n. Some (objects_in (set os i c.args.object) (set es i (c.args.start, n)))) c.get.ensures.value
+    ∙ ap if_consistent (ap (λ n.
+    Some (objects_in (set os i c.args.object) (set es i (c.args.start, n)))) c.get.ensures.value
     ∙ set_there os es c.requires.paired c.args.limit c.args.start c.args.object i at)
 
 pub returns-in-Some-clause-paired : goal.returns-in-Some-clause-paired
@@ -55,15 +68,18 @@ returns-in-Some-clause-paired c =
     let os : List Object = c.args.objects.now.items in
     let es : List (ℕ × ℕ) = c.args.extents.now.items in
     let i : ℕ = c.in-Some.place in
-    same-lengths (set os i c.args.object) _ (set es i (c.args.start, c.get.result)) (set es i (c.args.start, c.args.object.length)) refl
+    same-lengths (set os i c.args.object) _ (set es i (c.args.start, c.get.result))
+    (set es i (c.args.start, c.args.object.length)) refl
     (ap (λ n. set es i (c.args.start, n)) c.get.ensures.value)
     (lengths_set os es i c.args.object c.args.start c.requires.paired)
 
 pub returns-then-place-from-clause-done : goal.returns-then-place-from-clause-done
 returns-then-place-from-clause-done c =
     let os : List Object = c.args.objects.now.items in
-    ap if_consistent (set_nowhere os c.args.extents.now.items c.requires.paired c.args.limit c.args.start c.args.object
-    (ap (place_of c.args.object.name) (sym c.deref.ensures.value) ∙ sym c.place_of_name.ensures.place ∙ c.in_default.is) (omega arith))
+    ap if_consistent (set_nowhere os c.args.extents.now.items c.requires.paired c.args.limit
+    c.args.start c.args.object
+    (ap (index_of c.args.object.name) (sym c.deref.ensures.value)
+    ∙ sym c.place_of_name.ensures.place ∙ c.in_default.is) (omega arith))
 
 pub returns-clause-done : goal.returns-clause-done
 returns-clause-done c =
@@ -73,8 +89,14 @@ returns-clause-done c =
     let next : List Object = c.push_reserved.new.self.items in
     let beside : List (ℕ × ℕ) = c.push_reserved-2.new.self.items in
     done_where c.stands_apart-2.result (objects_in next beside)
-    (c.stands_apart-2.ensures ∙ ap are_consistent (same-objects c.deref-2.result.now next c.deref-3.result.now beside c.deref-2.ensures.value c.deref-3.ensures.value))
-    ∙ ap if_consistent (ap Some (same-objects next (os ++ o ∷ []) beside (es ++ (c.args.start, o.length) ∷ [])
-    c.push_reserved.ensures.items (c.push_reserved-2.ensures.items ∙ ap (λ n. es ++ (c.args.start, n) ∷ []) c.get.ensures.value))
+    (c.stands_apart-2.ensures
+    ∙ ap are_consistent (same-objects c.deref-2.result.now next c.deref-3.result.now beside
+    c.deref-2.ensures.value c.deref-3.ensures.value))
+    ∙ ap if_consistent (ap Some
+    (same-objects next (os ++ o ∷ []) beside (es ++ (c.args.start, o.length) ∷ [])
+    c.push_reserved.ensures.items
+    (c.push_reserved-2.ensures.items
+    ∙ ap (λ n. es ++ (c.args.start, n) ∷ []) c.get.ensures.value))
     ∙ set_behind os es c.requires.paired c.args.limit c.args.start o
-    (ap (place_of o.name) (sym c.deref.ensures.value) ∙ sym c.place_of_name.ensures.place ∙ c.in_default.is) (omega arith))
+    (ap (index_of o.name) (sym c.deref.ensures.value) ∙ sym c.place_of_name.ensures.place
+    ∙ c.in_default.is) (omega arith))

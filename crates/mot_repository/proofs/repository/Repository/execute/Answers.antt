@@ -5,7 +5,8 @@ use Rattle.mot_repository.proofs.repository.Repository.execute.Goals as goal
 
 pub returns-in_err-prepared-clause-answered : goal.returns-in_err-prepared-clause-answered
 returns-in_err-prepared-clause-answered g c =
-    let answer = same_error c.from_residual.result c.in_err-prepared.field-0.0 c.from_residual.ensures.1 in
+    let answer = same_error c.from_residual.result c.in_err-prepared.field-0.0
+    c.from_residual.ensures.1 in
     refused c.in_err-prepared.field-0.0 answer c.in_err-prepared.ensures.refused refl
     (untouched (g.D.Disk.state c.args.self.now.disk))
 

@@ -8,4 +8,5 @@ returns-clause-held g c = rw (← c.self.view_is) (λ s honest holds.
     let old = g.D.Disk.state r.disk in
     let sound = g.met.D.Disk.sound r.disk holds.journal.honest in
     let has = holds.journal.each old.bytes sound.bytes in
-    c.in-Ok.ensures.exact honest (stands_where r.journal holds.records old.bytes has.read) ∙ has.clean.gates)
+    c.in-Ok.ensures.exact honest (stands_where r.journal holds.records old.bytes has.read)
+    ∙ has.clean.gates)

@@ -17,16 +17,20 @@ migrate-requires-clause-few g c =
     let r = c.self.inside in
     let kept = catalogue_with r.inventory.carousel r.inventory.extents.items in
     let one : r.journal.layout ≡ One = sym c.layout.ensures ∙ c.in-One.is in
-    let whole = subst (λ (layout : Layout). IsWhole r.journal.geometry layout kept) one c.self.invariant.whole in
-    (migrates r.journal.geometry kept c.deref.result.now whole (c.deref.ensures.value ∙ c.in_ok-given.ensures)).0
+    let whole = subst (λ (layout : Layout). IsWhole r.journal.geometry layout kept) one
+    c.self.invariant.whole in
+    (migrates r.journal.geometry kept c.deref.result.now whole
+    (c.deref.ensures.value ∙ c.in_ok-given.ensures)).0
 
 pub migrate-requires-clause-sound : goal.migrate-requires-clause-sound
 migrate-requires-clause-sound g c =
     let r = c.self.inside in
     let kept = catalogue_with r.inventory.carousel r.inventory.extents.items in
     let one : r.journal.layout ≡ One = sym c.layout.ensures ∙ c.in-One.is in
-    let whole = subst (λ (layout : Layout). IsWhole r.journal.geometry layout kept) one c.self.invariant.whole in
-    (migrates r.journal.geometry kept c.deref.result.now whole (c.deref.ensures.value ∙ c.in_ok-given.ensures)).1
+    let whole = subst (λ (layout : Layout). IsWhole r.journal.geometry layout kept) one
+    c.self.invariant.whole in
+    (migrates r.journal.geometry kept c.deref.result.now whole
+    (c.deref.ensures.value ∙ c.in_ok-given.ensures)).1
 
 pub invariant_of-self : goal.invariant_of-self
 invariant_of-self g c =
@@ -35,7 +39,9 @@ invariant_of-self g c =
     let kept = catalogue_with r.inventory.carousel r.inventory.extents.items in
     let one : r.journal.layout ≡ One = sym c.layout.ensures ∙ c.in-One.is in
     let whole = subst (λ (layout : Layout). IsWhole r.journal.geometry layout kept) one is.whole in
-    subst (λ (j : JournalView). IsInOrder (view_with j r.inventory.carousel r.inventory.extents.items r.halted) (g.D.Disk.state c.migrate.new.disk).len)
+    subst (λ (j : JournalView).
+    IsInOrder (view_with j r.inventory.carousel r.inventory.extents.items r.halted)
+    (g.D.Disk.state c.migrate.new.disk).len)
     (sym c.in-Ok.ensures.rewrites.moves)
     (record {
       valid = is.valid;
@@ -53,11 +59,13 @@ returns-in_default-migrate-clause-any_moment g c = rw (← c.self.view_is) (λ s
     let old = state r.disk in
     let new = state c.migrate.new.disk in
     let given = c.deref.result.now in
-    let view : RepositoryView = view_with r.journal r.inventory.carousel r.inventory.extents.items r.halted in
+    let view : RepositoryView =
+    view_with r.journal r.inventory.carousel r.inventory.extents.items r.halted in
     let sound = g.met.D.Disk.sound r.disk holds.journal.honest in
     let k = rewrites view s old sound holds given (c.deref.ensures.value ∙ c.in_ok-given.ensures) in
     moments view s Two given k.0 r.journal old new refl holds k.1 k.2
-    (c.migrate.ensures.rewrites.any_moment holds.records (here view s Two given k.0 r.journal old new refl holds k.1 k.2)
+    (c.migrate.ensures.rewrites.any_moment holds.records
+    (here view s Two given k.0 r.journal old new refl holds k.1 k.2)
     (folds view s Two given k.0 r.journal old new refl holds k.1 k.2)))
 
 pub returns-clause-any_moment : goal.returns-clause-any_moment
@@ -67,11 +75,13 @@ returns-clause-any_moment g c = rw (← c.self.view_is) (λ s holds.
     let old = state r.disk in
     let new = state c.migrate.new.disk in
     let given = c.deref.result.now in
-    let view : RepositoryView = view_with r.journal r.inventory.carousel r.inventory.extents.items r.halted in
+    let view : RepositoryView =
+    view_with r.journal r.inventory.carousel r.inventory.extents.items r.halted in
     let sound = g.met.D.Disk.sound r.disk holds.journal.honest in
     let k = rewrites view s old sound holds given (c.deref.ensures.value ∙ c.in_ok-given.ensures) in
     moments view s Two given k.0 r.journal old new refl holds k.1 k.2
-    (c.migrate.ensures.rewrites.any_moment holds.records (here view s Two given k.0 r.journal old new refl holds k.1 k.2)
+    (c.migrate.ensures.rewrites.any_moment holds.records
+    (here view s Two given k.0 r.journal old new refl holds k.1 k.2)
     (folds view s Two given k.0 r.journal old new refl holds k.1 k.2)))
 
 pub returns-clause-ok : goal.returns-clause-ok
@@ -81,15 +91,18 @@ returns-clause-ok g c = rw (← c.self.view_is) (λ s holds.
     let old = state r.disk in
     let new = state c.migrate.new.disk in
     let given = c.deref.result.now in
-    let view : RepositoryView = view_with r.journal r.inventory.carousel r.inventory.extents.items r.halted in
-    let after : RepositoryView = view_with c.migrate.new.self r.inventory.carousel r.inventory.extents.items r.halted in
+    let view : RepositoryView =
+    view_with r.journal r.inventory.carousel r.inventory.extents.items r.halted in
+    let after : RepositoryView =
+    view_with c.migrate.new.self r.inventory.carousel r.inventory.extents.items r.halted in
     let sound = g.met.D.Disk.sound r.disk holds.journal.honest in
     let k = rewrites view s old sound holds given (c.deref.ensures.value ∙ c.in_ok-given.ensures) in
     let was = here view s Two given k.0 r.journal old new refl holds k.1 k.2 in
     let fits = folds view s Two given k.0 r.journal old new refl holds k.1 k.2 in
     let same = ap (λ (j : JournalView). j.geometry) c.in-Ok.ensures.rewrites.moves in
     (held view s Two given k.0 r.journal old new refl holds k.1 k.2 sound c.migrate.new.self same
-    (c.in-Ok.ensures.rewrites.ok holds.records was fits) (c.in-Ok.ensures.rewrites.area holds.records was fits) after refl holds.going
+    (c.in-Ok.ensures.rewrites.ok holds.records was fits)
+    (c.in-Ok.ensures.rewrites.area holds.records was fits) after refl holds.going
     (record {
       geometry = same ∙ holds.agrees.geometry;
       extents = holds.agrees.extents;
@@ -105,7 +118,8 @@ returns-in_default-migrate-clause-now g c =
     let run = rw (← c.self.view_is) at (returns-in_default-migrate-clause-any_moment g c) in
     rw (← c.self.view_is) (λ s holds.
     let honest = c.migrate.ensures.keeps.honest holds.journal.honest in
-    at_end (state c.self.inside.disk) (state new) (IsOf s) (g.met.D.Disk.sound new honest) (run s holds))
+    at_end (state c.self.inside.disk) (state new) (IsOf s) (g.met.D.Disk.sound new honest)
+    (run s holds))
 
 pub returns-clause-now : goal.returns-clause-now
 returns-clause-now g c =
@@ -114,7 +128,8 @@ returns-clause-now g c =
     let run = rw (← c.self.view_is) at (returns-clause-any_moment g c) in
     rw (← c.self.view_is) (λ s holds.
     let honest = c.migrate.ensures.keeps.honest holds.journal.honest in
-    at_end (state c.self.inside.disk) (state new) (IsOf s) (g.met.D.Disk.sound new honest) (run s holds))
+    at_end (state c.self.inside.disk) (state new) (IsOf s) (g.met.D.Disk.sound new honest)
+    (run s holds))
 
 pub returns-clause-layouts : goal.returns-clause-layouts
 returns-clause-layouts g c = λ s holds image left.

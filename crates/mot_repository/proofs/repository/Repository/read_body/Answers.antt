@@ -20,7 +20,8 @@ returns-clause-read g c = rw (← c.self.view_is) (λ honest.
     let extent = extent_at extents c.args.place in
     let at = rw (← c.self.view_is) at c.place_on_disk-at.ensures.value in
     let within = rw (← c.self.view_is) at c.requires.within in
-    let part : slice_range (body_on r.journal.geometry extents c.args.place bytes) c.args.from (c.args.from + n)
+    let part : slice_range (body_on r.journal.geometry extents c.args.place bytes) c.args.from
+    (c.args.from + n)
     ≡ slice_range bytes c.place_on_disk-at.result (c.place_on_disk-at.result + n) =
     part_of_part bytes (area_start r.journal.geometry + extent.0) extent.1 c.args.from n within
     ∙ sym (ap (λ k. slice_range bytes k (k + n)) at) in
@@ -35,7 +36,8 @@ returns-clause-honest g c = rw (← c.self.view_is) (λ honest is.
     let extent = extent_at extents c.args.place in
     let at = rw (← c.self.view_is) at c.place_on_disk-at.ensures.value in
     let within = rw (← c.self.view_is) at c.requires.within in
-    let whole = slice_range (body_on r.journal.geometry extents c.args.place bytes) c.args.from (c.args.from + n) in
+    let whole = slice_range (body_on r.journal.geometry extents c.args.place bytes) c.args.from
+    (c.args.from + n) in
     let part : whole
     ≡ slice_range bytes c.place_on_disk-at.result (c.place_on_disk-at.result + n) =
     part_of_part bytes (area_start r.journal.geometry + extent.0) extent.1 c.args.from n within
@@ -48,4 +50,5 @@ returns-clause-bytes g c = λ s holds honest.
     let n = length c.args.out.now in
     let sound = g.met.D.Disk.sound old.disk holds.journal.honest in
     returns-clause-read g c honest
-    ∙ sym (ap (λ body. slice_range body c.args.from (c.args.from + n)) (body_held old.view s (g.D.Disk.state old.disk) sound holds c.args.place c.requires.place))
+    ∙ sym (ap (λ body. slice_range body c.args.from (c.args.from + n))
+    (body_held old.view s (g.D.Disk.state old.disk) sound holds c.args.place c.requires.place))

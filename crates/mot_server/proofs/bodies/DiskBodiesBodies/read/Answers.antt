@@ -9,4 +9,5 @@ returns-clause-lengths g c =
     let new = c.read_body.new.self in
     bodies_on-lengths new.view.journal.geometry new.view.extents (g.D.Disk.state new.disk).bytes
     ∙ ap (λ (v : RepositoryView). map (λ (e : ℕ × ℕ). e.1) v.extents) c.read_body.ensures.view
-    ∙ sym (bodies_on-lengths old.view.journal.geometry old.view.extents (g.D.Disk.state old.disk).bytes)
+    ∙ sym (bodies_on-lengths old.view.journal.geometry old.view.extents
+    (g.D.Disk.state old.disk).bytes)

@@ -1,4 +1,5 @@
-use Rattle.std.proofs.Common.{◌≡◌, ◌∙◌, ◌⊎◌, inl, inr, refl, sym, ap, subst, [], ◌∷◌, true, false, None}
+use Rattle.std.proofs.Common.{◌≡◌, ◌∙◌, ◌⊎◌, inl, inr, refl, sym, ap, subst, [], ◌∷◌, true, false}
+use Rattle.std.proofs.Common.{None}
 use Rattle.std.proofs.Common.{Result, Ok, Err}
 use Rattle.std.proofs.Math.Nat.{le_refl}
 use Rattle.disk_store.specs.Disk.{State}
@@ -19,8 +20,10 @@ pub returns-then-ends_run-clause-fault : goal.returns-then-ends_run-clause-fault
 returns-then-ends_run-clause-fault g c =
     let old = c.args.self.now in
     let state = g.D.Disk.state in
-    run_fault old.view old.view c.execute.new.self.view (state old.disk) (state old.disk) (state c.execute.new.self.disk)
-    c.args.command.now c.in-Err.refusal (le_refl (state old.disk).failures) c.in-Err.ensures.keeps.frame.later refl (sym c.ends_run.ensures ∙ c.if-ends_run.true)
+    run_fault old.view old.view c.execute.new.self.view (state old.disk) (state old.disk)
+    (state c.execute.new.self.disk)
+    c.args.command.now c.in-Err.refusal (le_refl (state old.disk).failures)
+    c.in-Err.ensures.keeps.frame.later refl (sym c.ends_run.ensures ∙ c.if-ends_run.true)
     c.in-Err.ensures.answered
 
 -- what is refused, and ends no run, changes nothing
@@ -83,9 +86,12 @@ returns-then-ends_run-clause-leaves g c = λ s holds.
     let state = g.D.Disk.state in
     let layout = old.view.journal.layout in
     let command = c.args.command.now in
-    let so_far = begins old.view (state old.disk) s (command ∷ []) (g.met.D.Disk.sound old.disk holds.journal.honest) holds in
-    ends_here layout old.view new.view (state old.disk) (state old.disk) (state new.disk) s (command ∷ []) [] command refl so_far
-    c.in-Err.ensures.keeps (c.in-Err.ensures.any_moment so_far.last so_far.holds) old.view refl (g.met.D.Disk.sound new.disk) c.in-Err.refusal c.in-Err.ensures.answered
+    let so_far = begins old.view (state old.disk) s (command ∷ [])
+    (g.met.D.Disk.sound old.disk holds.journal.honest) holds in
+    ends_here layout old.view new.view (state old.disk) (state old.disk) (state new.disk) s
+    (command ∷ []) [] command refl so_far
+    c.in-Err.ensures.keeps (c.in-Err.ensures.any_moment so_far.last so_far.holds) old.view refl
+    (g.met.D.Disk.sound new.disk) c.in-Err.refusal c.in-Err.ensures.answered
 
 pub returns-then-ends_run-clause-place : goal.returns-then-ends_run-clause-place
 returns-then-ends_run-clause-place g c = λ s last holds after.
@@ -100,10 +106,14 @@ returns-in-Ok-clause-leaves g c = λ s holds.
     let state = g.D.Disk.state in
     let layout = old.view.journal.layout in
     let command = c.args.command.now in
-    let so_far = begins old.view (state old.disk) s (command ∷ []) (g.met.D.Disk.sound old.disk holds.journal.honest) holds in
-    rests layout old.view new.view (state old.disk) (state new.disk) s (command ∷ []) (true ∷ []) None refl
-    (goes_on_true layout old.view new.view (state old.disk) (state old.disk) (state new.disk) s (command ∷ []) [] command refl so_far
-    c.in-Ok.ensures.keeps (c.in-Ok.ensures.any_moment so_far.last so_far.holds) c.in-Ok.done c.in-Ok.ensures.answered (c.in-Ok.ensures.ok so_far.last so_far.holds))
+    let so_far = begins old.view (state old.disk) s (command ∷ [])
+    (g.met.D.Disk.sound old.disk holds.journal.honest) holds in
+    rests layout old.view new.view (state old.disk) (state new.disk) s (command ∷ []) (true ∷ [])
+    None refl
+    (goes_on_true layout old.view new.view (state old.disk) (state old.disk) (state new.disk) s
+    (command ∷ []) [] command refl so_far
+    c.in-Ok.ensures.keeps (c.in-Ok.ensures.any_moment so_far.last so_far.holds) c.in-Ok.done
+    c.in-Ok.ensures.answered (c.in-Ok.ensures.ok so_far.last so_far.holds))
 
 pub returns-in-Ok-clause-place : goal.returns-in-Ok-clause-place
 returns-in-Ok-clause-place g c = λ s last holds after.
@@ -111,7 +121,8 @@ returns-in-Ok-clause-place g c = λ s last holds after.
     let new = c.execute.new.self in
     let command = c.args.command.now in
     let step = c.in-Ok.ensures.ok s holds in
-    turns_there old new [] (command ∷ []) command c.in-Ok.done s s step.0 last (place_in old s) refl (after_none s) step.1 refl
+    turns_there old new [] (command ∷ []) command c.in-Ok.done s s step.0 last (place_in old s) refl
+    (after_none s) step.1 refl
     (c.in-Ok.ensures.place s step.0 holds.agrees step.2.agrees) after
 
 pub returns-else-ends_run-clause-leaves : goal.returns-else-ends_run-clause-leaves
@@ -121,10 +132,14 @@ returns-else-ends_run-clause-leaves g c = λ s holds.
     let state = g.D.Disk.state in
     let layout = old.view.journal.layout in
     let command = c.args.command.now in
-    let so_far = begins old.view (state old.disk) s (command ∷ []) (g.met.D.Disk.sound old.disk holds.journal.honest) holds in
-    rests layout old.view new.view (state old.disk) (state new.disk) s (command ∷ []) (false ∷ []) None refl
-    (goes_on_false layout old.view new.view (state old.disk) (state old.disk) (state new.disk) s (command ∷ []) [] command refl so_far
-    c.in-Err.ensures.keeps (c.in-Err.ensures.any_moment so_far.last so_far.holds) c.in-Err.refusal (sym c.ends_run.ensures ∙ c.if-ends_run.false) c.in-Err.ensures.answered)
+    let so_far = begins old.view (state old.disk) s (command ∷ [])
+    (g.met.D.Disk.sound old.disk holds.journal.honest) holds in
+    rests layout old.view new.view (state old.disk) (state new.disk) s (command ∷ []) (false ∷ [])
+    None refl
+    (goes_on_false layout old.view new.view (state old.disk) (state old.disk) (state new.disk) s
+    (command ∷ []) [] command refl so_far
+    c.in-Err.ensures.keeps (c.in-Err.ensures.any_moment so_far.last so_far.holds) c.in-Err.refusal
+    (sym c.ends_run.ensures ∙ c.if-ends_run.false) c.in-Err.ensures.answered)
 
 pub returns-else-ends_run-clause-place : goal.returns-else-ends_run-clause-place
 returns-else-ends_run-clause-place g c = λ s last holds after.

@@ -2,7 +2,7 @@ use Rattle.std.proofs.Common.{◌≡◌, ℕ, List, refl, subst}
 use Rattle.std.specs.Prelude.{IfOk}
 use Rattle.mot_journal.specs.Image.{Standing}
 use Rattle.mot_player.specs.Laws.{IsStep}
-use Rattle.mot_player.specs.Standing as player
+use Rattle.mot_player.specs.PlayerView as player
 use Rattle.mot_player.specs.declared.state.Played.{Played}
 use Rattle.mot_repository.specs.Repository.{Holds}
 use Rattle.mot_server.specs.Inner.Bodies.{bodies_on}
@@ -25,11 +25,18 @@ returns-clause-sent g c = λ s holds honest.
     let kept : (d : Standing) → Holds now.view d (state now.disk) → Holds r.view d (state r.disk) =
     rw (← c.self.view_is) (λ d held. held) in
     let held = kept s holds in
-    let same : bodies_on r.view.journal.geometry r.view.extents (state r.disk).bytes ≡ bodies_of s.carousel =
-    bodies_held r.view s (state r.disk) (g.met.D.Disk.sound r.disk held.journal.honest) held c.body_count.ensures.paired in
+    let same : bodies_on r.view.journal.geometry r.view.extents (state r.disk).bytes
+    ≡ bodies_of s.carousel =
+    bodies_held r.view s (state r.disk) (g.met.D.Disk.sound r.disk held.journal.honest) held
+    c.body_count.ensures.paired in
     let same_player : c.self.inside.player ≡ now.player = rw (← c.self.view_is) refl in
-    let new : player.Standing = c.next_packet.new.self in
-    subst (λ (p : player.Standing). IfOk c.next_packet.result (λ (played : Played). IsStep (player.place_of p (bodies_of s.carousel))
+    let new : player.PlayerView = c.next_packet.new.self in
+    subst (λ (p : player.PlayerView).
+    IfOk c.next_packet.result
+    (λ (played : Played). IsStep (player.place_of p (bodies_of s.carousel))
     played.packet.items played.ends_turn (player.place_of new (bodies_of s.carousel)))) same_player
-    (subst (λ (bodies : List (List ℕ)). IfOk c.next_packet.result (λ (played : Played). IsStep (player.place_of c.self.inside.player bodies)
-    played.packet.items played.ends_turn (player.place_of new bodies))) same (c.next_packet.ensures.sent honest))
+    (subst (λ (bodies : List (List ℕ)).
+    IfOk c.next_packet.result
+    (λ (played : Played). IsStep (player.place_of c.self.inside.player bodies)
+    played.packet.items played.ends_turn (player.place_of new bodies))) same
+    (c.next_packet.ensures.sent honest))

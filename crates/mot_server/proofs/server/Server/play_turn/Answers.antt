@@ -1,11 +1,14 @@
-use Rattle.std.proofs.Common.{ℕ, Bool, inl, suc, List, [], ◌∷◌, ◌++◌, length, length-append, refl, sym, ap, ◌∙◌, subst, arith}
+use Rattle.std.proofs.Common.{ℕ, Bool, inl, suc, List, [], ◌∷◌, ◌++◌, length, length-append, refl}
+use Rattle.std.proofs.Common.{sym, ap, ◌∙◌, subst, arith}
 use Rattle.disk_store.proofs.Laws.{reads_none, reads_on}
 use Rattle.mot_player.specs.AnyBodies.{IsStepOfSome, PlaysOn, PlaysToTheEnd}
-use Rattle.mot_player.specs.Standing as player
-use Rattle.mot_server.specs.Inner.Going.{IsGoing}
+use Rattle.mot_player.specs.PlayerView as player
+use Rattle.mot_server.specs.Playing.{IsGoing}
 use Rattle.mot_server.specs.Playing.{HasPlayed, HasPlayedTurn, bytes_of_packets}
 use Rattle.mot_server.specs.Server.{bodies_of, place_in}
-use Rattle.mot_server.proofs.Going.{HasPlayed-more, HasPlayedTurn-ended, IsGoing-more, IsGoing-none, MatchResult-failed, OnErr-always, PlaysOn-more, bytes_of_packets-more, plays_one_more}
+use Rattle.mot_server.proofs.Going.{HasPlayed-more, HasPlayedTurn-ended, IsGoing-more, IsGoing-none}
+use Rattle.mot_server.proofs.Going.{MatchResult-failed, OnErr-always, PlaysOn-more}
+use Rattle.mot_server.proofs.Going.{bytes_of_packets-more, plays_one_more}
 use Rattle.mot_server.proofs.Read.{holds_still}
 use Rattle.mot_server.proofs.Whole.{turn_reads}
 use Rattle.mot_server.proofs.server.Server.play_turn.Goals as goal
@@ -16,8 +19,11 @@ loop-packets-init g c = record {
   reads = reads_none (g.D.Disk.state c.args.self.now.disk);
   calm = refl;
   cost = omega arith;
-  going = λ s holds honest. subst (λ (xs : List (List ℕ)). IsGoing (place_in c.args.self.now s) xs (place_in c.args.self.now s))
-      (sym (ap bytes_of_packets c.new-packets.ensures.items)) (IsGoing-none (place_in c.args.self.now s));
+  going = λ s holds honest.
+      subst (λ (xs : List (List ℕ)).
+      IsGoing (place_in c.args.self.now s) xs (place_in c.args.self.now s))
+      (sym (ap bytes_of_packets c.new-packets.ensures.items))
+      (IsGoing-none (place_in c.args.self.now s));
   of_some = subst (λ (xs : List (List ℕ)). PlaysOn c.args.self.now.player xs c.args.self.now.player)
       (sym (ap bytes_of_packets c.new-packets.ensures.items)) refl;
 }
@@ -28,7 +34,8 @@ returns-in_err-packet-clause-of_some g c =
     let packets : List (List ℕ) = bytes_of_packets c.loop-packets.packets.items in
     MatchResult-failed c.from_residual.result _ _ c.from_residual.ensures.0 (
       packets,
-      inl (subst (λ (p : player.Standing). PlaysOn start packets p) (sym c.in_err-packet.ensures.stays)
+      inl (subst (λ (p : player.PlayerView). PlaysOn start packets p)
+          (sym c.in_err-packet.ensures.stays)
           c.loop-packets.invariant.of_some),
     )
 
@@ -38,8 +45,10 @@ returns-in_err-push-clause-of_some g c =
     let played = c.in_ok-packet.field-0 in
     MatchResult-failed c.from_residual-in_err-push.result _ _ c.from_residual-in_err-push.ensures.0 (
       packets ++ played.packet.items ∷ [],
-      plays_one_more c.args.self.now.player c.loop-packets.self.player c.next_packet.new.self.player packets
-          played.packet.items played.ends_turn c.loop-packets.invariant.of_some c.in_ok-packet.ensures.of_some,
+      plays_one_more c.args.self.now.player c.loop-packets.self.player c.next_packet.new.self.player
+          packets
+          played.packet.items played.ends_turn c.loop-packets.invariant.of_some
+          c.in_ok-packet.ensures.of_some,
     )
 
 pub returns-then-ends_turn-clause-of_some : goal.returns-then-ends_turn-clause-of_some
@@ -65,11 +74,14 @@ pub returns-in_err-packet-clause-stands : goal.returns-in_err-packet-clause-stan
 returns-in_err-packet-clause-stands g c = λ s holds honest.
     let start = c.args.self.now in
     let packets : List (List ℕ) = bytes_of_packets c.loop-packets.packets.items in
-    let going = c.loop-packets.invariant.going s holds (c.next_packet.ensures.only_reads.keeps.was_honest honest) in
+    let going = c.loop-packets.invariant.going s holds
+    (c.next_packet.ensures.only_reads.keeps.was_honest honest) in
     OnErr-always c.from_residual.result _ (
       length packets,
       packets,
-      subst (λ (p : player.Standing). HasPlayed (place_in start s) (length packets) packets (player.place_of p (bodies_of s.carousel)))
+      subst (λ (p : player.PlayerView).
+          HasPlayed (place_in start s) (length packets) packets
+          (player.place_of p (bodies_of s.carousel)))
           (sym c.in_err-packet.ensures.stays) going.played,
     )
 
@@ -80,15 +92,18 @@ returns-in_err-push-clause-stands g c = λ s holds honest.
     let now = c.next_packet.new.self in
     let state = g.D.Disk.state in
     let was = c.next_packet.ensures.only_reads.keeps.was_honest honest in
-    let held = holds_still start.view mid.view s (state start.disk) (state mid.disk) holds was (c.loop-packets.invariant.reads.unchanged was)
+    let held = holds_still start.view mid.view s (state start.disk) (state mid.disk) holds was
+    (c.loop-packets.invariant.reads.unchanged was)
     c.loop-packets.invariant.view in
     let packets : List (List ℕ) = bytes_of_packets c.loop-packets.packets.items in
     let going = c.loop-packets.invariant.going s holds was in
     OnErr-always c.from_residual-in_err-push.result _ (
       suc (length packets),
       packets ++ c.in_ok-packet.field-0.packet.items ∷ [],
-      HasPlayed-more (place_in start s) (place_in mid s) (place_in now s) (length packets) packets going.played
-          c.in_ok-packet.field-0.packet.items c.in_ok-packet.field-0.ends_turn (c.in_ok-packet.ensures.sent s held honest),
+      HasPlayed-more (place_in start s) (place_in mid s) (place_in now s) (length packets) packets
+          going.played
+          c.in_ok-packet.field-0.packet.items c.in_ok-packet.field-0.ends_turn
+          (c.in_ok-packet.ensures.sent s held honest),
     )
 
 pub returns-then-ends_turn-clause-turn : goal.returns-then-ends_turn-clause-turn
@@ -98,20 +113,25 @@ returns-then-ends_turn-clause-turn g c = λ s holds honest.
     let now = c.next_packet.new.self in
     let state = g.D.Disk.state in
     let was = c.next_packet.ensures.only_reads.keeps.was_honest honest in
-    let held = holds_still start.view mid.view s (state start.disk) (state mid.disk) holds was (c.loop-packets.invariant.reads.unchanged was)
+    let held = holds_still start.view mid.view s (state start.disk) (state mid.disk) holds was
+    (c.loop-packets.invariant.reads.unchanged was)
     c.loop-packets.invariant.view in
     let items = ap bytes_of_packets c.in_ok-push.ensures.items
     ∙ bytes_of_packets-more c.loop-packets.packets.items c.in_ok-packet.field-0.packet in
     subst (λ (xs : List (List ℕ)). HasPlayedTurn (place_in start s) xs (place_in now s)) (sym items)
     (HasPlayedTurn-ended (place_in start s) (place_in mid s) (place_in now s)
-    (bytes_of_packets c.loop-packets.packets.items) (c.loop-packets.invariant.going s holds was) c.in_ok-packet.field-0.packet.items
-    c.in_ok-packet.field-0.ends_turn (c.in_ok-packet.ensures.sent s held honest) c.if-ends_turn.true)
+    (bytes_of_packets c.loop-packets.packets.items) (c.loop-packets.invariant.going s holds was)
+    c.in_ok-packet.field-0.packet.items
+    c.in_ok-packet.field-0.ends_turn (c.in_ok-packet.ensures.sent s held honest)
+    c.if-ends_turn.true)
 
 pub returns-then-ends_turn-clause-reads : goal.returns-then-ends_turn-clause-reads
 returns-then-ends_turn-clause-reads g c = λ s holds honest begins.
     let start = c.args.self.now in
-    turn_reads start.view s (g.D.Disk.state start.disk) start.player (bytes_of_packets c.push.new.self.items)
-    (place_in c.next_packet.new.self s) (g.met.D.Disk.sound start.disk holds.journal.honest) holds c.segment_size.ensures.plays
+    turn_reads start.view s (g.D.Disk.state start.disk) start.player
+    (bytes_of_packets c.push.new.self.items)
+    (place_in c.next_packet.new.self s) (g.met.D.Disk.sound start.disk holds.journal.honest) holds
+    c.segment_size.ensures.plays
     c.segment_size.ensures.place (returns-then-ends_turn-clause-turn g c s holds honest) begins
 
 pub loop-packets-preserved : goal.loop-packets-preserved
@@ -125,7 +145,8 @@ loop-packets-preserved g c =
     ∙ bytes_of_packets-more c.loop-packets.packets.items c.in_ok-packet.field-0.packet in
     record {
       view = c.next_packet.ensures.view ∙ is.view;
-      reads = reads_on (state start.disk) (state mid.disk) (state now.disk) is.reads c.next_packet.ensures.only_reads;
+      reads = reads_on (state start.disk) (state mid.disk) (state now.disk) is.reads
+          c.next_packet.ensures.only_reads;
       calm = c.in_ok-packet.ensures.no_fault ∙ is.calm;
       cost =
           let so_far = is.cost in
@@ -139,14 +160,19 @@ loop-packets-preserved g c =
           );
       going = λ s holds honest.
           let was = c.next_packet.ensures.only_reads.keeps.was_honest honest in
-          let held = holds_still start.view mid.view s (state start.disk) (state mid.disk) holds was (is.reads.unchanged was) is.view in
+          let held = holds_still start.view mid.view s (state start.disk) (state mid.disk) holds was
+          (is.reads.unchanged was) is.view in
           subst (λ (xs : List (List ℕ)). IsGoing (place_in start s) xs (place_in now s)) (sym items)
-          (IsGoing-more (place_in start s) (place_in mid s) (place_in now s) (bytes_of_packets c.loop-packets.packets.items)
-          (is.going s holds was) c.in_ok-packet.field-0.packet.items c.in_ok-packet.field-0.ends_turn
+          (IsGoing-more (place_in start s) (place_in mid s) (place_in now s)
+          (bytes_of_packets c.loop-packets.packets.items)
+          (is.going s holds was) c.in_ok-packet.field-0.packet.items
+          c.in_ok-packet.field-0.ends_turn
           (c.in_ok-packet.ensures.sent s held honest) c.if-ends_turn.false);
       of_some = subst (λ (xs : List (List ℕ)). PlaysOn start.player xs now.player) (sym items)
-          (PlaysOn-more start.player mid.player now.player (bytes_of_packets c.loop-packets.packets.items)
+          (PlaysOn-more start.player mid.player now.player
+          (bytes_of_packets c.loop-packets.packets.items)
           c.in_ok-packet.field-0.packet.items is.of_some
-          (subst (λ (e : Bool). IsStepOfSome mid.player c.in_ok-packet.field-0.packet.items e now.player)
+          (subst (λ (e : Bool). IsStepOfSome mid.player c.in_ok-packet.field-0.packet.items e
+          now.player)
           c.if-ends_turn.false c.in_ok-packet.ensures.of_some));
     }

@@ -4,7 +4,7 @@ use Rattle.mot_journal.specs.Image.{Standing}
 use Rattle.mot_player.specs.AnyBodies.{PlaysOn}
 use Rattle.mot_player.specs.Laws.{bytes_left}
 use Rattle.mot_repository.specs.Repository.{Holds}
-use Rattle.mot_server.specs.Inner.Going.{IsGoing}
+use Rattle.mot_server.specs.Playing.{IsGoing}
 use Rattle.mot_server.specs.Playing.{bytes_of_packets}
 use Rattle.mot_server.specs.Server.{place_in}
 use Rattle.mot_server.proofs.server.Server.play_turn.Given as goal
@@ -16,7 +16,8 @@ invariant-loop-packets g l = record {
   calm : (g.D.Disk.state l.self.disk).failures ≡ (g.D.Disk.state l.fn.self.disk).failures;
   cost : (g.D.Disk.state l.self.disk).calls
       ≤ (g.D.Disk.state l.fn.self.disk).calls + length l.packets.items;
-  going : (s : Standing) → Holds l.fn.self.view s (g.D.Disk.state l.fn.self.disk) → (g.D.Disk.state l.self.disk).IsHonest
+  going : (s : Standing) → Holds l.fn.self.view s (g.D.Disk.state l.fn.self.disk)
+      → (g.D.Disk.state l.self.disk).IsHonest
       → IsGoing (place_in l.fn.self s) (bytes_of_packets l.packets.items) (place_in l.self s);
   of_some : PlaysOn l.fn.self.player (bytes_of_packets l.packets.items) l.self.player;
 }

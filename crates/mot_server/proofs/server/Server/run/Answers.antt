@@ -1,4 +1,5 @@
-use Rattle.std.proofs.Common.{◌≡◌, ◌∙◌, rules, refl, sym, ap, subst, Bool, true, false, length, ◌≤◌, [], Some, None, Ok, Err}
+use Rattle.std.proofs.Common.{◌≡◌, ◌∙◌, rules, refl, sym, ap, subst, Bool, true, false, length, ◌≤◌}
+use Rattle.std.proofs.Common.{[], Some, None, Ok, Err}
 use Rattle.std.specs.Prelude.{slice_get, vec_capacity}
 use Rattle.std.specs.Global.{Vec}
 use Rattle.std.proofs.lemmas.Option.{slice_get_read}
@@ -8,13 +9,15 @@ use Rattle.mot_server.specs.RunEnds.{place_behind}
 use Rattle.mot_server.specs.Runs.{accepted_commands, IsAfter}
 use Rattle.mot_server.specs.Server.{place_in}
 use Rattle.mot_server.proofs.Places.{none_done, stays_there, turns_there}
-use Rattle.mot_server.proofs.Runs.{Reached, begins, rests, one_longer, marks_after, accepted-true, accepted-false}
+use Rattle.mot_server.proofs.Runs.{Reached, begins, rests, one_longer, marks_after, accepted-true}
+use Rattle.mot_server.proofs.Runs.{accepted-false}
 use Rattle.disk_store.proofs.Laws.{keeps_all_on}
 use Rattle.mot_server.specs.RunAnswers.{AreAnswered}
 use Rattle.mot_server.proofs.RunAnswered.{answered_true, answered_false, answered_end}
 use Rattle.mot_server.proofs.RunAnswered.{answered_halted, answered_no_memory, answered_whole}
 use Rattle.mot_server.proofs.RunAnswered.{keeps_layout}
-use Rattle.mot_server.proofs.Answered.{goes_on_true, goes_on_false, ends_here, run_fault, as_halted, no_fault_in, no_fault_of}
+use Rattle.mot_server.proofs.Answered.{goes_on_true, goes_on_false, ends_here, run_fault, as_halted}
+use Rattle.mot_server.proofs.Answered.{no_fault_in, no_fault_of}
 use Rattle.mot_server.proofs.server.Server.run.Goals as goal
 use Rattle.mot_server.proofs.server.Server.run.Goals.{in-Ok-execute, in-Err+else-ends_run}
 
@@ -23,24 +26,35 @@ returns-in_default-clause-leaves g c = λ s holds.
     let state = g.D.Disk.state c.args.self.now.disk in
     let view = c.args.self.now.view in
     let sound = g.met.D.Disk.sound c.args.self.now.disk holds.journal.honest in
-    subst (λ l. RunLeaves view view state state s c.args.commands.now l (Some OutOfMemory)) (sym c.new-in_default.ensures.items)
-    (rests view.journal.layout view view state state s c.args.commands.now [] (Some OutOfMemory) refl
+    subst (λ l. RunLeaves view view state state s c.args.commands.now l (Some OutOfMemory))
+    (sym c.new-in_default.ensures.items)
+    (rests view.journal.layout view view state state s c.args.commands.now [] (Some OutOfMemory)
+    refl
     (begins view state s c.args.commands.now sound holds))
 
 pub returns-clause-leaves : goal.returns-clause-leaves
 returns-clause-leaves g c = λ s holds.
     let state = g.D.Disk.state in
-    rests c.args.self.now.view.journal.layout c.args.self.now.view c.loop-command.self.view (state c.args.self.now.disk) (state c.loop-command.self.disk) s c.args.commands.now c.loop-command.done.items None refl
+    rests c.args.self.now.view.journal.layout c.args.self.now.view c.loop-command.self.view
+    (state c.args.self.now.disk) (state c.loop-command.self.disk) s c.args.commands.now
+    c.loop-command.done.items None refl
     (c.loop-command.invariant.reached s holds)
 
 pub returns-then-ends_run-clause-leaves : goal.returns-then-ends_run-clause-leaves
 returns-then-ends_run-clause-leaves g c = λ s holds.
     let state = g.D.Disk.state in
     let index = c.loop-command.invariant.index in
-    let read = slice_get_read c.args.commands.now _ c.loop-command.command-index c.command-item.result refl c.loop-command-test.true c.command-item.is in
-    let at = subst (λ i. slice_get c.args.commands.now i ≡ Some c.command-item.result) (sym index) read in
+    let read = slice_get_read c.args.commands.now _ c.loop-command.command-index
+    c.command-item.result refl c.loop-command-test.true c.command-item.is in
+    let at = subst (λ i. slice_get c.args.commands.now i ≡ Some c.command-item.result) (sym index)
+    read in
     let so_far = c.loop-command.invariant.reached s holds in
-    ends_here c.args.self.now.view.journal.layout c.loop-command.self.view c.execute.new.self.view (state c.args.self.now.disk) (state c.loop-command.self.disk) (state c.execute.new.self.disk) s c.args.commands.now c.loop-command.done.items c.command-item.result at so_far c.in-Err.ensures.keeps (c.in-Err.ensures.any_moment so_far.last so_far.holds) c.args.self.now.view refl (g.met.D.Disk.sound c.execute.new.self.disk) c.in-Err.refusal c.in-Err.ensures.answered
+    ends_here c.args.self.now.view.journal.layout c.loop-command.self.view c.execute.new.self.view
+    (state c.args.self.now.disk) (state c.loop-command.self.disk)
+    (state c.execute.new.self.disk) s c.args.commands.now c.loop-command.done.items
+    c.command-item.result at so_far c.in-Err.ensures.keeps
+    (c.in-Err.ensures.any_moment so_far.last so_far.holds) c.args.self.now.view refl
+    (g.met.D.Disk.sound c.execute.new.self.disk) c.in-Err.refusal c.in-Err.ensures.answered
 
 pub loop-command-init : goal.loop-command-init
 loop-command-init g c = record {
@@ -50,27 +64,37 @@ loop-command-init g c = record {
       c.args.self.now.view) (sym c.in-Ok.ensures.items) refl;
   index = search rules;
   room = search rules;
-  plays = λ s last holds after. none_done c.args.self.now c.args.commands.now c.in-Ok.done.items c.in-Ok.ensures.items s last after;
+  plays = λ s last holds after.
+      none_done c.args.self.now c.args.commands.now c.in-Ok.done.items c.in-Ok.ensures.items s last
+      after;
   reached = λ s holds.
       let state = g.D.Disk.state c.args.self.now.disk in
       let view = c.args.self.now.view in
       let sound = g.met.D.Disk.sound c.args.self.now.disk holds.journal.honest in
-      subst (λ l. Reached view.journal.layout view state state s c.args.commands.now l) (sym c.in-Ok.ensures.items) (begins view state s c.args.commands.now sound holds);
+      subst (λ l. Reached view.journal.layout view state state s c.args.commands.now l)
+      (sym c.in-Ok.ensures.items) (begins view state s c.args.commands.now sound holds);
 }
 
 pub loop-command-preserved : goal.loop-command-preserved
 loop-command-preserved g c =
     let state = g.D.Disk.state in
     let index = c.loop-command.invariant.index in
-    let read = slice_get_read c.args.commands.now _ c.loop-command.command-index c.command-item.result refl c.loop-command-test.true c.command-item.is in
-    let at = subst (λ i. slice_get c.args.commands.now i ≡ Some c.command-item.result) (sym index) read in
+    let read = slice_get_read c.args.commands.now _ c.loop-command.command-index
+    c.command-item.result refl c.loop-command-test.true c.command-item.is in
+    let at = subst (λ i. slice_get c.args.commands.now i ≡ Some c.command-item.result) (sym index)
+    read in
     elim c.match-execute.branch [
       | in-Ok-execute w ↦
           let now = ap (λ (v : Vec Bool). v.items) w.done-is ∙ w.push_reserved.ensures.items in
           let run = w.in-Ok-execute.ensures in
           record {
-            keeps = keeps_all_on (state c.args.self.now.disk) (state c.loop-command.self.disk) (state c.execute.new.self.disk) c.loop-command.invariant.keeps run.keeps;
-            halted = as_halted c.loop-command.self.view c.execute.new.self.view (state c.loop-command.self.disk) (state c.execute.new.self.disk) c.command-item.result (Ok w.in-Ok-execute.field-0) (no_fault_in w.in-Ok-execute.field-0) run.answered ∙ c.loop-command.invariant.halted;
+            keeps = keeps_all_on (state c.args.self.now.disk) (state c.loop-command.self.disk)
+                (state c.execute.new.self.disk) c.loop-command.invariant.keeps run.keeps;
+            halted = as_halted c.loop-command.self.view c.execute.new.self.view
+                (state c.loop-command.self.disk) (state c.execute.new.self.disk)
+                c.command-item.result (Ok w.in-Ok-execute.field-0)
+                (no_fault_in w.in-Ok-execute.field-0) run.answered
+                ∙ c.loop-command.invariant.halted;
             answered = subst (λ l. AreAnswered c.args.self.now.view c.args.commands.now l
                 c.execute.new.self.view) (sym now)
                 (answered_true c.args.self.now.view c.loop-command.self.view
@@ -78,30 +102,51 @@ loop-command-preserved g c =
                 (state c.execute.new.self.disk) c.args.commands.now c.loop-command.done.items
                 c.command-item.result at c.loop-command.invariant.answered
                 w.in-Ok-execute.field-0 run.answered);
-            index = one_longer c.loop-command.done.items c.match-execute.done.items true c.loop-command.command-index now index;
-            room = subst (λ n. length c.args.commands.now ≤ n) (sym (ap (λ (v : Vec Bool). vec_capacity v) w.done-is ∙ w.push_reserved.ensures.capacity)) c.loop-command.invariant.room;
+            index = one_longer c.loop-command.done.items c.match-execute.done.items true
+                c.loop-command.command-index now index;
+            room = subst (λ n. length c.args.commands.now ≤ n)
+                (sym (ap (λ (v : Vec Bool). vec_capacity v) w.done-is
+                ∙ w.push_reserved.ensures.capacity)) c.loop-command.invariant.room;
             plays = λ s last holds after.
                 let so_far = c.loop-command.invariant.reached s holds in
                 let marks = c.loop-command.done.items in
                 let commands = c.args.commands.now in
                 let step = run.ok so_far.last so_far.holds in
-                let accepted = marks_after c.args.self.now.view.journal.layout s commands marks so_far.last so_far.marked in
-                turns_there c.loop-command.self c.execute.new.self (accepted_commands commands marks) (accepted_commands commands c.match-execute.done.items)
-                c.command-item.result w.in-Ok-execute.field-0 s so_far.last step.0 last (place_in c.args.self.now s)
-                (ap (accepted_commands commands) now ∙ accepted-true commands marks c.command-item.result at)
+                let accepted = marks_after c.args.self.now.view.journal.layout s commands marks
+                so_far.last so_far.marked in
+                turns_there c.loop-command.self c.execute.new.self
+                (accepted_commands commands marks)
+                (accepted_commands commands c.match-execute.done.items)
+                c.command-item.result w.in-Ok-execute.field-0 s so_far.last step.0 last
+                (place_in c.args.self.now s)
+                (ap (accepted_commands commands) now
+                ∙ accepted-true commands marks c.command-item.result at)
                 accepted step.1 (c.loop-command.invariant.plays s so_far.last holds accepted)
                 (run.place so_far.last step.0 so_far.holds.agrees step.2.agrees) after;
             reached = λ s holds.
                 let so_far = c.loop-command.invariant.reached s holds in
-                subst (λ l. Reached c.args.self.now.view.journal.layout c.execute.new.self.view (state c.args.self.now.disk) (state c.execute.new.self.disk) s c.args.commands.now l) (sym now)
-                (goes_on_true c.args.self.now.view.journal.layout c.loop-command.self.view c.execute.new.self.view (state c.args.self.now.disk) (state c.loop-command.self.disk) (state c.execute.new.self.disk) s c.args.commands.now c.loop-command.done.items c.command-item.result at so_far run.keeps (run.any_moment so_far.last so_far.holds) w.in-Ok-execute.field-0 run.answered (run.ok so_far.last so_far.holds));
+                subst (λ l. Reached c.args.self.now.view.journal.layout c.execute.new.self.view
+                (state c.args.self.now.disk) (state c.execute.new.self.disk) s
+                c.args.commands.now l) (sym now)
+                (goes_on_true c.args.self.now.view.journal.layout c.loop-command.self.view
+                c.execute.new.self.view (state c.args.self.now.disk)
+                (state c.loop-command.self.disk) (state c.execute.new.self.disk) s
+                c.args.commands.now c.loop-command.done.items c.command-item.result at so_far
+                run.keeps (run.any_moment so_far.last so_far.holds) w.in-Ok-execute.field-0
+                run.answered (run.ok so_far.last so_far.holds));
           }
       | in-Err+else-ends_run w ↦
-          let now = ap (λ (v : Vec Bool). v.items) w.done-is ∙ w.push_reserved-in-Err.ensures.items in
+          let now = ap (λ (v : Vec Bool). v.items) w.done-is
+          ∙ w.push_reserved-in-Err.ensures.items in
           let run = w.in-Err.ensures in
           record {
-            keeps = keeps_all_on (state c.args.self.now.disk) (state c.loop-command.self.disk) (state c.execute.new.self.disk) c.loop-command.invariant.keeps run.keeps;
-            halted = as_halted c.loop-command.self.view c.execute.new.self.view (state c.loop-command.self.disk) (state c.execute.new.self.disk) c.command-item.result (Err w.in-Err.refusal) (no_fault_of w.in-Err.refusal (sym w.ends_run.ensures ∙ w.if-ends_run.false)) run.answered ∙ c.loop-command.invariant.halted;
+            keeps = keeps_all_on (state c.args.self.now.disk) (state c.loop-command.self.disk)
+                (state c.execute.new.self.disk) c.loop-command.invariant.keeps run.keeps;
+            halted = as_halted c.loop-command.self.view c.execute.new.self.view
+                (state c.loop-command.self.disk) (state c.execute.new.self.disk)
+                c.command-item.result (Err w.in-Err.refusal)
+                (no_fault_of w.in-Err.refusal (sym w.ends_run.ensures ∙ w.if-ends_run.false))
+                run.answered ∙ c.loop-command.invariant.halted;
             answered = subst (λ l. AreAnswered c.args.self.now.view c.args.commands.now l
                 c.execute.new.self.view) (sym now)
                 (answered_false c.args.self.now.view c.loop-command.self.view
@@ -109,19 +154,34 @@ loop-command-preserved g c =
                 (state c.execute.new.self.disk) c.args.commands.now c.loop-command.done.items
                 c.command-item.result at c.loop-command.invariant.answered
                 w.in-Err.refusal (sym w.ends_run.ensures ∙ w.if-ends_run.false) run.answered);
-            index = one_longer c.loop-command.done.items c.match-execute.done.items false c.loop-command.command-index now index;
-            room = subst (λ n. length c.args.commands.now ≤ n) (sym (ap (λ (v : Vec Bool). vec_capacity v) w.done-is ∙ w.push_reserved-in-Err.ensures.capacity)) c.loop-command.invariant.room;
+            index = one_longer c.loop-command.done.items c.match-execute.done.items false
+                c.loop-command.command-index now index;
+            room = subst (λ n. length c.args.commands.now ≤ n)
+                (sym (ap (λ (v : Vec Bool). vec_capacity v) w.done-is
+                ∙ w.push_reserved-in-Err.ensures.capacity)) c.loop-command.invariant.room;
             plays = λ s last holds after.
                 let marks = c.loop-command.done.items in
                 let commands = c.args.commands.now in
-                let same = ap (accepted_commands commands) now ∙ accepted-false commands marks c.command-item.result at in
-                subst (λ l. place_in c.execute.new.self last ≡ place_behind l last (place_in c.args.self.now s)) (sym same)
-                (stays_there c.loop-command.self c.execute.new.self last (place_behind (accepted_commands commands marks) last (place_in c.args.self.now s)) run.stays
-                (c.loop-command.invariant.plays s last holds (subst (λ l. IsAfter s l last) same after)));
+                let same = ap (accepted_commands commands) now
+                ∙ accepted-false commands marks c.command-item.result at in
+                subst (λ l. place_in c.execute.new.self last
+                ≡ place_behind l last (place_in c.args.self.now s)) (sym same)
+                (stays_there c.loop-command.self c.execute.new.self last
+                (place_behind (accepted_commands commands marks) last
+                (place_in c.args.self.now s)) run.stays
+                (c.loop-command.invariant.plays s last holds
+                (subst (λ l. IsAfter s l last) same after)));
             reached = λ s holds.
                 let so_far = c.loop-command.invariant.reached s holds in
-                subst (λ l. Reached c.args.self.now.view.journal.layout c.execute.new.self.view (state c.args.self.now.disk) (state c.execute.new.self.disk) s c.args.commands.now l) (sym now)
-                (goes_on_false c.args.self.now.view.journal.layout c.loop-command.self.view c.execute.new.self.view (state c.args.self.now.disk) (state c.loop-command.self.disk) (state c.execute.new.self.disk) s c.args.commands.now c.loop-command.done.items c.command-item.result at so_far run.keeps (run.any_moment so_far.last so_far.holds) w.in-Err.refusal (sym w.ends_run.ensures ∙ w.if-ends_run.false) run.answered);
+                subst (λ l. Reached c.args.self.now.view.journal.layout c.execute.new.self.view
+                (state c.args.self.now.disk) (state c.execute.new.self.disk) s
+                c.args.commands.now l) (sym now)
+                (goes_on_false c.args.self.now.view.journal.layout c.loop-command.self.view
+                c.execute.new.self.view (state c.args.self.now.disk)
+                (state c.loop-command.self.disk) (state c.execute.new.self.disk) s
+                c.args.commands.now c.loop-command.done.items c.command-item.result at so_far
+                run.keeps (run.any_moment so_far.last so_far.holds) w.in-Err.refusal
+                (sym w.ends_run.ensures ∙ w.if-ends_run.false) run.answered);
           }
     ]
 
@@ -133,13 +193,19 @@ returns-in_default-clause-place g c = λ s last holds after.
 pub returns-then-ends_run-clause-place : goal.returns-then-ends_run-clause-place
 returns-then-ends_run-clause-place g c = λ s last holds after.
     let accepted = accepted_commands c.args.commands.now c.loop-command.done.items in
-    stays_there c.loop-command.self c.execute.new.self last (place_behind accepted last (place_in c.args.self.now s)) c.in-Err.ensures.stays
+    stays_there c.loop-command.self c.execute.new.self last
+    (place_behind accepted last (place_in c.args.self.now s)) c.in-Err.ensures.stays
     (c.loop-command.invariant.plays s last holds after)
 
 pub returns-then-ends_run-clause-fault : goal.returns-then-ends_run-clause-fault
 returns-then-ends_run-clause-fault g c =
     let state = g.D.Disk.state in
-    run_fault c.args.self.now.view c.loop-command.self.view c.execute.new.self.view (state c.args.self.now.disk) (state c.loop-command.self.disk) (state c.execute.new.self.disk) c.command-item.result c.in-Err.refusal c.loop-command.invariant.keeps.frame.later c.in-Err.ensures.keeps.frame.later c.loop-command.invariant.halted (sym c.ends_run.ensures ∙ c.if-ends_run.true) c.in-Err.ensures.answered
+    run_fault c.args.self.now.view c.loop-command.self.view c.execute.new.self.view
+    (state c.args.self.now.disk) (state c.loop-command.self.disk)
+    (state c.execute.new.self.disk) c.command-item.result c.in-Err.refusal
+    c.loop-command.invariant.keeps.frame.later c.in-Err.ensures.keeps.frame.later
+    c.loop-command.invariant.halted (sym c.ends_run.ensures ∙ c.if-ends_run.true)
+    c.in-Err.ensures.answered
 
 pub returns-then-halted-clause-answers : goal.returns-then-halted-clause-answers
 returns-then-halted-clause-answers g c = answered_halted c.args.self.now.view

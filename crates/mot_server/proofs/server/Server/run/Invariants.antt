@@ -19,8 +19,11 @@ invariant-loop-command g l =
       answered : AreAnswered l.fn.self.view l.commands l.done.items l.self.view;
       index : length l.done.items ≡ l.command-index;
       room : length l.commands ≤ vec_capacity l.done;
-      plays : (s last : Standing) → Holds l.fn.self.view s (state l.fn.self.disk) → IsAfter s (accepted_commands l.commands l.done.items) last
-          → place_in l.self last ≡ place_behind (accepted_commands l.commands l.done.items) last (place_in l.fn.self s);
+      plays : (s last : Standing) → Holds l.fn.self.view s (state l.fn.self.disk)
+          → IsAfter s (accepted_commands l.commands l.done.items) last
+          → place_in l.self last ≡ place_behind (accepted_commands l.commands l.done.items) last
+          (place_in l.fn.self s);
       reached : (s : Standing) → Holds l.fn.self.view s (state l.fn.self.disk)
-          → Reached l.fn.self.view.journal.layout l.self.view (state l.fn.self.disk) (state l.self.disk) s l.commands l.done.items;
+          → Reached l.fn.self.view.journal.layout l.self.view (state l.fn.self.disk)
+          (state l.self.disk) s l.commands l.done.items;
     }

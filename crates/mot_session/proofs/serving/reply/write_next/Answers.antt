@@ -9,7 +9,8 @@ use Rattle.mot_session.proofs.Written.{Answered-next, Sends-none}
 use Rattle.std.proofs.Common.{◌<◌, ◌+◌, ◌∷◌, ◌++◌, ◌∙◌, ap, length-append, refl, sym}
 use Rattle.mot_repository.specs.Repository.{RepositoryView}
 use Rattle.mot_session.specs.OnAnyDisk.{next, shown_lines}
-use Rattle.mot_session.proofs.Anyhow.{next-broken as next-broken_anyhow, next-cut as next-cut_anyhow, one-more}
+use Rattle.mot_session.proofs.Anyhow.{next-broken as next-broken_anyhow}
+use Rattle.mot_session.proofs.Anyhow.{next-cut as next-cut_anyhow, one-more}
 use Rattle.mot_session.proofs.serving.reply.write_next.Goals as goal
 
 pub loop-init : goal.loop-init
@@ -110,7 +111,8 @@ returns-in_err-write_next_packet-clause-anyhow g c = λ going.
     let so_far = c.loop.invariant.shown going in
     let view = c.in_err-write_next_packet.ensures.reads.view ∙ c.loop.invariant.reads.view in
     let mid = ap (λ (v : RepositoryView). v.halted) c.loop.invariant.reads.view ∙ going in
-    rw p.1 (next-broken_anyhow c.args.server.now.view c.write_next_packet.new.server.view view going _ _ _
+    rw p.1 (next-broken_anyhow c.args.server.now.view c.write_next_packet.new.server.view view going
+    _ _ _
     so_far.3 _ _ _ so_far.0 so_far.2 _ c.args.count
     (c.in_err-write_next_packet.ensures.anyhow mid)
     (subst (λ n. n < c.args.count) (sym so_far.1) c.loop-test.true))

@@ -28,7 +28,8 @@ returns-clause-keeps g c = record {
 
 pub returns-clause-still : goal.returns-clause-still
 returns-clause-still g c = λ honest.
-    synced_disk (after_call g.S.Start.bytes) no_content (calls_on c.args.self.now) _ (file_content c.args.self.now) _ _ _ _ _ _ _ refl Synced
+    synced_disk (after_call g.S.Start.bytes) no_content (calls_on c.args.self.now) _
+    (file_content c.args.self.now) _ _ _ _ _ _ _ refl Synced
     refl c.in-Ok.ensures.ok (content_now g.S.Start.bytes _ _ Synced c.in-Ok.ensures.ok)
 
 pub returns-clause-firm : goal.returns-clause-firm
@@ -49,20 +50,32 @@ invariant_of-self-in_default g c =
 pub returns-in_default-clause-keeps : goal.returns-in_default-clause-keeps
 returns-in_default-clause-keeps g c = record {
   frame = record {
-    len = ap (λ u. length u.bytes) (content_now g.S.Start.bytes _ _ FailedSync c.in_default.ensures.err);
+    len = ap (λ u. length u.bytes)
+        (content_now g.S.Start.bytes _ _ FailedSync c.in_default.ensures.err);
     later = omega arith;
     was_honest = were_right g.S.Start.bytes _ _ FailedSync c.in_default.ensures.err;
   };
-  honest = λ honest. goes_on_right g.S.Start.bytes _ _ FailedSync c.in_default.ensures.err honest tt;
+  honest = λ honest. goes_on_right g.S.Start.bytes _ _ FailedSync c.in_default.ensures.err honest
+      tt;
 }
 
 pub returns-in_default-clause-failed : goal.returns-in_default-clause-failed
 returns-in_default-clause-failed g c = λ honest.
-    unchanged (after_call g.S.Start.bytes) no_content (calls_on c.args.self.now) _ (file_content c.args.self.now) _ _ _ _ _ _ _ refl FailedSync
-    refl c.in_default.ensures.err (content_now g.S.Start.bytes _ _ FailedSync c.in_default.ensures.err)
+    unchanged (after_call g.S.Start.bytes) no_content (calls_on c.args.self.now) _
+    (file_content c.args.self.now) _ _ _ _ _ _ _ refl FailedSync
+    refl c.in_default.ensures.err
+    (content_now g.S.Start.bytes _ _ FailedSync c.in_default.ensures.err)
 
 pub returns-in_default-clause-still : goal.returns-in_default-clause-still
 returns-in_default-clause-still g c = λ honest.
-    let same = unchanged (after_call g.S.Start.bytes) no_content (calls_on c.args.self.now) _ (file_content c.args.self.now) _ _ _ _ _ _ _ refl FailedSync
-    refl c.in_default.ensures.err (content_now g.S.Start.bytes _ _ FailedSync c.in_default.ensures.err) in
-    record { bytes = same.bytes; time = same.time; images = λ i. (same.images i).0; loose = λ k. (same.loose k).0 }
+    let same = unchanged (after_call g.S.Start.bytes) no_content (calls_on c.args.self.now) _
+    (file_content c.args.self.now) _ _ _ _ _ _ _ refl FailedSync
+    refl c.in_default.ensures.err
+    (content_now g.S.Start.bytes _ _ FailedSync c.in_default.ensures.err) in
+    record {
+      bytes = same.bytes;
+      time = same.time;
+      images = λ i. (same.images i).0;
+      loose = λ k.
+          (same.loose k).0;
+    }

@@ -1,0 +1,27 @@
+//! The tests of the upper layers at their public calls.
+#![tactic(auto)]
+
+#[cfg(test)]
+mod control;
+#[cfg(test)]
+mod disks;
+#[cfg(test)]
+mod feed;
+#[cfg(test)]
+mod folder;
+#[cfg(test)]
+mod packet_streams;
+#[cfg(test)]
+mod receiver;
+#[cfg(test)]
+mod repository;
+#[cfg(test)]
+mod server;
+#[cfg(test)]
+mod serving;
+#[cfg(test)]
+mod session;
+#[cfg(test)]
+mod streams;
+#[cfg(test)]
+mod update;

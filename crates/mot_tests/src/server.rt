@@ -1,0 +1,252 @@
+//! What no clause says of the server: that its calls succeed where there is memory and the disk
+//! does not fail.
+use crate::disks::{OPENING, Server, THREE, blank_disk, new_disk, open};
+use disk_store::MemoryDisk;
+use mot_base::Refusal;
+use mot_carousel::{Body, Command, Content, Name};
+use mot_server::{
+    FirstTurn, Refused, Restarted, RunEnd, format_and_restart, format_run_and_restart, restart,
+    run_and_restart,
+};
+use std::alloc::Global;
+use std::test::Fail;
+
+// Commands of a run, as `command_of` makes them: of one put there is no gap for the body.
+const COMMANDS: [(&[u8], usize); 7] = [
+    (b"a", 100),
+    (b"b", 100),
+    (b"c", 100),
+    (b"a", 0),
+    (b"c", 0),
+    (b"d", 150),
+    (b"d", 100),
+];
+
+const MARKS: [bool; 7] = [true, true, true, true, true, false, true];
+
+// So many objects there are after each beginning of them.
+const OBJECTS: [usize; 8] = [0, 1, 2, 3, 2, 1, 1, 2];
+
+// A put of a body of so many bytes, or a withdrawal where there are none.
+fn command_of(alloc: Global, name: &[u8], length: usize) -> Result<Command, Refusal> {
+    let name = Name::new(name.to_vec(alloc)?)?;
+    if length == 0 {
+        return Ok(Command::Withdraw { name });
+    }
+    Ok(Command::Put {
+        name,
+        content: Content::new(2, 3)?,
+        mime: None,
+        body: Body::new(vec![in alloc; 7; length]?)?,
+    })
+}
+
+// Those commands in a row.
+fn commands_of(alloc: Global, rows: &[(&[u8], usize)]) -> Result<Vec<Command>, Refusal> {
+    let mut commands = Vec::new(alloc);
+    for (name, length) in rows {
+        commands.push(command_of(alloc, name, *length)?)?;
+    }
+    Ok(commands)
+}
+
+// How many objects there are, and whether it is halted.
+fn seen(server: &Server) -> (usize, bool) {
+    (server.carousel().objects.len(), server.halted())
+}
+
+// The objects on this disk.
+fn objects_on(alloc: Global, disk: MemoryDisk) -> Result<usize, Refusal> {
+    Ok(seen(&open(alloc, disk)?).0)
+}
+
+// What a run came to, and what is opened of its disk.
+#[derive(Drop)]
+struct Ran {
+    end: RunEnd,
+    seen: (usize, bool),
+    left: Result<usize, Refusal>,
+}
+
+fn run_on(alloc: Global, server: Server, commands: &[Command]) -> Ran {
+    let mut server = server;
+    let end = server.run(alloc, commands);
+    let seen = seen(&server);
+    let left = objects_on(alloc, server.into_disk());
+    Ran { end, seen, left }
+}
+
+// A run of commands on a new disk of which this device call fails, or none where it is 0.
+fn run_of(alloc: Global, fails_at: u64) -> Result<Ran, Refusal> {
+    let commands = commands_of(alloc, &COMMANDS)?;
+    run_on_new(alloc, &commands, fails_at)
+}
+
+fn run_on_new(alloc: Global, commands: &[Command], fails_at: u64) -> Result<Ran, Refusal> {
+    Ok(run_on(alloc, failing_server(alloc, fails_at)?, commands))
+}
+
+fn failing_server(alloc: Global, fails_at: u64) -> Result<Server, Refusal> {
+    let mut disk = new_disk(alloc, &THREE)?;
+    if fails_at > 0 {
+        disk.fail_at(fails_at);
+    }
+    open(alloc, disk)
+}
+
+#[test]
+fn a_fault_ends_a_run(rt: HostRuntime) -> Result<(), Fail> {
+    // The first sync of the second put.
+    let ran = run_of(rt.alloc(), OPENING + 5 + 3)?;
+    assert_eq!(rt; ran.end.fault, Some(Refusal::DeviceFault));
+    assert_eq!(rt; ran.end.done.as_slice(), [true].as_slice());
+    assert_eq!(rt; (ran.seen, ran.left), ((1, true), Ok(1)));
+    Ok(())
+}
+
+// Where a growth is refused, as by `rt try --test --fail-alloc N`: the run's marks begin as those
+// of the whole run, and the disk has what they say, or after a fault of it one command more.
+#[test]
+fn a_refused_growth_of_a_run(rt: HostRuntime) -> Result<(), Fail> {
+    let Ok(Ran { end, left, .. }) = run_of(rt.alloc(), 0) else {
+        return Ok(());
+    };
+    let done = end.done.len();
+    assert!(rt; MARKS.starts_with(&end.done));
+    let Ok(objects) = left else {
+        return Ok(());
+    };
+    match end.fault {
+        None => assert_eq!(rt; (done, objects), (7, 2)),
+        Some(Refusal::DeviceFault) => assert!(rt;
+            OBJECTS[done..].iter().take(2).any(|it| *it == objects)
+        ),
+        fault => assert_eq!(rt;
+            (fault, objects),
+            (Some(Refusal::OutOfMemory), OBJECTS[done])
+        ),
+    }
+    Ok(())
+}
+
+// A disk of one object.
+fn disk_of_one(alloc: Global) -> Result<MemoryDisk, Refusal> {
+    let commands = commands_of(alloc, &[(b"a", 5)])?;
+    disk_after(alloc, &commands)
+}
+
+// A new disk that these commands were run on, each of them.
+fn disk_after(alloc: Global, commands: &[Command]) -> Result<MemoryDisk, Refusal> {
+    let mut server = failing_server(alloc, 0)?;
+    match server.run(alloc, commands).fault {
+        None => Ok(server.into_disk()),
+        Some(refusal) => Err(refusal),
+    }
+}
+
+// How many packets are played of a restart; or why it was refused, and how many objects the disk
+// has then.
+fn packets_of_restart(
+    alloc: Global,
+    disk: MemoryDisk,
+) -> Result<usize, (Refusal, Result<usize, Refusal>)> {
+    match restart(alloc, disk) {
+        Ok(restarted) => Ok(restarted.packets.len()),
+        Err(Refused { refusal, disk }) => Err((refusal, objects_on(alloc, disk))),
+    }
+}
+
+// So, too, a restart: its turn is played, or it is refused, and the disk opens as before.
+#[test]
+fn a_refused_growth_of_a_restart(rt: HostRuntime) -> Result<(), Fail> {
+    let alloc = rt.alloc();
+    let Ok(disk) = disk_of_one(alloc) else {
+        return Ok(());
+    };
+    match packets_of_restart(alloc, disk) {
+        Ok(packets) => assert_eq!(rt; packets, 4),
+        Err((refusal, objects)) => {
+            assert!(rt; matches!(refusal, Refusal::OutOfMemory | Refusal::DeviceFault));
+            assert_eq!(rt; objects, Ok(1));
+        }
+    }
+    Ok(())
+}
+
+// Of a disk that was left: its objects, and the packets of its first turn.
+type Opened = Result<(usize, usize), Refusal>;
+
+fn opened(restarted: Result<Restarted<MemoryDisk>, Refused<MemoryDisk>>) -> Opened {
+    match restarted {
+        Ok(Restarted { server, packets }) => Ok((seen(&server).0, packets.len())),
+        Err(refused) => Err(refused.refusal),
+    }
+}
+
+// Whether a blank disk was formatted, and what was opened of a disk that stands for what was left.
+fn formatted(alloc: Global, disk: MemoryDisk, left: MemoryDisk) -> (bool, Opened) {
+    let mut disk = disk;
+    let beginning = format_and_restart(&mut disk, alloc, &THREE, left);
+    (beginning.formatted.is_ok(), opened(beginning.restarted))
+}
+
+// So, too, how many commands of a run were marked.
+fn marked(
+    alloc: Global,
+    server: Server,
+    commands: &[Command],
+    left: MemoryDisk,
+) -> (usize, Opened) {
+    let mut server = server;
+    let aftermath = run_and_restart(&mut server, alloc, commands, left);
+    (aftermath.end.done.len(), opened(aftermath.restarted))
+}
+
+// Of a life from the formatting on.
+fn lived(
+    alloc: Global,
+    disk: MemoryDisk,
+    commands: &[Command],
+    left: MemoryDisk,
+) -> (usize, Opened) {
+    match format_run_and_restart(disk, alloc, &THREE, commands, left) {
+        Ok(life) => (life.end.done.len(), first_turn(alloc, life.after_crash)),
+        Err(refused) => (0, Err(refused.refusal)),
+    }
+}
+
+fn first_turn(
+    alloc: Global,
+    after_crash: Result<FirstTurn<MemoryDisk>, Refused<MemoryDisk>>,
+) -> Opened {
+    match after_crash {
+        Ok(first) => Ok((objects_on(alloc, first.disk)?, first.packets.len())),
+        Err(refused) => Err(refused.refusal),
+    }
+}
+
+// Each with what the same call leaves on another disk.
+fn formatted_as_left(alloc: Global) -> Result<(bool, Opened), Refusal> {
+    let blank = blank_disk(alloc, &THREE)?;
+    Ok(formatted(alloc, blank, new_disk(alloc, &THREE)?))
+}
+
+fn marked_as_left(alloc: Global, commands: &[Command]) -> Result<(usize, Opened), Refusal> {
+    let left = disk_after(alloc, commands)?;
+    Ok(marked(alloc, failing_server(alloc, 0)?, commands, left))
+}
+
+fn lived_as_left(alloc: Global, commands: &[Command]) -> Result<(usize, Opened), Refusal> {
+    let left = disk_after(alloc, commands)?;
+    Ok(lived(alloc, blank_disk(alloc, &THREE)?, commands, left))
+}
+
+#[test]
+fn calls_with_what_is_left(rt: HostRuntime) -> Result<(), Fail> {
+    let alloc = rt.alloc();
+    assert_eq!(rt; formatted_as_left(alloc)?, (true, Ok((0, 2))));
+    let commands = commands_of(alloc, &COMMANDS)?;
+    assert!(rt; matches!(marked_as_left(alloc, &commands), Ok((7, Ok((2, 3..))))));
+    assert!(rt; matches!(lived_as_left(alloc, &commands), Ok((7, Ok((2, 3..))))));
+    Ok(())
+}
