@@ -1,7 +1,7 @@
 -- What holds of the definitions, for the crates above.
 use Rattle.std.proofs.Common.{◌≡◌, ℕ, zero, suc, ◌+◌, ◌-◌, ◌*◌, ◌/◌, ◌%◌, ◌^◌, ◌<◌, ◌≤◌, List, []}
 use Rattle.std.proofs.Common.{◌∷◌, ◌++◌, true, false, eqb, refl, sym, length, drop, min, sum, arith}
-use Rattle.std.proofs.Common.{ap, ◌∙◌, length-append, eq-eqb, Option, Some, None}
+use Rattle.std.proofs.Common.{ap, ◌∙◌, length-append, eq-eqb, Option, Some, None, Result, Ok, Err}
 use Rattle.std.proofs.Math.Nat.{add-mul, mul-le-mul_right, pow-suc}
 use Rattle.std.proofs.Math.Seq.{take-append_seam, drop-append_seam}
 use Rattle.std.proofs.lemmas.List.{take-append-drop}
@@ -11,7 +11,7 @@ use Rattle.std.proofs.lemmas.Nat.{div-mul-add, mod-pow-add}
 use Rattle.std.proofs.lemmas.Option.{none-some, same_Some}
 use Rattle.std.proofs.lemmas.Slice.Eq.{bytes_eq-Decides}
 use Rattle.std.specs.Int.{div_ceil, w16, to_be_bytes}
-use Rattle.std.specs.Prelude.{bytes_eq}
+use Rattle.std.specs.Prelude.{IsErrAnd, bytes_eq}
 use Rattle.mot_base.specs.Bytes.{IsByte, AreBytes}
 use Rattle.mot_base.specs.Checksum.{crc_of, without_crc, ends_in_crc}
 use Rattle.mot_base.specs.Fields.{number_in, fields}
@@ -21,6 +21,13 @@ use Rattle.mot_base.specs.declared.packet_length.PacketLength.{PacketLength}
 use Rattle.mot_base.specs.declared.packet_length.PacketLength.TheVariants.{P24, P48, P72, P96}
 -- a geometry that is valid, and its test
 pub use Rattle.mot_base.proofs.Valid.{valid_is, is_valid_of}
+
+-- ---- results
+
+-- an error that is a certain one is that result
+pub same_error : {A E : Type 0} (r : Result A E) (e : E) → IsErrAnd r (λ x. x ≡ e) → r ≡ Err e
+same_error (Ok a) e is = absurd is
+same_error (Err x) e is = ap Err is
 
 -- ---- lists
 

@@ -6,6 +6,3 @@ mod header;
 
 pub use directory::{MAX_DIRECTORY, directory_bytes};
 pub use header::{MAX_HEADER, header_bytes};
-
-#[cfg(test)]
-mod tests;

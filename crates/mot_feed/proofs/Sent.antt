@@ -99,11 +99,6 @@ unfolding read_packet
 some_bytes [] p is = absurd (cc)
 some_bytes (b ∷ bytes) p is = omega arith
 
--- an error that is a certain one is that result
-pub same_error : {A E : Type 0} (r : Result A E) (e : E) → IsErrAnd r (λ x. x ≡ e) → r ≡ Err e
-same_error (Ok a) e is = absurd is
-same_error (Err x) e is = ap Err is
-
 -- a server whose player stays stands in the same place
 pub same_place : {D : Type 0} (old new : ServerView D) (s : Standing) → new.player ≡ old.player
     → place_in new s ≡ place_in old s

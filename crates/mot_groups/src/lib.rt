@@ -6,6 +6,3 @@ mod segment;
 
 pub use group::{content_front, segment_count, write_group};
 pub use segment::SegmentBytes;
-
-#[cfg(test)]
-mod tests;

@@ -1,4 +1,5 @@
--- Images of disks, and what a model in another language says that they stand for; tools/images writes this file.
+-- Images of disks, and what a model in another language says that they stand for; tools/images
+-- writes this file.
 use Rattle.std.proofs.Common.{◌≡◌, ℕ, List, [], ◌∷◌, ◌++◌, Option, Some, None, Ok, Err, Bool}
 use Rattle.std.proofs.Common.{true, false, replicate, refl}
 use Rattle.std.specs.Str.{is_utf8, chars}

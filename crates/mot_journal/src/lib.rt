@@ -22,6 +22,3 @@ pub use loading::{layout_of_half, records_of_half};
 pub use mot_base::Geometry;
 pub use places::area_start;
 pub use record::{Action, Record};
-
-#[cfg(test)]
-mod tests;

@@ -16,6 +16,3 @@ pub use text::{
     LINE_ROOM, PACKET_LINE_ROOM, PacketLine, TextLine, carousel_text, done_text, object_text,
     refusal_text, set_packet_text,
 };
-
-#[cfg(test)]
-mod tests;

@@ -5,6 +5,3 @@ mod header;
 mod packet;
 
 pub use packet::{MAX_PACKET, Packet, cut_packet, packet_count};
-
-#[cfg(test)]
-mod tests;

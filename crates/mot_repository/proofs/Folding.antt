@@ -119,7 +119,7 @@ push_apart p (q ∷ objects) beside apart =
     let a = and_parts (list_all (are_apart q) objects) (are_all_apart objects) apart in
     and_from _ _ (all-push (are_apart q) objects p a.0 b.0) (push_apart p objects b.1 a.1)
 
--- ---- one object objects_without
+-- ---- one object less
 
 -- the second list is the first without one object
 pub data IsWithoutOne : List Placed → List Placed → Type 0 where

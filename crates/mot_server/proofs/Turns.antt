@@ -21,11 +21,6 @@ pub if_ok_both : {A E : Type 0} (r : Result A E) (P Q R : A → Type 0) → ((a 
 if_ok_both (Ok a) P Q R both p q = both a p q
 if_ok_both (Err e) P Q R both p q = tt
 
--- an error that is a certain one is that result
-pub same_error : {A E : Type 0} (r : Result A E) (e : E) → IsErrAnd r (λ x. x ≡ e) → r ≡ Err e
-same_error (Ok a) e is = absurd is
-same_error (Err x) e is = ap Err is
-
 -- a carousel's bodies are those beside it
 bodies_of-objects : (objects : List Object) (bodies : List (List ℕ))
     → map length bodies ≡ map (λ (o : Object). o.length) objects

@@ -49,16 +49,16 @@ pub fn write_at(disk: &mut MemoryDisk, at: u16, bytes: &[u8]) -> Result<(), Refu
 
 /// An empty disk of layout 1, with segments of 64 bytes and packets of 24: a head, and halves
 /// without records.
-pub fn old_disk(alloc: Global, objects: u8, data_area: u16) -> Result<MemoryDisk, Refusal> {
+pub fn old_disk(alloc: Global, objects: u8, data_area: u32) -> Result<MemoryDisk, Refusal> {
     let geometry = Geometry {
         objects: u16::from(objects),
-        data_area: u32::from(data_area),
+        data_area,
         ..ONE
     };
-    let [high, low] = data_area.to_be_bytes();
+    let [highest, higher, high, low] = data_area.to_be_bytes();
     let head = [
         0x4D, 0x4F, 0x54, 0x43, 0x41, 0x52, 0x30, 0x31, 0, 0, 0, 0, 0, 0, 0, 0, 0, objects, 0, 64,
-        0, 1, 0, 24, 0, 0, high, low,
+        0, 1, 0, 24, highest, higher, high, low,
     ];
     let mut disk = blank_disk(alloc, &geometry)?;
     write_at(&mut disk, 0, &head)?;

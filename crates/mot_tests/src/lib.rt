@@ -1,4 +1,4 @@
-//! The tests of the upper layers at their public calls.
+//! The tests of the layers that stand on a disk, at their public calls.
 #![tactic(auto)]
 
 #[cfg(test)]
@@ -9,6 +9,8 @@ mod disks;
 mod feed;
 #[cfg(test)]
 mod folder;
+#[cfg(test)]
+mod journal;
 #[cfg(test)]
 mod packet_streams;
 #[cfg(test)]
@@ -21,6 +23,8 @@ mod server;
 mod serving;
 #[cfg(test)]
 mod session;
+#[cfg(test)]
+mod store;
 #[cfg(test)]
 mod streams;
 #[cfg(test)]

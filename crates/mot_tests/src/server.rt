@@ -1,13 +1,12 @@
 //! What no clause says of the server: that its calls succeed where there is memory and the disk
-//! does not fail.
-use crate::disks::{OPENING, Server, THREE, blank_disk, new_disk, open};
+//! does not fail; and what a crash leaves of the calls that tell of one.
+mod crashes;
+
+use crate::disks::{OPENING, Server, THREE, new_disk, open};
 use disk_store::MemoryDisk;
 use mot_base::Refusal;
 use mot_carousel::{Body, Command, Content, Name};
-use mot_server::{
-    FirstTurn, Refused, Restarted, RunEnd, format_and_restart, format_run_and_restart, restart,
-    run_and_restart,
-};
+use mot_server::{Refused, RunEnd, restart};
 use std::alloc::Global;
 use std::test::Fail;
 
@@ -170,83 +169,5 @@ fn a_refused_growth_of_a_restart(rt: HostRuntime) -> Result<(), Fail> {
             assert_eq!(rt; objects, Ok(1));
         }
     }
-    Ok(())
-}
-
-// Of a disk that was left: its objects, and the packets of its first turn.
-type Opened = Result<(usize, usize), Refusal>;
-
-fn opened(restarted: Result<Restarted<MemoryDisk>, Refused<MemoryDisk>>) -> Opened {
-    match restarted {
-        Ok(Restarted { server, packets }) => Ok((seen(&server).0, packets.len())),
-        Err(refused) => Err(refused.refusal),
-    }
-}
-
-// Whether a blank disk was formatted, and what was opened of a disk that stands for what was left.
-fn formatted(alloc: Global, disk: MemoryDisk, left: MemoryDisk) -> (bool, Opened) {
-    let mut disk = disk;
-    let beginning = format_and_restart(&mut disk, alloc, &THREE, left);
-    (beginning.formatted.is_ok(), opened(beginning.restarted))
-}
-
-// So, too, how many commands of a run were marked.
-fn marked(
-    alloc: Global,
-    server: Server,
-    commands: &[Command],
-    left: MemoryDisk,
-) -> (usize, Opened) {
-    let mut server = server;
-    let aftermath = run_and_restart(&mut server, alloc, commands, left);
-    (aftermath.end.done.len(), opened(aftermath.restarted))
-}
-
-// Of a life from the formatting on.
-fn lived(
-    alloc: Global,
-    disk: MemoryDisk,
-    commands: &[Command],
-    left: MemoryDisk,
-) -> (usize, Opened) {
-    match format_run_and_restart(disk, alloc, &THREE, commands, left) {
-        Ok(life) => (life.end.done.len(), first_turn(alloc, life.after_crash)),
-        Err(refused) => (0, Err(refused.refusal)),
-    }
-}
-
-fn first_turn(
-    alloc: Global,
-    after_crash: Result<FirstTurn<MemoryDisk>, Refused<MemoryDisk>>,
-) -> Opened {
-    match after_crash {
-        Ok(first) => Ok((objects_on(alloc, first.disk)?, first.packets.len())),
-        Err(refused) => Err(refused.refusal),
-    }
-}
-
-// Each with what the same call leaves on another disk.
-fn formatted_as_left(alloc: Global) -> Result<(bool, Opened), Refusal> {
-    let blank = blank_disk(alloc, &THREE)?;
-    Ok(formatted(alloc, blank, new_disk(alloc, &THREE)?))
-}
-
-fn marked_as_left(alloc: Global, commands: &[Command]) -> Result<(usize, Opened), Refusal> {
-    let left = disk_after(alloc, commands)?;
-    Ok(marked(alloc, failing_server(alloc, 0)?, commands, left))
-}
-
-fn lived_as_left(alloc: Global, commands: &[Command]) -> Result<(usize, Opened), Refusal> {
-    let left = disk_after(alloc, commands)?;
-    Ok(lived(alloc, blank_disk(alloc, &THREE)?, commands, left))
-}
-
-#[test]
-fn calls_with_what_is_left(rt: HostRuntime) -> Result<(), Fail> {
-    let alloc = rt.alloc();
-    assert_eq!(rt; formatted_as_left(alloc)?, (true, Ok((0, 2))));
-    let commands = commands_of(alloc, &COMMANDS)?;
-    assert!(rt; matches!(marked_as_left(alloc, &commands), Ok((7, Ok((2, 3..))))));
-    assert!(rt; matches!(lived_as_left(alloc, &commands), Ok((7, Ok((2, 3..))))));
     Ok(())
 }

@@ -1,7 +1,7 @@
 -- What holds of the definitions, for the crates above.
 
 -- runs of commands: one behind another, one that was read behind, one that was answered
-pub use Rattle.mot_update.proofs.Runs.{answered_one, has_read, join, not_none, same_error}
+pub use Rattle.mot_update.proofs.Runs.{answered_one, has_read, join, not_none}
 -- faults of calls one after the other
 pub use Rattle.mot_update.proofs.Faults.{attempted, calm_here, calm_on, fault_on}
 -- names that differ, and one more

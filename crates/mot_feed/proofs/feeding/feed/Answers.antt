@@ -4,9 +4,10 @@ use Rattle.disk_store.proofs.Laws.{keeps_none, keeps_on}
 use Rattle.mot_feed.proofs.Fed.{continuous, fed_all, fed_none, rest_else, rest_then, send_fault}
 use Rattle.mot_feed.proofs.Fed.{sent_on, update_fault, updated, updated_are, updated_turns}
 use Rattle.mot_feed.proofs.Fed.{updated_uncut}
-use Rattle.mot_feed.proofs.Sent.{not_of_writing, same_error, send_fault_behind, sent_calm}
+use Rattle.mot_feed.proofs.Sent.{not_of_writing, send_fault_behind, sent_calm}
 use Rattle.disk_store.proofs.Laws.{unchanged_none}
 use Rattle.mot_update.proofs.Laws.{calm_here, calm_on, fault_on}
+use Rattle.mot_base.proofs.Laws.{same_error}
 use Rattle.mot_feed.proofs.feeding.feed.Goals as goal
 use Rattle.mot_feed.proofs.feeding.feed.Goals.{else-between_turns, then-between_turns}
 

@@ -6,8 +6,8 @@ use Rattle.mot_update.specs.Told.{TellsMore}
 use Rattle.mot_update.proofs.Answers.{tells_nil, tells_trans}
 use Rattle.mot_update.proofs.Looks.{err_of, gives_nil, look_cut, look_on, withdrawals-are}
 use Rattle.mot_update.proofs.Looks.{withdrew_cut, withdrew_none}
-use Rattle.mot_update.proofs.Runs.{same_error}
 use Rattle.disk_store.proofs.Laws.{unchanged_none}
+use Rattle.mot_base.proofs.Laws.{same_error}
 use Rattle.mot_update.proofs.looking.look.Goals as goal
 
 pub returns-in_err-names-clause-looked : goal.returns-in_err-names-clause-looked

@@ -7,8 +7,8 @@ use Rattle.mot_update.proofs.Answers.{answers-settled, tells_kept, tells_nil, te
 use Rattle.mot_update.proofs.Faults.{calm_here, calm_on, fault_on}
 use Rattle.mot_update.proofs.Looks.{accepted_settled, gives_nil, settled_all, settled_fault}
 use Rattle.mot_update.proofs.Looks.{settled_more, settled_none}
-use Rattle.mot_update.proofs.Runs.{same_error}
 use Rattle.disk_store.proofs.Laws.{unchanged_none}
+use Rattle.mot_base.proofs.Laws.{same_error}
 use Rattle.mot_update.proofs.looking.settle_all.Goals as goal
 
 pub loop-wanted-init : goal.loop-wanted-init

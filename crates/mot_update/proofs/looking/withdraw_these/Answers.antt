@@ -11,8 +11,8 @@ use Rattle.mot_update.proofs.Answers.{tells_nil, tells_trans}
 use Rattle.mot_update.proofs.Looks.{err_of, gives_kept, gives_nil, withdrew_all}
 use Rattle.mot_update.proofs.Looks.{withdrew_cut}
 use Rattle.mot_update.proofs.Looks.{withdrew_fault, withdrew_next, withdrew_none}
-use Rattle.mot_update.proofs.Runs.{same_error}
 use Rattle.disk_store.proofs.Laws.{unchanged_none}
+use Rattle.mot_base.proofs.Laws.{same_error}
 use Rattle.mot_update.proofs.looking.withdraw_these.Goals as goal
 
 pub loop-name-init : goal.loop-name-init

@@ -1,6 +1,7 @@
 use Rattle.std.proofs.Common.{refl, inl}
 use Rattle.mot_repository.specs.Answers.{refused}
-use Rattle.mot_repository.proofs.Answering.{committed, same_error, untouched}
+use Rattle.mot_repository.proofs.Answering.{committed, untouched}
+use Rattle.mot_base.proofs.Laws.{same_error}
 use Rattle.mot_repository.proofs.repository.Repository.execute.Goals as goal
 
 pub returns-in_err-prepared-clause-answered : goal.returns-in_err-prepared-clause-answered

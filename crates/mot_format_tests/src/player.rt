@@ -1,0 +1,256 @@
+//! Worked rows of turns, and what a read that fails leaves.
+ghost use Rattle.std.specs.Prelude.{◌≡◌, ◌<◌, ℕ, List, [], vec_len, IfOk, map, length, ⊤};
+ghost use Rattle.mot_player.specs.PlayerView.{AreBodiesFor};
+
+use mot_base::{Address, PacketLength, Refusal, SegmentSize, TransportId};
+use mot_carousel::{Body, Carousel, Content, Mime, Name, Object, Period};
+use mot_player::{Bodies, Player, Turn};
+use std::alloc::Global;
+use std::process::Abort;
+use std::test::Fail;
+
+/// Bodies of which one read fails: the one before which so many are left.
+#[derive(Drop)]
+struct FailingOnce {
+    bodies: Vec<Body>,
+    reads_left: u64,
+    failures: u64,
+}
+
+impl Bodies for FailingOnce {
+    ghost bodies = { λ failing. failing.bodies.items };
+
+    ghost IsHonest = { λ failing. Unit {0} };
+
+    ghost failures = { λ failing. failing.failures };
+
+    ghost HasOnlyRead = { λ old new. ⊤ };
+
+    ghost unread = { λ kept. tt };
+
+    fn count(&self) -> usize {
+        self.bodies.count()
+    }
+
+    fn length(&self, body: usize) -> usize {
+        self.bodies.length(body)
+    }
+
+    fn read(&mut self, body: usize, from: usize, out: &mut [u8]) -> Result<(), Refusal> {
+        if self.failures == u64::MAX {
+            return Err(Refusal::DeviceFault);
+        }
+        if self.reads_left == 0 {
+            self.reads_left = u64::MAX;
+            self.failures += 1;
+            return Err(Refusal::DeviceFault);
+        }
+        self.reads_left -= 1;
+        out.copy_from_slice(&self.bodies[body].as_bytes()[from..from + out.len()]);
+        Ok(())
+    }
+}
+
+/// What is played of one object.
+#[derive(Drop)]
+struct Scene {
+    turn: Turn,
+    bodies: Vec<Body>,
+}
+
+/// A carousel of one object, with these ids, and its body.
+fn one_object(
+    alloc: Global,
+    directory: u16,
+    tid: u16,
+    mime: Option<Mime>,
+    body: &[u8],
+    size: u16,
+) -> Result<Scene, Refusal>
+    ensures { IfOk result (λ scene. AreBodiesFor scene.turn scene.bodies.items) }
+{
+    let body = Body::new(Vec::from_slice(alloc, body)?)?;
+    let directory = TransportId::new(directory).ok_or(Refusal::BadNumber)?;
+    let object = Object {
+        name: Name::new(Vec::from_slice(alloc, b"a")?)?,
+        content: Content::new(2, 3)?,
+        mime,
+        version: 0,
+        tid: TransportId::new(tid).ok_or(Refusal::BadNumber)?,
+        length: body.length(),
+    };
+    let objects = vec![in alloc; object]?;
+    let bodies = vec![in alloc; body]?;
+    let carousel = Carousel {
+        period: Period::ZERO,
+        directory,
+        cursor: directory,
+        objects,
+    };
+    let size = SegmentSize::new(size).ok_or(Refusal::BadNumber)?;
+    let turn = Turn::of(alloc, &carousel, size)?;
+    Ok(Scene { turn, bodies })
+}
+
+/// A new carousel, which has no bodies.
+fn no_object(alloc: Global, size: u16) -> Result<Scene, Refusal>
+    ensures { IfOk result (λ scene. AreBodiesFor scene.turn scene.bodies.items) }
+{
+    let carousel = Carousel::new(alloc);
+    let size = SegmentSize::new(size).ok_or(Refusal::BadNumber)?;
+    let turn = Turn::of(alloc, &carousel, size)?;
+    Ok(Scene {
+        turn,
+        bodies: Vec::new(alloc),
+    })
+}
+
+fn player_of(alloc: Global, packet: u16, size: u16, turn: Turn) -> Result<Player, Refusal>
+    ensures { IfOk result (λ player. player.turn ≡ turn) }
+{
+    Player::new(
+        alloc,
+        Address::new(1).ok_or(Refusal::BadNumber)?,
+        PacketLength::new(packet).ok_or(Refusal::BadNumber)?,
+        SegmentSize::new(size).ok_or(Refusal::BadNumber)?,
+        turn,
+    )
+}
+
+/// Looks whether the next packets have these headers, and end the turn where it is said.
+fn expect_packets<B: Bodies>(
+    rt: &impl Abort,
+    player: &mut Player,
+    bodies: &mut B,
+    rows: &[(&[u8], bool)],
+) -> Result<(), Refusal>
+    requires { AreBodiesFor player.old.turn (B.bodies bodies.old) }
+    ensures turn { player.new.turn ≡ player.old.turn }
+    ensures lengths { map length (B.bodies bodies.new) ≡ map length (B.bodies bodies.old) }
+{
+    for (header, ends_turn) in rows {
+        let played = player.next_packet(bodies)?;
+        assert!(rt; played.packet.as_slice().starts_with(header));
+        assert_eq!(rt; played.ends_turn, *ends_turn);
+    }
+    Ok(())
+}
+
+// Two turns of long packets, the last of a group as short as may be: the indexes of packets go on,
+// and those of the groups stay with their contents.
+#[test]
+fn short_last_packets(rt: HostRuntime) -> Result<(), Fail> {
+    let alloc = rt.alloc();
+    let Scene { turn, mut bodies } = one_object(alloc, 3, 2, None, b"\x01\x02\x03\x04\x05", 1024)?;
+    let mut player = player_of(alloc, 96, 1024, turn)?;
+    let rows = [
+        (b"\x4C\x01\x27\x76\x00".as_slice(), false),
+        (b"\x1C\x01\x10\x74\x00".as_slice(), true),
+        (b"\x6C\x01\x27\x76\x00".as_slice(), false),
+        (b"\x3C\x01\x10\x74\x00".as_slice(), true),
+    ];
+    expect_packets(&rt, &mut player, &mut bodies, &rows)?;
+    Ok(())
+}
+
+// A body of 65 bytes in two segments: the index of its type is raised at each of its groups.
+#[test]
+fn two_segments(rt: HostRuntime) -> Result<(), Fail> {
+    let alloc = rt.alloc();
+    let Scene { turn, mut bodies } = one_object(alloc, 3, 2, None, &[9; 65], 64)?;
+    let mut player = player_of(alloc, 96, 64, turn)?;
+    let rows = [
+        (b"\x4C\x01\x27\x76\x00".as_slice(), false),
+        (b"\xDC\x01\x4B\x74\x00\x00\x00".as_slice(), false),
+        (b"\x2C\x01\x0C\x74\x10\x80\x01".as_slice(), true),
+        (b"\x7C\x01\x27\x76\x00".as_slice(), false),
+        (b"\xCC\x01\x4B\x74\x20".as_slice(), false),
+        (b"\x1C\x01\x0C\x74\x30".as_slice(), true),
+    ];
+    expect_packets(&rt, &mut player, &mut bodies, &rows)?;
+    Ok(())
+}
+
+// The turn of a new carousel, and then that of one object.
+#[test]
+fn first_object(rt: HostRuntime) -> Result<(), Fail> {
+    let alloc = rt.alloc();
+    let Scene { turn, mut bodies } = no_object(alloc, 1024)?;
+    let mut player = player_of(alloc, 24, 1024, turn)?;
+    let empty = [
+        (
+            b"\x08\x01\x13\x76\0\x80\0\x12\0\x01\0\x0d\0\0\0\x0d\0\0\0\0\0\x04\x9c\x3d".as_slice(),
+            false,
+        ),
+        (b"\x14\x01\x05\0\0\0\xf1\x0d".as_slice(), true),
+    ];
+    expect_packets(&rt, &mut player, &mut bodies, &empty)?;
+    let mime = Mime::new(Vec::from_slice(alloc, b"image/png")?)?;
+    let body = b"\x01\x02\x03\x04\x05";
+    let Scene { turn, mut bodies } = one_object(alloc, 3, 2, Some(mime), body, 1024)?;
+    player.changed(turn);
+    let one = [
+        (b"\x28\x01\x13\x76\x10".as_slice(), false),
+        (b"\x30\x01\x13".as_slice(), false),
+        (b"\x04\x01\x0C".as_slice(), false),
+        (b"\x1C\x01\x10\x74\x00".as_slice(), true),
+    ];
+    expect_packets(&rt, &mut player, &mut bodies, &one)?;
+    Ok(())
+}
+
+// A change inside a group of the body: the group is finished, and then the new turn begins.
+#[test]
+fn change_inside_a_group(rt: HostRuntime) -> Result<(), Fail> {
+    let alloc = rt.alloc();
+    let Scene { turn, mut bodies } = one_object(alloc, 3, 2, None, &[7; 70], 1024)?;
+    let mut player = player_of(alloc, 24, 1024, turn)?;
+    let before = [
+        (b"\x08\x01\x13".as_slice(), false),
+        (b"\x10\x01\x13".as_slice(), false),
+        (b"\x24\x01\x01".as_slice(), false),
+        (b"\x38\x01\x13".as_slice(), false),
+        (b"\x00\x01\x13".as_slice(), false),
+    ];
+    expect_packets(&rt, &mut player, &mut bodies, &before)?;
+    let Scene { turn, mut bodies } = one_object(alloc, 5, 4, None, &[7; 70], 1024)?;
+    player.changed(turn);
+    let after = [
+        (b"\x10\x01\x13".as_slice(), false),
+        (b"\x20\x01\x13".as_slice(), false),
+        (b"\x34\x01\x05".as_slice(), false),
+        (
+            b"\x08\x01\x13\x76\x10\x80\x00\x12\x00\x05\x00\x1C".as_slice(),
+            false,
+        ),
+    ];
+    expect_packets(&rt, &mut player, &mut bodies, &after)?;
+    Ok(())
+}
+
+// A read of a body fails in the middle of a turn: nothing was lost, and the next request tries
+// again.
+#[test]
+fn failing_read(rt: HostRuntime) -> Result<(), Fail> {
+    let alloc = rt.alloc();
+    let mime = Mime::new(Vec::from_slice(alloc, b"image/png")?)?;
+    let body = b"\x01\x02\x03\x04\x05";
+    let Scene { turn, bodies } = one_object(alloc, 3, 2, Some(mime), body, 1024)?;
+    let mut player = player_of(alloc, 24, 1024, turn)?;
+    let mut bodies = FailingOnce {
+        bodies,
+        reads_left: 0,
+        failures: 0,
+    };
+    let directory = [
+        (b"\x08\x01\x13".as_slice(), false),
+        (b"\x10\x01\x13".as_slice(), false),
+        (b"\x24\x01\x0C".as_slice(), false),
+    ];
+    expect_packets(&rt, &mut player, &mut bodies, &directory)?;
+    let failed = player.next_packet(&mut bodies);
+    assert!(rt; matches!(failed, Err(Refusal::DeviceFault)));
+    let body = [(b"\x3C\x01\x10\x74\x00".as_slice(), true)];
+    expect_packets(&rt, &mut player, &mut bodies, &body)?;
+    Ok(())
+}

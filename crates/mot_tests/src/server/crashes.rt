@@ -1,0 +1,138 @@
+//! The calls that tell of a crash, each stopped at each device call and crashed: what was left is
+//! given to the same call again, as that which the crash left of it.
+use super::{COMMANDS, OBJECTS, commands_of, objects_on, seen};
+use crate::disks::{OPENING, THREE, blank_disk, image_of, new_disk, open};
+use disk_store::MemoryDisk;
+use mot_base::Refusal;
+use mot_server::{Refused, RunEnd, format_and_restart, format_run_and_restart, run_and_restart};
+use std::alloc::Global;
+use std::test::Fail;
+
+// More device calls than any of them makes.
+const NEVER: u64 = 200;
+
+// Of a write that no sync has followed, which bytes the crash leaves.
+const CHOICES: [u8; 3] = [0x00, 0xFF, 0x5A];
+
+#[derive(Clone, Copy)]
+enum Call {
+    Format,
+    Run,
+    FormatAndRun,
+}
+
+// Of a disk that was left: its objects, and the packets of its first turn.
+type Opened = Result<(usize, usize), Refusal>;
+
+// How many commands were marked, whether the disk stopped the call, and what was opened.
+type Told = (usize, bool, Opened);
+
+// The disk of a call, and what it told.
+type Called = (MemoryDisk, Told);
+
+fn formatted(alloc: Global, disk: MemoryDisk, left: MemoryDisk) -> Called {
+    let mut disk = disk;
+    let beginning = format_and_restart(&mut disk, alloc, &THREE, left);
+    let opened = match beginning.restarted {
+        Ok(restarted) => Ok((seen(&restarted.server).0, restarted.packets.len())),
+        Err(refused) => Err(refused.refusal),
+    };
+    (disk, (0, beginning.formatted.is_err(), opened))
+}
+
+fn ran(alloc: Global, disk: MemoryDisk, left: MemoryDisk) -> Result<Called, Refusal> {
+    let commands = commands_of(alloc, &COMMANDS)?;
+    let mut server = open(alloc, disk)?;
+    let aftermath = run_and_restart(&mut server, alloc, &commands, left);
+    let opened = match aftermath.restarted {
+        Ok(restarted) => Ok((seen(&restarted.server).0, restarted.packets.len())),
+        Err(refused) => Err(refused.refusal),
+    };
+    Ok((server.into_disk(), told(aftermath.end, opened)))
+}
+
+fn told(end: RunEnd, opened: Opened) -> Told {
+    (end.done.len(), end.fault.is_some(), opened)
+}
+
+fn formatted_and_ran(alloc: Global, disk: MemoryDisk, left: MemoryDisk) -> Result<Called, Refusal> {
+    let commands = commands_of(alloc, &COMMANDS)?;
+    let (disk, told) = match format_run_and_restart(disk, alloc, &THREE, &commands, left) {
+        Ok(life) => {
+            let opened = match life.after_crash {
+                Ok(first) => Ok((objects_on(alloc, first.disk)?, first.packets.len())),
+                Err(refused) => Err(refused.refusal),
+            };
+            (life.disk, told(life.end, opened))
+        }
+        Err(Refused { refusal, disk }) => (disk, (0, true, Err(refusal))),
+    };
+    Ok((disk, told))
+}
+
+// The call on a disk that stops at this device call.
+fn called(alloc: Global, call: Call, stop: u64, left: MemoryDisk) -> Result<Called, Refusal> {
+    let mut disk = match call {
+        Call::Run => new_disk(alloc, &THREE)?,
+        Call::Format | Call::FormatAndRun => blank_disk(alloc, &THREE)?,
+    };
+    disk.stop_at(stop.max(1));
+    match call {
+        Call::Format => Ok(formatted(alloc, disk, left)),
+        Call::Run => ran(alloc, disk, left),
+        Call::FormatAndRun => formatted_and_ran(alloc, disk, left),
+    }
+}
+
+// What the call told that stopped there, and what one told of the disk that its crash left.
+fn crashed(alloc: Global, call: Call, stop: u64) -> Result<Told, Refusal> {
+    let (disk, (done, is_stopped, _)) = called(alloc, call, stop, blank_disk(alloc, &THREE)?)?;
+    let left = image_of(alloc, &disk, &CHOICES)?;
+    let (_, (_, _, opened)) = called(alloc, call, NEVER, left)?;
+    Ok((done, is_stopped, opened))
+}
+
+// A formatting leaves the new carousel, and a run what its marks say, or one command more; none is
+// there where a formatting was stopped.
+fn is_as_told(call: Call, (done, is_stopped, opened): Told) -> bool {
+    match (call, opened) {
+        (Call::Format, Ok((objects, packets))) => objects == 0 && packets > 0,
+        (_, Ok((objects, packets))) => {
+            packets > objects && OBJECTS.iter().skip(done).take(2).any(|it| *it == objects)
+        }
+        (Call::Run, Err(_)) => false,
+        (_, Err(refusal)) => refusal == Refusal::NotFormatted && done == 0 && is_stopped,
+    }
+}
+
+// How many device calls it makes, if after a crash at each from this one on all is as it was told.
+fn device_calls(alloc: Global, call: Call, first: u64) -> Result<Option<u64>, Refusal> {
+    for stop in first..NEVER {
+        let told = crashed(alloc, call, stop)?;
+        if !is_as_told(call, told) {
+            return Ok(None);
+        }
+        if !told.1 {
+            return Ok(Some(stop - 1));
+        }
+    }
+    Ok(None)
+}
+
+#[test]
+fn a_crash_at_each_device_call_of_a_formatting(rt: HostRuntime) -> Result<(), Fail> {
+    assert_eq!(rt; device_calls(rt.alloc(), Call::Format, 1)?, Some(16));
+    Ok(())
+}
+
+#[test]
+fn a_crash_at_each_device_call_of_a_run(rt: HostRuntime) -> Result<(), Fail> {
+    assert_eq!(rt; device_calls(rt.alloc(), Call::Run, OPENING + 1)?, Some(39));
+    Ok(())
+}
+
+#[test]
+fn a_crash_at_each_device_call_of_both(rt: HostRuntime) -> Result<(), Fail> {
+    assert_eq!(rt; device_calls(rt.alloc(), Call::FormatAndRun, 1)?, Some(55));
+    Ok(())
+}
