@@ -405,194 +405,202 @@ module _ {D : Type 0} where
     done = λ e. refl;
   }
 
-  -- all turns were fed, or too many packets
-  pub fed_all : (old new : ServerView D) (start now : State) (s : Standing) (waits : Bool)
-      (turns left : ℕ) (between_turns : Bool) (count : ℕ) (before after : Option (List (List ℕ)))
-      → SoFar old new start now s waits turns left between_turns count before after
-      → (left ≡ 0) ⊎ (count ≡ 18446744073709551615)
-      → Feeds old new start now s waits turns before after
-  fed_all old new start now s waits turns left between_turns count before after so_far (inl none) =
-      record {
-        events = so_far.events;
-        fed = so_far.fed;
-        packets = so_far.packets;
-        are = so_far.are;
-        written = so_far.written;
-        uncut = so_far.uncut;
-        ended = inl (
-          let all = so_far.counted in omega (arith, none, all),
-          so_far.ended ∙ so_far.done none,
-        );
-      }
-  fed_all old new start now s waits turns left between_turns count before after so_far (inr many) =
-      record {
-        events = so_far.events;
-        fed = so_far.fed;
-        packets = so_far.packets;
-        are = so_far.are;
-        written = so_far.written;
-        uncut = so_far.uncut;
-        ended = inr (so_far.many ∙ many);
-      }
-
-  -- an update more
-  module _ (old mid up : ServerView D) (start between then_state : State) (s : Standing)
-      (waits : Bool) (turns left : ℕ) (between_turns : Bool) (count : ℕ)
-      (before after : Option (List (List ℕ))) (fault : Option Refusal)
+  module _ {old mid : ServerView D} {start between : State} {s : Standing} {waits : Bool}
+      {turns left : ℕ} {between_turns : Bool} {count : ℕ} {before after : Option (List (List ℕ))}
       (so_far : SoFar old mid start between s waits turns left between_turns count before after)
-      (update : IsUpdating mid up between then_state so_far.fed.leaves.last
-      (may_change waits between_turns) fault) where
-    abbrev done_by : List Command
-    done_by = accepted_commands update.commands update.marks
+    where
+      -- all turns were fed, or too many packets
+      pub fed_all : (left ≡ 0) ⊎ (count ≡ 18446744073709551615)
+          → Feeds old mid start between s waits turns before after
+      fed_all end = record {
+        events = so_far.events;
+        fed = so_far.fed;
+        packets = so_far.packets;
+        are = so_far.are;
+        written = so_far.written;
+        uncut = so_far.uncut;
+        ended = all_ended end;
+      }
+        where
+          all_ended : (left ≡ 0) ⊎ (count ≡ 18446744073709551615)
+              → ((turns_in so_far.events ≡ turns) × (has_ended true so_far.events ≡ true))
+              ⊎ (length so_far.packets ≡ 18446744073709551615)
+          all_ended (inl none) = inl (
+            let all = so_far.counted in omega (arith, none, all),
+            so_far.ended ∙ so_far.done none,
+          )
+          all_ended (inr many) = inr (so_far.many ∙ many)
 
-    abbrev pub updated_events : List Event
-    updated_events = so_far.events ++ map Accepted done_by
+      -- an update more
+      module _ {up : ServerView D} {then_state : State} {fault : Option Refusal}
+          (update : IsUpdating mid up between then_state so_far.fed.leaves.last
+          (may_change waits between_turns) fault) where
+        abbrev done_by : List Command
+        done_by = accepted_commands update.commands update.marks
 
-    -- an update behind what was fed, as one run of all commands
-    pub updated : HasFed old up start then_state s fault updated_events
-    updated = fed-join old mid up start between then_state s fault so_far.events
-        (map Accepted done_by) so_far.fed
-        (fed-run mid up between then_state so_far.fed.leaves.last fault update.commands
-        update.marks update.run)
+        abbrev updated_events : List Event
+        updated_events = so_far.events ++ map Accepted done_by
 
-    -- it sends no packets
-    pub updated_are : AreOf updated_events so_far.packets
-    updated_are = are-more so_far.events done_by so_far.packets so_far.are
+        -- an update behind what was fed, as one run of all commands
+        updated_fed : HasFed old up start then_state s fault updated_events
+        updated_fed = fed-join old mid up start between then_state s fault so_far.events
+            (map Accepted done_by) so_far.fed
+            (fed-run mid up between then_state so_far.fed.leaves.last fault update.commands
+            update.marks update.run)
 
-    -- where it waits, it cuts no turn
-    pub updated_uncut : waits ≡ true → are_uncut true updated_events ≡ true
-    updated_uncut w = uncut-append true so_far.events (map Accepted done_by) (so_far.uncut w)
-        (subst (λ e. are_uncut e (map Accepted done_by) ≡ true) (sym so_far.ended)
-        (uncut-update between_turns update.commands update.marks
-        (λ e. update.waits (subst (λ b. may_change b between_turns ≡ false) (sym w) e))))
+        -- it sends no packets
+        updated_are : AreOf updated_events so_far.packets
+        updated_are = are-more so_far.events done_by so_far.packets so_far.are
 
-    pub updated_ended : has_ended true updated_events ≡ between_turns
-    updated_ended = ended-append true so_far.events (map Accepted done_by)
-        ∙ ended-map (has_ended true so_far.events) done_by ∙ so_far.ended
+        -- where it waits, it cuts no turn
+        updated_uncut : waits ≡ true → are_uncut true updated_events ≡ true
+        updated_uncut w = uncut-append true so_far.events (map Accepted done_by) (so_far.uncut w)
+            (subst (λ e. are_uncut e (map Accepted done_by) ≡ true) (sym so_far.ended)
+            (uncut-update between_turns update.commands update.marks
+            (λ e. update.waits (subst (λ b. may_change b between_turns ≡ false) (sym w) e))))
 
-    -- it ends no turn
-    pub updated_turns : turns_in updated_events ≡ turns_in so_far.events
-    updated_turns = turns-append so_far.events (map Accepted done_by)
-        ∙ omega (arith, turns-map done_by)
+        updated_ended : has_ended true updated_events ≡ between_turns
+        updated_ended = ended-append true so_far.events (map Accepted done_by)
+            ∙ ended-map (has_ended true so_far.events) done_by ∙ so_far.ended
 
-    -- feeding that a fault of an update ends, and not of a write
-    pub update_fault : (refusal : Refusal) → fault ≡ Some refusal → refusal ≢ WriteFault
-        → FeedsPart refusal old up start then_state s waits before after
-    update_fault refusal is other = record {
-      fault = fault;
-      told = inl is;
-      events = updated_events;
-      fed = updated;
-      packets = so_far.packets;
-      are = updated_are;
-      written = part.whole other so_far.written;
-      uncut = updated_uncut;
-    }
+        -- it ends no turn
+        updated_turns : left + turns_in updated_events ≡ turns
+        updated_turns = omega (
+          arith,
+          turns-append so_far.events (map Accepted done_by),
+          turns-map done_by,
+          so_far.counted,
+        )
 
-  -- a packet behind these events
-  module _ (old up new : ServerView D) (start then_state now : State) (s : Standing)
-      (waits : Bool) (before after last : Option (List (List ℕ))) (events : List Event)
-      (packets : List (List ℕ)) (fed : HasFed old up start then_state s None events)
-      (are : AreOf events packets) (written : Grows before after packets)
-      (uncut : waits ≡ true → are_uncut true events ≡ true)
-      (sound : IsHonestDisk then_state) (view : new.view ≡ up.view) (honest : now.IsHonest)
-      (still : IsUnchanged then_state now) where
-    abbrev t : Standing
-    t = fed.leaves.last
-
-    held : Holds up.view t then_state
-    held = fed.leaves.going refl
-
-    module _ (packet : List ℕ) (ends : Bool)
-        (step : IsStep (place_in up t) packet ends (place_in new t)) where
-      abbrev sent_events : List Event
-      sent_events = events ++ Played step.sent ∷ []
-
-      sent_fed : HasFed old new start now s None sent_events
-      sent_fed = fed-join old up new start then_state now s None events (Played step.sent ∷ []) fed
-          (fed-read up new then_state now t None (Played step.sent ∷ []) sound view honest still
-          held refl (played t.geometry.objects t.geometry.segment_size t.carousel (place_in up t)
-          (place_in new t) packet ends step))
-
-      sent_are : AreOf sent_events (packets ++ packet ∷ [])
-      sent_are = are-append events (Played step.sent ∷ []) packets (packet ∷ []) are
-          (are-one (place_in up t) (place_in new t) packet ends step)
-
-      sent_uncut : waits ≡ true → are_uncut true sent_events ≡ true
-      sent_uncut w = uncut-append true events (Played step.sent ∷ []) (uncut w) refl
-
-      cut_packet : (refusal : Refusal) → GrowsPart refusal (packet ∷ []) after last
-          → FeedsPart refusal old new start now s waits before last
-      cut_packet refusal part_written = record {
-        fault = None;
-        told = inr refl;
-        events = sent_events;
-        fed = sent_fed;
-        packets = packets ++ packet ∷ [];
-        are = sent_are;
-        written = part_after refusal packets (packet ∷ []) before after last written part_written;
-        uncut = sent_uncut;
+      -- feeding that a fault of an update ends, and not of a write
+      pub update_fault : {up : ServerView D} {then_state : State} {refusal : Refusal}
+          → IsUpdating mid up between then_state so_far.fed.leaves.last
+          (may_change waits between_turns) (Some refusal)
+          → refusal ≢ WriteFault → FeedsPart refusal old up start then_state s waits before after
+      update_fault {up} {then_state} {refusal} update other = record {
+        fault = Some refusal;
+        told = inl refl;
+        events = updated_events update;
+        fed = updated_fed update;
+        packets = so_far.packets;
+        are = updated_are update;
+        written = part.whole other so_far.written;
+        uncut = updated_uncut update;
       }
 
-    send_fault-cases : (refusal : Refusal)
-        → SendsPacket (Err refusal) (place_in up t) (place_in new t) after last
-        → FeedsPart refusal old new start now s waits before last
-    send_fault-cases refusal (one.whole packet e is step w) = absurd (not_fine e refusal (sym is))
-    send_fault-cases refusal (one.short packet e n is step lt w) =
-        cut_packet packet e step refusal
-        (part.short (same_refusal refusal WriteFault is) [] packet n refl lt w)
-    send_fault-cases refusal (one.none r other is same w) = record {
-      fault = None;
-      told = inr refl;
-      events = events ++ [];
-      fed = fed-join old up new start then_state now s None events [] fed
-          (fed-read up new then_state now t None [] sound view honest still held refl
-          (refl, sym same));
-      packets = packets;
-      are = subst (λ l. AreOf l packets) (sym (append-nil events)) are;
-      written = part.whole (λ e. other (sym (same_refusal refusal r is) ∙ e))
-          (grows_kept before after last packets written w);
-      uncut = λ w. subst (λ l. are_uncut true l ≡ true) (sym (append-nil events)) (uncut w);
-    }
+      -- what was fed so far, with an update that had no fault
+      pub updated : {up : ServerView D} {then_state : State}
+          → IsUpdating mid up between then_state so_far.fed.leaves.last
+          (may_change waits between_turns) None
+          → SoFar old up start then_state s waits turns left between_turns count before after
+      updated update = record {
+        events = updated_events update;
+        fed = updated_fed update;
+        packets = so_far.packets;
+        are = updated_are update;
+        written = so_far.written;
+        uncut = updated_uncut update;
+        ended = updated_ended update;
+        counted = updated_turns update;
+        many = so_far.many;
+        done = so_far.done;
+      }
 
-    -- feeding that a fault of a packet or of its write ends
-    pub send_fault : (refusal : Refusal)
-        → ((d : Standing) → Holds up.view d then_state
-        → SendsPacket (Err refusal) (place_in up d) (place_in new d) after last)
-        → FeedsPart refusal old new start now s waits before last
-    send_fault refusal sends = send_fault-cases refusal (sends t held)
+      abbrev t : Standing
+      t = so_far.fed.leaves.last
 
-    -- one that was written whole
-    module _ (turns left : ℕ) (count : ℕ) (counted : left + turns_in events ≡ turns)
-        (many : length packets ≡ count) (some : left ≡ 0 → ⊥) where
-      sent_on-cases : (ends : Bool) (rest : ℕ) → rest + (if ends then 1 else 0) ≡ left
-          → SendsPacket (Ok ends) (place_in up t) (place_in new t) after last
-          → SoFar old new start now s waits turns rest ends (count + 1) before last
-      sent_on-cases ends rest is_rest (one.whole packet e is step w) =
-          let same : step.sent.ends_turn ≡ ends = sym step.ends ∙ sym (same_ends ends e is) in
-          record {
-            events = sent_events packet e step;
-            fed = sent_fed packet e step;
-            packets = packets ++ packet ∷ [];
-            are = sent_are packet e step;
-            written = grows_trans before after last packets (packet ∷ []) written w;
-            uncut = sent_uncut packet e step;
-            ended = ended-append true events (Played step.sent ∷ []) ∙ same;
-            counted = more_turns events step.sent ends rest left turns same is_rest counted;
-            many = length-append packets (packet ∷ []) ∙ omega (arith, many);
-            done = λ none. done-cases ends rest left none is_rest some;
-          }
-      sent_on-cases ends rest is_rest (one.short packet e n is step lt w) =
-          absurd (not_fine ends _ is)
-      sent_on-cases ends rest is_rest (one.none refusal other is same w) =
-          absurd (not_fine ends refusal is)
+      held : Holds mid.view t between
+      held = so_far.fed.leaves.going refl
 
-      -- one more packet, which was made and written
-      pub sent_on : (ends : Bool) (rest : ℕ) → rest + (if ends then 1 else 0) ≡ left
-          → ((d : Standing) → Holds up.view d then_state
-          → SendsPacket (Ok ends) (place_in up d) (place_in new d) after last)
-          → SoFar old new start now s waits turns rest ends (count + 1) before last
-      sent_on ends rest is_rest sends = sent_on-cases ends rest is_rest (sends t held)
+      -- a packet more
+      module _ (new : ServerView D) {now : State} (sound : IsHonestDisk between)
+          (view : new.view ≡ mid.view) (honest : now.IsHonest) (still : IsUnchanged between now) where
+        module _ {packet : List ℕ} {ends : Bool}
+            (step : IsStep (place_in mid t) packet ends (place_in new t)) where
+          abbrev sent_events : List Event
+          sent_events = so_far.events ++ Played step.sent ∷ []
+
+          sent_fed : HasFed old new start now s None sent_events
+          sent_fed = fed-join old mid new start between now s None so_far.events
+              (Played step.sent ∷ []) so_far.fed
+              (fed-read mid new between now t None (Played step.sent ∷ []) sound view honest still
+              held refl (played t.geometry.objects t.geometry.segment_size t.carousel
+              (place_in mid t) (place_in new t) packet ends step))
+
+          sent_are : AreOf sent_events (so_far.packets ++ packet ∷ [])
+          sent_are = are-append so_far.events (Played step.sent ∷ []) so_far.packets (packet ∷ [])
+              so_far.are (are-one (place_in mid t) (place_in new t) packet ends step)
+
+          sent_uncut : waits ≡ true → are_uncut true sent_events ≡ true
+          sent_uncut w = uncut-append true so_far.events (Played step.sent ∷ []) (so_far.uncut w)
+              refl
+
+        send_fault-cases : {last : Option (List (List ℕ))} (refusal : Refusal)
+            → SendsPacket (Err refusal) (place_in mid t) (place_in new t) after last
+            → FeedsPart refusal old new start now s waits before last
+        send_fault-cases {last} refusal (one.whole packet e is step w) =
+            absurd (not_fine e refusal (sym is))
+        send_fault-cases {last} refusal (one.short packet e n is step lt w) = record {
+          fault = None;
+          told = inr refl;
+          events = sent_events step;
+          fed = sent_fed step;
+          packets = so_far.packets ++ packet ∷ [];
+          are = sent_are step;
+          written = part_after refusal so_far.packets (packet ∷ []) before after last so_far.written
+              (part.short (same_refusal refusal WriteFault is) [] packet n refl lt w);
+          uncut = sent_uncut step;
+        }
+        send_fault-cases {last} refusal (one.none r other is same w) = record {
+          fault = None;
+          told = inr refl;
+          events = so_far.events ++ [];
+          fed = fed-join old mid new start between now s None so_far.events [] so_far.fed
+              (fed-read mid new between now t None [] sound view honest still held refl
+              (refl, sym same));
+          packets = so_far.packets;
+          are = subst (λ l. AreOf l so_far.packets) (sym (append-nil so_far.events)) so_far.are;
+          written = part.whole (λ e. other (sym (same_refusal refusal r is) ∙ e))
+              (grows_kept before after last so_far.packets so_far.written w);
+          uncut = λ w. subst (λ l. are_uncut true l ≡ true) (sym (append-nil so_far.events))
+              (so_far.uncut w);
+        }
+
+        -- feeding that a fault of a packet or of its write ends
+        pub send_fault : {last : Option (List (List ℕ))} (refusal : Refusal)
+            → ((d : Standing) → Holds mid.view d between
+            → SendsPacket (Err refusal) (place_in mid d) (place_in new d) after last)
+            → FeedsPart refusal old new start now s waits before last
+        send_fault refusal sends = send_fault-cases refusal (sends t held)
+
+        -- one that was written whole
+        module _ (some : left ≡ 0 → ⊥) (ends : Bool) (rest : ℕ)
+            (is_rest : rest + (if ends then 1 else 0) ≡ left) {last : Option (List (List ℕ))} where
+          sent_on-cases : SendsPacket (Ok ends) (place_in mid t) (place_in new t) after last
+              → SoFar old new start now s waits turns rest ends (count + 1) before last
+          sent_on-cases (one.whole packet e is step w) =
+              let same : step.sent.ends_turn ≡ ends = sym step.ends ∙ sym (same_ends ends e is) in
+              record {
+                events = sent_events step;
+                fed = sent_fed step;
+                packets = so_far.packets ++ packet ∷ [];
+                are = sent_are step;
+                written = grows_trans before after last so_far.packets (packet ∷ []) so_far.written w;
+                uncut = sent_uncut step;
+                ended = ended-append true so_far.events (Played step.sent ∷ []) ∙ same;
+                counted = more_turns so_far.events step.sent ends rest left turns same is_rest
+                    so_far.counted;
+                many = length-append so_far.packets (packet ∷ []) ∙ omega (arith, so_far.many);
+                done = λ none. done-cases ends rest left none is_rest some;
+              }
+          sent_on-cases (one.short packet e n is step lt w) = absurd (not_fine ends _ is)
+          sent_on-cases (one.none refusal other is same w) = absurd (not_fine ends refusal is)
+
+          -- one more packet, which was made and written
+          pub sent_on : ((d : Standing) → Holds mid.view d between
+              → SendsPacket (Ok ends) (place_in mid d) (place_in new d) after last)
+              → SoFar old new start now s waits turns rest ends (count + 1) before last
+          sent_on sends = sent_on-cases (sends t held)
 
 -- ---- continuity
 

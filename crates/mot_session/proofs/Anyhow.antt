@@ -240,28 +240,6 @@ module _ (view view' : RepositoryView) (same : view' ≡ view) (going : IsFalse 
   next-cut value count one e few = let c = cut value one e in
       (_, anyhow.next_cut count shown refl going same few c.0 refl, c.1)
 
-  -- a `turn` line's packets, cut short by a device fault, where both were written
-  pub turn-cut : (value : Option Bool) (count : ℕ) → ShowsOne (Ok value) mid now so_far then
-      → value ≡ None → AreWithinTurn count shown
-      → AnswersWithAnyhow {T = Unit {0}} (Ok tt) view view' before now (Ok asks.Turn)
-      written then
-  turn-cut value count one e within = let c = cut value one e in
-      (_, anyhow.turn_cut count shown refl going same within c.0 refl, c.1)
-
-  -- a `turn` line's packets up to one that ends the turn, where all were written
-  pub turn-ended : (value : Option Bool) (count : ℕ) → ShowsOne (Ok value) mid now so_far then
-      → value ≡ Some true → AreWithinTurn count shown
-      → AnswersWithAnyhow {T = Unit {0}} (Ok tt) view view' before now (Ok asks.Turn)
-      written then
-  turn-ended value count (shows packet last calm' is w) e within =
-      let ends : last ≡ true = not-both last true (sym is ∙ e) in (
-        shown_lines shown ++ played_line packet true,
-        anyhow.turn count shown packet refl going same within refl,
-        Appends-trans written so_far then (shown_lines shown) (played_line packet true) appended
-            (subst (λ b. Appends so_far then (played_line packet b)) ends w),
-      )
-  turn-ended value count (fails rises is w) e within = let none = is in absurd (cc)
-
   -- the line of the packet behind them, or of the fault, was broken off
   pub next-broken : (fault : WriteFault) (count : ℕ)
       → ShowsOne (Err fault) mid now so_far then → length shown < count
@@ -283,26 +261,68 @@ module _ (view view' : RepositoryView) (same : view' ≡ view) (going : IsFalse 
         appended w,
   )
 
-  -- a `turn` line's packets, where the line of the next one or of a fault was broken off
-  pub turn-broken : (fault : WriteFault) (count : ℕ)
-      → ShowsOne (Err fault) mid now so_far then → AreWithinTurn count shown
+-- what was shown of a `turn` line's packets, none of which ended the turn
+pub record ShownSoFar (before mid : ℕ) (written so_far : Option (List ℕ)) : Type 0 where
+  pub count : ℕ
+  pub shown : List Shown
+  pub within : AreWithinTurn count shown
+  pub lines : Appends written so_far (shown_lines shown)
+  pub calm : mid ≡ before
+
+module _ {view view' : RepositoryView} (same : view' ≡ view) (going : IsFalse view.halted)
+    {before mid now : ℕ} {written known then : Option (List ℕ)}
+    (so_far : ShownSoFar before mid written known) where
+  -- one more packet that does not end the turn
+  pub turn-more : {value : Option Bool} → ShowsOne (Ok value) mid now known then
+      → value ≡ Some false → ShownSoFar before now written then
+  turn-more {value} one e =
+      let more = one-more view view' same going before mid now so_far.calm written known then
+      so_far.shown so_far.lines value false one e in
+      record {
+        count = so_far.count + 1;
+        shown = so_far.shown ++ more.0 ∷ [];
+        within = within-more so_far.count so_far.shown more.0 so_far.within more.1;
+        lines = more.3;
+        calm = more.2;
+      }
+
+  -- the request behind them failed with a device fault
+  pub turn-cut : {value : Option Bool} → ShowsOne (Ok value) mid now known then → value ≡ None
+      → AnswersWithAnyhow {T = Unit {0}} (Ok tt) view view' before now (Ok asks.Turn)
+      written then
+  turn-cut {value} one e =
+      let c = cut view view' same going before mid now so_far.calm written known then so_far.shown
+      so_far.lines value one e in
+      (_, anyhow.turn_cut so_far.count so_far.shown refl going same so_far.within c.0 refl, c.1)
+
+  -- the packet behind them ended the turn
+  pub turn-ended : {value : Option Bool} → ShowsOne (Ok value) mid now known then
+      → value ≡ Some true
+      → AnswersWithAnyhow {T = Unit {0}} (Ok tt) view view' before now (Ok asks.Turn)
+      written then
+  turn-ended (shows packet last calm is w) e =
+      let ends : last ≡ true = not-both last true (sym is ∙ e) in (
+        shown_lines so_far.shown ++ played_line packet true,
+        anyhow.turn so_far.count so_far.shown packet refl going same so_far.within refl,
+        Appends-trans written known then (shown_lines so_far.shown) (played_line packet true)
+            so_far.lines (subst (λ b. Appends known then (played_line packet b)) ends w),
+      )
+  turn-ended (fails rises is w) e = let none = is in absurd (cc)
+
+  -- the line of the next packet or of a fault was broken off
+  pub turn-broken : {fault : WriteFault} → ShowsOne (Err fault) mid now known then
       → AnswersWithAnyhow {T = Unit {0}} (Err fault) view view' before now (Ok asks.Turn)
       written then
-  turn-broken fault count (shows packet last calm' is w) within = (
+  turn-broken (shows packet last calm is w) = (
     _,
-    anyhow.turn_begun count shown (packet, last) refl going same within refl,
-    WritesFront-after (shown_lines shown) (played_line packet last) written so_far then
-        appended w,
+    anyhow.turn_begun so_far.count so_far.shown (packet, last) refl going same so_far.within refl,
+    WritesFront-after (shown_lines so_far.shown) (played_line packet last) written known then
+        so_far.lines w,
   )
-  turn-broken fault count (fails rises is w) within = (
+  turn-broken (fails rises is w) = (
     _,
-    anyhow.whole (anyhow.turn_cut count shown refl going same within
-        (subst (λ n. Rises n now) calm rises) refl),
-    WritesFront-after (shown_lines shown) (refusal_line DeviceFault) written so_far then
-        appended w,
+    anyhow.whole (anyhow.turn_cut so_far.count so_far.shown refl going same so_far.within
+        (subst (λ n. Rises n now) so_far.calm rises) refl),
+    WritesFront-after (shown_lines so_far.shown) (refusal_line DeviceFault) written known then
+        so_far.lines w,
   )
-
--- one more packet that does not end the turn
-pub within-one-more : (count : ℕ) (shown : List Shown) (p : Shown) → AreWithinTurn count shown
-    → p.1 ≡ false → AreWithinTurn (count + 1) (shown ++ p ∷ [])
-within-one-more count shown p within e = within-more count shown p within e

@@ -9,7 +9,6 @@ use Rattle.mot_lines.proofs.Laws.{whole_lines-none}
 use Rattle.mot_server.specs.Server.{ServerView}
 use Rattle.mot_session.specs.declared.serving.output.WriteFault.{WriteFault}
 use Rattle.mot_session.specs.Inner.Anyhow.{AnswersWithAnyhow}
-use Rattle.mot_session.specs.Inner.InHand.{InHand}
 use Rattle.mot_session.specs.Inner.Writes.{AnswersLine}
 use Rattle.mot_session.specs.LineByLine.{BreaksOff, GoesOn, ServesEach, ServesOne, ServesSome}
 use Rattle.mot_session.specs.State.{Leads}
@@ -99,12 +98,3 @@ module _ {D : Type 0} (state : D → State) (old new : ServerView D) (known next
       front = anyhow.2;
       goes = goes;
     }
-
--- Lines that are cut off a chunk: whatever was served of the input before, these bytes of it more
--- were served from a server to a server.
-abbrev pub GoesOnBy : {D : Type 0} → (D → State) → ServerView D → ServerView D
-    → List ℕ → ℕ → List ℕ → Option (List ℕ) → Option (List ℕ) → Type 0
-GoesOnBy {D} state old new hand count front written now =
-    (first : ServerView D) (known : Option (List ℕ)) (input : List ℕ) → InHand input hand count
-    → ServesEach state first (whole_lines input) old known written
-    → ServesEach state first (whole_lines (input ++ front)) new known now

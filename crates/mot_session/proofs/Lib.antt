@@ -16,6 +16,7 @@ pub mod Requests
 pub mod Rows
 pub mod Runs
 pub mod SessionLaws
+pub mod Taken
 pub mod Telling
 pub mod Told
 pub mod Written

@@ -33,16 +33,6 @@ module _ (before mid after : ServerState) (going : IsFalse before.halted)
       (Err fault) before mid after going old now new made sents so_far failing w
       count few s
 
-  -- a `turn` line's packets, where the line of the next one or of a fault was broken off
-  pub turn-broken : (fault : WriteFault) → SendsWithinTurn before made sents mid
-      → AnswersOne (Err fault) mid after now new
-      → AnswersRequest {T = Unit {0}} (Err fault) false before (Ok asks.Turn) after old new
-  turn-broken fault s (sends sent one shown w) =
-      BrokenOff-turn fault before mid after going old now new sent one w made sents so_far s
-  turn-broken fault s (fails failing shown w) =
-      AnswersRequest-turn_cut {T = Unit {0}}
-      (Err fault) before mid after going old now new made sents so_far failing w s
-
   module _ (shown : Option Bool) (one : AnswersOne (Ok shown) mid after now new) where
     -- the request was refused
     next-cut-of : AnswersOne (Ok shown) mid after now new → shown ≡ None → (count : ℕ)
@@ -61,21 +51,6 @@ module _ (before mid after : ServerState) (going : IsFalse before.halted)
         → AnswersRequest {T = Unit {0}} (Ok tt) false before (Ok (asks.Next count)) after old new
     next-cut none count few s = next-cut-of one none count few s
 
-    turn-cut-of : AnswersOne (Ok shown) mid after now new → shown ≡ None
-        → SendsWithinTurn before made sents mid
-        → AnswersRequest {T = Unit {0}} (Ok tt) false before (Ok asks.Turn) after old new
-    turn-cut-of (sends sent one is w) none s =
-        let both : Some sent.ends_turn ≡ None = sym is ∙ none in cc
-    turn-cut-of (fails failing is w) none s =
-        AnswersRequest-turn_cut {T = Unit {0}}
-        (Ok tt) before mid after going old now new made sents so_far
-        failing w s
-
-    -- a `turn` line's packets, and the device fault of the request behind them
-    pub turn-cut : shown ≡ None → SendsWithinTurn before made sents mid
-        → AnswersRequest {T = Unit {0}} (Ok tt) false before (Ok asks.Turn) after old new
-    turn-cut none s = turn-cut-of one none s
-
     -- a packet was played
     next-more-of : AnswersOne (Ok shown) mid after now new → (e : Bool) → shown ≡ Some e
         → Sends before made sents mid
@@ -92,35 +67,54 @@ module _ (before mid after : ServerState) (going : IsFalse before.halted)
         → (all : List Sent) × Sends before (made + 1) all after × Appends old new (sent_lines all)
     next-more e some s = next-more-of one e some s
 
-    turn-more-of : AnswersOne (Ok shown) mid after now new → shown ≡ Some false
-        → SendsWithinTurn before made sents mid
-        → (all : List Sent) × SendsWithinTurn before (made + 1) all after
-        × Appends old new (sent_lines all)
-    turn-more-of (sends sent one is w) some s = (
-      sents ++ sent ∷ [],
-      SendsWithinTurn-more before mid after sent one made sents s
-          (same_bool shown sent.ends_turn false is some),
-      appended-more sents sent old now new so_far w,
-    )
-    turn-more-of (fails failing is w) some s = let both : Some false ≡ None = sym some ∙ is in cc
+-- what was sent of a `turn` line's packets, none of which ended the turn
+pub record SentSoFar (before mid : ServerState) (old now : Option (List ℕ)) : Type 0 where
+  pub made : ℕ
+  pub sents : List Sent
+  pub within : SendsWithinTurn before made sents mid
+  pub lines : Appends old now (sent_lines sents)
 
-    -- one more packet of a `turn` line that does not end the turn
-    pub turn-more : shown ≡ Some false → SendsWithinTurn before made sents mid
-        → (all : List Sent) × SendsWithinTurn before (made + 1) all after
-        × Appends old new (sent_lines all)
-    turn-more some s = turn-more-of one some s
+module _ {before mid after : ServerState} {old now new : Option (List ℕ)}
+    (so_far : SentSoFar before mid old now) where
+  -- one more packet that does not end the turn
+  pub turn-more : {shown : Option Bool} → AnswersOne (Ok shown) mid after now new
+      → shown ≡ Some false → SentSoFar before after old new
+  turn-more {shown} (sends sent one is w) some = record {
+    made = so_far.made + 1;
+    sents = so_far.sents ++ sent ∷ [];
+    within = SendsWithinTurn-more before mid after sent one so_far.made so_far.sents so_far.within
+        (same_bool shown sent.ends_turn false is some);
+    lines = appended-more so_far.sents sent old now new so_far.lines w;
+  }
+  turn-more (fails failing is w) some = let both : Some false ≡ None = sym some ∙ is in cc
 
-    turn-ended-of : AnswersOne (Ok shown) mid after now new → shown ≡ Some true
-        → SendsWithinTurn before made sents mid
+  module _ (going : IsFalse before.halted) where
+    -- the line of the next packet or of a fault was broken off
+    pub turn-broken : {fault : WriteFault} → AnswersOne (Err fault) mid after now new
+        → AnswersRequest {T = Unit {0}} (Err fault) false before (Ok asks.Turn) after old new
+    turn-broken {fault} (sends sent one shown w) =
+        BrokenOff-turn fault before mid after going old now new sent one w so_far.made so_far.sents
+        so_far.lines so_far.within
+    turn-broken {fault} (fails failing shown w) =
+        AnswersRequest-turn_cut {T = Unit {0}} (Err fault) before mid after going old now new
+        so_far.made so_far.sents so_far.lines failing w so_far.within
+
+    -- the request behind them failed with a device fault
+    pub turn-cut : {shown : Option Bool} → AnswersOne (Ok shown) mid after now new → shown ≡ None
         → AnswersRequest {T = Unit {0}} (Ok tt) false before (Ok asks.Turn) after old new
-    turn-ended-of (sends sent one is w) some s =
-        Answered-turn before after going old new made (sents ++ sent ∷ [])
-        (SendsTurn-ended before mid after sent one made sents s
+    turn-cut (sends sent one is w) none =
+        let both : Some sent.ends_turn ≡ None = sym is ∙ none in cc
+    turn-cut (fails failing is w) none =
+        AnswersRequest-turn_cut {T = Unit {0}} (Ok tt) before mid after going old now new
+        so_far.made so_far.sents so_far.lines failing w so_far.within
+
+    -- the packet behind them ended the turn
+    pub turn-ended : {shown : Option Bool} → AnswersOne (Ok shown) mid after now new
+        → shown ≡ Some true
+        → AnswersRequest {T = Unit {0}} (Ok tt) false before (Ok asks.Turn) after old new
+    turn-ended {shown} (sends sent one is w) some =
+        Answered-turn before after going old new so_far.made (so_far.sents ++ sent ∷ [])
+        (SendsTurn-ended before mid after sent one so_far.made so_far.sents so_far.within
         (same_bool shown sent.ends_turn true is some))
-        (appended-more sents sent old now new so_far w)
-    turn-ended-of (fails failing is w) some s = let both : Some true ≡ None = sym some ∙ is in cc
-
-    -- a `turn` line's packets up to one that ends the turn
-    pub turn-ended : shown ≡ Some true → SendsWithinTurn before made sents mid
-        → AnswersRequest {T = Unit {0}} (Ok tt) false before (Ok asks.Turn) after old new
-    turn-ended some s = turn-ended-of one some s
+        (appended-more so_far.sents sent old now new so_far.lines w)
+    turn-ended (fails failing is w) some = let both : Some true ≡ None = sym some ∙ is in cc

@@ -1,7 +1,7 @@
 -- Requests of packets on a disk that is only read.
 use Rattle.std.proofs.Common.{◌≡◌, ℕ, Bool, List, Option, Some, Result, refl, sym, ap, ◌∙◌}
 use Rattle.std.proofs.Common.{subst}
-use Rattle.std.specs.Prelude.{IfOk, IsFalse}
+use Rattle.std.specs.Prelude.{IfOk}
 use Rattle.disk_store.specs.Disk.{State}
 use Rattle.disk_store.proofs.Laws.{keeps_none, keeps_on, reads_none, reads_on, unchanged_none}
 use Rattle.disk_store.proofs.Laws.{unchanged_on}
@@ -17,7 +17,7 @@ use Rattle.mot_session.specs.declared.serving.output.WriteFault.{WriteFault}
 use Rattle.mot_session.specs.Inner.Writes.{AnswersOne, ReadsAlone, sends}
 use Rattle.mot_session.specs.Output.{Writes}
 use Rattle.mot_session.specs.LineByLine.{GoesOn}
-use Rattle.mot_session.specs.State.{KeepsCarousel, ServerState, StandsFor, state_of}
+use Rattle.mot_session.specs.State.{KeepsCarousel, StandsFor, state_of}
 
 module _ {D : Type 0} (old new : ServerView D) (start now : State)
     (reads : ReadsAlone old new start now)

@@ -1,15 +1,17 @@
-use Rattle.std.proofs.Common.{◌≡◌, ◌∙◌, ◌+◌, ap, refl, arith, inl, inr, None, Some}
+use Rattle.std.proofs.Common.{◌≡◌, ◌+◌, refl, arith, inl, inr}
 use Rattle.std.specs.Prelude.{if◌then◌else◌}
-use Rattle.disk_store.proofs.Laws.{keeps_none, keeps_on}
-use Rattle.mot_feed.proofs.Fed.{continuous, fed_all, fed_none, rest_else, rest_then, send_fault}
-use Rattle.mot_feed.proofs.Fed.{sent_on, update_fault, updated, updated_are, updated_turns}
-use Rattle.mot_feed.proofs.Fed.{updated_uncut}
-use Rattle.mot_feed.proofs.Sent.{not_of_writing, send_fault_behind, sent_calm}
-use Rattle.disk_store.proofs.Laws.{unchanged_none}
-use Rattle.mot_update.proofs.Laws.{calm_here, calm_on, fault_on}
 use Rattle.mot_base.proofs.Laws.{same_error}
+use Rattle.disk_store.proofs.Laws.{keeps_none, keeps_on, unchanged_none}
+use Rattle.mot_feed.proofs.Fed.{SoFar, continuous, fed_all, fed_none, rest_else, rest_then}
+use Rattle.mot_feed.proofs.Fed.{send_fault, sent_on, update_fault, updated}
+use Rattle.mot_feed.proofs.Sent.{not_of_writing, send_fault_behind, sent_calm}
+use Rattle.mot_journal.specs.Image.{Standing}
+use Rattle.mot_repository.specs.Repository.{Holds}
+use Rattle.mot_update.proofs.Laws.{calm_here, calm_on, fault_on}
+use Rattle.mot_feed.proofs.feeding.feed.Given as given
 use Rattle.mot_feed.proofs.feeding.feed.Goals as goal
 use Rattle.mot_feed.proofs.feeding.feed.Goals.{else-between_turns, then-between_turns}
+use Rattle.mot_feed.proofs.feeding.feed.Goals.{After-send_one}
 
 pub loop-init : goal.loop-init
 loop-init g c =
@@ -24,38 +26,24 @@ loop-init g c =
 
 pub returns-then-left-eq0-clause-fed : goal.returns-then-left-eq0-clause-fed
 returns-then-left-eq0-clause-fed g c = λ s holds honest.
-    let state = g.D.Disk.state in
-    let old = c.args.server.now in
-    let mid = c.loop.server in
-    fed_all old mid (state old.disk) (state mid.disk) s g.U.Update.waits c.args.turns c.loop.left
-    c.loop.between_turns c.loop.counter (g.O.Outlet.writes c.args.outlet.now)
-    (g.O.Outlet.writes c.loop.outlet) (c.loop.invariant.fed s holds honest) (inl c.if-left-eq0.true)
+    fed_all (c.loop.invariant.fed s holds honest) (inl c.if-left-eq0.true)
 
 pub returns-clause-fed : goal.returns-clause-fed
 returns-clause-fed g c = λ s holds honest.
-    let state = g.D.Disk.state in
-    let old = c.args.server.now in
-    let mid = c.loop.server in
-    fed_all old mid (state old.disk) (state mid.disk) s g.U.Update.waits c.args.turns c.loop.left
-    c.loop.between_turns c.loop.counter (g.O.Outlet.writes c.args.outlet.now)
-    (g.O.Outlet.writes c.loop.outlet) (c.loop.invariant.fed s holds honest)
+    fed_all (c.loop.invariant.fed s holds honest)
     (inr (let last = c.loop-test.false in let bound = c.loop.auto.counter-end in
     omega (arith, last, bound)))
 
 pub returns-in_err-update-clause-part : goal.returns-in_err-update-clause-part
 returns-in_err-update-clause-part g c = λ s holds honest.
     let state = g.D.Disk.state in
-    let old = c.args.server.now in
     let mid = c.loop.server in
-    let new = c.update.new.server in
     let one = c.in_err-update.ensures in
     let so_far = c.loop.invariant.fed s holds (one.keeps.was_honest honest) in
     let refusal = c.in_err-update.field-0.0 in
     rw (same_error c.from_residual.result refusal c.from_residual.ensures.1)
-    (update_fault old mid new (state old.disk) (state mid.disk) (state new.disk) s g.U.Update.waits
-    c.args.turns c.loop.left c.loop.between_turns c.loop.counter _ _ (Some refusal)
-    so_far (one.run so_far.fed.leaves.last (so_far.fed.leaves.going refl) honest) refusal refl
-    (not_of_writing mid (state mid.disk) (state new.disk) refusal one.faults))
+    (update_fault so_far (one.run so_far.fed.leaves.last (so_far.fed.leaves.going refl) honest)
+    (not_of_writing mid (state mid.disk) (state c.update.new.server.disk) refusal one.faults))
 
 pub returns-in_err-update-clause-fault : goal.returns-in_err-update-clause-fault
 returns-in_err-update-clause-fault g c =
@@ -83,41 +71,39 @@ returns-in_err-between_turns-clause-fault g c =
     (inr (send_fault_behind old up (state old.disk) (state up.disk) (state new.disk) refusal calm
     c.in_err-between_turns.ensures.fault))
 
+-- what was fed up to the packet that is sent
+found : (g : given.Over) (c : After-send_one g) (s : Standing)
+    → Holds c.args.server.now.view s (g.D.Disk.state c.args.server.now.disk)
+    → (g.D.Disk.state c.update.new.server.disk).IsHonest
+    → SoFar c.args.server.now c.update.new.server (g.D.Disk.state c.args.server.now.disk)
+    (g.D.Disk.state c.update.new.server.disk) s g.U.Update.waits c.args.turns c.loop.left
+    c.loop.between_turns c.loop.counter (g.O.Outlet.writes c.args.outlet.now)
+    (g.O.Outlet.writes c.loop.outlet)
+found g c s holds honest =
+    let one = c.in_ok-update.ensures in
+    let so_far = c.loop.invariant.fed s holds (one.keeps.was_honest honest) in
+    updated so_far (one.run so_far.fed.leaves.last (so_far.fed.leaves.going refl) honest)
+
 pub returns-in_err-between_turns-clause-part : goal.returns-in_err-between_turns-clause-part
 returns-in_err-between_turns-clause-part g c = λ s holds honest.
-    let state = g.D.Disk.state in
-    let old = c.args.server.now in
-    let mid = c.loop.server in
-    let up = c.update.new.server in
-    let new = c.send_one.new.server in
-    let waits = g.U.Update.waits in
-    let one = c.in_ok-update.ensures in
+    let from = (goal.at.returns-in_err-between_turns-clause-part g c).After-send_one in
     let two = c.in_err-between_turns.ensures in
     let then_honest = two.only_reads.keeps.was_honest honest in
-    let so_far = c.loop.invariant.fed s holds (one.keeps.was_honest then_honest) in
-    let t = so_far.fed.leaves.last in
-    let update = one.run t (so_far.fed.leaves.going refl) then_honest in
-    let fed = updated old mid up (state old.disk) (state mid.disk) (state up.disk) s waits
-    c.args.turns c.loop.left c.loop.between_turns c.loop.counter _ _ None so_far update in
     rw (same_error c.from_residual-in_err-between_turns.result c.in_err-between_turns.field-0.0
     c.from_residual-in_err-between_turns.ensures.1)
-    (send_fault old up new (state old.disk) (state up.disk) (state new.disk) s waits _ _ _ _
-    so_far.packets fed
-    (updated_are old mid up (state old.disk) (state mid.disk) (state up.disk) s waits c.args.turns
-    c.loop.left c.loop.between_turns c.loop.counter _ _ None so_far update) so_far.written
-    (updated_uncut old mid up (state old.disk) (state mid.disk) (state up.disk) s waits c.args.turns
-    c.loop.left c.loop.between_turns c.loop.counter _ _ None so_far update)
-    (g.met.D.Disk.sound up.disk then_honest) two.view honest (two.only_reads.unchanged honest)
-    c.in_err-between_turns.field-0.0 (λ d held. two.sent d held honest))
+    (send_fault (found g from s holds then_honest) c.send_one.new.server
+    (g.met.D.Disk.sound c.update.new.server.disk then_honest) two.view honest
+    (two.only_reads.unchanged honest) c.in_err-between_turns.field-0.0
+    (λ d held. two.sent d held honest))
 
 pub loop-preserved : goal.loop-preserved
 loop-preserved g c =
     let state = g.D.Disk.state in
+    let from = (goal.at.loop-preserved g c).After-send_one in
     let old = c.args.server.now in
     let mid = c.loop.server in
     let up = c.update.new.server in
     let new = c.send_one.new.server in
-    let waits = g.U.Update.waits in
     let is = c.loop.invariant in
     let one = c.in_ok-update.ensures in
     let two = c.in_ok-between_turns.ensures in
@@ -138,23 +124,9 @@ loop-preserved g c =
           (sent_calm up new (state up.disk) (state new.disk) two.calm two.view);
       fed = λ s holds honest.
           let then_honest = two.only_reads.keeps.was_honest honest in
-          let so_far = is.fed s holds (one.keeps.was_honest then_honest) in
-          let t = so_far.fed.leaves.last in
-          let update = one.run t (so_far.fed.leaves.going refl) then_honest in
-          let fed = updated old mid up (state old.disk) (state mid.disk) (state up.disk) s waits
-          c.args.turns left c.loop.between_turns c.loop.counter _ _ None so_far update in
-          let same = updated_turns old mid up (state old.disk) (state mid.disk) (state up.disk) s
-          waits c.args.turns left c.loop.between_turns c.loop.counter _ _ None so_far update in
-          sent_on old up new (state old.disk) (state up.disk) (state new.disk) s waits _ _ _ _
-          so_far.packets fed
-          (updated_are old mid up (state old.disk) (state mid.disk) (state up.disk) s waits
-          c.args.turns left c.loop.between_turns c.loop.counter _ _ None so_far update)
-          so_far.written
-          (updated_uncut old mid up (state old.disk) (state mid.disk) (state up.disk) s waits
-          c.args.turns left c.loop.between_turns c.loop.counter _ _ None so_far update)
-          (g.met.D.Disk.sound up.disk then_honest) two.view honest (two.only_reads.unchanged honest)
-          c.args.turns left c.loop.counter (ap (λ n. left + n) same ∙ so_far.counted) so_far.many
-          c.if-left-eq0.false ends rest is_rest (λ d held. two.sent d held honest);
+          sent_on (found g from s holds then_honest) new (g.met.D.Disk.sound up.disk then_honest)
+          two.view honest (two.only_reads.unchanged honest) c.if-left-eq0.false ends rest is_rest
+          (λ d held. two.sent d held honest);
     }
 
 pub returns-clause-continuous : goal.returns-clause-continuous

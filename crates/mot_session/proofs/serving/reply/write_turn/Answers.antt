@@ -1,141 +1,126 @@
-use Rattle.std.proofs.Common.{◌+◌, [], ◌∙◌, ap, false, refl, Some}
+use Rattle.std.proofs.Common.{[], ◌∙◌, ap, refl, Some}
+use Rattle.std.specs.Prelude.{IsFalse}
 use Rattle.std.proofs.KnownBytes.{Appends-nil}
 use Rattle.std.proofs.lemmas.Result.{err_from_is_err_and}
+use Rattle.mot_journal.specs.Image.{Standing}
+use Rattle.mot_repository.specs.Repository.{RepositoryView, Holds}
 use Rattle.mot_session.specs.State.{state_of}
-use Rattle.mot_session.proofs.Replies.{turn-broken, turn-cut, turn-ended, turn-more}
+use Rattle.mot_session.proofs.Anyhow as anyhow
+use Rattle.mot_session.proofs.Replies.{SentSoFar, turn-broken, turn-cut, turn-ended, turn-more}
 use Rattle.mot_session.proofs.Requests.{holds-read, reads-more, reads-none}
 use Rattle.mot_session.proofs.Written.{Sends-none}
-use Rattle.std.proofs.Common.{◌∷◌, ◌++◌}
-use Rattle.mot_repository.specs.Repository.{RepositoryView}
-use Rattle.mot_session.proofs.Anyhow.{one-more, within-one-more}
-use Rattle.mot_session.proofs.Anyhow.{turn-broken as turn-broken_anyhow}
-use Rattle.mot_session.proofs.Anyhow.{turn-cut as turn-cut_anyhow}
-use Rattle.mot_session.proofs.Anyhow.{turn-ended as turn-ended_anyhow}
+use Rattle.mot_session.proofs.serving.reply.write_turn.Given as given
 use Rattle.mot_session.proofs.serving.reply.write_turn.Goals as goal
+use Rattle.mot_session.proofs.serving.reply.write_turn.Goals.{After-write_next_packet}
 
 pub loop-ends_turn-init : goal.loop-ends_turn-init
 loop-ends_turn-init g c =
-    let state = g.D.Disk.state c.args.server.now.disk in record {
+    let state = g.D.Disk.state c.args.server.now.disk in
+    let nothing = Appends-nil (g.W.Write.contents c.args.writer.now) in
+    record {
       reads = reads-none c.args.server.now state;
-      sent = λ s holds honest. (
-        0,
-        [],
-        record { sends = Sends-none (state_of c.args.server.now s state); ends = refl },
-        Appends-nil (g.W.Write.contents c.args.writer.now),
-      );
+      sent = λ s holds honest. record {
+        made = 0;
+        sents = [];
+        within = record { sends = Sends-none (state_of c.args.server.now s state); ends = refl };
+        lines = nothing;
+      };
       shown = λ going.
-          (0, [], refl, Appends-nil (g.W.Write.contents c.args.writer.now), refl);
+          record { count = 0; shown = []; within = refl; lines = nothing; calm = refl };
     }
+
+-- what was sent before the packet that is asked for, and what the disk holds still
+found : (g : given.Over) (c : After-write_next_packet g) (s : Standing)
+    → Holds c.args.server.now.view s (g.D.Disk.state c.args.server.now.disk)
+    → (g.D.Disk.state c.write_next_packet.new.server.disk).IsHonest
+    → SentSoFar (state_of c.args.server.now s (g.D.Disk.state c.args.server.now.disk))
+    (state_of c.loop-ends_turn.server s (g.D.Disk.state c.loop-ends_turn.server.disk))
+    (g.W.Write.contents c.args.writer.now) (g.W.Write.contents c.loop-ends_turn.writer)
+    × Holds c.loop-ends_turn.server.view s (g.D.Disk.state c.loop-ends_turn.server.disk)
+found g c s holds honest =
+    let state = g.D.Disk.state in
+    let first = c.args.server.now in
+    let mid = c.loop-ends_turn.server in
+    let so_far = c.loop-ends_turn.invariant in
+    let was = c.write_next_packet.ensures.reads.disk.keeps.was_honest honest in (
+      so_far.sent s holds was,
+      holds-read first mid (state first.disk) (state mid.disk) so_far.reads was s holds,
+    )
+
+-- and a server that goes on goes on there
+going_there : (g : given.Over) (c : After-write_next_packet g)
+    → IsFalse c.args.server.now.view.halted → IsFalse c.loop-ends_turn.server.view.halted
+going_there g c going =
+    ap (λ (v : RepositoryView). v.halted) c.loop-ends_turn.invariant.reads.view ∙ going
 
 pub returns-in_err-ends_turn-clause-answers : goal.returns-in_err-ends_turn-clause-answers
 returns-in_err-ends_turn-clause-answers g c = λ s holds honest.
-    let state = g.D.Disk.state in
-    let first = c.args.server.now in
-    let mid = c.loop-ends_turn.server in
     let new = c.write_next_packet.new.server in
-    let p = err_from_is_err_and c.from_residual.result c.from_residual.ensures.1 in
-    let so_far = c.loop-ends_turn.invariant in
-    let was = c.in_err-ends_turn.ensures.reads.disk.keeps.was_honest honest in
-    let sent = so_far.sent s holds was in
-    let held = holds-read first mid (state first.disk) (state mid.disk) so_far.reads was s holds in
-    rw p.1 (turn-broken (state_of first s (state first.disk)) (state_of mid s (state mid.disk))
-    (state_of new s (state new.disk)) holds.going _ _ _ sent.0 sent.1 sent.3 _ sent.2
-    (c.in_err-ends_turn.ensures.answers s held honest))
+    let from = (goal.at.returns-in_err-ends_turn-clause-answers g c).After-write_next_packet in
+    let before = found g from s holds honest in
+    rw (err_from_is_err_and c.from_residual.result c.from_residual.ensures.1).1
+    (turn-broken {after = state_of new s (g.D.Disk.state new.disk)} before.0 holds.going
+    (c.in_err-ends_turn.ensures.answers s before.1 honest))
 
 pub returns-in_default-clause-answers : goal.returns-in_default-clause-answers
 returns-in_default-clause-answers g c = λ s holds honest.
-    let state = g.D.Disk.state in
-    let first = c.args.server.now in
-    let mid = c.loop-ends_turn.server in
     let new = c.write_next_packet.new.server in
-    let so_far = c.loop-ends_turn.invariant in
-    let was = c.in_ok-ends_turn.ensures.reads.disk.keeps.was_honest honest in
-    let sent = so_far.sent s holds was in
-    let held = holds-read first mid (state first.disk) (state mid.disk) so_far.reads was s holds in
-    turn-cut (state_of first s (state first.disk)) (state_of mid s (state mid.disk))
-    (state_of new s (state new.disk)) holds.going _ _ _ sent.0 sent.1 sent.3
-    c.in_ok-ends_turn.field-0 (c.in_ok-ends_turn.ensures.answers s held honest)
-    c.in_default.is sent.2
+    let from = (goal.at.returns-in_default-clause-answers g c).After-write_next_packet in
+    let before = found g from s holds honest in
+    turn-cut {after = state_of new s (g.D.Disk.state new.disk)} before.0 holds.going
+    (c.in_ok-ends_turn.ensures.answers s before.1 honest) c.in_default.is
 
 pub returns-then-ends_turn-clause-answers : goal.returns-then-ends_turn-clause-answers
 returns-then-ends_turn-clause-answers g c = λ s holds honest.
-    let state = g.D.Disk.state in
-    let first = c.args.server.now in
-    let mid = c.loop-ends_turn.server in
     let new = c.write_next_packet.new.server in
-    let so_far = c.loop-ends_turn.invariant in
-    let was = c.in_ok-ends_turn.ensures.reads.disk.keeps.was_honest honest in
-    let sent = so_far.sent s holds was in
-    let held = holds-read first mid (state first.disk) (state mid.disk) so_far.reads was s holds in
-    let shown = c.in-Some.is ∙ ap (λ e. Some e) c.if-ends_turn.true in
-    turn-ended (state_of first s (state first.disk)) (state_of mid s (state mid.disk))
-    (state_of new s (state new.disk)) holds.going _ _ _ sent.0 sent.1 sent.3
-    c.in_ok-ends_turn.field-0 (c.in_ok-ends_turn.ensures.answers s held honest)
-    shown sent.2
+    let from = (goal.at.returns-then-ends_turn-clause-answers g c).After-write_next_packet in
+    let before = found g from s holds honest in
+    turn-ended {after = state_of new s (g.D.Disk.state new.disk)} before.0 holds.going
+    (c.in_ok-ends_turn.ensures.answers s before.1 honest) (c.in-Some.is ∙ ap (λ e. Some e) c.if-ends_turn.true)
 
 pub loop-ends_turn-preserved : goal.loop-ends_turn-preserved
 loop-ends_turn-preserved g c =
     let state = g.D.Disk.state in
+    let from = (goal.at.loop-ends_turn-preserved g c).After-write_next_packet in
     let first = c.args.server.now in
     let mid = c.loop-ends_turn.server in
     let new = c.write_next_packet.new.server in
     let so_far = c.loop-ends_turn.invariant in
     let one = c.in_ok-ends_turn.ensures in
-    let shown = c.in-Some.is ∙ ap (λ e. Some e) c.if-ends_turn.false in record {
+    let shown = c.in-Some.is ∙ ap (λ e. Some e) c.if-ends_turn.false in
+    record {
       reads = reads-more first mid new (state first.disk) (state mid.disk)
           (state new.disk) so_far.reads one.reads;
       sent = λ s holds honest.
-          let was = one.reads.disk.keeps.was_honest honest in
-          let sent = so_far.sent s holds was in
-          let held = holds-read first mid (state first.disk)
-          (state mid.disk) so_far.reads was s holds in
-          let more = turn-more (state_of first s (state first.disk))
-          (state_of mid s (state mid.disk))
-          (state_of new s (state new.disk)) holds.going _ _ _ sent.0 sent.1 sent.3
-          c.in_ok-ends_turn.field-0 (one.answers s held honest) shown sent.2 in
-          (sent.0 + 1, more.0, more.1, more.2);
+          let before = found g from s holds honest in
+          turn-more {after = state_of new s (state new.disk)} before.0
+          (one.answers s before.1 honest) shown;
       shown = λ going.
-          let before = so_far.shown going in
-          let halted = ap (λ (v : RepositoryView). v.halted) so_far.reads.view ∙ going in
-          let more = one-more first.view new.view (one.reads.view ∙ so_far.reads.view) going
-          _ _ _ before.4 _ _ _ before.1 before.3 c.in_ok-ends_turn.field-0 false
-          (one.anyhow halted) shown in (
-            before.0 + 1,
-            before.1 ++ more.0 ∷ [],
-            within-one-more before.0 before.1 more.0 before.2 more.1,
-            more.3,
-            more.2,
-          );
+          anyhow.turn-more (one.reads.view ∙ so_far.reads.view) going (so_far.shown going)
+          (one.anyhow (going_there g from going)) shown;
     }
 
 pub returns-in_err-ends_turn-clause-anyhow : goal.returns-in_err-ends_turn-clause-anyhow
 returns-in_err-ends_turn-clause-anyhow g c = λ going.
-    let p = err_from_is_err_and c.from_residual.result c.from_residual.ensures.1 in
-    let inv = c.loop-ends_turn.invariant in
-    let so_far = inv.shown going in
-    let view = c.in_err-ends_turn.ensures.reads.view ∙ inv.reads.view in
-    let mid = ap (λ (v : RepositoryView). v.halted) inv.reads.view ∙ going in
-    rw p.1 (turn-broken_anyhow c.args.server.now.view c.write_next_packet.new.server.view view
-    going _ _ _ so_far.4 _ _ _ so_far.1 so_far.3 _ so_far.0
-    (c.in_err-ends_turn.ensures.anyhow mid) so_far.2)
+    let from = (goal.at.returns-in_err-ends_turn-clause-anyhow g c).After-write_next_packet in
+    let so_far = c.loop-ends_turn.invariant in
+    let one = c.in_err-ends_turn.ensures in
+    rw (err_from_is_err_and c.from_residual.result c.from_residual.ensures.1).1
+    (anyhow.turn-broken (one.reads.view ∙ so_far.reads.view) going (so_far.shown going)
+    (one.anyhow (going_there g from going)))
 
 pub returns-in_default-clause-anyhow : goal.returns-in_default-clause-anyhow
 returns-in_default-clause-anyhow g c = λ going.
-    let inv = c.loop-ends_turn.invariant in
-    let so_far = inv.shown going in
-    let view = c.in_ok-ends_turn.ensures.reads.view ∙ inv.reads.view in
-    let mid = ap (λ (v : RepositoryView). v.halted) inv.reads.view ∙ going in
-    turn-cut_anyhow c.args.server.now.view c.write_next_packet.new.server.view view going _ _ _
-    so_far.4 _ _ _ so_far.1 so_far.3 c.in_ok-ends_turn.field-0 so_far.0
-    (c.in_ok-ends_turn.ensures.anyhow mid) c.in_default.is so_far.2
+    let from = (goal.at.returns-in_default-clause-anyhow g c).After-write_next_packet in
+    let so_far = c.loop-ends_turn.invariant in
+    let one = c.in_ok-ends_turn.ensures in
+    anyhow.turn-cut (one.reads.view ∙ so_far.reads.view) going (so_far.shown going)
+    (one.anyhow (going_there g from going)) c.in_default.is
 
 pub returns-then-ends_turn-clause-anyhow : goal.returns-then-ends_turn-clause-anyhow
 returns-then-ends_turn-clause-anyhow g c = λ going.
-    let inv = c.loop-ends_turn.invariant in
-    let so_far = inv.shown going in
-    let view = c.in_ok-ends_turn.ensures.reads.view ∙ inv.reads.view in
-    let mid = ap (λ (v : RepositoryView). v.halted) inv.reads.view ∙ going in
-    let shown = c.in-Some.is ∙ ap (λ e. Some e) c.if-ends_turn.true in
-    turn-ended_anyhow c.args.server.now.view c.write_next_packet.new.server.view view going _ _ _
-    so_far.4 _ _ _ so_far.1 so_far.3 c.in_ok-ends_turn.field-0 so_far.0
-    (c.in_ok-ends_turn.ensures.anyhow mid) shown so_far.2
+    let from = (goal.at.returns-then-ends_turn-clause-anyhow g c).After-write_next_packet in
+    let so_far = c.loop-ends_turn.invariant in
+    let one = c.in_ok-ends_turn.ensures in
+    anyhow.turn-ended (one.reads.view ∙ so_far.reads.view) going (so_far.shown going)
+    (one.anyhow (going_there g from going)) (c.in-Some.is ∙ ap (λ e. Some e) c.if-ends_turn.true)

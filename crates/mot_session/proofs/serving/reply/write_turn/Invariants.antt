@@ -1,14 +1,11 @@
-use Rattle.std.proofs.Common.{◌≡◌, ℕ, List}
 use Rattle.std.specs.Prelude.{IsFalse}
-use Rattle.std.specs.Io.KnownBytes.{Appends}
 use Rattle.mot_journal.specs.Image.{Standing}
 use Rattle.mot_player.specs.Laws.{bytes_left}
-use Rattle.mot_player.specs.Place.{Sent}
 use Rattle.mot_repository.specs.Repository.{Holds}
 use Rattle.mot_session.specs.Inner.Writes.{ReadsAlone}
-use Rattle.mot_session.specs.OnAnyDisk.{AreWithinTurn, Shown, shown_lines}
-use Rattle.mot_session.specs.Played.{SendsWithinTurn, sent_lines}
 use Rattle.mot_session.specs.State.{state_of}
+use Rattle.mot_session.proofs.Anyhow.{ShownSoFar}
+use Rattle.mot_session.proofs.Replies.{SentSoFar}
 use Rattle.mot_session.proofs.serving.reply.write_turn.Given as goal
 
 abbrev pub invariant-loop-ends_turn : goal.invariant-loop-ends_turn
@@ -17,18 +14,13 @@ invariant-loop-ends_turn g l = record {
       (g.D.Disk.state l.server.disk);
   sent : (s : Standing) → Holds l.initial.server.view s (g.D.Disk.state l.initial.server.disk)
       → (g.D.Disk.state l.server.disk).IsHonest
-      → (count : ℕ) × (sents : List Sent)
-      × SendsWithinTurn
-      (state_of l.initial.server s (g.D.Disk.state l.initial.server.disk)) count sents
+      → SentSoFar (state_of l.initial.server s (g.D.Disk.state l.initial.server.disk))
       (state_of l.server s (g.D.Disk.state l.server.disk))
-      × Appends (g.W.Write.contents l.initial.writer) (g.W.Write.contents l.writer)
-      (sent_lines sents);
+      (g.W.Write.contents l.initial.writer) (g.W.Write.contents l.writer);
   shown : IsFalse l.initial.server.view.halted
-      → (count : ℕ) × (shown : List Shown) × AreWithinTurn count shown
-      × Appends (g.W.Write.contents l.initial.writer) (g.W.Write.contents l.writer)
-      (shown_lines shown)
-      × ((g.D.Disk.state l.server.disk).failures
-      ≡ (g.D.Disk.state l.initial.server.disk).failures);
+      → ShownSoFar (g.D.Disk.state l.initial.server.disk).failures
+      (g.D.Disk.state l.server.disk).failures
+      (g.W.Write.contents l.initial.writer) (g.W.Write.contents l.writer);
 }
 
 abbrev pub decreases-loop-ends_turn : goal.decreases-loop-ends_turn
