@@ -1,7 +1,6 @@
 pub mod Asked
 pub mod Begun
 pub mod Exported
-pub mod Globals
 pub mod Inspected
 pub mod Opened
 pub mod Played

@@ -1,4 +1,5 @@
 pub mod Inspected
 pub mod Looked
+pub mod Made
 pub mod Packets
 pub mod Printing

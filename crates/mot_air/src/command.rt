@@ -1,9 +1,10 @@
 //! The command line of the commands on air.
-ghost use Rattle.std.specs.Prelude.{◌≡◌, codes, false, IfOk};
-ghost use Rattle.clap.specs.Words.{app_of, new_app, rule_of};
+ghost use Rattle.std.specs.Prelude.{◌≡◌, [], codes, false, IfOk};
+ghost use Rattle.clap.specs.Words.{App, Rule, app_of, new_app, rule_of, with_rule, with_subcommand};
 ghost use Rattle.clap.specs.declared.builder.Command.TheViews.{out-Command};
-ghost use Rattle.mot_air.specs.Command.{air_app, disk_app, path_rule, play_app, sync_app};
+ghost use Rattle.mot_air.specs.Command.{air_app, air_top, disk_app, path_rule, play_app, sync_app};
 ghost use Rattle.mot_air.specs.Command.{number_rule, word_rule};
+ghost use Rattle.mot_air.specs.Inner.Made.{IsMade};
 
 use clap::{Arg, ArgAction, Command, value_parser};
 use std::alloc::{AllocError, Global};
@@ -12,85 +13,117 @@ use std::alloc::{AllocError, Global};
 pub(crate) fn command<'a>(alloc: Global) -> Result<Command<'a>, AllocError>
     ensures { IfOk result (λ command. app_of command ≡ air_app) }
 {
-    Command::new(alloc, "motcar")
-        .bin_name("motcar")?
-        .about("A data-service server for DAB digital radio")
-        .no_binary_name(true)
-        .subcommand_required(true)
-        .subcommand(play(alloc)?)?
-        .subcommand(sync(alloc)?)?
-        .subcommand(on_disk(
-            alloc,
-            "export",
-            "Print the lines that rebuild the carousel of a disk",
-        )?)?
-        .subcommand(on_disk(
-            alloc,
-            "inspect",
-            "Print the sizes of a disk, what is free of them, and how long a turn takes",
-        )?)
+    let command = with_command(top(alloc), play(alloc));
+    let command = with_command(command, sync(alloc));
+    let export = on_disk(
+        alloc,
+        "export",
+        "Print the lines that rebuild the carousel of a disk",
+    );
+    let command = with_command(command, export);
+    let inspect = on_disk(
+        alloc,
+        "inspect",
+        "Print the sizes of a disk, what is free of them, and how long a turn takes",
+    );
+    with_command(command, inspect)
+}
+
+/// The program, with no command yet.
+fn top<'a>(alloc: Global) -> Result<Command<'a>, AllocError>
+    ensures { IsMade (record { top = air_top; subs = [] }) result }
+{
+    let command = Command::new(alloc, "motcar").bin_name("motcar")?;
+    Ok(
+        command
+            .about("A data-service server for DAB digital radio")
+            .no_binary_name(true)
+            .subcommand_required(true),
+    )
 }
 
 /// The command `play`.
 fn play<'a>(alloc: Global) -> Result<Command<'a>, AllocError>
-    ensures app { IfOk result (λ command. app_of command ≡ play_app) }
-    ensures local { IfOk result (λ command. (out-Command command).has_globals ≡ false) }
+    ensures { IsMade play_app result }
 {
     let about = "Play a disk into a pipe, a device or a file, each packet in one write";
-    bare(alloc, "play", about)
-        .arg(word(alloc, "DISK", "The file of the disk, or a block device"))?
-        .arg(word(
-            alloc,
-            "PACKETS",
-            "A named pipe, a device, a file, or - for standard output",
-        ))?
-        .arg(path(
-            alloc,
-            "folder",
-            "DIR",
-            "Make the carousel equal to this folder, at first and then between turns",
-        ))?
-        .arg(types(alloc))?
-        .arg(path(
-            alloc,
-            "lines",
-            "DIR",
-            "Answer the lines of the files in this folder, between packets, and take the files away",
-        ))?
-        .arg(number(
-            alloc,
-            "every",
-            "Read lines behind so many packets [default: 8]",
-        ))?
-        .arg(number(
-            alloc,
-            "turns",
-            "End after so many whole turns [default: 16 into a file, else without end]",
-        ))
+    let command = on_disk(alloc, "play", about);
+    let packets = word(
+        alloc,
+        "PACKETS",
+        "A named pipe, a device, a file, or - for standard output",
+    );
+    let command = with_arg(command, packets);
+    let folder = path(
+        alloc,
+        "folder",
+        "DIR",
+        "Make the carousel equal to this folder, at first and then between turns",
+    );
+    let command = with_arg(command, folder);
+    let command = with_arg(command, types(alloc));
+    let lines = path(
+        alloc,
+        "lines",
+        "DIR",
+        "Answer the lines of the files in this folder, between packets, and take the files away",
+    );
+    let command = with_arg(command, lines);
+    let every = number(
+        alloc,
+        "every",
+        "Read lines behind so many packets [default: 8]",
+    );
+    let command = with_arg(command, every);
+    let turns = number(
+        alloc,
+        "turns",
+        "End after so many whole turns [default: 16 into a file, else without end]",
+    );
+    with_arg(command, turns)
 }
 
 /// The command `sync`.
 fn sync<'a>(alloc: Global) -> Result<Command<'a>, AllocError>
-    ensures app { IfOk result (λ command. app_of command ≡ sync_app) }
-    ensures local { IfOk result (λ command. (out-Command command).has_globals ≡ false) }
+    ensures { IsMade sync_app result }
 {
-    bare(
-        alloc,
-        "sync",
-        "Make the carousel of a disk equal to a folder",
-    )
-    .arg(word(alloc, "DISK", "The file of the disk, or a block device"))?
-    .arg(word(alloc, "DIR", "The folder"))?
-    .arg(types(alloc))
+    let about = "Make the carousel of a disk equal to a folder";
+    let command = on_disk(alloc, "sync", about);
+    let command = with_arg(command, word(alloc, "DIR", "The folder"));
+    with_arg(command, types(alloc))
 }
 
 /// A command on a disk alone.
 fn on_disk<'a>(alloc: Global, name: &'a str, about: &'a str) -> Result<Command<'a>, AllocError>
-    ensures app { IfOk result (λ command. app_of command ≡ disk_app name.entry.now) }
-    ensures local { IfOk result (λ command. (out-Command command).has_globals ≡ false) }
+    ensures { IsMade (disk_app name.entry.now) result }
 {
     let disk = word(alloc, "DISK", "The file of the disk, or a block device");
-    bare(alloc, name, about).arg(disk)
+    with_arg(Ok(bare(alloc, name, about)), disk)
+}
+
+/// A command, where there was memory for it, with one more argument.
+fn with_arg<'a>(
+    command: Result<Command<'a>, AllocError>,
+    arg: Arg<'a>,
+) -> Result<Command<'a>, AllocError>
+    ensures { (app : App) (rule : Rule) → IsMade app command.entry → rule_of arg.entry ≡ rule
+        → arg.entry.global ≡ false → IsMade (with_rule app rule) result }
+{
+    match command {
+        Ok(command) => command.arg(arg),
+        Err(AllocError) => Err(AllocError),
+    }
+}
+
+/// A command, where there was memory for both, with one more command below it.
+fn with_command<'a>(
+    command: Result<Command<'a>, AllocError>,
+    below: Result<Command<'a>, AllocError>,
+) -> Result<Command<'a>, AllocError>
+    ensures { (app sub : App) → IsMade app command.entry → IsMade sub below.entry
+        → IsMade (with_subcommand app sub.top) result }
+{
+    command?.subcommand(below?)
 }
 
 /// A command that has only its name and what the help says of it.

@@ -9,7 +9,7 @@ use std::fmt::{self, Display, Formatter};
 use std::io;
 
 /// Why packets could not be written, or what should take them not be opened.
-#[derive(Clone, Copy, Debug)]
+#[derive(Clone, Copy)]
 pub(crate) enum PacketsFault {
     /// The system refused a call, for this reason.
     System(io::Error),
@@ -24,7 +24,7 @@ pub(crate) enum PacketsFault {
 }
 
 /// What is wrong with a file that adds suffixes.
-#[derive(Clone, Copy, Debug)]
+#[derive(Clone, Copy)]
 pub(crate) enum TypesFault {
     /// The system refused a call, for this reason.
     System(io::Error),
@@ -33,7 +33,7 @@ pub(crate) enum TypesFault {
 }
 
 /// What is wrong with the folder that lines come from.
-#[derive(Clone, Copy, Debug)]
+#[derive(Clone, Copy)]
 pub(crate) enum LinesFault {
     /// The system refused a call, for this reason.
     System(io::Error),
@@ -44,7 +44,7 @@ pub(crate) enum LinesFault {
 }
 
 /// Why a task could not be done: it is printed, and nothing is decided by it.
-#[derive(Clone, Copy, Debug)]
+#[derive(Clone, Copy)]
 pub(crate) enum Cause {
     /// The disk was not opened.
     Disk(OpenFault),
@@ -59,7 +59,7 @@ pub(crate) enum Cause {
 }
 
 /// Why a task was not begun.
-#[derive(Clone, Copy, Debug)]
+#[derive(Clone, Copy)]
 pub(crate) struct Unbegun {
     /// The refusal.
     pub refusal: Refusal,

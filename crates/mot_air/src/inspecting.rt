@@ -26,7 +26,7 @@ use std::alloc::Global;
 use std::io::Write;
 
 /// How many packets a turn has, and how many bytes these.
-#[derive(Clone, Copy, Debug)]
+#[derive(Clone, Copy)]
 struct TurnSize {
     packets: u64,
     bytes: u128,

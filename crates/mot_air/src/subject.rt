@@ -11,7 +11,7 @@ use std::io::Write;
 use std::rt::Files;
 
 /// What a refusal is about.
-#[derive(Clone, Copy, Debug)]
+#[derive(Clone, Copy)]
 pub(crate) enum Subject<'a> {
     /// What the refusal itself says.
     Nothing,

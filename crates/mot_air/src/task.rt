@@ -1,5 +1,5 @@
 //! What the words of the command line ask for.
-ghost use Rattle.std.specs.Prelude.{◌≡◌, ℕ, Option, IfNone, IfSome, option_map};
+ghost use Rattle.std.specs.Prelude.{◌≡◌, ℕ, Option, IfNone, IfSome, codes, option_map};
 ghost use Rattle.std.specs.Borrow.{Bor};
 ghost use Rattle.clap.specs.Words.{Text, first_of, found_of, rows_of};
 ghost use Rattle.mot_air.specs.Task.{IsGiven, IsTask, NameWord};
@@ -52,25 +52,48 @@ pub(crate) fn task_of<'a>(name: &str, words: &ArgMatches<'a>) -> Option<Task<'a>
     ensures none { IfNone result ((task : Task)
         → IsTask name.now (rows_of (found_of words.now)) task → ⊥) }
 {
+    let disk = word_of(words, "DISK")?;
     match name {
-        "play" => Some(Task::Play(PlayTask {
-            disk: word_of(words, "DISK")?,
-            packets: word_of(words, "PACKETS")?,
-            folder: option_of(words, "folder"),
-            types: option_of(words, "types"),
-            lines: option_of(words, "lines"),
-            every: number_of(words, "every")?,
-            turns: number_of(words, "turns")?,
-        })),
-        "sync" => Some(Task::Sync {
-            disk: word_of(words, "DISK")?,
-            folder: word_of(words, "DIR")?,
-            types: option_of(words, "types"),
-        }),
-        "export" => Some(Task::Export(word_of(words, "DISK")?)),
-        "inspect" => Some(Task::Inspect(word_of(words, "DISK")?)),
+        "play" => play_of(disk, words),
+        "sync" => sync_of(disk, words),
+        "export" => Some(Task::Export(disk)),
+        "inspect" => Some(Task::Inspect(disk)),
         _ => None,
     }
+}
+
+/// The task of the command `play` on this disk.
+fn play_of<'a>(disk: &'a str, words: &ArgMatches<'a>) -> Option<Task<'a>>
+    ensures some { IfSome result (λ task.
+        NameWord (rows_of (found_of words.now)) (codes "DISK") disk.now
+        → IsTask (codes "play") (rows_of (found_of words.now)) task) }
+    ensures none { IfNone result ((task : Task)
+        → IsTask (codes "play") (rows_of (found_of words.now)) task → ⊥) }
+{
+    Some(Task::Play(PlayTask {
+        disk,
+        packets: word_of(words, "PACKETS")?,
+        folder: option_of(words, "folder"),
+        types: option_of(words, "types"),
+        lines: option_of(words, "lines"),
+        every: number_of(words, "every")?,
+        turns: number_of(words, "turns")?,
+    }))
+}
+
+/// The task of the command `sync` on this disk.
+fn sync_of<'a>(disk: &'a str, words: &ArgMatches<'a>) -> Option<Task<'a>>
+    ensures some { IfSome result (λ task.
+        NameWord (rows_of (found_of words.now)) (codes "DISK") disk.now
+        → IsTask (codes "sync") (rows_of (found_of words.now)) task) }
+    ensures none { IfNone result ((task : Task)
+        → IsTask (codes "sync") (rows_of (found_of words.now)) task → ⊥) }
+{
+    Some(Task::Sync {
+        disk,
+        folder: word_of(words, "DIR")?,
+        types: option_of(words, "types"),
+    })
 }
 
 /// The word that was given for this one.

@@ -1,24 +1,8 @@
-use Rattle.std.proofs.Common.{◌∙◌, ap₂}
-use Rattle.std.proofs.lemmas.Result.{IfOk-weaker}
-use Rattle.clap.specs.Words.{with_rule}
-use Rattle.mot_air.proofs.Globals.{none}
 use Rattle.mot_air.proofs.command.sync.Goals as goal
 
-pub returns-clause-app : goal.returns-clause-app
-returns-clause-app c =
-    let begun = c.bare.ensures.app in
-    IfOk-weaker c.arg-3.result _ _ (λ command h.
-    h.shape c.types.ensures.local ∙ ap₂ with_rule
-    (c.in_ok-arg-2.ensures.shape c.word-2.ensures.local ∙ ap₂ with_rule
-    (c.in_ok-arg.ensures.shape c.word.ensures.local ∙ ap₂ with_rule
-    begun c.word.ensures.rule) c.word-2.ensures.rule) c.types.ensures.rule)
-    c.arg-3.ensures
-
-pub returns-clause-local : goal.returns-clause-local
-returns-clause-local c =
-    let begun = c.bare.ensures.local in
-    IfOk-weaker c.arg-3.result _ _ (λ command h.
-    none _ _ _ h.globals (none _ _ _ c.in_ok-arg-2.ensures.globals
-    (none _ _ _ c.in_ok-arg.ensures.globals begun
-    c.word.ensures.local) c.word-2.ensures.local) c.types.ensures.local)
-    c.arg-3.ensures
+pub returns : goal.returns
+returns c =
+    c.with_arg.ensures _ _
+    (c.with_arg-command.ensures _ _ c.on_disk-command.ensures c.word.ensures.rule
+    c.word.ensures.local)
+    c.types.ensures.rule c.types.ensures.local
