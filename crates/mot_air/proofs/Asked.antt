@@ -14,6 +14,7 @@ use Rattle.clap.specs.declared.parser.matches.ArgMatches.TheViews.{out-ArgMatche
 use Rattle.clap.proofs.OnLiterals.{clap_on_literals}
 use Rattle.mot_air.specs.declared.task.Task.{Task}
 use Rattle.mot_air.specs.Command.{air_app}
+use Rattle.mot_air.specs.Inner.Asked.{AskBy}
 use Rattle.mot_air.specs.Task.{AskFor, AskForHelp, AreWrong, IsTask}
 
 simple : is_simple air_app ≡ true
@@ -45,33 +46,19 @@ module _ (words : List Text) (command : Command) (app : app_of command ≡ air_a
       → subcommand_rows_of m ≡ subcommand_of air_app words
   rows_matched m h = (h (ap is_simple app ∙ simple)).1 ∙ ap (λ (a : App). subcommand_of a words) app
 
-  -- words that match a subcommand whose rows give a task ask for it
-  pub AskFor-matched : (m : ArgMatches) (name : Text) (rows : List Row) (task : Task)
+  -- words that match a subcommand ask for what it does with its rows
+  pub AskBy-matched : (m : ArgMatches) (name : Text) (rows : List Row)
       → HasMatchesOf (app_of command) words m → Some name ≡ subcommand_name_of m
-      → Some rows ≡ option_map (λ p. p.1) (subcommand_rows_of m) → IsTask name rows task
-      → AskFor words task
-  AskFor-matched m name rows task h n r is = record {
-    name = name;
-    rows = rows;
-    matched = sym (rows_matched m h)
-        ∙ found_together (λ b. (out-SubCommand (box_value b)).name.now)
-        (λ b. rows_of (found_of (out-SubCommand (box_value b)).matches))
-        (out-ArgMatches m).subcommand name rows n r;
-    is_task = is;
-  }
-
-  -- a name and rows that no task is behind
-  pub AskFor-none : (m : ArgMatches) (name : Text) (rows : List Row)
-      → HasMatchesOf (app_of command) words m → Some name ≡ subcommand_name_of m
-      → Some rows ≡ option_map (λ p. p.1) (subcommand_rows_of m)
-      → ((task : Task) → IsTask name rows task → ⊥) → (task : Task) → AskFor words task → ⊥
-  AskFor-none m name rows h n r none task asked =
+      → Some rows ≡ option_map (λ p. p.1) (subcommand_rows_of m) → AskBy name rows words
+  AskBy-matched m name rows h n r = λ task.
       let found : subcommand_of air_app words ≡ Some (name, rows) =
       sym (rows_matched m h)
       ∙ found_together (λ b. (out-SubCommand (box_value b)).name.now)
       (λ b. rows_of (found_of (out-SubCommand (box_value b)).matches))
-      (out-ArgMatches m).subcommand name rows n r in
-      none task (same_task (Some-inj (sym asked.matched ∙ found)) task asked.is_task)
+      (out-ArgMatches m).subcommand name rows n r in (
+        λ asked. same_task (Some-inj (sym asked.matched ∙ found)) task asked.is_task,
+        λ is. record { name = name; rows = rows; matched = found; is_task = is },
+      )
 
   -- words that match the program but name no subcommand are wrong
   pub AreWrong-none : (m : ArgMatches) → HasMatchesOf (app_of command) words m

@@ -1,3 +1,4 @@
+pub mod Asked
 pub mod Inspected
 pub mod Looked
 pub mod Made

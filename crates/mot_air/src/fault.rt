@@ -95,6 +95,17 @@ impl From<PacketsFault> for Cause {
     }
 }
 
+impl Display for Cause {
+    fn fmt<W: fmt::Write>(&self, f: &mut Formatter<W>) -> fmt::Result {
+        match self {
+            Cause::Disk(fault) => fault.fmt(f),
+            Cause::Types(fault) => fault.fmt(f),
+            Cause::Lines(fault) => fault.fmt(f),
+            Cause::Packets(fault) | Cause::NewFile(fault) => fault.fmt(f),
+        }
+    }
+}
+
 impl Display for PacketsFault {
     fn fmt<W: fmt::Write>(&self, f: &mut Formatter<W>) -> fmt::Result {
         match self {

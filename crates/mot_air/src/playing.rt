@@ -23,7 +23,7 @@ use mot_server::Server;
 use std::alloc::Global;
 use std::cell::RefCell;
 use std::fs::File;
-use std::io::Write;
+use std::io::{Read, Write};
 use std::rt::Files;
 
 /// A folder that a carousel is made equal to, and which of its files are objects.
@@ -87,14 +87,31 @@ pub fn play_and_answer<T: Files<File = File>, D: Disk, O: Outlet, L: Write + Dro
     match folder {
         Some(Followed { path, types }) => {
             let looks = Looks::new(rt, alloc, path, types, SharedLog::new(&log));
-            let mut lines = Lines::new(spool, hand, told, every, looks);
-            play_with(alloc, disk, &mut lines, outlet, turns)
+            let lines = Lines::new(spool, hand, told, every, looks);
+            play_lines(alloc, disk, lines, outlet, turns)
         }
         None => {
-            let mut lines = Lines::new(spool, hand, told, every, NoUpdate);
-            play_with(alloc, disk, &mut lines, outlet, turns)
+            let lines = Lines::new(spool, hand, told, every, NoUpdate);
+            play_lines(alloc, disk, lines, outlet, turns)
         }
     }
+}
+
+/// Opens the disk and plays it into the outlet, so many turns, and answers these lines.
+fn play_lines<D: Disk, R: Read + Drop, L: Write + Drop, U: Update + Drop, O: Outlet>(
+    alloc: Global,
+    disk: D,
+    mut lines: Lines<R, L, U>,
+    outlet: &mut O,
+    turns: u64,
+) -> Ended<D, ()>
+    ensures keeps { KeepsLength (D.state disk) (D.state result.disk) }
+    ensures done { OnOk result.result (Plays false turns (O.writes outlet.old) (O.writes outlet.new)
+        (D.state disk) (D.state result.disk)) }
+    ensures refused { IfErr result.result (λ r. StopsPlaying r false
+        (O.writes outlet.old) (O.writes outlet.new) (D.state disk) (D.state result.disk)) }
+{
+    play_with(alloc, disk, &mut lines, outlet, turns)
 }
 
 /// Opens the disk and plays it into the outlet, so many turns, with these updates before the first

@@ -1,9 +1,10 @@
 //! The commands on air, over any streams and files.
 ghost use Rattle.std.specs.Prelude.{◌≡◌, ◌≢◌, ◌⊎◌, ◌↔◌, Option, map, true, false, IfErr, IfOk, IsTrue};
-ghost use Rattle.std.specs.Prelude.{None, Ok, Some, codes, is_none};
+ghost use Rattle.std.specs.Prelude.{List, None, Ok, Some, codes, is_none};
 ghost use Rattle.std.specs.Io.KnownBytes.{Keeps};
-ghost use Rattle.clap.specs.Words.{kind_of};
+ghost use Rattle.clap.specs.Words.{Text, found_of, kind_of, rows_of};
 ghost use Rattle.mot_air.specs.Exporting.{Exports, StopsExporting};
+ghost use Rattle.mot_air.specs.Inner.Asked.{AskBy};
 ghost use Rattle.mot_air.specs.Inspecting.{Inspects, StopsInspecting};
 ghost use Rattle.mot_air.specs.Program.{Does, DoesInPart, IsBeginningRefusal, IsRefused, IsUntold};
 ghost use Rattle.mot_air.specs.Program.{IsUnlined, IsUntouched, IsUntyped, OnOpened, PlaysTo};
@@ -26,8 +27,8 @@ use crate::subject::{Subject, subject_of, tell, tell_folder};
 use crate::task::{PlayTask, Task, task_of};
 use crate::types::file_types;
 use crate::used::{AirDisk, AirExit, Finished};
-use clap::Error;
 use clap::error::ErrorKind;
+use clap::{ArgMatches, Error};
 use disk_store::{FileDiskFrom, Start};
 use mot_base::Refusal;
 use mot_folder::FileTypes;
@@ -109,8 +110,29 @@ pub fn run_air_on<S: AsStr, B: Start, W: Write, E: Write>(
     let Some((name, rest)) = matches.subcommand() else {
         return AirExit::unrefused(2, AirDisk::Untouched(start));
     };
-    let Some(task) = task_of(name, rest) else {
-        let subject = subject_of(Refusal::BadNumber, rest, None);
+    run_command(rt, alloc, name, rest, start, writer, errors)
+}
+
+/// Does what a command of this name asks for, with these words behind it.
+fn run_command<B: Start, W: Write, E: Write>(
+    rt: &HostRuntime,
+    alloc: Global,
+    name: &str,
+    words: &ArgMatches<'_>,
+    start: B,
+    writer: &mut W,
+    errors: &mut E,
+) -> AirExit<B>
+    ensures status { (result.status ≡ 0) ⊎ (result.status ≡ 1) }
+    ensures done { (all : List Text) → AskBy name.now (rows_of (found_of words.now)) all
+        → result.status ≡ 0
+        → Succeeds all result.disk (W.contents writer.old) (W.contents writer.new) }
+    ensures refused { (all : List Text) → AskBy name.now (rows_of (found_of words.now)) all
+        → result.status ≡ 1 → IsRefused all result.refusal result.disk
+        (W.contents writer.old) (W.contents writer.new) }
+{
+    let Some(task) = task_of(name, words) else {
+        let subject = subject_of(Refusal::BadNumber, words, None);
         return refuse(
             errors,
             Refusal::BadNumber,
@@ -126,10 +148,10 @@ pub fn run_air_on<S: AsStr, B: Start, W: Write, E: Write>(
     match result {
         Ok(true) => AirExit::unrefused(0, disk),
         Ok(false) => {
-            tell_folder(rt, errors, rest);
+            tell_folder(rt, errors, words);
             AirExit::unrefused(1, disk)
         }
-        Err(refusal) => refuse(errors, refusal, subject_of(refusal, rest, cause), disk),
+        Err(refusal) => refuse(errors, refusal, subject_of(refusal, words, cause), disk),
     }
 }
 

@@ -79,14 +79,9 @@ pub(crate) fn tell<E: Write>(errors: &mut E, subject: Subject<'_>) {
 /// Prints a file, and what came of it.
 fn tell_file<E: Write>(errors: &mut E, path: &str, cause: Cause) {
     let _ = match cause {
-        Cause::Disk(fault) => writeln!(errors, "motcar: {path}: {fault}"),
-        Cause::Types(fault) => writeln!(errors, "motcar: {path}: {fault}"),
-        Cause::Lines(fault) => writeln!(errors, "motcar: {path}: {fault}"),
-        Cause::Packets(fault) if path == OUTPUT => {
-            writeln!(errors, "motcar: standard output: {fault}")
-        }
-        Cause::Packets(fault) => writeln!(errors, "motcar: {path}: {fault}"),
-        Cause::NewFile(fault) => writeln!(errors, "motcar: {path}{SUFFIX}: {fault}"),
+        Cause::Packets(_) if path == OUTPUT => writeln!(errors, "motcar: standard output: {cause}"),
+        Cause::NewFile(_) => writeln!(errors, "motcar: {path}{SUFFIX}: {cause}"),
+        _ => writeln!(errors, "motcar: {path}: {cause}"),
     };
 }
 
