@@ -514,7 +514,8 @@ module _ {D : Type 0} where
 
       -- a packet more
       module _ (new : ServerView D) {now : State} (sound : IsHonestDisk between)
-          (view : new.view ≡ mid.view) (honest : now.IsHonest) (still : IsUnchanged between now) where
+          (view : new.view ≡ mid.view) (honest : now.IsHonest)
+          (still : IsUnchanged between now) where
         module _ {packet : List ℕ} {ends : Bool}
             (step : IsStep (place_in mid t) packet ends (place_in new t)) where
           abbrev sent_events : List Event
@@ -585,7 +586,8 @@ module _ {D : Type 0} where
                 fed = sent_fed step;
                 packets = so_far.packets ++ packet ∷ [];
                 are = sent_are step;
-                written = grows_trans before after last so_far.packets (packet ∷ []) so_far.written w;
+                written = grows_trans before after last so_far.packets (packet ∷ [])
+                    so_far.written w;
                 uncut = sent_uncut step;
                 ended = ended-append true so_far.events (Played step.sent ∷ []) ∙ same;
                 counted = more_turns so_far.events step.sent ends rest left turns same is_rest

@@ -76,7 +76,8 @@ returns-then-ends_turn-clause-answers g c = λ s holds honest.
     let from = (goal.at.returns-then-ends_turn-clause-answers g c).After-write_next_packet in
     let before = found g from s holds honest in
     turn-ended {after = state_of new s (g.D.Disk.state new.disk)} before.0 holds.going
-    (c.in_ok-ends_turn.ensures.answers s before.1 honest) (c.in-Some.is ∙ ap (λ e. Some e) c.if-ends_turn.true)
+    (c.in_ok-ends_turn.ensures.answers s before.1 honest)
+    (c.in-Some.is ∙ ap (λ e. Some e) c.if-ends_turn.true)
 
 pub loop-ends_turn-preserved : goal.loop-ends_turn-preserved
 loop-ends_turn-preserved g c =
