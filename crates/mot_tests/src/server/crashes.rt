@@ -4,7 +4,11 @@ use super::{COMMANDS, OBJECTS, commands_of, objects_on, seen};
 use crate::disks::{OPENING, THREE, blank_disk, image_of, new_disk, open};
 use disk_store::MemoryDisk;
 use mot_base::Refusal;
-use mot_server::{Refused, RunEnd, format_and_restart, format_run_and_restart, run_and_restart};
+use mot_carousel::Command;
+use mot_server::{
+    Aftermath, FirstTurn, Life, Refused, Restarted, format_and_restart, format_run_and_restart,
+    run_and_restart,
+};
 use std::alloc::Global;
 use std::test::Fail;
 
@@ -30,48 +34,66 @@ type Told = (usize, bool, Opened);
 // The disk of a call, and what it told.
 type Called = (MemoryDisk, Told);
 
+fn opened(restarted: Result<Restarted<MemoryDisk>, Refused<MemoryDisk>>) -> Opened {
+    match restarted {
+        Ok(Restarted { server, packets }) => Ok((seen(&server).0, packets.len())),
+        Err(refused) => Err(refused.refusal),
+    }
+}
+
+fn first_turn(
+    alloc: Global,
+    after_crash: Result<FirstTurn<MemoryDisk>, Refused<MemoryDisk>>,
+) -> Opened {
+    match after_crash {
+        Ok(FirstTurn { disk, packets }) => Ok((objects_on(alloc, disk)?, packets.len())),
+        Err(refused) => Err(refused.refusal),
+    }
+}
+
 fn formatted(alloc: Global, disk: MemoryDisk, left: MemoryDisk) -> Called {
     let mut disk = disk;
     let beginning = format_and_restart(&mut disk, alloc, &THREE, left);
-    let opened = match beginning.restarted {
-        Ok(restarted) => Ok((seen(&restarted.server).0, restarted.packets.len())),
-        Err(refused) => Err(refused.refusal),
-    };
-    (disk, (0, beginning.formatted.is_err(), opened))
+    let told = (0, beginning.formatted.is_err(), opened(beginning.restarted));
+    (disk, told)
 }
 
-fn ran(alloc: Global, disk: MemoryDisk, left: MemoryDisk) -> Result<Called, Refusal> {
-    let commands = commands_of(alloc, &COMMANDS)?;
+fn ran(
+    alloc: Global,
+    disk: MemoryDisk,
+    commands: &[Command],
+    left: MemoryDisk,
+) -> Result<Called, Refusal> {
     let mut server = open(alloc, disk)?;
-    let aftermath = run_and_restart(&mut server, alloc, &commands, left);
-    let opened = match aftermath.restarted {
-        Ok(restarted) => Ok((seen(&restarted.server).0, restarted.packets.len())),
-        Err(refused) => Err(refused.refusal),
-    };
-    Ok((server.into_disk(), told(aftermath.end, opened)))
+    let Aftermath { end, restarted } = run_and_restart(&mut server, alloc, commands, left);
+    let told = (end.done.len(), end.fault.is_some(), opened(restarted));
+    Ok((server.into_disk(), told))
 }
 
-fn told(end: RunEnd, opened: Opened) -> Told {
-    (end.done.len(), end.fault.is_some(), opened)
-}
-
-fn formatted_and_ran(alloc: Global, disk: MemoryDisk, left: MemoryDisk) -> Result<Called, Refusal> {
-    let commands = commands_of(alloc, &COMMANDS)?;
-    let (disk, told) = match format_run_and_restart(disk, alloc, &THREE, &commands, left) {
-        Ok(life) => {
-            let opened = match life.after_crash {
-                Ok(first) => Ok((objects_on(alloc, first.disk)?, first.packets.len())),
-                Err(refused) => Err(refused.refusal),
-            };
-            (life.disk, told(life.end, opened))
+fn formatted_and_ran(
+    alloc: Global,
+    disk: MemoryDisk,
+    commands: &[Command],
+    left: MemoryDisk,
+) -> Called {
+    match format_run_and_restart(disk, alloc, &THREE, commands, left) {
+        Ok(
+            Life {
+                disk,
+                end,
+                after_crash,
+            },
+        ) => {
+            let opened = first_turn(alloc, after_crash);
+            (disk, (end.done.len(), end.fault.is_some(), opened))
         }
         Err(Refused { refusal, disk }) => (disk, (0, true, Err(refusal))),
-    };
-    Ok((disk, told))
+    }
 }
 
 // The call on a disk that stops at this device call.
 fn called(alloc: Global, call: Call, stop: u64, left: MemoryDisk) -> Result<Called, Refusal> {
+    let commands = commands_of(alloc, &COMMANDS)?;
     let mut disk = match call {
         Call::Run => new_disk(alloc, &THREE)?,
         Call::Format | Call::FormatAndRun => blank_disk(alloc, &THREE)?,
@@ -79,8 +101,8 @@ fn called(alloc: Global, call: Call, stop: u64, left: MemoryDisk) -> Result<Call
     disk.stop_at(stop.max(1));
     match call {
         Call::Format => Ok(formatted(alloc, disk, left)),
-        Call::Run => ran(alloc, disk, left),
-        Call::FormatAndRun => formatted_and_ran(alloc, disk, left),
+        Call::Run => ran(alloc, disk, &commands, left),
+        Call::FormatAndRun => Ok(formatted_and_ran(alloc, disk, &commands, left)),
     }
 }
 
@@ -113,7 +135,7 @@ fn device_calls(alloc: Global, call: Call, first: u64) -> Result<Option<u64>, Re
             return Ok(None);
         }
         if !told.1 {
-            return Ok(Some(stop - 1));
+            return Ok(stop.checked_sub(1));
         }
     }
     Ok(None)
