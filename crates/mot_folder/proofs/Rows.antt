@@ -30,6 +30,11 @@ unread_line : log_line (entry (codes "read") (codes "b.xml") (Refused EmptyBody)
 unfolding digits
 unread_line = refl
 
+line_ends_in_a_name : log_line (entry (codes "read") (codes "a\nb\tc") (Refused EmptyBody))
+    ≡ codes "read a?b?c refused 6 EmptyBody\n"
+unfolding digits
+line_ends_in_a_name = refl
+
 unlisted_line : log_line (entry (codes "look") (codes "d") (Refused ReadFault))
     ≡ codes "look d refused 22 ReadFault\n"
 unfolding digits

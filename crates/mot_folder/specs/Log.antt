@@ -1,6 +1,6 @@
 -- What is told of a look at a folder: a line for each command, and each file that was not taken.
-use Rattle.std.specs.Prelude.{◌≡◌, ℕ, Bool, false, not, bytes_eq, List, [], ◌∷◌, ◌++◌, map, filter}
-use Rattle.std.specs.Prelude.{codes}
+use Rattle.std.specs.Prelude.{◌≡◌, ◌==◌, ◌||◌, ℕ, nat_lt, Bool, false, not, if◌then◌else◌, bytes_eq}
+use Rattle.std.specs.Prelude.{List, [], ◌∷◌, ◌++◌, map, filter, codes}
 use Rattle.std.specs.List.{flat_map}
 use Rattle.mot_folder.specs.declared.report.Report.{Report}
 use Rattle.mot_lines.specs.Text.{done_line, refusal_line}
@@ -21,9 +21,14 @@ abbrev pub reply_line : Attempt → List ℕ
 reply_line (Accepted done) = done_line done
 reply_line (Refused refusal) = refusal_line refusal
 
+-- a byte of a name as it is told: a control character, which might end the line, as `?`
+abbrev pub told_byte : ℕ → ℕ
+told_byte byte = if nat_lt byte 32 || byte == 127 then 63 else byte
+
 -- its line, with the end
 abbrev pub log_line : LogEntry → List ℕ
-log_line e = e.what ++ codes " " ++ e.name ++ codes " " ++ reply_line e.came
+log_line e =
+    e.what ++ codes " " ++ map told_byte e.name ++ codes " " ++ reply_line e.came
 
 -- what is told of a command
 abbrev pub log_entry_of : Answer → LogEntry

@@ -1,6 +1,6 @@
 //! What is told of a look at a folder, line by line.
-ghost use Rattle.std.specs.Prelude.{◌≡◌, ◌++◌, [], true, false, codes, OnOk};
-ghost use Rattle.mot_folder.specs.Log.{ReportTells, TellsOne, entry};
+ghost use Rattle.std.specs.Prelude.{◌≡◌, ◌++◌, [], true, false, codes, map, OnOk};
+ghost use Rattle.mot_folder.specs.Log.{ReportTells, TellsOne, entry, told_byte};
 ghost use Rattle.mot_server.specs.declared.running.Attempt.TheVariants.{Accepted, Refused};
 ghost use Rattle.mot_update.specs.Told.{was_accepted};
 
@@ -88,12 +88,32 @@ impl Report {
 
 /// Adds a line: what was done, to which name, and the line of the reply.
 fn add_line(lines: &mut Vec<u8>, what: &str, name: &[u8], reply: &[u8]) -> Result<(), AllocError>
-    ensures { OnOk result (lines.new.items ≡ lines.old.items ++ (what.now ++ codes " " ++ name.now
-        ++ codes " " ++ reply.now)) }
+    ensures { OnOk result (lines.new.items ≡ lines.old.items ++ (what.now ++ codes " "
+        ++ map told_byte name.now ++ codes " " ++ reply.now)) }
 {
     lines.extend_from_slice(what.as_bytes())?;
     lines.push(b' ')?;
-    lines.extend_from_slice(name)?;
+    add_name(lines, name)?;
     lines.push(b' ')?;
     lines.extend_from_slice(reply)
+}
+
+/// Adds a name, which a file of any name may have: none ends the line.
+fn add_name(lines: &mut Vec<u8>, name: &[u8]) -> Result<(), AllocError>
+    ensures { OnOk result (lines.new.items ≡ lines.old.items ++ map told_byte name.now) }
+{
+    for byte in name {
+        lines.push(told(*byte))?;
+    }
+    Ok(())
+}
+
+/// A byte of a name as it is told.
+fn told(byte: u8) -> u8
+    ensures { result ≡ told_byte byte }
+{
+    if byte < b' ' || byte == 0x7F {
+        return b'?';
+    }
+    byte
 }
