@@ -48,12 +48,18 @@ fn top<'a>(alloc: Global) -> Result<Command<'a>, AllocError>
 {
     let command = Command::new(alloc, "motcar").bin_name("motcar")?;
     Ok(
-        command
+        with_notes(command)
             .about("A data-service server for DAB digital radio")
-            .after_help(NOTES)
             .no_binary_name(true)
             .subcommand_required(true),
     )
+}
+
+/// The command with the notes below its list of commands.
+fn with_notes<'a>(command: Command<'a>) -> Command<'a>
+    ensures { app_of result ≡ app_of command.entry }
+{
+    command.after_help(NOTES)
 }
 
 /// The command `memory`.

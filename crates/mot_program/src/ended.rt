@@ -1,5 +1,5 @@
 //! How a task ends, and the disk that it leaves.
-ghost use Rattle.std.specs.Prelude.{◌≡◌, Err, None, Some};
+ghost use Rattle.std.specs.Prelude.{◌≡◌, Err, IfErr, None, OnOk, Some};
 ghost use Rattle.mot_program.specs.declared.ended.UsedDisk.TheVariants.{OfFile, Untouched};
 
 use crate::begun::{Beginning, BegunFile};
@@ -115,6 +115,21 @@ impl<D: Disk> Ended<D> {
         Ended {
             disk: refused.disk,
             result: Err(refused.refusal),
+        }
+    }
+
+    /// Of a disk on which this fault ended the task, if one did.
+    pub(crate) fn after(disk: D, fault: Option<Refusal>) -> Self
+        ensures disk { result.disk ≡ disk }
+        ensures done { OnOk result.result (fault ≡ None) }
+        ensures refused { IfErr result.result (λ r. fault ≡ Some r) }
+    {
+        Ended {
+            disk,
+            result: match fault {
+                None => Ok(()),
+                Some(refusal) => Err(refusal),
+            },
         }
     }
 }

@@ -101,15 +101,5 @@ fn serve_disk<R: Read, W: Write, D: Disk>(
         Err(refused) => return Ended::unopened(refused),
     };
     let fault = serve(alloc, reader, writer, &mut server, MAX_READS).fault;
-    let disk = server.into_disk();
-    match fault {
-        None => Ended {
-            disk,
-            result: Ok(()),
-        },
-        Some(refusal) => Ended {
-            disk,
-            result: Err(refusal),
-        },
-    }
+    Ended::after(server.into_disk(), fault)
 }

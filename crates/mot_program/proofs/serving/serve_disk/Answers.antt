@@ -1,4 +1,4 @@
-use Rattle.std.proofs.Common.{◌≡◌, ap, inl, inr, subst, sym}
+use Rattle.std.proofs.Common.{◌≡◌, ◌∙◌, ap, inl, inr, subst, sym}
 use Rattle.std.specs.Prelude.{IfErr}
 use Rattle.disk_store.specs.Disk.{IsStill}
 use Rattle.mot_lines.specs.Lines.{whole_lines, lines_of}
@@ -9,6 +9,7 @@ use Rattle.mot_program.proofs.Ends.{calm_refused, fault-cases}
 use Rattle.mot_program.proofs.Opened.{opens_to}
 use Rattle.mot_program.proofs.serving.serve_disk.Goals as goal
 use Rattle.std.proofs.KnownBytes.{Keeps-refl}
+use Rattle.std.proofs.lemmas.Result.{IfErr-weaker, on_ok_weaker}
 
 pub returns-in-Err-clause-refused : goal.returns-in-Err-clause-refused
 returns-in-Err-clause-refused g c =
@@ -24,8 +25,8 @@ returns-in-Err-clause-refused g c =
       still = opens.only_syncs.still;
     }))
 
-pub returns-in-None-clause-done : goal.returns-in-None-clause-done
-returns-in-None-clause-done g c =
+pub returns-clause-done : goal.returns-clause-done
+returns-clause-done g c =
     let state = g.D.Disk.state in
     let opens = c.in-Ok.ensures in
     let new = c.serve-fault.new.server in
@@ -33,9 +34,9 @@ returns-in-None-clause-done g c =
     let left = g.R.Read.remaining c.serve-fault.new.reader in
     let old = g.W.Write.contents c.args.writer.now in
     let written = g.W.Write.contents c.serve-fault.new.writer in
-    let r = c.serve-fault.ensures.ended c.in-None.is in
+    on_ok_weaker c.after.result.result (λ is. let r = c.serve-fault.ensures.ended is in
     subst (λ d. ServesInput remains left old written (state c.args.disk) (state d))
-    (sym c.into_disk-disk.ensures) (record {
+    (sym (c.after.ensures.disk ∙ c.into_disk.ensures)) (record {
       input = r.0;
       taken = r.1;
       at_end = r.2;
@@ -43,10 +44,10 @@ returns-in-None-clause-done g c =
           (λ before after. Served (state new.disk) before after (lines_of r.0) old written)
           g.met.D.Disk.sound opens.only_syncs opens.opened opens.going opens.at_start
           c.serve-fault.ensures.keeps r.4;
-    })
+    })) c.after.ensures.done
 
-pub returns-in-Some-clause-refused : goal.returns-in-Some-clause-refused
-returns-in-Some-clause-refused g c =
+pub returns-clause-refused : goal.returns-clause-refused
+returns-clause-refused g c =
     let state = g.D.Disk.state in
     let opens = c.in-Ok.ensures in
     let server = c.in-Ok.server in
@@ -57,10 +58,10 @@ returns-in-Some-clause-refused g c =
     let left = g.R.Read.remaining c.serve-fault.new.reader in
     let old = g.W.Write.contents c.args.writer.now in
     let written = g.W.Write.contents c.serve-fault.new.writer in
-    subst (λ d. StopsServing c.in-Some.refusal remains left old written
-    (state c.args.disk) (state d))
-    (sym c.into_disk-disk.ensures)
-    (fault-cases _ c.serve-fault.result.fault c.in-Some.refusal c.in-Some.is calls.faults
+    IfErr-weaker c.after.result.result _ _ (λ refusal some.
+    subst (λ d. StopsServing refusal remains left old written (state c.args.disk) (state d))
+    (sym (c.after.ensures.disk ∙ c.into_disk.ensures))
+    (fault-cases _ c.serve-fault.result.fault refusal some calls.faults
     (λ is e. let r = calls.none e in
     no_memory is (λ other. subst (λ (d : _). (state d).failures ≡ (state c.args.disk).failures)
     (sym (ap (λ s. s.disk) r.1)) opens.calm) (record {
@@ -98,4 +99,4 @@ returns-in-Some-clause-refused g c =
               calls.keeps led.1,
         )
       ];
-    })))
+    })))) c.after.ensures.refused
