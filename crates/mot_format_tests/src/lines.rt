@@ -1,6 +1,5 @@
 //! Worked rows of lines in and out.
 use mot_base::{GroupKind, Refusal};
-use mot_carousel::Command;
 use mot_lines::{Hand, Line, MAX_LINE, parse_line};
 use std::alloc::{AllocError, Global};
 use std::test::Fail;
@@ -37,37 +36,23 @@ fn parsed_raw_line(rt: HostRuntime) -> Result<(), Fail> {
     Ok(())
 }
 
+// What a line is read as, a clause says; that it is not refused for want of memory, none does.
 #[test]
-fn parsed_commands(rt: HostRuntime) -> Result<(), Fail> {
-    let alloc = rt.alloc();
-    let line = parse_line(alloc, b"put a 63 511 x/y 00fF")?;
-    let Line::Command(
-        Command::Put {
-            name,
-            content,
-            mime: Some(mime),
-            body,
-        },
-    ) = &line
-    else {
-        return Err(Fail::new("not a put of a MIME type"));
-    };
-    assert_eq!(rt; name.as_bytes(), b"a".as_slice());
-    assert_eq!(rt; content.content_type(), 63);
-    assert_eq!(rt; content.subtype(), 511);
-    assert_eq!(rt; mime.as_bytes(), b"x/y".as_slice());
-    assert_eq!(rt; body.as_bytes(), [0x00, 0xFF].as_slice());
-    assert!(rt; matches!(&parse_line(alloc, b"list")?, Line::List));
-    Ok(())
-}
-
-#[test]
-fn parsed_requests_of_packets(rt: HostRuntime) -> Result<(), Fail> {
-    let alloc = rt.alloc();
-    assert!(rt; matches!(&parse_line(alloc, b"next 1")?, Line::Next(1)));
-    assert!(rt; matches!(&parse_line(alloc, b"next 100000")?, Line::Next(100_000)));
-    assert!(rt; matches!(&parse_line(alloc, b"turn")?, Line::Turn));
-    Ok(())
+fn lines_that_are_taken(rt: HostRuntime) {
+    let rows = [
+        "put a 63 511 x/y 00fF",
+        "replace a 2 3 - 00",
+        "withdraw a",
+        "period 16777215",
+        "list",
+        "raw 4 1 00",
+        "next 1",
+        "next 100000",
+        "turn",
+    ];
+    for line in rows {
+        assert_eq!(rt; refusal_of(rt.alloc(), line.as_bytes()), None, "{line}");
+    }
 }
 
 #[test]

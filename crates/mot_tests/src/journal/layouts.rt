@@ -14,9 +14,10 @@ const OBJECT: [u8; 35] = [
     0x61, 0x67, 0x65, 0x2F, 0x70, 0x6E, 0x67,
 ];
 
-// A name or a text of 255 bytes, and where its slot has the length of the name.
-const TEXT: [u8; 255] = [0x61; 255];
+// A text of 65 bytes.
+const TEXT: [u8; 65] = [0x61; 65];
 
+// Where a slot has the length of the name.
 const NAME_LENGTH: u16 = 23;
 
 // Where the first slot of a half of layout 1 lies, and the second of one of layout 2.
@@ -121,70 +122,73 @@ fn an_id_counts_where_the_kind_has_one(rt: HostRuntime) -> Result<(), Fail> {
 fn texts_out_of_their_rule_are_damage(rt: HostRuntime) -> Result<(), Fail> {
     let alloc = rt.alloc();
     let damaged = Err(Refusal::Damaged(0));
-    let name = FIRST + NAME_LENGTH;
-    assert_eq!(rt; count_with(alloc, name, &[0])?, damaged);
-    assert_eq!(rt; count_with(alloc, name + 2, &[1, 0x2D])?, damaged);
-    assert_eq!(rt; count_with(alloc, name + 2, &[1, 0x2E])?, Ok(1));
-    assert_eq!(rt; count_with(alloc, name + 3, &TEXT[..65])?, Ok(1));
-    let mut long = TEXT;
+    let mut long = [0x61; 66];
     long[0] = 65;
-    assert_eq!(rt; count_with(alloc, name + 2, &long[..66])?, damaged);
-    long[0] = 64;
-    assert_eq!(rt; count_with(alloc, name + 2, &long[..66])?, Ok(1));
+    let mut longest = long;
+    longest[0] = 64;
+    // How far behind the length of the name, and what stands there.
+    let rows: [(u16, &[u8], Result<usize, Refusal>); 6] = [
+        (0, &[0], damaged),
+        (2, &[1, 0x2D], damaged),
+        (2, &[1, 0x2E], Ok(1)),
+        (3, &TEXT, Ok(1)),
+        (2, &long, damaged),
+        (2, &longest, Ok(1)),
+    ];
+    for (behind, changed, count) in rows {
+        let found = count_with(alloc, FIRST + NAME_LENGTH + behind, changed)?;
+        assert_eq!(rt; found, count);
+    }
     Ok(())
 }
 
 #[test]
 fn long_names_are_of_layout_two(rt: HostRuntime) -> Result<(), Fail> {
     let alloc = rt.alloc();
-    let mut name = TEXT;
+    let mut name = [0x61; 102];
     name[0] = 100;
     name[101] = 0;
-    assert_eq!(rt;
-        count_with(alloc, FIRST + NAME_LENGTH, &name[..102])?,
-        Ok(1)
-    );
-    assert_eq!(rt;
-        second_with(alloc, SECOND + NAME_LENGTH, &name[..102])?,
-        Ok(2)
-    );
-    let mut longer = TEXT;
+    let mut longer = [0x61; 103];
     longer[0] = 101;
     longer[102] = 0;
-    let damaged = Err(Refusal::Damaged(0));
-    assert_eq!(rt;
-        count_with(alloc, FIRST + NAME_LENGTH, &longer[..103])?,
-        damaged
-    );
-    assert_eq!(rt;
-        second_with(alloc, SECOND + NAME_LENGTH, &longer[..103])?,
-        Ok(2)
-    );
     // 255 bytes of a name, and no MIME type.
     let mut longest = [0x61; 257];
     longest[0] = 255;
     longest[256] = 0;
-    assert_eq!(rt; second_with(alloc, SECOND + NAME_LENGTH, &longest)?, Ok(2));
+    let rows: [(&[u8], Result<usize, Refusal>); 3] = [
+        (&name, Ok(1)),
+        (&longer, Err(Refusal::Damaged(0))),
+        (&longest, Err(Refusal::Damaged(0))),
+    ];
+    for (text, old) in rows {
+        let first = count_with(alloc, FIRST + NAME_LENGTH, text)?;
+        let second = second_with(alloc, SECOND + NAME_LENGTH, text)?;
+        assert_eq!(rt; (first, second), (old, Ok(2)));
+    }
     Ok(())
 }
 
 #[test]
-fn gates_kinds_and_selectors(rt: HostRuntime) -> Result<(), Fail> {
-    let alloc = rt.alloc();
-    assert_eq!(rt; count_with(alloc, FIRST, &[0xA4])?, Ok(0));
-    assert_eq!(rt; count_with(alloc, 8, &[0xFF])?, Ok(1));
-    assert_eq!(rt; count_with(alloc, 8, &[2])?, Ok(1));
-    assert_eq!(rt; count_with(alloc, 8, &[1])?, Ok(0));
-    assert_eq!(rt; second_with(alloc, 0, &[])?, Ok(2));
-    // A kind of layout 1 in a half of layout 2, and a kind that is none.
-    assert_eq!(rt;
-        second_with(alloc, SECOND + 1, &[2])?,
-        Err(Refusal::Damaged(1))
-    );
-    assert_eq!(rt;
-        second_with(alloc, SECOND + 1, &[20])?,
-        Err(Refusal::Damaged(1))
-    );
+fn gates_and_selectors(rt: HostRuntime) -> Result<(), Fail> {
+    let rows: [(u16, &[u8], usize); 4] = [
+        (FIRST, &[0xA4], 0),
+        (8, &[0xFF], 1),
+        (8, &[2], 1),
+        (8, &[1], 0),
+    ];
+    for (at, changed, count) in rows {
+        assert_eq!(rt; count_with(rt.alloc(), at, changed)?, Ok(count));
+    }
+    Ok(())
+}
+
+// A kind of layout 1 in a half of layout 2, and a kind that is none.
+#[test]
+fn kinds_of_layout_two(rt: HostRuntime) -> Result<(), Fail> {
+    let damaged = Err(Refusal::Damaged(1));
+    for (kind, count) in [(18, Ok(2)), (2, damaged), (20, damaged)] {
+        assert_eq!(rt; second_with(rt.alloc(), SECOND + 1, &[kind])?, count);
+    }
     Ok(())
 }
 

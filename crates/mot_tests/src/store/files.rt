@@ -109,10 +109,10 @@ fn only_a_new_name_is_made(rt: HostRuntime) -> Result<(), Fail> {
     fs::write(&rt, "made.test/file", "abc")?;
     fs::create_dir(&rt, "made.test/folder")?;
     unix::fs::symlink(&rt, "nothing", "made.test/link")?;
-    assert!(rt; !is_made(&rt, "made.test/file", 8));
-    assert!(rt; !is_made(&rt, "made.test/folder", 8));
-    assert!(rt; !is_made(&rt, "made.test/link", 8));
-    assert!(rt; !is_made(&rt, "made.test/missing/disk", 8));
+    for name in ["file", "folder", "link", "missing/disk"] {
+        let path = format!(in rt.alloc(); "made.test/{name}")?;
+        assert!(rt; !is_made(&rt, path.as_str(), 8), "{name}");
+    }
     assert_eq!(rt; fs::metadata(&rt, "made.test/file")?.len(), 3);
     assert!(rt; !fs::exists(&rt, "made.test/nothing")?);
     fs::remove_dir_all(&rt, "made.test")?;
@@ -133,10 +133,14 @@ fn length_of_synced(rt: &HostRuntime, path: &str) -> Result<u64, Fail> {
 #[test]
 fn only_a_file_that_may_be_written_is_opened(rt: HostRuntime) -> Result<(), Fail> {
     make_empty_folder(&rt, "opened.test")?;
-    assert!(rt; !is_opened(&rt, "opened.test"));
-    assert!(rt; !is_opened(&rt, "opened.test/missing"));
-    assert!(rt; !is_opened(&rt, "/dev/null"));
-    assert!(rt; !is_opened(&rt, "/proc/self/exe"));
+    for path in [
+        "opened.test",
+        "opened.test/missing",
+        "/dev/null",
+        "/proc/self/exe",
+    ] {
+        assert!(rt; !is_opened(&rt, path), "{path}");
+    }
     fs::write(&rt, "opened.test/empty", "")?;
     assert_eq!(rt; length_of_synced(&rt, "opened.test/empty")?, 0);
     fs::remove_dir_all(&rt, "opened.test")?;
@@ -312,24 +316,25 @@ fn names_in(rt: &HostRuntime, path: &str) -> Result<usize, Fail> {
     Ok(count)
 }
 
+// Whether a file has these bytes.
+fn is_file_of(rt: &HostRuntime, path: &str, bytes: &[u8]) -> Result<bool, Fail> {
+    Ok(fs::read(rt, path)?.as_slice() == bytes)
+}
+
 // An opening makes an empty file beside the disk, changes nobody else's, and a file that is not made
 // leaves none.
 #[test]
 fn an_empty_file_stands_beside(rt: HostRuntime) -> Result<(), Fail> {
     make_empty_folder(&rt, "beside.test")?;
     let path = "beside.test/disk";
-    assert!(rt; is_made(&rt, path, 8));
-    assert!(rt; is_opened(&rt, path));
-    assert_eq!(rt; names_in(&rt, "beside.test")?, 2);
-    assert_eq!(rt; fs::read(&rt, "beside.test/disk-wal")?.len(), 0);
+    let made = is_made(&rt, path, 8) && is_opened(&rt, path);
+    let empty = is_file_of(&rt, "beside.test/disk-wal", b"")?;
     fs::write(&rt, "beside.test/disk-wal", b"mine")?;
-    assert!(rt; is_opened(&rt, path));
-    assert_eq!(rt;
-        fs::read(&rt, "beside.test/disk-wal")?.as_slice(),
-        b"mine".as_slice()
-    );
-    assert!(rt; !is_made(&rt, "beside.test/other", u64::MAX));
-    assert_eq!(rt; names_in(&rt, "beside.test")?, 2);
+    let opened = is_opened(&rt, path);
+    let kept = is_file_of(&rt, "beside.test/disk-wal", b"mine")?;
+    let other = is_made(&rt, "beside.test/other", u64::MAX);
+    let names = names_in(&rt, "beside.test")?;
+    assert!(rt; made && empty && opened && kept && !other && names == 2);
     fs::remove_dir_all(&rt, "beside.test")?;
     Ok(())
 }
