@@ -3,6 +3,7 @@ use Rattle.std.proofs.Common.{refl, sym, ◌∙◌, ap, arith, rules}
 use Rattle.std.specs.Prelude.{slice_index, if◌then◌else◌, ◌==◌}
 use Rattle.std.proofs.Math.Nat.{mul-le-mul_left, mul_comm}
 use Rattle.disk_store.proofs.Laws.{reads_on, reads_once}
+use Rattle.disk_store.specs.Disk.{OnlyReads}
 use Rattle.mot_base.specs.Geometry.{is_valid, length_of, half_size, half_start}
 use Rattle.mot_journal.specs.Geometry.{geometry_of}
 use Rattle.mot_journal.specs.Image.{records_of, journal_in_half}
@@ -13,7 +14,7 @@ use Rattle.mot_journal.proofs.Loads.{chosen_one, chosen_none, load_refused_of_ha
 use Rattle.mot_journal.proofs.Loads.{written_back}
 use Rattle.mot_journal.proofs.journal.load.Given as given
 use Rattle.mot_journal.proofs.journal.load.Goals as goal
-use Rattle.mot_journal.proofs.journal.load.Goals.{In-Some, After-deref-2}
+use Rattle.mot_journal.proofs.journal.load.Goals.{In-Some, After-read-2, After-deref-2}
 use Rattle.mot_journal.proofs.journal.load.Goals.{then-head-eq1, else-head-eq1}
 
 pub returns-then-len-clause-refused : goal.returns-then-len-clause-refused
@@ -68,13 +69,27 @@ read-requires-2 g c =
       c.len-len.ensures,
     )
 
-pub returns-then-is_err-2-clause-only_reads : goal.returns-then-is_err-2-clause-only_reads
-returns-then-is_err-2-clause-only_reads g c =
+-- the disk was read twice, and no more
+read_twice : (g : given.Over) (c : After-read-2 g)
+    → OnlyReads (g.D.Disk.state c.args.disk.now) (g.D.Disk.state c.read-2.new.self)
+read_twice g c =
     let old = g.D.Disk.state c.args.disk.now in
     let mid = g.D.Disk.state c.read.new.self in
     let new = g.D.Disk.state c.read-2.new.self in
     reads_on old mid new (reads_once old mid c.read.ensures.keeps c.read.ensures.unchanged)
     (reads_once mid new c.read-2.ensures.keeps c.read-2.ensures.unchanged)
+
+pub returns-then-is_err-2-clause-only_reads : goal.returns-then-is_err-2-clause-only_reads
+returns-then-is_err-2-clause-only_reads g c =
+    read_twice g (goal.at.returns-then-is_err-2-clause-only_reads g c).After-read-2
+
+pub returns-in-Ok-records_of_half-clause-only_reads :
+    goal.returns-in-Ok-records_of_half-clause-only_reads
+returns-in-Ok-records_of_half-clause-only_reads g c =
+    read_twice g (goal.at.returns-in-Ok-records_of_half-clause-only_reads g c).After-read-2
+
+pub returns-clause-only_reads : goal.returns-clause-only_reads
+returns-clause-only_reads g c = read_twice g (goal.at.returns-clause-only_reads g c).After-read-2
 
 pub records_of_half-requires-clause-few : goal.records_of_half-requires-clause-few
 records_of_half-requires-clause-few g c =
