@@ -2,10 +2,12 @@
 use Rattle.std.proofs.Common.{◌≡◌, inl, ℕ, ◌<◌, ◌≤◌, Bool, true, false, List, [], ◌∷◌, length}
 use Rattle.std.proofs.Common.{replicate, Option, Some, None, Result, Ok, refl, sym, ◌∙◌, subst}
 use Rattle.std.proofs.Common.{arith}
+use Rattle.std.proofs.Math.Logic.{⊎_elim}
 use Rattle.std.proofs.lemmas.Bool.Decides.{nat_tests}
 use Rattle.std.specs.Prelude.{IsFalse, ◌&&◌, nat_le, if◌then◌else◌}
-use Rattle.disk_store.specs.Disk.{State, IsHonestDisk, IsStill}
-use Rattle.disk_store.proofs.Laws.{only_bytes}
+use Rattle.disk_store.specs.Disk.{State, Elapses, IsHonestDisk, IsStill, IsUnchanged, Nothing}
+use Rattle.disk_store.specs.Disk.{OnlyReads, OnlySyncs}
+use Rattle.disk_store.proofs.Laws.{keeps_on, only_bytes}
 use Rattle.mot_base.specs.declared.geometry.Geometry.{Geometry}
 use Rattle.mot_base.specs.declared.refusal.Refusal.{Refusal}
 use Rattle.mot_base.specs.Geometry.{packet_room, length_of}
@@ -25,6 +27,36 @@ use Rattle.mot_repository.specs.Opening as openings
 use Rattle.mot_server.specs.Playing.{HasPlayedTurn, IsTurnRefusal, halted, no_memory, failed}
 use Rattle.mot_server.specs.Server.{ServerView}
 use Rattle.mot_server.proofs.Read.{rises_on}
+
+-- time in which no image comes, and then more of it
+elapses_on : (a b c : State) → Elapses a b Nothing → Elapses b c Nothing → Elapses a c Nothing
+elapses_on a b c first second = record {
+  later = let l = first.later in let m = second.later in omega (arith, l, m);
+  nothing_else = λ t image le left.
+      let l = first.later in
+      ⊎_elim (λ was. first.nothing_else t image le was) (λ none. absurd none)
+      (second.nothing_else t image (omega (arith, l, le)) left);
+  keeps = λ t image le left.
+      let l = first.later in
+      second.keeps t image (omega (arith, l, le)) (first.keeps t image le left);
+}
+
+-- a disk that is only synced, and then left as it is
+pub still_unchanged : (a b c : State) → IsStill a b → IsUnchanged b c → IsStill a c
+still_unchanged a b c first second = record {
+  bytes = second.bytes ∙ first.bytes;
+  time = elapses_on a b c first.time second.time;
+  images = λ image left. first.images image ((second.images image).0 left);
+  loose = λ k is. first.loose k ((second.loose k).0 is);
+}
+
+-- a disk that is synced at most, and then read at most
+pub syncs_read : (a b c : State) → OnlySyncs a b → OnlyReads b c → OnlySyncs a c
+syncs_read a b c first second = record {
+  keeps = keeps_on a b c first.keeps second.keeps;
+  still = λ honest.
+      still_unchanged a b c (first.still (second.keeps.was_honest honest)) (second.unchanged honest);
+}
 
 same-standing : (r : Result Standing Refusal) (a b : Standing) → r ≡ Ok a → r ≡ Ok b → a ≡ b
 same-standing r a b is was = let e : Ok a ≡ Ok b = sym is ∙ was in cc

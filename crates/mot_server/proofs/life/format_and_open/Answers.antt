@@ -1,8 +1,14 @@
-use Rattle.disk_store.proofs.Laws.{stays}
+use Rattle.disk_store.proofs.Laws.{keeps_on, stays}
 use Rattle.mot_journal.specs.Journal.{NoneOrNew, new_standing}
 use Rattle.mot_server.proofs.Openings.{opened_holds}
 use Rattle.mot_server.proofs.Runs.{after_none}
 use Rattle.mot_server.proofs.life.format_and_open.Goals as goal
+
+pub returns-clause-keeps : goal.returns-clause-keeps
+returns-clause-keeps g c =
+    let state = g.D.Disk.state in
+    keeps_on (state c.args.disk) (state c.format.new.disk) (state c.in_ok-server.server.disk)
+    c.format.ensures.keeps c.in_ok-server.ensures.only_syncs.keeps
 
 pub returns-clause-holds : goal.returns-clause-holds
 returns-clause-holds g c = λ honest.

@@ -1,4 +1,5 @@
 use Rattle.std.proofs.Common.{subst, sym}
+use Rattle.disk_store.specs.Disk.{OnlySyncs}
 use Rattle.mot_repository.specs.Opening.{IsOpeningRefusal}
 use Rattle.mot_base.specs.Geometry.{packet_room}
 use Rattle.mot_player.specs.Place.{Place}
@@ -7,9 +8,24 @@ use Rattle.mot_player.specs.Turn.{turn_of_carousel}
 use Rattle.mot_server.specs.Playing.{HasPlayedTurn, bytes_of_packets}
 use Rattle.mot_server.specs.Server.{place_in}
 use Rattle.mot_server.proofs.Openings.{opened_agrees, opened_holds, turn_refused, opened_room}
-use Rattle.mot_server.proofs.Openings.{opened_beginning, opened_continuous}
+use Rattle.mot_server.proofs.Openings.{opened_beginning, opened_continuous, syncs_read}
 use Rattle.mot_server.proofs.Read.{holds_still}
 use Rattle.mot_server.proofs.restarting.restart.Goals as goal
+
+pub returns-in-Ok-clause-only_syncs : goal.returns-in-Ok-clause-only_syncs
+returns-in-Ok-clause-only_syncs g c =
+    let state = g.D.Disk.state in
+    syncs_read (state c.args.disk) (state c.in_ok-server.server.disk)
+    (state c.play_turn.new.self.disk) c.in_ok-server.ensures.only_syncs
+    c.play_turn.ensures.only_reads
+
+pub returns-in-Err-clause-only_syncs : goal.returns-in-Err-clause-only_syncs
+returns-in-Err-clause-only_syncs g c =
+    let state = g.D.Disk.state in
+    subst (λ d. OnlySyncs (state c.args.disk) (state d)) (sym c.into_disk.ensures)
+    (syncs_read (state c.args.disk) (state c.in_ok-server.server.disk)
+    (state c.play_turn.new.self.disk) c.in_ok-server.ensures.only_syncs
+    c.play_turn.ensures.only_reads)
 
 pub returns-in-Ok-clause-holds : goal.returns-in-Ok-clause-holds
 returns-in-Ok-clause-holds g c = λ s image honest.
