@@ -162,9 +162,26 @@ module _ (len : ℕ) (first : List ℕ) where
         begun calls (opening_calls len) (first_bytes len first) is refl length-first_bytes
         (first_bytes_bytes are_bytes) (tt, (tt, (tt, (tt, tt))))
 
-    pub opened_bytes : calls ≡ opening_calls len
+    opened_bytes : calls ≡ opening_calls len
         → (content_after first calls).bytes ≡ first_bytes len first
     opened_bytes is = ap (λ l. (content_after first l).bytes) is
+
+    opened_len : calls ≡ opening_calls len → length (content_after first calls).bytes ≡ len
+    opened_len is = ap length (opened_bytes is) ∙ length-first_bytes
+
+    -- its length is the one that was asked for
+    pub opened_order : calls ≡ opening_calls len
+        → calls ≡ opening_calls (length (content_after first calls).bytes)
+    opened_order is = is ∙ ap opening_calls (sym (opened_len is))
+
+    -- where as many bytes are told, they are its bytes
+    pub opened_first : calls ≡ opening_calls len
+        → length (content_after first calls).bytes ≡ length first
+        → (content_after first calls).bytes ≡ first
+    opened_first is same =
+        opened_bytes is
+        ∙ ap (λ n. take n (first ++ replicate len 0)) (sym (opened_len is) ∙ same)
+        ∙ take-append_seam first (replicate len 0)
 
     -- a file that was made
     pub begun_made : calls ≡ making_calls len → HasOnlyOpened first len calls
