@@ -1,14 +1,13 @@
 -- What one call more does to a file of the model.
-use Rattle.std.proofs.Common.{◌≡◌, inl, inr, ℕ, ◌+◌, ◌-◌, ◌<◌, ◌≤◌, List, [], ◌∷◌, ◌++◌, length}
+use Rattle.std.proofs.Common.{◌≡◌, ℕ, ◌+◌, ◌-◌, ◌<◌, ◌≤◌, List, [], ◌∷◌, ◌++◌, length}
 use Rattle.std.proofs.Common.{take, drop, replicate, true, false}
 use Rattle.std.proofs.Common.{slice_range, refl, sym, ◌∙◌, ap, subst, arith, length-append}
-use Rattle.std.proofs.lemmas.Bool.{cases_lt}
-use Rattle.std.proofs.lemmas.List.{length-replicate, get_or-replicate, get_or_past, length-take-le}
+use Rattle.std.proofs.lemmas.List.{length-replicate, length-take-le}
 use Rattle.std.proofs.Math.Seq.{drop-append_seam, take-append_seam}
 use Rattle.std.proofs.lemmas.List.Elements.{All-append, All-take, All-drop, All-replicate}
 use Rattle.std.specs.List.{All}
 use Rattle.disk_store.specs.Content.{Content, at_start, after_overwrite, after_write, after_touch}
-use Rattle.disk_store.specs.Content.{after_sync, replay, IsLooseIn}
+use Rattle.disk_store.specs.Content.{after_sync, replay}
 use Rattle.disk_store.specs.Calls.{Call, opening_calls, making_calls, first_bytes, after_call}
 use Rattle.disk_store.specs.Calls.{content_after, no_content, IsRight, AreRight}
 use Rattle.disk_store.specs.Inner.Noting.{HasOnlyOpened}

@@ -1,4 +1,4 @@
-use Rattle.std.proofs.Common.{◌≡◌, ◌∙◌, sym, subst}
+use Rattle.std.proofs.Common.{◌≡◌, ◌∙◌, subst}
 use Rattle.disk_store.specs.Calls.{making_calls}
 use Rattle.disk_store.specs.Disk.{IsNew}
 use Rattle.disk_store.specs.File.{calls_on, file_state}
