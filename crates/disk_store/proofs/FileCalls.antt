@@ -1,14 +1,13 @@
 -- What one call more does to a file of the model.
-use Rattle.std.proofs.Common.{◌≡◌, inl, inr, ℕ, ◌+◌, ◌-◌, ◌<◌, ◌≤◌, List, [], ◌∷◌, ◌++◌, length}
+use Rattle.std.proofs.Common.{◌≡◌, ℕ, ◌+◌, ◌-◌, ◌<◌, ◌≤◌, List, [], ◌∷◌, ◌++◌, length}
 use Rattle.std.proofs.Common.{take, drop, replicate, true, false}
 use Rattle.std.proofs.Common.{slice_range, refl, sym, ◌∙◌, ap, subst, arith, length-append}
-use Rattle.std.proofs.lemmas.Bool.{cases_lt}
-use Rattle.std.proofs.lemmas.List.{length-replicate, get_or-replicate, get_or_past, length-take-le}
+use Rattle.std.proofs.lemmas.List.{length-replicate, length-take-le}
 use Rattle.std.proofs.Math.Seq.{drop-append_seam, take-append_seam}
 use Rattle.std.proofs.lemmas.List.Elements.{All-append, All-take, All-drop, All-replicate}
 use Rattle.std.specs.List.{All}
 use Rattle.disk_store.specs.Content.{Content, at_start, after_overwrite, after_write, after_touch}
-use Rattle.disk_store.specs.Content.{after_sync, replay, IsLooseIn}
+use Rattle.disk_store.specs.Content.{after_sync, replay}
 use Rattle.disk_store.specs.Calls.{Call, opening_calls, making_calls, first_bytes, after_call}
 use Rattle.disk_store.specs.Calls.{content_after, no_content, IsRight, AreRight}
 use Rattle.disk_store.specs.Inner.Noting.{HasOnlyOpened}
@@ -162,9 +161,26 @@ module _ (len : ℕ) (first : List ℕ) where
         begun calls (opening_calls len) (first_bytes len first) is refl length-first_bytes
         (first_bytes_bytes are_bytes) (tt, (tt, (tt, (tt, tt))))
 
-    pub opened_bytes : calls ≡ opening_calls len
+    opened_bytes : calls ≡ opening_calls len
         → (content_after first calls).bytes ≡ first_bytes len first
     opened_bytes is = ap (λ l. (content_after first l).bytes) is
+
+    opened_len : calls ≡ opening_calls len → length (content_after first calls).bytes ≡ len
+    opened_len is = ap length (opened_bytes is) ∙ length-first_bytes
+
+    -- its length is the one that was asked for
+    pub opened_order : calls ≡ opening_calls len
+        → calls ≡ opening_calls (length (content_after first calls).bytes)
+    opened_order is = is ∙ ap opening_calls (sym (opened_len is))
+
+    -- where as many bytes are told, they are its bytes
+    pub opened_first : calls ≡ opening_calls len
+        → length (content_after first calls).bytes ≡ length first
+        → (content_after first calls).bytes ≡ first
+    opened_first is same =
+        opened_bytes is
+        ∙ ap (λ n. take n (first ++ replicate len 0)) (sym (opened_len is) ∙ same)
+        ∙ take-append_seam first (replicate len 0)
 
     -- a file that was made
     pub begun_made : calls ≡ making_calls len → HasOnlyOpened first len calls

@@ -1,6 +1,7 @@
 //! The bytes of a carousel's directory.
 ghost use Rattle.std.specs.Prelude.{◌≡◌, ℕ, ◌+◌, ◌^◌, ◌<◌, ◌≤◌, List, ◌++◌, length, map, vec_len};
 ghost use Rattle.std.specs.Prelude.{vec_capacity, All, Some, IfOk, IfErr, OnOk};
+ghost use Rattle.std.specs.Int.{to_be_bytes, bytes_high_first, w32};
 ghost use Rattle.mot_base.specs.Bytes.{AreBytes};
 ghost use Rattle.mot_base.specs.declared.refusal.Refusal.TheVariants.{OutOfMemory};
 ghost use Rattle.mot_carousel.specs.Carousel as whole;
@@ -98,12 +99,28 @@ fn append_directory_header(
     ensures segment_size { segment_size ≤ MAX_SEGMENT }
     ensures bytes { AreBytes out.new.items }
 {
-    let mut header = [0; 13];
-    BigEndian::write_u32(&mut header, size as u32);
-    BigEndian::write_u16(&mut header[4..], carousel.objects.len() as u16);
-    BigEndian::write_u24(&mut header[6..], carousel.period.get());
-    BigEndian::write_u16(&mut header[9..], segment_size.get());
-    append(out, &header);
+    append(out, &bytes_of_size(size as u32));
+    append_number(out, carousel.objects.len() as u16);
+    append(out, &bytes_of_period(carousel.period.get()));
+    append_number(out, segment_size.get());
+    append_number(out, 0);
+}
+
+fn bytes_of_size(size: u32) -> [u8; 4]
+    ensures { result ≡ to_be_bytes w32 size }
+{
+    let mut bytes = [0; 4];
+    BigEndian::write_u32(&mut bytes, size);
+    bytes
+}
+
+fn bytes_of_period(period: u32) -> [u8; 3]
+    requires { period < 2 ^ 24 }
+    ensures { result ≡ bytes_high_first 3 period }
+{
+    let mut bytes = [0; 3];
+    BigEndian::write_u24(&mut bytes, period);
+    bytes
 }
 
 /// Adds an object's entry: its transport id and its header.

@@ -2,7 +2,6 @@
 use Rattle.std.proofs.Common.{◌≡◌, length, ℕ, ◌<◌, List, Bool, true, false, arith, Some, None, refl}
 use Rattle.std.proofs.Common.{sym, ap, ◌∙◌, subst, eq-eqb}
 use Rattle.std.proofs.lemmas.Bool.{eqb-false, ne_eqb}
-use Rattle.std.proofs.lemmas.Option.{none-some}
 use Rattle.std.specs.Prelude.{◌==◌, if◌then◌else◌, IfSome, ◌++◌}
 use Rattle.mot_base.specs.PacketLength.{room_of}
 use Rattle.mot_base.specs.Reading.{is_empty}

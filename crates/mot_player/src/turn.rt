@@ -120,7 +120,7 @@ fn planned_bodies(alloc: Global, objects: &[Object]) -> Result<Vec<PlannedBody>,
 {
     let mut bodies = Vec::with_capacity(alloc, objects.len())?;
     for object in objects {
-        bodies.push(PlannedBody::of(object))?;
+        bodies.push_reserved(PlannedBody::of(object));
     }
     Ok(bodies)
 }

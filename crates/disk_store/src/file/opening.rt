@@ -1,6 +1,7 @@
 //! How a file is opened as a disk, and how a new one is made.
 ghost use Rattle.std.specs.Prelude.{◌≡◌, [], ◌∷◌, ◌++◌, length, replicate, IfOk, OnOk};
 ghost use Rattle.disk_store.specs.Calls.{content_after, opening_calls, making_calls};
+ghost use Rattle.disk_store.specs.Calls.{Locked, Opened, Made, Synced, Dropped, Named};
 ghost use Rattle.disk_store.specs.Inner.Noting.{HasOnlyOpened};
 ghost use Rattle.disk_store.specs.Disk.{IsNew, LeavesAll};
 ghost use Rattle.disk_store.specs.File.{file_state, calls_on, CanSync};
@@ -10,7 +11,7 @@ use super::{FileDisk, FileDiskFrom, OpenFault, Start, Unknown};
 use crate::DiskFault;
 use crate::call_count::CallCount;
 use std::fs::{File, OpenOptions};
-use std::io::ErrorKind;
+use std::io::{self, ErrorKind};
 use std::marker::PhantomData;
 
 /// A file that was not opened or made as a disk, and the value that opening it would have used up.
@@ -118,16 +119,8 @@ impl<S: Start> FileDiskFrom<S> {
         ensures order { IfOk result (λ disk.
             calls_on disk ≡ opening_calls (file_state disk).len) }
     {
-        let mut file = HeldFile::lock(OpenOptions::new().read(true).write(true).open(rt, path)?)?;
-        if !file.is_disk()? {
-            return Err(OpenFault::NoDisk);
-        }
-        if file.has_other_names()? {
-            return Err(OpenFault::SecondName);
-        }
-        file.sync_all()?;
-        file.drop_cached(rt, path)?;
-        let len = file.take_length()?;
+        let mut file = lock_disk(rt, path)?;
+        let len = synced_length(&mut file, rt, path)?;
         Ok(FileDiskFrom::begin(file, len))
     }
 
@@ -165,18 +158,14 @@ impl<S: Start> FileDiskFrom<S> {
         ensures order { IfOk result (λ disk. calls_on disk ≡ making_calls len) }
     {
         let mut made = HeldFile::lock(file)?;
-        made.fill(len)?;
-        made.sync_all()?;
-        made.drop_cached(rt, path)?;
-        made.sync_folder(rt, path)?;
+        make_zeros(&mut made, rt, path, len)?;
         Ok(FileDiskFrom::begin(made, len))
     }
 
     // The disk before its first call.
     fn begin(file: HeldFile, len: u64) -> FileDiskFrom<S>
         requires { HasOnlyOpened S.Start.bytes len file.history.calls }
-        ensures new { IsNew (content_after S.Start.bytes file.history.calls).bytes
-            (file_state result) }
+        ensures new { IsNew (file_state result).bytes (file_state result) }
         ensures can_sync { CanSync result }
         ensures all { LeavesAll (file_state result) }
         ensures history { calls_on result ≡ file.history.calls }
@@ -190,4 +179,34 @@ impl<S: Start> FileDiskFrom<S> {
             start: PhantomData,
         }
     }
+}
+
+// The file at the path, if it may be a disk.
+fn lock_disk(rt: &HostRuntime, path: &str) -> Result<HeldFile, OpenFault>
+    ensures { IfOk result (λ held. held.history.calls ≡ Locked ∷ []) }
+{
+    let file = HeldFile::lock(OpenOptions::new().read(true).write(true).open(rt, path)?)?;
+    file.refuse_no_disk()?;
+    Ok(file)
+}
+
+// How long it is, once what stands there lasts and is what the device has.
+fn synced_length(file: &mut HeldFile, rt: &HostRuntime, path: &str) -> io::Result<u64>
+    ensures { IfOk result (λ len. file.new.history.calls
+        ≡ file.old.history.calls ++ Synced ∷ Dropped ∷ Opened len ∷ []) }
+{
+    file.sync_all()?;
+    file.drop_cached(rt, path)?;
+    file.take_length()
+}
+
+// Fills it with zeros, and makes them and its name last.
+fn make_zeros(made: &mut HeldFile, rt: &HostRuntime, path: &str, len: u64) -> io::Result<()>
+    ensures { OnOk result (made.new.history.calls
+        ≡ made.old.history.calls ++ Made len ∷ Synced ∷ Dropped ∷ Named ∷ []) }
+{
+    made.fill(len)?;
+    made.sync_all()?;
+    made.drop_cached(rt, path)?;
+    made.sync_folder(rt, path)
 }

@@ -39,15 +39,26 @@ impl HeldFile {
         }
     }
 
-    /// Whether it is a regular file or a block device. Nothing else has a length that stays.
-    pub fn is_disk(&self) -> io::Result<bool> {
+    /// Refuses what is neither a regular file nor a block device, and a file that has another name
+    /// than the one by which it was opened, or none.
+    pub fn refuse_no_disk(&self) -> Result<(), OpenFault> {
+        if !self.is_disk()? {
+            return Err(OpenFault::NoDisk);
+        }
+        if self.has_other_names()? {
+            return Err(OpenFault::SecondName);
+        }
+        Ok(())
+    }
+
+    // Nothing else has a length that stays.
+    fn is_disk(&self) -> io::Result<bool> {
         let kind = self.file.metadata()?.file_type();
         Ok(kind.is_file() || kind.is_block_device())
     }
 
-    /// Whether it is a regular file that has another name than the one by which it was opened, or
-    /// none. What the system keeps of such a file is not dropped.
-    pub fn has_other_names(&self) -> io::Result<bool> {
+    // What the system keeps of such a file is not dropped.
+    fn has_other_names(&self) -> io::Result<bool> {
         let found = self.file.metadata()?;
         Ok(found.is_file() && found.nlink() != 1)
     }

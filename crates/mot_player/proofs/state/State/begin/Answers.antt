@@ -34,3 +34,26 @@ returns-clause-of_some g c =
         place = begun.place;
       },
     )
+
+pub returns-clause-begun : goal.returns-clause-begun
+returns-clause-begun g c = λ honest.
+    let begun = c.begin_part.ensures.begun (g.B.Bodies.bodies c.args.bodies.now) c.requires.bodies
+    (c.in_ok-read_front.ensures.bytes honest) in
+    record {
+      segment = begun.segment;
+      others = begun.others;
+      next = begun.next;
+      group = begun.group;
+      place = begun.place;
+    }
+
+pub returns-clause-taken : goal.returns-clause-taken
+returns-clause-taken g c = λ bodies are.
+    let taken = c.begin_part.ensures.taken bodies are in
+    record {
+      segment = taken.segment;
+      others = taken.others;
+      next = taken.next;
+      len = taken.len;
+      waiting = taken.waiting;
+    }
