@@ -85,6 +85,3 @@ fn explain(rt: &impl Eprint, error: &io::Error) -> ExitCode {
     let _ = eprintln!(rt; "motcar: a word of the command line is no UTF-8 text");
     ExitCode::from(2)
 }
-
-#[cfg(test)]
-mod tests;
