@@ -8,7 +8,7 @@ use mot_air::{is_air, run_air};
 use mot_base::Refusal;
 use mot_program::run_program;
 use std::fs::File;
-use std::io::{BufWriter, ErrorKind};
+use std::io::{BufWriter, ErrorKind, Write};
 use std::process::ExitCode;
 use std::{env, io};
 use version::print_version;
@@ -30,34 +30,37 @@ fn run(rt: &HostRuntime) -> io::Result<u8> {
     };
     let alloc = rt.alloc();
     let words: Vec<String> = env::args(rt)?.skip(1).collect(alloc)?;
-    let mut reader = rt.reader();
     let mut writer = BufWriter::with_capacity(alloc, BUFFER, io::writer(rt))?;
+    Ok(run_words(rt, words.as_slice(), &mut writer))
+}
+
+/// Does what these words ask for, and answers the exit status.
+fn run_words<W: Write>(rt: &HostRuntime, words: &[String], writer: &mut W) -> u8 {
+    let alloc = rt.alloc();
     let mut errors = rt.stderr();
-    if words.len() == 1 && words[0].as_str() == "--version" {
-        return match print_version(rt, &mut writer) {
-            Ok(()) => Ok(0),
-            Err(_) => Ok(refused(rt, Refusal::WriteFault)),
-        };
-    }
-    if !words.is_empty() && is_air(words[0].as_str()) {
-        return Ok(run_air(
+    match words {
+        [word] if word.as_str() == "--version" => show_version(rt, writer),
+        [word, ..] if is_air(word.as_str()) => {
+            run_air(rt, alloc, words, Unknown, writer, &mut errors)
+        }
+        _ => run_program(
             rt,
             alloc,
-            words.as_slice(),
+            words,
             Unknown,
-            &mut writer,
+            &mut rt.reader(),
+            writer,
             &mut errors,
-        ));
+        ),
     }
-    Ok(run_program(
-        rt,
-        alloc,
-        words.as_slice(),
-        Unknown,
-        &mut reader,
-        &mut writer,
-        &mut errors,
-    ))
+}
+
+/// Prints the version, and answers the exit status.
+fn show_version<W: Write>(rt: &HostRuntime, writer: &mut W) -> u8 {
+    match print_version(rt, writer) {
+        Ok(()) => 0,
+        Err(_) => refused(rt, Refusal::WriteFault),
+    }
 }
 
 /// Takes the numbers of the standard streams that are closed, so that no file which is opened later
@@ -85,6 +88,3 @@ fn explain(rt: &impl Eprint, error: &io::Error) -> ExitCode {
     let _ = eprintln!(rt; "motcar: a word of the command line is no UTF-8 text");
     ExitCode::from(2)
 }
-
-#[cfg(test)]
-mod tests;
