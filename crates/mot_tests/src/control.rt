@@ -1,5 +1,6 @@
 //! Lines between the packets of a feed: worked rows of what is told, and when a reader is asked.
 use crate::disks::{OPENING, Server, new_disk, open, server_of};
+use crate::expecting::expect;
 use crate::packet_streams::{Flushing, Parts};
 use mot_base::{Geometry, Refusal};
 use mot_control::{Lines, Log};
@@ -59,12 +60,13 @@ fn a_put_comes_between_two_packets(rt: HostRuntime) -> Result<(), Fail> {
     let count = (packets.len() / 24) as u64;
     let put = b"put a 2 3 image/png 0102030405".as_slice();
     let (told, wanted) = new_by_hand(alloc, put, count.saturating_sub(1))?;
-    assert!(rt;
-        count > 2
-            && log.as_slice() == b"done object 2 directory 3\n".as_slice()
-            && log.as_slice() == told.as_slice()
-            && packets.as_slice() == wanted.as_slice()
+    let done = b"done object 2 directory 3\n".as_slice();
+    expect(
+        &rt,
+        (count > 2, log.as_slice(), told.as_slice()),
+        (true, done, done),
     );
+    expect(&rt, packets.as_slice(), wanted.as_slice());
     Ok(())
 }
 
@@ -149,7 +151,7 @@ fn worked_lines(rt: HostRuntime) -> Result<(), Fail> {
     ];
     for (parts, told) in rows {
         let (log, _, end) = new_updated(rt.alloc(), &parts, 1, 5)?;
-        assert_eq!(rt; (log.as_slice(), end), (told, None));
+        expect(&rt, (log.as_slice(), end), (told, None));
     }
     Ok(())
 }
@@ -159,8 +161,12 @@ fn worked_lines(rt: HostRuntime) -> Result<(), Fail> {
 fn a_device_fault_ends_it(rt: HostRuntime) -> Result<(), Fail> {
     let parts = [b"put a 2 3 - 00\nlist\n".as_slice()];
     let (log, _, end) = failing_updated(rt.alloc(), &parts)?;
-    assert_eq!(rt; log.as_slice(), b"refused 15 DeviceFault\n".as_slice());
-    assert_eq!(rt; end, Some(Refusal::DeviceFault));
+    let told = b"refused 15 DeviceFault\n".as_slice();
+    expect(
+        &rt,
+        (log.as_slice(), end),
+        (told, Some(Refusal::DeviceFault)),
+    );
     Ok(())
 }
 
@@ -173,7 +179,7 @@ fn a_line_too_long_is_refused(rt: HostRuntime) -> Result<(), Fail> {
     parts.push(b"\nlist\n")?;
     let (log, _, _) = new_updated(alloc, &parts, 1, 133)?;
     let told = b"refused 1 BadLine\ncarousel 0 1 1 0\n";
-    assert_eq!(rt; log.as_slice(), told.as_slice());
+    expect(&rt, log.as_slice(), told.as_slice());
     Ok(())
 }
 
@@ -184,7 +190,7 @@ fn reads_behind_so_many_packets(rt: HostRuntime) -> Result<(), Fail> {
     for (every, reads) in rows {
         let parts = [b"list\n".as_slice(), b"", b"list\n"];
         let updated = new_updated(rt.alloc(), &parts, every, 7)?;
-        assert_eq!(rt; updated.1, reads);
+        expect(&rt, updated.1, reads);
     }
     Ok(())
 }

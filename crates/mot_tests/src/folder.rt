@@ -1,5 +1,6 @@
 //! Folders: suffixes, printed lines, and a folder that is not there.
 use crate::disks::{Server, new_server};
+use crate::expecting::expect;
 use mot_base::{Geometry, Refusal};
 use mot_folder::{FileTypes, Report, look_at_folder};
 use mot_server::Attempt;
@@ -42,7 +43,7 @@ fn suffixes_tell_types(rt: HostRuntime) -> Result<(), Fail> {
         (b"a.verylongsuffix", ""),
     ];
     for (name, told) in rows {
-        assert_eq!(rt; told_of(&rt, &types, name)?.as_str(), told);
+        expect(&rt, told_of(&rt, &types, name)?.as_str(), told);
     }
     Ok(())
 }
@@ -56,7 +57,7 @@ fn suffixes_are_added(rt: HostRuntime) -> Result<(), Fail> {
     )?;
     let rows: [(&[u8], &str); 2] = [(b"a.SVG", "2 0 image/svg+xml"), (b"a.png", "2 8 c/d")];
     for (name, told) in rows {
-        assert_eq!(rt; told_of(&rt, &types, name)?.as_str(), told);
+        expect(&rt, told_of(&rt, &types, name)?.as_str(), told);
     }
     Ok(())
 }
@@ -74,24 +75,25 @@ fn wrong_suffixes_are_refused(rt: HostRuntime) -> Result<(), Fail> {
         (b"svg 2 0 -", Refusal::BadMime),
     ];
     for (line, refusal) in wrong {
-        assert_eq!(rt; types.add(rt.alloc(), line), Err(refusal));
+        expect(&rt, types.add(rt.alloc(), line), Err(refusal));
     }
     Ok(())
 }
 
 #[test]
-fn lines_are_told(rt: HostRuntime) -> Result<(), Fail> {
+fn lines_are_told(rt: HostRuntime) {
     let mut report = Report::new(rt.alloc());
     report.answered("put", b"a.png", Attempt::Refused(Refusal::NoRoom));
     report.refused("read", b"b.xml", Refusal::EmptyBody);
-    assert_eq!(rt;
+    let lines = b"put a.png refused 12 NoRoom\nread b.xml refused 6 EmptyBody\n".as_slice();
+    let told = (
         report.lines.as_slice(),
-        b"put a.png refused 12 NoRoom\nread b.xml refused 6 EmptyBody\n".as_slice()
+        report.any_refused,
+        report.any_left_out,
     );
-    assert!(rt; report.any_refused && !report.any_left_out);
+    expect(&rt, told, (lines, true, false));
     report.begin();
-    assert!(rt; report.lines.is_empty() && !report.any_refused);
-    Ok(())
+    expect(&rt, (report.lines.len(), report.any_refused), (0, false));
 }
 
 /// What is told of a look at a folder that is not there.
@@ -111,9 +113,10 @@ fn new_missing(rt: &HostRuntime, alloc: Global) -> Result<Vec<u8>, Refusal> {
 #[test]
 fn a_folder_that_is_not_there_is_told(rt: HostRuntime) -> Result<(), Fail> {
     let told = new_missing(&rt, rt.alloc())?;
-    assert_eq!(rt;
+    expect(
+        &rt,
         told.as_slice(),
-        b"look none/such refused 22 ReadFault\n".as_slice()
+        b"look none/such refused 22 ReadFault\n".as_slice(),
     );
     Ok(())
 }

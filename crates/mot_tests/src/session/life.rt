@@ -2,13 +2,13 @@
 //! crashed, and whose writer takes so many bytes and no more: what was left is given to the same
 //! life again, as that which the crash left of it.
 use crate::disks::{THREE, blank_disk, image_of, open};
+use crate::expecting::expect;
 use crate::streams::FailingWriter;
 use disk_store::MemoryDisk;
 use mot_base::Refusal;
 use mot_server::{FirstTurn, Refused};
 use mot_session::format_serve_and_restart;
 use std::alloc::Global;
-use std::test::Fail;
 
 /// Lines of which five commands are done.
 const LINES: &[u8] = b"put a 2 3 - 0102\nput b 2 3 - 03\nlist\nput a 2 3 - 04\n\
@@ -96,11 +96,11 @@ pub fn lines_with(written: &[u8], front: &[u8]) -> usize {
         .count()
 }
 
-/// What was left has each command whose `done` was written, and at most one more. A disk that was
-/// not made need not be one.
-fn is_as_told(seen: &Seen) -> bool {
+/// Whether what was left has each command whose `done` was written, and at most one more, and how
+/// many these are. A disk that was not made need not be one.
+fn is_as_told(seen: &Seen) -> (bool, usize) {
     let done = lines_with(&seen.written, b"done ");
-    match seen.left {
+    let is_left = match seen.left {
         Ok((directory, packets)) => {
             packets > 0
                 && DIRECTORIES
@@ -110,36 +110,44 @@ fn is_as_told(seen: &Seen) -> bool {
                     .any(|it| *it == directory)
         }
         Err(refusal) => refusal == Refusal::NotFormatted && !seen.is_made,
-    }
+    };
+    (is_left, done)
 }
 
-#[test]
-fn a_crash_at_each_device_call_of_a_life(rt: HostRuntime) -> Result<(), Fail> {
-    let seen = disturbed(rt.alloc(), 0, 10_000)?;
-    assert_eq!(rt; lines_with(&seen.written, b"done "), 5);
-    assert!(rt; matches!(seen.left, Ok((9, _))));
-    let mut last = 0;
-    for stop in 1..200 {
-        let seen = disturbed(rt.alloc(), stop, 10_000)?;
-        assert!(rt; is_as_told(&seen), "stopped at device call {stop}");
-        if lines_with(&seen.written, b"done ") == 5
-            && lines_with(&seen.written, b"refused 15 ") == 0
-        {
-            break;
+/// The same of a life that is disturbed so, and how many faults of the disk were told.
+fn told_of(alloc: Global, stop: u64, room: usize) -> Result<(bool, usize, usize), Refusal> {
+    let seen = disturbed(alloc, stop, room)?;
+    let (is_as_told, done) = is_as_told(&seen);
+    Ok((is_as_told, done, lines_with(&seen.written, b"refused 15 ")))
+}
+
+/// How many device calls a life makes at least, if after a crash at each all is as it was told.
+fn device_calls(alloc: Global) -> Result<Option<u64>, Refusal> {
+    for stop in 1..200u64 {
+        let (is_as_told, done, faults) = told_of(alloc, stop, 10_000)?;
+        if !is_as_told {
+            return Ok(None);
         }
-        last = stop;
+        if done == 5 && faults == 0 {
+            return Ok(stop.checked_sub(1));
+        }
     }
-    // So many device calls does it make at least.
-    assert!(rt; 40 < last && last < 199);
-    Ok(())
+    Ok(None)
 }
 
 #[test]
-fn a_life_whose_replies_are_broken_off(rt: HostRuntime) -> Result<(), Fail> {
+fn a_crash_at_each_device_call_of_a_life(rt: HostRuntime) {
+    expect(&rt, told_of(rt.alloc(), 0, 10_000), Ok((true, 5, 0)));
+    let calls = device_calls(rt.alloc());
+    let are_many = matches!(calls, Ok(Some(41..199)));
+    expect(&rt, (calls, are_many), (calls, true));
+}
+
+#[test]
+fn a_life_whose_replies_are_broken_off(rt: HostRuntime) {
     for step in 0..46 {
-        let room = 11 * step;
-        let seen = disturbed(rt.alloc(), 0, room)?;
-        assert!(rt; is_as_told(&seen), "broken off behind {room} bytes");
+        let told = told_of(rt.alloc(), 0, 11 * step);
+        let is_as_told = matches!(told, Ok((true, _, _)));
+        expect(&rt, (told, is_as_told), (told, true));
     }
-    Ok(())
 }

@@ -2,6 +2,7 @@
 use super::{
     answers, bytes_of, copy_byte, leading_zeros, read_after_crash, write_sync_write, zeros_of,
 };
+use crate::expecting::expect;
 use disk_store::{Disk, DiskFault, FileDisk, FileDiskFrom, MemoryDisk, Unknown};
 use std::os::fd::AsRawFd;
 use std::os::unix;
@@ -69,7 +70,7 @@ fn a_synced_write_is_read_after_a_crash(rt: HostRuntime) -> Result<(), Fail> {
     make_empty_folder(&rt, "crash.test")?;
     let path = "crash.test/disk";
     begun_file(&rt, path)?;
-    assert_eq!(rt; read_of_left(&rt, path)?, [1, 2, 3]);
+    expect(&rt, read_of_left(&rt, path)?, [1, 2, 3]);
     fs::remove_dir_all(&rt, "crash.test")?;
     Ok(())
 }
@@ -85,9 +86,9 @@ fn zeros_found(rt: &HostRuntime, path: &str) -> Result<u64, Fail> {
 fn a_file_is_a_disk(rt: HostRuntime) -> Result<(), Fail> {
     make_empty_folder(&rt, "again.test")?;
     let path = "again.test/disk";
-    assert_eq!(rt; begun_file(&rt, path)?, [0; 8]);
-    assert_eq!(rt; found_file(&rt, path)?, ([0, 0, 1, 2, 3, 0, 0, 2], 2));
-    assert_eq!(rt; zeros_found(&rt, path)?, 2);
+    expect(&rt, begun_file(&rt, path)?, [0; 8]);
+    expect(&rt, found_file(&rt, path)?, ([0, 0, 1, 2, 3, 0, 0, 2], 2));
+    expect(&rt, zeros_found(&rt, path)?, 2);
     fs::remove_dir_all(&rt, "again.test")?;
     Ok(())
 }
@@ -109,12 +110,16 @@ fn only_a_new_name_is_made(rt: HostRuntime) -> Result<(), Fail> {
     fs::write(&rt, "made.test/file", "abc")?;
     fs::create_dir(&rt, "made.test/folder")?;
     unix::fs::symlink(&rt, "nothing", "made.test/link")?;
-    for name in ["file", "folder", "link", "missing/disk"] {
-        let path = format!(in rt.alloc(); "made.test/{name}")?;
-        assert!(rt; !is_made(&rt, path.as_str(), 8), "{name}");
+    for path in [
+        "made.test/file",
+        "made.test/folder",
+        "made.test/link",
+        "made.test/missing/disk",
+    ] {
+        expect(&rt, (path, is_made(&rt, path, 8)), (path, false));
     }
-    assert_eq!(rt; fs::metadata(&rt, "made.test/file")?.len(), 3);
-    assert!(rt; !fs::exists(&rt, "made.test/nothing")?);
+    expect(&rt, is_file_of(&rt, "made.test/file", b"abc")?, true);
+    expect(&rt, fs::exists(&rt, "made.test/nothing")?, false);
     fs::remove_dir_all(&rt, "made.test")?;
     Ok(())
 }
@@ -139,19 +144,22 @@ fn only_a_file_that_may_be_written_is_opened(rt: HostRuntime) -> Result<(), Fail
         "/dev/null",
         "/proc/self/exe",
     ] {
-        assert!(rt; !is_opened(&rt, path), "{path}");
+        expect(&rt, (path, is_opened(&rt, path)), (path, false));
     }
     fs::write(&rt, "opened.test/empty", "")?;
-    assert_eq!(rt; length_of_synced(&rt, "opened.test/empty")?, 0);
+    expect(&rt, length_of_synced(&rt, "opened.test/empty")?, 0);
     fs::remove_dir_all(&rt, "opened.test")?;
     Ok(())
 }
 
 // Whether a file is not opened for this reason.
-fn is_refused(rt: &HostRuntime, path: &str, reason: &str) -> Result<bool, Fail> {
-    match FileDiskFrom::open_from(rt, path, Unknown) {
-        Ok(_) => Ok(false),
-        Err(unopened) => Ok(format!(in rt.alloc(); "{}", unopened.fault)?.as_str() == reason),
+fn is_refused(rt: &HostRuntime, path: &str, reason: &str) -> bool {
+    let Err(unopened) = FileDiskFrom::open_from(rt, path, Unknown) else {
+        return false;
+    };
+    match format!(in rt.alloc(); "{}", unopened.fault) {
+        Ok(told) => told.as_str() == reason,
+        Err(_) => false,
     }
 }
 
@@ -160,14 +168,14 @@ fn is_refused_while_open(rt: &HostRuntime, path: &str, reason: &str) -> Result<b
     let held = FileDisk::create(rt, path, 8)?;
     let is_refused = is_refused(rt, path, reason);
     drop(held);
-    is_refused
+    Ok(is_refused)
 }
 
 // The same of a pipe.
 fn is_pipe_refused(rt: &HostRuntime, reason: &str) -> Result<bool, Fail> {
     let (reader, _writer) = io::pipe(rt)?;
     let path = format!(in rt.alloc(); "/proc/self/fd/{}", reader.as_raw_fd())?;
-    is_refused(rt, path.as_str(), reason)
+    Ok(is_refused(rt, path.as_str(), reason))
 }
 
 // The reason is told in the system's words, and a pipe is told from a file whose sync fails.
@@ -175,12 +183,21 @@ fn is_pipe_refused(rt: &HostRuntime, reason: &str) -> Result<bool, Fail> {
 fn why_a_file_is_not_opened(rt: HostRuntime) -> Result<(), Fail> {
     make_empty_folder(&rt, "reason.test")?;
     let no_disk = "neither a regular file nor a block device";
-    assert!(rt; is_refused(&rt, "reason.test/none", "No such file or directory")?);
-    assert!(rt; is_refused(&rt, "reason.test", "Is a directory")?);
-    assert!(rt; is_refused(&rt, "/dev/null", no_disk)?);
-    assert!(rt; is_pipe_refused(&rt, no_disk)?);
+    let rows = [
+        ("reason.test/none", "No such file or directory"),
+        ("reason.test", "Is a directory"),
+        ("/dev/null", no_disk),
+    ];
+    for (path, reason) in rows {
+        expect(&rt, (path, is_refused(&rt, path, reason)), (path, true));
+    }
+    expect(&rt, is_pipe_refused(&rt, no_disk)?, true);
     let in_use = "in use by another program";
-    assert!(rt; is_refused_while_open(&rt, "reason.test/disk", in_use)?);
+    expect(
+        &rt,
+        is_refused_while_open(&rt, "reason.test/disk", in_use)?,
+        true,
+    );
     fs::remove_dir_all(&rt, "reason.test")?;
     Ok(())
 }
@@ -204,9 +221,8 @@ fn a_new_file_has_no_holes(rt: HostRuntime) -> Result<(), Fail> {
     let path = "new.test/disk";
     for len in [1, 16_384, 16_385, 100_000] {
         let (room, found) = room_of_new(&rt, path, len)?;
-        assert!(rt; room >= len);
-        assert_eq!(rt; found, len);
-        assert!(rt; is_zeros(&rt, path)?);
+        let is_zeros = is_zeros(&rt, path)?;
+        expect(&rt, (room >= len, found, is_zeros), (true, len, true));
         fs::remove_file(&rt, path)?;
     }
     fs::remove_dir_all(&rt, "new.test")?;
@@ -218,10 +234,13 @@ fn a_new_file_has_no_holes(rt: HostRuntime) -> Result<(), Fail> {
 fn a_file_that_is_not_made_is_taken_away(rt: HostRuntime) -> Result<(), Fail> {
     make_empty_folder(&rt, "refused.test")?;
     let path = "refused.test/disk";
-    assert!(rt; !is_made(&rt, path, u64::MAX));
-    assert!(rt; !fs::exists(&rt, path)?);
-    assert!(rt; !is_made(&rt, path, 1 << 63));
-    assert!(rt; !fs::exists(&rt, path)?);
+    for len in [u64::MAX, 1 << 63] {
+        expect(
+            &rt,
+            (is_made(&rt, path, len), fs::exists(&rt, path)?),
+            (false, false),
+        );
+    }
     fs::remove_dir_all(&rt, "refused.test")?;
     Ok(())
 }
@@ -262,7 +281,7 @@ fn the_last_byte_of_a_long_file_is_written(rt: HostRuntime) -> Result<(), Fail> 
     make_empty_folder(&rt, "long.test")?;
     let path = "long.test/disk";
     fs::File::create(&rt, path)?.set_len(1 << 42)?;
-    assert_eq!(rt; end_of_written(&rt, path, 7)?, (1 << 42, 7));
+    expect(&rt, end_of_written(&rt, path, 7), Ok((1 << 42, 7)));
     fs::remove_dir_all(&rt, "long.test")?;
     Ok(())
 }
@@ -301,7 +320,7 @@ fn shorten(rt: &HostRuntime, path: &str) -> Result<(), Fail> {
 fn a_short_read_is_a_fault(rt: HostRuntime) -> Result<(), Fail> {
     make_empty_folder(&rt, "short.test")?;
     let path = "short.test/disk";
-    assert_eq!(rt; reads_of_shortened(&rt, path)?, [true, false, true]);
+    expect(&rt, reads_of_shortened(&rt, path)?, [true, false, true]);
     fs::remove_dir_all(&rt, "short.test")?;
     Ok(())
 }
@@ -327,14 +346,17 @@ fn is_file_of(rt: &HostRuntime, path: &str, bytes: &[u8]) -> Result<bool, Fail> 
 fn an_empty_file_stands_beside(rt: HostRuntime) -> Result<(), Fail> {
     make_empty_folder(&rt, "beside.test")?;
     let path = "beside.test/disk";
-    let made = is_made(&rt, path, 8) && is_opened(&rt, path);
-    let empty = is_file_of(&rt, "beside.test/disk-wal", b"")?;
+    expect(
+        &rt,
+        (is_made(&rt, path, 8), is_opened(&rt, path)),
+        (true, true),
+    );
+    expect(&rt, is_file_of(&rt, "beside.test/disk-wal", b"")?, true);
     fs::write(&rt, "beside.test/disk-wal", b"mine")?;
-    let opened = is_opened(&rt, path);
-    let kept = is_file_of(&rt, "beside.test/disk-wal", b"mine")?;
-    let other = is_made(&rt, "beside.test/other", u64::MAX);
-    let names = names_in(&rt, "beside.test")?;
-    assert!(rt; made && empty && opened && kept && !other && names == 2);
+    expect(&rt, is_opened(&rt, path), true);
+    expect(&rt, is_file_of(&rt, "beside.test/disk-wal", b"mine")?, true);
+    expect(&rt, is_made(&rt, "beside.test/other", u64::MAX), false);
+    expect(&rt, names_in(&rt, "beside.test")?, 2);
     fs::remove_dir_all(&rt, "beside.test")?;
     Ok(())
 }
@@ -344,11 +366,12 @@ fn an_empty_file_stands_beside(rt: HostRuntime) -> Result<(), Fail> {
 fn a_file_has_one_name(rt: HostRuntime) -> Result<(), Fail> {
     make_empty_folder(&rt, "names.test")?;
     let path = "names.test/disk";
-    assert!(rt; is_made(&rt, path, 8));
     unix::fs::symlink(&rt, "disk", "names.test/link")?;
-    assert!(rt; is_opened(&rt, "names.test/link"));
+    let opened = (is_made(&rt, path, 8), is_opened(&rt, "names.test/link"));
+    expect(&rt, opened, (true, true));
     fs::hard_link(&rt, path, "names.test/second")?;
-    assert!(rt; is_refused(&rt, path, "the file has a second name (a hard link)")?);
+    let second = "the file has a second name (a hard link)";
+    expect(&rt, is_refused(&rt, path, second), true);
     fs::remove_dir_all(&rt, "names.test")?;
     Ok(())
 }
