@@ -45,8 +45,10 @@ fn last_of<D: Disk>(alloc: Global, disk: &mut D) -> Result<(usize, u32), Refusal
     let Ok(true) = loaded.journal.is_clean(disk) else {
         return Err(Refusal::BadLine);
     };
-    let last = loaded.records.last().map_or(0, |entry| entry.period.get());
-    Ok((loaded.records.len(), last))
+    match loaded.records.last() {
+        Some(entry) => Ok((loaded.records.len(), entry.period.get())),
+        None => Ok((0, 0)),
+    }
 }
 
 // The sizes and the layout of a new disk with the default ones, how many records it has, and whether

@@ -158,13 +158,24 @@ fn planned(alloc: Global, k: u64, stops: bool) -> Result<([bool; 7], u64), DiskF
     Ok((answers, disk.calls()))
 }
 
+// Which of the calls succeed where call k fails, or each from it on.
+fn answers_where(k: u64, stops: bool) -> [bool; 7] {
+    let mut answers = [true; 7];
+    let mut call = 0u64;
+    for answer in &mut answers {
+        call = call.wrapping_add(1);
+        *answer = call < k || (call > k && !stops);
+    }
+    answers
+}
+
 #[test]
 fn the_planned_calls_fail(rt: HostRuntime) {
     for k in 1..8 {
-        let failing = [1, 2, 3, 4, 5, 6, 7].map(|call| call != k);
-        expect(&rt, planned(rt.alloc(), k, false), Ok((failing, 7)));
-        let stopping = [1, 2, 3, 4, 5, 6, 7].map(|call| call < k);
-        expect(&rt, planned(rt.alloc(), k, true), Ok((stopping, 7)));
+        let failing = planned(rt.alloc(), k, false);
+        expect(&rt, failing, Ok((answers_where(k, false), 7)));
+        let stopping = planned(rt.alloc(), k, true);
+        expect(&rt, stopping, Ok((answers_where(k, true), 7)));
     }
 }
 
