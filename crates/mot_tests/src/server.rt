@@ -59,32 +59,29 @@ fn objects_on(alloc: Global, disk: MemoryDisk) -> Result<usize, Refusal> {
     Ok(seen(&open(alloc, disk)?).0)
 }
 
-// What a run came to, and what is opened of its disk.
-#[derive(Clone, Copy, Debug, PartialEq, Eq)]
-struct Ran {
-    fault: Option<Refusal>,
-    /// How many marks there are, where they begin as those of the whole run.
-    done: Option<usize>,
-    seen: (usize, bool),
-    left: Result<usize, Refusal>,
-}
+// What ended a run; how many marks there are, where they begin as those of the whole run; what is
+// seen of the server, and what is opened of its disk.
+type Ran = (
+    Option<Refusal>,
+    Option<usize>,
+    (usize, bool),
+    Result<usize, Refusal>,
+);
 
 fn run_on(alloc: Global, server: Server, commands: &[Command]) -> Ran {
     let mut server = server;
     let end = server.run(alloc, commands);
     let seen = seen(&server);
     let left = objects_on(alloc, server.into_disk());
-    Ran {
-        fault: end.fault,
-        done: marks_of(&end),
-        seen,
-        left,
-    }
+    (end.fault, marks_of(&end), seen, left)
 }
 
 fn marks_of(end: &RunEnd) -> Option<usize> {
-    let begin_so = MARKS.starts_with(&end.done);
-    if begin_so { Some(end.done.len()) } else { None }
+    if MARKS.starts_with(&end.done) {
+        Some(end.done.len())
+    } else {
+        None
+    }
 }
 
 // A run of commands on a new disk of which this device call fails, or none where it is 0.
@@ -109,13 +106,8 @@ fn failing_server(alloc: Global, fails_at: u64) -> Result<Server, Refusal> {
 fn a_fault_ends_a_run(rt: HostRuntime) {
     // The first sync of the second put.
     let ran = run_of(rt.alloc(), OPENING + 5 + 3);
-    let wanted = Ran {
-        fault: Some(Refusal::DeviceFault),
-        done: Some(1),
-        seen: (1, true),
-        left: Ok(1),
-    };
-    expect(&rt, ran, Ok(wanted));
+    let fault = Some(Refusal::DeviceFault);
+    expect(&rt, ran, Ok((fault, Some(1), (1, true), Ok(1))));
 }
 
 // Where a growth is refused, as by `rt try --test --fail-alloc N`: the run's marks begin as those
@@ -127,16 +119,21 @@ fn a_refused_growth_of_a_run(rt: HostRuntime) {
     }
 }
 
-fn is_as_marked(ran: Ran) -> bool {
-    let (Some(done), Ok(objects)) = (ran.done, ran.left) else {
-        return ran.done.is_some();
+fn is_as_marked((fault, done, _, left): Ran) -> bool {
+    let (Some(done), Ok(objects)) = (done, left) else {
+        return done.is_some();
     };
-    let marked = OBJECTS.get(done..).unwrap_or(&[]);
-    match ran.fault {
+    match fault {
         None => (done, objects) == (7, 2),
-        Some(Refusal::DeviceFault) => marked.iter().take(2).any(|it| *it == objects),
-        fault => fault == Some(Refusal::OutOfMemory) && marked.first() == Some(&objects),
+        Some(Refusal::DeviceFault) => is_left_behind(done, objects),
+        fault => fault == Some(Refusal::OutOfMemory) && OBJECTS.get(done) == Some(&objects),
     }
+}
+
+// Whether there are so many objects behind so many of the commands, or behind one more.
+fn is_left_behind(done: usize, objects: usize) -> bool {
+    let next = done.wrapping_add(1);
+    OBJECTS.get(done) == Some(&objects) || OBJECTS.get(next) == Some(&objects)
 }
 
 // A disk of one object.

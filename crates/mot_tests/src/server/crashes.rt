@@ -1,6 +1,6 @@
 //! The calls that tell of a crash, each stopped at each device call and crashed: what was left is
 //! given to the same call again, as that which the crash left of it.
-use super::{COMMANDS, OBJECTS, commands_of, objects_on, seen};
+use super::{COMMANDS, commands_of, is_left_behind, objects_on, seen};
 use crate::disks::{OPENING, THREE, blank_disk, image_of, new_disk, open};
 use crate::expecting::expect;
 use disk_store::MemoryDisk;
@@ -119,9 +119,7 @@ fn crashed(alloc: Global, call: Call, stop: u64) -> Result<Told, Refusal> {
 fn is_as_told(call: Call, (done, is_stopped, opened): Told) -> bool {
     match (call, opened) {
         (Call::Format, Ok((objects, packets))) => objects == 0 && packets > 0,
-        (_, Ok((objects, packets))) => {
-            packets > objects && OBJECTS.iter().skip(done).take(2).any(|it| *it == objects)
-        }
+        (_, Ok((objects, packets))) => { packets > objects && is_left_behind(done, objects) }
         (Call::Run, Err(_)) => false,
         (_, Err(refusal)) => refusal == Refusal::NotFormatted && done == 0 && is_stopped,
     }

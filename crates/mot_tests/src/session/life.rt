@@ -90,10 +90,23 @@ fn disturbed(alloc: Global, stop: u64, room: usize) -> Result<Seen, Refusal> {
 
 /// How many lines were written whole that begin so.
 pub fn lines_with(written: &[u8], front: &[u8]) -> usize {
-    let whole = written.split_inclusive(|byte| *byte == b'\n');
-    whole
-        .filter(|line| line.starts_with(front) && line.ends_with(b"\n"))
-        .count()
+    let (mut count, mut start) = (0usize, 0usize);
+    for (at, byte) in written.iter().enumerate() {
+        if *byte == b'\n' {
+            let line = written.get(start..at).unwrap_or(&[]);
+            if line.starts_with(front) {
+                count = count.wrapping_add(1);
+            }
+            start = at.wrapping_add(1);
+        }
+    }
+    count
+}
+
+/// Whether the directory has this id behind so many commands, or behind one more.
+fn is_behind(done: usize, directory: u16) -> bool {
+    let next = done.wrapping_add(1);
+    DIRECTORIES.get(done) == Some(&directory) || DIRECTORIES.get(next) == Some(&directory)
 }
 
 /// Whether what was left has each command whose `done` was written, and at most one more, and how
@@ -101,14 +114,7 @@ pub fn lines_with(written: &[u8], front: &[u8]) -> usize {
 fn is_as_told(seen: &Seen) -> (bool, usize) {
     let done = lines_with(&seen.written, b"done ");
     let is_left = match seen.left {
-        Ok((directory, packets)) => {
-            packets > 0
-                && DIRECTORIES
-                    .iter()
-                    .skip(done)
-                    .take(2)
-                    .any(|it| *it == directory)
-        }
+        Ok((directory, packets)) => packets > 0 && is_behind(done, directory),
         Err(refusal) => refusal == Refusal::NotFormatted && !seen.is_made,
     };
     (is_left, done)

@@ -116,9 +116,12 @@ const ROWS: [Row; 5] = [
 
 /// Whether each of these packets begins at its place.
 fn has_packets(written: &[u8], packets: &[(usize, &str)]) -> bool {
-    packets
-        .iter()
-        .all(|(at, packet)| has_packet(written, *at, packet))
+    for (at, packet) in packets {
+        if !has_packet(written, *at, packet) {
+            return false;
+        }
+    }
+    true
 }
 
 #[test]
