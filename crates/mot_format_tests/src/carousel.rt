@@ -1,10 +1,20 @@
 //! What no clause says of the carousel: that its calls succeed where there is memory; and worked rows.
 ghost use Rattle.std.specs.Prelude.{◌≤◌};
 
+use crate::expecting::expect;
 use mot_base::{MAX_OBJECTS, Refusal, TransportId};
 use mot_carousel::{Body, Carousel, Command, Content, Mime, Name, Period, plan};
 use std::alloc::Global;
-use std::test::Fail;
+
+// A command by what a row says of it: a put has type 2, subtype 3 and a body of one byte, and a
+// replacement type 2, subtype 1 and one of two.
+#[derive(Clone, Copy)]
+enum Ask<'a> {
+    Put(&'a [u8]),
+    Replace(&'a [u8]),
+    Withdraw(&'a [u8]),
+    Period(u32),
+}
 
 fn name(alloc: Global, bytes: &[u8]) -> Result<Name, Refusal> {
     Name::new(Vec::from_slice(alloc, bytes)?)
@@ -14,10 +24,9 @@ fn body(alloc: Global, bytes: &[u8]) -> Result<Body, Refusal> {
     Body::new(Vec::from_slice(alloc, bytes)?)
 }
 
-fn put(alloc: Global, bytes: &[u8]) -> Result<Command, Refusal> {
+fn put(alloc: Global, name: Name) -> Result<Command, Refusal> {
     let content = Content::new(2, 3)?;
     let body = body(alloc, b"\x00")?;
-    let name = name(alloc, bytes)?;
     Ok(Command::Put {
         name,
         content,
@@ -26,10 +35,9 @@ fn put(alloc: Global, bytes: &[u8]) -> Result<Command, Refusal> {
     })
 }
 
-fn replace(alloc: Global, bytes: &[u8]) -> Result<Command, Refusal> {
+fn replace(alloc: Global, name: Name) -> Result<Command, Refusal> {
     let content = Content::new(2, 1)?;
     let body = body(alloc, b"\xff\xfe")?;
-    let name = name(alloc, bytes)?;
     Ok(Command::Replace {
         name,
         content,
@@ -38,83 +46,101 @@ fn replace(alloc: Global, bytes: &[u8]) -> Result<Command, Refusal> {
     })
 }
 
-fn withdraw(alloc: Global, bytes: &[u8]) -> Result<Command, Refusal> {
-    let name = name(alloc, bytes)?;
-    Ok(Command::Withdraw { name })
+fn command_of(alloc: Global, ask: Ask) -> Result<Command, Refusal> {
+    match ask {
+        Ask::Put(bytes) => put(alloc, name(alloc, bytes)?),
+        Ask::Replace(bytes) => replace(alloc, name(alloc, bytes)?),
+        Ask::Withdraw(bytes) => Ok(Command::Withdraw {
+            name: name(alloc, bytes)?,
+        }),
+        Ask::Period(number) => Ok(Command::Period(Period::new(number)?)),
+    }
 }
 
-fn period(number: u32) -> Result<Command, Refusal> {
-    Ok(Command::Period(Period::new(number)?))
+// The carousel after one more command, where there may be so many objects.
+fn next(alloc: Global, carousel: &Carousel, limit: u16, ask: Ask) -> Result<Carousel, Refusal>
+    requires { limit ≤ MAX_OBJECTS }
+{
+    let command = command_of(alloc, ask)?;
+    planned(alloc, carousel, limit, &command)
 }
 
-// The carousel after one more command.
-fn next(
-    alloc: Global,
-    carousel: &Carousel,
-    command: Result<Command, Refusal>,
-) -> Result<Carousel, Refusal> {
-    let command = command?;
-    let change = plan(alloc, carousel, MAX_OBJECTS, &command)?;
-    Ok(change.next)
-}
-
-// Why the command is refused.
-fn refusal(
+fn planned(
     alloc: Global,
     carousel: &Carousel,
     limit: u16,
-    command: Result<Command, Refusal>,
-) -> Option<Refusal>
+    command: &Command,
+) -> Result<Carousel, Refusal>
     requires { limit ≤ MAX_OBJECTS }
 {
-    match command {
-        Ok(command) => plan(alloc, carousel, limit, &command).err(),
-        Err(refusal) => Some(refusal),
+    match plan(alloc, carousel, limit, command) {
+        Ok(change) => Ok(change.next),
+        Err(refusal) => Err(refusal),
     }
 }
 
-// Whether the directory has this id, which was taken last.
-fn is_at(carousel: &Carousel, directory: u16) -> bool {
-    carousel.directory.get() == directory && carousel.cursor.get() == directory
+// The directory's id, the cursor, the period, and of each object the id, the version and the length
+// of its body, added up: there is one at most.
+type Seen = (u16, u16, u32, (u16, u8, u32));
+
+fn seen(carousel: &Carousel) -> Seen {
+    let object = match carousel.objects.as_slice() {
+        [object] => (object.tid.get(), object.version, object.length.get()),
+        _ => (0, 0, 0),
+    };
+    let directory = carousel.directory.get();
+    (
+        directory,
+        carousel.cursor.get(),
+        carousel.period.get(),
+        object,
+    )
 }
 
-// Whether the only object has these numbers.
-fn is_one(carousel: &Carousel, tid: u16, version: u8, length: u32) -> bool {
-    match carousel.objects.as_slice() {
-        [object] => {
-            object.tid.get() == tid && object.version == version && object.length.get() == length
-        }
-        _ => false,
+// What is seen behind these commands, where there may be one object, or why one was refused.
+fn seen_behind(alloc: Global, carousel: Carousel, asks: &[Ask]) -> Result<Seen, Refusal> {
+    let mut carousel = carousel;
+    for ask in asks {
+        carousel = next(alloc, &carousel, 1, *ask)?;
+    }
+    Ok(seen(&carousel))
+}
+
+#[test]
+fn one_object(rt: HostRuntime) {
+    let alloc = rt.alloc();
+    let asks = [
+        Ask::Put(b"a"),
+        Ask::Replace(b"a"),
+        Ask::Period(16_777_215),
+        Ask::Withdraw(b"a"),
+    ];
+    let rows = [
+        (1, (3, 3, 0, (2, 0, 1))),
+        (2, (5, 5, 0, (4, 1, 2))),
+        (3, (6, 6, 16_777_215, (4, 1, 2))),
+        (4, (7, 7, 16_777_215, (0, 0, 0))),
+    ];
+    for (count, wanted) in rows {
+        let asks = asks.get(..count).unwrap_or(&asks);
+        let found = seen_behind(alloc, Carousel::new(alloc), asks);
+        expect(&rt, found, Ok(wanted));
     }
 }
 
 #[test]
-fn one_object(rt: HostRuntime) -> Result<(), Fail> {
+fn refusals(rt: HostRuntime) {
     let alloc = rt.alloc();
-    let carousel = next(alloc, &Carousel::new(alloc), put(alloc, b"a"))?;
-    assert!(rt; is_at(&carousel, 3) && is_one(&carousel, 2, 0, 1));
-    let carousel = next(alloc, &carousel, replace(alloc, b"a"))?;
-    assert!(rt; is_at(&carousel, 5) && is_one(&carousel, 4, 1, 2));
-    let carousel = next(alloc, &carousel, period(16_777_215))?;
-    assert!(rt; is_at(&carousel, 6) && carousel.period.get() == 16_777_215);
-    let carousel = next(alloc, &carousel, withdraw(alloc, b"a"))?;
-    assert!(rt; is_at(&carousel, 7) && carousel.objects.is_empty());
-    Ok(())
-}
-
-#[test]
-fn refusals(rt: HostRuntime) -> Result<(), Fail> {
-    let alloc = rt.alloc();
-    let carousel = next(alloc, &Carousel::new(alloc), put(alloc, b"a"))?;
-    let taken = refusal(alloc, &carousel, 1, put(alloc, b"a"));
-    assert_eq!(rt; taken, Some(Refusal::NameTaken));
-    let too_many = refusal(alloc, &carousel, 1, put(alloc, b"b"));
-    assert_eq!(rt; too_many, Some(Refusal::TooManyObjects));
-    let replaced = refusal(alloc, &carousel, 1, replace(alloc, b"b"));
-    assert_eq!(rt; replaced, Some(Refusal::NoSuchName));
-    let withdrawn = refusal(alloc, &carousel, 1, withdraw(alloc, b"b"));
-    assert_eq!(rt; withdrawn, Some(Refusal::NoSuchName));
-    Ok(())
+    let rows = [
+        (Ask::Put(b"a"), Refusal::NameTaken),
+        (Ask::Put(b"b"), Refusal::TooManyObjects),
+        (Ask::Replace(b"b"), Refusal::NoSuchName),
+        (Ask::Withdraw(b"b"), Refusal::NoSuchName),
+    ];
+    for (ask, refusal) in rows {
+        let found = seen_behind(alloc, Carousel::new(alloc), &[Ask::Put(b"a"), ask]);
+        expect(&rt, found, Err(refusal));
+    }
 }
 
 // The new carousel with its cursor at 65,534.
@@ -130,50 +156,64 @@ fn late(alloc: Global) -> Carousel {
 
 // The object takes 65,535, and the directory goes past its own id 1.
 #[test]
-fn ids_wrap(rt: HostRuntime) -> Result<(), Fail> {
-    let alloc = rt.alloc();
-    let carousel = next(alloc, &late(alloc), put(alloc, b"a"))?;
-    assert!(rt; is_at(&carousel, 2) && is_one(&carousel, 65_535, 0, 1));
-    Ok(())
+fn ids_wrap(rt: HostRuntime) {
+    let found = seen_behind(rt.alloc(), late(rt.alloc()), &[Ask::Put(b"a")]);
+    expect(&rt, found, Ok((2, 2, 0, (65_535, 0, 1))));
 }
 
-// A put whose name is its number in letters.
-fn numbered_put(alloc: Global, number: u8) -> Result<Command, Refusal> {
-    put(alloc, &[b'a' + number / 26, b'a' + number % 26])
-}
-
-// The carousel of 250 objects.
+// The carousel of 250 objects, each named by its number in letters.
 fn full(alloc: Global) -> Result<Carousel, Refusal> {
     let mut carousel = Carousel::new(alloc);
     for number in 0..250u8 {
-        carousel = next(alloc, &carousel, numbered_put(alloc, number))?;
+        let name = [b'a' + number / 26, b'a' + number % 26];
+        carousel = next(alloc, &carousel, 250, Ask::Put(&name))?;
     }
     Ok(carousel)
 }
 
-#[test]
-fn at_the_limit(rt: HostRuntime) -> Result<(), Fail> {
-    let alloc = rt.alloc();
+// How many objects it has behind a command, and which of them the name of the seventh has.
+fn behind_full(alloc: Global, ask: Ask) -> Result<(usize, Option<usize>), Refusal> {
     let carousel = full(alloc)?;
-    let too_many = refusal(alloc, &carousel, 250, put(alloc, b"another"));
-    assert_eq!(rt; too_many, Some(Refusal::TooManyObjects));
-    let taken = refusal(alloc, &carousel, 250, numbered_put(alloc, 7));
-    assert_eq!(rt; taken, Some(Refusal::NameTaken));
-    let carousel = next(alloc, &carousel, replace(alloc, b"ah"))?;
-    assert_eq!(rt; carousel.place_of(&name(alloc, b"ah")?), Some(7));
-    Ok(())
+    let carousel = next(alloc, &carousel, 250, ask)?;
+    place_of_seventh(alloc, &carousel)
 }
 
-// Whether copies have the bytes of what was copied.
-fn are_copies(alloc: Global, bytes: &[u8]) -> Result<bool, Refusal> {
-    let body = body(alloc, bytes)?.clone()?;
-    let mime = Mime::new(Vec::from_slice(alloc, bytes)?)?.clone()?;
-    Ok(body.as_bytes() == bytes && mime.as_bytes() == bytes)
+fn place_of_seventh(alloc: Global, carousel: &Carousel) -> Result<(usize, Option<usize>), Refusal> {
+    let name = name(alloc, b"ah")?;
+    Ok((carousel.objects.len(), carousel.place_of(&name)))
+}
+
+#[test]
+fn at_the_limit(rt: HostRuntime) {
+    let rows = [
+        (Ask::Put(b"another"), Err(Refusal::TooManyObjects)),
+        (Ask::Put(b"ah"), Err(Refusal::NameTaken)),
+        (Ask::Replace(b"ah"), Ok((250, Some(7)))),
+    ];
+    for (ask, wanted) in rows {
+        expect(&rt, behind_full(rt.alloc(), ask), wanted);
+    }
+}
+
+// Whether a copy of a body has the bytes of what was copied.
+fn is_body_copied(alloc: Global, bytes: &[u8]) -> Result<bool, Refusal> {
+    let body = body(alloc, bytes)?;
+    let copy = body.clone()?;
+    Ok(copy.as_bytes() == bytes)
+}
+
+// The same of a MIME type.
+fn is_mime_copied(alloc: Global, bytes: &[u8]) -> Result<bool, Refusal> {
+    let mime = Mime::new(Vec::from_slice(alloc, bytes)?)?;
+    let copy = mime.clone()?;
+    Ok(copy.as_bytes() == bytes)
 }
 
 #[test]
 fn copies(rt: HostRuntime) {
-    assert_eq!(rt; are_copies(rt.alloc(), b"image/png"), Ok(true));
+    let (alloc, bytes) = (rt.alloc(), b"image/png");
+    let copied = [is_body_copied(alloc, bytes), is_mime_copied(alloc, bytes)];
+    expect(&rt, copied, [Ok(true); 2]);
 }
 
 fn is_name(alloc: Global, bytes: &[u8]) -> bool {
@@ -182,12 +222,16 @@ fn is_name(alloc: Global, bytes: &[u8]) -> bool {
 
 #[test]
 fn names(rt: HostRuntime) {
-    let alloc = rt.alloc();
-    assert!(rt; is_name(alloc, &[b'a'; 255]));
-    assert!(rt; !is_name(alloc, &[b'a'; 256]));
-    assert!(rt; is_name(alloc, b"\xC3\xA9"));
-    // a lone first byte, an overlong form, a surrogate
-    assert!(rt; !is_name(alloc, b"\xC3\x28"));
-    assert!(rt; !is_name(alloc, b"\xC0\xAF"));
-    assert!(rt; !is_name(alloc, b"\xED\xA0\x80"));
+    // Behind the longest name: a lone first byte, an overlong form, a surrogate.
+    let rows: [(&[u8], bool); 6] = [
+        (b"\xC3\xA9", true),
+        (&[b'a'; 255], true),
+        (&[b'a'; 256], false),
+        (b"\xC3\x28", false),
+        (b"\xC0\xAF", false),
+        (b"\xED\xA0\x80", false),
+    ];
+    for (bytes, is_one) in rows {
+        expect(&rt, is_name(rt.alloc(), bytes), is_one);
+    }
 }

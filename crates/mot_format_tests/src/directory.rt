@@ -1,82 +1,131 @@
 //! Worked rows of the directory and of its headers.
 ghost use Rattle.std.specs.Prelude.{◌≤◌, vec_len};
 
+use crate::expecting::expect;
 use mot_base::{MAX_OBJECTS, Refusal, SegmentSize, TransportId};
 use mot_carousel::{BodyLength, Carousel, Content, Mime, Name, Object, Period};
 use mot_directory::{directory_bytes, header_bytes};
 use std::alloc::Global;
-use std::test::Fail;
-
-// The header core, ContentName, MimeType and VersionNumber.
-#[test]
-fn one_object(rt: HostRuntime) -> Result<(), Fail> {
-    let header = b"\0\0\0\x50\x0c\x04\x03\xcc\x02\xf0a\xd0\x09image/png\x46\0";
-    let written = header_of(rt.alloc(), b"a", b"image/png", 5)?;
-    assert_eq!(rt; written.as_slice(), header.as_slice());
-    Ok(())
-}
-
-#[test]
-fn new_carousel(rt: HostRuntime) -> Result<(), Fail> {
-    let alloc = rt.alloc();
-    let bytes = b"\0\0\0\x0d\0\0\0\0\0\x04\0\0\0";
-    let directory = directory_bytes(alloc, &Carousel::new(alloc), segment_size(1024)?)?;
-    assert_eq!(rt; directory.as_slice(), bytes.as_slice());
-    Ok(())
-}
-
-#[test]
-fn directory_of_one(rt: HostRuntime) -> Result<(), Fail> {
-    let alloc = rt.alloc();
-    let object = object(alloc, b"a", b"image/png", 5)?;
-    let front = b"\0\0\0\x27\0\x01\0\0\0\x04\0\0\0\0\x02\0\0\0\x50\x0c\x04\x03";
-    let directory = directory_of(alloc, 1, &object, 1024)?;
-    assert!(rt; begins(&directory, 39, front));
-    Ok(())
-}
-
-// Names of 50 letters of two bytes, and at both sides of the longest short length.
-#[test]
-fn content_names(rt: HostRuntime) -> Result<(), Fail> {
-    let alloc = rt.alloc();
-    let name = ACCENTED.as_bytes();
-    let front = b"\0\0\0\x10\x38\x04\x03\xcc\x65\xf0\xc3\xa9";
-    assert!(rt; begins(&header_of(alloc, name, b"", 1)?, 112, front));
-    let front = b"\0\0\0\x10\x45\x04\x03\xcc\x7f\xf0a";
-    assert!(rt; begins(&header_of(alloc, &[b'a'; 126], b"", 1)?, 138, front));
-    let front = b"\0\0\0\x10\x46\x04\x03\xcc\x80\x80\xf0a";
-    assert!(rt; begins(&header_of(alloc, &[b'a'; 127], b"", 1)?, 140, front));
-    let front = b"\0\0\0\x10\x86\x04\x03\xcc\x81\0\xf0a";
-    assert!(rt; begins(&header_of(alloc, &[b'a'; 255], b"", 1)?, 268, front));
-    Ok(())
-}
-
-#[test]
-fn longest_header(rt: HostRuntime) -> Result<(), Fail> {
-    let front = b"\0\x40\0\0\xa7\x04\x03\xcc\x81\0\xf0a";
-    let header = header_of(rt.alloc(), &[b'a'; 255], &[b'b'; 64], 262_144)?;
-    assert!(rt; begins(&header, 334, front));
-    assert!(rt; header.as_slice().ends_with(b"bb\x46\0"));
-    Ok(())
-}
-
-// The greatest of all: 13 bytes, and 250 times 2 + 334.
-#[test]
-fn longest_directory(rt: HostRuntime) -> Result<(), Fail> {
-    let alloc = rt.alloc();
-    let object = object(alloc, &[b'a'; 255], &[b'b'; 64], 262_144)?;
-    let front = b"\0\x01\x48\x2d\0\xfa\0\0\0\x1f\xfd\0\0\0\x02\0\x40\0\0\xa7\x04\x03";
-    let directory = directory_of(alloc, 250, &object, 8189)?;
-    assert!(rt; begins(&directory, 84_013, front));
-    assert!(rt; directory.as_slice().ends_with(b"bb\x46\0"));
-    Ok(())
-}
 
 // 50 letters of two bytes each.
-const ACCENTED: &str = "éééééééééééééééééééééééééééééééééééééééééééééééééé";
+const ACCENTED: &[u8] =
+    b"\xc3\xa9\xc3\xa9\xc3\xa9\xc3\xa9\xc3\xa9\xc3\xa9\xc3\xa9\xc3\xa9\xc3\xa9\xc3\xa9\
+    \xc3\xa9\xc3\xa9\xc3\xa9\xc3\xa9\xc3\xa9\xc3\xa9\xc3\xa9\xc3\xa9\xc3\xa9\xc3\xa9\
+    \xc3\xa9\xc3\xa9\xc3\xa9\xc3\xa9\xc3\xa9\xc3\xa9\xc3\xa9\xc3\xa9\xc3\xa9\xc3\xa9\
+    \xc3\xa9\xc3\xa9\xc3\xa9\xc3\xa9\xc3\xa9\xc3\xa9\xc3\xa9\xc3\xa9\xc3\xa9\xc3\xa9\
+    \xc3\xa9\xc3\xa9\xc3\xa9\xc3\xa9\xc3\xa9\xc3\xa9\xc3\xa9\xc3\xa9\xc3\xa9\xc3\xa9";
 
-fn begins(bytes: &[u8], len: usize, front: &[u8]) -> bool {
-    bytes.len() == len && bytes.starts_with(front)
+// Of an object with this name, MIME type and length of its body, its header: how long that is, and
+// how it begins and ends.
+type Row = (
+    &'static [u8],
+    &'static [u8],
+    u32,
+    usize,
+    &'static [u8],
+    &'static [u8],
+);
+
+// The header core, ContentName, MimeType and VersionNumber; names of 50 letters of two bytes, and
+// at both sides of the longest short length; the longest header.
+const HEADERS: [Row; 6] = [
+    (
+        b"a",
+        b"image/png",
+        5,
+        24,
+        b"\0\0\0\x50\x0c\x04\x03\xcc\x02\xf0a",
+        b"\xd0\x09image/png\x46\0",
+    ),
+    (
+        ACCENTED,
+        b"",
+        1,
+        112,
+        b"\0\0\0\x10\x38\x04\x03\xcc\x65\xf0\xc3\xa9",
+        b"\x46\0",
+    ),
+    (
+        &[b'a'; 126],
+        b"",
+        1,
+        138,
+        b"\0\0\0\x10\x45\x04\x03\xcc\x7f\xf0a",
+        b"a\x46\0",
+    ),
+    (
+        &[b'a'; 127],
+        b"",
+        1,
+        140,
+        b"\0\0\0\x10\x46\x04\x03\xcc\x80\x80\xf0a",
+        b"a\x46\0",
+    ),
+    (
+        &[b'a'; 255],
+        b"",
+        1,
+        268,
+        b"\0\0\0\x10\x86\x04\x03\xcc\x81\0\xf0a",
+        b"a\x46\0",
+    ),
+    (
+        &[b'a'; 255],
+        &[b'b'; 64],
+        262_144,
+        334,
+        b"\0\x40\0\0\xa7\x04\x03\xcc\x81\0\xf0a",
+        b"bb\x46\0",
+    ),
+];
+
+#[test]
+fn headers(rt: HostRuntime) {
+    for row in HEADERS {
+        expect(&rt, (row.3, is_header(rt.alloc(), row)), (row.3, Ok(true)));
+    }
+}
+
+// The directory of so many copies of an object, in segments of this size: how long it is, and how it
+// begins and ends. The greatest of all has 13 bytes, and 250 times 2 + 334.
+const DIRECTORIES: [(u8, u16, Row); 3] = [
+    (
+        0,
+        1024,
+        (b"a", b"", 5, 13, b"\0\0\0\x0d\0\0\0\0\0\x04\0", b"\0\0"),
+    ),
+    (
+        1,
+        1024,
+        (
+            b"a",
+            b"image/png",
+            5,
+            39,
+            b"\0\0\0\x27\0\x01\0\0\0\x04\0\0\0\0\x02\0\0\0\x50\x0c\x04\x03",
+            b"image/png\x46\0",
+        ),
+    ),
+    (
+        250,
+        8189,
+        (
+            &[b'a'; 255],
+            &[b'b'; 64],
+            262_144,
+            84_013,
+            b"\0\x01\x48\x2d\0\xfa\0\0\0\x1f\xfd\0\0\0\x02\0\x40\0\0\xa7\x04\x03",
+            b"bb\x46\0",
+        ),
+    ),
+];
+
+#[test]
+fn directories(rt: HostRuntime) {
+    for (count, size, row) in DIRECTORIES {
+        let is_so = is_directory(rt.alloc(), count, size, row);
+        expect(&rt, (count, is_so), (count, Ok(true)));
+    }
 }
 
 fn segment_size(number: u16) -> Result<SegmentSize, Refusal> {
@@ -109,9 +158,27 @@ fn object(alloc: Global, name: &[u8], mime: &[u8], length: u32) -> Result<Object
     })
 }
 
-fn header_of(alloc: Global, name: &[u8], mime: &[u8], length: u32) -> Result<Vec<u8>, Refusal> {
-    let object = object(alloc, name, mime, length)?;
-    header_bytes(alloc, &object)
+fn object_of(alloc: Global, row: Row) -> Result<Object, Refusal> {
+    object(alloc, row.0, row.1, row.2)
+}
+
+// Whether the bytes are as long as the row says, and begin and end so.
+fn are_so(bytes: Result<Vec<u8>, Refusal>, row: Row) -> Result<bool, Refusal> {
+    let (_, _, _, total, front, end) = row;
+    match bytes {
+        Ok(it) => Ok(it.len() == total && it.starts_with(front) && it.ends_with(end)),
+        Err(refusal) => Err(refusal),
+    }
+}
+
+fn is_header(alloc: Global, row: Row) -> Result<bool, Refusal> {
+    let object = object_of(alloc, row)?;
+    are_so(header_bytes(alloc, &object), row)
+}
+
+fn is_directory(alloc: Global, count: u8, size: u16, row: Row) -> Result<bool, Refusal> {
+    let object = object_of(alloc, row)?;
+    are_so(directory_of(alloc, count, &object, size), row)
 }
 
 // So many copies of the object.

@@ -8,6 +8,8 @@ mod carousel;
 #[cfg(test)]
 mod directory;
 #[cfg(test)]
+mod expecting;
+#[cfg(test)]
 mod groups;
 #[cfg(test)]
 mod lines;

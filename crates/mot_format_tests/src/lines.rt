@@ -1,4 +1,5 @@
 //! Worked rows of lines in and out.
+use crate::expecting::expect;
 use mot_base::{GroupKind, Refusal};
 use mot_lines::{Hand, Line, MAX_LINE, parse_line};
 use std::alloc::{AllocError, Global};
@@ -9,31 +10,42 @@ fn refusal_of(alloc: Global, line: &[u8]) -> Option<Refusal> {
     parse_line(alloc, line).err()
 }
 
-/// These bytes, `count` times another, and those at the end.
-fn line_with(
-    alloc: Global,
-    front: &[u8],
-    byte: u8,
-    count: usize,
-    end: &[u8],
-) -> Result<Vec<u8>, AllocError> {
+/// These bytes, and `count` times another.
+fn line_with(alloc: Global, front: &[u8], byte: u8, count: usize) -> Result<Vec<u8>, AllocError> {
     let mut line = Vec::from_slice(alloc, front)?;
     for _ in 0..count {
         line.push(byte)?;
     }
-    line.extend_from_slice(end)?;
     Ok(line)
 }
 
+/// Why such a line is refused, if it is.
+fn refusal_with(alloc: Global, front: &[u8], byte: u8, count: usize) -> Option<Refusal> {
+    match line_with(alloc, front, byte, count) {
+        Ok(line) => refusal_of(alloc, line.as_slice()),
+        Err(_) => Some(Refusal::OutOfMemory),
+    }
+}
+
+/// The kind and the id of a raw line, and whether its body is this.
+fn raw_in(line: &Line, wanted: &[u8]) -> Option<(GroupKind, u16, bool)> {
+    match line {
+        Line::Raw { kind, tid, body } => Some((*kind, tid.get(), body.as_slice() == wanted)),
+        _ => None,
+    }
+}
+
+fn raw_of(alloc: Global, line: &[u8], wanted: &[u8]) -> Option<(GroupKind, u16, bool)> {
+    match parse_line(alloc, line) {
+        Ok(line) => raw_in(&line, wanted),
+        Err(_) => None,
+    }
+}
+
 #[test]
-fn parsed_raw_line(rt: HostRuntime) -> Result<(), Fail> {
-    let Line::Raw { kind, tid, body } = parse_line(rt.alloc(), b"raw 6 65535 00fF")? else {
-        return Err(Fail::new("not a raw line"));
-    };
-    assert_eq!(rt; kind, GroupKind::Directory);
-    assert_eq!(rt; tid.get(), 65_535);
-    assert_eq!(rt; body.as_slice(), [0x00, 0xFF].as_slice());
-    Ok(())
+fn parsed_raw_line(rt: HostRuntime) {
+    let raw = raw_of(rt.alloc(), b"raw 6 65535 00fF", &[0x00, 0xFF]);
+    expect(&rt, raw, Some((GroupKind::Directory, 65_535, true)));
 }
 
 // What a line is read as, a clause says; that it is not refused for want of memory, none does.
@@ -51,92 +63,88 @@ fn lines_that_are_taken(rt: HostRuntime) {
         "turn",
     ];
     for line in rows {
-        assert_eq!(rt; refusal_of(rt.alloc(), line.as_bytes()), None, "{line}");
-    }
-}
-
-#[test]
-fn refused_lines(rt: HostRuntime) {
-    let rows = [
-        ("", Refusal::BadLine),
-        ("raw", Refusal::BadLine),
-        ("RAW 4 2 00", Refusal::BadLine),
-        ("raw 4 2", Refusal::BadLine),
-        ("raw 4 2 00 00", Refusal::BadLine),
-        ("raw 4 2  00", Refusal::BadLine),
-        ("raw 5 2 00", Refusal::BadType),
-        ("raw 00000000004 2 00", Refusal::BadType),
-        ("raw +4 2 00", Refusal::BadType),
-        ("raw 4 0 00", Refusal::BadNumber),
-        ("raw 4 65536 00", Refusal::BadNumber),
-        ("raw 4  00", Refusal::BadNumber),
-        ("raw 4 2 0", Refusal::BadBody),
-        ("raw 4 2 0g", Refusal::BadBody),
-        ("raw 4 2 00\r", Refusal::BadBody),
-        ("raw 4 2 ", Refusal::EmptyBody),
-        ("put a b 2 3 - 00", Refusal::BadLine),
-        ("put a 2 3 - ", Refusal::EmptyBody),
-        ("put a 2 3 -", Refusal::BadLine),
-        ("put a 64 3 - 00", Refusal::BadType),
-        ("put a 256 3 - 00", Refusal::BadType),
-        ("put a 2 512 - 00", Refusal::BadType),
-        ("put a 2 65536 - 00", Refusal::BadType),
-        ("put a 2 3 - 0", Refusal::BadBody),
-        ("put a 2 3 - 0g", Refusal::BadBody),
-        ("PUT a 2 3 - 00", Refusal::BadLine),
-        ("list ", Refusal::BadLine),
-        ("list\r", Refusal::BadLine),
-        ("put a 2 3  00", Refusal::BadMime),
-        ("withdraw a b", Refusal::BadLine),
-        ("period", Refusal::BadLine),
-        ("period +5", Refusal::BadNumber),
-        ("period 00000000005", Refusal::BadNumber),
-        ("period 16777216", Refusal::BadNumber),
-        ("period 4294967296", Refusal::BadNumber),
-        ("put \x7f 64 3 - 0", Refusal::BadName),
-        ("put a 64 3  0", Refusal::BadType),
-        ("put a 2 3  0", Refusal::BadMime),
-        ("withdraw \x7F", Refusal::BadName),
-        ("withdraw ", Refusal::BadName),
-        ("next 0", Refusal::BadNumber),
-        ("next 100001", Refusal::BadNumber),
-        ("next x", Refusal::BadNumber),
-        ("next", Refusal::BadLine),
-        ("next 1 2", Refusal::BadLine),
-        ("turn 1", Refusal::BadLine),
-    ];
-    for (line, refusal) in rows {
-        assert_eq!(rt;
-            refusal_of(rt.alloc(), line.as_bytes()),
-            Some(refusal),
-            "{line}"
+        expect(
+            &rt,
+            (line, refusal_of(rt.alloc(), line.as_bytes())),
+            (line, None),
         );
     }
 }
 
+/// Lines, and why they are refused.
+const REFUSED: [(&str, Refusal); 46] = [
+    ("", Refusal::BadLine),
+    ("raw", Refusal::BadLine),
+    ("RAW 4 2 00", Refusal::BadLine),
+    ("raw 4 2", Refusal::BadLine),
+    ("raw 4 2 00 00", Refusal::BadLine),
+    ("raw 4 2  00", Refusal::BadLine),
+    ("raw 5 2 00", Refusal::BadType),
+    ("raw 00000000004 2 00", Refusal::BadType),
+    ("raw +4 2 00", Refusal::BadType),
+    ("raw 4 0 00", Refusal::BadNumber),
+    ("raw 4 65536 00", Refusal::BadNumber),
+    ("raw 4  00", Refusal::BadNumber),
+    ("raw 4 2 0", Refusal::BadBody),
+    ("raw 4 2 0g", Refusal::BadBody),
+    ("raw 4 2 00\r", Refusal::BadBody),
+    ("raw 4 2 ", Refusal::EmptyBody),
+    ("put a b 2 3 - 00", Refusal::BadLine),
+    ("put a 2 3 - ", Refusal::EmptyBody),
+    ("put a 2 3 -", Refusal::BadLine),
+    ("put a 64 3 - 00", Refusal::BadType),
+    ("put a 256 3 - 00", Refusal::BadType),
+    ("put a 2 512 - 00", Refusal::BadType),
+    ("put a 2 65536 - 00", Refusal::BadType),
+    ("put a 2 3 - 0", Refusal::BadBody),
+    ("put a 2 3 - 0g", Refusal::BadBody),
+    ("PUT a 2 3 - 00", Refusal::BadLine),
+    ("list ", Refusal::BadLine),
+    ("list\r", Refusal::BadLine),
+    ("put a 2 3  00", Refusal::BadMime),
+    ("withdraw a b", Refusal::BadLine),
+    ("period", Refusal::BadLine),
+    ("period +5", Refusal::BadNumber),
+    ("period 00000000005", Refusal::BadNumber),
+    ("period 16777216", Refusal::BadNumber),
+    ("period 4294967296", Refusal::BadNumber),
+    ("put \x7f 64 3 - 0", Refusal::BadName),
+    ("put a 64 3  0", Refusal::BadType),
+    ("put a 2 3  0", Refusal::BadMime),
+    ("withdraw \x7F", Refusal::BadName),
+    ("withdraw ", Refusal::BadName),
+    ("next 0", Refusal::BadNumber),
+    ("next 100001", Refusal::BadNumber),
+    ("next x", Refusal::BadNumber),
+    ("next", Refusal::BadLine),
+    ("next 1 2", Refusal::BadLine),
+    ("turn 1", Refusal::BadLine),
+];
+
 #[test]
-fn names_of_lines(rt: HostRuntime) -> Result<(), Fail> {
-    let alloc = rt.alloc();
-    for length in 1..=255 {
-        let line = line_with(alloc, b"withdraw ", b'n', length, b"")?;
-        assert_eq!(rt; refusal_of(alloc, line.as_slice()), None, "{length}");
+fn refused_lines(rt: HostRuntime) {
+    for (line, refusal) in REFUSED {
+        let found = refusal_of(rt.alloc(), line.as_bytes());
+        expect(&rt, (line, found), (line, Some(refusal)));
     }
-    let longer = line_with(alloc, b"withdraw ", b'n', 256, b"")?;
-    assert_eq!(rt;
-        refusal_of(alloc, longer.as_slice()),
-        Some(Refusal::BadName)
-    );
-    assert_eq!(rt; refusal_of(alloc, b"withdraw \xC3\xA9"), None);
-    assert_eq!(rt;
-        refusal_of(alloc, b"withdraw \xC3\x28"),
-        Some(Refusal::BadName)
-    );
-    Ok(())
 }
 
 #[test]
-fn long_bodies(rt: HostRuntime) -> Result<(), Fail> {
+fn names_of_lines(rt: HostRuntime) {
     let alloc = rt.alloc();
+    for length in 1..=255 {
+        let found = refusal_with(alloc, b"withdraw ", b'n', length);
+        expect(&rt, (length, found), (length, None));
+    }
+    let longer = refusal_with(alloc, b"withdraw ", b'n', 256);
+    let accented = refusal_of(alloc, b"withdraw \xC3\xA9");
+    let broken = refusal_of(alloc, b"withdraw \xC3\x28");
+    let bad = Some(Refusal::BadName);
+    expect(&rt, [longer, accented, broken], [bad, None, bad]);
+}
+
+#[test]
+fn long_bodies(rt: HostRuntime) {
     let rows = [
         (524_288, None),
         (524_290, Some(Refusal::BodyTooLong)),
@@ -144,30 +152,35 @@ fn long_bodies(rt: HostRuntime) -> Result<(), Fail> {
         (529_989, Some(Refusal::BadLine)),
     ];
     for (digits, refusal) in rows {
-        let line = line_with(alloc, b"put a 2 3 - ", b'5', digits, b"")?;
-        assert_eq!(rt;
-            refusal_of(alloc, line.as_slice()),
-            refusal,
-            "{digits} digits"
-        );
+        let found = refusal_with(rt.alloc(), b"put a 2 3 - ", b'5', digits);
+        expect(&rt, (digits, found), (digits, refusal));
     }
-    Ok(())
+}
+
+/// How long the text in a hand is behind a line of the greatest length and more, why it is refused
+/// as a line, and whether the hand is empty once it is cleared.
+fn filled(alloc: Global, hand: &mut Hand) -> (usize, Option<Refusal>, bool) {
+    hand.add(b"list");
+    let (length, refusal) = (hand.as_slice().len(), refusal_of(alloc, hand.as_slice()));
+    hand.clear();
+    (length, refusal, hand.is_empty())
 }
 
 #[test]
 fn line_in_hand(rt: HostRuntime) -> Result<(), Fail> {
     let alloc = rt.alloc();
+    let longest = line_with(alloc, b"", b' ', MAX_LINE)?;
     let mut hand = Hand::new(alloc)?;
-    assert!(rt; hand.is_empty());
+    let was_empty = hand.is_empty();
     hand.add(b"li");
     hand.add(b"st");
-    assert_eq!(rt; hand.as_slice(), b"list".as_slice());
-    let longest = line_with(alloc, b"", b' ', MAX_LINE, b"")?;
+    expect(
+        &rt,
+        (was_empty, hand.as_slice()),
+        (true, b"list".as_slice()),
+    );
     hand.add(longest.as_slice());
-    hand.add(b"list");
-    assert_eq!(rt; hand.as_slice().len(), MAX_LINE + 1);
-    assert_eq!(rt; refusal_of(alloc, hand.as_slice()), Some(Refusal::BadLine));
-    hand.clear();
-    assert!(rt; hand.is_empty());
+    let wanted = (MAX_LINE + 1, Some(Refusal::BadLine), true);
+    expect(&rt, filled(alloc, &mut hand), wanted);
     Ok(())
 }

@@ -2,6 +2,7 @@
 ghost use Rattle.std.specs.Prelude.{◌≡◌, ◌<◌, ℕ, List, [], vec_len, IfOk, map, length, ⊤};
 ghost use Rattle.mot_player.specs.PlayerView.{AreBodiesFor};
 
+use crate::expecting::expect;
 use mot_base::{Address, PacketLength, Refusal, SegmentSize, TransportId};
 use mot_carousel::{Body, Carousel, Content, Mime, Name, Object, Period};
 use mot_player::{Bodies, Player, Turn};
@@ -69,14 +70,18 @@ fn one_object(
 ) -> Result<Scene, Refusal>
     ensures { IfOk result (λ scene. AreBodiesFor scene.turn scene.bodies.items) }
 {
-    let body = Body::new(Vec::from_slice(alloc, body)?)?;
     let directory = TransportId::new(directory).ok_or(Refusal::BadNumber)?;
+    let tid = TransportId::new(tid).ok_or(Refusal::BadNumber)?;
+    let size = SegmentSize::new(size).ok_or(Refusal::BadNumber)?;
+    let content = Content::new(2, 3)?;
+    let body = Body::new(Vec::from_slice(alloc, body)?)?;
+    let name = Name::new(Vec::from_slice(alloc, b"a")?)?;
     let object = Object {
-        name: Name::new(Vec::from_slice(alloc, b"a")?)?,
-        content: Content::new(2, 3)?,
+        name,
+        content,
         mime,
         version: 0,
-        tid: TransportId::new(tid).ok_or(Refusal::BadNumber)?,
+        tid,
         length: body.length(),
     };
     let objects = vec![in alloc; object]?;
@@ -87,7 +92,6 @@ fn one_object(
         cursor: directory,
         objects,
     };
-    let size = SegmentSize::new(size).ok_or(Refusal::BadNumber)?;
     let turn = Turn::of(alloc, &carousel, size)?;
     Ok(Scene { turn, bodies })
 }
@@ -96,8 +100,8 @@ fn one_object(
 fn no_object(alloc: Global, size: u16) -> Result<Scene, Refusal>
     ensures { IfOk result (λ scene. AreBodiesFor scene.turn scene.bodies.items) }
 {
-    let carousel = Carousel::new(alloc);
     let size = SegmentSize::new(size).ok_or(Refusal::BadNumber)?;
+    let carousel = Carousel::new(alloc);
     let turn = Turn::of(alloc, &carousel, size)?;
     Ok(Scene {
         turn,
@@ -108,13 +112,10 @@ fn no_object(alloc: Global, size: u16) -> Result<Scene, Refusal>
 fn player_of(alloc: Global, packet: u16, size: u16, turn: Turn) -> Result<Player, Refusal>
     ensures { IfOk result (λ player. player.turn ≡ turn) }
 {
-    Player::new(
-        alloc,
-        Address::new(1).ok_or(Refusal::BadNumber)?,
-        PacketLength::new(packet).ok_or(Refusal::BadNumber)?,
-        SegmentSize::new(size).ok_or(Refusal::BadNumber)?,
-        turn,
-    )
+    let packet = PacketLength::new(packet).ok_or(Refusal::BadNumber);
+    let size = SegmentSize::new(size).ok_or(Refusal::BadNumber);
+    let (packet, size) = (packet?, size?);
+    Player::new(alloc, Address::new(1).unwrap(), packet, size, turn)
 }
 
 /// Looks whether the next packets have these headers, and end the turn where it is said.
@@ -130,10 +131,41 @@ fn expect_packets<B: Bodies>(
 {
     for (header, ends_turn) in rows {
         let played = player.next_packet(bodies)?;
-        assert!(rt; played.packet.as_slice().starts_with(header));
-        assert_eq!(rt; played.ends_turn, *ends_turn);
+        let begins = played.packet.as_slice().starts_with(header);
+        expect(rt, (begins, played.ends_turn), (true, *ends_turn));
     }
     Ok(())
+}
+
+/// A player of the scene, behind packets that have these headers.
+fn played(
+    rt: &impl Abort,
+    alloc: Global,
+    packet: u16,
+    size: u16,
+    scene: Scene,
+    rows: &[(&[u8], bool)],
+) -> Result<Player, Refusal>
+    requires { AreBodiesFor scene.turn scene.bodies.items }
+{
+    let Scene { turn, mut bodies } = scene;
+    let mut player = player_of(alloc, packet, size, turn)?;
+    expect_packets(rt, &mut player, &mut bodies, rows)?;
+    Ok(player)
+}
+
+/// Changes to the scene, whose packets have these headers.
+fn play_on(
+    rt: &impl Abort,
+    player: &mut Player,
+    scene: Scene,
+    rows: &[(&[u8], bool)],
+) -> Result<(), Refusal>
+    requires { AreBodiesFor scene.turn scene.bodies.items }
+{
+    let Scene { turn, mut bodies } = scene;
+    player.changed(turn);
+    expect_packets(rt, player, &mut bodies, rows)
 }
 
 // Two turns of long packets, the last of a group as short as may be: the indexes of packets go on,
@@ -141,15 +173,14 @@ fn expect_packets<B: Bodies>(
 #[test]
 fn short_last_packets(rt: HostRuntime) -> Result<(), Fail> {
     let alloc = rt.alloc();
-    let Scene { turn, mut bodies } = one_object(alloc, 3, 2, None, b"\x01\x02\x03\x04\x05", 1024)?;
-    let mut player = player_of(alloc, 96, 1024, turn)?;
     let rows = [
         (b"\x4C\x01\x27\x76\x00".as_slice(), false),
         (b"\x1C\x01\x10\x74\x00".as_slice(), true),
         (b"\x6C\x01\x27\x76\x00".as_slice(), false),
         (b"\x3C\x01\x10\x74\x00".as_slice(), true),
     ];
-    expect_packets(&rt, &mut player, &mut bodies, &rows)?;
+    let scene = one_object(alloc, 3, 2, None, b"\x01\x02\x03\x04\x05", 1024)?;
+    played(&rt, alloc, 96, 1024, scene, &rows)?;
     Ok(())
 }
 
@@ -157,8 +188,6 @@ fn short_last_packets(rt: HostRuntime) -> Result<(), Fail> {
 #[test]
 fn two_segments(rt: HostRuntime) -> Result<(), Fail> {
     let alloc = rt.alloc();
-    let Scene { turn, mut bodies } = one_object(alloc, 3, 2, None, &[9; 65], 64)?;
-    let mut player = player_of(alloc, 96, 64, turn)?;
     let rows = [
         (b"\x4C\x01\x27\x76\x00".as_slice(), false),
         (b"\xDC\x01\x4B\x74\x00\x00\x00".as_slice(), false),
@@ -167,64 +196,73 @@ fn two_segments(rt: HostRuntime) -> Result<(), Fail> {
         (b"\xCC\x01\x4B\x74\x20".as_slice(), false),
         (b"\x1C\x01\x0C\x74\x30".as_slice(), true),
     ];
-    expect_packets(&rt, &mut player, &mut bodies, &rows)?;
+    let scene = one_object(alloc, 3, 2, None, &[9; 65], 64)?;
+    played(&rt, alloc, 96, 64, scene, &rows)?;
     Ok(())
 }
+
+// The turn of a new carousel.
+const EMPTY: [(&[u8], bool); 2] = [
+    (
+        b"\x08\x01\x13\x76\0\x80\0\x12\0\x01\0\x0d\0\0\0\x0d\0\0\0\0\0\x04\x9c\x3d",
+        false,
+    ),
+    (b"\x14\x01\x05\0\0\0\xf1\x0d", true),
+];
+
+// The turn of one object behind it.
+const ONE: [(&[u8], bool); 4] = [
+    (b"\x28\x01\x13\x76\x10", false),
+    (b"\x30\x01\x13", false),
+    (b"\x04\x01\x0C", false),
+    (b"\x1C\x01\x10\x74\x00", true),
+];
 
 // The turn of a new carousel, and then that of one object.
 #[test]
 fn first_object(rt: HostRuntime) -> Result<(), Fail> {
     let alloc = rt.alloc();
-    let Scene { turn, mut bodies } = no_object(alloc, 1024)?;
-    let mut player = player_of(alloc, 24, 1024, turn)?;
-    let empty = [
-        (
-            b"\x08\x01\x13\x76\0\x80\0\x12\0\x01\0\x0d\0\0\0\x0d\0\0\0\0\0\x04\x9c\x3d".as_slice(),
-            false,
-        ),
-        (b"\x14\x01\x05\0\0\0\xf1\x0d".as_slice(), true),
-    ];
-    expect_packets(&rt, &mut player, &mut bodies, &empty)?;
-    let mime = Mime::new(Vec::from_slice(alloc, b"image/png")?)?;
-    let body = b"\x01\x02\x03\x04\x05";
-    let Scene { turn, mut bodies } = one_object(alloc, 3, 2, Some(mime), body, 1024)?;
-    player.changed(turn);
-    let one = [
-        (b"\x28\x01\x13\x76\x10".as_slice(), false),
-        (b"\x30\x01\x13".as_slice(), false),
-        (b"\x04\x01\x0C".as_slice(), false),
-        (b"\x1C\x01\x10\x74\x00".as_slice(), true),
-    ];
-    expect_packets(&rt, &mut player, &mut bodies, &one)?;
+    let mut player = played(&rt, alloc, 24, 1024, no_object(alloc, 1024)?, &EMPTY)?;
+    play_on(&rt, &mut player, image(alloc)?, &ONE)?;
     Ok(())
 }
+
+/// An object of five bytes with a MIME type.
+fn image(alloc: Global) -> Result<Scene, Refusal>
+    ensures { IfOk result (λ scene. AreBodiesFor scene.turn scene.bodies.items) }
+{
+    let mime = Mime::new(Vec::from_slice(alloc, b"image/png")?)?;
+    one_object(alloc, 3, 2, Some(mime), b"\x01\x02\x03\x04\x05", 1024)
+}
+
+/// An object of seventy bytes with these ids.
+fn long_object(alloc: Global, directory: u16, tid: u16) -> Result<Scene, Refusal>
+    ensures { IfOk result (λ scene. AreBodiesFor scene.turn scene.bodies.items) }
+{
+    one_object(alloc, directory, tid, None, &[7; 70], 1024)
+}
+
+const BEFORE: [(&[u8], bool); 5] = [
+    (b"\x08\x01\x13", false),
+    (b"\x10\x01\x13", false),
+    (b"\x24\x01\x01", false),
+    (b"\x38\x01\x13", false),
+    (b"\x00\x01\x13", false),
+];
+
+const AFTER: [(&[u8], bool); 4] = [
+    (b"\x10\x01\x13", false),
+    (b"\x20\x01\x13", false),
+    (b"\x34\x01\x05", false),
+    (b"\x08\x01\x13\x76\x10\x80\x00\x12\x00\x05\x00\x1C", false),
+];
 
 // A change inside a group of the body: the group is finished, and then the new turn begins.
 #[test]
 fn change_inside_a_group(rt: HostRuntime) -> Result<(), Fail> {
     let alloc = rt.alloc();
-    let Scene { turn, mut bodies } = one_object(alloc, 3, 2, None, &[7; 70], 1024)?;
-    let mut player = player_of(alloc, 24, 1024, turn)?;
-    let before = [
-        (b"\x08\x01\x13".as_slice(), false),
-        (b"\x10\x01\x13".as_slice(), false),
-        (b"\x24\x01\x01".as_slice(), false),
-        (b"\x38\x01\x13".as_slice(), false),
-        (b"\x00\x01\x13".as_slice(), false),
-    ];
-    expect_packets(&rt, &mut player, &mut bodies, &before)?;
-    let Scene { turn, mut bodies } = one_object(alloc, 5, 4, None, &[7; 70], 1024)?;
-    player.changed(turn);
-    let after = [
-        (b"\x10\x01\x13".as_slice(), false),
-        (b"\x20\x01\x13".as_slice(), false),
-        (b"\x34\x01\x05".as_slice(), false),
-        (
-            b"\x08\x01\x13\x76\x10\x80\x00\x12\x00\x05\x00\x1C".as_slice(),
-            false,
-        ),
-    ];
-    expect_packets(&rt, &mut player, &mut bodies, &after)?;
+    let mut player = played(&rt, alloc, 24, 1024, long_object(alloc, 3, 2)?, &BEFORE)?;
+    play_on(&rt, &mut player, long_object(alloc, 5, 4)?, &AFTER)?;
     Ok(())
 }
 
@@ -232,25 +270,33 @@ fn change_inside_a_group(rt: HostRuntime) -> Result<(), Fail> {
 // again.
 #[test]
 fn failing_read(rt: HostRuntime) -> Result<(), Fail> {
-    let alloc = rt.alloc();
-    let mime = Mime::new(Vec::from_slice(alloc, b"image/png")?)?;
-    let body = b"\x01\x02\x03\x04\x05";
-    let Scene { turn, bodies } = one_object(alloc, 3, 2, Some(mime), body, 1024)?;
-    let mut player = player_of(alloc, 24, 1024, turn)?;
+    let Scene { turn, bodies } = image(rt.alloc())?;
+    let mut player = player_of(rt.alloc(), 24, 1024, turn)?;
     let mut bodies = FailingOnce {
         bodies,
         reads_left: 0,
         failures: 0,
     };
+    play_with_a_fault(&rt, &mut player, &mut bodies)?;
+    Ok(())
+}
+
+/// The packets of a directory, a fault, and the packet of a body.
+fn play_with_a_fault(
+    rt: &impl Abort,
+    player: &mut Player,
+    bodies: &mut FailingOnce,
+) -> Result<(), Refusal>
+    requires { AreBodiesFor player.old.turn bodies.old.bodies.items }
+{
     let directory = [
         (b"\x08\x01\x13".as_slice(), false),
         (b"\x10\x01\x13".as_slice(), false),
         (b"\x24\x01\x0C".as_slice(), false),
     ];
-    expect_packets(&rt, &mut player, &mut bodies, &directory)?;
-    let failed = player.next_packet(&mut bodies);
-    assert!(rt; matches!(failed, Err(Refusal::DeviceFault)));
+    expect_packets(rt, player, bodies, &directory)?;
+    let failed = player.next_packet(bodies).err();
+    expect(rt, failed, Some(Refusal::DeviceFault));
     let body = [(b"\x3C\x01\x10\x74\x00".as_slice(), true)];
-    expect_packets(&rt, &mut player, &mut bodies, &body)?;
-    Ok(())
+    expect_packets(rt, player, bodies, &body)
 }

@@ -1,5 +1,6 @@
 //! Lines between the packets of a feed: worked rows of what is told, and when a reader is asked.
 use crate::disks::{OPENING, Server, new_disk, open, server_of};
+use crate::expecting::expect;
 use crate::packet_streams::{Flushing, Parts};
 use mot_base::{Geometry, Refusal};
 use mot_control::{Lines, Log};
@@ -59,12 +60,13 @@ fn a_put_comes_between_two_packets(rt: HostRuntime) -> Result<(), Fail> {
     let count = (packets.len() / 24) as u64;
     let put = b"put a 2 3 image/png 0102030405".as_slice();
     let (told, wanted) = new_by_hand(alloc, put, count.saturating_sub(1))?;
-    assert!(rt;
-        count > 2
-            && log.as_slice() == b"done object 2 directory 3\n".as_slice()
-            && log.as_slice() == told.as_slice()
-            && packets.as_slice() == wanted.as_slice()
+    let done = b"done object 2 directory 3\n".as_slice();
+    expect(
+        &rt,
+        (count > 2, log.as_slice(), told.as_slice()),
+        (true, done, done),
     );
+    expect(&rt, packets.as_slice(), wanted.as_slice());
     Ok(())
 }
 
@@ -117,11 +119,27 @@ fn failing_updated(alloc: Global, parts: &[&[u8]]) -> Result<Updated, Refusal> {
     updated(alloc, &mut server, parts, 1, 1)
 }
 
+/// Whether this was told, and this ended the updates.
+fn is_told(updated: Result<Updated, Refusal>, told: &[u8], end: Option<Refusal>) -> bool {
+    match updated {
+        Ok((log, _, found)) => log.as_slice() == told && found == end,
+        Err(_) => false,
+    }
+}
+
+/// How often the reader was asked.
+fn reads_of(updated: Result<Updated, Refusal>) -> Result<usize, Refusal> {
+    match updated {
+        Ok((_, reads, _)) => Ok(reads),
+        Err(refusal) => Err(refusal),
+    }
+}
+
 // What is given at each read, and what is told: a line in two parts, lines of packets, which are
 // none here, a refused command, a raw line, and two lines at once. A reader that fails ends
 // nothing.
 #[test]
-fn worked_lines(rt: HostRuntime) -> Result<(), Fail> {
+fn worked_lines(rt: HostRuntime) {
     let rows = [
         (
             [b"put a 2 3 ".as_slice(), b"", b"- 00\nwithdr", b"aw a\n"],
@@ -148,43 +166,41 @@ fn worked_lines(rt: HostRuntime) -> Result<(), Fail> {
         ),
     ];
     for (parts, told) in rows {
-        let (log, _, end) = new_updated(rt.alloc(), &parts, 1, 5)?;
-        assert_eq!(rt; (log.as_slice(), end), (told, None));
+        let is_told = is_told(new_updated(rt.alloc(), &parts, 1, 5), told, None);
+        expect(&rt, (told, is_told), (told, true));
     }
-    Ok(())
 }
 
 // A fault of the disk is told and ends it, and the line behind is not answered.
 #[test]
-fn a_device_fault_ends_it(rt: HostRuntime) -> Result<(), Fail> {
+fn a_device_fault_ends_it(rt: HostRuntime) {
     let parts = [b"put a 2 3 - 00\nlist\n".as_slice()];
-    let (log, _, end) = failing_updated(rt.alloc(), &parts)?;
-    assert_eq!(rt; log.as_slice(), b"refused 15 DeviceFault\n".as_slice());
-    assert_eq!(rt; end, Some(Refusal::DeviceFault));
-    Ok(())
+    let updated = failing_updated(rt.alloc(), &parts);
+    let fault = Some(Refusal::DeviceFault);
+    expect(
+        &rt,
+        is_told(updated, b"refused 15 DeviceFault\n", fault),
+        true,
+    );
 }
 
 // The line is read to its end, over 130 reads of 4,096 bytes, and refused; then a line follows.
 #[test]
-fn a_line_too_long_is_refused(rt: HostRuntime) -> Result<(), Fail> {
-    let alloc = rt.alloc();
+fn a_line_too_long_is_refused(rt: HostRuntime) {
     let part = [b'x'; 4_096];
-    let mut parts = Vec::from_elem(alloc, part.as_slice(), 130)?;
-    parts.push(b"\nlist\n")?;
-    let (log, _, _) = new_updated(alloc, &parts, 1, 133)?;
+    let mut parts = [part.as_slice(); 131];
+    parts[130] = b"\nlist\n";
+    let updated = new_updated(rt.alloc(), &parts, 1, 133);
     let told = b"refused 1 BadLine\ncarousel 0 1 1 0\n";
-    assert_eq!(rt; log.as_slice(), told.as_slice());
-    Ok(())
+    expect(&rt, is_told(updated, told, None), true);
 }
 
 // Before the first packet, and then behind so many, is one read; 0 counts as 1.
 #[test]
-fn reads_behind_so_many_packets(rt: HostRuntime) -> Result<(), Fail> {
-    let rows = [(0, 7), (1, 7), (2, 4), (3, 3), (6, 2), (7, 1)];
-    for (every, reads) in rows {
-        let parts = [b"list\n".as_slice(), b"", b"list\n"];
-        let updated = new_updated(rt.alloc(), &parts, every, 7)?;
-        assert_eq!(rt; updated.1, reads);
+fn reads_behind_so_many_packets(rt: HostRuntime) {
+    let parts = [b"list\n".as_slice(), b"", b"list\n"];
+    for (every, reads) in [(0, 7), (1, 7), (2, 4), (3, 3), (6, 2), (7, 1)] {
+        let updated = new_updated(rt.alloc(), &parts, every, 7);
+        expect(&rt, (every, reads_of(updated)), (every, Ok(reads)));
     }
-    Ok(())
 }

@@ -1,12 +1,12 @@
 //! Feeds: that packets come where there is memory and the disk does not fail, each of them as one
 //! write.
 use crate::disks::{Server, server_of};
+use crate::expecting::expect;
 use crate::streams::FailingWriter;
 use mot_base::Refusal;
 use mot_carousel::{Body, Command, Content, Name};
 use mot_feed::{Direct, NoUpdate, feed, send_packets};
 use std::alloc::Global;
-use std::test::Fail;
 
 fn put(alloc: Global, server: &mut Server, name: &[u8]) -> Result<(), Refusal> {
     let command = Command::Put {
@@ -40,7 +40,7 @@ fn sent(alloc: Global, most: usize, room: usize) -> Result<(Result<(), Refusal>,
 
 // A short write and a failed one end it. So the whole of a packet is offered at a time.
 #[test]
-fn each_packet_is_one_write(rt: HostRuntime) -> Result<(), Fail> {
+fn each_packet_is_one_write(rt: HostRuntime) {
     let rows = [
         (24, 1_000, Ok(()), 168),
         (23, 1_000, Err(Refusal::WriteFault), 23),
@@ -48,9 +48,8 @@ fn each_packet_is_one_write(rt: HostRuntime) -> Result<(), Fail> {
         (24, 97, Err(Refusal::WriteFault), 97),
     ];
     for (most, room, result, taken) in rows {
-        assert_eq!(rt; sent(rt.alloc(), most, room), Ok((result, taken)));
+        expect(&rt, sent(rt.alloc(), most, room), Ok((result, taken)));
     }
-    Ok(())
 }
 
 /// How many bytes a feed of so many turns wrote.
@@ -77,8 +76,7 @@ fn new_lengths(alloc: Global) -> Result<[usize; 4], Refusal> {
 }
 
 #[test]
-fn turns_are_fed_with_a_change_between(rt: HostRuntime) -> Result<(), Fail> {
+fn turns_are_fed_with_a_change_between(rt: HostRuntime) {
     let lengths = new_lengths(rt.alloc());
-    assert_eq!(rt; lengths, Ok([4 * 24, 8 * 24, 6 * 24, 0]));
-    Ok(())
+    expect(&rt, lengths, Ok([4 * 24, 8 * 24, 6 * 24, 0]));
 }

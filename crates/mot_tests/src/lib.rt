@@ -6,11 +6,11 @@ mod control;
 #[cfg(test)]
 mod disks;
 #[cfg(test)]
+mod expecting;
+#[cfg(test)]
 mod feed;
 #[cfg(test)]
 mod folder;
-#[cfg(test)]
-mod journal;
 #[cfg(test)]
 mod packet_streams;
 #[cfg(test)]
@@ -23,8 +23,6 @@ mod server;
 mod serving;
 #[cfg(test)]
 mod session;
-#[cfg(test)]
-mod store;
 #[cfg(test)]
 mod streams;
 #[cfg(test)]

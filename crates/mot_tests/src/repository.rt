@@ -3,13 +3,13 @@
 mod opening;
 
 use crate::disks::{ONE, OPENING, image_of, new_disk, old_disk};
+use crate::expecting::expect;
 use disk_store::MemoryDisk;
 use mot_base::Refusal;
 use mot_carousel::{Body, Command, Content, Done, Name};
 use mot_journal::{Geometry, Layout};
 use mot_repository::{Repository, first_fit};
 use std::alloc::Global;
-use std::test::Fail;
 
 // An open repository, or why it was refused.
 fn open(alloc: Global, disk: MemoryDisk) -> Result<Repository<MemoryDisk>, Refusal> {
@@ -74,24 +74,31 @@ fn disk_after(alloc: Global, disk: MemoryDisk, command: &Command) -> Result<Memo
     Ok(repository.into_disk())
 }
 
-// What is opened of a second put on this disk, whose gate a crash leaves as this byte.
-fn after_gate(alloc: Global, disk: MemoryDisk, byte: u8) -> Opened {
-    let mut disk = disk_after_put(alloc, disk, b"a", &[1])?;
+// An empty disk of this layout.
+fn disk_of(alloc: Global, layout: Layout) -> Result<MemoryDisk, Refusal> {
+    match layout {
+        Layout::One => old_disk(alloc, 2, 8),
+        Layout::Two => new_disk(alloc, &Geometry::default()),
+    }
+}
+
+// What is opened of a second put on such a disk, whose gate a crash leaves as this byte.
+fn after_gate(alloc: Global, layout: Layout, byte: u8) -> Opened {
+    let mut disk = disk_after_put(alloc, disk_of(alloc, layout)?, b"a", &[1])?;
     disk.stop_at(OPENING + 4);
     let disk = disk_after_put(alloc, disk, b"b", &[2])?;
     opened(alloc, image_of(alloc, &disk, &[byte])?)
 }
 
 #[test]
-fn a_crash_in_a_gate(rt: HostRuntime) -> Result<(), Fail> {
+fn a_crash_in_a_gate(rt: HostRuntime) {
     let alloc = rt.alloc();
     for (byte, directory, objects) in [(0x5A, 3, 1), (0x00, 3, 1), (0xA5, 5, 2)] {
-        let new = after_gate(alloc, new_disk(alloc, &Geometry::default())?, byte);
-        assert_eq!(rt; new, Ok((directory, objects, true, Layout::Two)));
-        let old = after_gate(alloc, old_disk(alloc, 2, 8)?, byte);
-        assert_eq!(rt; old, Ok((directory, objects, true, Layout::One)));
+        let new = after_gate(alloc, Layout::Two, byte);
+        expect(&rt, new, Ok((directory, objects, true, Layout::Two)));
+        let old = after_gate(alloc, Layout::One, byte);
+        expect(&rt, old, Ok((directory, objects, true, Layout::One)));
     }
-    Ok(())
 }
 
 // From the last extent to the first, so that each is looked for among all: byte by byte it would
@@ -103,11 +110,9 @@ fn the_gap_behind_many_extents_is_found_at_once(rt: HostRuntime) {
     for (place, extent) in extents.iter_mut().rev().enumerate() {
         extent.0 = (place as u32).wrapping_mul(MIB);
     }
-    assert_eq!(rt;
-        first_fit(&extents, 262_144, 268_435_456),
-        Some(262_144_000)
-    );
-    assert_eq!(rt; first_fit(&extents, 262_144, 262_144_000), None);
+    for (area, start) in [(268_435_456, Some(262_144_000)), (262_144_000, None)] {
+        expect(&rt, first_fit(&extents, 262_144, area), start);
+    }
 }
 
 // Three bytes of the only body, where it has five.
@@ -130,9 +135,8 @@ fn middle_of_five(alloc: Global) -> Result<[u8; 3], Refusal> {
 }
 
 #[test]
-fn a_body_is_read_back(rt: HostRuntime) -> Result<(), Fail> {
-    assert_eq!(rt; middle_of_five(rt.alloc()), Ok([2, 3, 4]));
-    Ok(())
+fn a_body_is_read_back(rt: HostRuntime) {
+    expect(&rt, middle_of_five(rt.alloc()), Ok([2, 3, 4]));
 }
 
 // What a withdrawal and a put are answered, then a migration, and then both again.
@@ -175,11 +179,14 @@ fn migrated_with_long_name(alloc: Global) -> Result<Migrated, Refusal> {
 }
 
 #[test]
-fn long_names_wait_for_layout_two(rt: HostRuntime) -> Result<(), Fail> {
-    let (answers, opened) = migrated_with_long_name(rt.alloc())?;
+fn long_names_wait_for_layout_two(rt: HostRuntime) {
     let refused = Err(Refusal::BadName);
     let gone = Err(Refusal::NoSuchName);
-    assert_eq!(rt; answers, [refused, refused, Ok(1), gone, Ok(3)]);
-    assert_eq!(rt; opened, Ok((3, 1, true, Layout::Two)));
-    Ok(())
+    let answers = [refused, refused, Ok(1), gone, Ok(3)];
+    let opened = Ok((3, 1, true, Layout::Two));
+    expect(
+        &rt,
+        migrated_with_long_name(rt.alloc()),
+        Ok((answers, opened)),
+    );
 }

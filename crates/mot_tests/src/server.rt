@@ -3,12 +3,12 @@
 mod crashes;
 
 use crate::disks::{OPENING, Server, THREE, new_disk, open};
+use crate::expecting::expect;
 use disk_store::MemoryDisk;
 use mot_base::Refusal;
 use mot_carousel::{Body, Command, Content, Name};
 use mot_server::{Refused, RunEnd, restart};
 use std::alloc::Global;
-use std::test::Fail;
 
 // Commands of a run, as `command_of` makes them: of one put there is no gap for the body.
 const COMMANDS: [(&[u8], usize); 7] = [
@@ -59,20 +59,29 @@ fn objects_on(alloc: Global, disk: MemoryDisk) -> Result<usize, Refusal> {
     Ok(seen(&open(alloc, disk)?).0)
 }
 
-// What a run came to, and what is opened of its disk.
-#[derive(Drop)]
-struct Ran {
-    end: RunEnd,
-    seen: (usize, bool),
-    left: Result<usize, Refusal>,
-}
+// What ended a run; how many marks there are, where they begin as those of the whole run; what is
+// seen of the server, and what is opened of its disk.
+type Ran = (
+    Option<Refusal>,
+    Option<usize>,
+    (usize, bool),
+    Result<usize, Refusal>,
+);
 
 fn run_on(alloc: Global, server: Server, commands: &[Command]) -> Ran {
     let mut server = server;
     let end = server.run(alloc, commands);
     let seen = seen(&server);
     let left = objects_on(alloc, server.into_disk());
-    Ran { end, seen, left }
+    (end.fault, marks_of(&end), seen, left)
+}
+
+fn marks_of(end: &RunEnd) -> Option<usize> {
+    if MARKS.starts_with(&end.done) {
+        Some(end.done.len())
+    } else {
+        None
+    }
 }
 
 // A run of commands on a new disk of which this device call fails, or none where it is 0.
@@ -94,38 +103,37 @@ fn failing_server(alloc: Global, fails_at: u64) -> Result<Server, Refusal> {
 }
 
 #[test]
-fn a_fault_ends_a_run(rt: HostRuntime) -> Result<(), Fail> {
+fn a_fault_ends_a_run(rt: HostRuntime) {
     // The first sync of the second put.
-    let ran = run_of(rt.alloc(), OPENING + 5 + 3)?;
-    assert_eq!(rt; ran.end.fault, Some(Refusal::DeviceFault));
-    assert_eq!(rt; ran.end.done.as_slice(), [true].as_slice());
-    assert_eq!(rt; (ran.seen, ran.left), ((1, true), Ok(1)));
-    Ok(())
+    let ran = run_of(rt.alloc(), OPENING + 5 + 3);
+    let fault = Some(Refusal::DeviceFault);
+    expect(&rt, ran, Ok((fault, Some(1), (1, true), Ok(1))));
 }
 
 // Where a growth is refused, as by `rt try --test --fail-alloc N`: the run's marks begin as those
 // of the whole run, and the disk has what they say, or after a fault of it one command more.
 #[test]
-fn a_refused_growth_of_a_run(rt: HostRuntime) -> Result<(), Fail> {
-    let Ok(Ran { end, left, .. }) = run_of(rt.alloc(), 0) else {
-        return Ok(());
-    };
-    let done = end.done.len();
-    assert!(rt; MARKS.starts_with(&end.done));
-    let Ok(objects) = left else {
-        return Ok(());
-    };
-    match end.fault {
-        None => assert_eq!(rt; (done, objects), (7, 2)),
-        Some(Refusal::DeviceFault) => assert!(rt;
-            OBJECTS[done..].iter().take(2).any(|it| *it == objects)
-        ),
-        fault => assert_eq!(rt;
-            (fault, objects),
-            (Some(Refusal::OutOfMemory), OBJECTS[done])
-        ),
+fn a_refused_growth_of_a_run(rt: HostRuntime) {
+    if let Ok(ran) = run_of(rt.alloc(), 0) {
+        expect(&rt, (ran, is_as_marked(ran)), (ran, true));
     }
-    Ok(())
+}
+
+fn is_as_marked((fault, done, _, left): Ran) -> bool {
+    let (Some(done), Ok(objects)) = (done, left) else {
+        return done.is_some();
+    };
+    match fault {
+        None => (done, objects) == (7, 2),
+        Some(Refusal::DeviceFault) => is_left_behind(done, objects),
+        fault => fault == Some(Refusal::OutOfMemory) && OBJECTS.get(done) == Some(&objects),
+    }
+}
+
+// Whether there are so many objects behind so many of the commands, or behind one more.
+fn is_left_behind(done: usize, objects: usize) -> bool {
+    let next = done.wrapping_add(1);
+    OBJECTS.get(done) == Some(&objects) || OBJECTS.get(next) == Some(&objects)
 }
 
 // A disk of one object.
@@ -157,17 +165,16 @@ fn packets_of_restart(
 
 // So, too, a restart: its turn is played, or it is refused, and the disk opens as before.
 #[test]
-fn a_refused_growth_of_a_restart(rt: HostRuntime) -> Result<(), Fail> {
-    let alloc = rt.alloc();
-    let Ok(disk) = disk_of_one(alloc) else {
-        return Ok(());
+fn a_refused_growth_of_a_restart(rt: HostRuntime) {
+    let Ok(disk) = disk_of_one(rt.alloc()) else {
+        return;
     };
-    match packets_of_restart(alloc, disk) {
-        Ok(packets) => assert_eq!(rt; packets, 4),
+    let packets = packets_of_restart(rt.alloc(), disk);
+    let is_as_before = match packets {
+        Ok(count) => count == 4,
         Err((refusal, objects)) => {
-            assert!(rt; matches!(refusal, Refusal::OutOfMemory | Refusal::DeviceFault));
-            assert_eq!(rt; objects, Ok(1));
+            matches!(refusal, Refusal::OutOfMemory | Refusal::DeviceFault) && objects == Ok(1)
         }
-    }
-    Ok(())
+    };
+    expect(&rt, (packets, is_as_before), (packets, true));
 }

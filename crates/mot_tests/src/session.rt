@@ -8,6 +8,7 @@ mod playing;
 mod receiving;
 mod stops;
 
+use crate::expecting::expect;
 use crate::serving::{has_packet, repeat, replies, serve_new};
 use crate::streams::{EndlessReader, FailingWriter, LineReader, NotingWriter};
 use mot_base::Refusal;
@@ -64,7 +65,7 @@ fn worked_rows(rt: HostRuntime) -> Result<(), Fail> {
     ];
     for (packet_length, input, output) in rows {
         let written = replies(rt.alloc(), packet_length, input)?;
-        assert_eq!(rt; written.as_slice(), output);
+        expect(&rt, written.as_slice(), output);
     }
     Ok(())
 }
@@ -104,8 +105,8 @@ fn lengths_and_headers(rt: HostRuntime) -> Result<(), Fail> {
     ];
     for (packet_length, bytes, at, packet, total) in rows {
         let written = raw_replies(rt.alloc(), packet_length, bytes)?;
-        assert!(rt; has_packet(&written, at, packet), "body of {bytes} bytes");
-        assert_eq!(rt; written.len(), total, "body of {bytes} bytes");
+        let found = (written.len(), has_packet(&written, at, packet));
+        expect(&rt, (bytes, found), (bytes, (total, true)));
     }
     Ok(())
 }
@@ -127,37 +128,36 @@ fn long_lines(rt: HostRuntime) -> Result<(), Fail> {
     ];
     for (digits, refused) in rows {
         let written = long_replies(rt.alloc(), digits)?;
-        assert_eq!(rt;
-            written.strip_prefix(refused.as_bytes()),
-            Some(HELLO_PACKET),
-            "{digits} digits"
-        );
+        let rest = written.strip_prefix(refused.as_bytes());
+        expect(&rt, (digits, rest), (digits, Some(HELLO_PACKET)));
     }
     Ok(())
 }
 
+/// How serving ends on a reader without end, how many reads there were, and the longest of them.
+fn end_of_endless(alloc: Global, byte: u8) -> Result<(ServeEnd, usize, usize), Refusal> {
+    let mut reader = EndlessReader {
+        byte,
+        reads: 0,
+        longest: 0,
+    };
+    let mut written = Vec::new(alloc);
+    let end = serve_new(alloc, &mut reader, &mut written, 3)?;
+    Ok((end, reader.reads, reader.longest))
+}
+
 #[test]
-fn no_more_reads_than_are_given(rt: HostRuntime) -> Result<(), Fail> {
-    let alloc = rt.alloc();
+fn no_more_reads_than_are_given(rt: HostRuntime) {
+    let fault = Some(Refusal::ReadFault);
     for (byte, lines) in [(b'x', 0), (b'\n', 3 * 4_096)] {
-        let mut reader = EndlessReader {
-            byte,
-            reads: 0,
-            longest: 0,
-        };
-        let mut written = Vec::new(alloc);
-        let end = serve_new(alloc, &mut reader, &mut written, 3)?;
-        let fault = Some(Refusal::ReadFault);
-        assert_eq!(rt; end, ServeEnd { lines, fault });
-        assert_eq!(rt; (reader.reads, reader.longest), (3, 4_096));
+        let wanted = (ServeEnd { lines, fault }, 3, 4_096);
+        expect(&rt, end_of_endless(rt.alloc(), byte), Ok(wanted));
     }
-    Ok(())
 }
 
-// Each reply is written and flushed before the next line is read.
-#[test]
-fn replies_before_the_end(rt: HostRuntime) -> Result<(), Fail> {
-    let alloc = rt.alloc();
+/// How many lines are answered and given by a reader that gives one behind each flush, and how many
+/// bytes are written.
+fn line_by_line(alloc: Global) -> Result<(u64, usize, usize), Refusal> {
     let flushes = Cell::new(0);
     let mut reader = LineReader {
         line: HELLO,
@@ -169,30 +169,46 @@ fn replies_before_the_end(rt: HostRuntime) -> Result<(), Fail> {
         flushes: &flushes,
     };
     let end = serve_new(alloc, &mut reader, &mut writer, 5)?;
-    assert_eq!(rt; (end.lines, reader.given), (5, 5));
-    assert_eq!(rt; writer.taken.len(), 5 * HELLO_PACKET.len());
-    Ok(())
+    Ok((end.lines, reader.given, writer.taken.len()))
+}
+
+// Each reply is written and flushed before the next line is read.
+#[test]
+fn replies_before_the_end(rt: HostRuntime) {
+    expect(
+        &rt,
+        line_by_line(rt.alloc()),
+        Ok((5, 5, 5 * HELLO_PACKET.len())),
+    );
+}
+
+/// How serving two lines ends on a writer of which this flush fails, how many flushes were made,
+/// and how many bytes it took.
+fn end_of_flushes(alloc: Global, fails_at: usize) -> Result<(ServeEnd, usize, usize), Refusal> {
+    let mut writer = FailingWriter {
+        fails_at,
+        ..FailingWriter::new(alloc, 1_000, 1_000)
+    };
+    let mut reader = TWO_LINES;
+    let end = serve_new(alloc, &mut reader, &mut writer, 10)?;
+    let begins = TWO_REPLIES.starts_with(writer.taken.as_slice());
+    Ok((
+        end,
+        writer.flushes,
+        if begins { writer.taken.len() } else { 0 },
+    ))
 }
 
 // The writer is flushed after each reply, and a flush may fail.
 #[test]
-fn flushes(rt: HostRuntime) -> Result<(), Fail> {
-    let alloc = rt.alloc();
+fn flushes(rt: HostRuntime) {
     let rows = [
         (0, 0, HELLO_PACKET, Some(Refusal::WriteFault)),
         (1, 1, TWO_REPLIES, Some(Refusal::WriteFault)),
         (2, 2, TWO_REPLIES, None),
     ];
     for (fails_at, lines, output, fault) in rows {
-        let mut writer = FailingWriter {
-            fails_at,
-            ..FailingWriter::new(alloc, 1_000, 1_000)
-        };
-        let mut reader = TWO_LINES;
-        let end = serve_new(alloc, &mut reader, &mut writer, 10)?;
-        assert_eq!(rt; end, ServeEnd { lines, fault }, "at {fails_at}");
-        assert_eq!(rt; writer.flushes, fails_at, "at {fails_at}");
-        assert_eq!(rt; writer.taken.as_slice(), output, "at {fails_at}");
+        let wanted = (ServeEnd { lines, fault }, fails_at, output.len());
+        expect(&rt, end_of_flushes(rt.alloc(), fails_at), Ok(wanted));
     }
-    Ok(())
 }

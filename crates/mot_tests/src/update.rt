@@ -3,6 +3,7 @@
 ghost use Rattle.std.specs.Prelude.{[], ◌∷◌, false, if◌then◌else◌};
 
 use crate::disks::{Server, new_server};
+use crate::expecting::expect;
 use mot_base::{Geometry, Refusal};
 use mot_carousel::{Body, Content, Mime, Name};
 use mot_server::Attempt;
@@ -129,7 +130,11 @@ fn each_row_is_settled(rt: HostRuntime) -> Result<(), Fail> {
         (0, 0, 0),
         (10, 0, 0),
     ];
-    assert_eq!(rt; new_steps(rt.alloc(), &rows)?.as_slice(), told.as_slice());
+    expect(
+        &rt,
+        new_steps(rt.alloc(), &rows)?.as_slice(),
+        told.as_slice(),
+    );
     Ok(())
 }
 
@@ -210,7 +215,6 @@ fn new_looks(alloc: Global) -> Result<[(u8, u8, usize); 2], Refusal> {
 }
 
 #[test]
-fn a_look_withdraws_what_is_not_known(rt: HostRuntime) -> Result<(), Fail> {
-    assert_eq!(rt; new_looks(rt.alloc()), Ok([(1, 1, 1), (0, 1, 1)]));
-    Ok(())
+fn a_look_withdraws_what_is_not_known(rt: HostRuntime) {
+    expect(&rt, new_looks(rt.alloc()), Ok([(1, 1, 1), (0, 1, 1)]));
 }

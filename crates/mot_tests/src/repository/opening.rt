@@ -1,11 +1,11 @@
 //! What disks open to.
 use super::{Opened, opened};
 use crate::disks::{new_disk, old_disk, write_at};
+use crate::expecting::expect;
 use disk_store::MemoryDisk;
 use mot_base::Refusal;
 use mot_journal::{Geometry, Layout};
 use std::alloc::Global;
-use std::test::Fail;
 
 // A head of the usual sizes.
 const HEAD: [u8; 28] = [
@@ -20,18 +20,24 @@ fn opened_with(alloc: Global, length: u64, head: &[u8]) -> Opened {
     opened(alloc, disk)
 }
 
+// Of a new disk with the default sizes.
+fn opened_new(alloc: Global) -> Opened {
+    opened(alloc, new_disk(alloc, &Geometry::default())?)
+}
+
 #[test]
-fn of_disks_without_a_head_or_cut(rt: HostRuntime) -> Result<(), Fail> {
-    let alloc = rt.alloc();
+fn of_disks_without_a_head_or_cut(rt: HostRuntime) {
     let none = Err(Refusal::NotFormatted);
-    for (length, head) in [(63, [].as_slice()), (84_032, &[]), (84_031, &HEAD)] {
-        assert_eq!(rt; opened_with(alloc, length, head), none);
+    let rows = [
+        (63, [].as_slice(), none),
+        (84_032, &[], none),
+        (84_031, &HEAD, none),
+        (84_032, &HEAD, Ok((1, 0, true, Layout::One))),
+    ];
+    for (length, head, found) in rows {
+        expect(&rt, opened_with(rt.alloc(), length, head), found);
     }
-    let whole = opened_with(alloc, 84_032, &HEAD);
-    assert_eq!(rt; whole, Ok((1, 0, true, Layout::One)));
-    let new = new_disk(alloc, &Geometry::default())?;
-    assert_eq!(rt; opened(alloc, new), Ok((1, 0, true, Layout::Two)));
-    Ok(())
+    expect(&rt, opened_new(rt.alloc()), Ok((1, 0, true, Layout::Two)));
 }
 
 // A record of layout 1 with these fields, of type 2, subtype 3, with a name of one byte.
@@ -65,10 +71,13 @@ fn opened_of(alloc: Global, layout: Layout, slots: &[[u8; 27]]) -> Result<(usize
     Ok((objects, clean))
 }
 
+// A record that sets an object whose body has one byte.
+fn set(object: u8, start: u8, name: u8) -> [u8; 27] {
+    record(2, object, start, 1, name)
+}
+
 #[test]
-fn of_both_layouts(rt: HostRuntime) -> Result<(), Fail> {
-    let alloc = rt.alloc();
-    let set = |object, start, name| record(2, object, start, 1, name);
+fn of_both_layouts(rt: HostRuntime) {
     let a = set(2, 0, b'a');
     let b = set(3, 1, b'b');
     let mut dash = a;
@@ -102,10 +111,9 @@ fn of_both_layouts(rt: HostRuntime) -> Result<(), Fail> {
     ];
     for layout in [Layout::One, Layout::Two] {
         for (slots, outcome) in rows {
-            assert_eq!(rt; opened_of(alloc, layout, slots), outcome);
+            expect(&rt, opened_of(rt.alloc(), layout, slots), outcome);
         }
     }
-    Ok(())
 }
 
 // Of a disk of one object whose selector is neither.
@@ -116,9 +124,12 @@ fn with_selector(alloc: Global, layout: Layout) -> Opened {
 }
 
 #[test]
-fn of_a_selector_that_is_none(rt: HostRuntime) -> Result<(), Fail> {
+fn of_a_selector_that_is_none(rt: HostRuntime) {
     for layout in [Layout::One, Layout::Two] {
-        assert_eq!(rt; with_selector(rt.alloc(), layout), Ok((9, 1, true, layout)));
+        expect(
+            &rt,
+            with_selector(rt.alloc(), layout),
+            Ok((9, 1, true, layout)),
+        );
     }
-    Ok(())
 }

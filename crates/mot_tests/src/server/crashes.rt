@@ -1,7 +1,8 @@
 //! The calls that tell of a crash, each stopped at each device call and crashed: what was left is
 //! given to the same call again, as that which the crash left of it.
-use super::{COMMANDS, OBJECTS, commands_of, objects_on, seen};
+use super::{COMMANDS, commands_of, is_left_behind, objects_on, seen};
 use crate::disks::{OPENING, THREE, blank_disk, image_of, new_disk, open};
+use crate::expecting::expect;
 use disk_store::MemoryDisk;
 use mot_base::Refusal;
 use mot_carousel::Command;
@@ -10,7 +11,6 @@ use mot_server::{
     run_and_restart,
 };
 use std::alloc::Global;
-use std::test::Fail;
 
 // More device calls than any of them makes.
 const NEVER: u64 = 200;
@@ -119,9 +119,7 @@ fn crashed(alloc: Global, call: Call, stop: u64) -> Result<Told, Refusal> {
 fn is_as_told(call: Call, (done, is_stopped, opened): Told) -> bool {
     match (call, opened) {
         (Call::Format, Ok((objects, packets))) => objects == 0 && packets > 0,
-        (_, Ok((objects, packets))) => {
-            packets > objects && OBJECTS.iter().skip(done).take(2).any(|it| *it == objects)
-        }
+        (_, Ok((objects, packets))) => { packets > objects && is_left_behind(done, objects) }
         (Call::Run, Err(_)) => false,
         (_, Err(refusal)) => refusal == Refusal::NotFormatted && done == 0 && is_stopped,
     }
@@ -142,19 +140,13 @@ fn device_calls(alloc: Global, call: Call, first: u64) -> Result<Option<u64>, Re
 }
 
 #[test]
-fn a_crash_at_each_device_call_of_a_formatting(rt: HostRuntime) -> Result<(), Fail> {
-    assert_eq!(rt; device_calls(rt.alloc(), Call::Format, 1)?, Some(16));
-    Ok(())
-}
-
-#[test]
-fn a_crash_at_each_device_call_of_a_run(rt: HostRuntime) -> Result<(), Fail> {
-    assert_eq!(rt; device_calls(rt.alloc(), Call::Run, OPENING + 1)?, Some(39));
-    Ok(())
-}
-
-#[test]
-fn a_crash_at_each_device_call_of_both(rt: HostRuntime) -> Result<(), Fail> {
-    assert_eq!(rt; device_calls(rt.alloc(), Call::FormatAndRun, 1)?, Some(55));
-    Ok(())
+fn a_crash_at_each_device_call(rt: HostRuntime) {
+    let rows = [
+        (Call::Format, 1, 16),
+        (Call::Run, OPENING + 1, 39),
+        (Call::FormatAndRun, 1, 55),
+    ];
+    for (call, first, count) in rows {
+        expect(&rt, device_calls(rt.alloc(), call, first), Ok(Some(count)));
+    }
 }

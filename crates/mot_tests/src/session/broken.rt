@@ -1,5 +1,6 @@
 //! Replies where the disk fails, or the writer: what is answered behind that.
 use crate::disks::{OPENING, Server, new_disk, open, reopened, server_of};
+use crate::expecting::expect;
 use crate::serving::{answers, has_packet, is_halted, last_answers, run_within};
 use crate::streams::FailingWriter;
 use mot_base::{Geometry, Refusal};
@@ -48,9 +49,9 @@ fn a_halted_server_answers_raw_lines(rt: HostRuntime) -> Result<(), Fail> {
         refused 16 Halted\nrefused 16 Halted\nrefused 1 BadLine\n\
         packet 0c011074008000120002000568656c6c6f34cf0000008561\n";
     let (written, halted, again) = answers_twice(alloc, failing(alloc, 3)?, input, b"list\n")?;
-    assert_eq!(rt; written.as_slice(), output.as_slice());
-    assert!(rt; halted);
-    assert_eq!(rt; again.as_slice(), b"carousel 0 1 1 0\n".as_slice());
+    let list = b"carousel 0 1 1 0\n".as_slice();
+    let found = (written.as_slice(), halted, again.as_slice());
+    expect(&rt, found, (output.as_slice(), true, list));
     Ok(())
 }
 
@@ -65,9 +66,9 @@ fn a_reply_ends_at_a_body_that_cannot_be_read(rt: HostRuntime) -> Result<(), Fai
         (138, "packet 24010c"),
         (194, "refused 15 DeviceFault\npacket 3c0110"),
     ] {
-        assert!(rt; has_packet(&written, at, packet), "at {at}");
+        expect(&rt, (at, has_packet(&written, at, packet)), (at, true));
     }
-    assert!(rt; written.ends_with(b" end\n"));
+    expect(&rt, written.ends_with(b" end\n"), true);
     Ok(())
 }
 
@@ -77,12 +78,15 @@ fn a_carousel_is_there_again(rt: HostRuntime) -> Result<(), Fail> {
     let alloc = rt.alloc();
     let put = b"put a 2 3 - 0102030405\n";
     let (_, halted, written) = answers_twice(alloc, server_of(alloc, 96)?, put, b"list\nturn\n")?;
-    assert!(rt; !halted);
     let list = b"carousel 0 3 3 1\nobject 2 0 2 3 5 a -\n";
-    assert!(rt; written.starts_with(list));
-    assert!(rt; has_packet(&written, list.len(), "packet 4c0127"));
-    assert!(rt; has_packet(&written, list.len() + 104, "packet 1c0110"));
-    assert!(rt; written.ends_with(b" end\n"));
+    let found = [
+        halted,
+        written.starts_with(list),
+        has_packet(&written, list.len(), "packet 4c0127"),
+        has_packet(&written, list.len() + 104, "packet 1c0110"),
+        written.ends_with(b" end\n"),
+    ];
+    expect(&rt, found, [false, true, true, true, true]);
     Ok(())
 }
 
@@ -114,7 +118,7 @@ fn behind_a_reply_that_is_broken_off(rt: HostRuntime) -> Result<(), Fail> {
     ];
     for (room, line, next, begins) in rows {
         let written = last_answers(alloc, broken_off(alloc, room, line)?, next)?;
-        assert!(rt; written.starts_with(begins), "at {room}");
+        expect(&rt, (room, written.starts_with(begins)), (room, true));
     }
     Ok(())
 }

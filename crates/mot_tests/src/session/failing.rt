@@ -1,4 +1,5 @@
 //! Readers and writers that fail at each place of a session with lines of all kinds.
+use crate::expecting::expect;
 use crate::serving::{joined, serve_new};
 use crate::streams::{FailingReader, FailingWriter};
 use mot_base::Refusal;
@@ -109,13 +110,13 @@ fn stops_at_read(alloc: Global, most: usize, reads: usize) -> Result<bool, Fail>
 #[test]
 fn writers_that_take_so_many_bytes(rt: HostRuntime) -> Result<(), Fail> {
     let alloc = rt.alloc();
-    assert_eq!(rt; bytes_of_replies(alloc, 13)?, 417);
+    expect(&rt, bytes_of_replies(alloc, 13)?, 417);
     for room in 0..417 {
-        assert!(rt; stops_at_byte(alloc, room)?, "{room} bytes");
+        expect(&rt, (room, stops_at_byte(alloc, room)?), (room, true));
     }
     let (end, written) = served_to(alloc, 417)?;
-    assert_eq!(rt; (end.lines, end.fault), (13, None));
-    assert!(rt; begin_replies(alloc, &written, 417)?);
+    let begins = begin_replies(alloc, &written, 417)?;
+    expect(&rt, (end.lines, end.fault, begins), (13, None, true));
     Ok(())
 }
 
@@ -124,10 +125,11 @@ fn readers_that_fail_at_a_read(rt: HostRuntime) -> Result<(), Fail> {
     let alloc = rt.alloc();
     for (most, reads) in [(1, 186), (7, 28)] {
         for fails_at in 0..reads {
-            assert!(rt; stops_at_read(alloc, most, fails_at)?, "read {fails_at}");
+            let stops = stops_at_read(alloc, most, fails_at)?;
+            expect(&rt, (fails_at, stops), (fails_at, true));
         }
         let (end, _) = served_until(alloc, most, reads)?;
-        assert_eq!(rt; (end.lines, end.fault), (13, None));
+        expect(&rt, (end.lines, end.fault), (13, None));
     }
     Ok(())
 }

@@ -2,13 +2,13 @@
 //! crashed, and whose writer takes so many bytes and no more: what was left is given to the same
 //! life again, as that which the crash left of it.
 use crate::disks::{THREE, blank_disk, image_of, open};
+use crate::expecting::expect;
 use crate::streams::FailingWriter;
 use disk_store::MemoryDisk;
 use mot_base::Refusal;
 use mot_server::{FirstTurn, Refused};
 use mot_session::format_serve_and_restart;
 use std::alloc::Global;
-use std::test::Fail;
 
 /// Lines of which five commands are done.
 const LINES: &[u8] = b"put a 2 3 - 0102\nput b 2 3 - 03\nlist\nput a 2 3 - 04\n\
@@ -90,56 +90,70 @@ fn disturbed(alloc: Global, stop: u64, room: usize) -> Result<Seen, Refusal> {
 
 /// How many lines were written whole that begin so.
 pub fn lines_with(written: &[u8], front: &[u8]) -> usize {
-    let whole = written.split_inclusive(|byte| *byte == b'\n');
-    whole
-        .filter(|line| line.starts_with(front) && line.ends_with(b"\n"))
-        .count()
+    let (mut count, mut start) = (0usize, 0usize);
+    for (at, byte) in written.iter().enumerate() {
+        if *byte == b'\n' {
+            let line = written.get(start..at).unwrap_or(&[]);
+            if line.starts_with(front) {
+                count = count.wrapping_add(1);
+            }
+            start = at.wrapping_add(1);
+        }
+    }
+    count
 }
 
-/// What was left has each command whose `done` was written, and at most one more. A disk that was
-/// not made need not be one.
-fn is_as_told(seen: &Seen) -> bool {
+/// Whether the directory has this id behind so many commands, or behind one more.
+fn is_behind(done: usize, directory: u16) -> bool {
+    let next = done.wrapping_add(1);
+    DIRECTORIES.get(done) == Some(&directory) || DIRECTORIES.get(next) == Some(&directory)
+}
+
+/// Whether what was left has each command whose `done` was written, and at most one more, and how
+/// many these are. A disk that was not made need not be one.
+fn is_as_told(seen: &Seen) -> (bool, usize) {
     let done = lines_with(&seen.written, b"done ");
-    match seen.left {
-        Ok((directory, packets)) => {
-            packets > 0
-                && DIRECTORIES
-                    .iter()
-                    .skip(done)
-                    .take(2)
-                    .any(|it| *it == directory)
-        }
+    let is_left = match seen.left {
+        Ok((directory, packets)) => packets > 0 && is_behind(done, directory),
         Err(refusal) => refusal == Refusal::NotFormatted && !seen.is_made,
-    }
+    };
+    (is_left, done)
 }
 
-#[test]
-fn a_crash_at_each_device_call_of_a_life(rt: HostRuntime) -> Result<(), Fail> {
-    let seen = disturbed(rt.alloc(), 0, 10_000)?;
-    assert_eq!(rt; lines_with(&seen.written, b"done "), 5);
-    assert!(rt; matches!(seen.left, Ok((9, _))));
-    let mut last = 0;
-    for stop in 1..200 {
-        let seen = disturbed(rt.alloc(), stop, 10_000)?;
-        assert!(rt; is_as_told(&seen), "stopped at device call {stop}");
-        if lines_with(&seen.written, b"done ") == 5
-            && lines_with(&seen.written, b"refused 15 ") == 0
-        {
-            break;
+/// The same of a life that is disturbed so, and how many faults of the disk were told.
+fn told_of(alloc: Global, stop: u64, room: usize) -> Result<(bool, usize, usize), Refusal> {
+    let seen = disturbed(alloc, stop, room)?;
+    let (is_as_told, done) = is_as_told(&seen);
+    Ok((is_as_told, done, lines_with(&seen.written, b"refused 15 ")))
+}
+
+/// How many device calls a life makes at least, if after a crash at each all is as it was told.
+fn device_calls(alloc: Global) -> Result<Option<u64>, Refusal> {
+    for stop in 1..200u64 {
+        let (is_as_told, done, faults) = told_of(alloc, stop, 10_000)?;
+        if !is_as_told {
+            return Ok(None);
         }
-        last = stop;
+        if done == 5 && faults == 0 {
+            return Ok(stop.checked_sub(1));
+        }
     }
-    // So many device calls does it make at least.
-    assert!(rt; 40 < last && last < 199);
-    Ok(())
+    Ok(None)
 }
 
 #[test]
-fn a_life_whose_replies_are_broken_off(rt: HostRuntime) -> Result<(), Fail> {
+fn a_crash_at_each_device_call_of_a_life(rt: HostRuntime) {
+    expect(&rt, told_of(rt.alloc(), 0, 10_000), Ok((true, 5, 0)));
+    let calls = device_calls(rt.alloc());
+    let are_many = matches!(calls, Ok(Some(41..199)));
+    expect(&rt, (calls, are_many), (calls, true));
+}
+
+#[test]
+fn a_life_whose_replies_are_broken_off(rt: HostRuntime) {
     for step in 0..46 {
-        let room = 11 * step;
-        let seen = disturbed(rt.alloc(), 0, room)?;
-        assert!(rt; is_as_told(&seen), "broken off behind {room} bytes");
+        let told = told_of(rt.alloc(), 0, 11 * step);
+        let is_as_told = matches!(told, Ok((true, _, _)));
+        expect(&rt, (told, is_as_told), (told, true));
     }
-    Ok(())
 }

@@ -1,4 +1,5 @@
 //! Commands at the limits of their numbers and lengths.
+use crate::expecting::expect;
 use crate::serving::{joined, repeat, replies, replies_of};
 use mot_base::Geometry;
 use std::alloc::Global;
@@ -14,7 +15,7 @@ fn longest_object_line(rt: HostRuntime) -> Result<(), Fail> {
     let begins = b"done object 2 directory 3\ncarousel 0 3 3 1\nobject 2 0 63 511 1 ";
     let output = joined(alloc, &[begins, &name, b" ", &mime, b"\n"])?;
     let written = replies(alloc, 24, &input)?;
-    assert_eq!(rt; written.as_slice(), output.as_slice());
+    expect(&rt, written.as_slice(), output.as_slice());
     Ok(())
 }
 
@@ -31,7 +32,6 @@ fn puts(alloc: Global, count: u16) -> Result<Vec<u8>, Fail> {
 // As many objects as the geometry has: 16 by default, 250 at most.
 #[test]
 fn greatest_number_of_objects(rt: HostRuntime) -> Result<(), Fail> {
-    let alloc = rt.alloc();
     let rows = [
         (
             16,
@@ -42,18 +42,24 @@ fn greatest_number_of_objects(rt: HostRuntime) -> Result<(), Fail> {
             "directory 501\nrefused 11 TooManyObjects\ndone object 502 directory 503\n",
         ),
     ];
-    assert_eq!(rt; Geometry::default().objects, 16);
+    expect(&rt, Geometry::default().objects, 16);
     for (objects, output) in rows {
-        let geometry = Geometry {
-            objects,
-            ..Geometry::default()
-        };
-        let mut input = puts(alloc, objects)?;
-        input.extend_from_slice(b"put other 2 3 - 00\nreplace n7 2 3 - 00\n")?;
-        let written = replies_of(alloc, &geometry, &input)?;
-        assert!(rt; written.ends_with(output.as_bytes()), "{objects}");
+        let written = replies_to_puts(rt.alloc(), objects)?;
+        let ends_so = written.ends_with(output.as_bytes());
+        expect(&rt, (objects, ends_so), (objects, true));
     }
     Ok(())
+}
+
+/// What is answered to so many puts where there may be so many objects, and to one more.
+fn replies_to_puts(alloc: Global, objects: u16) -> Result<Vec<u8>, Fail> {
+    let geometry = Geometry {
+        objects,
+        ..Geometry::default()
+    };
+    let mut input = puts(alloc, objects)?;
+    input.extend_from_slice(b"put other 2 3 - 00\nreplace n7 2 3 - 00\n")?;
+    replies_of(alloc, &geometry, &input)
 }
 
 #[test]
@@ -67,7 +73,7 @@ fn versions(rt: HostRuntime) -> Result<(), Fail> {
         carousel 0 513 513 1\nobject 512 255 2 3 1 a -\n\
         done object 514 directory 515\n\
         carousel 0 515 515 1\nobject 514 0 2 3 1 a -\n";
-    assert!(rt; written.ends_with(output.as_slice()));
+    expect(&rt, written.ends_with(output.as_slice()), true);
     Ok(())
 }
 
@@ -78,6 +84,6 @@ fn a_body_that_no_gap_holds(rt: HostRuntime) -> Result<(), Fail> {
     let digits = repeat(alloc, b"55", 65_537)?;
     let line = joined(alloc, &[b"put a 2 3 - ", &digits])?;
     let written = replies(alloc, 24, &line)?;
-    assert_eq!(rt; written.as_slice(), b"refused 12 NoRoom\n".as_slice());
+    expect(&rt, written.as_slice(), b"refused 12 NoRoom\n".as_slice());
     Ok(())
 }

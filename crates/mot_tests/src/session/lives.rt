@@ -2,12 +2,12 @@
 //! the crash left, and the next one begins on that. Each device call of a life is stopped.
 use super::life::lines_with;
 use crate::disks::{Server, THREE, copy_of, image_of, new_disk};
+use crate::expecting::expect;
 use disk_store::MemoryDisk;
 use mot_base::Refusal;
 use mot_server::{Restarted, restart};
 use mot_session::serve_and_restart;
 use std::alloc::Global;
-use std::test::Fail;
 
 /// Lines of which two commands are done, each of which takes one id for the directory.
 const LINES: &[u8] = b"period 5\nlist\nnext 1\nperiod 6\n";
@@ -98,12 +98,11 @@ fn is_as_told(alloc: Global, stop: u64) -> Result<bool, Refusal> {
     Ok(true)
 }
 
+// At none, and at each behind the four calls of opening and the first turn.
 #[test]
-fn three_lives_each_stopped_at_a_device_call(rt: HostRuntime) -> Result<(), Fail> {
-    assert!(rt; is_as_told(rt.alloc(), 0)?, "stopped at none");
-    // Opening and the first turn make four calls.
+fn three_lives_each_stopped_at_a_device_call(rt: HostRuntime) {
+    expect(&rt, is_as_told(rt.alloc(), 0), Ok(true));
     for stop in 5..20 {
-        assert!(rt; is_as_told(rt.alloc(), stop)?, "stopped at call {stop}");
+        expect(&rt, (stop, is_as_told(rt.alloc(), stop)), (stop, Ok(true)));
     }
-    Ok(())
 }

@@ -1,6 +1,7 @@
 //! The packets of `next` and `turn` lines.
 use super::EMPTY_TURN;
 use crate::disks::{Server, server_of};
+use crate::expecting::expect;
 use crate::serving::{has_packet, play, play_turn, replies_of, serve_new};
 use crate::streams::CountingWriter;
 use mot_base::{Geometry, Refusal};
@@ -115,9 +116,12 @@ const ROWS: [Row; 5] = [
 
 /// Whether each of these packets begins at its place.
 fn has_packets(written: &[u8], packets: &[(usize, &str)]) -> bool {
-    packets
-        .iter()
-        .all(|(at, packet)| has_packet(written, *at, packet))
+    for (at, packet) in packets {
+        if !has_packet(written, *at, packet) {
+            return false;
+        }
+    }
+    true
 }
 
 #[test]
@@ -129,11 +133,8 @@ fn played_packets(rt: HostRuntime) -> Result<(), Fail> {
             ..Geometry::default()
         };
         let written = replies_of(rt.alloc(), &geometry, input)?;
-        assert_eq!(rt;
-            (written.len(), written.ends_with(b" end\n")),
-            (total, ends_turn)
-        );
-        assert!(rt; has_packets(&written, packets), "reply of {total} bytes");
+        let found = (has_packets(&written, packets), written.ends_with(b" end\n"));
+        expect(&rt, (written.len(), found), (total, (true, ends_turn)));
     }
     Ok(())
 }
@@ -158,31 +159,24 @@ fn turn_and_ends(alloc: Global, server: Server) -> (Result<usize, Refusal>, [Opt
 // as a whole, or it is refused with one of its packets played; and each request of a packet is
 // answered.
 #[test]
-fn a_refused_growth_of_a_turn(rt: HostRuntime) -> Result<(), Fail> {
-    let alloc = rt.alloc();
-    let Ok(server) = server_of(alloc, 24) else {
-        return Ok(());
-    };
-    let (turn, ends) = turn_and_ends(alloc, server);
-    assert!(rt; matches!(turn, Ok(2) | Err(Refusal::OutOfMemory)));
-    let (odd, even) = (Some(turn.is_err()), Some(turn.is_ok()));
-    assert_eq!(rt; ends, [odd, even, odd, even]);
-    Ok(())
+fn a_refused_growth_of_a_turn(rt: HostRuntime) {
+    if let Ok(server) = server_of(rt.alloc(), 24) {
+        let (turn, ends) = turn_and_ends(rt.alloc(), server);
+        let (odd, even) = (Some(turn.is_err()), Some(turn.is_ok()));
+        let is_whole = matches!(turn, Ok(2) | Err(Refusal::OutOfMemory));
+        expect(&rt, (is_whole, ends), (true, [odd, even, odd, even]));
+    }
 }
 
 // So, too, each `next` and `turn` line, where the first growth of serving was not refused.
 #[test]
-fn a_refused_growth_of_serving(rt: HostRuntime) -> Result<(), Fail> {
+fn a_refused_growth_of_serving(rt: HostRuntime) {
     let mut reader = b"turn\nnext 1\nturn\nnext 2\nlist\n".as_slice();
     let mut writer = CountingWriter { count: 0 };
-    let Ok(end) = serve_new(rt.alloc(), &mut reader, &mut writer, 10) else {
-        return Ok(());
-    };
-    if end.fault == Some(Refusal::OutOfMemory) {
-        assert_eq!(rt; writer.count, 0);
-    } else {
-        assert_eq!(rt; end.lines, 5);
-        assert_eq!(rt; writer.count, 3 * EMPTY_TURN.len() + EMPTY_LIST.len());
+    if let Ok(end) = serve_new(rt.alloc(), &mut reader, &mut writer, 10) {
+        let is_refused = end.fault == Some(Refusal::OutOfMemory);
+        let whole = (5, 3 * EMPTY_TURN.len() + EMPTY_LIST.len());
+        let wanted = if is_refused { (end.lines, 0) } else { whole };
+        expect(&rt, (end.lines, writer.count), wanted);
     }
-    Ok(())
 }

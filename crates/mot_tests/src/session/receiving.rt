@@ -1,5 +1,6 @@
 //! What a receiver of our own makes of turns, and of packets behind a withdrawal.
 use crate::disks::{Server, new_server};
+use crate::expecting::expect;
 use crate::receiver::{Receiver, received_turn};
 use crate::serving::{answers, joined, play};
 use mot_base::{Geometry, Refusal};
@@ -83,8 +84,8 @@ fn longest_body(rt: HostRuntime) -> Result<(), Fail> {
     let body = bytes_of(alloc, 262_144)?;
     let receiver = received_of(alloc, body.as_slice())?;
     let expected = joined(alloc, &[&DIRECTORY, b"\x74\0\x02", &body])?;
-    assert_eq!(rt; receiver.groups, 1 + 4_096);
-    assert!(rt; receiver.entities.as_slice() == expected.as_slice());
+    let is_expected = receiver.entities.as_slice() == expected.as_slice();
+    expect(&rt, (receiver.groups, is_expected), (1 + 4_096, true));
     Ok(())
 }
 
@@ -154,6 +155,6 @@ fn new_directories_follow(alloc: Global) -> Result<bool, Fail> {
 // Each of 26 objects goes in the middle of its group: the group ends, and the directory follows.
 #[test]
 fn withdrawn_under_way(rt: HostRuntime) -> Result<(), Fail> {
-    assert!(rt; new_directories_follow(rt.alloc())?);
+    expect(&rt, new_directories_follow(rt.alloc())?, true);
     Ok(())
 }

@@ -1,5 +1,6 @@
 //! Device calls that fail, each in its turn, and crashes: what is opened of what they leave.
 use crate::disks::{ONE, OPENING, Server, THREE, copy_of, image_of, new_disk, old_disk, open};
+use crate::expecting::expect;
 use crate::receiver::received_turn;
 use crate::serving::{answers, is_clean, is_of_layout_two, migrate};
 use disk_store::MemoryDisk;
@@ -398,7 +399,11 @@ fn what_is_shown(rt: HostRuntime) -> Result<(), Fail> {
         ),
     ];
     for (place, text) in rows {
-        assert!(rt; begins_with(&texts, place, text), "behind {place}");
+        expect(
+            &rt,
+            (place, begins_with(&texts, place, text)),
+            (place, true),
+        );
     }
     Ok(())
 }

@@ -1,6 +1,6 @@
 use Rattle.std.proofs.Common.{length}
-use Rattle.mot_tests.proofs.ThreeCalls.{three_calls}
-use Rattle.mot_tests.proofs.store.write_sync_write.Goals as goal
+use Rattle.mot_disk_tests.proofs.ThreeCalls.{three_calls}
+use Rattle.mot_disk_tests.proofs.store.write_sync_write.Goals as goal
 
 pub returns-in_err-write-2-clause-any_moment : goal.returns-in_err-write-2-clause-any_moment
 returns-in_err-write-2-clause-any_moment g c = λ honest.

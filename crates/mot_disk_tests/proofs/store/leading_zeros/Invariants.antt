@@ -1,5 +1,5 @@
 use Rattle.std.proofs.Common.{◌≡◌, ◌-◌, ◌<◌, ◌≤◌, ℕ, slice_index}
-use Rattle.mot_tests.proofs.store.leading_zeros.Given as goal
+use Rattle.mot_disk_tests.proofs.store.leading_zeros.Given as goal
 
 abbrev pub invariant-loop-n : goal.invariant-loop-n
 invariant-loop-n g l =

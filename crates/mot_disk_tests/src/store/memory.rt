@@ -2,10 +2,10 @@
 ghost use Rattle.std.specs.Prelude.{◌≡◌, ◌≤◌, IfOk};
 ghost use Rattle.disk_store.specs.Memory.{memory_state};
 
-use super::{answers, bytes_of, copy_byte, leading_zeros, write_sync_write};
+use super::{answers, bytes_of, write_sync_write};
+use crate::expecting::expect;
 use disk_store::{Disk, DiskFault, MemoryDisk};
 use std::alloc::Global;
-use std::test::Fail;
 
 // A function below that holds a disk has few ways out: at each, its end is proved anew.
 
@@ -26,9 +26,8 @@ fn calls_of_new(alloc: Global) -> Result<(u64, [u8; 8], u64), DiskFault> {
 }
 
 #[test]
-fn a_new_disk_has_zeros(rt: HostRuntime) -> Result<(), Fail> {
-    assert_eq!(rt; calls_of_new(rt.alloc())?, (0, [0; 8], 1));
-    Ok(())
+fn a_new_disk_has_zeros(rt: HostRuntime) {
+    expect(&rt, calls_of_new(rt.alloc()), Ok((0, [0; 8], 1)));
 }
 
 // No machine has this much memory.
@@ -79,8 +78,7 @@ fn crashed(alloc: Global, choices: &[u8]) -> Result<(u64, [u8; 8], [u8; 8], [u8;
 }
 
 #[test]
-fn a_crash_leaves_the_choices_in_turn(rt: HostRuntime) -> Result<(), Fail> {
-    let alloc = rt.alloc();
+fn a_crash_leaves_the_choices_in_turn(rt: HostRuntime) {
     let rows: [(&[u8], [u8; 8]); 8] = [
         (&[], [10, 11, 12, 13, 14, 15, 16, 17]),
         (&[0x00], [10, 11, 0, 0, 14, 0, 16, 17]),
@@ -94,9 +92,12 @@ fn a_crash_leaves_the_choices_in_turn(rt: HostRuntime) -> Result<(), Fail> {
     // All that is left is synced, and the disk is as it was.
     let kept = [10, 11, 1, 2, 14, 3, 16, 17];
     for (choices, image) in rows {
-        assert_eq!(rt; crashed(alloc, choices)?, (0, image, image, kept));
+        expect(
+            &rt,
+            crashed(rt.alloc(), choices),
+            Ok((0, image, image, kept)),
+        );
     }
-    Ok(())
 }
 
 // What a crash leaves of the disk above, synced.
@@ -109,10 +110,9 @@ fn left_of_synced(alloc: Global) -> Result<[u8; 8], DiskFault> {
 }
 
 #[test]
-fn a_sync_makes_a_crash_leave_what_is_read(rt: HostRuntime) -> Result<(), Fail> {
-    let left = left_of_synced(rt.alloc())?;
-    assert_eq!(rt; left, [10, 11, 1, 2, 14, 3, 16, 17]);
-    Ok(())
+fn a_sync_makes_a_crash_leave_what_is_read(rt: HostRuntime) {
+    let left = left_of_synced(rt.alloc());
+    expect(&rt, left, Ok([10, 11, 1, 2, 14, 3, 16, 17]));
 }
 
 // A sync of a disk of 8 bytes, and then a write and a sync that fail: whether they succeed, and the
@@ -137,11 +137,10 @@ fn failed_twice(alloc: Global) -> Result<((bool, [u8; 8], bool), [u8; 8]), DiskF
 }
 
 #[test]
-fn a_failed_write_is_loose_and_a_failed_sync_does_nothing(rt: HostRuntime) -> Result<(), Fail> {
-    let (failed, left) = failed_twice(rt.alloc())?;
-    assert_eq!(rt; failed, (false, [10, 11, 1, 2, 14, 3, 16, 17], false));
-    assert_eq!(rt; left, [10, 11, 1, 2, 14, 3, 0xFF, 17]);
-    Ok(())
+fn a_failed_write_is_loose_and_a_failed_sync_does_nothing(rt: HostRuntime) {
+    let failed = (false, [10, 11, 1, 2, 14, 3, 16, 17], false);
+    let left = [10, 11, 1, 2, 14, 3, 0xFF, 17];
+    expect(&rt, failed_twice(rt.alloc()), Ok((failed, left)));
 }
 
 // Which calls succeed of a new disk whose call k fails, or whose calls from k on do, and how many it
@@ -159,15 +158,25 @@ fn planned(alloc: Global, k: u64, stops: bool) -> Result<([bool; 7], u64), DiskF
     Ok((answers, disk.calls()))
 }
 
-#[test]
-fn the_planned_calls_fail(rt: HostRuntime) -> Result<(), Fail> {
-    for k in 1..8 {
-        let failing = [1, 2, 3, 4, 5, 6, 7].map(|call| call != k);
-        assert_eq!(rt; planned(rt.alloc(), k, false)?, (failing, 7), "fail_at {k}");
-        let stopping = [1, 2, 3, 4, 5, 6, 7].map(|call| call < k);
-        assert_eq!(rt; planned(rt.alloc(), k, true)?, (stopping, 7), "stop_at {k}");
+// Which of the calls succeed where call k fails, or each from it on.
+fn answers_where(k: u64, stops: bool) -> [bool; 7] {
+    let mut answers = [true; 7];
+    let mut call = 0u64;
+    for answer in &mut answers {
+        call = call.wrapping_add(1);
+        *answer = call < k || (call > k && !stops);
     }
-    Ok(())
+    answers
+}
+
+#[test]
+fn the_planned_calls_fail(rt: HostRuntime) {
+    for k in 1..8 {
+        let failing = planned(rt.alloc(), k, false);
+        expect(&rt, failing, Ok((answers_where(k, false), 7)));
+        let stopping = planned(rt.alloc(), k, true);
+        expect(&rt, stopping, Ok((answers_where(k, true), 7)));
+    }
 }
 
 // Both plans stand beside each other, and a later one takes the place of an earlier one of its
@@ -182,12 +191,9 @@ fn planned_twice(alloc: Global) -> Result<[bool; 7], DiskFault> {
 }
 
 #[test]
-fn plans_stand_beside_each_other(rt: HostRuntime) -> Result<(), Fail> {
-    assert_eq!(rt;
-        planned_twice(rt.alloc())?,
-        [true, true, false, true, true, false, false]
-    );
-    Ok(())
+fn plans_stand_beside_each_other(rt: HostRuntime) {
+    let answers = [true, true, false, true, true, false, false];
+    expect(&rt, planned_twice(rt.alloc()), Ok(answers));
 }
 
 // The bytes of a disk behind a write, a sync and a write, and what a crash leaves of it.
@@ -201,23 +207,18 @@ fn torn(alloc: Global) -> Result<([u8; 8], [u8; 8]), DiskFault> {
 }
 
 #[test]
-fn a_second_write_tears_what_the_sync_made_firm(rt: HostRuntime) -> Result<(), Fail> {
-    let (bytes, left) = torn(rt.alloc())?;
-    assert_eq!(rt; bytes, [1, 2, 4, 5, 0, 0, 0, 0]);
-    assert_eq!(rt; left, [1, 2, 3, 0, 0, 0, 0, 0]);
-    Ok(())
+fn a_second_write_tears_what_the_sync_made_firm(rt: HostRuntime) {
+    let (bytes, left) = ([1, 2, 4, 5, 0, 0, 0, 0], [1, 2, 3, 0, 0, 0, 0, 0]);
+    expect(&rt, torn(rt.alloc()), Ok((bytes, left)));
 }
 
 // Where a growth is refused, as by `rt try --test --fail-alloc N`, what could not be recorded
 // changes nothing, and a read takes no memory.
 #[test]
-fn a_refused_growth_changes_nothing(rt: HostRuntime) -> Result<(), Fail> {
-    let Some(mut disk) = MemoryDisk::new(rt.alloc(), 8) else {
-        return Ok(());
-    };
-    let are_told = are_told(rt.alloc(), &mut disk);
-    assert!(rt; are_told);
-    Ok(())
+fn a_refused_growth_changes_nothing(rt: HostRuntime) {
+    if let Some(mut disk) = MemoryDisk::new(rt.alloc(), 8) {
+        expect(&rt, are_told(rt.alloc(), &mut disk), true);
+    }
 }
 
 // Whether a disk of 8 bytes reads as what was written with success, and a crash leaves what was
@@ -284,12 +285,12 @@ fn after_struck_write(alloc: Global, syncs: u8) -> Result<[u8; 8], DiskFault> {
 }
 
 #[test]
-fn a_struck_write_is_recorded_however_full_the_record_is(rt: HostRuntime) -> Result<(), Fail> {
+fn a_struck_write_is_recorded_however_full_the_record_is(rt: HostRuntime) {
+    let wanted = Ok([0, 0, 0, 0xFF, 0, 0, 0, 0]);
     for syncs in 0..41 {
-        let left = after_struck_write(rt.alloc(), syncs)?;
-        assert_eq!(rt; left, [0, 0, 0, 0xFF, 0, 0, 0, 0], "{syncs} syncs");
+        let left = after_struck_write(rt.alloc(), syncs);
+        expect(&rt, (syncs, left), (syncs, wanted));
     }
-    Ok(())
 }
 
 // The first and the last byte of a disk that is written whole, synced, and left by a crash.
@@ -328,12 +329,9 @@ fn ends_of(disk: &mut MemoryDisk) -> Result<(u8, u8), DiskFault> {
 
 // The longest write of the layers above: the longest body.
 #[test]
-fn a_long_write_is_read_back(rt: HostRuntime) -> Result<(), Fail> {
-    assert_eq!(rt;
-        ends_of_whole_write(rt.alloc(), 262_144, 0x5A)?,
-        (0x5A, 0x5A)
-    );
-    Ok(())
+fn a_long_write_is_read_back(rt: HostRuntime) {
+    let ends = ends_of_whole_write(rt.alloc(), 262_144, 0x5A);
+    expect(&rt, ends, Ok((0x5A, 0x5A)));
 }
 
 // The length of a disk of no bytes behind each call, and of what a crash leaves of it.
@@ -349,9 +347,8 @@ fn lengths_of_none(alloc: Global) -> Result<(u64, u64), DiskFault> {
 }
 
 #[test]
-fn a_disk_of_no_bytes_is_a_disk(rt: HostRuntime) -> Result<(), Fail> {
-    assert_eq!(rt; lengths_of_none(rt.alloc())?, (0, 0));
-    Ok(())
+fn a_disk_of_no_bytes_is_a_disk(rt: HostRuntime) {
+    expect(&rt, lengths_of_none(rt.alloc()), Ok((0, 0)));
 }
 
 // How many calls are recorded of a disk of 8 bytes with room for two: before them, and behind them.
@@ -369,7 +366,6 @@ fn calls_with_room(alloc: Global) -> Result<(u64, u64), DiskFault> {
 }
 
 #[test]
-fn a_reserved_record_takes_the_calls(rt: HostRuntime) -> Result<(), Fail> {
-    assert_eq!(rt; calls_with_room(rt.alloc())?, (0, 2));
-    Ok(())
+fn a_reserved_record_takes_the_calls(rt: HostRuntime) {
+    expect(&rt, calls_with_room(rt.alloc()), Ok((0, 2)));
 }

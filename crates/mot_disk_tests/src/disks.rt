@@ -1,0 +1,54 @@
+//! Disks in memory.
+use disk_store::{Disk, MemoryDisk};
+use mot_base::Refusal;
+use mot_journal::{Geometry, format};
+use std::alloc::Global;
+
+/// Sizes for one object and a body of 8 bytes: 3 slots in a half of layout 2, 6 of layout 1.
+pub const ONE: Geometry = Geometry {
+    objects: 1,
+    data_area: 8,
+    segment_size: 64,
+    address: 1,
+    packet_length: 24,
+};
+
+/// A blank disk of this geometry's length.
+pub fn blank_disk(alloc: Global, geometry: &Geometry) -> Result<MemoryDisk, Refusal> {
+    MemoryDisk::new(alloc, geometry.length()).ok_or(Refusal::OutOfMemory)
+}
+
+/// A disk of this geometry that was just made.
+pub fn new_disk(alloc: Global, geometry: &Geometry) -> Result<MemoryDisk, Refusal> {
+    let mut disk = blank_disk(alloc, geometry)?;
+    format(&mut disk, geometry)?;
+    Ok(disk)
+}
+
+/// Writes these bytes, where the disk has the place.
+pub fn write_at(disk: &mut MemoryDisk, at: u16, bytes: &[u8]) -> Result<(), Refusal> {
+    let at = u64::from(at);
+    if bytes.len() > 512 || at + bytes.len() as u64 > disk.len() {
+        return Err(Refusal::DeviceFault);
+    }
+    disk.write(at, bytes).or(Err(Refusal::DeviceFault))
+}
+
+/// An empty disk of layout 1, with segments of 64 bytes and packets of 24: a head, and halves
+/// without records.
+pub fn old_disk(alloc: Global, objects: u8, data_area: u32) -> Result<MemoryDisk, Refusal> {
+    let geometry = Geometry {
+        objects: u16::from(objects),
+        data_area,
+        ..ONE
+    };
+    let [highest, higher, high, low] = data_area.to_be_bytes();
+    let head = [
+        0x4D, 0x4F, 0x54, 0x43, 0x41, 0x52, 0x30, 0x31, 0, 0, 0, 0, 0, 0, 0, 0, 0, objects, 0, 64,
+        0, 1, 0, 24, highest, higher, high, low,
+    ];
+    let mut disk = blank_disk(alloc, &geometry)?;
+    write_at(&mut disk, 0, &head)?;
+    disk.sync().or(Err(Refusal::DeviceFault))?;
+    Ok(disk)
+}
