@@ -1,13 +1,15 @@
 //! The command line of the program.
-ghost use Rattle.std.specs.Prelude.{◌≡◌, [], false, IfOk};
-ghost use Rattle.clap.specs.Words.{App, Rule, app_of, new_app, rule_of, with_rule, with_subcommand};
+ghost use Rattle.std.specs.Prelude.{◌≡◌, [], false, map, IfErr, IfOk};
+ghost use Rattle.clap.specs.Words.{App, HasKind, HasMatchesOf, Rule, app_of, fault_of, new_app};
+ghost use Rattle.clap.specs.Words.{rule_of, with_rule, with_subcommand};
 ghost use Rattle.clap.specs.declared.builder.Command.TheViews.{out-Command};
 ghost use Rattle.mot_program.specs.Command.{disk_app, disk_rule, format_app, memory_app};
 ghost use Rattle.mot_program.specs.Command.{option_rule, program_app, program_top, with_options};
 ghost use Rattle.mot_program.specs.Inner.Made.{IsMade};
 
-use clap::{Arg, ArgAction, Command, value_parser};
+use clap::{Arg, ArgAction, ArgMatches, Command, Error, value_parser};
 use std::alloc::{AllocError, Global};
+use std::convert::AsStr;
 
 /// What the top help says below the list of commands.
 const NOTES: &str = "\
@@ -23,8 +25,19 @@ docs/OPERATING.md.
 Exit status: 0 where all was done that was asked for, 1 after a refusal, which standard error or
 the log of sync tells, 2 where a word is wrong.";
 
+/// What the words match in the program's command line.
+pub(crate) fn matches_of<'a, S: AsStr>(
+    alloc: Global,
+    words: &'a [S],
+) -> Result<ArgMatches<'a>, Error>
+    ensures matches { IfOk result (HasMatchesOf program_app (map S.text words.now)) }
+    ensures kinds { IfErr result (HasKind (fault_of program_app (map S.text words.now))) }
+{
+    command(alloc)?.try_get_matches_from(words)
+}
+
 /// The program's command line.
-pub(crate) fn command<'a>(alloc: Global) -> Result<Command<'a>, AllocError>
+fn command<'a>(alloc: Global) -> Result<Command<'a>, AllocError>
     ensures { IfOk result (λ command. app_of command ≡ program_app) }
 {
     let command = with_command(top(alloc), memory(alloc));
@@ -79,12 +92,12 @@ fn format<'a>(alloc: Global) -> Result<Command<'a>, AllocError>
     ensures { IsMade format_app result }
 {
     let about = "Make a disk, and its file where there is none";
-    let after = option(
+    with_option(
+        add_options(alloc, on_disk(alloc, "format", about)),
         alloc,
         "after",
         "Transport id behind which the ids begin, 0 to 65535 [default: 0]",
-    );
-    with_arg(add_options(alloc, on_disk(alloc, "format", about)), after)
+    )
 }
 
 /// A command on the file of a disk.
@@ -101,32 +114,49 @@ fn add_options<'a>(
 ) -> Result<Command<'a>, AllocError>
     ensures { (app : App) → IsMade app command.entry → IsMade (with_options app) result }
 {
-    let objects = option(alloc, "objects", "Objects at most, 1 to 250 [default: 16]");
-    let command = with_arg(command, objects);
-    let data = option(
+    let command = with_option(
+        command,
+        alloc,
+        "objects",
+        "Objects at most, 1 to 250 [default: 16]",
+    );
+    let command = with_option(
+        command,
         alloc,
         "data",
         "Bytes for all bodies, 1 to 268435456 [default: 65536]",
     );
-    let command = with_arg(command, data);
-    let segment = option(
+    let command = with_option(
+        command,
         alloc,
         "segment",
         "Bytes of a segment, 64 to 8189 [default: 1024]",
     );
-    let command = with_arg(command, segment);
-    let address = option(
+    let command = with_option(
+        command,
         alloc,
         "address",
         "Address of the packets, 1 to 1023 [default: 1]",
     );
-    let command = with_arg(command, address);
-    let packet = option(
+    with_option(
+        command,
         alloc,
         "packet",
         "Bytes of a packet: 24, 48, 72 or 96 [default: 96]",
-    );
-    with_arg(command, packet)
+    )
+}
+
+/// A command, where there was memory for it, with one more option that is a whole number.
+fn with_option<'a>(
+    command: Result<Command<'a>, AllocError>,
+    alloc: Global,
+    name: &'a str,
+    help: &'a str,
+) -> Result<Command<'a>, AllocError>
+    ensures { (app : App) → IsMade app command.entry
+        → IsMade (with_rule app (option_rule name.entry.now)) result }
+{
+    with_arg(command, option(alloc, name, help))
 }
 
 /// A command, where there was memory for it, with one more argument.
@@ -151,7 +181,13 @@ fn with_command<'a>(
     ensures { (app sub : App) → IsMade app command.entry → IsMade sub below.entry
         → IsMade (with_subcommand app sub.top) result }
 {
-    command?.subcommand(below?)
+    match command {
+        Ok(command) => match below {
+            Ok(below) => command.subcommand(below),
+            Err(AllocError) => Err(AllocError),
+        },
+        Err(AllocError) => Err(AllocError),
+    }
 }
 
 /// A command that has only its name and what the help says of it.
