@@ -11,6 +11,7 @@ use Rattle.hex.specs.Hex.{encode_lower, encode_with, lower_digits}
 use Rattle.mot_carousel.specs.declared.object.Object as beside
 use Rattle.mot_carousel.specs.Carousel.{Object}
 use Rattle.mot_carousel.specs.Carousel as whole
+use Rattle.mot_carousel.specs.declared.carousel.Carousel.{Carousel}
 use Rattle.mot_journal.specs.Image.{Standing}
 use Rattle.mot_carousel.specs.Stands.{object_of, objects_of}
 use Rattle.mot_repository.specs.Repository.{Agrees, RepositoryView, object_body}
@@ -83,6 +84,11 @@ get-slice : {A : Type 0} (xs : List A) (i : ℕ) (d : A) → i < length xs
 get-slice [] i d lt = absurd (omega (arith, lt))
 get-slice (x ∷ xs) zero d lt = refl
 get-slice (x ∷ xs) (suc i) d lt = get-slice xs i d (omega (arith, lt))
+
+-- an object at its place in the same carousel
+pub kept_at : (k l : Carousel) (i : ℕ) (x : beside.Object) → x ≡ get_or k.objects.items i x → k ≡ l
+    → x ≡ get_or l.objects.items i x
+kept_at k l i x is same = subst (λ (k : Carousel). x ≡ get_or k.objects.items i x) same is
 
 module _ (view : RepositoryView) (s : Standing) (agrees : Agrees view s) where
   abbrev objects : List Object
