@@ -14,7 +14,7 @@ use Rattle.clap.proofs.OnLiterals.{clap_on_literals}
 use Rattle.mot_program.specs.declared.task.Task.{Task}
 use Rattle.mot_program.specs.Command.{program_app}
 use Rattle.mot_program.specs.Inner.Asked.{AskBy}
-use Rattle.mot_program.specs.Task.{AskFor, AskForHelp, AreWrong, IsTask}
+use Rattle.mot_program.specs.Task.{AskForHelp, AreWrong, IsTask}
 
 -- ---- the program's command line is of the kind that the parser's clauses speak of
 pub simple : is_simple program_app ≡ true
