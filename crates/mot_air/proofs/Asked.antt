@@ -14,7 +14,7 @@ use Rattle.clap.proofs.OnLiterals.{clap_on_literals}
 use Rattle.mot_air.specs.declared.task.Task.{Task}
 use Rattle.mot_air.specs.Command.{air_app}
 use Rattle.mot_air.specs.Inner.Asked.{AskBy}
-use Rattle.mot_air.specs.Task.{AskFor, AskForHelp, AreWrong, IsTask}
+use Rattle.mot_air.specs.Task.{AskForHelp, AreWrong, IsTask}
 
 -- ---- the command line is of the kind that the parser's clauses speak of
 pub simple : is_simple air_app ≡ true

@@ -1,7 +1,6 @@
-use Rattle.std.proofs.Common.{◌≡◌, ◌⊎◌, ◌∙◌, List, ap, arith, Ok, Some, inl, inr, refl, subst, sym}
+use Rattle.std.proofs.Common.{◌≡◌, ◌⊎◌, ◌∙◌, ap, arith, Ok, Some, inl, inr, refl, subst, sym}
 use Rattle.std.proofs.KnownBytes.{Keeps-refl}
 use Rattle.std.specs.Prelude.{IfErr}
-use Rattle.clap.specs.Words.{Text}
 use Rattle.mot_air.specs.Program.{DoesInPart, IsBeginningRefusal, IsRefused, IsUntold}
 use Rattle.mot_air.specs.Program.{Succeeds, begun, no_task, unbegun}
 use Rattle.mot_air.proofs.program.run_command.Goals as goal
