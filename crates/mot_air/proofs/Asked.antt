@@ -1,12 +1,11 @@
 -- What the words ask for.
-use Rattle.std.proofs.Common.{◌≡◌, ◌≢◌, true, List, Option, Some, None, refl, sym, ap, ◌∙◌}
+use Rattle.std.proofs.Common.{◌≡◌, ◌≢◌, true, List, Option, Some, None, refl, sym, ◌∙◌}
 use Rattle.std.proofs.Common.{subst, inl, inr}
 use Rattle.std.specs.Prelude.{option_map}
 use Rattle.std.specs.Box.{box_value}
-use Rattle.clap.specs.Words.{App, HasKind, HasMatchesOf, IsAmong, Row, Text, app_of, fault_of}
+use Rattle.clap.specs.Words.{HasKind, HasMatchesOf, IsAmong, Row, Text, fault_of}
 use Rattle.clap.specs.Words.{found_of, is_simple, is_simple_and_free, kind_of, rows_of}
 use Rattle.clap.specs.Words.{subcommand_of, subcommand_name_of, subcommand_rows_of}
-use Rattle.clap.specs.declared.builder.Command.{Command}
 use Rattle.clap.specs.declared.error.Error.{Error}
 use Rattle.clap.specs.declared.error.ErrorKind.TheVariants.{DisplayHelp, OutOfMemory}
 use Rattle.clap.specs.declared.parser.matches.ArgMatches.{ArgMatches}
@@ -15,13 +14,14 @@ use Rattle.clap.proofs.OnLiterals.{clap_on_literals}
 use Rattle.mot_air.specs.declared.task.Task.{Task}
 use Rattle.mot_air.specs.Command.{air_app}
 use Rattle.mot_air.specs.Inner.Asked.{AskBy}
-use Rattle.mot_air.specs.Task.{AskFor, AskForHelp, AreWrong, IsTask}
+use Rattle.mot_air.specs.Task.{AskForHelp, AreWrong, IsTask}
 
-simple : is_simple air_app ≡ true
+-- ---- the command line is of the kind that the parser's clauses speak of
+pub simple : is_simple air_app ≡ true
 unfolding clap_on_literals
 simple = refl
 
-free : is_simple_and_free air_app ≡ true
+pub free : is_simple_and_free air_app ≡ true
 unfolding clap_on_literals
 free = refl
 
@@ -40,15 +40,19 @@ same_task : {a b : Text × List Row} → a ≡ b → (task : Task) → IsTask a.
     → IsTask b.0 b.1 task
 same_task e task is = subst (λ (p : Text × List Row). IsTask p.0 p.1 task) e is
 
-module _ (words : List Text) (command : Command) (app : app_of command ≡ air_app) where
+none_found : {A B : Type 0} (f : A → B) (o : Option A) → None ≡ option_map f o → None ≡ o
+none_found f None e = refl
+none_found f (Some x) e = absurd (cc)
+
+module _ (words : List Text) where
   -- ---- what was matched
-  rows_matched : (m : ArgMatches) → HasMatchesOf (app_of command) words m
+  rows_matched : (m : ArgMatches) → HasMatchesOf air_app words m
       → subcommand_rows_of m ≡ subcommand_of air_app words
-  rows_matched m h = (h (ap is_simple app ∙ simple)).1 ∙ ap (λ (a : App). subcommand_of a words) app
+  rows_matched m h = (h simple).1
 
   -- words that match a subcommand ask for what it does with its rows
   pub AskBy-matched : (m : ArgMatches) (name : Text) (rows : List Row)
-      → HasMatchesOf (app_of command) words m → Some name ≡ subcommand_name_of m
+      → HasMatchesOf air_app words m → Some name ≡ subcommand_name_of m
       → Some rows ≡ option_map (λ p. p.1) (subcommand_rows_of m) → AskBy name rows words
   AskBy-matched m name rows h n r = λ task.
       let found : subcommand_of air_app words ≡ Some (name, rows) =
@@ -61,30 +65,20 @@ module _ (words : List Text) (command : Command) (app : app_of command ≡ air_a
       )
 
   -- words that match the program but name no subcommand are wrong
-  pub AreWrong-none : (m : ArgMatches) → HasMatchesOf (app_of command) words m
-      → None ≡ subcommand_rows_of m → AreWrong words
-  AreWrong-none m h r = inr (sym (r ∙ rows_matched m h))
+  pub AreWrong-none : (m : ArgMatches) → HasMatchesOf air_app words m
+      → None ≡ option_map (λ (p : Text × List Row). p.1) (subcommand_rows_of m) → AreWrong words
+  AreWrong-none m h r =
+      inr (sym (none_found (λ (p : Text × List Row). p.1) (subcommand_rows_of m) r
+      ∙ rows_matched m h))
 
-  module _ (e : Error)
-      (kinds : is_simple_and_free (app_of command) ≡ true
-      → HasKind (fault_of (app_of command) words) e) where
-    kinds_found : HasKind (fault_of air_app words) e
-    kinds_found = subst (λ (a : App). HasKind (fault_of a words) e) app
-        (kinds (ap is_simple_and_free app ∙ free))
+  -- words that the parser answers with help ask for help
+  pub AskForHelp-shown : (e : Error) → HasKind (fault_of air_app words) e
+      → kind_of e ≡ DisplayHelp → AskForHelp words
+  AskForHelp-shown e (inl h) k = absurd (cc)
+  AskForHelp-shown e (inr h) k = subst (λ x. IsAmong x (fault_of air_app words)) k h
 
-    help_asked : HasKind (fault_of air_app words) e → kind_of e ≡ DisplayHelp → AskForHelp words
-    help_asked (inl h) k = absurd (cc)
-    help_asked (inr h) k = subst (λ x. IsAmong x (fault_of air_app words)) k h
-
-    -- words that the parser answers with help ask for help
-    pub AskForHelp-shown : kind_of e ≡ DisplayHelp → AskForHelp words
-    AskForHelp-shown k = help_asked kinds_found k
-
-    fault_found : HasKind (fault_of air_app words) e → kind_of e ≢ DisplayHelp
-        → kind_of e ≢ OutOfMemory → AreWrong words
-    fault_found (inl h) k m = absurd (m h)
-    fault_found (inr h) k m = inl (kind_of e, k, h)
-
-    -- words that it answers with any other fault, but want of memory, are wrong
-    pub AreWrong-fault : kind_of e ≢ DisplayHelp → kind_of e ≢ OutOfMemory → AreWrong words
-    AreWrong-fault k m = fault_found kinds_found k m
+  -- words that it answers with any other fault, but want of memory, are wrong
+  pub AreWrong-fault : (e : Error) → HasKind (fault_of air_app words) e
+      → kind_of e ≢ DisplayHelp → kind_of e ≢ OutOfMemory → AreWrong words
+  AreWrong-fault e (inl h) k m = absurd (m h)
+  AreWrong-fault e (inr h) k m = inl (kind_of e, k, h)

@@ -1,14 +1,16 @@
 -- What holds since a file was opened is told of the disk that is handed out.
-use Rattle.std.proofs.Common.{◌≡◌, ◌∙◌, ◌⊎◌, inr, Bool, true, length, Result, Ok, Err, sym, subst}
+use Rattle.std.proofs.Common.{◌≡◌, ◌∙◌, ◌⊎◌, inl, ℕ, List, Option, Bool, true, length, Result, Ok}
+use Rattle.std.proofs.Common.{Err, sym, subst}
+use Rattle.std.proofs.KnownBytes.{Keeps-refl}
 use Rattle.std.specs.Prelude.{IfErr, IfOk, OnOk}
 use Rattle.disk_store.specs.Calls.{opening_calls}
 use Rattle.disk_store.specs.Disk.{IsNew, State}
 use Rattle.disk_store.specs.File.{calls_on, file_state}
 use Rattle.disk_store.specs.declared.file.FileDiskFrom.{FileDiskFrom}
 use Rattle.disk_store.specs.declared.file.start.Start.{Ghosts}
-use Rattle.mot_air.specs.Program.{OnOpened, SinceOpened}
+use Rattle.mot_air.specs.Program.{IsUntold, IsUntouched, SinceOpened}
 use Rattle.mot_air.specs.declared.used.AirDisk.{AirDisk}
-use Rattle.mot_air.specs.declared.used.AirDisk.TheVariants.{Opened}
+use Rattle.mot_air.specs.declared.used.AirDisk.TheVariants.{Untouched}
 use Rattle.mot_base.specs.declared.refusal.Refusal.{Refusal}
 
 -- what holds since a file was opened is told of the disk that is handed out
@@ -53,3 +55,19 @@ pub refused-is : (Q : Refusal → Type 0) (ended : Result Unit Refusal) (r : Res
 refused-is Q (Ok x) r done failed why = subst (λ (t : Result Bool Refusal). IfErr t Q) (sym done) tt
 refused-is Q (Err e) r done failed why =
     subst (λ (t : Result Bool Refusal). IfErr t Q) (sym failed) why
+
+-- a task that was not begun is refused, and no disk was opened
+pub refused_untouched : {S : Type 0} {start : Ghosts S} (told : Option (List ℕ))
+    (Why : Refusal → Type 0) (Part : Refusal → AirDisk S start → Type 0) (value : S) (r : Refusal)
+    (result : Result Bool Refusal) (disk : AirDisk S start) → result ≡ Err r
+    → disk ≡ Untouched value → Why r
+    → IfErr result (λ e. (Why e × IsUntold disk told told) ⊎ Part e disk)
+refused_untouched told Why Part value r result disk is untouched why =
+    subst (λ (t : Result Bool Refusal).
+    IfErr t (λ e. (Why e × IsUntold disk told told) ⊎ Part e disk)) (sym is) (inl (
+      why,
+      record {
+        untouched = subst (λ d. IsUntouched d) (sym untouched) tt;
+        silent = Keeps-refl told;
+      },
+    ))

@@ -1,6 +1,5 @@
 -- A carousel printed as lines, from the disk's opening on.
-use Rattle.std.proofs.Common.{◌≡◌, ◌<◌, ◌≤◌, ℕ, List, length, Option, Result, Ok, Err}
-use Rattle.std.proofs.Math.Logic.{⊎_elim}
+use Rattle.std.proofs.Common.{◌≡◌, ◌<◌, ◌≤◌, ℕ, List, length, Option, Result, Ok, Err, inl, inr}
 use Rattle.std.specs.Prelude.{All, IfErr, IsFalse, OnOk}
 use Rattle.std.specs.Io.KnownBytes.{Appends}
 use Rattle.disk_store.specs.Disk.{IsHonestDisk, IsStill, State, OnlyReads, OnlySyncs}
@@ -68,7 +67,7 @@ module _ {D : Type 0} (state : D → State) (disk : D) (server new : ServerView 
       → IfErr result (λ r. IsPrintingFault r (state server.disk).failures (state new.disk).failures)
       → IfErr result (λ r. StopsExporting r before after (state disk) (state new.disk))
   stops (Ok done) why = tt
-  stops (Err refusal) why =
-      ⊎_elim (λ is. unprinted is still_all)
-      (λ failed. unread failed.0 (rises_later _ _ _ opens.keeps.later reads.keeps.later failed.1)
-      still_all) why
+  stops (Err refusal) (inl is) = unprinted is still_all
+  stops (Err refusal) (inr failed) = unread failed.0
+      (rises_later (state disk).failures (state server.disk).failures (state new.disk).failures
+      opens.keeps.later reads.keeps.later failed.1) still_all

@@ -1,7 +1,6 @@
 -- A disk inspected, from its opening on.
 use Rattle.std.proofs.Common.{◌≡◌, ◌∙◌, ℕ, suc, ◌+◌, List, [], ◌∷◌, ◌++◌, length, map, Option}
-use Rattle.std.proofs.Common.{Result, Ok, Err, refl, sym, ap, subst, arith}
-use Rattle.std.proofs.Math.Logic.{⊎_elim}
+use Rattle.std.proofs.Common.{Result, Ok, Err, refl, sym, ap, subst, arith, inl, inr}
 use Rattle.std.proofs.lemmas.List.Sums.{sum_by-append}
 use Rattle.std.specs.Prelude.{IfErr, IsFalse, OnOk}
 use Rattle.std.specs.List.{fold, sum_by}
@@ -62,9 +61,25 @@ same_bytes a (o ∷ os) (b ∷ bodies) e =
     ∙ ap (λ m. fold (λ (n : ℕ) (o : Object). n + length o.body) (a + m) (objects_of os bodies))
     (first_length o os b bodies e)
 
+-- a text of six parts, with the same parts
+same_text : (text : Geometry → Geometry → ℕ → ℕ → ℕ → ℕ → List ℕ) (a b g : Geometry)
+    (n n' u u' k k' m m' : ℕ)
+    → a ≡ g → b ≡ g → n ≡ n' → u ≡ u' → k ≡ k' → m ≡ m' → text a b n u k m ≡ text g g n' u' k' m'
+same_text text a b g n n' u u' k k' m m' first second ns us ks ms = cc
+
 module _ (view : RepositoryView) (s : Standing) (agrees : Agrees view s) where
   abbrev items : List beside.Object
   items = view.carousel.objects.items
+
+  number : length items ≡ length s.carousel.objects
+  number =
+      same_count items agrees.bodies agrees.are_bodies
+      ∙ ap (λ (c : whole.Carousel). length c.objects) (sym agrees.carousel)
+
+  used : sum_by (λ (o : beside.Object). o.length) items ≡ bytes_of_bodies s.carousel.objects
+  used =
+      same_bytes 0 items agrees.bodies agrees.are_bodies
+      ∙ ap (λ (c : whole.Carousel). bytes_of_bodies c.objects) (sym agrees.carousel)
 
   -- what was told of what is kept in memory is told of what the disk stands for
   pub told_text : (g : Geometry) (gap count bytes : ℕ) (packets : List (List ℕ))
@@ -74,28 +89,13 @@ module _ (view : RepositoryView) (s : Standing) (agrees : Agrees view s) where
       ++ turn_text count bytes ++ rates_text bytes
       ≡ inspection_text s view.journal.layout view.journal.count gap packets
   told_text g gap count bytes packets sizes counted all =
-      let objects = λ (c : whole.Carousel). c.objects in
-      let number : length items ≡ length s.carousel.objects =
-      same_count items agrees.bodies agrees.are_bodies
-      ∙ ap (λ c. length (objects c)) (sym agrees.carousel) in
-      let used : sum_by (λ (o : beside.Object). o.length) items
-      ≡ bytes_of_bodies s.carousel.objects =
-      same_bytes 0 items agrees.bodies agrees.are_bodies
-      ∙ ap (λ c. bytes_of_bodies (objects c)) (sym agrees.carousel) in
-      let text : Geometry → Geometry → ℕ → ℕ → ℕ → ℕ → List ℕ =
-      λ a b n u k m. sizes_text a ++ use_text b view.journal.layout n u gap view.journal.count
-      ++ turn_text k m ++ rates_text m in
-      ap (λ a. text a view.journal.geometry (length items)
-      (sum_by (λ (o : beside.Object). o.length) items) count bytes) (sizes ∙ agrees.geometry)
-      ∙ ap (λ b. text s.geometry b (length items)
-      (sum_by (λ (o : beside.Object). o.length) items) count bytes) agrees.geometry
-      ∙ ap (λ n. text s.geometry s.geometry n
-      (sum_by (λ (o : beside.Object). o.length) items) count bytes) number
-      ∙ ap (λ u. text s.geometry s.geometry (length s.carousel.objects) u count bytes) used
-      ∙ ap (λ k. text s.geometry s.geometry (length s.carousel.objects)
-      (bytes_of_bodies s.carousel.objects) k bytes) counted
-      ∙ ap (λ m. text s.geometry s.geometry (length s.carousel.objects)
-      (bytes_of_bodies s.carousel.objects) (length packets) m) all
+      same_text (λ a b n u k m. sizes_text a
+      ++ use_text b view.journal.layout n u gap view.journal.count
+      ++ turn_text k m ++ rates_text m) g view.journal.geometry s.geometry
+      (length items) (length s.carousel.objects)
+      (sum_by (λ (o : beside.Object). o.length) items) (bytes_of_bodies s.carousel.objects)
+      count (length packets) bytes (bytes_of_all packets)
+      (sizes ∙ agrees.geometry) agrees.geometry number used counted all
 
 module _ {D : Type 0} (state : D → State) (disk : D) (server new : ServerView D)
     (sound : (d : D) → (state d).IsHonest → IsHonestDisk (state d))
@@ -146,9 +146,9 @@ module _ {D : Type 0} (state : D → State) (disk : D) (server new : ServerView 
       (state new.disk).failures before after)
       → IfErr result (λ r. StopsInspecting r before after (state disk) (state new.disk))
   stops (Ok done) why = tt
-  stops (Err refusal) why =
-      ⊎_elim (λ is. unprinted is still_all)
-      (λ silent. ⊎_elim (λ is. uncounted is silent.1 still_all)
-      (λ failed. unread failed.0 (rises_later _ _ _ opens.keeps.later reads.keeps.later failed.1)
-      silent.1 still_all)
-      silent.0) why
+  stops (Err refusal) (inl is) = unprinted is still_all
+  stops (Err refusal) (inr silent) = elim silent.0 [
+    | inl is ↦ uncounted is silent.1 still_all
+    | inr failed ↦ unread failed.0 (rises_later (state disk).failures (state server.disk).failures
+        (state new.disk).failures opens.keeps.later reads.keeps.later failed.1) silent.1 still_all
+  ]

@@ -1,9 +1,11 @@
 -- The lines of a carousel, written one after the other.
 use Rattle.std.proofs.Common.{◌≡◌, ℕ, zero, suc, ◌+◌, ◌-◌, ◌/◌, ◌%◌, ◌<◌, ◌≤◌, List, [], ◌∷◌, ◌++◌}
 use Rattle.std.proofs.Common.{length, take, drop, get_or}
-use Rattle.std.proofs.Common.{Some, map, refl, sym, ap, ◌∙◌, subst, arith, add-one, append-nil}
+use Rattle.std.proofs.Common.{Option, Some, map, refl, sym, ap, ◌∙◌, subst, arith, add-one, append-nil}
 use Rattle.std.specs.Prelude.{OnOk, Result, Ok, Err, slice_get, slice_index, slice_range}
 use Rattle.std.specs.List.{flat_map}
+use Rattle.std.specs.Io.KnownBytes.{Appends}
+use Rattle.std.proofs.KnownBytes.{Appends-trans}
 use Rattle.std.proofs.Math.Seq.{take-add}
 use Rattle.std.proofs.lemmas.List.{take_all}
 use Rattle.std.proofs.lemmas.List.Concat.{flat_map-append}
@@ -11,7 +13,9 @@ use Rattle.hex.specs.Hex.{encode_lower, encode_with, lower_digits}
 use Rattle.mot_carousel.specs.declared.object.Object as beside
 use Rattle.mot_carousel.specs.Carousel.{Object}
 use Rattle.mot_carousel.specs.Carousel as whole
+use Rattle.mot_carousel.specs.declared.carousel.Carousel.{Carousel}
 use Rattle.mot_journal.specs.Image.{Standing}
+use Rattle.mot_lines.specs.Export.{front_words, put_line}
 use Rattle.mot_carousel.specs.Stands.{object_of, objects_of}
 use Rattle.mot_repository.specs.Repository.{Agrees, RepositoryView, object_body}
 
@@ -84,6 +88,11 @@ get-slice [] i d lt = absurd (omega (arith, lt))
 get-slice (x ∷ xs) zero d lt = refl
 get-slice (x ∷ xs) (suc i) d lt = get-slice xs i d (omega (arith, lt))
 
+-- an object at its place in the same carousel
+pub kept_at : (k l : Carousel) (i : ℕ) (x : beside.Object) → x ≡ get_or k.objects.items i x → k ≡ l
+    → x ≡ get_or l.objects.items i x
+kept_at k l i x is same = subst (λ (k : Carousel). x ≡ get_or k.objects.items i x) same is
+
 module _ (view : RepositoryView) (s : Standing) (agrees : Agrees view s) where
   abbrev objects : List Object
   objects = s.carousel.objects
@@ -133,6 +142,16 @@ module _ (view : RepositoryView) (s : Standing) (agrees : Agrees view s) where
       let size : length objects ≡ length (objects_of view.carousel.objects.items agrees.bodies) =
       ap length whole_is in
       take_all i objects (omega (arith, few, size, le))
+
+-- the words of an object, its body and an end make its line
+pub line_put : (a b c d : Option (List ℕ)) (o : Object)
+    → Appends a b (front_words o.name o.content o.mime) → Appends b c (encode_lower o.body)
+    → Appends c d (10 ∷ []) → Appends a d (put_line o)
+line_put a b c d o front body end =
+    let words = front_words o.name o.content o.mime in
+    let digits = encode_lower o.body in
+    Appends-trans a c d (words ++ digits) (10 ∷ [])
+    (Appends-trans a b c words digits front body) end
 
 -- what follows from what holds on Ok, holds on Ok
 pub OnOk-one : {T E P R : Type 0} (r : Result T E) → (P → R) → OnOk r P → OnOk r R

@@ -7,7 +7,7 @@ use Rattle.std.specs.Prelude.{◌⊎◌, IfErr, IfOk, IsFalse, OnOk}
 use Rattle.disk_store.specs.Disk.{State, IsHonestDisk, KeepsLength, OnlySyncs}
 use Rattle.mot_air.specs.Inner.Looked.{LooksAndTells}
 use Rattle.mot_air.specs.Inner.Looked as looks
-use Rattle.mot_air.specs.Syncing.{HasSynced, HasUpdated, IsBrokenOff, IsEqual, StopsSyncing, Syncs}
+use Rattle.mot_air.specs.Syncing.{HasSynced, IsBrokenOff, IsEqual, StopsSyncing, Syncs}
 use Rattle.mot_air.specs.Syncing.{SyncsAndTells}
 use Rattle.mot_air.specs.Syncing.{broken, untold, stopped}
 use Rattle.mot_air.specs.Syncing as synced

@@ -1,16 +1,29 @@
 //! The command line of the commands on air.
-ghost use Rattle.std.specs.Prelude.{◌≡◌, [], codes, false, IfOk};
-ghost use Rattle.clap.specs.Words.{App, Rule, app_of, new_app, rule_of, with_rule, with_subcommand};
+ghost use Rattle.std.specs.Prelude.{◌≡◌, [], codes, false, map, IfErr, IfOk};
+ghost use Rattle.clap.specs.Words.{App, HasKind, HasMatchesOf, Rule, app_of, fault_of, new_app};
+ghost use Rattle.clap.specs.Words.{rule_of, with_rule, with_subcommand};
 ghost use Rattle.clap.specs.declared.builder.Command.TheViews.{out-Command};
 ghost use Rattle.mot_air.specs.Command.{air_app, air_top, disk_app, path_rule, play_app, sync_app};
 ghost use Rattle.mot_air.specs.Command.{number_rule, word_rule};
 ghost use Rattle.mot_air.specs.Inner.Made.{IsMade};
 
-use clap::{Arg, ArgAction, Command, value_parser};
+use clap::{Arg, ArgAction, ArgMatches, Command, Error, value_parser};
 use std::alloc::{AllocError, Global};
+use std::convert::AsStr;
+
+/// What the words match in the command line of the commands on air.
+pub(crate) fn matches_of<'a, S: AsStr>(
+    alloc: Global,
+    words: &'a [S],
+) -> Result<ArgMatches<'a>, Error>
+    ensures matches { IfOk result (HasMatchesOf air_app (map S.text words.now)) }
+    ensures kinds { IfErr result (HasKind (fault_of air_app (map S.text words.now))) }
+{
+    command(alloc)?.try_get_matches_from(words)
+}
 
 /// The command line of the commands on air.
-pub(crate) fn command<'a>(alloc: Global) -> Result<Command<'a>, AllocError>
+fn command<'a>(alloc: Global) -> Result<Command<'a>, AllocError>
     ensures { IfOk result (λ command. app_of command ≡ air_app) }
 {
     let command = with_command(top(alloc), play(alloc));
@@ -123,7 +136,13 @@ fn with_command<'a>(
     ensures { (app sub : App) → IsMade app command.entry → IsMade sub below.entry
         → IsMade (with_subcommand app sub.top) result }
 {
-    command?.subcommand(below?)
+    match command {
+        Ok(command) => match below {
+            Ok(below) => command.subcommand(below),
+            Err(AllocError) => Err(AllocError),
+        },
+        Err(AllocError) => Err(AllocError),
+    }
 }
 
 /// A command that has only its name and what the help says of it.
@@ -171,10 +190,5 @@ fn number<'a>(alloc: Global, name: &'a str, help: &'a str) -> Arg<'a>
     ensures rule { rule_of result ≡ number_rule name.entry.now }
     ensures local { result.global ≡ false }
 {
-    Arg::new(alloc, name)
-        .long(name)
-        .value_name("N")
-        .help(help)
-        .action(ArgAction::Set)
-        .value_parser(value_parser!(u32))
+    path(alloc, name, "N", help).value_parser(value_parser!(u32))
 }

@@ -17,7 +17,7 @@ ghost use Rattle.mot_base.specs.declared.refusal.Refusal.{Refusal};
 ghost use Rattle.mot_base.specs.declared.refusal.Refusal.TheVariants.{DeviceFault, OutOfMemory};
 ghost use Rattle.mot_base.specs.declared.refusal.Refusal.TheVariants.{WriteFault};
 
-use crate::command::command;
+use crate::command::matches_of;
 use crate::exporting::export_disk;
 use crate::inspecting::inspect_disk;
 use crate::lines::line_folder;
@@ -32,7 +32,7 @@ use clap::{ArgMatches, Error};
 use disk_store::{FileDiskFrom, Start};
 use mot_base::Refusal;
 use mot_folder::FileTypes;
-use std::alloc::{AllocError, Global};
+use std::alloc::Global;
 use std::convert::AsStr;
 use std::io::Write;
 
@@ -92,18 +92,7 @@ pub fn run_air_on<S: AsStr, B: Start, W: Write, E: Write>(
     ensures usage { result.status ≡ 2 → AreWrong (map S.text words.now)
         × IsUntouched result.disk × Keeps (W.contents writer.old) (W.contents writer.new) }
 {
-    let command = match command(alloc) {
-        Ok(command) => command,
-        Err(AllocError) => {
-            return refuse(
-                errors,
-                Refusal::OutOfMemory,
-                Subject::Nothing,
-                AirDisk::Untouched(start),
-            );
-        }
-    };
-    let matches = match command.try_get_matches_from(words) {
+    let matches = match matches_of(alloc, words) {
         Ok(matches) => matches,
         Err(error) => return explain(writer, errors, &error, start),
     };

@@ -126,10 +126,7 @@ impl<'a, T: Files<File = File>, W: Write + Drop> Update for Looks<'a, T, W> {
             (D.state server.new.disk) s self.old.path.now self.new.report (fault_of result) }
     {
         let (path, types) = (self.path, self.types);
-        if self.left > 0 {
-            self.left -= 1;
-        }
-        if !between_turns || self.left > 0 {
+        if !look_is_due(&mut self.left, between_turns) {
             return Ok(());
         }
         self.left = PACKETS;
@@ -142,6 +139,15 @@ impl<'a, T: Files<File = File>, W: Write + Drop> Update for Looks<'a, T, W> {
         );
         result
     }
+}
+
+/// Counts a packet of those that come before the next look; whether that is due.
+fn look_is_due(left: &mut u64, between_turns: bool) -> bool
+    ensures due { result ≡ is_due left.old between_turns }
+    ensures counts { left.new ≡ left.old - 1 }
+{
+    *left = left.saturating_sub(1);
+    between_turns && *left == 0
 }
 
 /// Writes the lines that are none of those before, and flushes.

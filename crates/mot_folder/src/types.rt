@@ -59,9 +59,18 @@ impl FileTypes {
     {
         for line in text.split(|byte| *byte == b'\n') {
             if !line.is_empty() && line[0] != b'#' {
-                self.types.push(type_of_line(alloc, line)?)?;
+                self.add_line(alloc, line)?;
             }
         }
+        Ok(())
+    }
+
+    /// Adds what a line says.
+    fn add_line(&mut self, alloc: Global, line: &[u8]) -> Result<(), Refusal>
+        ensures refused { IfErr result IsTypesRefusal }
+    {
+        let file_type = type_of_line(alloc, line)?;
+        self.types.push(file_type)?;
         Ok(())
     }
 
@@ -84,14 +93,7 @@ impl FileTypes {
 fn type_of_line(alloc: Global, line: &[u8]) -> Result<FileType, Refusal>
     ensures refused { IfErr result IsTypesRefusal }
 {
-    let mut words = line.split(|byte| *byte == b' ');
-    let (Some(suffix), Some(content_type), Some(subtype), Some(mime), None) = (
-        words.next(),
-        words.next(),
-        words.next(),
-        words.next(),
-        words.next(),
-    ) else {
+    let Some((suffix, content_type, subtype, mime)) = words_of_line(line) else {
         return Err(Refusal::BadLine);
     };
     if suffix.is_empty() || suffix.contains(&b'.') {
@@ -102,6 +104,23 @@ fn type_of_line(alloc: Global, line: &[u8]) -> Result<FileType, Refusal>
         content: content_of(content_type, subtype)?,
         mime: Mime::new(Vec::from_slice(alloc, mime)?)?,
     })
+}
+
+/// The four words of a line, with single spaces between them.
+fn words_of_line(line: &[u8]) -> Option<(&[u8], &[u8], &[u8], &[u8])> {
+    let mut words = line.split(|byte| *byte == b' ');
+    match (
+        words.next(),
+        words.next(),
+        words.next(),
+        words.next(),
+        words.next(),
+    ) {
+        (Some(suffix), Some(content_type), Some(subtype), Some(mime), None) => {
+            Some((suffix, content_type, subtype, mime))
+        }
+        _ => None,
+    }
 }
 
 /// The content type and the subtype that two words write.

@@ -1,6 +1,7 @@
 pub mod Begun
 pub mod Command
 pub mod Files
+pub mod Inner
 pub mod Options
 pub mod Program
 pub mod Report

@@ -1,12 +1,15 @@
 //! The command line of the program.
-ghost use Rattle.std.specs.Prelude.{◌≡◌, [], false, IfOk};
-ghost use Rattle.clap.specs.Words.{app_of, rule_of};
+ghost use Rattle.std.specs.Prelude.{◌≡◌, [], false, map, IfErr, IfOk};
+ghost use Rattle.clap.specs.Words.{App, HasKind, HasMatchesOf, Rule, app_of, fault_of, new_app};
+ghost use Rattle.clap.specs.Words.{rule_of, with_rule, with_subcommand};
 ghost use Rattle.clap.specs.declared.builder.Command.TheViews.{out-Command};
 ghost use Rattle.mot_program.specs.Command.{disk_app, disk_rule, format_app, memory_app};
 ghost use Rattle.mot_program.specs.Command.{option_rule, program_app, program_top, with_options};
+ghost use Rattle.mot_program.specs.Inner.Made.{IsMade};
 
-use clap::{Arg, ArgAction, Command, value_parser};
+use clap::{Arg, ArgAction, ArgMatches, Command, Error, value_parser};
 use std::alloc::{AllocError, Global};
+use std::convert::AsStr;
 
 /// What the top help says below the list of commands.
 const NOTES: &str = "\
@@ -22,29 +25,42 @@ docs/OPERATING.md.
 Exit status: 0 where all was done that was asked for, 1 after a refusal, which standard error or
 the log of sync tells, 2 where a word is wrong.";
 
+/// What the words match in the program's command line.
+pub(crate) fn matches_of<'a, S: AsStr>(
+    alloc: Global,
+    words: &'a [S],
+) -> Result<ArgMatches<'a>, Error>
+    ensures matches { IfOk result (HasMatchesOf program_app (map S.text words.now)) }
+    ensures kinds { IfErr result (HasKind (fault_of program_app (map S.text words.now))) }
+{
+    command(alloc)?.try_get_matches_from(words)
+}
+
 /// The program's command line.
-pub(crate) fn command<'a>(alloc: Global) -> Result<Command<'a>, AllocError>
+fn command<'a>(alloc: Global) -> Result<Command<'a>, AllocError>
     ensures { IfOk result (λ command. app_of command ≡ program_app) }
 {
-    top(alloc)?
-        .subcommand(memory(alloc)?)?
-        .subcommand(format(alloc)?)?
-        .subcommand(on_disk(
-            alloc,
-            "serve",
-            "Serve standard input to standard output from a disk",
-        )?)?
-        .subcommand(on_disk(
-            alloc,
-            "check",
-            "Print what a disk keeps, whether it is clean, and its layout",
-        )?)?
-        .subcommand(on_disk(alloc, "migrate", "Rewrite a disk of layout 1 into layout 2")?)
+    let command = with_command(top(alloc), memory(alloc));
+    let command = with_command(command, format(alloc));
+    let serve = on_disk(
+        alloc,
+        "serve",
+        "Serve standard input to standard output from a disk",
+    );
+    let command = with_command(command, serve);
+    let check = on_disk(
+        alloc,
+        "check",
+        "Print what a disk keeps, whether it is clean, and its layout",
+    );
+    let command = with_command(command, check);
+    let migrate = on_disk(alloc, "migrate", "Rewrite a disk of layout 1 into layout 2");
+    with_command(command, migrate)
 }
 
 /// The command line but for its commands.
 fn top<'a>(alloc: Global) -> Result<Command<'a>, AllocError>
-    ensures { IfOk result (λ command. app_of command ≡ record { top = program_top; subs = [] }) }
+    ensures { IsMade (record { top = program_top; subs = [] }) result }
 {
     let command = Command::new(alloc, "motcar").bin_name("motcar")?;
     Ok(
@@ -57,70 +73,129 @@ fn top<'a>(alloc: Global) -> Result<Command<'a>, AllocError>
 
 /// The command with the notes below its list of commands.
 fn with_notes<'a>(command: Command<'a>) -> Command<'a>
-    ensures { app_of result ≡ app_of command.entry }
+    ensures app { app_of result ≡ app_of command.entry }
+    ensures local { (out-Command result).has_globals ≡ (out-Command command.entry).has_globals }
 {
     command.after_help(NOTES)
 }
 
 /// The command `memory`.
 fn memory<'a>(alloc: Global) -> Result<Command<'a>, AllocError>
-    ensures app { IfOk result (λ command. app_of command ≡ memory_app) }
-    ensures local { IfOk result (λ command. (out-Command command).has_globals ≡ false) }
+    ensures { IsMade memory_app result }
 {
     let about = "Serve standard input to standard output from memory";
-    add_options(alloc, Command::new(alloc, "memory").about(about))
+    add_options(alloc, Ok(bare(alloc, "memory", about)))
 }
 
 /// The command `format`.
 fn format<'a>(alloc: Global) -> Result<Command<'a>, AllocError>
-    ensures app { IfOk result (λ command. app_of command ≡ format_app) }
-    ensures local { IfOk result (λ command. (out-Command command).has_globals ≡ false) }
+    ensures { IsMade format_app result }
 {
     let about = "Make a disk, and its file where there is none";
-    let after = option(
+    with_option(
+        add_options(alloc, on_disk(alloc, "format", about)),
         alloc,
         "after",
         "Transport id behind which the ids begin, 0 to 65535 [default: 0]",
-    );
-    add_options(alloc, on_disk(alloc, "format", about)?)?.arg(after)
+    )
 }
 
 /// A command on the file of a disk.
 fn on_disk<'a>(alloc: Global, name: &'a str, about: &'a str) -> Result<Command<'a>, AllocError>
-    ensures app { IfOk result (λ command. app_of command ≡ disk_app name.entry.now) }
-    ensures local { IfOk result (λ command. (out-Command command).has_globals ≡ false) }
+    ensures { IsMade (disk_app name.entry.now) result }
 {
-    Command::new(alloc, name).about(about).arg(disk(alloc))
+    with_arg(Ok(bare(alloc, name, about)), disk(alloc))
 }
 
-/// The command with the five options of a geometry.
-fn add_options<'a>(alloc: Global, command: Command<'a>) -> Result<Command<'a>, AllocError>
-    requires { (out-Command command).has_globals ≡ false }
-    ensures app { IfOk result (λ new. app_of new ≡ with_options (app_of command.entry)) }
-    ensures local { IfOk result (λ new. (out-Command new).has_globals ≡ false) }
+/// The command, where there was memory for it, with the five options of a geometry.
+fn add_options<'a>(
+    alloc: Global,
+    command: Result<Command<'a>, AllocError>,
+) -> Result<Command<'a>, AllocError>
+    ensures { (app : App) → IsMade app command.entry → IsMade (with_options app) result }
 {
-    command
-        .arg(option(alloc, "objects", "Objects at most, 1 to 250 [default: 16]"))?
-        .arg(option(
-            alloc,
-            "data",
-            "Bytes for all bodies, 1 to 268435456 [default: 65536]",
-        ))?
-        .arg(option(
-            alloc,
-            "segment",
-            "Bytes of a segment, 64 to 8189 [default: 1024]",
-        ))?
-        .arg(option(
-            alloc,
-            "address",
-            "Address of the packets, 1 to 1023 [default: 1]",
-        ))?
-        .arg(option(
-            alloc,
-            "packet",
-            "Bytes of a packet: 24, 48, 72 or 96 [default: 96]",
-        ))
+    let command = with_option(
+        command,
+        alloc,
+        "objects",
+        "Objects at most, 1 to 250 [default: 16]",
+    );
+    let command = with_option(
+        command,
+        alloc,
+        "data",
+        "Bytes for all bodies, 1 to 268435456 [default: 65536]",
+    );
+    let command = with_option(
+        command,
+        alloc,
+        "segment",
+        "Bytes of a segment, 64 to 8189 [default: 1024]",
+    );
+    let command = with_option(
+        command,
+        alloc,
+        "address",
+        "Address of the packets, 1 to 1023 [default: 1]",
+    );
+    with_option(
+        command,
+        alloc,
+        "packet",
+        "Bytes of a packet: 24, 48, 72 or 96 [default: 96]",
+    )
+}
+
+/// A command, where there was memory for it, with one more option that is a whole number.
+fn with_option<'a>(
+    command: Result<Command<'a>, AllocError>,
+    alloc: Global,
+    name: &'a str,
+    help: &'a str,
+) -> Result<Command<'a>, AllocError>
+    ensures { (app : App) → IsMade app command.entry
+        → IsMade (with_rule app (option_rule name.entry.now)) result }
+{
+    with_arg(command, option(alloc, name, help))
+}
+
+/// A command, where there was memory for it, with one more argument.
+fn with_arg<'a>(
+    command: Result<Command<'a>, AllocError>,
+    arg: Arg<'a>,
+) -> Result<Command<'a>, AllocError>
+    ensures { (app : App) (rule : Rule) → IsMade app command.entry → rule_of arg.entry ≡ rule
+        → arg.entry.global ≡ false → IsMade (with_rule app rule) result }
+{
+    match command {
+        Ok(command) => command.arg(arg),
+        Err(AllocError) => Err(AllocError),
+    }
+}
+
+/// A command, where there was memory for both, with one more command below it.
+fn with_command<'a>(
+    command: Result<Command<'a>, AllocError>,
+    below: Result<Command<'a>, AllocError>,
+) -> Result<Command<'a>, AllocError>
+    ensures { (app sub : App) → IsMade app command.entry → IsMade sub below.entry
+        → IsMade (with_subcommand app sub.top) result }
+{
+    match command {
+        Ok(command) => match below {
+            Ok(below) => command.subcommand(below),
+            Err(AllocError) => Err(AllocError),
+        },
+        Err(AllocError) => Err(AllocError),
+    }
+}
+
+/// A command that has only its name and what the help says of it.
+fn bare<'a>(alloc: Global, name: &'a str, about: &'a str) -> Command<'a>
+    ensures app { app_of result ≡ new_app name.entry.now }
+    ensures local { (out-Command result).has_globals ≡ false }
+{
+    Command::new(alloc, name).about(about)
 }
 
 /// An option that is a whole number.

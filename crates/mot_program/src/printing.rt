@@ -6,7 +6,7 @@ ghost use Rattle.mot_base.specs.declared.refusal.Refusal.TheVariants.{OutOfMemor
 ghost use Rattle.mot_program.specs.declared.ended.UsedDisk.TheVariants.{Untouched};
 
 use crate::ended::{Exit, UsedDisk};
-use crate::subject::{BadNumber, Subject};
+use crate::subject::{Subject, tell};
 use clap::Error;
 use clap::error::ErrorKind;
 use disk_store::Start;
@@ -82,16 +82,7 @@ pub(crate) fn refuse<S: Start, E: Write>(
     ensures { result ≡ record { status = 1; refusal = Some refusal; disk = disk } }
 {
     let _ = writeln!(errors, "motcar: {refusal}");
-    match subject {
-        Subject::Nothing => {}
-        Subject::File { path, fault } => {
-            let _ = writeln!(errors, "motcar: {path}: {fault}");
-        }
-        Subject::Number { option, number } => {
-            let BadNumber { name, range } = option;
-            let _ = writeln!(errors, "motcar: --{name} {number}: {range}");
-        }
-    }
+    tell(errors, subject);
     Exit {
         status: 1,
         refusal: Some(refusal),

@@ -1,7 +1,9 @@
 //! The program, over any streams and files.
-ghost use Rattle.std.specs.Prelude.{◌≡◌, ◌⊎◌, map, IfErr, OnOk, Some};
+ghost use Rattle.std.specs.Prelude.{◌≡◌, ◌⊎◌, List, map, IfErr, OnOk, Some};
 ghost use Rattle.std.specs.Io.KnownBytes.{Keeps};
+ghost use Rattle.clap.specs.Words.{Text, found_of, rows_of};
 ghost use Rattle.mot_base.specs.declared.refusal.Refusal.{Refusal};
+ghost use Rattle.mot_program.specs.Inner.Asked.{AskBy};
 ghost use Rattle.mot_program.specs.Program.{Does, DoesInPart, IsBeginningRefusal, IsUntold};
 ghost use Rattle.mot_program.specs.Program.{IsRefused, IsUntouched, Succeeds};
 ghost use Rattle.mot_program.specs.Task.{AreWrong};
@@ -9,7 +11,7 @@ ghost use Rattle.mot_program.specs.declared.ended.UsedDisk.{UsedDisk};
 
 use crate::Task;
 use crate::checking::check_file;
-use crate::command::command;
+use crate::command::matches_of;
 use crate::ended::{Exit, Finished, UsedDisk};
 use crate::formatting::format_file;
 use crate::migrating::migrate_file;
@@ -17,9 +19,10 @@ use crate::printing::{explain, refuse};
 use crate::serving::{serve_file, serve_memory};
 use crate::subject::{Subject, subject_of};
 use crate::task::task_of;
+use clap::ArgMatches;
 use disk_store::Start;
 use mot_base::Refusal;
-use std::alloc::{AllocError, Global};
+use std::alloc::Global;
 use std::convert::AsStr;
 use std::io::{Read, Write};
 
@@ -80,26 +83,40 @@ pub fn run_on<S: AsStr, B: Start, R: Read, W: Write, E: Write>(
         × Keeps (R.remaining reader.old) (R.remaining reader.new)
         × Keeps (W.contents writer.old) (W.contents writer.new) }
 {
-    let command = match command(alloc) {
-        Ok(command) => command,
-        Err(AllocError) => {
-            return refuse(
-                errors,
-                Refusal::OutOfMemory,
-                Subject::Nothing,
-                UsedDisk::Untouched(start),
-            );
-        }
-    };
-    let matches = match command.try_get_matches_from(words) {
+    let matches = match matches_of(alloc, words) {
         Ok(matches) => matches,
         Err(error) => return explain(writer, errors, &error, start),
     };
     let Some((name, rest)) = matches.subcommand() else {
         return Exit::unrefused(2, UsedDisk::Untouched(start));
     };
-    let Some(task) = task_of(name, rest) else {
-        let subject = subject_of(Refusal::BadGeometry, rest, None);
+    run_command(rt, alloc, name, rest, start, reader, writer, errors)
+}
+
+/// Does what a command of this name asks for, with these words behind it.
+fn run_command<B: Start, R: Read, W: Write, E: Write>(
+    rt: &HostRuntime,
+    alloc: Global,
+    name: &str,
+    words: &ArgMatches<'_>,
+    start: B,
+    reader: &mut R,
+    writer: &mut W,
+    errors: &mut E,
+) -> Exit<B>
+    ensures status { (result.status ≡ 0) ⊎ (result.status ≡ 1) }
+    ensures done { (all : List Text) → AskBy name.now (rows_of (found_of words.now)) all
+        → result.status ≡ 0 → Succeeds all result.disk
+        (R.remaining reader.old) (R.remaining reader.new)
+        (W.contents writer.old) (W.contents writer.new) }
+    ensures refused { (all : List Text) → AskBy name.now (rows_of (found_of words.now)) all
+        → result.status ≡ 1 → (refusal : Refusal) × (result.refusal ≡ Some refusal)
+        × IsRefused all refusal result.disk
+        (R.remaining reader.old) (R.remaining reader.new)
+        (W.contents writer.old) (W.contents writer.new) }
+{
+    let Some(task) = task_of(name, words) else {
+        let subject = subject_of(Refusal::BadGeometry, words, None);
         return refuse(
             errors,
             Refusal::BadGeometry,
@@ -114,7 +131,7 @@ pub fn run_on<S: AsStr, B: Start, R: Read, W: Write, E: Write>(
     } = execute(rt, alloc, task, start, reader, writer);
     match result {
         Ok(()) => Exit::unrefused(0, disk),
-        Err(refusal) => refuse(errors, refusal, subject_of(refusal, rest, fault), disk),
+        Err(refusal) => refuse(errors, refusal, subject_of(refusal, words, fault), disk),
     }
 }
 

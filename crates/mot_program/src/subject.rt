@@ -3,9 +3,10 @@
 use clap::ArgMatches;
 use disk_store::OpenFault;
 use mot_base::Refusal;
+use std::io::Write;
 
 /// What a refusal is about.
-#[derive(Clone, Copy, Debug)]
+#[derive(Clone, Copy)]
 pub(crate) enum Subject<'a> {
     /// What the refusal itself says.
     Nothing,
@@ -16,7 +17,7 @@ pub(crate) enum Subject<'a> {
 }
 
 /// An option whose number is out of its range.
-#[derive(Clone, Copy, Debug)]
+#[derive(Clone, Copy)]
 pub(crate) struct BadNumber {
     pub name: &'static str,
     pub range: &'static str,
@@ -90,6 +91,20 @@ pub(crate) fn subject_of<'a>(
         (Refusal::BadGeometry, _, _) => bad_number(words),
         (_, Some(path), Some(fault)) => Subject::File { path, fault },
         _ => Subject::Nothing,
+    }
+}
+
+/// Prints what a refusal is about, where there is more to tell.
+pub(crate) fn tell<E: Write>(errors: &mut E, subject: Subject<'_>) {
+    match subject {
+        Subject::Nothing => {}
+        Subject::File { path, fault } => {
+            let _ = writeln!(errors, "motcar: {path}: {fault}");
+        }
+        Subject::Number { option, number } => {
+            let BadNumber { name, range } = option;
+            let _ = writeln!(errors, "motcar: --{name} {number}: {range}");
+        }
     }
 }
 

@@ -1,38 +1,46 @@
 use Rattle.std.proofs.Common.{◌≡◌, ◌∙◌, arith, inl, inr, map, subst, sym}
+use Rattle.std.proofs.KnownBytes.{Keeps-refl}
+use Rattle.std.specs.Io.KnownBytes.{Keeps}
 use Rattle.clap.specs.Words.{found_of, rows_of}
 use Rattle.mot_air.specs.Program.{IsUntouched, no_help, no_memory}
-use Rattle.mot_air.proofs.Asked.{AskBy-matched, AskForHelp-shown, AreWrong-fault}
+use Rattle.mot_air.specs.Task.{AreWrong}
+use Rattle.mot_air.proofs.Asked.{AskBy-matched, AskForHelp-shown, AreWrong-fault, AreWrong-none}
 use Rattle.mot_air.proofs.program.run_air_on.Goals as goal
 
-pub returns-in-Err-try_get_matches_from-clause-done :
-    goal.returns-in-Err-try_get_matches_from-clause-done
-returns-in-Err-try_get_matches_from-clause-done g c = λ z. inr (
-  AskForHelp-shown (map g.S.AsStr.text c.args.words.now) c.in-Ok.command c.in-Ok.ensures
-      c.in-Err-try_get_matches_from.error c.in-Err-try_get_matches_from.ensures.kinds
+pub returns-in-Err-clause-done : goal.returns-in-Err-clause-done
+returns-in-Err-clause-done g c = λ z. inr (
+  AskForHelp-shown (map g.S.AsStr.text c.args.words.now) c.in-Err.error c.in-Err.ensures.kinds
       (c.explain.ensures.help z),
   subst (λ (d : _). IsUntouched d) (sym c.explain.ensures.untouched) tt,
 )
 
-pub returns-in-Err-try_get_matches_from-clause-refused :
-    goal.returns-in-Err-try_get_matches_from-clause-refused
-returns-in-Err-try_get_matches_from-clause-refused g c = λ z.
+pub returns-in-Err-clause-refused : goal.returns-in-Err-clause-refused
+returns-in-Err-clause-refused g c = λ z.
     let untouched = subst (λ (d : _). IsUntouched d) (sym c.explain.ensures.untouched) tt in
     elim (c.explain.ensures.refused z) [
       | inl why ↦ no_memory why.0 (record { untouched = untouched; silent = why.1 })
-      | inr why ↦ no_help (AskForHelp-shown (map g.S.AsStr.text c.args.words.now) c.in-Ok.command
-          c.in-Ok.ensures c.in-Err-try_get_matches_from.error
-          c.in-Err-try_get_matches_from.ensures.kinds why.1) why.0 untouched
+      | inr why ↦ no_help (AskForHelp-shown (map g.S.AsStr.text c.args.words.now) c.in-Err.error
+          c.in-Err.ensures.kinds why.1) why.0 untouched
     ]
 
-pub returns-in-Err-try_get_matches_from-clause-usage :
-    goal.returns-in-Err-try_get_matches_from-clause-usage
-returns-in-Err-try_get_matches_from-clause-usage g c = λ z. (
-  AreWrong-fault (map g.S.AsStr.text c.args.words.now) c.in-Ok.command c.in-Ok.ensures
-      c.in-Err-try_get_matches_from.error c.in-Err-try_get_matches_from.ensures.kinds
+pub returns-in-Err-clause-usage : goal.returns-in-Err-clause-usage
+returns-in-Err-clause-usage g c = λ z. (
+  AreWrong-fault (map g.S.AsStr.text c.args.words.now) c.in-Err.error c.in-Err.ensures.kinds
       (c.explain.ensures.usage z).0 (c.explain.ensures.usage z).1,
   subst (λ (d : _). IsUntouched d) (sym c.explain.ensures.untouched) tt,
   (c.explain.ensures.usage z).2,
 )
+
+pub returns-in_default-clause-usage : goal.returns-in_default-clause-usage
+returns-in_default-clause-usage g c =
+    let words = map g.S.AsStr.text c.args.words.now in
+    let old = g.W.Write.contents c.args.writer.now in
+    subst (λ (e : _). e.status ≡ 2 → AreWrong words × IsUntouched e.disk × Keeps old old)
+    (sym c.unrefused.ensures) (λ z. (
+      AreWrong-none words c.in-Ok.matches c.in-Ok.ensures.matches c.in_default.ensures.rows,
+      tt,
+      Keeps-refl _,
+    ))
 
 pub returns-clause-status : goal.returns-clause-status
 returns-clause-status g c = elim c.run_command.ensures.status [
@@ -43,18 +51,16 @@ returns-clause-status g c = elim c.run_command.ensures.status [
 pub returns-clause-done : goal.returns-clause-done
 returns-clause-done g c =
     let words = map g.S.AsStr.text c.args.words.now in
-    c.run_command.ensures.done words (AskBy-matched words c.in-Ok.command c.in-Ok.ensures
-    c.in-Ok-try_get_matches_from.matches c.in-Some.name.now
-    (rows_of (found_of c.in-Some.rest.now))
-    c.in-Ok-try_get_matches_from.ensures.matches c.in-Some.ensures.name c.in-Some.ensures.rows)
+    c.run_command.ensures.done words (AskBy-matched words c.in-Ok.matches c.in-Some.name.now
+    (rows_of (found_of c.in-Some.rest.now)) c.in-Ok.ensures.matches c.in-Some.ensures.name
+    c.in-Some.ensures.rows)
 
 pub returns-clause-refused : goal.returns-clause-refused
 returns-clause-refused g c =
     let words = map g.S.AsStr.text c.args.words.now in
-    c.run_command.ensures.refused words (AskBy-matched words c.in-Ok.command c.in-Ok.ensures
-    c.in-Ok-try_get_matches_from.matches c.in-Some.name.now
-    (rows_of (found_of c.in-Some.rest.now))
-    c.in-Ok-try_get_matches_from.ensures.matches c.in-Some.ensures.name c.in-Some.ensures.rows)
+    c.run_command.ensures.refused words (AskBy-matched words c.in-Ok.matches c.in-Some.name.now
+    (rows_of (found_of c.in-Some.rest.now)) c.in-Ok.ensures.matches c.in-Some.ensures.name
+    c.in-Some.ensures.rows)
 
 pub returns-clause-usage : goal.returns-clause-usage
 returns-clause-usage g c = λ two. elim c.run_command.ensures.status [

@@ -1,7 +1,6 @@
-use Rattle.std.proofs.Common.{◌≡◌, ◌⊎◌, ◌∙◌, List, ap, Ok, Some, inl, inr, refl, subst, sym}
+use Rattle.std.proofs.Common.{◌≡◌, ◌⊎◌, ◌∙◌, ap, arith, Ok, Some, inl, inr, refl, subst, sym}
 use Rattle.std.proofs.KnownBytes.{Keeps-refl}
 use Rattle.std.specs.Prelude.{IfErr}
-use Rattle.clap.specs.Words.{Text}
 use Rattle.mot_air.specs.Program.{DoesInPart, IsBeginningRefusal, IsRefused, IsUntold}
 use Rattle.mot_air.specs.Program.{Succeeds, begun, no_task, unbegun}
 use Rattle.mot_air.proofs.program.run_command.Goals as goal
@@ -26,6 +25,14 @@ returns-in-Ok-true-clause-done g c = λ words asks.
       c.execute-result.ensures.done
           (c.in-Ok-true.is ∙ ap (λ b. Ok b) c.in-Ok-true.field-0-test),
     ))
+
+pub returns-in-Ok-false-clause-done : goal.returns-in-Ok-false-clause-done
+returns-in-Ok-false-clause-done g c = λ words asks.
+    let old = g.W.Write.contents c.args.writer.now in
+    let new = g.W.Write.contents c.execute-result.new.writer in
+    subst (λ (e : _). e.status ≡ 0 → Succeeds words e.disk old new)
+    (sym c.unrefused-in-Ok-false.ensures)
+    (λ z. absurd (let e : 1 ≡ 0 = z in omega (arith, e)))
 
 pub returns-in-Ok-false-clause-refused : goal.returns-in-Ok-false-clause-refused
 returns-in-Ok-false-clause-refused g c = λ words asks.

@@ -23,3 +23,13 @@ returns-in_err-directory_of-in-format-clause-none c =
     (format_needs_both (rows_of (found_of c.args.words.now))
     (λ g directory gives given. c.in_err-directory_of-in-format.ensures.none directory given)
     c.args.name.now (cc))
+
+pub returns-in_ok-disk_of-in-serve-clause-some : goal.returns-in_ok-disk_of-in-serve-clause-some
+returns-in_ok-disk_of-in-serve-clause-some c = ((cc), c.in_ok-disk_of-in-serve.ensures.some)
+
+pub returns-in_ok-disk_of-in-check-clause-some : goal.returns-in_ok-disk_of-in-check-clause-some
+returns-in_ok-disk_of-in-check-clause-some c = ((cc), c.in_ok-disk_of-in-check.ensures.some)
+
+pub returns-in_ok-disk_of-in-migrate-clause-some :
+    goal.returns-in_ok-disk_of-in-migrate-clause-some
+returns-in_ok-disk_of-in-migrate-clause-some c = ((cc), c.in_ok-disk_of-in-migrate.ensures.some)

@@ -5,7 +5,7 @@ use Rattle.mot_base.specs.declared.refusal.Refusal.{Refusal}
 use Rattle.mot_feed.specs.Feeding.{IsUpdating}
 use Rattle.mot_server.specs.Attempts.{fault_of}
 use Rattle.mot_folder.specs.declared.report.Report.{Report}
-use Rattle.mot_folder.specs.Looked.{HasLookedAtFolder, listed, unlisted}
+use Rattle.mot_folder.specs.Looked.{HasLookedAtFolder, is_due, listed, unlisted}
 use Rattle.mot_journal.specs.Image.{Standing}
 use Rattle.mot_server.specs.Server.{ServerView}
 use Rattle.mot_update.proofs.Laws.{has_read}
@@ -28,8 +28,24 @@ updating_by old new start now s may path report fault is (listed names looked to
   waits = λ e. absurd (let t : true ≡ false = sym is ∙ e in cc);
 }
 
-pub returns-then-not-between_turns-clause-run : goal.returns-then-not-between_turns-clause-run
-returns-then-not-between_turns-clause-run g c = λ s holds honest.
+between_due : (left : ℕ) (between : Bool) → true ≡ is_due left between → between ≡ true
+between_due left true due = refl
+between_due left false due = absurd (cc)
+
+pub returns-then-not-look_is_due-clause-looks : goal.returns-then-not-look_is_due-clause-looks
+returns-then-not-look_is_due-clause-looks g c = λ due.
+    absurd (let e : false ≡ true = c.if-not-look_is_due.ensures.due ∙ due in cc)
+
+pub returns-then-not-look_is_due-clause-looked : goal.returns-then-not-look_is_due-clause-looked
+returns-then-not-look_is_due-clause-looked g c = λ due.
+    absurd (let e : false ≡ true = c.if-not-look_is_due.ensures.due ∙ due in cc)
+
+pub returns-clause-counts : goal.returns-clause-counts
+returns-clause-counts g c = λ due.
+    absurd (let e : true ≡ false = c.if-not-look_is_due.ensures.due ∙ due in cc)
+
+pub returns-then-not-look_is_due-clause-run : goal.returns-then-not-look_is_due-clause-run
+returns-then-not-look_is_due-clause-run g c = λ s holds honest.
     let old = c.args.server.now in
     let state = g.D.Disk.state old.disk in
     record {
@@ -46,7 +62,8 @@ returns-clause-run g c = λ s holds honest.
     let old = c.args.server.now in
     let new = c.look_at_folder-result.new.server in
     updating_by old new (state old.disk) (state new.disk) s _ _ _
-    (fault_of c.look_at_folder-result.result) c.if-not-between_turns.false
+    (fault_of c.look_at_folder-result.result)
+    (between_due c.args.self.now.left c.args.between_turns c.if-not-look_is_due.ensures.due)
     (c.look_at_folder-result.ensures.looked s holds honest)
 
 pub returns-clause-looked : goal.returns-clause-looked

@@ -1,0 +1,19 @@
+use Rattle.std.proofs.Common.{[]}
+use Rattle.mot_folder.specs.Log.{TellsAnswers}
+use Rattle.mot_folder.proofs.Log.{tells_same}
+use Rattle.mot_update.proofs.Laws.{tells_on}
+use Rattle.mot_folder.proofs.listing.add_all.Goals as goal
+
+pub loop-end-init : goal.loop-end-init
+loop-end-init g c = tells_same c.args.report.now
+
+pub returns-in_err-add_one : goal.returns-in_err-add_one
+returns-in_err-add_one g c = record {
+  told = tells_on (TellsAnswers c.args.report.now) (TellsAnswers c.loop-end.report)
+      (TellsAnswers c.add_one.new.report) [] c.loop-end.invariant c.in_err-add_one.ensures.told;
+}
+
+pub loop-end-preserved : goal.loop-end-preserved
+loop-end-preserved g c =
+    tells_on (TellsAnswers c.args.report.now) (TellsAnswers c.loop-end.report)
+    (TellsAnswers c.add_one.new.report) [] c.loop-end.invariant c.in_ok-add_one.ensures.told
