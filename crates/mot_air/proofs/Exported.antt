@@ -5,7 +5,7 @@ use Rattle.std.specs.Io.KnownBytes.{Appends}
 use Rattle.disk_store.specs.Disk.{IsHonestDisk, IsStill, State, OnlyReads, OnlySyncs}
 use Rattle.mot_air.specs.Exporting.{Exports, RebuildsByLines, StopsExporting, unprinted, unread}
 use Rattle.mot_air.specs.Inner.Printing.{IsPrintingFault}
-use Rattle.mot_air.proofs.Opened.{opened_holds, rises_later, still_unchanged}
+use Rattle.mot_air.proofs.Opened.{opened_holds, rises_later}
 use Rattle.mot_base.specs.declared.refusal.Refusal.{Refusal}
 use Rattle.mot_carousel.specs.Carousel.{Carousel}
 use Rattle.mot_carousel.specs.Rebuilding.{rebuilding}
@@ -16,6 +16,7 @@ use Rattle.mot_repository.proofs.Laws.{rules_kept, standings-are_sound}
 use Rattle.mot_repository.specs.Opening.{IsOpened}
 use Rattle.mot_repository.specs.Repository.{Holds}
 use Rattle.mot_server.specs.Server.{ServerView}
+use Rattle.mot_server.proofs.Laws.{still_unchanged}
 use Rattle.mot_update.proofs.Laws.{exports_are_taken}
 use Rattle.mot_update.specs.Export.{IsEmpty}
 

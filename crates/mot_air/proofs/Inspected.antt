@@ -11,7 +11,7 @@ use Rattle.mot_air.specs.Inspecting.{inspection_text, rates_text, sizes_text, tu
 use Rattle.mot_air.specs.Inspecting.{uncounted, unprinted, unread}
 use Rattle.mot_air.specs.Inner.Inspected.{HasInspected, IsInspectingFault}
 use Rattle.mot_air.specs.Playing.{first_place}
-use Rattle.mot_air.proofs.Opened.{opened_holds, rises_later, still_unchanged}
+use Rattle.mot_air.proofs.Opened.{opened_holds, rises_later}
 use Rattle.mot_base.specs.declared.geometry.Geometry.{Geometry}
 use Rattle.mot_base.specs.declared.refusal.Refusal.{Refusal}
 use Rattle.mot_carousel.specs.Carousel.{Object}
@@ -25,6 +25,7 @@ use Rattle.mot_repository.specs.Opening.{IsOpened}
 use Rattle.mot_repository.specs.Repository.{Agrees, Holds, RepositoryView}
 use Rattle.mot_server.specs.Playing.{HasPlayedTurn}
 use Rattle.mot_server.specs.Server.{ServerView, place_in}
+use Rattle.mot_server.proofs.Laws.{still_unchanged}
 
 -- one packet more
 pub bytes_more : (packets : List (List ℕ)) (packet : List ℕ)

@@ -81,28 +81,6 @@ opened_leaves start old now first last s commands marks fault sound all still ru
       at_end = run.at_end;
     }
 
--- no image comes in calls that bring none
-elapses_on : (a b c : State) → Elapses a b Nothing → Elapses b c Nothing → Elapses a c Nothing
-elapses_on a b c first second = record {
-  later = let l = first.later in let m = second.later in omega (arith, l, m);
-  nothing_else = λ t image le left.
-      let l = first.later in
-      ⊎_elim (λ was. first.nothing_else t image le was) (λ none. absurd none)
-      (second.nothing_else t image (omega (arith, l, le)) left);
-  keeps = λ t image le left.
-      let l = first.later in
-      second.keeps t image (omega (arith, l, le)) (first.keeps t image le left);
-}
-
--- a disk that is only synced, and then left as it is
-pub still_unchanged : (a b c : State) → IsStill a b → IsUnchanged b c → IsStill a c
-still_unchanged a b c first second = record {
-  bytes = second.bytes ∙ first.bytes;
-  time = elapses_on a b c first.time second.time;
-  images = λ image left. first.images image ((second.images image).0 left);
-  loose = λ k is. first.loose k ((second.loose k).0 is);
-}
-
 -- a disk that fails after some calls has failed in all of them
 pub rises_later : (old mid new : ℕ) → old ≤ mid → mid ≤ new → Rises mid new → Rises old new
 rises_later old mid new first second rises =

@@ -152,8 +152,3 @@ line_put a b c d o front body end =
     let digits = encode_lower o.body in
     Appends-trans a c d (words ++ digits) (10 ∷ [])
     (Appends-trans a b c words digits front body) end
-
--- what follows from what holds on Ok, holds on Ok
-pub OnOk-one : {T E P R : Type 0} (r : Result T E) → (P → R) → OnOk r P → OnOk r R
-OnOk-one (Ok x) f p = f p
-OnOk-one (Err e) f p = tt

@@ -4,18 +4,13 @@ use Rattle.std.proofs.Common.{arith}
 use Rattle.std.proofs.Common.{subst, sym}
 use Rattle.std.proofs.Math.Logic.{⊎_elim}
 use Rattle.std.proofs.Math.Nat.{eq-or-lt_of_le}
-use Rattle.std.specs.Prelude.{IfErr, OnOk, OnErr}
+use Rattle.std.specs.Prelude.{IfErr, OnErr}
 use Rattle.disk_store.specs.Disk.{Elapses, IsStill, IsUnchanged, Nothing, State}
 use Rattle.disk_store.specs.Failures.{Rises}
 use Rattle.mot_base.specs.declared.refusal.Refusal.{Refusal}
 use Rattle.mot_base.specs.declared.refusal.Refusal.TheVariants.{DeviceFault, OutOfMemory}
 use Rattle.mot_base.specs.declared.refusal.Refusal.TheVariants.{ReadFault, WriteFault}
 use Rattle.mot_session.specs.Served.{EndsServing}
-
--- what follows from what holds on Ok, holds on Ok
-pub OnOk-one : {T E P R : Type 0} (r : Result T E) → (P → R) → OnOk r P → OnOk r R
-OnOk-one (Ok x) f p = f p
-OnOk-one (Err e) f p = tt
 
 -- what holds anyhow holds on an error
 pub OnErr-always : {T E P : Type 0} (r : Result T E) → P → OnErr r P

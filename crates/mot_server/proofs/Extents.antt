@@ -1,7 +1,7 @@
 -- The bodies that lie on a disk.
-use Rattle.std.proofs.Common.{◌≡◌, ℕ, ◌+◌, ◌-◌, ◌<◌, ◌≤◌, List, [], ◌∷◌, ◌++◌, length, map, take}
-use Rattle.std.proofs.Common.{drop, replicate, refl, sym, ap, ◌∙◌, arith, slice_range, length-take}
-use Rattle.std.proofs.Common.{length-drop, length-append}
+use Rattle.std.proofs.Common.{◌≡◌, ℕ, ◌+◌, ◌<◌, List, [], ◌∷◌, ◌++◌, length, map, take}
+use Rattle.std.proofs.Common.{replicate, refl, sym, ap, ◌∙◌, arith, slice_range, length-take}
+use Rattle.std.proofs.Common.{length-append}
 use Rattle.std.proofs.lemmas.List.{get_or-map, length-replicate}
 use Rattle.std.proofs.Math.Seq.{take-append_seam}
 use Rattle.mot_base.specs.Geometry.{area_start}

@@ -9,6 +9,7 @@ pub use Rattle.mot_server.proofs.Lives.{plays_after, plays_new}
 pub use Rattle.mot_server.proofs.Survival.{passing, if_err}
 -- calls that change nothing, one after the other
 pub use Rattle.mot_server.proofs.Read.{holds_still, rises_on}
+pub use Rattle.mot_server.proofs.Openings.{still_unchanged}
 -- a device fault leaves the carousel in memory as it was
 pub use Rattle.mot_server.proofs.Runs.{still_agrees}
 -- a geometry that is valid

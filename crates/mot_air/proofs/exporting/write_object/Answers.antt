@@ -1,6 +1,7 @@
 use Rattle.std.proofs.Common.{◌<◌, subst}
 use Rattle.std.specs.Io.KnownBytes.{Appends}
-use Rattle.mot_air.proofs.Printed.{OnOk-one, kept_at, line_put, object_is}
+use Rattle.std.proofs.lemmas.Result.{on_ok_weaker}
+use Rattle.mot_air.proofs.Printed.{kept_at, line_put, object_is}
 use Rattle.mot_lines.specs.Export.{put_line}
 use Rattle.mot_carousel.specs.Carousel.{Object}
 use Rattle.mot_carousel.specs.Stands.{object_of}
@@ -16,7 +17,7 @@ returns-clause-written g c = λ s o holds honest at.
     c.carousel.ensures.value in
     let within = subst (λ n. c.args.place < n) view.carousel.objects.ok.0 c.requires.place in
     let same = object_is view s holds.agrees c.args.place x o within is at in
-    OnOk-one c.write_bytes.result (λ end.
+    on_ok_weaker c.write_bytes.result (λ end.
     subst (λ (p : Object). Appends (known c.args.writer.now) (known c.write_bytes.new.writer)
     (put_line p)) same (line_put (known c.args.writer.now) (known c.write_words.new.writer)
     (known c.write_body.new.writer) (known c.write_bytes.new.writer)

@@ -1,7 +1,7 @@
 use Rattle.std.proofs.Common.{◌≡◌, ◌∙◌, ℕ, List, length, ap, subst}
 use Rattle.std.specs.List.{sum_by}
 use Rattle.std.specs.Io.KnownBytes.{Appends}
-use Rattle.mot_air.proofs.Printed.{OnOk-one}
+use Rattle.std.proofs.lemmas.Result.{on_ok_weaker}
 use Rattle.mot_air.specs.Inspecting.{use_text}
 use Rattle.mot_base.specs.declared.geometry.Geometry.{Geometry}
 use Rattle.mot_carousel.specs.declared.carousel.Carousel.{Carousel}
@@ -25,7 +25,7 @@ returns-clause-written g c =
     ∙ ap (λ os. text view.journal.geometry view.journal.layout os records) objects
     ∙ ap (λ n. text view.journal.geometry view.journal.layout items n)
     c.record_count-records.ensures in
-    OnOk-one c.write_used.result (λ p. (
+    on_ok_weaker c.write_used.result (λ p. (
       gap,
       c.longest_gap-gap.ensures,
       subst (Appends (g.W.Write.contents c.args.writer.now)

@@ -2,7 +2,7 @@ use Rattle.std.proofs.Common.{◌∙◌, ◌++◌, ℕ, List, length, ap, subst,
 use Rattle.std.proofs.KnownBytes.{Appends-trans}
 use Rattle.std.specs.List.{sum_by}
 use Rattle.std.specs.Io.KnownBytes.{Appends}
-use Rattle.mot_air.proofs.Printed.{OnOk-one}
+use Rattle.std.proofs.lemmas.Result.{on_ok_weaker}
 use Rattle.mot_air.specs.Inspecting.{data_text, shares_line}
 use Rattle.mot_carousel.specs.declared.object.Object.{Object}
 use Rattle.mot_air.proofs.inspecting.write_used.Goals as goal
@@ -26,6 +26,6 @@ returns-clause-written g c =
     c.slot_count-slots.ensures in
     let two = Appends-trans _ _ _ _ _ c.in_ok-write_shares.ensures.written
     c.in_ok-write_data.ensures.written in
-    OnOk-one c.write_shares-2.result (λ last. subst (Appends (g.W.Write.contents c.args.writer.now)
+    on_ok_weaker c.write_shares-2.result (λ last. subst (Appends (g.W.Write.contents c.args.writer.now)
     (g.W.Write.contents c.write_shares-2.new.writer)) same (Appends-trans _ _ _ _ _ two last))
     c.write_shares-2.ensures.written

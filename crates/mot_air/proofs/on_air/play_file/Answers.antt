@@ -1,7 +1,7 @@
 use Rattle.std.proofs.Common.{None, inr, subst, sym}
 use Rattle.std.specs.Prelude.{is_none}
+use Rattle.std.proofs.lemmas.Result.{on_ok_weaker}
 use Rattle.mot_air.proofs.Begun.{IfErr-one, done-is, refused-is, since_opened}
-use Rattle.mot_air.proofs.Printed.{OnOk-one}
 use Rattle.mot_air.specs.Inner.Packets.{target_of}
 use Rattle.mot_air.specs.Playing.{Plays}
 use Rattle.mot_air.specs.Program.{FailsPlaying, OnOpened, turns_of}
@@ -17,7 +17,7 @@ returns-clause-done g c = λ is.
       c.in-Ok.ensures,
       subst (OnOpened P) (sym c.done.ensures.disk)
           (done-is ended.result c.done.result.result
-          (OnOk-one ended.result (λ p. since_opened c.in-Ok-open_from.disk ended.disk P opens.order
+          (on_ok_weaker ended.result (λ p. since_opened c.in-Ok-open_from.disk ended.disk P opens.order
           opens.new opens.first_bytes p) c.play_into-ended.ensures.done) c.done.ensures.refused is),
     )
 

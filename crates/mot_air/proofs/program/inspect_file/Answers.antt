@@ -1,7 +1,7 @@
 use Rattle.std.proofs.Common.{◌≡◌, ◌⊎◌, inr, subst, sym}
 use Rattle.std.specs.Prelude.{IfErr}
+use Rattle.std.proofs.lemmas.Result.{on_ok_weaker}
 use Rattle.mot_air.proofs.Begun.{IfErr-one, done-is, refused-is, since_opened}
-use Rattle.mot_air.proofs.Printed.{OnOk-one}
 use Rattle.mot_air.specs.Inspecting.{Inspects, StopsInspecting}
 use Rattle.mot_air.specs.Program.{IsUntold, OnOpened}
 use Rattle.mot_base.specs.declared.refusal.Refusal.TheVariants.{DeviceFault}
@@ -15,7 +15,7 @@ returns-in-Ok-clause-done g c = λ is.
     let new = g.W.Write.contents c.inspect_disk.new.writer in
     subst (OnOpened (Inspects old new)) (sym c.done.ensures.disk)
     (done-is ended.result c.done.result.result
-    (OnOk-one ended.result (λ p. since_opened c.in-Ok.disk ended.disk (Inspects old new) opens.order
+    (on_ok_weaker ended.result (λ p. since_opened c.in-Ok.disk ended.disk (Inspects old new) opens.order
     opens.new opens.first_bytes p) c.inspect_disk.ensures.done) c.done.ensures.refused is)
 
 pub returns-in-Ok-clause-refused : goal.returns-in-Ok-clause-refused

@@ -1,6 +1,7 @@
 use Rattle.std.proofs.Common.{◌++◌, ◌∙◌, ap, sym, subst, inl, inr}
 use Rattle.std.proofs.KnownBytes.{Keeps-refl}
 use Rattle.std.specs.Prelude.{◌↔◌, IfErr, IsTrue}
+use Rattle.std.proofs.lemmas.Result.{on_ok_weaker}
 use Rattle.disk_store.specs.Disk.{IsStill}
 use Rattle.disk_store.specs.Failures.{Rises}
 use Rattle.mot_journal.specs.Image.{stands_for, IsClean}
@@ -11,7 +12,7 @@ use Rattle.mot_repository.specs.Opening.IsOpeningRefusal.{device}
 use Rattle.mot_repository.proofs.Laws.{stands_where}
 use Rattle.mot_program.specs.Report.{StopsChecking, clean_line, layout_line}
 use Rattle.mot_program.specs.Report.IsUnreported.{unprinted, unread}
-use Rattle.mot_program.proofs.Ends.{IfErr-one, OnOk-one, calm_refused, rises_later}
+use Rattle.mot_program.proofs.Ends.{IfErr-one, calm_refused, rises_later}
 use Rattle.mot_program.proofs.Ends.{still_unchanged}
 use Rattle.mot_program.proofs.checking.check_disk.Given as given
 use Rattle.mot_program.proofs.checking.check_disk.Goals as goal
@@ -60,7 +61,7 @@ returns-clause-refused g c =
     }) calls.silent
 
 pub returns-clause-done : goal.returns-clause-done
-returns-clause-done g c = OnOk-one c.report-result.result (λ told. record {
+returns-clause-done g c = on_ok_weaker c.report-result.result (λ told. record {
   still = still g c;
   text = _;
   printed = told.1;

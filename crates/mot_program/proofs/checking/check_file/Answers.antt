@@ -1,9 +1,10 @@
 use Rattle.std.proofs.Common.{◌≡◌, ◌⊎◌, IfErr, OnOk, inl, inr, refl, subst, sym}
 use Rattle.std.proofs.KnownBytes.{Keeps-refl}
+use Rattle.std.proofs.lemmas.Result.{on_ok_weaker}
 use Rattle.mot_base.specs.declared.refusal.Refusal.TheVariants.{DeviceFault}
 use Rattle.mot_program.specs.Program.{IsUntold, OnOpened}
 use Rattle.mot_program.specs.Report.{Checks, StopsChecking}
-use Rattle.mot_program.proofs.Ends.{IfErr-one, OnOk-one}
+use Rattle.mot_program.proofs.Ends.{IfErr-one}
 use Rattle.mot_program.proofs.Handed.{since_opened}
 use Rattle.mot_program.proofs.checking.check_file.Goals as goal
 
@@ -14,7 +15,7 @@ returns-in-Ok-clause-done g c =
     let ended = c.check_disk.result in
     subst (λ (f : _). OnOk f.result (OnOpened (Checks old new) f.disk))
     (sym c.of_file.ensures)
-    (OnOk-one ended.result (since_opened c.in-Ok.disk.disk ended.disk.disk (Checks old new)
+    (on_ok_weaker ended.result (since_opened c.in-Ok.disk.disk ended.disk.disk (Checks old new)
     c.in-Ok.ensures.first ended.disk.begins c.check_disk.ensures.keeps) c.check_disk.ensures.done)
 
 pub returns-in-Ok-clause-refused : goal.returns-in-Ok-clause-refused

@@ -1,11 +1,10 @@
 use Rattle.std.proofs.Common.{◌≡◌, ◌++◌, ◌∙◌, ap, inl, subst}
 use Rattle.std.specs.Io.KnownBytes.{Appends}
 use Rattle.std.proofs.KnownBytes.{Appends-trans}
-use Rattle.std.proofs.lemmas.Result.{err_from_is_err_and}
+use Rattle.std.proofs.lemmas.Result.{err_from_is_err_and, on_ok_weaker}
 use Rattle.mot_lines.specs.Listing.{listing_text_beside}
 use Rattle.mot_repository.specs.Repository.{RepositoryView}
 use Rattle.mot_program.specs.Report.{clean_line, layout_line}
-use Rattle.mot_program.proofs.Ends.{OnOk-one}
 use Rattle.mot_program.proofs.checking.report.Goals as goal
 
 pub returns-clause-told : goal.returns-clause-told
@@ -31,7 +30,7 @@ returns-clause-told g c =
     let new = g.W.Write.contents c.write_last.new.writer in
     let so_far = Appends-trans _ _ _ _ _
     c.in_ok-write_listing.ensures c.in_ok-write_bytes.ensures.written in
-    OnOk-one c.write_last.result (λ last. (
+    on_ok_weaker c.write_last.result (λ last. (
       clean,
       subst (Appends old new) text (Appends-trans _ _ _ _ _ so_far last),
       c.in_ok-is_clean.ensures.exact,

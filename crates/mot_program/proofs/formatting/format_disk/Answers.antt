@@ -1,9 +1,10 @@
 use Rattle.std.proofs.Common.{Err, ap, inl, inr}
 use Rattle.std.proofs.KnownBytes.{Keeps-refl}
+use Rattle.std.proofs.lemmas.Result.{on_ok_weaker}
 use Rattle.mot_program.specs.Report.{IsFormatted, IsUnderFormat}
 use Rattle.mot_program.specs.Report.IsFormattingRefusal.{already, device, too_small}
 use Rattle.mot_program.specs.Report.StopsFormatting.{refused, unprinted}
-use Rattle.mot_program.proofs.Ends.{IfErr-one, OnOk-one}
+use Rattle.mot_program.proofs.Ends.{IfErr-one}
 use Rattle.mot_program.proofs.formatting.format_disk.Given as given
 use Rattle.mot_program.proofs.formatting.format_disk.Goals as goal
 
@@ -43,7 +44,7 @@ formatted g c =
     }
 
 pub returns-in-Ok-clause-done : goal.returns-in-Ok-clause-done
-returns-in-Ok-clause-done g c = OnOk-one c.write_formatted.result (λ told. record {
+returns-in-Ok-clause-done g c = on_ok_weaker c.write_formatted.result (λ told. record {
   formatted = formatted g c;
   printed = told;
 }) c.write_formatted.ensures.written

@@ -1,8 +1,9 @@
 use Rattle.std.proofs.Common.{◌⊎◌, IfErr, OnOk, inl, inr, refl, subst, sym}
 use Rattle.std.proofs.KnownBytes.{Keeps-refl}
+use Rattle.std.proofs.lemmas.Result.{on_ok_weaker}
 use Rattle.mot_program.specs.Program.{IsMakingRefusal, IsUntold, OnOpenedOrMade}
 use Rattle.mot_program.specs.Report.{Formats, StopsFormatting}
-use Rattle.mot_program.proofs.Ends.{IfErr-one, OnOk-one}
+use Rattle.mot_program.proofs.Ends.{IfErr-one}
 use Rattle.mot_program.proofs.Handed.{since_opened}
 use Rattle.mot_program.proofs.formatting.format_file.Goals as goal
 
@@ -16,7 +17,7 @@ returns-in-Ok-clause-done g c =
     subst (λ (f : _). OnOk f.result
     (OnOpenedOrMade geometry (Formats geometry directory old new) f.disk))
     (sym c.of_file.ensures)
-    (OnOk-one c.format_disk-result.result (λ p. (
+    (on_ok_weaker c.format_disk-result.result (λ p. (
       c.if-not-is_valid.ensures.0 refl,
       inl (since_opened c.in-Ok.disk.disk last.disk (Formats geometry directory old new)
           c.in-Ok.ensures.first last.begins c.format_disk-result.ensures.keeps p),

@@ -1,9 +1,10 @@
 use Rattle.std.proofs.Common.{◌⊎◌, ◌∙◌, IfErr, OnOk, inl, inr, refl, subst, sym}
 use Rattle.std.proofs.KnownBytes.{Keeps-refl}
+use Rattle.std.proofs.lemmas.Result.{on_ok_weaker}
 use Rattle.mot_base.specs.Geometry.{length_of}
 use Rattle.mot_program.specs.Program.{IsMakingRefusal, IsUntold, OnOpenedOrMade}
 use Rattle.mot_program.specs.Report.{Formats, StopsFormatting}
-use Rattle.mot_program.proofs.Ends.{IfErr-one, OnOk-one}
+use Rattle.mot_program.proofs.Ends.{IfErr-one}
 use Rattle.mot_program.proofs.Handed.{since_made}
 use Rattle.mot_program.proofs.formatting.format_new_file.Goals as goal
 
@@ -17,7 +18,7 @@ returns-clause-done g c =
     subst (λ (f : _). OnOk f.result
     (OnOpenedOrMade geometry (Formats geometry directory old new) f.disk))
     (sym c.of_file.ensures)
-    (OnOk-one c.format_disk-result.result (λ p. (
+    (on_ok_weaker c.format_disk-result.result (λ p. (
       c.requires,
       inr (since_made c.in-Ok.disk.disk last.disk (Formats geometry directory old new)
           (length_of geometry) c.in-Ok.ensures.first (c.in-Ok.ensures.len ∙ c.length.ensures)

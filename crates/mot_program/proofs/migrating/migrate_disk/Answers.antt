@@ -2,13 +2,14 @@ use Rattle.std.proofs.Common.{◌∙◌, ap, inl, inr, subst, sym}
 use Rattle.std.proofs.KnownBytes.{Keeps-refl}
 use Rattle.std.specs.Prelude.{IfErr}
 use Rattle.std.specs.Io.KnownBytes.{Appends}
+use Rattle.std.proofs.lemmas.Result.{on_ok_weaker}
 use Rattle.mot_journal.specs.Journal.{with_records}
 use Rattle.mot_repository.specs.Answers.IsMigrationRefusal.{failed, halted, no_memory}
 use Rattle.mot_repository.specs.Opening.IsOpeningRefusal.{device, no_memory as no_room}
 use Rattle.mot_repository.specs.Repository.{IsOf}
 use Rattle.mot_program.specs.Report.{IsCalm, IsMigrated, StopsMigrating}
 use Rattle.mot_program.specs.Report.StopsMigrating.{refused, unprinted}
-use Rattle.mot_program.proofs.Ends.{IfErr-one, OnOk-one, calm_refused, rises_later}
+use Rattle.mot_program.proofs.Ends.{IfErr-one, calm_refused, rises_later}
 use Rattle.mot_program.proofs.Ends.{still_unchanged}
 use Rattle.mot_program.proofs.Opened.{migrates_held, migrates_under, opened_throughout}
 use Rattle.mot_program.proofs.migrating.migrate_disk.Given as given
@@ -58,7 +59,7 @@ returns-in-Ok-migrate-clause-done g c =
     let state = g.D.Disk.state in
     let old = g.W.Write.contents c.args.writer.now in
     let new = g.W.Write.contents c.write_last.new.writer in
-    OnOk-one c.write_last.result (λ told. record {
+    on_ok_weaker c.write_last.result (λ told. record {
       done = c.in-Ok-migrate.is_rewritten;
       migrated = subst (λ d. IsMigrated c.in-Ok-migrate.is_rewritten (state c.args.disk) (state d))
           (sym c.into_disk.ensures) (migrated g c);

@@ -1,10 +1,11 @@
 use Rattle.std.proofs.Common.{◌≡◌, ◌⊎◌, IfErr, OnOk, inl, inr, refl, subst, sym}
 use Rattle.std.specs.Io.KnownBytes.{Keeps}
 use Rattle.std.proofs.KnownBytes.{Keeps-refl}
+use Rattle.std.proofs.lemmas.Result.{on_ok_weaker}
 use Rattle.mot_base.specs.declared.refusal.Refusal.TheVariants.{DeviceFault}
 use Rattle.mot_program.specs.Program.{IsUntold, OnOpened}
 use Rattle.mot_program.specs.Serving.{ServesInput, StopsServing}
-use Rattle.mot_program.proofs.Ends.{IfErr-one, OnOk-one}
+use Rattle.mot_program.proofs.Ends.{IfErr-one}
 use Rattle.mot_program.proofs.Handed.{since_opened}
 use Rattle.mot_program.proofs.serving.serve_file.Goals as goal
 
@@ -17,7 +18,7 @@ returns-in-Ok-clause-done g c =
     let ended = c.serve_disk.result in
     subst (λ (f : _). OnOk f.result (OnOpened (ServesInput remains left old new) f.disk))
     (sym c.of_file.ensures)
-    (OnOk-one ended.result (since_opened c.in-Ok.disk.disk ended.disk.disk
+    (on_ok_weaker ended.result (since_opened c.in-Ok.disk.disk ended.disk.disk
     (ServesInput remains left old new)
     c.in-Ok.ensures.first ended.disk.begins c.serve_disk.ensures.keeps) c.serve_disk.ensures.done)
 

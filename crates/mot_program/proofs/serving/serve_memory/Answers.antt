@@ -1,6 +1,7 @@
 use Rattle.std.proofs.Common.{inr, refl}
+use Rattle.std.proofs.lemmas.Result.{on_ok_weaker}
 use Rattle.mot_program.specs.Program.{IsNewInMemory}
-use Rattle.mot_program.proofs.Ends.{IfErr-one, OnOk-one}
+use Rattle.mot_program.proofs.Ends.{IfErr-one}
 use Rattle.mot_program.proofs.serving.serve_memory.Given as given
 use Rattle.mot_program.proofs.serving.serve_memory.Goals as goal
 
@@ -14,7 +15,7 @@ begun g c = record {
 }
 
 pub returns-clause-done : goal.returns-clause-done
-returns-clause-done g c = OnOk-one c.serve_disk-ended.result.result (λ served. record {
+returns-clause-done g c = on_ok_weaker c.serve_disk-ended.result.result (λ served. record {
   first = c.format.new.disk;
   begun = begun g c;
   since = served;
