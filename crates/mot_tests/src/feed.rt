@@ -8,13 +8,20 @@ use mot_carousel::{Body, Command, Content, Name};
 use mot_feed::{Direct, NoUpdate, feed, send_packets};
 use std::alloc::Global;
 
-fn put(alloc: Global, server: &mut Server, name: &[u8]) -> Result<(), Refusal> {
-    let command = Command::Put {
-        name: Name::new(name.to_vec(alloc)?)?,
-        content: Content::new(2, 3)?,
+fn put_of(alloc: Global, name: &[u8]) -> Result<Command, Refusal> {
+    let content = Content::new(2, 3)?;
+    let body = Body::new([1, 2, 3].to_vec(alloc)?)?;
+    let name = Name::new(name.to_vec(alloc)?)?;
+    Ok(Command::Put {
+        name,
+        content,
         mime: None,
-        body: Body::new([1, 2, 3].to_vec(alloc)?)?,
-    };
+        body,
+    })
+}
+
+fn put(alloc: Global, server: &mut Server, name: &[u8]) -> Result<(), Refusal> {
+    let command = put_of(alloc, name)?;
     match server.execute(alloc, &command) {
         Ok(_) => Ok(()),
         Err(refusal) => Err(refusal),
