@@ -5,7 +5,7 @@ use Rattle.std.proofs.Common.{◌≤◌, arith, sym, subst}
 use Rattle.std.specs.Prelude.{IsFalse}
 use Rattle.std.proofs.Math.Logic.{⊎_elim}
 use Rattle.std.proofs.Math.Nat.{eq-or-lt_of_le}
-use Rattle.disk_store.specs.Disk.{Elapses, IsHonestDisk, IsStill, IsUnchanged, Nothing, State}
+use Rattle.disk_store.specs.Disk.{IsHonestDisk, IsStill, State}
 use Rattle.disk_store.specs.Failures.{Rises}
 use Rattle.disk_store.specs.Disk.{Throughout}
 use Rattle.disk_store.proofs.Laws.{only_bytes, begins, joins, stays}

@@ -2,7 +2,7 @@
 use Rattle.std.proofs.Common.{◌≡◌, ℕ, zero, suc, ◌+◌, ◌-◌, ◌/◌, ◌%◌, ◌<◌, ◌≤◌, List, [], ◌∷◌, ◌++◌}
 use Rattle.std.proofs.Common.{length, take, drop, get_or}
 use Rattle.std.proofs.Common.{Option, Some, map, refl, sym, ap, ◌∙◌, subst, arith, add-one, append-nil}
-use Rattle.std.specs.Prelude.{OnOk, Result, Ok, Err, slice_get, slice_index, slice_range}
+use Rattle.std.specs.Prelude.{slice_get, slice_index, slice_range}
 use Rattle.std.specs.List.{flat_map}
 use Rattle.std.specs.Io.KnownBytes.{Appends}
 use Rattle.std.proofs.KnownBytes.{Appends-trans}
