@@ -21,7 +21,7 @@ abbrev pub reply_line : Attempt → List ℕ
 reply_line (Accepted done) = done_line done
 reply_line (Refused refusal) = refusal_line refusal
 
--- a byte of a name as it is told: a control character, which might end the line, as `?`
+-- a byte of a name as it is told: one below 0x20, and 0x7F, as `?`, so that none ends the line
 abbrev pub told_byte : ℕ → ℕ
 told_byte byte = if nat_lt byte 32 || byte == 127 then 63 else byte
 
