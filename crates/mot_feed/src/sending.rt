@@ -9,7 +9,7 @@ ghost use Rattle.mot_server.specs.Server.{place_in};
 use crate::Outlet;
 use disk_store::Disk;
 use mot_base::Refusal;
-use mot_player::Played;
+use mot_packets::Packet;
 use mot_server::Server;
 
 /// Sends so many packets by the order of sending, each in one write, before the next is asked for.
@@ -58,7 +58,8 @@ pub(crate) fn send_one<D: Disk, O: Outlet>(
         → SendsPacket result (place_in server.old s) (place_in server.new s)
         (O.writes outlet.old) (O.writes outlet.new) }
 {
-    let Played { packet, ends_turn } = server.next_packet()?;
+    let mut packet = Packet::new();
+    let ends_turn = server.next_into(&mut packet)?;
     let bytes = packet.as_slice();
     match outlet.write_once(bytes) {
         Ok(count) => {

@@ -4,4 +4,4 @@
 mod header;
 mod packet;
 
-pub use packet::{MAX_PACKET, Packet, cut_packet, packet_count};
+pub use packet::{MAX_PACKET, Packet, cut_packet, cut_packet_into, packet_count};

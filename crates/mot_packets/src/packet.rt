@@ -73,6 +73,31 @@ pub fn cut_packet(
     ensures only { (bytes : List ℕ) (p : PacketFields) → AreBytes bytes
         → read_packet bytes ≡ Some p → bytes ≡ bytes_of_packet p }
 {
+    let mut packet = Packet::new();
+    cut_packet_into(&mut packet, group, at, full_length, address, index);
+    packet
+}
+
+/// As `cut_packet`, in the place of what `packet` holds.
+#[inline(always)]
+pub fn cut_packet_into(
+    packet: &mut Packet,
+    group: &[u8],
+    at: usize,
+    full_length: PacketLength,
+    address: Address,
+    index: u8,
+)
+    requires inside { at < length group.now }
+    requires index { index < 4 }
+    ensures written { packet.new.items
+        ≡ bytes_of_packet (piece_at (room_of full_length) address index group.now at) }
+    ensures reads { read_packet packet.new.items
+        ≡ Some (piece_at (room_of full_length) address index group.now at) }
+    ensures len { array_vec_len packet.new
+        ≡ (piece_at (room_of full_length) address index group.now at).room + 5 }
+    ensures bytes { AreBytes packet.new.items }
+{
     let rest = &group[at..];
     let room = full_length.room();
     let is_last = rest.len() <= room;
@@ -88,9 +113,8 @@ pub fn cut_packet(
         is_last,
         address,
     };
-    let mut packet = Packet::new();
-    fill_packet(&mut packet, header, useful);
-    packet
+    packet.clear();
+    fill_packet(packet, header, useful);
 }
 
 /// Fills a packet, which is empty, by this header and useful data; the rest of its data field is

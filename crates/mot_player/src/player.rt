@@ -17,6 +17,7 @@ use crate::last_group::LastGroup;
 use crate::state::State;
 use crate::{Bodies, Played, Turn};
 use mot_base::{Address, PacketLength, Refusal, SegmentSize};
+use mot_packets::Packet;
 use std::alloc::Global;
 use std::marker::Model;
 
@@ -116,7 +117,6 @@ impl Player {
 
     /// The next packet. It takes no memory; `DeviceFault` where a read of the bodies failed, and
     /// then the player is as before. The bodies are those of the last turn handed in.
-    #[inline(always)]
     pub fn next_packet<B: Bodies>(&mut self, bodies: &mut B) -> Result<Played, Refusal>
         requires { AreBodiesFor self.old.turn (B.bodies bodies.old) }
         ensures sent { B.IsHonest bodies.new → IfOk result (λ played.
@@ -145,9 +145,49 @@ impl Player {
         ensures place { (bodies : List (List ℕ)) → AreBodiesFor self.old.turn bodies
             → IsPlace (place_of self.old bodies) }
     {
+        let mut packet = Packet::new();
+        let ends_turn = self.next_into(bodies, &mut packet)?;
+        Ok(Played { packet, ends_turn })
+    }
+
+    /// As `next_packet`, in the place of what `packet` holds; whether it ends the turn.
+    #[inline(always)]
+    pub fn next_into<B: Bodies>(
+        &mut self,
+        bodies: &mut B,
+        packet: &mut Packet,
+    ) -> Result<bool, Refusal>
+        requires { AreBodiesFor self.old.turn (B.bodies bodies.old) }
+        ensures sent { B.IsHonest bodies.new → IfOk result (λ ends_turn.
+            IsStep (place_of self.old (B.bodies bodies.old)) packet.new.items ends_turn
+            (place_of self.new (B.bodies bodies.old))) }
+
+        // Whatever bytes a read gave, it is the next packet of some bodies of the turn's lengths.
+        ensures sent_of_some { IfOk result (λ ends_turn. IsStepOfSome self.old
+            packet.new.items ends_turn self.new) }
+        ensures turn { self.new.turn ≡ self.old.turn }
+        ensures size { self.new.segment_size ≡ self.old.segment_size }
+        ensures stays { OnErr result (self.new ≡ self.old) }
+        ensures lengths { map length (B.bodies bodies.new) ≡ map length (B.bodies bodies.old) }
+        ensures unchanged { B.IsHonest bodies.old → B.bodies bodies.new ≡ B.bodies bodies.old }
+        ensures was_honest { B.IsHonest bodies.new → B.IsHonest bodies.old }
+        ensures only_read { B.HasOnlyRead bodies.old bodies.new }
+        ensures failed { OnErr result (Rises (B.failures bodies.old) (B.failures bodies.new)) }
+        ensures no_fault { OnOk result (B.failures bodies.new ≡ B.failures bodies.old) }
+        ensures refused { IfErr result (λ refusal. refusal ≡ DeviceFault) }
+
+        // Whatever bytes a read gave, each packet brings the end of the turn nearer.
+        ensures nearer { IfOk result (λ ends_turn. ends_turn ≡ false
+            → bytes_left self.new < bytes_left self.old) }
+
+        // From each of its places every group can be sent.
+        ensures place { (bodies : List (List ℕ)) → AreBodiesFor self.old.turn bodies
+            → IsPlace (place_of self.old bodies) }
+        ensures left { OnErr result (packet.new ≡ packet.old) }
+    {
         if self.state.sent == 0 {
             self.state.begin(bodies)?;
         }
-        Ok(self.state.send())
+        Ok(self.state.send(packet))
     }
 }

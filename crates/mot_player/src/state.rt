@@ -9,7 +9,7 @@ use crate::part::{Part, part_at};
 use crate::reading::read_front;
 use crate::{Bodies, Turn};
 use mot_base::{Address, GroupKind, PacketLength, Refusal, SegmentSize};
-use mot_packets::{Packet, cut_packet};
+use mot_packets::{Packet, cut_packet_into};
 
 /// What comes next of a turn, and the group under way.
 #[derive(Drop)]
@@ -145,28 +145,29 @@ impl State {
         self.segment = part.next_segment;
     }
 
-    /// Sends the next packet of the group that was begun.
+    /// Sends the next packet of the group that was begun, by `packet`; whether it ends the turn.
     #[inline(always)]
-    pub fn send(&mut self) -> Played
+    pub fn send(&mut self, packet: &mut Packet) -> bool
         requires fitted { IsFitted self.old }
         requires left { self.old.sent < vec_len self.old.group }
         ensures fitted { IsFitted self.new }
         ensures turn { self.new.turn ≡ self.old.turn }
         ensures size { self.new.segment_size ≡ self.old.segment_size }
         ensures left { 0 < self.new.sent → self.new.sent < vec_len self.new.group }
-        ensures bytes { (bodies : List (List ℕ)) → result.packet.items ≡ bytes_of_packet
+        ensures bytes { (bodies : List (List ℕ)) → packet.new.items ≡ bytes_of_packet
             (packet_sent (place_with self.old bodies) self.old.group.items self.old.sent).packet }
-        ensures packet { (bodies : List (List ℕ)) → read_packet result.packet.items
+        ensures packet { (bodies : List (List ℕ)) → read_packet packet.new.items
             ≡ Some (packet_sent (place_with self.old bodies) self.old.group.items
             self.old.sent).packet }
         ensures place { (bodies : List (List ℕ)) → place_with self.new bodies
             ≡ (packet_sent (place_with self.old bodies) self.old.group.items self.old.sent).place }
         ensures ends_turn { (bodies : List (List ℕ)) → AreBodiesFor self.old.turn bodies
-            → result.ends_turn
+            → result
             ≡ (packet_sent (place_with self.old bodies) self.old.group.items
             self.old.sent).ends_turn }
     {
-        let packet = cut_packet(
+        cut_packet_into(
+            packet,
             self.group.as_slice(),
             self.sent,
             self.full_length,
@@ -175,9 +176,9 @@ impl State {
         );
         let room = self.full_length.room();
         let is_last = self.group.len() - self.sent <= room;
+        let ends_turn = is_last && self.entity == self.turn.entity_count();
         self.sent = if is_last { 0 } else { self.sent + room };
         self.index = (self.index + 1) % 4;
-        let ends_turn = is_last && self.entity == self.turn.entity_count();
-        Played { packet, ends_turn }
+        ends_turn
     }
 }

@@ -220,7 +220,6 @@ impl<D: Disk> Server<D> {
 
     /// The next packet by the order of sending. It takes no memory. Its refusals are `DeviceFault`
     /// where a body can't be read, after which the server goes on from where it was, and `Halted`.
-    #[inline(always)]
     pub fn next_packet(&mut self) -> Result<Played, Refusal>
         ensures only_reads { OnlyReads (D.state self.old.disk) (D.state self.new.disk) }
         ensures view { self.new.view ≡ self.old.view }
@@ -247,12 +246,46 @@ impl<D: Disk> Server<D> {
         ensures refused { IfErr result (λ refusal. IsReadRefusal self.old self.new
             (D.state self.old.disk).failures (D.state self.new.disk).failures refusal) }
     {
+        let mut packet = Packet::new();
+        let ends_turn = self.next_into(&mut packet)?;
+        Ok(Played { packet, ends_turn })
+    }
+
+    /// As `next_packet`, in the place of what `packet` holds; whether it ends the turn.
+    #[inline(always)]
+    pub fn next_into(&mut self, packet: &mut Packet) -> Result<bool, Refusal>
+        ensures only_reads { OnlyReads (D.state self.old.disk) (D.state self.new.disk) }
+        ensures view { self.new.view ≡ self.old.view }
+
+        // a part of a body at most
+        ensures cost { (D.state self.new.disk).calls ≤ (D.state self.old.disk).calls + 1 }
+
+        // It is the next packet of what the disk stands for.
+        ensures sent { (s : journal.Standing) → Holds self.old.view s (D.state self.old.disk)
+            → (D.state self.new.disk).IsHonest → IfOk result (λ ends_turn. IsStep
+            (place_in self.old s) packet.new.items ends_turn (place_in self.new s)) }
+        ensures stays { OnErr result (self.new.player ≡ self.old.player) }
+
+        // On every disk it is the next packet of some bodies of the turn's lengths.
+        ensures of_some { IfOk result (λ ends_turn. IsStepOfSome self.old.player
+            packet.new.items ends_turn self.new.player) }
+
+        // On every disk, each packet brings the end of the turn nearer.
+        ensures nearer { IfOk result (λ ends_turn. ends_turn ≡ false
+            → bytes_left self.new.player < bytes_left self.old.player) }
+        ensures going { OnOk result (IsFalse self.old.view.halted) }
+        ensures no_fault { OnOk result
+            ((D.state self.new.disk).failures ≡ (D.state self.old.disk).failures) }
+        ensures refused { IfErr result (λ refusal. IsReadRefusal self.old self.new
+            (D.state self.old.disk).failures (D.state self.new.disk).failures refusal) }
+        ensures left { OnErr result (packet.new ≡ packet.old) }
+    {
         if self.bodies.repository.halted() {
             return Err(Refusal::Halted);
         }
         // There is a body for each object.
         let _ = self.bodies.repository.body_count();
-        self.player.next_packet(&mut self.bodies)
+        self.player.next_into(&mut self.bodies, packet)
     }
 
     /// The packets up to the first that ends a turn: from the beginning of a turn on they read as

@@ -1,17 +1,16 @@
-use Rattle.std.proofs.Common.{◌≡◌, ℕ, List, refl, subst}
+use Rattle.std.proofs.Common.{◌≡◌, ℕ, Bool, List, refl, subst}
 use Rattle.std.specs.Prelude.{IfOk}
 use Rattle.mot_journal.specs.Image.{Standing}
 use Rattle.mot_player.specs.Laws.{IsStep}
 use Rattle.mot_player.specs.PlayerView as player
-use Rattle.mot_player.specs.declared.state.Played.{Played}
 use Rattle.mot_repository.specs.Repository.{Holds}
 use Rattle.mot_server.specs.Inner.Bodies.{bodies_on}
 use Rattle.mot_server.specs.Server.{bodies_of}
 use Rattle.mot_server.proofs.Read.{are_bodies_on, bodies_held}
-use Rattle.mot_server.proofs.server.Server.next_packet.Goals as goal
+use Rattle.mot_server.proofs.server.Server.next_into.Goals as goal
 
-pub next_packet-requires : goal.next_packet-requires
-next_packet-requires g c =
+pub next_into-requires : goal.next_into-requires
+next_into-requires g c =
     let r = c.self.inside.bodies.repository in
     let image : List ℕ = (g.D.Disk.state r.disk).bytes in
     c.self.invariant.sized (bodies_on r.view.journal.geometry r.view.extents image)
@@ -30,13 +29,13 @@ returns-clause-sent g c = λ s holds honest.
     bodies_held r.view s (state r.disk) (g.met.D.Disk.sound r.disk held.journal.honest) held
     c.body_count.ensures.paired in
     let same_player : c.self.inside.player ≡ now.player = rw (← c.self.view_is) refl in
-    let new : player.PlayerView = c.next_packet.new.self in
+    let new : player.PlayerView = c.next_into.new.self in
     subst (λ (p : player.PlayerView).
-    IfOk c.next_packet.result
-    (λ (played : Played). IsStep (player.place_of p (bodies_of s.carousel))
-    played.packet.items played.ends_turn (player.place_of new (bodies_of s.carousel)))) same_player
+    IfOk c.next_into.result
+    (λ (ends_turn : Bool). IsStep (player.place_of p (bodies_of s.carousel))
+    c.next_into.new.packet.items ends_turn (player.place_of new (bodies_of s.carousel)))) same_player
     (subst (λ (bodies : List (List ℕ)).
-    IfOk c.next_packet.result
-    (λ (played : Played). IsStep (player.place_of c.self.inside.player bodies)
-    played.packet.items played.ends_turn (player.place_of new bodies))) same
-    (c.next_packet.ensures.sent honest))
+    IfOk c.next_into.result
+    (λ (ends_turn : Bool). IsStep (player.place_of c.self.inside.player bodies)
+    c.next_into.new.packet.items ends_turn (player.place_of new bodies))) same
+    (c.next_into.ensures.sent honest))

@@ -10,9 +10,9 @@ use Rattle.mot_player.specs.declared.player.Player.TheInside.{Inside}
 use Rattle.mot_player.specs.declared.state.State.{State}
 use Rattle.mot_player.proofs.Answered.{place_is, answers-under_way, answers-begun, sent_from}
 use Rattle.mot_player.proofs.Nearer.{are-blank, left-less, nearer-begun, nearer-under_way}
-use Rattle.mot_player.proofs.player.Player.next_packet.Goals as goal
-use Rattle.mot_player.proofs.player.Player.next_packet.Goals.{then-self-eq0+in_ok-begin}
-use Rattle.mot_player.proofs.player.Player.next_packet.Goals.{else-self-eq0}
+use Rattle.mot_player.proofs.player.Player.next_into.Goals as goal
+use Rattle.mot_player.proofs.player.Player.next_into.Goals.{then-self-eq0+in_ok-begin}
+use Rattle.mot_player.proofs.player.Player.next_into.Goals.{else-self-eq0}
 
 pub returns-clause-sent : goal.returns-clause-sent
 returns-clause-sent g c = λ honest.
@@ -21,8 +21,8 @@ returns-clause-sent g c = λ honest.
     subst (λ (t : TurnPlan). AreBodiesFor t bodies)
     (sym (ap (λ (s : PlayerView). s.turn) c.self.view_is)) c.requires in
     let answered : PlayerView
-    → Type 0 = λ s. IsStep (place_of s bodies) c.send.result.packet.items
-    c.send.result.ends_turn
+    → Type 0 = λ s. IsStep (place_of s bodies) c.send.new.packet.items
+    c.send.result
     (place_with c.send.new.self bodies) in
     elim c.if-self-eq0.branch [
       | then-self-eq0+in_ok-begin w ↦ (
@@ -31,12 +31,12 @@ returns-clause-sent g c = λ honest.
           let same : c.if-self-eq0.self-inside.state ≡ w.begin.new.self =
           ap (λ (i : Inside). i.state) w.self-inside-is in
           let bytes = subst (λ (s : State).
-          c.send.result.packet.items ≡ bytes_of_packet (sent_from s bodies).packet) same
+          c.send.new.packet.items ≡ bytes_of_packet (sent_from s bodies).packet) same
           (c.send.ensures.bytes bodies) in
           let packet = subst (λ (s : State).
-          read_packet c.send.result.packet.items ≡ Some (sent_from s bodies).packet) same
+          read_packet c.send.new.packet.items ≡ Some (sent_from s bodies).packet) same
           (c.send.ensures.packet bodies) in
-          let ends = subst (λ (s : State). c.send.result.ends_turn ≡ (sent_from s bodies).ends_turn)
+          let ends = subst (λ (s : State). c.send.result ≡ (sent_from s bodies).ends_turn)
           same
           (c.send.ensures.ends_turn bodies
           (subst (λ (s : State). AreBodiesFor s.turn bodies) (sym same) later)) in
@@ -44,8 +44,8 @@ returns-clause-sent g c = λ honest.
           place_with c.send.new.self bodies ≡ (sent_from s bodies).place) same
           (c.send.ensures.place bodies) in
           subst answered c.self.view_is
-          (answers-begun c.self.inside.state w.begin.new.self bodies c.send.result.packet.items
-          c.send.result.ends_turn (place_with c.send.new.self bodies) w.if-self-eq0.true
+          (answers-begun c.self.inside.state w.begin.new.self bodies c.send.new.packet.items
+          c.send.result (place_with c.send.new.self bodies) w.if-self-eq0.true
           w.in_ok-begin.ensures.sent
           (w.in_ok-begin.ensures.begun (subst g.B.Bodies.IsHonest w.bodies-is honest)) bytes packet
           ends place))
@@ -53,12 +53,12 @@ returns-clause-sent g c = λ honest.
           let same : c.if-self-eq0.self-inside.state ≡ c.self.inside.state =
           ap (λ (i : Inside). i.state) w.self-inside-is in
           let bytes = subst (λ (s : State).
-          c.send.result.packet.items ≡ bytes_of_packet (sent_from s bodies).packet) same
+          c.send.new.packet.items ≡ bytes_of_packet (sent_from s bodies).packet) same
           (c.send.ensures.bytes bodies) in
           let packet = subst (λ (s : State).
-          read_packet c.send.result.packet.items ≡ Some (sent_from s bodies).packet) same
+          read_packet c.send.new.packet.items ≡ Some (sent_from s bodies).packet) same
           (c.send.ensures.packet bodies) in
-          let ends = subst (λ (s : State). c.send.result.ends_turn ≡ (sent_from s bodies).ends_turn)
+          let ends = subst (λ (s : State). c.send.result ≡ (sent_from s bodies).ends_turn)
           same
           (c.send.ensures.ends_turn bodies
           (subst (λ (s : State). AreBodiesFor s.turn bodies) (sym same) own)) in
@@ -66,8 +66,8 @@ returns-clause-sent g c = λ honest.
           place_with c.send.new.self bodies ≡ (sent_from s bodies).place) same
           (c.send.ensures.place bodies) in
           subst answered c.self.view_is
-          (answers-under_way c.self.inside.state bodies c.send.result.packet.items
-          c.send.result.ends_turn (place_with c.send.new.self bodies) w.if-self-eq0.false
+          (answers-under_way c.self.inside.state bodies c.send.new.packet.items
+          c.send.result (place_with c.send.new.self bodies) w.if-self-eq0.false
           bytes packet ends place))
     ]
 
@@ -92,7 +92,7 @@ returns-clause-nearer g c = λ goes_on.
           let same : mid ≡ w.begin.new.self = ap (λ (i : Inside). i.state) w.self-inside-is in
           let kept = ap (λ (s : State). s.turn) same ∙ w.in_ok-begin.ensures.turn in
           let none = ap (λ (s : State). s.sent) same ∙ w.in_ok-begin.ensures.sent in
-          subst left c.self.view_is (left-less old mid new c.send.result.ends_turn kept
+          subst left c.self.view_is (left-less old mid new c.send.result kept
           c.send.ensures.turn ends place
           (λ bodies are. nearer-begun old mid bodies w.if-self-eq0.true none
           (subst (λ (s : State). HasTaken old s bodies) (sym same)
@@ -101,7 +101,7 @@ returns-clause-nearer g c = λ goes_on.
           let same : mid ≡ old = ap (λ (i : Inside). i.state) w.self-inside-is in
           let some : 0 < old.sent = omega (arith, w.if-self-eq0.false) in
           let kept = ap (λ (s : State). s.turn) same in
-          subst left c.self.view_is (left-less old mid new c.send.result.ends_turn kept
+          subst left c.self.view_is (left-less old mid new c.send.result kept
           c.send.ensures.turn ends place
           (λ bodies are. subst (λ (s : State). (sent_from s bodies).ends_turn ≡ false
           → bytes_due (sent_from s bodies).place < bytes_due (place_with old bodies)) (sym same)
@@ -112,9 +112,9 @@ pub returns-clause-sent_of_some : goal.returns-clause-sent_of_some
 returns-clause-sent_of_some g c =
     let old : State = c.self.inside.state in
     let new : State = c.send.new.self in
-    let packet : List ℕ = c.send.result.packet.items in
+    let packet : List ℕ = c.send.new.packet.items in
     let answered : PlayerView → Type 0 = λ s.
-    IsStepOfSome s packet c.send.result.ends_turn (view_of new) in
+    IsStepOfSome s packet c.send.result (view_of new) in
     elim c.if-self-eq0.branch [
       | then-self-eq0+in_ok-begin w ↦ (
           let mid : State = w.begin.new.self in
@@ -130,7 +130,7 @@ returns-clause-sent_of_some g c =
           let reads = subst (λ (s : State). read_packet packet ≡ Some (sent_from s bodies).packet)
           same
           (c.send.ensures.packet bodies) in
-          let ends = subst (λ (s : State). c.send.result.ends_turn ≡ (sent_from s bodies).ends_turn)
+          let ends = subst (λ (s : State). c.send.result ≡ (sent_from s bodies).ends_turn)
           same
           (c.send.ensures.ends_turn bodies
           (subst (λ (s : State). AreBodiesFor s.turn bodies) (sym same) are)) in
@@ -139,7 +139,7 @@ returns-clause-sent_of_some g c =
           subst answered c.self.view_is (record {
             bodies = bodies;
             sized = some.1;
-            step = answers-begun old mid bodies packet c.send.result.ends_turn
+            step = answers-begun old mid bodies packet c.send.result
                 (place_with new bodies)
                 w.if-self-eq0.true w.in_ok-begin.ensures.sent some.2 bytes reads ends place;
           }))
@@ -154,7 +154,7 @@ returns-clause-sent_of_some g c =
           let reads = subst (λ (s : State). read_packet packet ≡ Some (sent_from s bodies).packet)
           same
           (c.send.ensures.packet bodies) in
-          let ends = subst (λ (s : State). c.send.result.ends_turn ≡ (sent_from s bodies).ends_turn)
+          let ends = subst (λ (s : State). c.send.result ≡ (sent_from s bodies).ends_turn)
           same
           (c.send.ensures.ends_turn bodies
           (subst (λ (s : State). AreBodiesFor s.turn bodies) (sym same) are)) in
@@ -163,7 +163,7 @@ returns-clause-sent_of_some g c =
           subst answered c.self.view_is (record {
             bodies = bodies;
             sized = are;
-            step = answers-under_way old bodies packet c.send.result.ends_turn
+            step = answers-under_way old bodies packet c.send.result
                 (place_with new bodies)
                 w.if-self-eq0.false bytes reads ends place;
           }))
