@@ -24,8 +24,7 @@ use crate::deciding::{Decision, decide};
 use disk_store::Disk;
 use mot_base::{Geometry, Refusal};
 use mot_lines::{Line, PacketLine, done_text, refusal_text, set_packet_text};
-use mot_packets::{cut_packet, packet_count};
-use mot_player::Played;
+use mot_packets::{Packet, cut_packet, packet_count};
 use mot_server::Server;
 use std::alloc::Global;
 use std::io::Write;
@@ -159,8 +158,9 @@ fn write_next_packet<W: Write, D: Disk>(
     ensures nearer { IfOk result (λ shown. shown ≡ Some false
         → bytes_left server.new.player < bytes_left server.old.player) }
 {
-    match server.next_packet() {
-        Ok(Played { packet, ends_turn }) => {
+    let mut packet = Packet::new();
+    match server.next_into(&mut packet) {
+        Ok(ends_turn) => {
             set_packet_text(line, &packet, ends_turn);
             write_whole(writer, line.as_slice())?;
             Ok(Some(ends_turn))

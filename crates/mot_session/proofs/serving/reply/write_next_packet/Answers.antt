@@ -10,11 +10,11 @@ returns-in_err-write_whole-in-Ok-clause-answers g c = λ s holds honest.
     let state = g.D.Disk.state in
     let p = err_from_is_err_and c.from_residual.result c.from_residual.ensures.1 in
     let run = c.in-Ok.ensures in
-    rw p.1 (AnswersOne-sent c.args.server.now c.next_packet.new.self (state c.args.server.now.disk)
-    (state c.next_packet.new.self.disk)
+    rw p.1 (AnswersOne-sent c.args.server.now c.next_into.new.self (state c.args.server.now.disk)
+    (state c.next_into.new.self.disk)
     (record { view = run.view; disk = run.only_reads })
     honest s
-    c.in-Ok.field-0.packet.items c.in-Ok.field-0.ends_turn (run.sent s holds honest) (Err _) tt
+    c.next_into.new.packet.items c.in-Ok.ends_turn (run.sent s holds honest) (Err _) tt
     c.as_slice.result.now (c.as_slice.ensures.value ∙ c.set_packet_text.ensures) _ _
     c.in_err-write_whole-in-Ok.ensures)
 
@@ -23,12 +23,12 @@ pub returns-in_ok-write_whole-in-Ok-clause-answers :
 returns-in_ok-write_whole-in-Ok-clause-answers g c = λ s holds honest.
     let state = g.D.Disk.state in
     let run = c.in-Ok.ensures in
-    AnswersOne-sent c.args.server.now c.next_packet.new.self (state c.args.server.now.disk)
-    (state c.next_packet.new.self.disk)
+    AnswersOne-sent c.args.server.now c.next_into.new.self (state c.args.server.now.disk)
+    (state c.next_into.new.self.disk)
     (record { view = run.view; disk = run.only_reads })
     honest s
-    c.in-Ok.field-0.packet.items c.in-Ok.field-0.ends_turn (run.sent s holds honest)
-    (Ok (Some c.in-Ok.field-0.ends_turn)) refl
+    c.next_into.new.packet.items c.in-Ok.ends_turn (run.sent s holds honest)
+    (Ok (Some c.in-Ok.ends_turn)) refl
     c.as_slice.result.now (c.as_slice.ensures.value ∙ c.set_packet_text.ensures) _ _
     c.in_ok-write_whole-in-Ok.ensures
 
@@ -36,13 +36,13 @@ pub returns-in_err-write_whole-in-Ok-clause-anyhow :
     goal.returns-in_err-write_whole-in-Ok-clause-anyhow
 returns-in_err-write_whole-in-Ok-clause-anyhow g c = λ going.
     let p = err_from_is_err_and c.from_residual.result c.from_residual.ensures.1 in
-    rw p.1 (shows c.in-Ok.field-0.packet.items c.in-Ok.field-0.ends_turn c.in-Ok.ensures.no_fault
+    rw p.1 (shows c.next_into.new.packet.items c.in-Ok.ends_turn c.in-Ok.ensures.no_fault
     tt (rw (c.as_slice.ensures.value, c.set_packet_text.ensures) at
     c.in_err-write_whole-in-Ok.ensures))
 
 pub returns-in_ok-write_whole-in-Ok-clause-anyhow :
     goal.returns-in_ok-write_whole-in-Ok-clause-anyhow
 returns-in_ok-write_whole-in-Ok-clause-anyhow g c = λ going.
-    shows c.in-Ok.field-0.packet.items c.in-Ok.field-0.ends_turn c.in-Ok.ensures.no_fault
+    shows c.next_into.new.packet.items c.in-Ok.ends_turn c.in-Ok.ensures.no_fault
     refl (rw (c.as_slice.ensures.value, c.set_packet_text.ensures) at
     c.in_ok-write_whole-in-Ok.ensures)
