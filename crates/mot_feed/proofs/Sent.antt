@@ -2,12 +2,12 @@
 use Rattle.std.proofs.Common.{◌≡◌, ◌∙◌, ℕ, suc, ◌+◌, ◌<◌, Bool, List, [], ◌∷◌, ◌++◌, length}
 use Rattle.std.proofs.Common.{Option, Some, Result, Ok, Err, take, refl, sym, ap, subst, arith}
 use Rattle.std.proofs.Common.{add-one}
-use Rattle.std.specs.Prelude.{◌≢◌, IsErrAnd, IsFalse, IsTrue}
+use Rattle.std.specs.Prelude.{◌≢◌, IsFalse, IsTrue}
 use Rattle.mot_journal.specs.Image.{Standing}
 use Rattle.mot_player.specs.PlayerView as player
 use Rattle.mot_repository.specs.Repository.{RepositoryView}
 use Rattle.mot_server.specs.Server.{ServerView, bodies_of, place_in}
-use Rattle.disk_store.specs.Disk.{State, IsUnchanged}
+use Rattle.disk_store.specs.Disk.{State}
 use Rattle.disk_store.specs.Failures.{Rises}
 use Rattle.mot_base.specs.declared.refusal.Refusal.{Refusal}
 use Rattle.mot_base.specs.declared.refusal.Refusal.TheVariants.{DeviceFault, Halted, OutOfMemory}

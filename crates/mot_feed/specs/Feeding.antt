@@ -1,7 +1,6 @@
 -- What taking turns between updates and packets does.
 use Rattle.std.specs.Prelude.{ℕ, ◌≡◌, ◌⊎◌, ◌+◌, ◌<◌, Bool, true, false, not, ◌&&◌, ◌||◌}
 use Rattle.std.specs.Prelude.{if◌then◌else◌, List, [], ◌∷◌, length, map, Option, Some, None}
-use Rattle.std.specs.Prelude.{Result, Ok, Err}
 use Rattle.disk_store.specs.Disk.{State}
 use Rattle.mot_base.specs.declared.refusal.Refusal.{Refusal}
 use Rattle.mot_carousel.specs.Carousel.{Carousel, carousel_if_accepted, change}
