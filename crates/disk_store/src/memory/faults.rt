@@ -22,7 +22,7 @@ pub struct Faults {
 }
 
 impl Plan {
-    ghost use Rattle.disk_store.specs.Faults.{fails, after_call, no_plan};
+    ghost use Rattle.disk_store.specs.Faults.{fails, next_plan, no_plan};
 
     /// No call is to fail.
     pub fn new() -> Self
@@ -42,8 +42,8 @@ impl Plan {
     }
 
     /// The plan after the next call.
-    pub fn after_call(&self) -> Self
-        ensures value { result ≡ after_call self.now }
+    pub fn next_plan(&self) -> Self
+        ensures value { result ≡ next_plan self.now }
         ensures moves_on { (k : ℕ) → 1 ≤ k → fails result k ≡ fails self.now (k + 1) }
     {
         Plan {
@@ -57,7 +57,7 @@ impl Plan {
 }
 
 impl Faults {
-    ghost use Rattle.disk_store.specs.Faults.{no_plan, after_call, next_count, is_struck};
+    ghost use Rattle.disk_store.specs.Faults.{no_plan, next_plan, next_count, is_struck};
 
     /// No call was made, and none is to fail.
     pub fn new() -> Self
@@ -78,14 +78,14 @@ impl Faults {
         ensures failures { self.new.failures
             ≡ (if result then next_count self.old.failures else self.old.failures) }
         ensures calls { self.new.calls ≡ next_count self.old.calls }
-        ensures plan { self.new.plan ≡ after_call self.old.plan }
+        ensures plan { self.new.plan ≡ next_plan self.old.plan }
         ensures fits { self.new.failures ≤ most_failures }
         ensures rises { IsTrue result ↔ Rises self.old.failures self.new.failures }
         ensures room { OnFalse result (self.new.failures < most_failures) }
     {
         let is_struck = self.plan.fails_next() || self.failures == u64::MAX;
         self.calls = self.calls.saturating_add(1);
-        self.plan = self.plan.after_call();
+        self.plan = self.plan.next_plan();
         if is_struck {
             self.failures = self.failures.saturating_add(1);
         }
