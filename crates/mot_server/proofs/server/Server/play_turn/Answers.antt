@@ -1,5 +1,5 @@
 use Rattle.std.proofs.Common.{ℕ, Bool, inl, suc, List, [], ◌∷◌, ◌++◌, length, length-append, refl}
-use Rattle.std.proofs.Common.{sym, ap, ◌∙◌, subst, arith}
+use Rattle.std.proofs.Common.{sym, ap, ◌≡◌, ◌∙◌, subst, arith}
 use Rattle.disk_store.proofs.Laws.{reads_none, reads_on}
 use Rattle.mot_player.specs.AnyBodies.{IsStepOfSome, PlaysOn, PlaysToTheEnd}
 use Rattle.mot_player.specs.PlayerView as player
@@ -11,7 +11,30 @@ use Rattle.mot_server.proofs.Going.{MatchResult-failed, OnErr-always, PlaysOn-mo
 use Rattle.mot_server.proofs.Going.{bytes_of_packets-more, plays_one_more}
 use Rattle.mot_server.proofs.Read.{holds_still}
 use Rattle.mot_server.proofs.Whole.{turn_reads}
+use Rattle.mot_journal.specs.Image.{Standing}
+use Rattle.mot_repository.specs.Repository.{Holds}
+use Rattle.mot_server.proofs.server.Server.play_turn.Given as given
 use Rattle.mot_server.proofs.server.Server.play_turn.Goals as goal
+use Rattle.mot_server.proofs.server.Server.play_turn.Goals.{After-next_packet, In_ok-push}
+
+-- what was kept of the disk at the beginning is kept of it before the next packet
+held_before : (g : given.Over) (c : After-next_packet g) (s : Standing)
+    → Holds c.args.self.now.view s (g.D.Disk.state c.args.self.now.disk)
+    → (g.D.Disk.state c.loop-packets.self.disk).IsHonest
+    → Holds c.loop-packets.self.view s (g.D.Disk.state c.loop-packets.self.disk)
+held_before g c s holds was =
+    let state = g.D.Disk.state in
+    let start = c.args.self.now in
+    let mid = c.loop-packets.self in
+    let is = c.loop-packets.invariant in
+    holds_still start.view mid.view s (state start.disk) (state mid.disk) holds was
+    (is.reads.unchanged was) is.view
+
+-- the packets are those before, and the next
+one_more : (g : given.Over) (c : In_ok-push g) → bytes_of_packets c.push.new.self.items
+    ≡ bytes_of_packets c.loop-packets.packets.items ++ c.in_ok-packet.field-0.packet.items ∷ []
+one_more g c = ap bytes_of_packets c.in_ok-push.ensures.items
+    ∙ bytes_of_packets-more c.loop-packets.packets.items c.in_ok-packet.field-0.packet
 
 pub loop-packets-init : goal.loop-packets-init
 loop-packets-init g c = record {
@@ -58,9 +81,9 @@ returns-then-ends_turn-clause-of_some g c =
     let now = c.next_packet.new.self.player in
     let packets : List (List ℕ) = bytes_of_packets c.loop-packets.packets.items in
     let played = c.in_ok-packet.field-0 in
-    let items = ap bytes_of_packets c.in_ok-push.ensures.items
-    ∙ bytes_of_packets-more c.loop-packets.packets.items played.packet in
-    subst (λ (xs : List (List ℕ)). PlaysToTheEnd start xs now) (sym items) (record {
+    let before = goal.at.returns-then-ends_turn-clause-of_some g c in
+    subst (λ (xs : List (List ℕ)). PlaysToTheEnd start xs now)
+    (sym (one_more g before.In_ok-push)) (record {
       before = packets;
       last = played.packet.items;
       mid = mid;
@@ -90,11 +113,9 @@ returns-in_err-push-clause-stands g c = λ s holds honest.
     let start = c.args.self.now in
     let mid = c.loop-packets.self in
     let now = c.next_packet.new.self in
-    let state = g.D.Disk.state in
     let was = c.next_packet.ensures.only_reads.keeps.was_honest honest in
-    let held = holds_still start.view mid.view s (state start.disk) (state mid.disk) holds was
-    (c.loop-packets.invariant.reads.unchanged was)
-    c.loop-packets.invariant.view in
+    let before = goal.at.returns-in_err-push-clause-stands g c in
+    let held = held_before g before.After-next_packet s holds was in
     let packets : List (List ℕ) = bytes_of_packets c.loop-packets.packets.items in
     let going = c.loop-packets.invariant.going s holds was in
     OnErr-always c.from_residual-in_err-push.result _ (
@@ -111,14 +132,11 @@ returns-then-ends_turn-clause-turn g c = λ s holds honest.
     let start = c.args.self.now in
     let mid = c.loop-packets.self in
     let now = c.next_packet.new.self in
-    let state = g.D.Disk.state in
     let was = c.next_packet.ensures.only_reads.keeps.was_honest honest in
-    let held = holds_still start.view mid.view s (state start.disk) (state mid.disk) holds was
-    (c.loop-packets.invariant.reads.unchanged was)
-    c.loop-packets.invariant.view in
-    let items = ap bytes_of_packets c.in_ok-push.ensures.items
-    ∙ bytes_of_packets-more c.loop-packets.packets.items c.in_ok-packet.field-0.packet in
-    subst (λ (xs : List (List ℕ)). HasPlayedTurn (place_in start s) xs (place_in now s)) (sym items)
+    let before = goal.at.returns-then-ends_turn-clause-turn g c in
+    let held = held_before g before.After-next_packet s holds was in
+    subst (λ (xs : List (List ℕ)). HasPlayedTurn (place_in start s) xs (place_in now s))
+    (sym (one_more g before.In_ok-push))
     (HasPlayedTurn-ended (place_in start s) (place_in mid s) (place_in now s)
     (bytes_of_packets c.loop-packets.packets.items) (c.loop-packets.invariant.going s holds was)
     c.in_ok-packet.field-0.packet.items
@@ -141,8 +159,8 @@ loop-packets-preserved g c =
     let now = c.next_packet.new.self in
     let state = g.D.Disk.state in
     let is = c.loop-packets.invariant in
-    let items = ap bytes_of_packets c.in_ok-push.ensures.items
-    ∙ bytes_of_packets-more c.loop-packets.packets.items c.in_ok-packet.field-0.packet in
+    let before = goal.at.loop-packets-preserved g c in
+    let items = one_more g before.In_ok-push in
     record {
       view = c.next_packet.ensures.view ∙ is.view;
       reads = reads_on (state start.disk) (state mid.disk) (state now.disk) is.reads
@@ -160,8 +178,7 @@ loop-packets-preserved g c =
           );
       going = λ s holds honest.
           let was = c.next_packet.ensures.only_reads.keeps.was_honest honest in
-          let held = holds_still start.view mid.view s (state start.disk) (state mid.disk) holds was
-          (is.reads.unchanged was) is.view in
+          let held = held_before g before.After-next_packet s holds was in
           subst (λ (xs : List (List ℕ)). IsGoing (place_in start s) xs (place_in now s)) (sym items)
           (IsGoing-more (place_in start s) (place_in mid s) (place_in now s)
           (bytes_of_packets c.loop-packets.packets.items)
