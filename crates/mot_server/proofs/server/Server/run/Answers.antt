@@ -18,8 +18,19 @@ use Rattle.mot_server.proofs.RunAnswered.{answered_halted, answered_no_memory, a
 use Rattle.mot_server.proofs.RunAnswered.{keeps_layout}
 use Rattle.mot_server.proofs.Answered.{goes_on_true, goes_on_false, ends_here, run_fault, as_halted}
 use Rattle.mot_server.proofs.Answered.{no_fault_in, no_fault_of}
+use Rattle.mot_server.proofs.server.Server.run.Given as given
 use Rattle.mot_server.proofs.server.Server.run.Goals as goal
+use Rattle.mot_server.proofs.server.Server.run.Goals.{After-execute}
 use Rattle.mot_server.proofs.server.Server.run.Goals.{in-Ok-execute, in-Err+else-ends_run}
+
+-- the command of this round is the one behind those that have marks
+command_at : (g : given.Over) (c : After-execute g)
+    → slice_get c.args.commands.now (length c.loop-command.done.items) ≡ Some c.command-item.result
+command_at g c =
+    let read = slice_get_read c.args.commands.now _ c.loop-command.command-index
+    c.command-item.result refl c.loop-command-test.true c.command-item.is in
+    subst (λ i. slice_get c.args.commands.now i ≡ Some c.command-item.result)
+    (sym c.loop-command.invariant.index) read
 
 pub returns-in_default-clause-leaves : goal.returns-in_default-clause-leaves
 returns-in_default-clause-leaves g c = λ s holds.
@@ -43,11 +54,7 @@ returns-clause-leaves g c = λ s holds.
 pub returns-then-ends_run-clause-leaves : goal.returns-then-ends_run-clause-leaves
 returns-then-ends_run-clause-leaves g c = λ s holds.
     let state = g.D.Disk.state in
-    let index = c.loop-command.invariant.index in
-    let read = slice_get_read c.args.commands.now _ c.loop-command.command-index
-    c.command-item.result refl c.loop-command-test.true c.command-item.is in
-    let at = subst (λ i. slice_get c.args.commands.now i ≡ Some c.command-item.result) (sym index)
-    read in
+    let at = command_at g (goal.at.returns-then-ends_run-clause-leaves g c).After-execute in
     let so_far = c.loop-command.invariant.reached s holds in
     ends_here c.args.self.now.view.journal.layout c.loop-command.self.view c.execute.new.self.view
     (state c.args.self.now.disk) (state c.loop-command.self.disk)
@@ -79,10 +86,7 @@ pub loop-command-preserved : goal.loop-command-preserved
 loop-command-preserved g c =
     let state = g.D.Disk.state in
     let index = c.loop-command.invariant.index in
-    let read = slice_get_read c.args.commands.now _ c.loop-command.command-index
-    c.command-item.result refl c.loop-command-test.true c.command-item.is in
-    let at = subst (λ i. slice_get c.args.commands.now i ≡ Some c.command-item.result) (sym index)
-    read in
+    let at = command_at g (goal.at.loop-command-preserved g c).After-execute in
     elim c.match-execute.branch [
       | in-Ok-execute w ↦
           let now = ap (λ (v : Vec Bool). v.items) w.done-is ∙ w.push_reserved.ensures.items in
@@ -218,11 +222,7 @@ returns-in_default-clause-answers g c = answered_no_memory c.args.self.now.view
 pub returns-then-ends_run-clause-answers : goal.returns-then-ends_run-clause-answers
 returns-then-ends_run-clause-answers g c =
     let state = g.D.Disk.state in
-    let index = c.loop-command.invariant.index in
-    let read = slice_get_read c.args.commands.now _ c.loop-command.command-index
-    c.command-item.result refl c.loop-command-test.true c.command-item.is in
-    let at = subst (λ i. slice_get c.args.commands.now i ≡ Some c.command-item.result)
-    (sym index) read in
+    let at = command_at g (goal.at.returns-then-ends_run-clause-answers g c).After-execute in
     answered_end c.args.self.now.view c.loop-command.self.view c.execute.new.self.view
     (state c.loop-command.self.disk) (state c.execute.new.self.disk) c.args.commands.now
     c.loop-command.done.items c.command-item.result at c.loop-command.invariant.answered
