@@ -5,7 +5,7 @@ use Rattle.std.specs.Io.KnownBytes.{Appends}
 use Rattle.disk_store.specs.Disk.{IsHonestDisk, IsStill, State, OnlyReads, OnlySyncs}
 use Rattle.mot_air.specs.Exporting.{Exports, RebuildsByLines, StopsExporting, unprinted, unread}
 use Rattle.mot_air.specs.Inner.Printing.{IsPrintingFault}
-use Rattle.mot_air.proofs.Opened.{opened_holds, rises_later}
+use Rattle.mot_air.proofs.Opened.{all_hold, rises_later}
 use Rattle.mot_base.specs.declared.refusal.Refusal.{Refusal}
 use Rattle.mot_carousel.specs.Carousel.{Carousel}
 use Rattle.mot_carousel.specs.Rebuilding.{rebuilding}
@@ -53,7 +53,7 @@ module _ {D : Type 0} (state : D → State) (disk : D) (server new : ServerView 
     still = still_all;
     printed = λ s honest all.
         let was = reads.keeps.was_honest honest in
-        written s (opened_holds (state disk) (state server.disk) server.view s
+        written s (all_hold (state disk) (state server.disk) server.view s
         (sound disk (opens.keeps.was_honest was)) all (opened was) was (sound server.disk was)
         (opens.still was) going) honest;
     rebuilds = λ s honest all.

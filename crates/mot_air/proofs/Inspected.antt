@@ -11,7 +11,7 @@ use Rattle.mot_air.specs.Inspecting.{inspection_text, rates_text, sizes_text, tu
 use Rattle.mot_air.specs.Inspecting.{uncounted, unprinted, unread}
 use Rattle.mot_air.specs.Inner.Inspected.{HasInspected, IsInspectingFault}
 use Rattle.mot_air.specs.Playing.{first_place}
-use Rattle.mot_air.proofs.Opened.{opened_holds, rises_later}
+use Rattle.mot_air.proofs.Opened.{all_hold, rises_later}
 use Rattle.mot_base.specs.declared.geometry.Geometry.{Geometry}
 use Rattle.mot_base.specs.declared.refusal.Refusal.{Refusal}
 use Rattle.mot_carousel.specs.Carousel.{Object}
@@ -122,7 +122,7 @@ module _ {D : Type 0} (state : D → State) (disk : D) (server new : ServerView 
     told = λ s honest all.
         let was = reads.keeps.was_honest honest in
         let first = opened was in
-        let holds = opened_holds (state disk) (state server.disk) server.view s
+        let holds = all_hold (state disk) (state server.disk) server.view s
         (sound disk (opens.keeps.was_honest was)) all first was (sound server.disk was)
         (opens.still was) going in
         let has = told s holds honest in

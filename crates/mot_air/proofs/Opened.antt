@@ -23,39 +23,19 @@ use Rattle.mot_repository.specs.Repository.{RepositoryView, Agrees, IsOf, Holds}
 use Rattle.mot_server.specs.RunEnds.{RunLeaves}
 use Rattle.mot_server.specs.Runs.{StandsAfterSome, accepted_commands, commands_in_flight}
 use Rattle.mot_server.specs.Server.{ServerView}
-use Rattle.mot_server.proofs.Laws.{after_none, none_of, not_halted}
+use Rattle.mot_server.proofs.Laws.{after_none, none_of, not_halted, opened_holds}
 use Rattle.mot_update.specs.Faults as update
-
-same-standing : (r : Result Standing Refusal) (a b : Standing) → r ≡ Ok a → r ≡ Ok b → a ≡ b
-same-standing r a b is was = let e : Ok a ≡ Ok b = sym is ∙ was in cc
 
 -- each image that a crash may leave stands for this
 abbrev pub AllAre : Standing → State → Type 0
 AllAre s state = (image : List ℕ) → state.MayLeave image → IsOf s image
 
--- nothing is loose, so what it stands for holds
-pub opened_holds : (start old : State) (view : RepositoryView) (s : Standing)
+-- so what it stands for is held once it is opened
+pub all_hold : (start old : State) (view : RepositoryView) (s : Standing)
     → IsHonestDisk start → AllAre s start → IsOpened start old view → old.IsHonest
     → IsHonestDisk old → IsStill start old → IsFalse view.halted → Holds view s old
-opened_holds start old view s before all opened honest sound still going =
-    let image = all start.bytes before.bytes in
-    let only : (c : List ℕ) → old.MayLeave c → start.bytes ≡ c =
-    λ c left. sym (only_bytes old sound opened.firm c left ∙ still.bytes) in
-    record {
-      going = going;
-      agrees = subst (λ d. Agrees view d)
-          (same-standing (stands_for start.bytes) opened.standing s opened.stands image.stands)
-          opened.agrees;
-      records = opened.records;
-      journal = record {
-        going = opened.unspent;
-        count = opened.count;
-        honest = honest;
-        each = λ c left. subst (λ d. HasRecords view.journal opened.records d) (only c left)
-            (record { read = opened.read; clean = image.clean });
-      };
-      each = λ c left. subst (λ d. IsOf s d) (only c left) image;
-    }
+all_hold start old view s before all opened honest sound still going =
+    opened_holds start old view s (all start.bytes before.bytes) opened honest sound still going
 
 -- no image came while it was opened
 pub opened_throughout : (start old : State) (P : List ℕ → Type 0) → IsHonestDisk start

@@ -7,7 +7,7 @@ use Rattle.disk_store.specs.Disk.{State, IsHonestDisk, KeepsLength, OnlySyncs}
 use Rattle.mot_air.specs.Playing.{HasAired, Plays, StopsPlaying}
 use Rattle.mot_air.specs.Playing.{first_place}
 use Rattle.mot_air.specs.Playing.{stopped}
-use Rattle.mot_air.proofs.Opened.{AllAre, breaks_off, opened_holds, opened_leaves}
+use Rattle.mot_air.proofs.Opened.{AllAre, breaks_off, all_hold, opened_leaves}
 use Rattle.mot_base.specs.Geometry.{packet_room}
 use Rattle.mot_base.specs.declared.geometry.Geometry.{Geometry}
 use Rattle.mot_base.specs.declared.refusal.Refusal.{Refusal}
@@ -39,7 +39,7 @@ module _ {D : Type 0} (state : D → State) (disk : D) (server new : ServerView 
       → Holds server.view s (state server.disk)
   holds_opened s honest all =
       let was = keeps.was_honest honest in
-      opened_holds (state disk) (state server.disk) server.view s
+      all_hold (state disk) (state server.disk) server.view s
       (sound disk (opens.keeps.was_honest was)) all (opened was) was (sound server.disk was)
       (opens.still was)
       going

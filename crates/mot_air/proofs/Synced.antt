@@ -11,7 +11,7 @@ use Rattle.mot_air.specs.Syncing.{HasSynced, IsBrokenOff, IsEqual, StopsSyncing,
 use Rattle.mot_air.specs.Syncing.{SyncsAndTells}
 use Rattle.mot_air.specs.Syncing.{broken, untold, stopped}
 use Rattle.mot_air.specs.Syncing as synced
-use Rattle.mot_air.proofs.Opened.{AllAre, breaks_off, opened_holds, opened_leaves}
+use Rattle.mot_air.proofs.Opened.{AllAre, breaks_off, all_hold, opened_leaves}
 use Rattle.mot_base.specs.declared.geometry.Geometry.{Geometry}
 use Rattle.mot_base.specs.declared.geometry.TheConstants.{MAX_OBJECTS}
 use Rattle.mot_base.specs.declared.refusal.Refusal.{Refusal}
@@ -56,7 +56,7 @@ module _ {D : Type 0} (state : D → State) (disk : D) (server new : ServerView 
       → Holds server.view s (state server.disk)
   holds_opened s honest all =
       let was = keeps.was_honest honest in
-      opened_holds (state disk) (state server.disk) server.view s
+      all_hold (state disk) (state server.disk) server.view s
       (sound disk (opens.keeps.was_honest was)) all (opened was) was (sound server.disk was)
       (opens.still was)
       going

@@ -10,6 +10,8 @@ pub use Rattle.mot_server.proofs.Survival.{passing, if_err}
 -- calls that change nothing, one after the other
 pub use Rattle.mot_server.proofs.Read.{holds_still, rises_on}
 pub use Rattle.mot_server.proofs.Openings.{still_unchanged}
+-- what a disk stands for is held once it is opened
+pub use Rattle.mot_server.proofs.Openings.{opened_holds}
 -- a device fault leaves the carousel in memory as it was
 pub use Rattle.mot_server.proofs.Runs.{still_agrees}
 -- a geometry that is valid
