@@ -1,5 +1,5 @@
 //! Taking turns between updating the carousel and sending its packets.
-ghost use Rattle.std.specs.Prelude.{◌≡◌, Bool, true, IfErr, OnOk};
+ghost use Rattle.std.specs.Prelude.{◌≡◌, Bool, true, IfErr, IsOk, OnOk};
 ghost use Rattle.disk_store.specs.Disk.{KeepsLength};
 ghost use Rattle.mot_feed.specs.Feeding.{FedPacketsAreContinuous, Feeds, FeedsPart};
 ghost use Rattle.mot_feed.specs.Feeding.{IsFeedFault, IsUpdating, may_change};
@@ -88,10 +88,22 @@ impl Update for NoUpdate {
 
     fn update<D: Disk>(
         &mut self,
-        _server: &mut Server<D>,
+        server: &mut Server<D>,
         _alloc: Global,
-        _between_turns: bool,
-    ) -> Result<(), Refusal> {
+        between_turns: bool,
+    ) -> Result<(), Refusal>
+        ensures keeps { KeepsLength (D.state server.old.disk) (D.state server.new.disk) }
+        ensures faults { TellsFaults server.old server.new
+            (D.state server.old.disk) (D.state server.new.disk) result }
+        ensures run { (s : Standing) → Holds server.old.view s (D.state server.old.disk)
+            → (D.state server.new.disk).IsHonest
+            → IsUpdating server.old server.new (D.state server.old.disk)
+            (D.state server.new.disk) s (may_change true between_turns) (fault_of result) }
+
+        // Nothing is done, and nothing refused.
+        ensures ok { IsOk result }
+        ensures same { server.new ≡ server.old }
+    {
         Ok(())
     }
 }

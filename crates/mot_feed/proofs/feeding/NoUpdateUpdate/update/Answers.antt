@@ -5,7 +5,7 @@ use Rattle.mot_feed.proofs.feeding.NoUpdateUpdate.update.Goals as goal
 
 pub returns-clause-run : goal.returns-clause-run
 returns-clause-run g c = λ s holds honest.
-    let old = c.args._server.now in
+    let old = c.args.server.now in
     let state = g.D.Disk.state old.disk in
     record {
       commands = [];
