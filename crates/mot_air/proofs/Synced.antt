@@ -114,10 +114,10 @@ module _ {D : Type 0} (state : D → State) (disk : D) (server new : ServerView 
             (sound disk (opens.keeps.was_honest was)) all (opens.still was) run.leaves) are,
         told,
       )
-  has_synced s path report fault honest all (listed names looked tells) =
+  has_synced s path report fault honest all (listed names shown looked tells) =
       let was = keeps.was_honest honest in (
         tells.entries,
-        synced.listed names looked.wanted (record {
+        synced.listed names looked.wanted shown (record {
           is_update = looked.is_update;
           commands = looked.runs.commands;
           others = looked.runs.others;

@@ -9,6 +9,7 @@ use Rattle.mot_base.specs.declared.refusal.Refusal.{Refusal}
 use Rattle.mot_base.specs.declared.refusal.Refusal.TheVariants.{OutOfMemory, ReadFault, WriteFault}
 use Rattle.mot_carousel.specs.declared.command.Command.{Command}
 use Rattle.mot_folder.specs.Log.{LogEntry, entry, log_entry_of, log_line, of_look}
+use Rattle.mot_folder.specs.Types.{AreShown}
 use Rattle.mot_journal.specs.Image.{Standing}
 use Rattle.mot_repository.specs.Repository.{IsOf}
 use Rattle.mot_server.specs.declared.running.Attempt.TheVariants.{Refused}
@@ -50,7 +51,8 @@ pub data HasSynced (all : Bool) (fault : Option Refusal) (path : List ℕ) (entr
   unlisted : all ≡ false → Leaves s [] [] None start now
       → of_look entries ≡ entry (codes "look") path (Refused ReadFault) ∷ []
       → HasSynced all fault path entries start now s
-  listed : (names : List (List ℕ)) (wanted : List Wanted)
+  -- none of the names that were listed begins with a dot
+  listed : (names : List (List ℕ)) (wanted : List Wanted) → AreShown names
       → (updated : HasUpdated s names wanted fault start now)
       → (all ≡ true → fault ≡ None → IsEqual s names wanted now)
       → of_look entries ≡ map log_entry_of updated.answers

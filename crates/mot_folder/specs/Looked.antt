@@ -5,6 +5,7 @@ use Rattle.disk_store.specs.Disk.{State}
 use Rattle.mot_base.specs.declared.refusal.Refusal.{Refusal}
 use Rattle.mot_base.specs.declared.refusal.Refusal.TheVariants.{ReadFault}
 use Rattle.mot_folder.specs.Log.{LogEntry, ReportTells, TellsAnswers, entry, of_look}
+use Rattle.mot_folder.specs.Types.{AreShown}
 use Rattle.mot_folder.specs.declared.report.Report.{Report}
 use Rattle.mot_journal.specs.Image.{Standing}
 use Rattle.mot_server.specs.Server.{ServerView}
@@ -13,15 +14,16 @@ use Rattle.mot_update.specs.HasRun.{HasRun}
 use Rattle.mot_update.specs.Looking.{HasLooked}
 
 -- The folder of this path was not listed, no command was run, and this is told; or names were
--- listed, the carousel was updated to files of these names, and what came of each command is told,
--- in order. Beside that only files are told of that could not be taken.
+-- listed, none of them with a dot first, the carousel was updated to files of these names, and what
+-- came of each command is told, in order. Beside that only files are told of that could not be
+-- taken.
 pub data HasLookedAtFolder {D : Type 0} (old new : ServerView D) (start now : State)
     (s : Standing) (path : List ℕ) (report : Report) (fault : Option Refusal) : Type 0 where
   unlisted : report.any_refused ≡ true → fault ≡ None → HasRun old new start now s [] [] None
       → (entries : List LogEntry) → ReportTells report entries
       → of_look entries ≡ entry (codes "look") path (Refused ReadFault) ∷ []
       → HasLookedAtFolder old new start now s path report fault
-  listed : (names : List (List ℕ))
+  listed : (names : List (List ℕ)) → AreShown names
       → (looked : HasLooked old new start now s names 0 None None (not report.any_refused) fault)
       → TellsAnswers report looked.runs.answers
       → HasLookedAtFolder old new start now s path report fault

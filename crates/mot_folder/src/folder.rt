@@ -40,6 +40,7 @@ impl<'a, T: Files<File = File>> Folder<'a, T> {
         names: FileNames,
         report: Report,
     ) -> Folder<'a, T>
+        ensures path { result.path.now ≡ path.now }
         ensures names { result.names ≡ names }
         ensures place { result.place ≡ 0 }
         ensures report { result.report ≡ report }

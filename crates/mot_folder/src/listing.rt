@@ -1,7 +1,8 @@
 //! The files of a folder that are objects.
-ghost use Rattle.std.specs.Prelude.{◌≡◌, [], true};
+ghost use Rattle.std.specs.Prelude.{◌≡◌, ◌∷◌, ◌++◌, [], true, if◌then◌else◌, IfOk, OnErr, OnOk};
 ghost use Rattle.mot_carousel.specs.Carousel.{are_names_distinct};
 ghost use Rattle.mot_folder.specs.Log.{TellsAnswers};
+ghost use Rattle.mot_folder.specs.Types.{AreShown};
 ghost use Rattle.mot_update.specs.Told.{TellsMore};
 ghost use Rattle.mot_update.specs.Updating.{is_known};
 
@@ -28,7 +29,9 @@ pub struct FileNames {
 
 impl FileNames {
     /// No names.
-    pub fn new(alloc: Global) -> FileNames {
+    pub fn new(alloc: Global) -> FileNames
+        ensures { result.names.items ≡ [] }
+    {
         FileNames {
             names: Vec::new(alloc),
         }
@@ -43,7 +46,12 @@ impl FileNames {
     }
 
     /// One more, where it is not one of them already.
-    pub fn add(&mut self, name: Name) -> Result<(), AllocError> {
+    pub fn add(&mut self, name: Name) -> Result<(), AllocError>
+        ensures added { OnOk result (self.new.names.items
+            ≡ (if is_known self.old.names.items name then self.old.names.items
+            else self.old.names.items ++ name ∷ [])) }
+        ensures kept { OnErr result (self.new.names.items ≡ self.old.names.items) }
+    {
         if !self.has(&name) {
             self.names.push(name)?;
         }
@@ -61,6 +69,7 @@ pub(crate) fn list<T: Files<File = File>>(
     report: &mut Report,
 ) -> io::Result<FileNames>
     ensures told { TellsMore (TellsAnswers report.old) (TellsAnswers report.new) [] }
+    ensures shown { IfOk result (λ names. AreShown names.names.items) }
 {
     let mut names = FileNames::new(alloc);
     let mut dir = rt.open_dir(path)?;
@@ -86,6 +95,7 @@ fn add_all<T: Files<File = File>>(
     report: &mut Report,
 ) -> io::Result<()>
     ensures told { TellsMore (TellsAnswers report.old) (TellsAnswers report.new) [] }
+    ensures shown { AreShown names.old.names.items → AreShown names.new.names.items }
 {
     let mut rest = bytes;
     while let Some(end) = rest.iter().position(|byte| *byte == 0) {
@@ -106,6 +116,7 @@ fn add_one<T: Files<File = File>>(
     report: &mut Report,
 ) -> io::Result<()>
     ensures told { TellsMore (TellsAnswers report.old) (TellsAnswers report.new) [] }
+    ensures shown { AreShown names.old.names.items → AreShown names.new.names.items }
 {
     if types.of_name(name).is_none() || !is_file(rt, alloc, path, name)? {
         return Ok(());

@@ -25,6 +25,7 @@ impl Report {
     /// Nothing was told.
     pub fn new(alloc: Global) -> Report
         ensures fine { result.any_refused ≡ false }
+        ensures whole { result.any_left_out ≡ false }
         ensures told { ReportTells result [] }
     {
         Report {
@@ -37,6 +38,7 @@ impl Report {
     /// A further look begins.
     pub fn begin(&mut self)
         ensures fine { self.new.any_refused ≡ false }
+        ensures whole { self.new.any_left_out ≡ false }
         ensures told { ReportTells self.new [] }
     {
         self.lines.clear();

@@ -1,7 +1,7 @@
 //! What a file's suffix says of it.
-ghost use Rattle.std.specs.Prelude.{◌≡◌, ◌⊎◌, IfErr};
+ghost use Rattle.std.specs.Prelude.{◌≡◌, ◌⊎◌, true, IfErr, IsNone};
 ghost use Rattle.mot_base.specs.declared.refusal.Refusal.TheVariants.{BadType};
-ghost use Rattle.mot_folder.specs.Types.{IsTypesRefusal};
+ghost use Rattle.mot_folder.specs.Types.{IsTypesRefusal, is_hidden};
 
 use mot_base::Refusal;
 use mot_carousel::{Content, Mime};
@@ -76,7 +76,9 @@ impl FileTypes {
 
     /// What the suffix of the file's name says, whatever the case of its letters; none where it is
     /// no known one, or the name begins with a dot.
-    pub fn of_name(&self, name: &[u8]) -> Option<&FileType> {
+    pub fn of_name(&self, name: &[u8]) -> Option<&FileType>
+        ensures hidden { is_hidden name.now ≡ true → IsNone result }
+    {
         if name.is_empty() || name[0] == b'.' {
             return None;
         }

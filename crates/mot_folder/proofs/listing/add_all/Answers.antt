@@ -5,15 +5,17 @@ use Rattle.mot_update.proofs.Laws.{tells_on}
 use Rattle.mot_folder.proofs.listing.add_all.Goals as goal
 
 pub loop-end-init : goal.loop-end-init
-loop-end-init g c = tells_same c.args.report.now
+loop-end-init g c = record { told = tells_same c.args.report.now; shown = λ shown. shown }
 
-pub returns-in_err-add_one : goal.returns-in_err-add_one
-returns-in_err-add_one g c = record {
-  told = tells_on (TellsAnswers c.args.report.now) (TellsAnswers c.loop-end.report)
-      (TellsAnswers c.add_one.new.report) [] c.loop-end.invariant c.in_err-add_one.ensures.told;
-}
+pub returns-in_err-add_one-clause-told : goal.returns-in_err-add_one-clause-told
+returns-in_err-add_one-clause-told g c =
+    tells_on (TellsAnswers c.args.report.now) (TellsAnswers c.loop-end.report)
+    (TellsAnswers c.add_one.new.report) [] c.loop-end.invariant.told c.in_err-add_one.ensures.told
 
 pub loop-end-preserved : goal.loop-end-preserved
-loop-end-preserved g c =
-    tells_on (TellsAnswers c.args.report.now) (TellsAnswers c.loop-end.report)
-    (TellsAnswers c.add_one.new.report) [] c.loop-end.invariant c.in_ok-add_one.ensures.told
+loop-end-preserved g c = record {
+  told = tells_on (TellsAnswers c.args.report.now) (TellsAnswers c.loop-end.report)
+      (TellsAnswers c.add_one.new.report) [] c.loop-end.invariant.told
+      c.in_ok-add_one.ensures.told;
+  shown = λ shown. c.in_ok-add_one.ensures.shown (c.loop-end.invariant.shown shown);
+}

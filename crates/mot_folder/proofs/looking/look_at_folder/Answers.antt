@@ -4,6 +4,8 @@ use Rattle.mot_base.specs.declared.refusal.Refusal.TheVariants.{ReadFault}
 use Rattle.mot_folder.specs.Log.{TellsAnswers, entry, is_of_look}
 use Rattle.mot_folder.specs.declared.report.Report.{Report}
 use Rattle.mot_folder.specs.Looked.{listed, unlisted}
+use Rattle.mot_folder.specs.Types.{AreShown}
+use Rattle.mot_folder.specs.declared.listing.FileNames.{FileNames}
 use Rattle.mot_folder.proofs.Log.{tells_none}
 use Rattle.mot_server.specs.declared.running.Attempt.TheVariants.{Refused}
 use Rattle.mot_server.specs.Attempts.{fault_of}
@@ -43,8 +45,11 @@ returns-clause-looked g c = λ s holds honest.
     (x : HasLooked old new (state old.disk) (state new.disk) s names place None None
     (not r.any_refused)
     fault) × TellsAnswers r x.runs.answers in
+    let shown : AreShown names =
+    subst (λ (n : FileNames). AreShown n.names.items) (sym c.new-folder.ensures.names)
+    c.in-Ok.ensures.shown in
     let told : Looks c.new-folder.result.place last = (looks.0, looks.1 [] given) in
     let all : Looks 0 c.into_report.result =
     subst (λ p. Looks p c.into_report.result) c.new-folder.ensures.place
     (subst (λ (r : Report). Looks c.new-folder.result.place r) (sym c.into_report.ensures) told) in
-    listed names all.0 all.1
+    listed names shown all.0 all.1

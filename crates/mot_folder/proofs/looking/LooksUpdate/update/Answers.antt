@@ -21,7 +21,7 @@ updating_by old new start now s may path report fault is
     (unlisted refused none run entries told are) =
     subst (λ f. IsUpdating old new start now s may f) (sym none)
     (record { commands = []; marks = []; run = run; waits = λ e. refl })
-updating_by old new start now s may path report fault is (listed names looked told) = record {
+updating_by old new start now s may path report fault is (listed names shown looked told) = record {
   commands = looked.runs.commands;
   marks = looked.runs.marks;
   run = looked.runs.run;
