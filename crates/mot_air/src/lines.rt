@@ -1,6 +1,7 @@
 //! The folder that lines come from while a disk is played.
-ghost use Rattle.std.specs.Prelude.{◌≡◌, IfErr, IfOk, is_none};
+ghost use Rattle.std.specs.Prelude.{◌≡◌, IfErr, IfOk, IfSome, is_none, option_map, unwrap_or};
 ghost use Rattle.mot_air.specs.Program.{IsUnlined};
+ghost use Rattle.mot_air.specs.declared.lines.LineFolder.{LineFolder};
 
 use crate::beside::is_file_at;
 use crate::fault::{Cause, LinesFault, Unbegun};
@@ -32,6 +33,9 @@ pub(crate) fn line_folder<'a>(
     objects: Option<&str>,
 ) -> Result<Option<LineFolder<'a>>, Unbegun>
     ensures given { IfOk result (λ lines. is_none lines ≡ is_none path.entry) }
+    ensures folder { IfOk result
+        (λ lines. option_map (λ (lines : LineFolder). lines.path) lines ≡ path.entry) }
+    ensures every { IfOk result (λ lines. IfSome lines (λ l. l.every ≡ unwrap_or every 8)) }
     ensures refused { IfErr result (λ unbegun. IsUnlined path.entry unbegun.refusal) }
 {
     let Some(path) = path else {

@@ -1,8 +1,10 @@
 //! What the packets of `play` go to.
-ghost use Rattle.std.specs.Prelude.{IfOk};
+ghost use Rattle.std.specs.Prelude.{◌≤◌, ◌∷◌, [], None, IfOk, MatchResult, length, take};
 ghost use Rattle.std.specs.Io.{WritesAtMost};
+ghost use Rattle.std.specs.Io.KnownBytes.{Appends};
 ghost use Rattle.mot_air.specs.Inner.Packets.{target_of};
 ghost use Rattle.mot_air.specs.Program.{IsTarget};
+ghost use Rattle.mot_feed.specs.Writing.{Grows};
 
 use crate::beside::{NewFile, is_file_at};
 use crate::fault::{Cause, PacketsFault};
@@ -111,7 +113,16 @@ impl<W: Write + Drop> PacketWriter<W> {
 }
 
 impl<W: Write + Drop> Outlet for PacketWriter<W> {
-    fn write_once(&mut self, bytes: &[u8]) -> io::Result<usize> {
+    fn write_once(&mut self, bytes: &[u8]) -> io::Result<usize>
+        ensures bound { IfOk result (λ count. count ≤ length bytes.now) }
+        ensures one { MatchResult result
+            (λ count. Grows None None (take count bytes.now ∷ []))
+            (λ _. Grows None None ([] ∷ [])) }
+
+        // The writer took what is told, and nothing else.
+        ensures written { IfOk result (λ count. Appends (W.contents self.old.writer)
+            (W.contents self.new.writer) (take count bytes.now)) }
+    {
         let written = write_on(&mut self.writer, bytes);
         match written {
             Ok(count) => {
@@ -127,7 +138,9 @@ impl<W: Write + Drop> Outlet for PacketWriter<W> {
 
 /// Writes the bytes in one write, and hands on what was taken of them.
 fn write_on<W: Write>(writer: &mut W, bytes: &[u8]) -> io::Result<usize>
-    ensures { WritesAtMost result bytes.now }
+    ensures bound { WritesAtMost result bytes.now }
+    ensures written { IfOk result (λ count. Appends (W.contents writer.old)
+        (W.contents writer.new) (take count bytes.now)) }
 {
     let count = writer.write(bytes)?;
     writer.flush()?;

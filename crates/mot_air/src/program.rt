@@ -1,6 +1,6 @@
 //! The commands on air, over any streams and files.
 ghost use Rattle.std.specs.Prelude.{◌≡◌, ◌≢◌, ◌⊎◌, ◌↔◌, Option, map, true, false, IfErr, IfOk, IsTrue};
-ghost use Rattle.std.specs.Prelude.{List, None, Ok, Some, codes, is_none};
+ghost use Rattle.std.specs.Prelude.{List, None, Ok, Some, codes, is_none, option_map};
 ghost use Rattle.std.specs.Io.KnownBytes.{Keeps};
 ghost use Rattle.clap.specs.Words.{Text, found_of, kind_of, rows_of};
 ghost use Rattle.mot_air.specs.Exporting.{Exports, StopsExporting};
@@ -11,6 +11,7 @@ ghost use Rattle.mot_air.specs.Program.{IsUnlined, IsUntouched, IsUntyped, OnOpe
 ghost use Rattle.mot_air.specs.Program.{StopsPlayingTo, Succeeds};
 ghost use Rattle.mot_air.specs.Syncing.{StopsSyncing, Syncs};
 ghost use Rattle.mot_air.specs.Task.{AreWrong};
+ghost use Rattle.mot_air.specs.declared.playing.Followed.{Followed};
 ghost use Rattle.mot_air.specs.declared.used.AirDisk.{AirDisk};
 ghost use Rattle.mot_air.specs.declared.used.AirDisk.TheVariants.{Untouched};
 ghost use Rattle.mot_base.specs.declared.refusal.Refusal.{Refusal};
@@ -261,7 +262,9 @@ fn play<B: Start, W: Write, E: Write>(
 }
 
 /// The folder, if one is given, with what is known of suffixes.
-fn followed<'a>(folder: Option<&'a str>, types: &'a FileTypes) -> Option<Followed<'a>> {
+fn followed<'a>(folder: Option<&'a str>, types: &'a FileTypes) -> Option<Followed<'a>>
+    ensures { option_map (λ (followed : Followed). followed.path) result ≡ folder.entry }
+{
     match folder {
         Some(path) => Some(Followed { path, types }),
         None => None,
