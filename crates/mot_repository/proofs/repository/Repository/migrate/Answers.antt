@@ -1,8 +1,11 @@
-use Rattle.std.proofs.Common.{◌≡◌, ◌∙◌, refl, sym, ap, subst, arith}
-use Rattle.disk_store.proofs.Laws.{at_end}
+use Rattle.std.proofs.Common.{◌≡◌, ◌∙◌, refl, sym, ap, subst, arith, inl, inr, true, false, ℕ, ◌+◌, ◌≤◌}
+use Rattle.disk_store.proofs.Laws.{at_end, begins, keeps_none, unchanged_none}
+use Rattle.mot_base.proofs.Laws.{same_error}
+use Rattle.mot_base.specs.declared.refusal.Refusal.TheVariants.{OutOfMemory}
 use Rattle.mot_journal.specs.declared.layout.Layout.{Layout}
 use Rattle.mot_journal.specs.declared.layout.Layout.TheVariants.{One, Two}
 use Rattle.mot_journal.specs.Journal.{JournalView}
+use Rattle.mot_repository.specs.Answers.{halted, no_memory, failed}
 use Rattle.mot_repository.specs.Extents.{catalogue_with}
 use Rattle.mot_repository.specs.Inner.InOrder.{IsInOrder}
 use Rattle.mot_repository.specs.Whole.{IsWhole}
@@ -11,6 +14,19 @@ use Rattle.mot_repository.specs.Repository.{RepositoryView, IsOf}
 use Rattle.mot_repository.proofs.Layouts.{migrates, whole_in_two}
 use Rattle.mot_repository.proofs.Moved.{here, folds, moments, held, rewrites}
 use Rattle.mot_repository.proofs.repository.Repository.migrate.Goals as goal
+
+-- a journal is of one layout
+not_both : Two ≡ One → ⊥
+not_both e = cc
+
+halted_goes : true ≡ false → ⊥
+halted_goes e = cc
+
+no_shorter : (n len len' : ℕ) → n ≤ len → len' ≡ len → n ≤ len'
+no_shorter n len len' le same = omega arith
+
+no_less : (n more : ℕ) → n ≤ n + more
+no_less n more = omega arith
 
 pub migrate-requires-clause-few : goal.migrate-requires-clause-few
 migrate-requires-clause-few g c =
@@ -45,7 +61,8 @@ invariant_of-self g c =
     (sym c.in-Ok.ensures.rewrites.moves)
     (record {
       valid = is.valid;
-      long_enough = omega (arith, is.long_enough, c.migrate.ensures.keeps.frame.len);
+      long_enough = no_shorter _ (g.D.Disk.state r.disk).len (g.D.Disk.state c.migrate.new.disk).len
+          is.long_enough c.migrate.ensures.keeps.frame.len;
       whole = whole_in_two r.journal.geometry kept whole;
       paired = is.paired;
       going = is.going;
@@ -136,3 +153,176 @@ returns-clause-layouts g c = λ s holds image left.
     let now = returns-clause-ok g c s holds in
     let layout = ap (λ (j : JournalView). j.layout) c.in-Ok.ensures.rewrites.moves in
     (_, (now.journal.each image left).read, layout)
+
+pub returns-then-self-clause-keeps : goal.returns-then-self-clause-keeps
+returns-then-self-clause-keeps g c =
+    record { frame = keeps_none (g.D.Disk.state c.args.self.now.disk); honest = λ is. is }
+
+pub returns-then-self-clause-refused : goal.returns-then-self-clause-refused
+returns-then-self-clause-refused g c = rw (← c.self.view_is)
+    (halted c.if-self.true refl refl (unchanged_none (g.D.Disk.state c.self.inside.disk)))
+
+pub returns-then-self-clause-untouched : goal.returns-then-self-clause-untouched
+returns-then-self-clause-untouched g c = inr refl
+
+pub returns-then-self-clause-still : goal.returns-then-self-clause-still
+returns-then-self-clause-still g c = rw (← c.self.view_is)
+    (λ two. (refl, λ going. absurd (halted_goes (sym c.if-self.true ∙ going))))
+
+pub returns-then-self-clause-any_moment : goal.returns-then-self-clause-any_moment
+returns-then-self-clause-any_moment g c = λ s holds.
+    let disk = c.args.self.now.disk in
+    begins (g.D.Disk.state disk) (IsOf s) (g.met.D.Disk.sound disk holds.journal.honest) holds.each
+
+pub returns-then-self-clause-now : goal.returns-then-self-clause-now
+returns-then-self-clause-now g c = λ s holds image left. holds.each image left
+
+pub returns-in_default-clause-keeps : goal.returns-in_default-clause-keeps
+returns-in_default-clause-keeps g c =
+    record { frame = keeps_none (g.D.Disk.state c.args.self.now.disk); honest = λ is. is }
+
+pub returns-in_default-clause-going : goal.returns-in_default-clause-going
+returns-in_default-clause-going g c = rw (← c.self.view_is) c.if-self.false
+
+pub returns-in_default-clause-rewritten : goal.returns-in_default-clause-rewritten
+returns-in_default-clause-rewritten g c = rw (← c.self.view_is)
+    (λ is. absurd (halted_goes (sym is)), λ one. absurd (c.in_default.not-One (c.layout.ensures ∙ one)))
+
+pub returns-in_default-clause-still : goal.returns-in_default-clause-still
+returns-in_default-clause-still g c = λ two. (refl, λ going. refl)
+
+pub returns-in_default-clause-cost : goal.returns-in_default-clause-cost
+returns-in_default-clause-cost g c = rw (← c.self.view_is)
+    (λ one. absurd (c.in_default.not-One (c.layout.ensures ∙ one)))
+
+pub returns-in_default-clause-any_moment : goal.returns-in_default-clause-any_moment
+returns-in_default-clause-any_moment g c = λ s holds.
+    let disk = c.args.self.now.disk in
+    begins (g.D.Disk.state disk) (IsOf s) (g.met.D.Disk.sound disk holds.journal.honest) holds.each
+
+pub returns-in_default-clause-now : goal.returns-in_default-clause-now
+returns-in_default-clause-now g c = λ s holds image left. holds.each image left
+
+pub returns-in_default-clause-ok : goal.returns-in_default-clause-ok
+returns-in_default-clause-ok g c = λ s holds. holds
+
+pub returns-in_err-given-clause-keeps : goal.returns-in_err-given-clause-keeps
+returns-in_err-given-clause-keeps g c =
+    record { frame = keeps_none (g.D.Disk.state c.args.self.now.disk); honest = λ is. is }
+
+pub returns-in_err-given-clause-refused : goal.returns-in_err-given-clause-refused
+returns-in_err-given-clause-refused g c = rw
+    (← c.self.view_is, same_error c.from_residual.result OutOfMemory c.from_residual.ensures.1)
+    (no_memory c.if-self.false refl refl (unchanged_none (g.D.Disk.state c.self.inside.disk)))
+
+pub returns-in_err-given-clause-untouched : goal.returns-in_err-given-clause-untouched
+returns-in_err-given-clause-untouched g c =
+    rw (same_error c.from_residual.result OutOfMemory c.from_residual.ensures.1) (inr refl)
+
+pub returns-in_err-given-clause-rewritten : goal.returns-in_err-given-clause-rewritten
+returns-in_err-given-clause-rewritten g c =
+    rw (same_error c.from_residual.result OutOfMemory c.from_residual.ensures.1) tt
+
+pub returns-in_err-given-clause-still : goal.returns-in_err-given-clause-still
+returns-in_err-given-clause-still g c = rw (← c.self.view_is) (λ two.
+    (refl, λ going. absurd (not_both (sym two ∙ sym c.layout.ensures ∙ c.in-One.is))))
+
+pub returns-in_err-given-clause-cost : goal.returns-in_err-given-clause-cost
+returns-in_err-given-clause-cost g c =
+    rw (same_error c.from_residual.result OutOfMemory c.from_residual.ensures.1)
+    (λ one. record { at_most = no_less _ _; exact = tt })
+
+pub returns-in_err-given-clause-any_moment : goal.returns-in_err-given-clause-any_moment
+returns-in_err-given-clause-any_moment g c = λ s holds.
+    let disk = c.args.self.now.disk in
+    begins (g.D.Disk.state disk) (IsOf s) (g.met.D.Disk.sound disk holds.journal.honest) holds.each
+
+pub returns-in_err-given-clause-now : goal.returns-in_err-given-clause-now
+returns-in_err-given-clause-now g c = λ s holds image left. holds.each image left
+
+pub returns-in_err-given-clause-layouts : goal.returns-in_err-given-clause-layouts
+returns-in_err-given-clause-layouts g c =
+    rw (same_error c.from_residual.result OutOfMemory c.from_residual.ensures.1) (λ s holds. tt)
+
+pub returns-in_err-given-clause-ok : goal.returns-in_err-given-clause-ok
+returns-in_err-given-clause-ok g c =
+    rw (same_error c.from_residual.result OutOfMemory c.from_residual.ensures.1) (λ s holds. tt)
+
+pub migrate-requires-clause-first_layout : goal.migrate-requires-clause-first_layout
+migrate-requires-clause-first_layout g c = sym c.layout.ensures ∙ c.in-One.is
+
+pub migrate-requires-clause-long_enough : goal.migrate-requires-clause-long_enough
+migrate-requires-clause-long_enough g c = c.self.invariant.long_enough
+
+pub invariant_of-self-in_default-migrate : goal.invariant_of-self-in_default-migrate
+invariant_of-self-in_default-migrate g c =
+    let r = c.self.inside in
+    let is = c.self.invariant in
+    let spent : JournalView = record r.journal { spent = true } in
+    subst (λ (j : JournalView).
+    IsInOrder (view_with j r.inventory.carousel r.inventory.extents.items true)
+    (g.D.Disk.state c.migrate.new.disk).len) {x = spent}
+    (sym {b = spent} c.in_default-migrate.ensures.spent)
+    (record {
+      valid = is.valid;
+      long_enough = no_shorter _ (g.D.Disk.state r.disk).len (g.D.Disk.state c.migrate.new.disk).len
+          is.long_enough c.migrate.ensures.keeps.frame.len;
+      whole = is.whole;
+      paired = is.paired;
+      going = λ going. absurd (halted_goes going);
+    })
+
+pub returns-in_default-migrate-clause-keeps : goal.returns-in_default-migrate-clause-keeps
+returns-in_default-migrate-clause-keeps g c = rw (← c.self.view_is) c.migrate.ensures.keeps
+
+pub returns-in_default-migrate-clause-geometry : goal.returns-in_default-migrate-clause-geometry
+returns-in_default-migrate-clause-geometry g c = rw (← c.self.view_is)
+    (ap (λ (j : JournalView). j.geometry) c.in_default-migrate.ensures.spent)
+
+pub returns-in_default-migrate-clause-still : goal.returns-in_default-migrate-clause-still
+returns-in_default-migrate-clause-still g c = rw (← c.self.view_is) (λ two.
+    absurd (not_both (sym two ∙ sym c.layout.ensures ∙ c.in-One.is)))
+
+pub returns-in_default-migrate-clause-refused : goal.returns-in_default-migrate-clause-refused
+returns-in_default-migrate-clause-refused g c = rw (← c.self.view_is)
+    (failed c.if-self.false refl (c.in_default-migrate.ensures.cause.cause refl) (record {
+      geometry = ap (λ (j : JournalView). j.geometry) c.in_default-migrate.ensures.spent;
+      layout = ap (λ (j : JournalView). j.layout) c.in_default-migrate.ensures.spent;
+      carousel = refl;
+      extents = refl;
+      halted = refl;
+    }))
+
+pub returns-in_default-migrate-clause-untouched : goal.returns-in_default-migrate-clause-untouched
+returns-in_default-migrate-clause-untouched g c = inl refl
+
+pub returns-in_default-migrate-clause-cost : goal.returns-in_default-migrate-clause-cost
+returns-in_default-migrate-clause-cost g c = rw (← c.self.view_is) (λ one.
+    record { at_most = c.in_default-migrate.ensures.cost.at_most; exact = tt })
+
+pub returns-clause-keeps : goal.returns-clause-keeps
+returns-clause-keeps g c = rw (← c.self.view_is) c.migrate.ensures.keeps
+
+pub returns-clause-geometry : goal.returns-clause-geometry
+returns-clause-geometry g c = rw (← c.self.view_is)
+    (ap (λ (j : JournalView). j.geometry) c.in-Ok.ensures.rewrites.moves)
+
+pub returns-clause-going : goal.returns-clause-going
+returns-clause-going g c = rw (← c.self.view_is) c.if-self.false
+
+pub returns-clause-rewritten : goal.returns-clause-rewritten
+returns-clause-rewritten g c = rw (← c.self.view_is)
+    (λ is. sym c.layout.ensures ∙ c.in-One.is, λ one. refl)
+
+pub returns-clause-layout : goal.returns-clause-layout
+returns-clause-layout g c = ap (λ (j : JournalView). j.layout) c.in-Ok.ensures.rewrites.moves
+
+pub returns-clause-still : goal.returns-clause-still
+returns-clause-still g c = rw (← c.self.view_is) (λ two.
+    absurd (not_both (sym two ∙ sym c.layout.ensures ∙ c.in-One.is)))
+
+pub returns-clause-cost : goal.returns-clause-cost
+returns-clause-cost g c = rw (← c.self.view_is) (λ one. record {
+  at_most = c.in-Ok.ensures.cost.at_most;
+  exact = c.in-Ok.ensures.cost.exact;
+})
