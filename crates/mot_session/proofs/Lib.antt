@@ -4,6 +4,7 @@ pub mod Continued
 pub mod Crashes
 pub mod Faults
 pub mod Each
+mod Ends
 pub mod Fronts
 pub mod Joined
 pub mod Kept

@@ -1,4 +1,4 @@
-use Rattle.std.proofs.Common.{◌≡◌, List, ℕ, [], ◌∷◌, ◌++◌, refl, sym, ap, ◌∙◌, arith}
+use Rattle.std.proofs.Common.{◌≡◌, List, ℕ, ◌+◌, ◌≤◌, [], ◌∷◌, ◌++◌, refl, sym, ap, ◌∙◌, arith}
 use Rattle.std.proofs.Common.{append_assoc, length, length-append}
 use Rattle.std.proofs.lemmas.Result.{err_from_is_err_and}
 use Rattle.mot_session.proofs.Requests.{goes_on-more, goes_on-none}
@@ -7,6 +7,9 @@ use Rattle.mot_session.proofs.Taken.{stopped_there, some_there}
 use Rattle.mot_session.proofs.serving.answer_chunk.Given as given
 use Rattle.mot_session.proofs.serving.answer_chunk.Goals as goal
 use Rattle.mot_session.proofs.serving.answer_chunk.Goals.{After-as_slice, After-add-2}
+
+no_more : (n left bound : ℕ) → n + left ≤ bound → n ≤ bound
+no_more n left bound le = omega arith
 
 pub loop-line-init : goal.loop-line-init
 loop-line-init g c = record {
@@ -93,3 +96,35 @@ returns-clause-ok g c = (all_taken g (goal.at.returns-clause-ok g c).After-add-2
 
 pub returns-clause-each : goal.returns-clause-each
 returns-clause-each g c = (all_taken g (goal.at.returns-clause-each g c).After-add-2).each
+
+pub returns-in_err-serve_line-clause-bound : goal.returns-in_err-serve_line-clause-bound
+returns-in_err-serve_line-clause-bound g c =
+    rw (err_from_is_err_and c.from_residual.result c.from_residual.ensures.1).1 tt
+
+pub returns-in_err-serve_line-clause-hand : goal.returns-in_err-serve_line-clause-hand
+returns-in_err-serve_line-clause-hand g c =
+    rw (err_from_is_err_and c.from_residual.result c.from_residual.ensures.1).1 tt
+
+pub returns-in_err-serve_line-clause-ok : goal.returns-in_err-serve_line-clause-ok
+returns-in_err-serve_line-clause-ok g c =
+    rw (err_from_is_err_and c.from_residual.result c.from_residual.ensures.1).1 tt
+
+pub returns-in_err-serve_line-clause-each : goal.returns-in_err-serve_line-clause-each
+returns-in_err-serve_line-clause-each g c =
+    rw (err_from_is_err_and c.from_residual.result c.from_residual.ensures.1).1 tt
+
+pub returns-in_err-serve_line-clause-goes : goal.returns-in_err-serve_line-clause-goes
+returns-in_err-serve_line-clause-goes g c =
+    let state = g.D.Disk.state in
+    let old = c.args.server.now in
+    let mid = c.loop-line.server in
+    let new = c.serve_line.new.server in
+    goes_on-more old mid new (state old.disk) (state mid.disk) (state new.disk)
+    c.loop-line.invariant.goes c.in_err-serve_line.ensures.broken.goes
+
+pub returns-clause-bound : goal.returns-clause-bound
+returns-clause-bound g c =
+    let bound = c.loop-line.invariant.bound in no_more c.loop-line.lines _ _ bound
+
+pub returns-clause-goes : goal.returns-clause-goes
+returns-clause-goes g c = c.loop-line.invariant.goes

@@ -1,5 +1,5 @@
 use Rattle.std.proofs.Common.{◌≡◌, [], ◌∷◌, ◌++◌, length, sym, ap, subst, ◌∙◌, arith}
-use Rattle.std.proofs.Common.{length-append}
+use Rattle.std.proofs.Common.{length-append, inl, inr, refl}
 use Rattle.std.proofs.lemmas.Bool.{both_ways}
 use Rattle.mot_lines.specs.Lines.{whole_lines, rest_of, lines_of}
 use Rattle.mot_lines.proofs.Laws.{lines_of-ended, lines_of-begun}
@@ -8,6 +8,8 @@ use Rattle.mot_session.specs.State.{state_of}
 use Rattle.mot_session.proofs.Runs.{Served-push, Stopped-here}
 use Rattle.mot_session.specs.LineByLine.{ServesEach}
 use Rattle.mot_session.proofs.Each.{each-more, some-here}
+use Rattle.mot_session.proofs.Ends.{fault_of_end, not_none}
+use Rattle.mot_session.proofs.Requests.{goes_on-none}
 use Rattle.mot_session.proofs.Kept.{BreaksOff-of_line, ServesOne-of_line}
 use Rattle.mot_session.proofs.serving.answer_last.Goals as goal
 
@@ -108,3 +110,46 @@ returns-in-Err-clause-some g c = λ fault first old input is each.
     (BreaksOff-of_line c.as_slice.result.now (rest_of input)
     (c.as_slice.ensures.asks (rest_of input) is.rest) g.D.Disk.state c.args.server.now
     c.serve_line.new.server _ _ c.in-Err.ensures.broken))
+
+pub returns-then-is_empty-clause-fault : goal.returns-then-is_empty-clause-fault
+returns-then-is_empty-clause-fault g c = inl refl
+
+pub returns-then-is_empty-clause-unwritten : goal.returns-then-is_empty-clause-unwritten
+returns-then-is_empty-clause-unwritten g c = λ fault. absurd (not_none (sym fault))
+
+pub returns-then-is_empty-clause-some : goal.returns-then-is_empty-clause-some
+returns-then-is_empty-clause-some g c = λ fault. absurd (not_none (sym fault))
+
+pub returns-in-Ok-clause-fault : goal.returns-in-Ok-clause-fault
+returns-in-Ok-clause-fault g c = inl refl
+
+pub returns-in-Ok-clause-unwritten : goal.returns-in-Ok-clause-unwritten
+returns-in-Ok-clause-unwritten g c = λ fault. absurd (not_none (sym fault))
+
+pub returns-in-Ok-clause-some : goal.returns-in-Ok-clause-some
+returns-in-Ok-clause-some g c = λ fault. absurd (not_none (sym fault))
+
+pub returns-then-is_empty-clause-goes : goal.returns-then-is_empty-clause-goes
+returns-then-is_empty-clause-goes g c =
+    goes_on-none c.args.server.now (g.D.Disk.state c.args.server.now.disk)
+
+pub returns-in-Ok-clause-goes : goal.returns-in-Ok-clause-goes
+returns-in-Ok-clause-goes g c = c.in-Ok.ensures.answered.goes
+
+pub returns-in-Err-clause-lines : goal.returns-in-Err-clause-lines
+returns-in-Err-clause-lines g c = λ none.
+    absurd (not_none (sym (fault_of_end _ _ _ c.ended.ensures) ∙ none))
+
+pub returns-in-Err-clause-ended : goal.returns-in-Err-clause-ended
+returns-in-Err-clause-ended g c = λ none.
+    absurd (not_none (sym (fault_of_end _ _ _ c.ended.ensures) ∙ none))
+
+pub returns-in-Err-clause-each : goal.returns-in-Err-clause-each
+returns-in-Err-clause-each g c = λ none.
+    absurd (not_none (sym (fault_of_end _ _ _ c.ended.ensures) ∙ none))
+
+pub returns-in-Err-clause-fault : goal.returns-in-Err-clause-fault
+returns-in-Err-clause-fault g c = inr (fault_of_end _ _ _ c.ended.ensures)
+
+pub returns-in-Err-clause-goes : goal.returns-in-Err-clause-goes
+returns-in-Err-clause-goes g c = c.in-Err.ensures.broken.goes

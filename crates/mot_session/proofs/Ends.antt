@@ -1,0 +1,29 @@
+-- What ended serving.
+use Rattle.std.proofs.Common.{◌≡◌, ℕ, Some, None, ap}
+use Rattle.mot_base.specs.declared.refusal.Refusal.{Refusal}
+use Rattle.mot_base.specs.declared.refusal.Refusal.TheVariants.{OutOfMemory, ReadFault, WriteFault}
+use Rattle.mot_session.specs.declared.serving.ServeEnd.{ServeEnd}
+
+-- the lines and the fault of an end by a fault
+
+pub lines_of_end : (end : ServeEnd) (lines : ℕ) (fault : Refusal)
+    → end ≡ record { lines = lines; fault = Some fault } → end.lines ≡ lines
+lines_of_end end lines fault is = ap (λ (e : ServeEnd). e.lines) is
+
+pub fault_of_end : (end : ServeEnd) (lines : ℕ) (fault : Refusal)
+    → end ≡ record { lines = lines; fault = Some fault } → end.fault ≡ Some fault
+fault_of_end end lines fault is = ap (λ (e : ServeEnd). e.fault) is
+
+-- no two ends are one
+
+pub not_none : {fault : Refusal} → Some fault ≡ None → ⊥
+not_none e = cc
+
+pub memory_not_read : Some OutOfMemory ≡ Some ReadFault → ⊥
+memory_not_read e = cc
+
+pub memory_not_write : Some OutOfMemory ≡ Some WriteFault → ⊥
+memory_not_write e = cc
+
+pub read_not_write : Some ReadFault ≡ Some WriteFault → ⊥
+read_not_write e = cc
