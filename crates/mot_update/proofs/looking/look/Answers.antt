@@ -3,10 +3,12 @@ use Rattle.mot_carousel.specs.declared.carousel.Carousel.{Carousel}
 use Rattle.mot_server.specs.Attempts.{fault_of}
 use Rattle.mot_update.specs.Looking.{HasSettled, withdraw_all, unknown_names}
 use Rattle.mot_update.specs.Told.{TellsMore}
+use Rattle.mot_update.specs.Faults.{no_memory}
 use Rattle.mot_update.proofs.Answers.{tells_nil, tells_trans}
+use Rattle.mot_update.proofs.Faults.{tells_on}
 use Rattle.mot_update.proofs.Looks.{err_of, gives_nil, look_cut, look_on, withdrawals-are}
 use Rattle.mot_update.proofs.Looks.{withdrew_cut, withdrew_none}
-use Rattle.disk_store.proofs.Laws.{unchanged_none}
+use Rattle.disk_store.proofs.Laws.{keeps_none, keeps_on, unchanged_none}
 use Rattle.mot_base.proofs.Laws.{same_error}
 use Rattle.mot_update.proofs.looking.look.Goals as goal
 
@@ -89,3 +91,39 @@ returns-clause-looked g c = λ s holds honest.
       tells_trans (told c.args.source.now) (told c.withdraw_these.new.source)
           (told c.settle_all.new.source) runs.0.answers settled.0.runs.answers runs.1 settled.1,
     )
+
+pub returns-in_err-names-clause-keeps : goal.returns-in_err-names-clause-keeps
+returns-in_err-names-clause-keeps g c = keeps_none (g.D.Disk.state c.args.server.now.disk)
+
+pub returns-in_err-names-clause-fine : goal.returns-in_err-names-clause-fine
+returns-in_err-names-clause-fine g c = λ e. e
+
+pub returns-in_err-names-clause-faults : goal.returns-in_err-names-clause-faults
+returns-in_err-names-clause-faults g c =
+    rw (same_error c.from_residual.result c.in_err-names.field-0.0 c.from_residual.ensures.1)
+    (no_memory c.in_err-names.ensures.fault refl)
+
+pub returns-in_err-withdraw_these-clause-keeps : goal.returns-in_err-withdraw_these-clause-keeps
+returns-in_err-withdraw_these-clause-keeps g c = c.in_err-withdraw_these.ensures.keeps
+
+pub returns-in_err-withdraw_these-clause-fine : goal.returns-in_err-withdraw_these-clause-fine
+returns-in_err-withdraw_these-clause-fine g c = c.in_err-withdraw_these.ensures.fine
+
+pub returns-in_err-withdraw_these-clause-faults : goal.returns-in_err-withdraw_these-clause-faults
+returns-in_err-withdraw_these-clause-faults g c =
+    rw (same_error c.from_residual-in_err-withdraw_these.result
+    c.in_err-withdraw_these.field-0.0 c.from_residual-in_err-withdraw_these.ensures.1)
+    c.in_err-withdraw_these.ensures.faults
+
+pub returns-clause-keeps : goal.returns-clause-keeps
+returns-clause-keeps g c =
+    keeps_on _ _ _ c.in_ok-withdraw_these.ensures.keeps c.settle_all.ensures.keeps
+
+pub returns-clause-fine : goal.returns-clause-fine
+returns-clause-fine g c = λ e.
+    c.in_ok-withdraw_these.ensures.fine (c.settle_all.ensures.fine e)
+
+pub returns-clause-faults : goal.returns-clause-faults
+returns-clause-faults g c =
+    tells_on _ _ _ _ _ _ c.settle_all.result c.in_ok-withdraw_these.ensures.faults
+    c.settle_all.ensures.faults

@@ -1,4 +1,6 @@
-use Rattle.std.proofs.Common.{◌≡◌, ◌∙◌, ◌≤◌, ◌<◌, length, Ok, Some, refl, sym, subst}
+use Rattle.std.proofs.Common.{◌≡◌, ◌∙◌, ◌≤◌, ◌<◌, ◌-◌, ℕ, length, Ok, Some, refl, sym, ap}
+use Rattle.std.proofs.Common.{subst, arith}
+use Rattle.std.proofs.lemmas.Option.{slice_get_within}
 use Rattle.std.specs.Prelude.{slice_get}
 use Rattle.disk_store.proofs.Laws.{keeps_none, keeps_on}
 use Rattle.mot_update.specs.HasRun.{marks_of_settling}
@@ -10,6 +12,11 @@ use Rattle.mot_update.proofs.Looks.{settled_more, settled_none}
 use Rattle.disk_store.proofs.Laws.{unchanged_none}
 use Rattle.mot_base.proofs.Laws.{same_error}
 use Rattle.mot_update.proofs.looking.settle_all.Goals as goal
+
+-- of as many names, fewer are left
+fewer : (many many' from name to to' : ℕ) → many' ≡ many → from ≤ name → name < to → to' ≡ to
+    → name < many → many' - to' < many - from
+fewer many many' from name to to' same le lt stays within = omega arith
 
 pub loop-wanted-init : goal.loop-wanted-init
 loop-wanted-init g c =
@@ -146,3 +153,28 @@ loop-wanted-preserved g c =
           );
       fine = λ e. is.fine (next.fine (told.fine e).0);
     }
+
+pub loop-wanted-smaller : goal.loop-wanted-smaller
+loop-wanted-smaller g c =
+    let next = c.in-Some.ensures in
+    let told = c.settled.ensures in
+    let n = next.named in
+    fewer _ _ _ n.0 _ _ (ap length (told.same ∙ next.same)) n.1 n.2 told.stays
+    (slice_get_within _ n.0 _ n.3)
+
+pub returns-in_default-clause-keeps : goal.returns-in_default-clause-keeps
+returns-in_default-clause-keeps g c = c.loop-wanted.invariant.keeps
+
+pub returns-in_default-clause-fine : goal.returns-in_default-clause-fine
+returns-in_default-clause-fine g c = λ e.
+    c.loop-wanted.invariant.fine (c.in_default.ensures.fine e)
+
+pub returns-in_err-settled-clause-keeps : goal.returns-in_err-settled-clause-keeps
+returns-in_err-settled-clause-keeps g c =
+    let state = g.D.Disk.state in
+    keeps_on (state c.args.server.now.disk) (state c.loop-wanted.server.disk)
+    (state c.settle.new.server.disk) c.loop-wanted.invariant.keeps c.in_err-settled.ensures.keeps
+
+pub returns-in_err-settled-clause-fine : goal.returns-in_err-settled-clause-fine
+returns-in_err-settled-clause-fine g c = λ e.
+    c.loop-wanted.invariant.fine (c.in-Some.ensures.fine e)
