@@ -1,4 +1,6 @@
+use Rattle.std.proofs.Common.{◌∙◌}
 use Rattle.std.proofs.lemmas.Result.{err_from_is_err_and}
+use Rattle.disk_store.proofs.Laws.{keeps_on, unchanged_on}
 use Rattle.mot_lines.specs.Line.{line_of}
 use Rattle.mot_session.specs.State.{state_of}
 use Rattle.mot_session.proofs.Answered.{Crosses-line, Decides-parsed}
@@ -79,3 +81,25 @@ returns-clause-anyhow g c = λ line parsed.
     (c.in_ok-write_reply.ensures.anyhow c.args.server.now.view _ (line_of line)
     (anyhow-parsed _ _ _ _ c.decide-decision.result c.args.request (line_of line) parsed
     c.decide-decision.ensures.anyhow)) c.flush.ensures.bytes
+
+pub returns-in_err-write_reply-clause-goes : goal.returns-in_err-write_reply-clause-goes
+returns-in_err-write_reply-clause-goes g c =
+    let reads = c.in_err-write_reply.ensures.reads in
+    let decided = c.decide-decision.ensures in
+    record {
+      keeps = keeps_on _ _ _ decided.keeps reads.disk.keeps;
+      halted = λ is.
+          let same = decided.halted is in
+          (reads.view ∙ same.0, λ honest. unchanged_on _ _ _ same.1 (reads.disk.unchanged honest));
+    }
+
+pub returns-clause-goes : goal.returns-clause-goes
+returns-clause-goes g c =
+    let reads = c.in_ok-write_reply.ensures.reads in
+    let decided = c.decide-decision.ensures in
+    record {
+      keeps = keeps_on _ _ _ decided.keeps reads.disk.keeps;
+      halted = λ is.
+          let same = decided.halted is in
+          (reads.view ∙ same.0, λ honest. unchanged_on _ _ _ same.1 (reads.disk.unchanged honest));
+    }

@@ -1,4 +1,4 @@
-use Rattle.std.proofs.Common.{◌≡◌, refl, sym, ap, ◌∙◌, subst}
+use Rattle.std.proofs.Common.{◌≡◌, Ok, false, refl, sym, ap, ◌∙◌, subst}
 use Rattle.mot_base.specs.declared.geometry.Geometry.{Geometry}
 use Rattle.mot_lines.specs.Listing.{listing_text_beside}
 use Rattle.mot_lines.specs.Listing.{listing_text}
@@ -8,7 +8,9 @@ use Rattle.mot_lines.proofs.Laws.{listing_text-beside}
 use Rattle.mot_session.specs.Output.{Writes}
 use Rattle.mot_session.specs.Raw.{packets_at}
 use Rattle.mot_session.specs.Session.{accepted, listing, packets, refused, text_of}
-use Rattle.mot_session.specs.State.{state_of}
+use Rattle.mot_session.specs.Inner.Writes.{AnswersRequest}
+use Rattle.mot_session.specs.State.{ServerState, state_of}
+use Rattle.mot_session.proofs.Requests.{reads-none}
 use Rattle.mot_session.proofs.Written.{AnswersRequest-written}
 use Rattle.mot_lines.specs.declared.line.Line.TheVariants as asks
 use Rattle.mot_repository.specs.Repository.{RepositoryView}
@@ -97,3 +99,43 @@ returns-in-Turn-clause-anyhow g c = rw c.in-Turn.is (λ old before request d.
     anyhow-played c.write_turn.result old c.args.server.now.view c.write_turn.new.server.view
     before _ _ asks.Turn request _ _ d.0 d.2 d.3
     (c.write_turn.ensures.anyhow (ap (λ (v : RepositoryView). v.halted) d.2 ∙ d.1)))
+
+pub returns-in-Refused-clause-reads : goal.returns-in-Refused-clause-reads
+returns-in-Refused-clause-reads g c =
+    let server = c.args.server.now in reads-none server (g.D.Disk.state server.disk)
+
+pub returns-in-Accepted-clause-reads : goal.returns-in-Accepted-clause-reads
+returns-in-Accepted-clause-reads g c =
+    let server = c.args.server.now in reads-none server (g.D.Disk.state server.disk)
+
+pub returns-in-Listing-clause-reads : goal.returns-in-Listing-clause-reads
+returns-in-Listing-clause-reads g c =
+    let server = c.args.server.now in reads-none server (g.D.Disk.state server.disk)
+
+pub returns-in-Packets-clause-reads : goal.returns-in-Packets-clause-reads
+returns-in-Packets-clause-reads g c =
+    let server = c.args.server.now in reads-none server (g.D.Disk.state server.disk)
+
+pub returns-in-Next-clause-reads : goal.returns-in-Next-clause-reads
+returns-in-Next-clause-reads g c = c.write_next.ensures.reads
+
+pub returns-in-Next-clause-answers : goal.returns-in-Next-clause-answers
+returns-in-Next-clause-answers g c = rw c.in-Next.is (λ before request s stands honest d.
+    let new = c.write_next.new.server in
+    let going = ap (λ (before : ServerState). before.halted) d.2 ∙ d.1 in
+    rw d.0 (subst (λ (before : ServerState). AnswersRequest c.write_next.result false before
+    (Ok (asks.Next c.in-Next.count)) (state_of new s (g.D.Disk.state new.disk))
+    (g.W.Write.contents c.args.writer.now) (g.W.Write.contents c.write_next.new.writer))
+    d.2 (c.write_next.ensures.answers s (stands.holds going) honest)))
+
+pub returns-in-Turn-clause-reads : goal.returns-in-Turn-clause-reads
+returns-in-Turn-clause-reads g c = c.write_turn.ensures.reads
+
+pub returns-in-Turn-clause-answers : goal.returns-in-Turn-clause-answers
+returns-in-Turn-clause-answers g c = rw c.in-Turn.is (λ before request s stands honest d.
+    let new = c.write_turn.new.server in
+    let going = ap (λ (before : ServerState). before.halted) d.2 ∙ d.1 in
+    rw d.0 (subst (λ (before : ServerState). AnswersRequest c.write_turn.result false before
+    (Ok asks.Turn) (state_of new s (g.D.Disk.state new.disk))
+    (g.W.Write.contents c.args.writer.now) (g.W.Write.contents c.write_turn.new.writer))
+    d.2 (c.write_turn.ensures.answers s (stands.holds going) honest)))
