@@ -1,4 +1,4 @@
-use Rattle.std.proofs.Common.{◌≡◌, [], ◌∷◌, ◌++◌, length, sym, ap, subst, ◌∙◌, arith}
+use Rattle.std.proofs.Common.{◌≡◌, ℕ, List, [], ◌∷◌, ◌++◌, length, sym, ap, subst, ◌∙◌, arith}
 use Rattle.std.proofs.Common.{length-append, inl, inr, refl}
 use Rattle.std.proofs.lemmas.Bool.{both_ways}
 use Rattle.mot_lines.specs.Lines.{whole_lines, rest_of, lines_of}
@@ -11,19 +11,33 @@ use Rattle.mot_session.proofs.Each.{each-more, some-here}
 use Rattle.mot_session.proofs.Ends.{fault_of_end, not_none}
 use Rattle.mot_session.proofs.Requests.{goes_on-none}
 use Rattle.mot_session.proofs.Kept.{BreaksOff-of_line, ServesOne-of_line}
+use Rattle.mot_session.specs.Inner.InHand.{InHand}
+use Rattle.mot_session.proofs.serving.answer_last.Given as given
 use Rattle.mot_session.proofs.serving.answer_last.Goals as goal
+use Rattle.mot_session.proofs.serving.answer_last.Goals.{Then-is_empty, Else-is_empty}
+
+-- where nothing is in hand, each line has its end
+all_ended : (g : given.Over) (c : Then-is_empty g) (input : List ℕ)
+    → InHand input c.args.hand.now c.args.lines → lines_of input ≡ whole_lines input
+all_ended g c input is =
+    lines_of-ended input ((c.is_empty.ensures (rest_of input) is.rest).0 c.if-is_empty.true)
+
+-- and where something is, it is the last line
+last_begun : (g : given.Over) (c : Else-is_empty g) (input : List ℕ)
+    → InHand input c.args.hand.now c.args.lines
+    → lines_of input ≡ whole_lines input ++ rest_of input ∷ []
+last_begun g c input is = lines_of-begun input (λ none.
+    both_ways _ c.if-is_empty.false ((c.is_empty.ensures (rest_of input) is.rest).1 none))
 
 pub returns-then-is_empty-clause-lines : goal.returns-then-is_empty-clause-lines
 returns-then-is_empty-clause-lines g c = λ none input is.
-    let e = lines_of-ended input
-    ((c.is_empty.ensures (rest_of input) is.rest).0 c.if-is_empty.true) in
+    let e = all_ended g (goal.at.returns-then-is_empty-clause-lines g c).Then-is_empty input is in
     is.counted ∙ ap length (sym e)
 
 pub returns-then-is_empty-clause-ended : goal.returns-then-is_empty-clause-ended
 returns-then-is_empty-clause-ended g c = λ none before old input is s stands honest.
     let state = g.D.Disk.state c.args.server.now.disk in
-    let e = lines_of-ended input
-    ((c.is_empty.ensures (rest_of input) is.rest).0 c.if-is_empty.true) in (
+    let e = all_ended g (goal.at.returns-then-is_empty-clause-ended g c).Then-is_empty input is in (
       s,
       stands,
       λ served. subst (λ l. Served state before (state_of c.args.server.now s state) l old
@@ -32,9 +46,7 @@ returns-then-is_empty-clause-ended g c = λ none before old input is s stands ho
 
 pub returns-in-Ok-clause-lines : goal.returns-in-Ok-clause-lines
 returns-in-Ok-clause-lines g c = λ none input is.
-    let some : rest_of input ≡ [] → ⊥ = λ h. both_ways _ c.if-is_empty.false
-    ((c.is_empty.ensures (rest_of input) is.rest).1 h) in
-    let e : lines_of input ≡ whole_lines input ++ rest_of input ∷ [] = lines_of-begun input some in
+    let e = last_begun g (goal.at.returns-in-Ok-clause-lines g c).Else-is_empty input is in
     let n = is.counted in rw (e, length-append) (omega arith)
 
 pub returns-in-Ok-clause-ended : goal.returns-in-Ok-clause-ended
@@ -42,9 +54,7 @@ returns-in-Ok-clause-ended g c = λ none before old input is s stands honest.
     let state = g.D.Disk.state in
     let mid = c.args.server.now in
     let new = c.serve_line.new.server in
-    let some : rest_of input ≡ [] → ⊥ = λ h. both_ways _ c.if-is_empty.false
-    ((c.is_empty.ensures (rest_of input) is.rest).1 h) in
-    let e : lines_of input ≡ whole_lines input ++ rest_of input ∷ [] = lines_of-begun input some in
+    let e = last_begun g (goal.at.returns-in-Ok-clause-ended g c).Else-is_empty input is in
     let one = c.in-Ok.ensures.answered in
     let whole = ServesOne-of_line c.as_slice.result.now (rest_of input)
     (c.as_slice.ensures.asks (rest_of input) is.rest) state mid new _ _ one in
@@ -65,8 +75,7 @@ returns-in-Err-clause-unwritten g c = λ fault before old input is.
     let state = g.D.Disk.state in
     let mid = c.args.server.now in
     let new = c.serve_line.new.server in
-    let some : rest_of input ≡ [] → ⊥ = λ h. both_ways _ c.if-is_empty.false
-    ((c.is_empty.ensures (rest_of input) is.rest).1 h) in
+    let e = last_begun g (goal.at.returns-in-Err-clause-unwritten g c).Else-is_empty input is in
     rw c.ended.ensures (λ s stands honest.
     let one = c.in-Err.ensures.broken in
     let cut = BreaksOff-of_line c.as_slice.result.now (rest_of input)
@@ -79,22 +88,20 @@ returns-in-Err-clause-unwritten g c = λ fault before old input is.
           (g.met.D.Disk.sound mid.disk was) (g.met.D.Disk.sound new.disk honest) a.1 before
           (whole_lines input)
           (rest_of input) old _ _ served a.2 (λ halted. (one.goes.halted halted).1 honest)
-          c.args.lines is.counted (lines_of input) [] (lines_of-begun input some),
+          c.args.lines is.counted (lines_of input) [] e,
     ))
 
 pub returns-then-is_empty-clause-each : goal.returns-then-is_empty-clause-each
 returns-then-is_empty-clause-each g c = λ none first old input is each.
-    let e = lines_of-ended input
-    ((c.is_empty.ensures (rest_of input) is.rest).0 c.if-is_empty.true) in
+    let e = all_ended g (goal.at.returns-then-is_empty-clause-each g c).Then-is_empty input is in
     subst (λ l. ServesEach g.D.Disk.state first l c.args.server.now old
     (g.W.Write.contents c.args.writer.now)) (sym e) each
 
 pub returns-in-Ok-clause-each : goal.returns-in-Ok-clause-each
 returns-in-Ok-clause-each g c = λ none first old input is each.
-    let some : rest_of input ≡ [] → ⊥ = λ h. both_ways _ c.if-is_empty.false
-    ((c.is_empty.ensures (rest_of input) is.rest).1 h) in
+    let e = last_begun g (goal.at.returns-in-Ok-clause-each g c).Else-is_empty input is in
     subst (λ l. ServesEach g.D.Disk.state first l c.serve_line.new.server old
-    (g.W.Write.contents c.serve_line.new.writer)) (sym (lines_of-begun input some))
+    (g.W.Write.contents c.serve_line.new.writer)) (sym e)
     (each-more g.D.Disk.state first c.args.server.now c.serve_line.new.server (whole_lines input)
     (rest_of input) old _ _ each (ServesOne-of_line c.as_slice.result.now (rest_of input)
     (c.as_slice.ensures.asks (rest_of input) is.rest) g.D.Disk.state c.args.server.now
@@ -102,11 +109,10 @@ returns-in-Ok-clause-each g c = λ none first old input is each.
 
 pub returns-in-Err-clause-some : goal.returns-in-Err-clause-some
 returns-in-Err-clause-some g c = λ fault first old input is each.
-    let some : rest_of input ≡ [] → ⊥ = λ h. both_ways _ c.if-is_empty.false
-    ((c.is_empty.ensures (rest_of input) is.rest).1 h) in
+    let e = last_begun g (goal.at.returns-in-Err-clause-some g c).Else-is_empty input is in
     rw c.ended.ensures (some-here g.D.Disk.state first c.args.server.now c.serve_line.new.server
     (whole_lines input) (rest_of input) [] (lines_of input) c.args.lines old _ _
-    (lines_of-begun input some) is.counted each
+    e is.counted each
     (BreaksOff-of_line c.as_slice.result.now (rest_of input)
     (c.as_slice.ensures.asks (rest_of input) is.rest) g.D.Disk.state c.args.server.now
     c.serve_line.new.server _ _ c.in-Err.ensures.broken))
