@@ -90,6 +90,10 @@ impl Unbegun {
 }
 
 impl From<PacketsFault> for Cause {
+    ghost use Rattle.mot_air.specs.declared.fault.Cause.TheVariants.{Packets};
+
+    ghost from_gives = { λ fault cause. cause ≡ Packets fault };
+
     fn from(fault: PacketsFault) -> Cause {
         Cause::Packets(fault)
     }
@@ -138,12 +142,20 @@ impl Display for LinesFault {
 }
 
 impl From<io::Error> for LinesFault {
+    ghost use Rattle.mot_air.specs.declared.fault.LinesFault.TheVariants.{System};
+
+    ghost from_gives = { λ error fault. fault ≡ System error };
+
     fn from(error: io::Error) -> LinesFault {
         LinesFault::System(error)
     }
 }
 
 impl From<io::Error> for PacketsFault {
+    ghost use Rattle.mot_air.specs.declared.fault.PacketsFault.TheVariants.{System};
+
+    ghost from_gives = { λ error fault. fault ≡ System error };
+
     fn from(error: io::Error) -> PacketsFault {
         PacketsFault::System(error)
     }

@@ -1,5 +1,5 @@
 //! What the packets of `play` go to.
-ghost use Rattle.std.specs.Prelude.{◌≤◌, ◌∷◌, [], None, IfOk, MatchResult, length, take};
+ghost use Rattle.std.specs.Prelude.{◌≡◌, ◌≤◌, ◌∷◌, [], None, IfOk, MatchResult, length, take};
 ghost use Rattle.std.specs.Io.{WritesAtMost};
 ghost use Rattle.std.specs.Io.KnownBytes.{Appends};
 ghost use Rattle.mot_air.specs.Inner.Packets.{target_of};
@@ -104,7 +104,10 @@ pub(crate) struct PacketWriter<W: Write + Drop> {
 
 impl<W: Write + Drop> PacketWriter<W> {
     /// Nothing was written.
-    pub fn new(writer: W) -> PacketWriter<W> {
+    pub fn new(writer: W) -> PacketWriter<W>
+        ensures writer { result.writer ≡ writer }
+        ensures fault { result.fault ≡ None }
+    {
         PacketWriter {
             writer,
             fault: None,

@@ -1,5 +1,7 @@
 //! Files of lines in a folder, read one behind the other. Of what these calls do to files no
 //! contract tells.
+ghost use Rattle.std.specs.Prelude.{◌≡◌, false};
+
 use mot_base::Refusal;
 use std::alloc::Global;
 use std::fs::{File, OpenOptions};
@@ -39,7 +41,11 @@ struct LineFile {
 
 impl<'a, T: Files<File = File>, W: Write + Drop> Spool<'a, T, W> {
     /// No file was read.
-    pub fn new(rt: &'a T, alloc: Global, folder: &'a str, log: W) -> Spool<'a, T, W> {
+    pub fn new(rt: &'a T, alloc: Global, folder: &'a str, log: W) -> Spool<'a, T, W>
+        ensures folder { result.folder.now ≡ folder.now }
+        ensures log { result.log ≡ log }
+        ensures goes { result.is_stopped ≡ false }
+    {
         Spool {
             rt,
             alloc,
