@@ -1,5 +1,5 @@
 -- What is known of a disk that was just opened.
-use Rattle.std.proofs.Common.{◌≡◌, ◌≢◌, ◌⊎◌, ◌∙◌, ℕ, List, [], ◌++◌, Bool, Option, Result, Ok, inl}
+use Rattle.std.proofs.Common.{◌≡◌, ◌≢◌, ◌⊎◌, ◌∙◌, ℕ, List, [], ◌++◌, Bool, Option, inl}
 use Rattle.std.proofs.Common.{inr}
 use Rattle.std.proofs.Common.{◌≤◌, arith, sym, subst}
 use Rattle.std.specs.Prelude.{IsFalse}
@@ -8,7 +8,7 @@ use Rattle.std.proofs.Math.Nat.{eq-or-lt_of_le}
 use Rattle.disk_store.specs.Disk.{IsHonestDisk, IsStill, State}
 use Rattle.disk_store.specs.Failures.{Rises}
 use Rattle.disk_store.specs.Disk.{Throughout}
-use Rattle.disk_store.proofs.Laws.{only_bytes, begins, joins, stays}
+use Rattle.disk_store.proofs.Laws.{begins, joins, stays}
 use Rattle.mot_air.specs.Opening.{IsBreak, IsUnopened, Leaves}
 use Rattle.mot_air.specs.Opening as opening
 use Rattle.mot_base.specs.declared.refusal.Refusal.{Refusal}
@@ -16,10 +16,9 @@ use Rattle.mot_base.specs.declared.refusal.Refusal.TheVariants.{DeviceFault}
 use Rattle.mot_carousel.specs.declared.command.Command.{Command}
 use Rattle.mot_feed.specs.Feeding.{IsFeedFault}
 use Rattle.mot_feed.specs.Sending as sending
-use Rattle.mot_journal.specs.Image.{Standing, stands_for}
-use Rattle.mot_journal.specs.Journal.{HasRecords}
+use Rattle.mot_journal.specs.Image.{Standing}
 use Rattle.mot_repository.specs.Opening.{IsOpened, IsOpeningRefusal}
-use Rattle.mot_repository.specs.Repository.{RepositoryView, Agrees, IsOf, Holds}
+use Rattle.mot_repository.specs.Repository.{RepositoryView, IsOf, Holds}
 use Rattle.mot_server.specs.RunEnds.{RunLeaves}
 use Rattle.mot_server.specs.Runs.{StandsAfterSome, accepted_commands, commands_in_flight}
 use Rattle.mot_server.specs.Server.{ServerView}

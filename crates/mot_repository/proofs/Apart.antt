@@ -1,6 +1,6 @@
 -- One object compared with the others, of which it is known that they are consistent.
 use Rattle.std.proofs.Common.{◌≡◌, ℕ, suc, ◌+◌, ◌-◌, ◌<◌, Bool, true, false, not, ◌&&◌, ◌||◌, List}
-use Rattle.std.proofs.Common.{[], ◌∷◌, ◌++◌, length, map, get_or, take, drop, refl, sym, ap, ◌∙◌}
+use Rattle.std.proofs.Common.{[], ◌∷◌, length, map, get_or, take, drop, refl, sym, ap, ◌∙◌}
 use Rattle.std.proofs.Common.{arith, add-one, set, cond, Option, Some, None}
 use Rattle.std.specs.Prelude.{remove, nat_eq, nat_le}
 use Rattle.std.specs.List.{list_all, list_any}
@@ -23,7 +23,6 @@ use Rattle.mot_repository.proofs.Folding.{step_from}
 use Rattle.mot_repository.proofs.Folding.IsWithoutOne.{gone, later}
 use Rattle.mot_repository.proofs.Listing.{used_by, ids_in, apart_in, same_count, lengths_remove}
 use Rattle.mot_repository.proofs.Pairwise.{are_pairwise, pairwise_at, pairwise_without, remove_set}
-use Rattle.mot_repository.proofs.Pairwise.{remove_last}
 
 abbrev differ : Object → Object → Bool
 differ o p = not (nat_eq o.tid p.tid)

@@ -3,7 +3,7 @@ use Rattle.std.proofs.Common.{◌≡◌, ℕ, ◌+◌, ◌<◌, ◌≤◌, true,
 use Rattle.std.proofs.Common.{None, refl, subst, arith}
 use Rattle.std.specs.Prelude.{is_none}
 use Rattle.std.proofs.lemmas.Bool.Decides.{nat_tests}
-use Rattle.mot_repository.specs.Gap.{is_beside, is_free, least_gap}
+use Rattle.mot_repository.specs.Gap.{is_free, least_gap}
 use Rattle.mot_repository.specs.Inner.LeastGap.{IsLeastGap}
 use Rattle.mot_repository.proofs.Gaps.{least_gap_is_least}
 
