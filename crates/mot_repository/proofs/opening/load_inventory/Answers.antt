@@ -67,27 +67,32 @@ returns-in_err-inventory-clause-only_reads g c = c.load.ensures.only_reads
 
 pub returns-in_err-inventory-clause-going : goal.returns-in_err-inventory-clause-going
 returns-in_err-inventory-clause-going g c =
-    let p = err_from_is_err_and c.from_residual-in_err-inventory.result c.from_residual-in_err-inventory.ensures.1 in
+    let p = err_from_is_err_and c.from_residual-in_err-inventory.result
+    c.from_residual-in_err-inventory.ensures.1 in
     rw p.1 tt
 
 pub returns-in_err-inventory-clause-in_order : goal.returns-in_err-inventory-clause-in_order
 returns-in_err-inventory-clause-in_order g c =
-    let p = err_from_is_err_and c.from_residual-in_err-inventory.result c.from_residual-in_err-inventory.ensures.1 in
+    let p = err_from_is_err_and c.from_residual-in_err-inventory.result
+    c.from_residual-in_err-inventory.ensures.1 in
     rw p.1 tt
 
 pub returns-in_err-inventory-clause-loaded : goal.returns-in_err-inventory-clause-loaded
 returns-in_err-inventory-clause-loaded g c =
-    let p = err_from_is_err_and c.from_residual-in_err-inventory.result c.from_residual-in_err-inventory.ensures.1 in
+    let p = err_from_is_err_and c.from_residual-in_err-inventory.result
+    c.from_residual-in_err-inventory.ensures.1 in
     rw p.1 (λ honest. tt)
 
 pub returns-in_err-inventory-clause-cost : goal.returns-in_err-inventory-clause-cost
 returns-in_err-inventory-clause-cost g c =
-    let p = err_from_is_err_and c.from_residual-in_err-inventory.result c.from_residual-in_err-inventory.ensures.1 in
+    let p = err_from_is_err_and c.from_residual-in_err-inventory.result
+    c.from_residual-in_err-inventory.ensures.1 in
     rw p.1 (record { at_most = c.load.ensures.cost.at_most; exact = tt })
 
 pub returns-in_err-inventory-clause-calm : goal.returns-in_err-inventory-clause-calm
 returns-in_err-inventory-clause-calm g c =
-    let p = err_from_is_err_and c.from_residual-in_err-inventory.result c.from_residual-in_err-inventory.ensures.1 in
+    let p = err_from_is_err_and c.from_residual-in_err-inventory.result
+    c.from_residual-in_err-inventory.ensures.1 in
     rw p.1 (inr c.in_ok-loaded.ensures.calm)
 
 pub returns-clause-only_reads : goal.returns-clause-only_reads

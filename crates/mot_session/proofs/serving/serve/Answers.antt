@@ -195,23 +195,29 @@ pub returns-clause-laws : goal.returns-clause-laws
 returns-clause-laws g c = session-laws
 
 pub returns-in_default-clause-ended : goal.returns-in_default-clause-ended
-returns-in_default-clause-ended g c = λ none. absurd (not_none (sym (fault_of_end _ _ _ c.ended.ensures) ∙ none))
+returns-in_default-clause-ended g c = λ none.
+    absurd (not_none (sym (fault_of_end _ _ _ c.ended.ensures) ∙ none))
 
 pub returns-in_default-read-clause-ended : goal.returns-in_default-read-clause-ended
-returns-in_default-read-clause-ended g c = λ none. absurd (not_none (sym (fault_of_end _ _ _ c.ended-in_default-read.ensures) ∙ none))
+returns-in_default-read-clause-ended g c = λ none.
+    absurd (not_none (sym (fault_of_end _ _ _ c.ended-in_default-read.ensures) ∙ none))
 
 pub returns-in_default-answer_chunk-clause-ended :
     goal.returns-in_default-answer_chunk-clause-ended
-returns-in_default-answer_chunk-clause-ended g c = λ none. absurd (not_none (sym (fault_of_end _ _ _ c.ended-in_default-answer_chunk.ensures) ∙ none))
+returns-in_default-answer_chunk-clause-ended g c = λ none.
+    absurd (not_none (sym (fault_of_end _ _ _ c.ended-in_default-answer_chunk.ensures) ∙ none))
 
 pub returns-clause-ended : goal.returns-clause-ended
-returns-clause-ended g c = λ none. absurd (not_none (sym (fault_of_end _ _ _ c.ended-2.ensures) ∙ none))
+returns-clause-ended g c = λ none.
+    absurd (not_none (sym (fault_of_end _ _ _ c.ended-2.ensures) ∙ none))
 
 pub returns-in_default-clause-unread : goal.returns-in_default-clause-unread
-returns-in_default-clause-unread g c = λ read. absurd (memory_not_read (sym (fault_of_end _ _ _ c.ended.ensures) ∙ read))
+returns-in_default-clause-unread g c = λ read.
+    absurd (memory_not_read (sym (fault_of_end _ _ _ c.ended.ensures) ∙ read))
 
 pub returns-in_default-clause-unwritten : goal.returns-in_default-clause-unwritten
-returns-in_default-clause-unwritten g c = λ write. absurd (memory_not_write (sym (fault_of_end _ _ _ c.ended.ensures) ∙ write))
+returns-in_default-clause-unwritten g c = λ write.
+    absurd (memory_not_write (sym (fault_of_end _ _ _ c.ended.ensures) ∙ write))
 
 pub returns-in_default-clause-none : goal.returns-in_default-clause-none
 returns-in_default-clause-none g c = λ memory. (
@@ -232,14 +238,16 @@ returns-in_default-clause-halted g c = λ halted.
     (refl, λ honest. unchanged_none (g.D.Disk.state c.args.server.now.disk))
 
 pub returns-in_default-read-clause-unwritten : goal.returns-in_default-read-clause-unwritten
-returns-in_default-read-clause-unwritten g c = λ write. absurd (read_not_write (sym (fault_of_end _ _ _ c.ended-in_default-read.ensures) ∙ write))
+returns-in_default-read-clause-unwritten g c = λ write.
+    absurd (read_not_write (sym (fault_of_end _ _ _ c.ended-in_default-read.ensures) ∙ write))
 
 pub returns-in_default-read-clause-none : goal.returns-in_default-read-clause-none
 returns-in_default-read-clause-none g c = λ memory.
     absurd (memory_not_read (sym memory ∙ (fault_of_end _ _ _ c.ended-in_default-read.ensures)))
 
 pub returns-in_default-read-clause-faults : goal.returns-in_default-read-clause-faults
-returns-in_default-read-clause-faults g c = inr (inr (inl (fault_of_end _ _ _ c.ended-in_default-read.ensures)))
+returns-in_default-read-clause-faults g c =
+    inr (inr (inl (fault_of_end _ _ _ c.ended-in_default-read.ensures)))
 
 pub returns-in_default-read-clause-keeps : goal.returns-in_default-read-clause-keeps
 returns-in_default-read-clause-keeps g c = c.loop.invariant.goes.keeps
@@ -248,7 +256,8 @@ pub returns-in_default-read-clause-halted : goal.returns-in_default-read-clause-
 returns-in_default-read-clause-halted g c = c.loop.invariant.goes.halted
 
 pub returns-clause-unwritten : goal.returns-clause-unwritten
-returns-clause-unwritten g c = λ write. absurd (read_not_write (sym (fault_of_end _ _ _ c.ended-2.ensures) ∙ write))
+returns-clause-unwritten g c = λ write.
+    absurd (read_not_write (sym (fault_of_end _ _ _ c.ended-2.ensures) ∙ write))
 
 pub returns-clause-none : goal.returns-clause-none
 returns-clause-none g c = λ memory.
@@ -288,15 +297,18 @@ returns-clause-unread g c = λ read.
 pub returns-in_default-answer_chunk-clause-unread :
     goal.returns-in_default-answer_chunk-clause-unread
 returns-in_default-answer_chunk-clause-unread g c = λ read.
-    absurd (read_not_write (sym read ∙ (fault_of_end _ _ _ c.ended-in_default-answer_chunk.ensures)))
+    absurd (read_not_write
+    (sym read ∙ (fault_of_end _ _ _ c.ended-in_default-answer_chunk.ensures)))
 
 pub returns-in_default-answer_chunk-clause-none : goal.returns-in_default-answer_chunk-clause-none
 returns-in_default-answer_chunk-clause-none g c = λ memory.
-    absurd (memory_not_write (sym memory ∙ (fault_of_end _ _ _ c.ended-in_default-answer_chunk.ensures)))
+    absurd (memory_not_write
+    (sym memory ∙ (fault_of_end _ _ _ c.ended-in_default-answer_chunk.ensures)))
 
 pub returns-in_default-answer_chunk-clause-faults :
     goal.returns-in_default-answer_chunk-clause-faults
-returns-in_default-answer_chunk-clause-faults g c = inr (inr (inr (fault_of_end _ _ _ c.ended-in_default-answer_chunk.ensures)))
+returns-in_default-answer_chunk-clause-faults g c =
+    inr (inr (inr (fault_of_end _ _ _ c.ended-in_default-answer_chunk.ensures)))
 
 pub returns-in_default-answer_chunk-clause-keeps :
     goal.returns-in_default-answer_chunk-clause-keeps

@@ -1,4 +1,6 @@
-use Rattle.std.proofs.Common.{◌≡◌, ◌∙◌, ◌<◌, ℕ, List, Some, false, ap, arith, sym, subst}
+use Rattle.std.proofs.Common.{◌≡◌, ◌∙◌, ◌<◌, ℕ, List, Some, false, map, length, ap, arith}
+use Rattle.std.proofs.Common.{sym, subst}
+use Rattle.mot_base.proofs.Laws.{same_error}
 use Rattle.mot_packets.specs.Packet.{read_packet}
 use Rattle.mot_packets.specs.Written.{bytes_of_packet}
 use Rattle.mot_player.specs.AnyBodies.{IsStepOfSome}
@@ -167,4 +169,116 @@ returns-clause-sent_of_some g c =
                 (place_with new bodies)
                 w.if-self-eq0.false bytes reads ends place;
           }))
+    ]
+
+pub returns-in_err-begin-clause-sent : goal.returns-in_err-begin-clause-sent
+returns-in_err-begin-clause-sent g c = λ honest.
+    rw (same_error c.from_residual.result c.in_err-begin.field-0.0 c.from_residual.ensures.1) tt
+
+pub returns-in_err-begin-clause-sent_of_some : goal.returns-in_err-begin-clause-sent_of_some
+returns-in_err-begin-clause-sent_of_some g c =
+    rw (same_error c.from_residual.result c.in_err-begin.field-0.0 c.from_residual.ensures.1) tt
+
+pub returns-in_err-begin-clause-no_fault : goal.returns-in_err-begin-clause-no_fault
+returns-in_err-begin-clause-no_fault g c =
+    rw (same_error c.from_residual.result c.in_err-begin.field-0.0 c.from_residual.ensures.1) tt
+
+pub returns-in_err-begin-clause-nearer : goal.returns-in_err-begin-clause-nearer
+returns-in_err-begin-clause-nearer g c =
+    rw (same_error c.from_residual.result c.in_err-begin.field-0.0 c.from_residual.ensures.1) tt
+
+pub returns-in_err-begin-clause-turn : goal.returns-in_err-begin-clause-turn
+returns-in_err-begin-clause-turn g c = rw (← c.self.view_is) c.in_err-begin.ensures.turn
+
+pub returns-in_err-begin-clause-size : goal.returns-in_err-begin-clause-size
+returns-in_err-begin-clause-size g c = rw (← c.self.view_is) c.in_err-begin.ensures.size
+
+pub returns-in_err-begin-clause-stays : goal.returns-in_err-begin-clause-stays
+returns-in_err-begin-clause-stays g c = rw (
+  ← c.self.view_is,
+  same_error c.from_residual.result c.in_err-begin.field-0.0 c.from_residual.ensures.1,
+) c.in_err-begin.ensures.stays
+
+pub returns-in_err-begin-clause-lengths : goal.returns-in_err-begin-clause-lengths
+returns-in_err-begin-clause-lengths g c = c.in_err-begin.ensures.lengths
+
+pub returns-in_err-begin-clause-unchanged : goal.returns-in_err-begin-clause-unchanged
+returns-in_err-begin-clause-unchanged g c = c.in_err-begin.ensures.unchanged
+
+pub returns-in_err-begin-clause-was_honest : goal.returns-in_err-begin-clause-was_honest
+returns-in_err-begin-clause-was_honest g c = c.in_err-begin.ensures.was_honest
+
+pub returns-in_err-begin-clause-only_read : goal.returns-in_err-begin-clause-only_read
+returns-in_err-begin-clause-only_read g c = c.in_err-begin.ensures.only_read
+
+pub returns-in_err-begin-clause-failed : goal.returns-in_err-begin-clause-failed
+returns-in_err-begin-clause-failed g c =
+    rw (same_error c.from_residual.result c.in_err-begin.field-0.0 c.from_residual.ensures.1)
+    c.in_err-begin.ensures.failed
+
+pub returns-in_err-begin-clause-refused : goal.returns-in_err-begin-clause-refused
+returns-in_err-begin-clause-refused g c =
+    rw (same_error c.from_residual.result c.in_err-begin.field-0.0 c.from_residual.ensures.1)
+    c.in_err-begin.ensures.refused
+
+pub returns-clause-turn : goal.returns-clause-turn
+returns-clause-turn g c = rw (← c.self.view_is) (
+    let same : c.if-self-eq0.self-inside.state.turn ≡ c.self.inside.state.turn =
+    elim c.if-self-eq0.branch [
+      | then-self-eq0+in_ok-begin w ↦ (
+          ap (λ (i : Inside). i.state.turn) w.self-inside-is ∙ w.in_ok-begin.ensures.turn)
+      | else-self-eq0 w ↦ (ap (λ (i : Inside). i.state.turn) w.self-inside-is)
+    ] in
+    c.send.ensures.turn ∙ same)
+
+pub returns-clause-size : goal.returns-clause-size
+returns-clause-size g c = rw (← c.self.view_is) (
+    let same : c.if-self-eq0.self-inside.state.segment_size ≡ c.self.inside.state.segment_size =
+    elim c.if-self-eq0.branch [
+      | then-self-eq0+in_ok-begin w ↦ (
+          ap (λ (i : Inside). i.state.segment_size) w.self-inside-is ∙ w.in_ok-begin.ensures.size)
+      | else-self-eq0 w ↦ (ap (λ (i : Inside). i.state.segment_size) w.self-inside-is)
+    ] in
+    c.send.ensures.size ∙ same)
+
+pub returns-clause-lengths : goal.returns-clause-lengths
+returns-clause-lengths g c =
+    elim c.if-self-eq0.branch [
+      | then-self-eq0+in_ok-begin w ↦ (ap (λ b. map length (g.B.Bodies.bodies b)) w.bodies-is
+          ∙ w.in_ok-begin.ensures.lengths)
+      | else-self-eq0 w ↦ (ap (λ b. map length (g.B.Bodies.bodies b)) w.bodies-is)
+    ]
+
+pub returns-clause-unchanged : goal.returns-clause-unchanged
+returns-clause-unchanged g c = λ honest.
+    elim c.if-self-eq0.branch [
+      | then-self-eq0+in_ok-begin w ↦ (ap g.B.Bodies.bodies w.bodies-is
+          ∙ w.in_ok-begin.ensures.unchanged honest)
+      | else-self-eq0 w ↦ (ap g.B.Bodies.bodies w.bodies-is)
+    ]
+
+pub returns-clause-was_honest : goal.returns-clause-was_honest
+returns-clause-was_honest g c = λ honest.
+    elim c.if-self-eq0.branch [
+      | then-self-eq0+in_ok-begin w ↦ (
+          w.in_ok-begin.ensures.was_honest (subst g.B.Bodies.IsHonest w.bodies-is honest))
+      | else-self-eq0 w ↦ (subst g.B.Bodies.IsHonest w.bodies-is honest)
+    ]
+
+pub returns-clause-only_read : goal.returns-clause-only_read
+returns-clause-only_read g c =
+    elim c.if-self-eq0.branch [
+      | then-self-eq0+in_ok-begin w ↦
+          (subst (λ b. g.B.Bodies.HasOnlyRead c.args.bodies.now b) (sym w.bodies-is)
+          w.in_ok-begin.ensures.only_read)
+      | else-self-eq0 w ↦ (subst (λ b. g.B.Bodies.HasOnlyRead c.args.bodies.now b) (sym w.bodies-is)
+          (g.B.Bodies.unread c.args.bodies.now))
+    ]
+
+pub returns-clause-no_fault : goal.returns-clause-no_fault
+returns-clause-no_fault g c =
+    elim c.if-self-eq0.branch [
+      | then-self-eq0+in_ok-begin w ↦ (ap g.B.Bodies.failures w.bodies-is
+          ∙ w.in_ok-begin.ensures.no_fault)
+      | else-self-eq0 w ↦ (ap g.B.Bodies.failures w.bodies-is)
     ]

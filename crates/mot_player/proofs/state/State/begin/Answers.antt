@@ -1,4 +1,6 @@
 use Rattle.std.proofs.Common.{◌≡◌, ℕ, List, length, length-take-le, take, drop, sym, ap, ◌∙◌, arith}
+use Rattle.std.proofs.Common.{refl}
+use Rattle.mot_base.proofs.Laws.{same_error}
 use Rattle.mot_player.specs.PlayerView.{TurnPlan}
 use Rattle.mot_player.specs.Inner.Entities.{entity_bytes}
 use Rattle.mot_player.proofs.SomeBodies.{some_bodies}
@@ -57,3 +59,102 @@ returns-clause-taken g c = λ bodies are.
       len = taken.len;
       waiting = taken.waiting;
     }
+
+pub returns-in_err-read_front-clause-begun : goal.returns-in_err-read_front-clause-begun
+returns-in_err-read_front-clause-begun g c = λ honest.
+    rw (same_error c.from_residual.result c.in_err-read_front.field-0.0
+    c.from_residual.ensures.1) tt
+
+pub returns-in_err-read_front-clause-of_some : goal.returns-in_err-read_front-clause-of_some
+returns-in_err-read_front-clause-of_some g c =
+    rw (same_error c.from_residual.result c.in_err-read_front.field-0.0
+    c.from_residual.ensures.1) tt
+
+pub returns-in_err-read_front-clause-taken : goal.returns-in_err-read_front-clause-taken
+returns-in_err-read_front-clause-taken g c =
+    rw (same_error c.from_residual.result c.in_err-read_front.field-0.0
+    c.from_residual.ensures.1) tt
+
+pub returns-in_err-read_front-clause-some : goal.returns-in_err-read_front-clause-some
+returns-in_err-read_front-clause-some g c =
+    rw (same_error c.from_residual.result c.in_err-read_front.field-0.0
+    c.from_residual.ensures.1) tt
+
+pub returns-in_err-read_front-clause-no_fault : goal.returns-in_err-read_front-clause-no_fault
+returns-in_err-read_front-clause-no_fault g c =
+    rw (same_error c.from_residual.result c.in_err-read_front.field-0.0
+    c.from_residual.ensures.1) tt
+
+pub returns-in_err-read_front-clause-sent : goal.returns-in_err-read_front-clause-sent
+returns-in_err-read_front-clause-sent g c = c.requires.sent
+
+pub returns-in_err-read_front-clause-fitted : goal.returns-in_err-read_front-clause-fitted
+returns-in_err-read_front-clause-fitted g c =
+    let fitted = c.requires.fitted in
+    record {
+      index = fitted.index;
+      within = fitted.within;
+      plannable = fitted.plannable;
+      size = fitted.size;
+      group = fitted.group;
+      directory = fitted.directory;
+      body = fitted.body;
+      buffer = c.read_front.ensures.len ∙ fitted.buffer;
+    }
+
+pub returns-in_err-read_front-clause-stays : goal.returns-in_err-read_front-clause-stays
+returns-in_err-read_front-clause-stays g c =
+    rw (same_error c.from_residual.result c.in_err-read_front.field-0.0
+    c.from_residual.ensures.1) refl
+
+pub returns-in_err-read_front-clause-lengths : goal.returns-in_err-read_front-clause-lengths
+returns-in_err-read_front-clause-lengths g c = c.read_front.ensures.lengths
+
+pub returns-clause-lengths : goal.returns-clause-lengths
+returns-clause-lengths g c = c.read_front.ensures.lengths
+
+pub returns-in_err-read_front-clause-unchanged : goal.returns-in_err-read_front-clause-unchanged
+returns-in_err-read_front-clause-unchanged g c = c.read_front.ensures.unchanged
+
+pub returns-clause-unchanged : goal.returns-clause-unchanged
+returns-clause-unchanged g c = c.read_front.ensures.unchanged
+
+pub returns-in_err-read_front-clause-was_honest : goal.returns-in_err-read_front-clause-was_honest
+returns-in_err-read_front-clause-was_honest g c = c.read_front.ensures.was_honest
+
+pub returns-clause-was_honest : goal.returns-clause-was_honest
+returns-clause-was_honest g c = c.read_front.ensures.was_honest
+
+pub returns-in_err-read_front-clause-only_read : goal.returns-in_err-read_front-clause-only_read
+returns-in_err-read_front-clause-only_read g c = c.read_front.ensures.only_read
+
+pub returns-clause-only_read : goal.returns-clause-only_read
+returns-clause-only_read g c = c.read_front.ensures.only_read
+
+pub returns-in_err-read_front-clause-failed : goal.returns-in_err-read_front-clause-failed
+returns-in_err-read_front-clause-failed g c =
+    rw (same_error c.from_residual.result c.in_err-read_front.field-0.0 c.from_residual.ensures.1)
+    c.in_err-read_front.ensures.failed
+
+pub returns-in_err-read_front-clause-refused : goal.returns-in_err-read_front-clause-refused
+returns-in_err-read_front-clause-refused g c =
+    rw (same_error c.from_residual.result c.in_err-read_front.field-0.0 c.from_residual.ensures.1)
+    c.in_err-read_front.ensures.refused
+
+pub returns-clause-fitted : goal.returns-clause-fitted
+returns-clause-fitted g c = c.begin_part.ensures.fitted
+
+pub returns-clause-sent : goal.returns-clause-sent
+returns-clause-sent g c = c.begin_part.ensures.sent
+
+pub returns-clause-some : goal.returns-clause-some
+returns-clause-some g c = c.begin_part.ensures.some
+
+pub returns-clause-turn : goal.returns-clause-turn
+returns-clause-turn g c = c.begin_part.ensures.turn
+
+pub returns-clause-size : goal.returns-clause-size
+returns-clause-size g c = c.begin_part.ensures.size
+
+pub returns-clause-no_fault : goal.returns-clause-no_fault
+returns-clause-no_fault g c = c.in_ok-read_front.ensures.no_fault

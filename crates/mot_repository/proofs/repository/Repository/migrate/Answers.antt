@@ -1,4 +1,5 @@
-use Rattle.std.proofs.Common.{◌≡◌, ◌∙◌, refl, sym, ap, subst, arith, inl, inr, true, false, ℕ, ◌+◌, ◌≤◌}
+use Rattle.std.proofs.Common.{◌≡◌, ◌∙◌, refl, sym, ap, subst, arith, inl, inr}
+use Rattle.std.proofs.Common.{true, false, ℕ, ◌+◌, ◌≤◌}
 use Rattle.disk_store.proofs.Laws.{at_end, begins, keeps_none, unchanged_none}
 use Rattle.mot_base.proofs.Laws.{same_error}
 use Rattle.mot_base.specs.declared.refusal.Refusal.TheVariants.{OutOfMemory}
@@ -19,12 +20,15 @@ use Rattle.mot_repository.proofs.repository.Repository.migrate.Goals as goal
 not_both : Two ≡ One → ⊥
 not_both e = cc
 
+-- a repository that is halted does not go on
 halted_goes : true ≡ false → ⊥
 halted_goes e = cc
 
+-- a disk that kept its length is long enough
 no_shorter : (n len len' : ℕ) → n ≤ len → len' ≡ len → n ≤ len'
 no_shorter n len len' le same = omega arith
 
+-- a sum is no less than its first part
 no_less : (n more : ℕ) → n ≤ n + more
 no_less n more = omega arith
 
@@ -185,8 +189,11 @@ pub returns-in_default-clause-going : goal.returns-in_default-clause-going
 returns-in_default-clause-going g c = rw (← c.self.view_is) c.if-self.false
 
 pub returns-in_default-clause-rewritten : goal.returns-in_default-clause-rewritten
-returns-in_default-clause-rewritten g c = rw (← c.self.view_is)
-    (λ is. absurd (halted_goes (sym is)), λ one. absurd (c.in_default.not-One (c.layout.ensures ∙ one)))
+returns-in_default-clause-rewritten g c = rw (← c.self.view_is) (
+  λ is. absurd (halted_goes (sym is)),
+  λ one. absurd
+      (c.in_default.not-One (c.layout.ensures ∙ one)),
+)
 
 pub returns-in_default-clause-still : goal.returns-in_default-clause-still
 returns-in_default-clause-still g c = λ two. (refl, λ going. refl)
