@@ -1,4 +1,5 @@
 pub mod Asked
+pub mod Digits
 pub mod Exported
 pub mod Faults
 pub mod Input

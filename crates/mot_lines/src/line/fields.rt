@@ -7,9 +7,9 @@ ghost use Rattle.mot_lines.specs.Inner.Words.{OrOutOfMemory};
 ghost use Rattle.mot_lines.specs.Words.{number_of_word};
 
 use super::MAX_PACKETS;
+use super::digits::decode;
 use super::words::{is_word, parse_number};
 use crate::SegmentBytes;
-use hex::FromHexError;
 use mot_base::{GroupKind, Refusal, TransportId};
 use mot_carousel::{Body, Content, Mime, Name, Period};
 use std::alloc::Global;
@@ -45,11 +45,8 @@ pub(super) fn parse_tid(word: &[u8]) -> Result<TransportId, Refusal>
 pub(super) fn parse_segment(alloc: Global, word: &[u8]) -> Result<SegmentBytes, Refusal>
     ensures { OrOutOfMemory result (segment_in (decode_of word.now)) }
 {
-    match hex::decode(alloc, word) {
-        Ok(bytes) => SegmentBytes::new(bytes),
-        Err(FromHexError::OutOfMemory) => Err(Refusal::OutOfMemory),
-        Err(_) => Err(Refusal::BadBody),
-    }
+    let bytes = decode(alloc, word)?;
+    SegmentBytes::new(bytes)
 }
 
 /// NAME, or `BadName`; or `OutOfMemory`.
@@ -92,11 +89,8 @@ pub(super) fn parse_mime(alloc: Global, word: &[u8]) -> Result<Option<Mime>, Ref
 pub(super) fn parse_body(alloc: Global, word: &[u8]) -> Result<Body, Refusal>
     ensures { OrOutOfMemory result (body_in (decode_of word.now)) }
 {
-    match hex::decode(alloc, word) {
-        Ok(bytes) => Body::new(bytes),
-        Err(FromHexError::OutOfMemory) => Err(Refusal::OutOfMemory),
-        Err(_) => Err(Refusal::BadBody),
-    }
+    let bytes = decode(alloc, word)?;
+    Body::new(bytes)
 }
 
 /// N of a period, or `BadNumber`.
