@@ -5,9 +5,10 @@ use Rattle.std.proofs.Common.{arith, append_assoc, append-nil}
 use Rattle.std.proofs.lemmas.Nat.{be_bytes_8}
 use Rattle.std.specs.Int.{w64, to_be_bytes, from_be_bytes}
 use Rattle.mot_base.specs.Checksum.{bits_of, bits_of_bytes, added_to_front, remainder}
-use Rattle.mot_base.proofs.Bits.{add_zeros, add_parts, length_bits, bits_cat, low_bits}
-use Rattle.mot_base.proofs.Division.{ones, steps, zeros_out}
-use Rattle.mot_base.proofs.Linear.{zeros_first, add_nothing, to_own_zeros}
+use Rattle.std.specs.Int.RustNames.{bit_xor}
+use Rattle.mot_base.proofs.Bits.{add_last_zeros, add_zeros, bits_cat, low_bits}
+use Rattle.mot_base.proofs.Folding.{add_word}
+use Rattle.mot_base.proofs.Linear.{add_nothing}
 
 -- the highest byte of so many bits, and the others
 byte_first : (k p w : ℕ) (rest : List Bool) → p ≡ 2 ^ k → w ≡ w / p * 2 ^ k + w % p → w % p < 2 ^ k
@@ -113,55 +114,44 @@ eight_small a b c d e f g h sa sb sc sd se sf sg sh =
 
 -- ---- in front of a whole message
 
-zero_word : bits_of 64 0 ≡ replicate 64 false
+-- sixteen ones in front of a word
+high_ones : bits_of 64 0xFFFF000000000000 ≡ replicate 16 true ++ replicate 48 false
 unfolding bits_of
-zero_word = refl
+high_ones = refl
 
-first_word : bits_of 64 0x84CF ≡ replicate 48 false ++ bits_of 16 0x84CF
-unfolding bits_of
-first_word = refl
+-- they are added to a message's first word
+ones_added : (word : ℕ) (rest : List Bool) →
+    added_to_front (replicate 16 true) (bits_of 64 word ++ rest)
+    ≡ bits_of 64 (bit_xor 0xFFFF000000000000 word) ++ rest
+ones_added word rest =
+    let whole : List Bool = bits_of 64 word ++ rest in
+    sym (add_last_zeros (replicate 16 true) 48 whole)
+    ∙ ap (λ l. added_to_front l whole) (sym high_ones ∙ sym (append-nil (bits_of 64 0xFFFF000000000000)))
+    ∙ add_word 0xFFFF000000000000 word [] rest
+    ∙ ap (λ l. bits_of 64 (bit_xor 0xFFFF000000000000 word) ++ l) (add_nothing rest)
 
-leaves_ones : steps 16 0x84CF ≡ 65535
-leaves_ones = refl
-
--- a register that stands in front goes in as if the message began with it
-register_first : (r n : ℕ) (rest : List Bool) →
-    remainder (16 + n) (bits_of 16 r ++ rest)
-    ≡ remainder n (added_to_front (bits_of 16 (steps 16 r)) rest)
-register_first r n rest =
-    let zeros : List Bool = replicate 16 false in
-    let front : added_to_front (bits_of 16 r) (zeros ++ rest) ≡ bits_of 16 r ++ rest =
-    ap (λ l. added_to_front l (zeros ++ rest)) (sym (append-nil (bits_of 16 r)))
-    ∙ add_parts (bits_of 16 r) zeros [] rest (length_bits 16 r)
-    ∙ ap (λ l. l ++ added_to_front [] rest) (to_own_zeros 16 (bits_of 16 r) (length_bits 16 r))
-    ∙ ap (λ l. bits_of 16 r ++ l) (add_nothing rest) in
-    ap (remainder (16 + n)) (sym front) ∙ zeros_out 16 r n rest
-
-zeros_away : (k m n : ℕ) (front rest : List Bool) → front ≡ replicate k false → m ≡ k + n →
-    remainder m (front ++ rest) ≡ remainder n rest
-zeros_away k m n front rest e steps =
-    ap (λ l. remainder m (l ++ rest)) e ∙ ap (λ j. remainder j (replicate k false ++ rest)) steps
-    ∙ zeros_first k n rest
-
--- three words of zero and a fourth leave what a register of ones leaves
-pub begins : (n : ℕ) (rest : List Bool) →
-    remainder (256 + n) (bits_of 64 0
-    ++ (bits_of 64 0 ++ (bits_of 64 0 ++ (bits_of 64 0x84CF ++ rest))))
-    ≡ remainder n (added_to_front (replicate 16 true) rest)
-begins n rest =
-    let last : List Bool = bits_of 64 0x84CF ++ rest in
-    zeros_away 64 (256 + n) (192 + n) (bits_of 64 0) (bits_of 64 0 ++ (bits_of 64 0 ++ last))
-    zero_word (omega arith)
-    ∙ zeros_away 64 (192 + n) (128 + n) (bits_of 64 0) (bits_of 64 0 ++ last) zero_word
-    (omega arith)
-    ∙ zeros_away 64 (128 + n) (64 + n) (bits_of 64 0) last zero_word (omega arith)
-    ∙ ap (λ l. remainder (64 + n) (l ++ rest)) first_word
-    ∙ ap (remainder (64 + n)) (append_assoc (replicate 48 false) (bits_of 16 0x84CF) rest)
-    ∙ zeros_away 48 (64 + n) (16 + n) (replicate 48 false) (bits_of 16 0x84CF ++ rest) refl
-    (omega arith)
-    ∙ register_first 0x84CF n rest
-    ∙ ap (λ r. remainder n (added_to_front (bits_of 16 r) rest)) leaves_ones
-    ∙ ap (λ l. remainder n (added_to_front l rest)) ones
+-- the first four words of a message, with the ones added, stand in front of the rest of it
+pub four_words_in : (bytes one two three rest : List ℕ) (a b c d : ℕ) (tail : List Bool)
+    → length bytes ≡ 8 + length one → length one ≡ 8 + length two → length two ≡ 8 + length three
+    → length three ≡ 8 + length rest
+    → ((t : List Bool) → bits_of_bytes bytes ++ t ≡ bits_of 64 a ++ (bits_of_bytes one ++ t))
+    → ((t : List Bool) → bits_of_bytes one ++ t ≡ bits_of 64 b ++ (bits_of_bytes two ++ t))
+    → ((t : List Bool) → bits_of_bytes two ++ t ≡ bits_of 64 c ++ (bits_of_bytes three ++ t))
+    → ((t : List Bool) → bits_of_bytes three ++ t ≡ bits_of 64 d ++ (bits_of_bytes rest ++ t))
+    → remainder (256 + 8 * length rest) (bits_of 64 (bit_xor 0xFFFF000000000000 a)
+    ++ (bits_of 64 b ++ (bits_of 64 c ++ (bits_of 64 d ++ (bits_of_bytes rest ++ tail)))))
+    ≡ remainder (8 * length bytes) (added_to_front (replicate 16 true) (bits_of_bytes bytes ++ tail))
+four_words_in bytes one two three rest a b c d tail n1 n2 n3 n4 first second third fourth =
+    let behind : List Bool =
+    bits_of 64 b ++ (bits_of 64 c ++ (bits_of 64 d ++ (bits_of_bytes rest ++ tail))) in
+    let whole : bits_of_bytes bytes ++ tail ≡ bits_of 64 a ++ behind =
+    first tail ∙ ap (λ l. bits_of 64 a ++ l) (second tail
+    ∙ ap (λ l. bits_of 64 b ++ l) (third tail
+    ∙ ap (λ l. bits_of 64 c ++ l) (fourth tail))) in
+    ap (λ n. remainder n (bits_of 64 (bit_xor 0xFFFF000000000000 a) ++ behind))
+    (let e : 256 + 8 * length rest ≡ 8 * length bytes = omega (arith, n1, n2, n3, n4) in e)
+    ∙ ap (remainder (8 * length bytes)) (sym (ones_added a behind)
+    ∙ ap (added_to_front (replicate 16 true)) (sym whole))
 
 -- ---- four words divided away
 
