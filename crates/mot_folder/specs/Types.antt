@@ -1,14 +1,145 @@
--- Which files of a folder are objects.
-use Rattle.std.specs.Prelude.{◌≡◌, ◌==◌, ◌⊎◌, ℕ, Bool, false, List, [], ◌∷◌}
-use Rattle.std.specs.List.{AllByRecursion}
+-- Which files of a folder are objects, and what they are.
+use Rattle.std.specs.Prelude.{◌≡◌, ◌==◌, ◌⊎◌, ◌||◌, ℕ, Bool, true, false, not, if◌then◌else◌}
+use Rattle.std.specs.Prelude.{List, [], ◌∷◌, ◌++◌, filter, codes}
+use Rattle.std.specs.Prelude.{Option, Some, None, Result, Ok, Err}
+use Rattle.std.specs.List.{AllByRecursion, list_any}
+use Rattle.std.specs.Option.{option_or}
+use Rattle.std.specs.Str.{str_eq_ignore_ascii_case}
+use Rattle.mot_base.specs.Reading as reading
 use Rattle.mot_base.specs.declared.refusal.Refusal.{Refusal}
 use Rattle.mot_base.specs.declared.refusal.Refusal.TheVariants.{BadLine, BadMime, BadName, BadType}
 use Rattle.mot_base.specs.declared.refusal.Refusal.TheVariants.{OutOfMemory}
+use Rattle.mot_carousel.specs.Content.{ContentNumbers}
+use Rattle.mot_carousel.specs.Mime.{is_mime}
+use Rattle.mot_lines.specs.Fields.{content_in}
+use Rattle.mot_lines.specs.Line.{◌>>=◌}
+use Rattle.mot_lines.specs.Lines.{pieces_between}
+use Rattle.mot_lines.specs.Words.{number_of_word, words_of}
+
+-- what files of a suffix are
+pub record SuffixType : Type 0 where
+  pub suffix : List ℕ
+  pub content : ContentNumbers
+  pub mime : List ℕ
+
+abbrev pub suffix_type : List ℕ → ℕ → ℕ → List ℕ → SuffixType
+suffix_type suffix kind subtype mime = record {
+  suffix = suffix;
+  content = record { content_type = kind; subtype = subtype };
+  mime = mime;
+}
+
+-- the known ones (TS 101 756, table 17)
+abbrev pub known_types : List SuffixType
+known_types =
+    suffix_type (codes "txt") 1 0 (codes "text/plain")
+    ∷ suffix_type (codes "html") 1 2 (codes "text/html")
+    ∷ suffix_type (codes "htm") 1 2 (codes "text/html")
+    ∷ suffix_type (codes "xml") 1 0 (codes "text/xml")
+    ∷ suffix_type (codes "gif") 2 0 (codes "image/gif")
+    ∷ suffix_type (codes "jpg") 2 1 (codes "image/jpeg")
+    ∷ suffix_type (codes "jpeg") 2 1 (codes "image/jpeg")
+    ∷ suffix_type (codes "bmp") 2 2 (codes "image/bmp")
+    ∷ suffix_type (codes "png") 2 3 (codes "image/png")
+    ∷ []
+
+-- SUFFIX: at least one byte, and no dot
+abbrev pub suffix_in : List ℕ → Result (List ℕ) Refusal
+suffix_in word =
+    if reading.is_empty word || list_any (λ b. b == 46) word then Err BadName else Ok word
+
+-- MIME: 1 to 64 bytes 0x21 to 0x7E, and not `-` alone
+abbrev pub type_mime_in : List ℕ → Result (List ℕ) Refusal
+type_mime_in word = if is_mime word then Ok word else Err BadMime
+
+-- the words of a line: SUFFIX TYPE SUBTYPE MIME
+unfoldable pub type_of_words : List (List ℕ) → Result SuffixType Refusal
+type_of_words (suffix ∷ kind ∷ subtype ∷ mime ∷ []) = do
+  s ← suffix_in suffix
+  c ← content_in (number_of_word kind) (number_of_word subtype)
+  m ← type_mime_in mime
+  Ok (record { suffix = s; content = c; mime = m })
+type_of_words words = Err BadLine
+
+-- what a line says, or why it is refused
+abbrev pub type_in : List ℕ → Result SuffixType Refusal
+type_in line = type_of_words (words_of line)
+
+-- an empty line, and one that begins with `#`
+abbrev pub says_nothing : List ℕ → Bool
+says_nothing [] = true
+says_nothing (byte ∷ others) = byte == 35
+
+-- the lines of a text that say something
+abbrev pub saying_lines : List ℕ → List (List ℕ)
+saying_lines text = filter (λ line. not (says_nothing line)) (pieces_between text)
+
+abbrev pub type_before : Result SuffixType Refusal → List SuffixType → List SuffixType
+type_before (Ok type) others = type ∷ others
+type_before (Err refusal) others = []
+
+-- what lines say, up to the first that is refused
+abbrev pub types_of_lines : List (List ℕ) → List SuffixType
+types_of_lines [] = []
+types_of_lines (line ∷ lines) = type_before (type_in line) (types_of_lines lines)
+
+abbrev pub types_in : List ℕ → List SuffixType
+types_in text = types_of_lines (saying_lines text)
+
+abbrev pub refusal_before : Result SuffixType Refusal → Option Refusal → Option Refusal
+refusal_before (Ok type) later = later
+refusal_before (Err refusal) later = Some refusal
+
+-- why the first of the lines that is refused is
+abbrev pub refusal_of_lines : List (List ℕ) → Option Refusal
+refusal_of_lines [] = None
+refusal_of_lines (line ∷ lines) = refusal_before (type_in line) (refusal_of_lines lines)
+
+abbrev pub refusal_in : List ℕ → Option Refusal
+refusal_in text = refusal_of_lines (saying_lines text)
+
+-- what a beginning of the text's lines says was added
+pub record AddsFront (old now : List SuffixType) (text : List ℕ) : Type 0 where
+  pub front : List SuffixType
+  pub others : List SuffixType
+  pub split : types_in text ≡ front ++ others
+  pub added : now ≡ old ++ front
+
+-- What the lines before the one that is refused say was added; or memory was wanting, and what a
+-- beginning of the lines says was.
+abbrev pub AddsUpTo : List SuffixType → List SuffixType → List ℕ → Refusal → Type 0
+AddsUpTo old new text refusal =
+    ((refusal_in text ≡ Some refusal) × (new ≡ old ++ types_in text))
+    ⊎ ((refusal ≡ OutOfMemory) × AddsFront old new text)
 
 -- the name begins with a dot
 abbrev pub is_hidden : List ℕ → Bool
 is_hidden [] = false
 is_hidden (byte ∷ others) = byte == 46
+
+abbrev pub after_last_dot : List ℕ → Option (List ℕ)
+after_last_dot [] = None
+after_last_dot (byte ∷ others) =
+    option_or (after_last_dot others) (if byte == 46 then Some others else None)
+
+-- the suffix of a name: what follows its last dot; one that begins with a dot has none
+abbrev pub suffix_of : List ℕ → Option (List ℕ)
+suffix_of name = if is_hidden name then None else after_last_dot name
+
+-- the last of these types whose suffix it is, whatever the case of ASCII letters
+abbrev pub last_of_suffix : List ℕ → List SuffixType → Option SuffixType
+last_of_suffix suffix [] = None
+last_of_suffix suffix (type ∷ types) =
+    option_or (last_of_suffix suffix types)
+    (if str_eq_ignore_ascii_case type.suffix suffix then Some type else None)
+
+abbrev pub last_of_some : Option (List ℕ) → List SuffixType → Option SuffixType
+last_of_some None types = None
+last_of_some (Some suffix) types = last_of_suffix suffix types
+
+-- what files of this name are, where these types are known
+abbrev pub type_of_name : List SuffixType → List ℕ → Option SuffixType
+type_of_name types name = last_of_some (suffix_of name) types
 
 -- none of these names begins with a dot
 abbrev pub AreShown : List (List ℕ) → Type 0

@@ -1,12 +1,20 @@
 //! What a file's suffix says of it.
-ghost use Rattle.std.specs.Prelude.{◌≡◌, ◌⊎◌, true, IfErr, IsNone};
-ghost use Rattle.mot_base.specs.declared.refusal.Refusal.TheVariants.{BadType};
-ghost use Rattle.mot_folder.specs.Types.{IsTypesRefusal, is_hidden};
+ghost use Rattle.std.specs.Prelude.{◌≡◌, ◌++◌, ◌⊎◌, [], true, List, Some, None, Ok};
+ghost use Rattle.std.specs.Prelude.{IfErr, IfNone, IfOk, IfSome, IsNone};
+ghost use Rattle.mot_base.specs.declared.refusal.Refusal.TheVariants.{BadMime, BadName};
+ghost use Rattle.mot_base.specs.declared.refusal.Refusal.TheVariants.{OutOfMemory};
+ghost use Rattle.mot_folder.specs.Inner.Types.{AddsLine, MayRefuse, StopsAtLine};
+ghost use Rattle.mot_folder.specs.Types.{AddsUpTo, IsTypesRefusal, SuffixType, is_hidden};
+ghost use Rattle.mot_folder.specs.Types.{known_types, last_of_suffix, refusal_in, says_nothing};
+ghost use Rattle.mot_folder.specs.Types.{suffix_in};
+ghost use Rattle.mot_folder.specs.Types.{suffix_of, type_in, type_mime_in, type_of_name, types_in};
 
+use memchr::memrchr;
 use mot_base::Refusal;
 use mot_carousel::{Content, Mime};
+use mot_lines::{cut_at_line_end, four_words, parse_content};
 use std::alloc::{AllocError, Global};
-use std::str::from_utf8;
+use std::marker::Model;
 
 /// What is known of suffixes (TS 101 756, table 17).
 const KNOWN: &str = "\
@@ -32,15 +40,33 @@ pub struct FileType {
     pub mime: Mime,
 }
 
+impl Model for FileType {
+    ghost Value = { SuffixType };
+
+    ghost view = { λ it. record {
+      suffix = it.suffix.items;
+      content = it.content;
+      mime = it.mime;
+    } };
+}
+
 /// The suffixes of the files that are objects.
 #[derive(Drop)]
 pub struct FileTypes {
     types: Vec<FileType>,
 }
 
+impl Model for FileTypes {
+    ghost Value = { List SuffixType };
+
+    ghost view = { λ known. known.types.items };
+}
+
 impl FileTypes {
     /// The known ones.
-    pub fn new(alloc: Global) -> Result<FileTypes, AllocError> {
+    pub fn new(alloc: Global) -> Result<FileTypes, AllocError>
+        ensures known { IfOk result (λ types. types ≡ known_types) }
+    {
         let mut types = FileTypes {
             types: Vec::new(alloc),
         };
@@ -55,86 +81,122 @@ impl FileTypes {
     /// an empty line and one that begins with `#` say nothing. Of two lines of one suffix the later
     /// one counts. The refusals are those of a line's words, of which the lines before stay.
     pub fn add(&mut self, alloc: Global, text: &[u8]) -> Result<(), Refusal>
+        ensures right { IfOk result (λ _. refusal_in text.now ≡ None) }
+        ensures added { IfOk result (λ _. self.new ≡ self.old ++ types_in text.now) }
+        ensures stays { IfErr result (AddsUpTo self.old self.new text.now) }
         ensures refused { IfErr result IsTypesRefusal }
     {
-        for line in text.split(|byte| *byte == b'\n') {
-            if !line.is_empty() && line[0] != b'#' {
-                self.add_line(alloc, line)?;
-            }
+        let mut rest = text;
+        while let Some((line, others)) = cut_at_line_end(rest) {
+            self.add_line(alloc, line)?;
+            rest = others;
         }
-        Ok(())
+        self.add_line(alloc, rest)
     }
 
-    /// Adds what a line says.
+    /// Adds what a line says, if it says something.
     fn add_line(&mut self, alloc: Global, line: &[u8]) -> Result<(), Refusal>
+        ensures added { IfOk result (λ _. AddsLine self.old self.new line.now) }
+        ensures stays { IfErr result (StopsAtLine self.old self.new line.now) }
         ensures refused { IfErr result IsTypesRefusal }
     {
+        if is_silent(line) {
+            return Ok(());
+        }
         let file_type = type_of_line(alloc, line)?;
         self.types.push(file_type)?;
         Ok(())
     }
 
-    /// What the suffix of the file's name says, whatever the case of its letters; none where it is
-    /// no known one, or the name begins with a dot.
+    /// What the suffix of the file's name says, whatever the case of its letters: the last of the
+    /// types of that suffix; none where there is none, or the name begins with a dot.
     pub fn of_name(&self, name: &[u8]) -> Option<&FileType>
+        ensures found { IfSome result (λ it. type_of_name self.now name.now ≡ Some it.now) }
+        ensures none { IfNone result (type_of_name self.now name.now ≡ None) }
         ensures hidden { is_hidden name.now ≡ true → IsNone result }
     {
-        if name.is_empty() || name[0] == b'.' {
-            return None;
-        }
-        let place = name.iter().rposition(|byte| *byte == b'.')?;
-        let suffix = &name[place + 1..];
-        self.types
-            .iter()
-            .rev()
-            .find(|it| it.suffix.eq_ignore_ascii_case(suffix))
+        let suffix = find_suffix(name)?;
+        find_last(&self.types, suffix)
     }
+}
+
+/// What follows the last dot of a name; none where there is none, or the name begins with one.
+fn find_suffix(name: &[u8]) -> Option<&[u8]>
+    ensures found { IfSome result (λ suffix. suffix_of name.now ≡ Some suffix.now) }
+    ensures none { IfNone result (suffix_of name.now ≡ None) }
+{
+    if begins_with_dot(name) {
+        return None;
+    }
+    let place = memrchr(b'.', name)?;
+    Some(&name[place + 1..])
+}
+
+/// Whether the name begins with a dot.
+fn begins_with_dot(name: &[u8]) -> bool
+    ensures { result ≡ is_hidden name.now }
+{
+    !name.is_empty() && name[0] == b'.'
+}
+
+/// The last of the types whose suffix it is, whatever the case of its letters.
+fn find_last<'a>(types: &'a [FileType], suffix: &[u8]) -> Option<&'a FileType>
+    ensures found { IfSome result (λ it. last_of_suffix suffix.now types.now ≡ Some it.now) }
+    ensures none { IfNone result (last_of_suffix suffix.now types.now ≡ None) }
+{
+    let mut found = None;
+    for file_type in types {
+        if file_type.suffix.eq_ignore_ascii_case(suffix) {
+            found = Some(file_type);
+        }
+    }
+    found
+}
+
+/// Whether a line says nothing.
+fn is_silent(line: &[u8]) -> bool
+    ensures { result ≡ says_nothing line.now }
+{
+    line.is_empty() || line[0] == b'#'
 }
 
 /// What a line says.
 fn type_of_line(alloc: Global, line: &[u8]) -> Result<FileType, Refusal>
+    ensures said { IfOk result (λ it. type_in line.now ≡ Ok it) }
+    ensures why { IfErr result (MayRefuse (type_in line.now)) }
     ensures refused { IfErr result IsTypesRefusal }
 {
-    let Some((suffix, content_type, subtype, mime)) = words_of_line(line) else {
+    let Some((suffix, content_type, subtype, mime)) = four_words(line) else {
         return Err(Refusal::BadLine);
     };
-    if suffix.is_empty() || suffix.contains(&b'.') {
-        return Err(Refusal::BadName);
-    }
+    let suffix = suffix_of_word(alloc, suffix)?;
+    let content = parse_content(content_type, subtype)?;
+    let mime = mime_of_word(alloc, mime)?;
     Ok(FileType {
-        suffix: Vec::from_slice(alloc, suffix)?,
-        content: content_of(content_type, subtype)?,
-        mime: Mime::new(Vec::from_slice(alloc, mime)?)?,
+        suffix,
+        content,
+        mime,
     })
 }
 
-/// The four words of a line, with single spaces between them.
-fn words_of_line(line: &[u8]) -> Option<(&[u8], &[u8], &[u8], &[u8])> {
-    let mut words = line.split(|byte| *byte == b' ');
-    match (
-        words.next(),
-        words.next(),
-        words.next(),
-        words.next(),
-        words.next(),
-    ) {
-        (Some(suffix), Some(content_type), Some(subtype), Some(mime), None) => {
-            Some((suffix, content_type, subtype, mime))
-        }
-        _ => None,
+/// The suffix that a word is, or `BadName`; or `OutOfMemory`.
+fn suffix_of_word(alloc: Global, word: &[u8]) -> Result<Vec<u8>, Refusal>
+    ensures taken { IfOk result (λ suffix. suffix_in word.now ≡ Ok suffix.items) }
+    ensures why { IfErr result (MayRefuse (suffix_in word.now)) }
+    ensures refused { IfErr result (λ r. (r ≡ BadName) ⊎ (r ≡ OutOfMemory)) }
+{
+    if word.is_empty() || word.contains(&b'.') {
+        return Err(Refusal::BadName);
     }
+    Ok(Vec::from_slice(alloc, word)?)
 }
 
-/// The content type and the subtype that two words write.
-fn content_of(content_type: &[u8], subtype: &[u8]) -> Result<Content, Refusal>
-    ensures refused { IfErr result (λ refusal. refusal ≡ BadType) }
+/// The MIME type that a word is, or `BadMime`; or `OutOfMemory`.
+fn mime_of_word(alloc: Global, word: &[u8]) -> Result<Mime, Refusal>
+    ensures taken { IfOk result (λ mime. type_mime_in word.now ≡ Ok mime) }
+    ensures why { IfErr result (MayRefuse (type_mime_in word.now)) }
+    ensures refused { IfErr result (λ r. (r ≡ BadMime) ⊎ (r ≡ OutOfMemory)) }
 {
-    let (Ok(content_type), Ok(subtype)) = (from_utf8(content_type), from_utf8(subtype)) else {
-        return Err(Refusal::BadType);
-    };
-    let (Ok(content_type), Ok(subtype)) = (content_type.parse::<u8>(), subtype.parse::<u16>())
-    else {
-        return Err(Refusal::BadType);
-    };
-    Content::new(content_type, subtype)
+    let bytes = Vec::from_slice(alloc, word)?;
+    Mime::new(bytes)
 }

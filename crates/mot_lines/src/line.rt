@@ -14,10 +14,12 @@ mod words;
 use crate::SegmentBytes;
 pub use description::Description;
 use description::parse_description;
+pub use fields::parse_content;
 use fields::{parse_count, parse_kind, parse_name, parse_period, parse_segment, parse_tid};
 use mot_base::{GroupKind, Refusal, TransportId};
 use mot_carousel::Command;
 use std::alloc::Global;
+pub use words::four_words;
 use words::{cut_word, is_word, one_word, three_words};
 
 /// The longest line, in bytes without its end.

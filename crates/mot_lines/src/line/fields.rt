@@ -57,8 +57,9 @@ pub(super) fn parse_name(alloc: Global, word: &[u8]) -> Result<Name, Refusal>
     Name::new(bytes)
 }
 
-/// TYPE and SUBTYPE, or `BadType`.
-pub(super) fn parse_content(kind: &[u8], subtype: &[u8]) -> Result<Content, Refusal>
+/// What an object is, by the words TYPE, 0 to 63, and SUBTYPE, 0 to 511; `BadType` where one is no
+/// number of 1 to 10 digits in its range.
+pub fn parse_content(kind: &[u8], subtype: &[u8]) -> Result<Content, Refusal>
     ensures { result ≡ content_in (number_of_word kind.now) (number_of_word subtype.now) }
 {
     let Some(kind) = parse_number(kind) else {

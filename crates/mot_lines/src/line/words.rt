@@ -1,5 +1,5 @@
 //! What words and numbers are.
-ghost use Rattle.std.specs.Prelude.{◌≡◌, ◌∷◌, bytes_eq};
+ghost use Rattle.std.specs.Prelude.{◌≡◌, ◌≢◌, ◌∷◌, [], IfNone, IfSome, bytes_eq, length};
 ghost use Rattle.mot_lines.specs.Words.{words_of, number_of_word};
 ghost use Rattle.mot_lines.specs.Inner.Words.{words_after, IsOne, AreThree, AreFive};
 
@@ -47,6 +47,17 @@ pub(super) fn five_words(words: Option<&[u8]>) -> Option<(&[u8], &[u8], &[u8], &
     let (second, rest) = cut_word(rest?);
     let (third, fourth, fifth) = three_words(rest)?;
     Some((first, second, third, fourth, fifth))
+}
+
+/// The words of a line, where there are four.
+pub fn four_words(line: &[u8]) -> Option<(&[u8], &[u8], &[u8], &[u8])>
+    ensures words { IfSome result (λ four. words_of line.now
+        ≡ four.0.now ∷ four.1.now ∷ four.2.now ∷ four.3.now ∷ []) }
+    ensures none { IfNone result (length (words_of line.now) ≢ 4) }
+{
+    let (first, rest) = cut_word(line);
+    let (second, third, fourth) = three_words(rest)?;
+    Some((first, second, third, fourth))
 }
 
 /// The words, where there are three.
