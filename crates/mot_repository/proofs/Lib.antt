@@ -1,6 +1,7 @@
 pub mod Answering
 pub mod Apart
 mod Bodies
+pub mod Bounds
 pub mod Committing
 pub mod Extents
 pub mod FirstFit

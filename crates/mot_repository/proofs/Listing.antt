@@ -1,11 +1,12 @@
 -- Objects and the extents that stand beside them, as the code of a fold changes both.
 use Rattle.std.proofs.Common.{◌≡◌, ◌⊎◌, ℕ, zero, suc, ◌+◌, ◌<◌, ◌≤◌, Bool, true, false, cond}
 use Rattle.std.proofs.Common.{◌&&◌, ◌||◌, List, [], ◌∷◌, ◌++◌, length, map, set, Option, Some, None}
-use Rattle.std.proofs.Common.{refl, sym, ap, ◌∙◌, arith, inl, inr}
+use Rattle.std.proofs.Common.{refl, sym, ap, ◌∙◌, arith, inl, inr, All}
 use Rattle.std.specs.Prelude.{remove, option_map, bytes_eq, nat_eq, position}
 use Rattle.std.specs.List.{position_from, list_all, list_any}
 use Rattle.std.proofs.lemmas.Bool.{lt-ltb, le-ltb}
 use Rattle.std.proofs.lemmas.Iterator.Adapters.{position_from-zero}
+use Rattle.std.proofs.lemmas.List.Elements.{All-head, All-tail}
 use Rattle.mot_carousel.specs.declared.object.Object.{Object}
 use Rattle.mot_carousel.specs.Ids.{contains}
 use Rattle.mot_carousel.specs.Stands.{index_of}
@@ -73,6 +74,19 @@ module _ (test : Object → Bool) where
 
   place-is : (os : List Object) (r : Option ℕ) → position test os ≡ r → place os ≡ r
   place-is os r e = sym (position_from-zero test os ∙ place-from 0 os ∙ above-zero (place os)) ∙ e
+
+  nowhere : (os : List Object) → All (λ o. test o ≡ false) os → place os ≡ None
+  nowhere [] h = refl
+  nowhere (o ∷ os) h =
+      rw (
+        All-head (λ o. test o ≡ false) o os h,
+        nowhere os (All-tail (λ o. test o ≡ false) o os h),
+      ) refl
+
+  -- where no object passes, none has the place of the first
+  pub none_passes : (os : List Object) → All (λ o. test o ≡ false) os → position test os ≡ None
+  none_passes os h =
+      position_from-zero test os ∙ place-from 0 os ∙ above-zero (place os) ∙ nowhere os h
 
   -- the first object passes, or the place is among the others
   abbrev Located : Object → List Object → ℕ → Type 0

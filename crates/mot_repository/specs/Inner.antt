@@ -1,4 +1,5 @@
 -- What only private contracts and proofs need.
+pub mod Bounds
 pub mod Fold
 pub mod Following
 pub mod InOrder

@@ -7,6 +7,7 @@ ghost use Rattle.mot_repository.specs.Inner.Loaded.{IsLoaded};
 ghost use Rattle.mot_repository.specs.Opening.{IsOpened, IsOpeningRefusal};
 ghost use Rattle.mot_repository.specs.Prepared.{view_with};
 
+mod bounds;
 mod fold;
 
 use crate::Repository;

@@ -2,7 +2,7 @@
 ghost use Rattle.mot_base.specs.declared.geometry.TheConstants.{MAX_OBJECTS};
 ghost use Rattle.std.specs.Prelude.{◌≡◌, ◌≤◌, ◌<◌, ◌∷◌, map, length, vec_len, vec_capacity};
 ghost use Rattle.std.specs.Prelude.{All, Ok, Some, None, IfOk, IfErr, IfSome, MatchOption};
-ghost use Rattle.std.specs.Prelude.{true, nat_eq, position, remove};
+ghost use Rattle.std.specs.Prelude.{true, nat_eq, position, remove, [], IsTrue};
 ghost use Rattle.std.specs.List.{list_any};
 ghost use Rattle.mot_carousel.specs.Ids.{is_distinct};
 ghost use Rattle.mot_carousel.specs.Stands.{index_of};
@@ -10,10 +10,14 @@ ghost use Rattle.mot_carousel.specs.declared.object.Object.{Object};
 ghost use Rattle.mot_journal.specs.Catalogue.{new_catalogue, catalogue_after, catalogue_of};
 ghost use Rattle.mot_journal.specs.Catalogue.{objects_after, placed_without, is_consistent};
 ghost use Rattle.mot_repository.specs.Extents.{catalogue_with, objects_in};
+ghost use Rattle.mot_repository.specs.Inner.Bounds.{AreEndsWithin, AreIdsWithin, AreNamesFlagged};
+ghost use Rattle.mot_repository.specs.Inner.Bounds.{AreWithin};
 ghost use Rattle.mot_repository.specs.Inner.Fold.{HaveLengths, are_extents_apart, are_consistent};
 ghost use Rattle.mot_repository.specs.Inner.Fold.{if_consistent, if_done, objects_set};
 ghost use Rattle.mot_repository.specs.Inner.Fold.{IsFoldRefusal, HasShortId, HasShortIds};
+ghost use Rattle.mot_repository.specs.declared.opening.bounds.Bounds.{Bounds};
 
+use super::bounds::Bounds;
 use crate::gap::is_clear;
 use crate::inventory::Inventory;
 use mot_base::{Geometry, Refusal, TransportId};
@@ -38,10 +42,11 @@ pub(crate) fn inventory_of(
 {
     let limit = geometry.objects;
     let mut inventory = new_inventory(alloc, limit)?;
+    let mut bounds = Bounds::of_none();
     let mut slot: usize = 0;
     for entry in records {
         know_ids(&entry);
-        match inventory_after(inventory, limit, entry) {
+        match inventory_after(inventory, &mut bounds, limit, entry) {
             Some(next) => inventory = next,
             None => return Err(Refusal::Damaged(slot as u16)),
         }
@@ -73,6 +78,8 @@ fn know_object_id(action: &Action)
 /// No objects, with room for so many.
 fn new_inventory(alloc: Global, limit: u16) -> Result<Inventory, AllocError>
     ensures new { IfOk result (λ i. catalogue_with i.carousel i.extents.items ≡ new_catalogue) }
+    ensures no_object { IfOk result (λ i. i.carousel.objects.items ≡ []) }
+    ensures no_extent { IfOk result (λ i. i.extents.items ≡ []) }
     ensures room { IfOk result (λ i. limit ≤ vec_capacity i.carousel.objects) }
     ensures room_of_extents { IfOk result (λ i. limit ≤ vec_capacity i.extents) }
 {
@@ -91,7 +98,14 @@ fn new_inventory(alloc: Global, limit: u16) -> Result<Inventory, AllocError>
 
 /// What it is after one record more; `None` for a fault of the list. It is consistent before, so only
 /// what the record brings is compared with what stands.
-fn inventory_after(inventory: Inventory, limit: u16, entry: Record) -> Option<Inventory>
+fn inventory_after(
+    inventory: Inventory,
+    bounds: &mut Bounds,
+    limit: u16,
+    entry: Record,
+) -> Option<Inventory>
+    requires bounded { AreWithin bounds.old inventory.carousel.objects.items
+        inventory.extents.items }
     requires few { limit ≤ MAX_OBJECTS }
     requires room { limit ≤ vec_capacity inventory.carousel.objects }
     requires room_of_extents { limit ≤ vec_capacity inventory.extents }
@@ -103,6 +117,8 @@ fn inventory_after(inventory: Inventory, limit: u16, entry: Record) -> Option<In
         (λ next. after ≡ Some (catalogue_with next.carousel next.extents.items)) }
     ensures room { IfSome result (λ next. limit ≤ vec_capacity next.carousel.objects) }
     ensures room_of_extents { IfSome result (λ next. limit ≤ vec_capacity next.extents) }
+    ensures bounded { IfSome result (λ next. AreWithin bounds.new next.carousel.objects.items
+        next.extents.items) }
 {
     let Inventory {
         carousel,
@@ -120,10 +136,10 @@ fn inventory_after(inventory: Inventory, limit: u16, entry: Record) -> Option<In
         cursor,
         action,
     } = entry;
-    if !apply(&mut objects, &mut extents, limit, action) {
+    if !apply(&mut objects, &mut extents, bounds, limit, action) {
         return None;
     }
-    if has_id(&objects, directory) {
+    if is_id_used(&objects, bounds.greatest_id, directory) {
         return None;
     }
     Some(Inventory {
@@ -142,9 +158,11 @@ fn inventory_after(inventory: Inventory, limit: u16, entry: Record) -> Option<In
 fn apply(
     objects: &mut Vec<Object>,
     extents: &mut Vec<(u32, u32)>,
+    bounds: &mut Bounds,
     limit: u16,
     action: Action,
 ) -> bool
+    requires bounded { AreWithin bounds.old objects.old.items extents.old.items }
     requires few { limit ≤ MAX_OBJECTS }
     requires paired { HaveLengths objects.old.items extents.old.items }
     requires listed { vec_len objects.old ≤ MAX_OBJECTS }
@@ -158,6 +176,7 @@ fn apply(
     ensures listed { vec_len objects.new ≤ MAX_OBJECTS }
     ensures room { vec_capacity objects.new ≡ vec_capacity objects.old }
     ensures room_of_extents { vec_capacity extents.new ≡ vec_capacity extents.old }
+    ensures bounded { IsTrue result → AreWithin bounds.new objects.new.items extents.new.items }
 {
     match action {
         Action::Nothing => true,
@@ -178,7 +197,7 @@ fn apply(
                 tid,
                 length,
             };
-            set_object(objects, extents, limit, object, start)
+            set_object(objects, extents, bounds, limit, object, start)
         }
         Action::Remove { tid } => remove_object(objects, extents, tid),
     }
@@ -189,10 +208,12 @@ fn apply(
 fn set_object(
     objects: &mut Vec<Object>,
     extents: &mut Vec<(u32, u32)>,
+    bounds: &mut Bounds,
     limit: u16,
     object: Object,
     start: u32,
 ) -> bool
+    requires bounded { AreWithin bounds.old objects.old.items extents.old.items }
     requires few { limit ≤ MAX_OBJECTS }
     requires paired { HaveLengths objects.old.items extents.old.items }
     requires listed { vec_len objects.old ≤ MAX_OBJECTS }
@@ -206,12 +227,13 @@ fn set_object(
     ensures listed { vec_len objects.new ≤ MAX_OBJECTS }
     ensures room { vec_capacity objects.new ≡ vec_capacity objects.old }
     ensures room_of_extents { vec_capacity extents.new ≡ vec_capacity extents.old }
+    ensures bounded { IsTrue result → AreWithin bounds.new objects.new.items extents.new.items }
 {
     let extent = (start, object.length.get());
-    if let Some(place) = place_of_name(objects, &object.name) {
+    if let Some(place) = place_of_name(objects, bounds, &object.name) {
         objects[place] = object;
         extents[place] = extent;
-        return stands_apart(objects, extents, place);
+        return stands_apart(objects, extents, bounds, place);
     }
     let place = objects.len();
     if place >= usize::from(limit) {
@@ -219,45 +241,66 @@ fn set_object(
     }
     objects.push_reserved(object);
     extents.push_reserved(extent);
-    stands_apart(objects, extents, place)
+    stands_apart(objects, extents, bounds, place)
 }
 
 /// Whether the object at this place has an id of its own and a body that meets no other. The others
-/// are consistent, and then all are.
-fn stands_apart(objects: &[Object], extents: &[(u32, u32)], place: usize) -> bool
+/// are consistent, and then all are; the bounds are of the others before, and then of all.
+fn stands_apart(
+    objects: &[Object],
+    extents: &[(u32, u32)],
+    bounds: &mut Bounds,
+    place: usize,
+) -> bool
+    requires bounded { AreWithin bounds.old (remove objects.now place)
+        (remove extents.now place) }
     requires within { place < length objects.now }
     requires paired { HaveLengths objects.now extents.now }
     requires others { are_consistent
         (objects_in (remove objects.now place) (remove extents.now place)) ≡ true }
-    ensures { result ≡ are_consistent (objects_in objects.now extents.now) }
+    ensures consistent { result ≡ are_consistent (objects_in objects.now extents.now) }
+    ensures bounded { IsTrue result → AreWithin bounds.new objects.now extents.now }
 {
-    if !are_ids_distinct(objects, place) {
+    if !are_ids_distinct(objects, place, bounds.greatest_id) {
         return false;
     }
-    are_apart(extents, place)
+    if !are_apart(extents, place, bounds.greatest_end) {
+        return false;
+    }
+    bounds.widen(&objects[place], extents[place]);
+    true
 }
 
-/// Whether all ids differ, where all but the one at this place do.
-fn are_ids_distinct(objects: &[Object], place: usize) -> bool
+/// Whether all ids differ, where all but the one at this place do and are not above `greatest`.
+fn are_ids_distinct(objects: &[Object], place: usize, greatest: u16) -> bool
+    requires bounded { AreIdsWithin greatest (remove objects.now place) }
     requires within { place < length objects.now }
     requires others { is_distinct (map (λ (o : Object). o.tid) (remove objects.now place)) ≡ true }
     ensures { result ≡ is_distinct (map (λ (o : Object). o.tid) objects.now) }
 {
     let object = &objects[place];
+    if object.tid.get() > greatest {
+        return true;
+    }
     if has_id(&objects[..place], object.tid) {
         return false;
     }
     !has_id(&objects[place + 1..], object.tid)
 }
 
-/// Whether no two extents meet, where none do without the one at this place.
-fn are_apart(extents: &[(u32, u32)], place: usize) -> bool
+/// Whether no two extents meet, where none do without the one at this place and none ends behind
+/// `greatest`.
+fn are_apart(extents: &[(u32, u32)], place: usize, greatest: u64) -> bool
+    requires bounded { AreEndsWithin greatest (remove extents.now place) }
     requires within { place < length extents.now }
     requires others { are_extents_apart (remove extents.now place) ≡ true }
     ensures { result ≡ are_extents_apart extents.now }
 {
     let (start, size) = extents[place];
     let start = u64::from(start);
+    if start >= greatest {
+        return true;
+    }
     is_clear(&extents[..place], start, size) && is_clear(&extents[place + 1..], start, size)
 }
 
@@ -271,6 +314,8 @@ fn remove_object(objects: &mut Vec<Object>, extents: &mut Vec<(u32, u32)>, tid: 
     ensures listed { vec_len objects.new ≤ MAX_OBJECTS }
     ensures room { vec_capacity objects.new ≡ vec_capacity objects.old }
     ensures room_of_extents { vec_capacity extents.new ≡ vec_capacity extents.old }
+    ensures bounded { (bounds : Bounds) → AreWithin bounds objects.old.items extents.old.items
+        → AreWithin bounds objects.new.items extents.new.items }
 {
     let Some(place) = place_of_id(objects, tid) else {
         return false;
@@ -281,10 +326,14 @@ fn remove_object(objects: &mut Vec<Object>, extents: &mut Vec<(u32, u32)>, tid: 
 }
 
 /// Where the object of this name stands.
-fn place_of_name(objects: &[Object], name: &Name) -> Option<usize>
+fn place_of_name(objects: &[Object], bounds: &Bounds, name: &Name) -> Option<usize>
+    requires { AreNamesFlagged bounds.now.names objects.now }
     ensures place { result ≡ index_of name.now objects.now }
     ensures within { IfSome result (λ place. place < length objects.now) }
 {
+    if !bounds.has_flag(name) {
+        return None;
+    }
     let name = name.as_bytes();
     objects
         .iter()
@@ -297,6 +346,17 @@ fn place_of_id(objects: &[Object], tid: TransportId) -> Option<usize>
     ensures within { IfSome result (λ place. place < length objects.now) }
 {
     objects.iter().position(|object| object.tid == tid)
+}
+
+/// Whether one of these objects has this id, where none has one above `greatest`.
+fn is_id_used(objects: &[Object], greatest: u16, tid: TransportId) -> bool
+    requires { AreIdsWithin greatest objects.now }
+    ensures { result ≡ list_any (λ (o : Object). nat_eq tid o.tid) objects.now }
+{
+    if tid.get() > greatest {
+        return false;
+    }
+    has_id(objects, tid)
 }
 
 /// Whether one of these objects has this id.

@@ -86,8 +86,13 @@ fn of_both_layouts(rt: HostRuntime) {
     unnamed[23] = 0;
     let mut closed = a;
     closed[0] = 0xA4;
-    let rows: [(&[[u8; 27]], Result<(usize, bool), Refusal>); 12] = [
+    let rows: [(&[[u8; 27]], Result<(usize, bool), Refusal>); 15] = [
         (&[a, b], Ok((2, true))),
+        // Ids and starts that go down. A name again: its body may not meet the other, and its old
+        // place is free.
+        (&[set(3, 1, b'a'), set(2, 0, b'b')], Ok((2, true))),
+        (&[a, b, set(4, 1, b'a')], Err(Refusal::Damaged(2))),
+        (&[a, b, set(4, 2, b'a'), set(5, 0, b'b')], Ok((2, true))),
         // One id for two names; then also a kind that is none. The directory's id.
         (&[a, set(2, 1, b'b')], Err(Refusal::Damaged(1))),
         (

@@ -10,3 +10,7 @@ returns-in-Remove-clause-applied c =
     let objects : List Placed = objects_in c.args.objects.now.items c.args.extents.now.items in
     c.remove_object.ensures.done ∙ consistent_without c.in-Remove.tid objects c.requires.consistent
     ∙ ap (λ a. if_consistent (objects_after c.args.limit objects a)) (sym c.in-Remove.is)
+
+pub returns-in-Remove-clause-bounded : goal.returns-in-Remove-clause-bounded
+returns-in-Remove-clause-bounded c _ =
+    c.remove_object.ensures.bounded c.args.bounds.now c.requires.bounded

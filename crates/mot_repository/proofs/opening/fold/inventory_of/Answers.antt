@@ -55,6 +55,7 @@ loop-entry-preserved c =
       room_of_extents = c.in-Some-inventory_after.ensures.room_of_extents;
       consistent = (is_step c.args.geometry.now.objects now c.in-Some.entry then
           c.in-Some-inventory_after.ensures.after).consistent;
+      bounded = c.in-Some-inventory_after.ensures.bounded;
       short = All-push HasShortIds c.loop-entry.yielded c.in-Some.entry c.loop-entry.invariant.short
           c.know_ids.ensures;
       folds = c.loop-entry.invariant.folds

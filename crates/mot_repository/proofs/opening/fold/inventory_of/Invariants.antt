@@ -1,6 +1,7 @@
 use Rattle.std.proofs.Common.{◌≡◌, ◌≤◌, length, drop, vec_capacity, All, true}
 use Rattle.mot_journal.specs.Catalogue.{catalogue_of, fold_from, is_consistent}
 use Rattle.mot_repository.specs.Extents.{catalogue_with}
+use Rattle.mot_repository.specs.Inner.Bounds.{AreWithin}
 use Rattle.mot_repository.specs.Inner.Fold.{HasShortIds}
 use Rattle.mot_repository.proofs.opening.fold.inventory_of.Given as goal
 
@@ -11,6 +12,7 @@ invariant-loop-entry l = record {
   room : l.limit ≤ vec_capacity l.inventory.carousel.objects;
   room_of_extents : l.limit ≤ vec_capacity l.inventory.extents;
   consistent : is_consistent (catalogue_with l.inventory.carousel l.inventory.extents.items) ≡ true;
+  bounded : AreWithin l.bounds l.inventory.carousel.objects.items l.inventory.extents.items;
   short : All HasShortIds l.yielded;
   folds : catalogue_of l.limit l.fn.records.items
       ≡ fold_from l.limit l.slot (catalogue_with l.inventory.carousel l.inventory.extents.items)

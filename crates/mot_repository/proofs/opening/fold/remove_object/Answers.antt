@@ -2,7 +2,10 @@ use Rattle.std.proofs.Common.{◌≡◌, ℕ, List, Some, refl, sym, ap, ◌∙�
 use Rattle.std.specs.Prelude.{remove, nat_eq, position}
 use Rattle.mot_carousel.specs.declared.object.Object.{Object}
 use Rattle.mot_repository.specs.Extents.{objects_in}
+use Rattle.mot_repository.specs.declared.opening.bounds.Bounds.{Bounds}
+use Rattle.mot_repository.specs.Inner.Bounds.{AreWithin}
 use Rattle.mot_repository.specs.Inner.Fold.{HaveLengths}
+use Rattle.mot_repository.proofs.Bounds.{within_without}
 use Rattle.mot_repository.proofs.Listing.{remove_there, remove_nowhere, lengths_remove}
 use Rattle.mot_repository.proofs.opening.fold.remove_object.Goals as goal
 
@@ -13,6 +16,10 @@ same-lists os ps es fs d e = rw (d, e) refl
 same-lengths : (os ps : List Object) (es fs : List (ℕ × ℕ)) → os ≡ ps → es ≡ fs → HaveLengths ps fs
     → HaveLengths os es
 same-lengths os ps es fs d e h = rw (d, e) h
+
+same-bounds : (b : Bounds) (os ps : List Object) (es fs : List (ℕ × ℕ)) → os ≡ ps → es ≡ fs
+    → AreWithin b ps fs → AreWithin b os es
+same-bounds b os ps es fs d e h = rw (d, e) h
 
 pub returns-in_default-clause-done : goal.returns-in_default-clause-done
 returns-in_default-clause-done c =
@@ -38,3 +45,11 @@ returns-clause-paired c =
     same-lengths c.remove.new.self.items (remove os c.in-Some.place) c.remove-4.new.self.items
     (remove es c.in-Some.place) c.remove.ensures.items c.remove-4.ensures.items
     (lengths_remove os es c.in-Some.place c.requires.paired)
+
+pub returns-clause-bounded : goal.returns-clause-bounded
+returns-clause-bounded c b h =
+    let os : List Object = c.args.objects.now.items in
+    let es : List (ℕ × ℕ) = c.args.extents.now.items in
+    same-bounds b c.remove.new.self.items (remove os c.in-Some.place) c.remove-4.new.self.items
+    (remove es c.in-Some.place) c.remove.ensures.items c.remove-4.ensures.items
+    (within_without b os es c.in-Some.place h)

@@ -4,8 +4,12 @@ use Rattle.mot_carousel.specs.declared.object.Object.{Object}
 use Rattle.mot_carousel.specs.Stands.{index_of}
 use Rattle.mot_repository.specs.Extents.{objects_in}
 use Rattle.mot_repository.specs.Inner.Fold.{HaveLengths, are_consistent, if_consistent}
+use Rattle.mot_repository.specs.declared.opening.bounds.Bounds.{Bounds}
+use Rattle.mot_repository.specs.Inner.Bounds.{AreWithin}
 use Rattle.mot_repository.proofs.Apart.{consistent_but_set, done_where}
+use Rattle.mot_repository.proofs.Bounds.{within_but_set, within_but_last}
 use Rattle.mot_repository.proofs.Listing.{set_there, set_behind, set_nowhere, lengths_set}
+use Rattle.mot_repository.proofs.Listing.{same_count}
 use Rattle.mot_repository.proofs.opening.fold.set_object.Goals as goal
 
 same-objects : (os ps : List Object) (es fs : List (ℕ × ℕ)) → os ≡ ps → es ≡ fs
@@ -20,6 +24,10 @@ same-others : (os ps : List Object) (es fs : List (ℕ × ℕ)) (i : ℕ) → os
     → are_consistent (objects_in (remove ps i) (remove fs i)) ≡ true
     → are_consistent (objects_in (remove os i) (remove es i)) ≡ true
 same-others os ps es fs i d e h = rw (d, e) h
+
+same-bounds : (b : Bounds) (os ps : List Object) (es fs : List (ℕ × ℕ)) (i j : ℕ) → os ≡ ps
+    → es ≡ fs → i ≡ j → AreWithin b (remove ps j) (remove fs j) → AreWithin b (remove os i) (remove es i)
+same-bounds b os ps es fs i j d e same h = rw (d, e, same) h
 
 pub stands_apart-requires-clause-paired : goal.stands_apart-requires-clause-paired
 stands_apart-requires-clause-paired c =
@@ -55,7 +63,7 @@ returns-in-Some-clause-done c =
     ∙ c.in-Some.is in
     done_where c.stands_apart.result
     (objects_in (set os i c.args.object) (set es i (c.args.start, c.get.result)))
-    (c.stands_apart.ensures ∙ ap are_consistent
+    (c.stands_apart.ensures.consistent ∙ ap are_consistent
     (same-objects c.deref-in-Some.result.now (set os i c.args.object)
     c.deref-in-Some-2.result.now (set es i (c.args.start, c.get.result))
     c.deref-in-Some.ensures.value c.deref-in-Some-2.ensures.value))
@@ -89,7 +97,7 @@ returns-clause-done c =
     let next : List Object = c.push_reserved.new.self.items in
     let beside : List (ℕ × ℕ) = c.push_reserved-2.new.self.items in
     done_where c.stands_apart-2.result (objects_in next beside)
-    (c.stands_apart-2.ensures
+    (c.stands_apart-2.ensures.consistent
     ∙ ap are_consistent (same-objects c.deref-2.result.now next c.deref-3.result.now beside
     c.deref-2.ensures.value c.deref-3.ensures.value))
     ∙ ap if_consistent (ap Some
@@ -100,3 +108,28 @@ returns-clause-done c =
     ∙ set_behind os es c.requires.paired c.args.limit c.args.start o
     (ap (index_of o.name) (sym c.deref.ensures.value) ∙ sym c.place_of_name.ensures.place
     ∙ c.in_default.is) (omega arith))
+
+pub stands_apart-requires-clause-bounded : goal.stands_apart-requires-clause-bounded
+stands_apart-requires-clause-bounded c =
+    let os : List Object = c.args.objects.now.items in
+    let es : List (ℕ × ℕ) = c.args.extents.now.items in
+    let i : ℕ = c.in-Some.place in
+    let e : ℕ × ℕ = (c.args.start, c.get.result) in
+    same-bounds c.args.bounds.now c.deref-in-Some.result.now (set os i c.args.object)
+    c.deref-in-Some-2.result.now (set es i e) i i
+    c.deref-in-Some.ensures.value c.deref-in-Some-2.ensures.value refl
+    (within_but_set c.args.bounds.now os es i c.args.object e c.requires.bounded)
+
+pub stands_apart-requires-2-clause-bounded : goal.stands_apart-requires-2-clause-bounded
+stands_apart-requires-2-clause-bounded c =
+    let os : List Object = c.args.objects.now.items in
+    let es : List (ℕ × ℕ) = c.args.extents.now.items in
+    let e : ℕ × ℕ = (c.args.start, c.get.result) in
+    same-bounds c.args.bounds.now c.deref-2.result.now (os ++ c.args.object ∷ [])
+    c.deref-3.result.now (es ++ e ∷ []) c.len-place.result (length os)
+    (c.deref-2.ensures.value ∙ c.push_reserved.ensures.items)
+    (c.deref-3.ensures.value ∙ c.push_reserved-2.ensures.items)
+    (let count = c.len-place.ensures in let whole = c.args.objects.now.ok.0 in
+    omega (arith, count, whole))
+    (within_but_last c.args.bounds.now os es c.args.object e
+    (same_count os es c.requires.paired) c.requires.bounded)
