@@ -1,18 +1,19 @@
 -- Playing a disk, from its opening on.
-use Rattle.std.proofs.Common.{◌≡◌, ◌∙◌, ◌<◌, arith, ℕ, Bool, true, List, Option, None, Result, Ok}
-use Rattle.std.proofs.Common.{Err, subst}
-use Rattle.std.specs.Prelude.{IsFalse, OnOk, IfErr}
+use Rattle.std.proofs.Common.{◌≡◌, ◌∙◌, ◌<◌, ap, arith, ℕ, Bool, true, List, Option, Some, None}
+use Rattle.std.proofs.Common.{Result, Ok, Err, inr, refl, subst}
+use Rattle.std.specs.Prelude.{IsFalse, OnOk, IfErr, is_none, option_map}
 use Rattle.std.proofs.lemmas.Bool.Decides.{nat_tests}
 use Rattle.disk_store.specs.Disk.{State, IsHonestDisk, KeepsLength, OnlySyncs}
-use Rattle.mot_air.specs.Playing.{HasAired, Plays, StopsPlaying}
-use Rattle.mot_air.specs.Playing.{first_place}
-use Rattle.mot_air.specs.Playing.{stopped}
+use Rattle.mot_air.specs.Opening.{OfStanding}
+use Rattle.mot_air.specs.Playing.{HasAired, Plays, PlaysBy, StopsBy, StopsPlaying, WritesPart}
+use Rattle.mot_air.specs.Playing.{first_place, stopped, when_followed}
+use Rattle.mot_air.specs.Program.{when_changed}
 use Rattle.mot_air.proofs.Opened.{AllAre, breaks_off, all_hold, opened_leaves}
 use Rattle.mot_base.specs.Geometry.{packet_room}
 use Rattle.mot_base.specs.declared.geometry.Geometry.{Geometry}
 use Rattle.mot_base.specs.declared.refusal.Refusal.{Refusal}
-use Rattle.mot_feed.specs.Feeding.{AreOf, Event, FedPacketsAreContinuous, Feeds, FeedsPart, Happen}
-use Rattle.mot_feed.specs.Feeding.{HasFed, IsFeedFault, are_uncut}
+use Rattle.mot_feed.specs.Feeding.{AreOf, AreTimely, CallsPart, Event, FedPacketsAreContinuous}
+use Rattle.mot_feed.specs.Feeding.{Feeds, FeedsPart, Happen, HasFed, IsFeedFault, When}
 use Rattle.mot_base.specs.Geometry.{is_valid}
 use Rattle.mot_journal.specs.Image.{Standing}
 use Rattle.mot_player.specs.Place.{Place}
@@ -49,12 +50,12 @@ module _ {D : Type 0} (state : D → State) (disk : D) (server new : ServerView 
       subst (λ (g : Geometry). 0 < packet_room g) agrees.geometry
       (some_room server.view.journal.geometry valid)
 
-  has_played : (s : Standing) (waits : Bool) (fault : Option Refusal) (events : List Event)
+  has_played : (s : Standing) (when : When) (fault : Option Refusal) (events : List Event)
       (packets : List (List ℕ)) → (state new.disk).IsHonest → AllAre s (state disk)
-      → HasFed server new (state server.disk) (state new.disk) s fault events
-      → AreOf events packets → (waits ≡ true → are_uncut true events ≡ true)
-      → HasAired s waits fault events packets (state disk) (state new.disk)
-  has_played s waits fault events packets honest all fed are uncut =
+      → (fed : HasFed server new (state server.disk) (state new.disk) s fault events)
+      → AreOf events packets → AreTimely when fed.commands events
+      → HasAired s when fault events packets (state disk) (state new.disk)
+  has_played s when fault events packets honest all fed are timely =
       let was = keeps.was_honest honest in
       let holds = holds_opened s honest all in
       let last : Standing = fed.leaves.last in
@@ -76,51 +77,104 @@ module _ {D : Type 0} (state : D → State) (disk : D) (server new : ServerView 
             s.geometry.address (packet_room s.geometry)
             (turn_of_carousel s.carousel s.geometry.segment_size) events (place_in new last) packets
             (room s holds.agrees) happened are;
-        uncut = uncut;
+        timely = timely;
       }
 
-  -- what is fed of an open server plays the disk, from its opening on
-  pub plays : (waits : Bool) (turns : ℕ) (before after : Option (List (List ℕ)))
-      (result : Result Unit Refusal)
-      → OnOk result (StaysCalm server new (state server.disk) (state new.disk))
+  -- what is fed of an open server plays the disk, from its opening on, with these calls
+  pub plays_by : (when : When) (turns : ℕ) (before after : Option (List (List ℕ)))
+      (earlier later : Option (List Bool)) (result : Result Unit Refusal)
       → ((s : Standing) → Holds server.view s (state server.disk) → (state new.disk).IsHonest
-      → OnOk result (Feeds server new (state server.disk) (state new.disk) s waits turns before
-      after))
-      → OnOk result (Plays waits turns before after (state disk) (state new.disk))
-  plays waits turns before after (Err refusal) stays feeds = tt
-  plays waits turns before after (Ok done) stays feeds = record {
-    calm = stays.failures ∙ calm;
-    writes = λ s honest all.
-        let fed = feeds s (holds_opened s honest all) honest in
+      → OnOk result (Feeds server new (state server.disk) (state new.disk) s when turns before
+      after earlier later))
+      → OnOk result
+      (PlaysBy when turns before after earlier later (state disk) (state new.disk))
+  plays_by when turns before after earlier later (Err refusal) feeds = tt
+  plays_by when turns before after earlier later (Ok done) feeds = λ s honest all.
+      let fed = feeds s (holds_opened s honest all) honest in (
         record {
           events = fed.events;
           packets = fed.packets;
-          played = has_played s waits None fed.events fed.packets honest all fed.fed fed.are
-              fed.uncut;
+          played = has_played s when None fed.events fed.packets honest all fed.fed fed.are
+              fed.timely;
           written = fed.written;
           ended = fed.ended;
-        };
+        },
+        fed.called,
+      )
+
+  -- so it plays the disk
+  pub plays : (when : When) (turns : ℕ) (before after : Option (List (List ℕ)))
+      (earlier later : Option (List Bool)) (result : Result Unit Refusal)
+      → OnOk result (StaysCalm server new (state server.disk) (state new.disk))
+      → OnOk result (PlaysBy when turns before after earlier later (state disk) (state new.disk))
+      → OnOk result (Plays when turns before after (state disk) (state new.disk))
+  plays when turns before after earlier later (Err refusal) stays by = tt
+  plays when turns before after earlier later (Ok done) stays by = record {
+    calm = stays.failures ∙ calm;
+    writes = λ s honest all. (by s honest all).0;
   }
 
-  -- a fault of the feed stops the playing, from the disk's opening on
-  pub stops : (waits : Bool) (before after : Option (List (List ℕ)))
-      (result : Result Unit Refusal)
+  writes_part : (when : When) (before after : Option (List (List ℕ)))
+      (earlier later : Option (List Bool)) (refusal : Refusal)
+      → ((s : Standing) → Holds server.view s (state server.disk) → (state new.disk).IsHonest
+      → FeedsPart refusal server new (state server.disk) (state new.disk) s when before after
+      earlier later)
+      → OfStanding (λ s.
+      (writes : WritesPart refusal when before after (state disk) (state new.disk) s)
+      × CallsPart refusal writes.events earlier later) (state disk) (state new.disk)
+  writes_part when before after earlier later refusal feeds = λ s honest all.
+      let fed = feeds s (holds_opened s honest all) honest in (
+        record {
+          fault = fed.fault;
+          told = fed.told;
+          events = fed.events;
+          packets = fed.packets;
+          played = has_played s when fed.fault fed.events fed.packets honest all fed.fed fed.are
+              fed.timely;
+          written = fed.written;
+        },
+        fed.called,
+      )
+
+  -- a fault of the feed stops the playing, from the disk's opening on, with these calls
+  pub stops_by : (when : When) (before after : Option (List (List ℕ)))
+      (earlier later : Option (List Bool)) (result : Result Unit Refusal)
+      → ((s : Standing) → Holds server.view s (state server.disk) → (state new.disk).IsHonest
+      → IfErr result (λ r. FeedsPart r server new (state server.disk) (state new.disk) s when
+      before after earlier later))
+      → IfErr result (λ r. StopsBy r when before after earlier later (state disk)
+      (state new.disk))
+  stops_by when before after earlier later (Ok done) feeds = tt
+  stops_by when before after earlier later (Err refusal) feeds =
+      inr (writes_part when before after earlier later refusal feeds)
+
+  -- so it stops
+  pub stops : (when : When) (before after : Option (List (List ℕ)))
+      (earlier later : Option (List Bool)) (result : Result Unit Refusal)
       → IfErr result (λ r. IsFeedFault server (state server.disk) (state new.disk) r)
       → ((s : Standing) → Holds server.view s (state server.disk) → (state new.disk).IsHonest
-      → IfErr result (λ r. FeedsPart r server new (state server.disk) (state new.disk) s waits
-      before after))
-      → IfErr result (λ r. StopsPlaying r waits before after (state disk) (state new.disk))
-  stops waits before after (Ok done) why feeds = tt
-  stops waits before after (Err refusal) why feeds = stopped
+      → IfErr result (λ r. FeedsPart r server new (state server.disk) (state new.disk) s when
+      before after earlier later))
+      → IfErr result (λ r. StopsPlaying r when before after (state disk) (state new.disk))
+  stops when before after earlier later (Ok done) why feeds = tt
+  stops when before after earlier later (Err refusal) why feeds = stopped
       (breaks_off server (state disk) (state server.disk) (state new.disk) refusal going calm why)
       (λ s honest all.
-      let fed = feeds s (holds_opened s honest all) honest in
-      record {
-        fault = fed.fault;
-        told = fed.told;
-        events = fed.events;
-        packets = fed.packets;
-        played = has_played s waits fed.fault fed.events fed.packets honest all fed.fed fed.are
-            fed.uncut;
-        written = fed.written;
-      })
+      (writes_part when before after earlier later refusal feeds s honest all).0)
+
+-- ---- when the carousel may change
+
+-- a folder that is handed on is still one
+same_followed : {F G : Type 0} (f : F → G) (folder : Option F) (given : Option G)
+    → option_map f folder ≡ given → when_followed folder ≡ when_followed given
+same_followed {F} {G} f None given is = ap (λ (o : Option G). when_followed o) is
+same_followed {F} {G} f (Some x) given is = ap (λ (o : Option G). when_followed o) is
+
+-- and so are lines
+pub same_changed : {L K F G : Type 0} (f : F → G) (lines : Option L) (others : Option K)
+    (folder : Option F) (given : Option G) → is_none lines ≡ is_none others
+    → option_map f folder ≡ given → when_changed lines folder ≡ when_changed others given
+same_changed f None None folder given same is = same_followed f folder given is
+same_changed f None (Some k) folder given same is = absurd (cc)
+same_changed f (Some l) None folder given same is = absurd (cc)
+same_changed f (Some l) (Some k) folder given same is = refl

@@ -6,14 +6,19 @@ use Rattle.mot_base.specs.declared.refusal.Refusal.{Refusal}
 use Rattle.mot_carousel.specs.Carousel.{Carousel}
 use Rattle.mot_carousel.specs.declared.command.Command.{Command}
 use Rattle.mot_air.specs.Opening.{IsBreak, IsUnopened, Leaves, OfStanding}
-use Rattle.mot_feed.specs.Feeding.{AreOf, Event, Happen, commands_among, are_uncut, has_ended}
-use Rattle.mot_feed.specs.Feeding.{turns_in}
+use Rattle.mot_feed.specs.Feeding.{AreOf, AreTimely, BetweenTurns, CallsPart, Event, Happen}
+use Rattle.mot_feed.specs.Feeding.{Never, When, commands_among, has_ended, moments_of, turns_in}
 use Rattle.mot_feed.specs.Writing.{Grows, GrowsPart}
 use Rattle.mot_journal.specs.Image.{Standing}
 use Rattle.mot_player.specs.Continuity.{IsContinuous}
 use Rattle.mot_player.specs.Place.{Place, opened_place}
 use Rattle.mot_player.specs.Turn.{turn_of_carousel}
 use Rattle.mot_server.specs.Runs.{accepted_commands}
+
+-- when a folder, where there is one, may change the carousel that is played
+abbrev pub when_followed : {F : Type 0} → (folder : Option F) → When
+when_followed None = Never
+when_followed (Some folder) = BetweenTurns
 
 -- where a server begins to play that was just opened of a disk that stands for this
 abbrev pub first_place : Standing → Place
@@ -23,7 +28,7 @@ first_place s =
 
 -- These happened on a server that was opened of a disk that stood for s: their commands left this
 -- of the disk, and their packets are these, with their continuity indexes.
-pub record HasAired (s : Standing) (waits : Bool) (fault : Option Refusal) (events : List Event)
+pub record HasAired (s : Standing) (when : When) (fault : Option Refusal) (events : List Event)
     (packets : List (List ℕ)) (start now : State) : Type 0 where
   pub last : Carousel
   pub place : Place
@@ -35,42 +40,59 @@ pub record HasAired (s : Standing) (waits : Bool) (fault : Option Refusal) (even
   pub leaves : Leaves s commands marks fault start now
   pub are : AreOf events packets
   pub continuous : IsContinuous packets
-  -- where updates wait for the end of a turn, none comes within one
-  pub uncut : waits ≡ true → are_uncut true events ≡ true
+  pub timely : AreTimely when commands events
 
 -- So many turns were written, each packet in one write; or else so many packets that their number
 -- fits no word of 64 bits.
-pub record WritesTurns (waits : Bool) (turns : ℕ) (before after : Option (List (List ℕ)))
+pub record WritesTurns (when : When) (turns : ℕ) (before after : Option (List (List ℕ)))
     (start now : State) (s : Standing) : Type 0 where
   pub events : List Event
   pub packets : List (List ℕ)
-  pub played : HasAired s waits None events packets start now
+  pub played : HasAired s when None events packets start now
   pub written : Grows before after packets
   pub ended : ((turns_in events ≡ turns) × (has_ended true events ≡ true))
       ⊎ (length packets ≡ 18446744073709551615)
 
 -- This refusal came of an update, of a packet or of writing it: where a write failed, the last
 -- packet is cut or missing, and no command was in flight.
-pub record WritesPart (refusal : Refusal) (waits : Bool) (before after : Option (List (List ℕ)))
+pub record WritesPart (refusal : Refusal) (when : When) (before after : Option (List (List ℕ)))
     (start now : State) (s : Standing) : Type 0 where
   pub fault : Option Refusal
   pub told : (fault ≡ Some refusal) ⊎ (fault ≡ None)
   pub events : List Event
   pub packets : List (List ℕ)
-  pub played : HasAired s waits fault events packets start now
+  pub played : HasAired s when fault events packets start now
   pub written : GrowsPart refusal packets before after
 
 -- the disk was played, and has not failed
-pub record Plays (waits : Bool) (turns : ℕ) (before after : Option (List (List ℕ)))
+pub record Plays (when : When) (turns : ℕ) (before after : Option (List (List ℕ)))
     (start now : State) : Type 0 where
   pub calm : now.failures ≡ start.failures
-  pub writes : OfStanding (WritesTurns waits turns before after start now) start now
+  pub writes : OfStanding (WritesTurns when turns before after start now) start now
 
 -- why playing ended before its last turn, and what it had come to
-pub data StopsPlaying (refusal : Refusal) (waits : Bool) (before after : Option (List (List ℕ)))
+pub data StopsPlaying (refusal : Refusal) (when : When) (before after : Option (List (List ℕ)))
     (start now : State) : Type 0 where
   unopened : IsUnopened refusal start now → Grows before after []
-      → StopsPlaying refusal waits before after start now
+      → StopsPlaying refusal when before after start now
   stopped : IsBreak refusal start now
-      → OfStanding (WritesPart refusal waits before after start now) start now
-      → StopsPlaying refusal waits before after start now
+      → OfStanding (WritesPart refusal when before after start now) start now
+      → StopsPlaying refusal when before after start now
+
+-- In these, earlier and later are the moments at which an update was called, as far as they are
+-- known.
+
+-- so many turns were written, and the update was called once in front of each packet
+abbrev pub PlaysBy : When → (turns : ℕ) → (before after : Option (List (List ℕ)))
+    → (earlier later : Option (List Bool)) → (start now : State) → Type 0
+PlaysBy when turns before after earlier later start now =
+    OfStanding (λ s. (writes : WritesTurns when turns before after start now s)
+    × Grows earlier later (moments_of true writes.events)) start now
+
+-- playing stopped, and the update was called once in front of each packet up to there
+abbrev pub StopsBy : Refusal → When → (before after : Option (List (List ℕ)))
+    → (earlier later : Option (List Bool)) → (start now : State) → Type 0
+StopsBy refusal when before after earlier later start now =
+    (IsUnopened refusal start now × Grows earlier later [])
+    ⊎ OfStanding (λ s. (writes : WritesPart refusal when before after start now s)
+    × CallsPart refusal writes.events earlier later) start now

@@ -1,6 +1,6 @@
 -- What the commands on air do.
-use Rattle.std.specs.Prelude.{ℕ, ◌≡◌, ◌⊎◌, ◌↔◌, Bool, true, false, List, length, Option, Some, None}
-use Rattle.std.specs.Prelude.{codes, is_none}
+use Rattle.std.specs.Prelude.{ℕ, ◌≡◌, ◌⊎◌, ◌↔◌, true, false, List, length, Option, Some, None}
+use Rattle.std.specs.Prelude.{codes}
 use Rattle.std.specs.Io.KnownBytes.{Keeps}
 use Rattle.clap.specs.Words.{Text}
 use Rattle.disk_store.specs.Calls.{opening_calls}
@@ -10,7 +10,7 @@ use Rattle.disk_store.specs.declared.file.FileDiskFrom.{FileDiskFrom}
 use Rattle.disk_store.specs.declared.file.start.Start.{Ghosts}
 use Rattle.mot_air.specs.Exporting.{Exports, StopsExporting}
 use Rattle.mot_air.specs.Inspecting.{Inspects, StopsInspecting}
-use Rattle.mot_air.specs.Playing.{Plays, StopsPlaying}
+use Rattle.mot_air.specs.Playing.{Plays, StopsPlaying, when_followed}
 use Rattle.mot_air.specs.Syncing.{StopsSyncing, Syncs}
 use Rattle.mot_air.specs.Task.{AskFor, AskForHelp}
 use Rattle.mot_air.specs.declared.packets.Target.{Target}
@@ -23,6 +23,7 @@ use Rattle.mot_base.specs.declared.refusal.Refusal.{Refusal}
 use Rattle.mot_base.specs.declared.refusal.Refusal.TheVariants.{BadNumber, DeviceFault}
 use Rattle.mot_base.specs.declared.refusal.Refusal.TheVariants.{OutOfMemory, ReadFault}
 use Rattle.mot_base.specs.declared.refusal.Refusal.TheVariants.{WriteFault}
+use Rattle.mot_feed.specs.Feeding.{Always, When}
 use Rattle.mot_folder.specs.Types.{IsTypesRefusal}
 
 -- how many turns are played, where so many are asked for; and else sixteen into a file, behind
@@ -33,19 +34,24 @@ turns_of Output None = 18446744073709551615
 turns_of Stream None = 18446744073709551615
 turns_of File None = 16
 
+-- when lines and a folder, where they are given, may change the carousel that is played
+abbrev pub when_changed : {L F : Type 0} → (lines : Option L) → (folder : Option F) → When
+when_changed None folder = when_followed folder
+when_changed (Some lines) folder = Always
+
 -- what a path names, as far as it tells by itself: `-`, and nothing else, is standard output
 abbrev pub IsTarget : Text → Target → Type 0
 IsTarget path target = (path ≡ codes "-") ↔ (target ≡ Output)
 
 -- why a disk was not played as it should be, in the turns that are asked for: playing stopped; or
 -- all was played, and the file did not take its place
-pub data FailsPlaying (target : Target) (waits : Bool) (turns : Option ℕ) (refusal : Refusal)
+pub data FailsPlaying (target : Target) (when : When) (turns : Option ℕ) (refusal : Refusal)
     (start now : State) : Type 0 where
-  stopped : StopsPlaying refusal waits None None start now
-      → FailsPlaying target waits turns refusal start now
+  stopped : StopsPlaying refusal when None None start now
+      → FailsPlaying target when turns refusal start now
   unplaced : target ≡ File → refusal ≡ WriteFault
-      → Plays waits (turns_of target turns) None None start now
-      → FailsPlaying target waits turns refusal start now
+      → Plays when (turns_of target turns) None None start now
+      → FailsPlaying target when turns refusal start now
 
 -- The file held the bytes of `start` as it was opened. These are words of contracts alone: what
 -- holds for each `start` holds for what the file really held.
@@ -69,21 +75,23 @@ module _ {S : Type 0} {start : Ghosts S} where
   OnOpened P (Opened disk) = SinceOpened P disk
 
   -- the disk was played into what this path names; or was not as it should be
-  abbrev pub PlaysTo : Text → (waits : Bool) → Option ℕ → AirDisk S start → Type 0
-  PlaysTo path waits turns used =
+  abbrev pub PlaysTo : Text → When → Option ℕ → AirDisk S start → Type 0
+  PlaysTo path when turns used =
       (target : Target) × IsTarget path target
-      × OnOpened (Plays waits (turns_of target turns) None None) used
+      × OnOpened (Plays when (turns_of target turns) None None) used
 
-  abbrev pub StopsPlayingTo : Text → (waits : Bool) → Option ℕ → Refusal → AirDisk S start → Type 0
-  StopsPlayingTo path waits turns r used =
-      (target : Target) × IsTarget path target × OnOpened (FailsPlaying target waits turns r) used
+  abbrev pub StopsPlayingTo : Text → When → Option ℕ → Refusal → AirDisk S start → Type 0
+  StopsPlayingTo path when turns r used =
+      (target : Target) × IsTarget path target × OnOpened (FailsPlaying target when turns r) used
 
   -- In these the writer's known bytes were old and are new. Of what a pipe, a device or a file
   -- takes no contract tells.
 
-  -- the task was done; where no lines are given, no command came within a turn
+  -- the task was done; where no lines are given, no command came within a turn, and without a folder
+  -- none at all
   abbrev pub Does : Task → AirDisk S start → (old new : Option (List ℕ)) → Type 0
-  Does (Play p) used old new = PlaysTo p.packets.now (is_none p.lines) p.turns used
+  Does (Play p) used old new =
+      PlaysTo p.packets.now (when_changed p.lines p.folder) p.turns used
   Does (Sync disk folder types) used old new = OnOpened (Syncs true folder.now old new) used
   Does (Export disk) used old new = OnOpened (Exports old new) used
   Does (Inspect disk) used old new = OnOpened (Inspects old new) used
@@ -93,7 +101,7 @@ module _ {S : Type 0} {start : Ghosts S} where
       → Type 0
   DoesInPart (Play p) None used old new = ⊥
   DoesInPart (Play p) (Some r) used old new =
-      StopsPlayingTo p.packets.now (is_none p.lines) p.turns r used
+      StopsPlayingTo p.packets.now (when_changed p.lines p.folder) p.turns r used
   DoesInPart (Sync disk folder types) None used old new =
       OnOpened (Syncs false folder.now old new) used
   DoesInPart (Sync disk folder types) (Some r) used old new =

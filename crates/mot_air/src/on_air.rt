@@ -1,8 +1,9 @@
 //! Playing the disk of a file into what a path names.
-ghost use Rattle.std.specs.Prelude.{◌≡◌, ◌≢◌, ◌⊎◌, None, Ok, true, false, IfErr, OnOk, is_none};
+ghost use Rattle.std.specs.Prelude.{◌≡◌, ◌≢◌, ◌⊎◌, None, Ok, true, false, IfErr, OnOk};
 ghost use Rattle.mot_air.specs.Inner.Packets.{target_of};
 ghost use Rattle.mot_air.specs.Playing.{Plays, StopsPlaying};
 ghost use Rattle.mot_air.specs.Program.{FailsPlaying, IsUntold, PlaysTo, StopsPlayingTo, turns_of};
+ghost use Rattle.mot_air.specs.Program.{when_changed};
 ghost use Rattle.mot_base.specs.declared.refusal.Refusal.TheVariants.{DeviceFault, WriteFault};
 
 use crate::beside::NewFile;
@@ -42,11 +43,11 @@ pub(crate) fn play_file<B: Start, W: Write, E: Write>(
     errors: &mut E,
 ) -> Finished<B>
     ensures done { result.result ≡ Ok true
-        → PlaysTo packets.now (is_none lines.entry) turns result.disk }
+        → PlaysTo packets.now (when_changed lines.entry folder.entry) turns result.disk }
     ensures told { result.result ≢ Ok false }
     ensures refused { IfErr result.result (λ r. (((r ≡ DeviceFault) ⊎ (r ≡ WriteFault))
         × IsUntold result.disk (W.contents writer.old) (W.contents writer.new))
-        ⊎ StopsPlayingTo packets.now (is_none lines.entry) turns r result.disk) }
+        ⊎ StopsPlayingTo packets.now (when_changed lines.entry folder.entry) turns r result.disk) }
 {
     let opened = match open_packets(rt, packets, path) {
         Ok(opened) => opened,
@@ -77,11 +78,12 @@ fn play_into<D: Disk, W: Write, E: Write>(
     writer: &mut W,
     errors: &mut E,
 ) -> Played<D>
-    ensures done { OnOk result.ended.result (Plays (is_none lines.entry)
+    ensures done { OnOk result.ended.result (Plays (when_changed lines.entry folder.entry)
         (turns_of (target_of opened.entry) turns) None None
         (D.state disk) (D.state result.ended.disk)) }
     ensures refused { IfErr result.ended.result (λ r. FailsPlaying (target_of opened.entry)
-        (is_none lines.entry) turns r (D.state disk) (D.state result.ended.disk)) }
+        (when_changed lines.entry folder.entry) turns r
+        (D.state disk) (D.state result.ended.disk)) }
 {
     match opened {
         OpenPackets::Standard => {
@@ -110,9 +112,10 @@ fn play_writer<D: Disk, P: Write + Drop, L: Write>(
     log: &mut L,
     turns: u64,
 ) -> Played<D>
-    ensures done { OnOk result.ended.result (Plays (is_none lines.entry) turns None None
-        (D.state disk) (D.state result.ended.disk)) }
-    ensures refused { IfErr result.ended.result (λ r. StopsPlaying r (is_none lines.entry) None None
+    ensures done { OnOk result.ended.result (Plays (when_changed lines.entry folder.entry) turns
+        None None (D.state disk) (D.state result.ended.disk)) }
+    ensures refused { IfErr result.ended.result (λ r. StopsPlaying r
+        (when_changed lines.entry folder.entry) None None
         (D.state disk) (D.state result.ended.disk)) }
 {
     let mut outlet = PacketWriter::new(packets);
@@ -139,11 +142,12 @@ fn play_new_file<D: Disk, L: Write>(
     log: &mut L,
     turns: u64,
 ) -> Played<D>
-    ensures done { OnOk result.ended.result (Plays (is_none lines.entry) turns None None
-        (D.state disk) (D.state result.ended.disk)) }
-    ensures refused { IfErr result.ended.result (λ r. StopsPlaying r (is_none lines.entry) None None
+    ensures done { OnOk result.ended.result (Plays (when_changed lines.entry folder.entry) turns
+        None None (D.state disk) (D.state result.ended.disk)) }
+    ensures refused { IfErr result.ended.result (λ r. StopsPlaying r
+        (when_changed lines.entry folder.entry) None None
         (D.state disk) (D.state result.ended.disk)
-        ⊎ ((r ≡ WriteFault) × Plays (is_none lines.entry) turns None None
+        ⊎ ((r ≡ WriteFault) × Plays (when_changed lines.entry folder.entry) turns None None
         (D.state disk) (D.state result.ended.disk))) }
 {
     let Played { ended, cause } = play_writer(

@@ -1,5 +1,6 @@
 //! What the packets of `play` go to.
-ghost use Rattle.std.specs.Prelude.{◌≡◌, ◌≤◌, ◌∷◌, [], None, IfOk, MatchResult, length, take};
+ghost use Rattle.std.specs.Prelude.{◌≡◌, ◌≤◌, ◌∷◌, ℕ, List, [], None, IfOk, MatchResult, length};
+ghost use Rattle.std.specs.Prelude.{take};
 ghost use Rattle.std.specs.Io.{WritesAtMost};
 ghost use Rattle.std.specs.Io.KnownBytes.{Appends};
 ghost use Rattle.mot_air.specs.Inner.Packets.{target_of};
@@ -120,7 +121,7 @@ impl<W: Write + Drop> Outlet for PacketWriter<W> {
         ensures bound { IfOk result (λ count. count ≤ length bytes.now) }
         ensures one { MatchResult result
             (λ count. Grows None None (take count bytes.now ∷ []))
-            (λ _. Grows None None ([] ∷ [])) }
+            (λ _. Grows {A = List ℕ} None None ([] ∷ [])) }
 
         // The writer took what is told, and nothing else.
         ensures written { IfOk result (λ count. Appends (W.contents self.old.writer)

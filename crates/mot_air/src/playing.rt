@@ -1,12 +1,12 @@
 //! Playing a disk, and making its carousel equal to a folder.
-ghost use Rattle.std.specs.Prelude.{◌≡◌, ◌≤◌, true, false, IfErr, IfOk, OnOk, MatchResult};
+ghost use Rattle.std.specs.Prelude.{◌≡◌, IfErr, IfOk, OnOk};
 ghost use Rattle.std.specs.Io.KnownBytes.{Appends};
 ghost use Rattle.disk_store.specs.Disk.{KeepsLength};
-ghost use Rattle.mot_air.specs.Playing.{Plays, StopsPlaying};
+ghost use Rattle.mot_air.specs.Playing.{Plays, PlaysBy, StopsBy, StopsPlaying, when_followed};
 ghost use Rattle.mot_air.specs.Syncing.{StopsSyncing, Syncs};
 ghost use Rattle.mot_air.specs.Inner.Looked.{LooksAndTells};
 ghost use Rattle.mot_base.specs.declared.refusal.Refusal.TheVariants.{WriteFault};
-ghost use Rattle.mot_feed.specs.Feeding.{IsFeedFault};
+ghost use Rattle.mot_feed.specs.Feeding.{Always, IsFeedFault};
 ghost use Rattle.mot_journal.specs.Image.{Standing};
 ghost use Rattle.mot_repository.specs.Repository.{Holds};
 ghost use Rattle.mot_update.specs.Faults.{StaysCalm};
@@ -47,9 +47,9 @@ pub fn play_disk<T: Files<File = File>, D: Disk, O: Outlet, L: Write + Drop>(
     turns: u64,
 ) -> Ended<D, ()>
     ensures keeps { KeepsLength (D.state disk) (D.state result.disk) }
-    ensures done { OnOk result.result (Plays true turns (O.writes outlet.old) (O.writes outlet.new)
-        (D.state disk) (D.state result.disk)) }
-    ensures refused { IfErr result.result (λ r. StopsPlaying r true
+    ensures done { OnOk result.result (Plays (when_followed folder.entry) turns
+        (O.writes outlet.old) (O.writes outlet.new) (D.state disk) (D.state result.disk)) }
+    ensures refused { IfErr result.result (λ r. StopsPlaying r (when_followed folder.entry)
         (O.writes outlet.old) (O.writes outlet.new) (D.state disk) (D.state result.disk)) }
 {
     match folder {
@@ -75,9 +75,9 @@ pub fn play_and_answer<T: Files<File = File>, D: Disk, O: Outlet, L: Write + Dro
     turns: u64,
 ) -> Ended<D, ()>
     ensures keeps { KeepsLength (D.state disk) (D.state result.disk) }
-    ensures done { OnOk result.result (Plays false turns (O.writes outlet.old) (O.writes outlet.new)
-        (D.state disk) (D.state result.disk)) }
-    ensures refused { IfErr result.result (λ r. StopsPlaying r false
+    ensures done { OnOk result.result (Plays Always turns
+        (O.writes outlet.old) (O.writes outlet.new) (D.state disk) (D.state result.disk)) }
+    ensures refused { IfErr result.result (λ r. StopsPlaying r Always
         (O.writes outlet.old) (O.writes outlet.new) (D.state disk) (D.state result.disk)) }
 {
     let LineFolder { path, hand, every } = lines;
@@ -106,9 +106,9 @@ fn play_lines<D: Disk, R: Read + Drop, L: Write + Drop, U: Update + Drop, O: Out
     turns: u64,
 ) -> Ended<D, ()>
     ensures keeps { KeepsLength (D.state disk) (D.state result.disk) }
-    ensures done { OnOk result.result (Plays false turns (O.writes outlet.old) (O.writes outlet.new)
-        (D.state disk) (D.state result.disk)) }
-    ensures refused { IfErr result.result (λ r. StopsPlaying r false
+    ensures done { OnOk result.result (Plays Always turns
+        (O.writes outlet.old) (O.writes outlet.new) (D.state disk) (D.state result.disk)) }
+    ensures refused { IfErr result.result (λ r. StopsPlaying r Always
         (O.writes outlet.old) (O.writes outlet.new) (D.state disk) (D.state result.disk)) }
 {
     play_with(alloc, disk, &mut lines, outlet, turns)
@@ -124,10 +124,18 @@ pub fn play_with<D: Disk, U: Update, O: Outlet>(
     turns: u64,
 ) -> Ended<D, ()>
     ensures keeps { KeepsLength (D.state disk) (D.state result.disk) }
-    ensures done { OnOk result.result (Plays U.waits turns
+    ensures done { OnOk result.result (Plays U.when turns
         (O.writes outlet.old) (O.writes outlet.new) (D.state disk) (D.state result.disk)) }
-    ensures refused { IfErr result.result (λ r. StopsPlaying r U.waits
+    ensures refused { IfErr result.result (λ r. StopsPlaying r U.when
         (O.writes outlet.old) (O.writes outlet.new) (D.state disk) (D.state result.disk)) }
+
+    // The update was called once in front of each packet.
+    ensures called { OnOk result.result (PlaysBy U.when turns
+        (O.writes outlet.old) (O.writes outlet.new) (U.moments update.old) (U.moments update.new)
+        (D.state disk) (D.state result.disk)) }
+    ensures called_before { IfErr result.result (λ r. StopsBy r U.when
+        (O.writes outlet.old) (O.writes outlet.new) (U.moments update.old) (U.moments update.new)
+        (D.state disk) (D.state result.disk)) }
 {
     let mut server = match Server::open(alloc, disk) {
         Ok(server) => server,

@@ -1,6 +1,6 @@
 //! The commands on air, over any streams and files.
 ghost use Rattle.std.specs.Prelude.{◌≡◌, ◌≢◌, ◌⊎◌, ◌↔◌, Option, map, true, false, IfErr, IfOk, IsTrue};
-ghost use Rattle.std.specs.Prelude.{List, None, Ok, Some, codes, is_none, option_map};
+ghost use Rattle.std.specs.Prelude.{List, None, Ok, Some, codes, option_map};
 ghost use Rattle.std.specs.Io.KnownBytes.{Keeps};
 ghost use Rattle.clap.specs.Words.{Text, found_of, kind_of, rows_of};
 ghost use Rattle.mot_air.specs.Exporting.{Exports, StopsExporting};
@@ -8,7 +8,7 @@ ghost use Rattle.mot_air.specs.Inner.Asked.{AskBy};
 ghost use Rattle.mot_air.specs.Inspecting.{Inspects, StopsInspecting};
 ghost use Rattle.mot_air.specs.Program.{Does, DoesInPart, IsBeginningRefusal, IsRefused, IsUntold};
 ghost use Rattle.mot_air.specs.Program.{IsUnlined, IsUntouched, IsUntyped, OnOpened, PlaysTo};
-ghost use Rattle.mot_air.specs.Program.{StopsPlayingTo, Succeeds};
+ghost use Rattle.mot_air.specs.Program.{StopsPlayingTo, Succeeds, when_changed};
 ghost use Rattle.mot_air.specs.Syncing.{StopsSyncing, Syncs};
 ghost use Rattle.mot_air.specs.Task.{AreWrong};
 ghost use Rattle.mot_air.specs.declared.playing.Followed.{Followed};
@@ -237,14 +237,15 @@ fn play<B: Start, W: Write, E: Write>(
     errors: &mut E,
 ) -> Finished<B>
     ensures done { result.result ≡ Ok true
-        → PlaysTo task.entry.packets.now (is_none task.entry.lines) task.entry.turns result.disk }
+        → PlaysTo task.entry.packets.now (when_changed task.entry.lines task.entry.folder)
+        task.entry.turns result.disk }
     ensures told { result.result ≢ Ok false }
     ensures refused { IfErr result.result (λ r.
         ((IsUntyped task.entry.types r ⊎ IsUnlined task.entry.lines r
         ⊎ (r ≡ DeviceFault) ⊎ (r ≡ WriteFault))
         × IsUntold result.disk (W.contents writer.old) (W.contents writer.new))
-        ⊎ StopsPlayingTo task.entry.packets.now (is_none task.entry.lines) task.entry.turns r
-        result.disk) }
+        ⊎ StopsPlayingTo task.entry.packets.now (when_changed task.entry.lines task.entry.folder)
+        task.entry.turns r result.disk) }
 {
     let PlayTask { disk, packets, .. } = task;
     let types = match file_types(rt, alloc, task.types) {

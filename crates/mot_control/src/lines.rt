@@ -1,8 +1,9 @@
 //! Lines between the packets of a feed.
-ghost use Rattle.std.specs.Prelude.{◌≡◌, ◌<◌, ◌-◌, ℕ, List, false, true, OnOk};
+ghost use Rattle.std.specs.Prelude.{◌≡◌, ◌<◌, ◌-◌, ◌∷◌, ℕ, List, [], true, OnOk};
 ghost use Rattle.disk_store.specs.Disk.{KeepsLength};
 ghost use Rattle.mot_control.specs.Answering.{TakesBetween};
-ghost use Rattle.mot_feed.specs.Feeding.{IsUpdating, may_change};
+ghost use Rattle.mot_feed.specs.Feeding.{Always, IsUpdating, may_change};
+ghost use Rattle.mot_feed.specs.Writing.{Grows};
 ghost use Rattle.mot_server.specs.Attempts.{fault_of};
 ghost use Rattle.mot_journal.specs.Image.{Standing};
 ghost use Rattle.mot_lines.specs.Hand.{bytes_in_hand};
@@ -62,7 +63,10 @@ impl<R: Read + Drop, W: Write + Drop, U: Update + Drop> Lines<R, W, U> {
 }
 
 impl<R: Read + Drop, W: Write + Drop, U: Update + Drop> Update for Lines<R, W, U> {
-    ghost waits = { false };
+    ghost when = { Always };
+
+    // Those of the other update.
+    ghost moments = { λ lines. U.moments lines.update };
 
     fn update<D: Disk>(
         &mut self,
@@ -78,6 +82,10 @@ impl<R: Read + Drop, W: Write + Drop, U: Update + Drop> Update for Lines<R, W, U
             → IsUpdating server.old server.new (D.state server.old.disk)
             (D.state server.new.disk) s true (fault_of result) }
 
+        // The other update is called once, at the same moment.
+        ensures called { Grows (U.moments self.old.update) (U.moments self.new.update)
+            (between_turns ∷ []) }
+
         // It reads where a read is due, and else it only counts.
         ensures counts { 0 < self.old.left → (self.new.reader ≡ self.old.reader)
             × (self.new.hand ≡ self.old.hand) × (self.new.log ≡ self.old.log)
@@ -86,7 +94,7 @@ impl<R: Read + Drop, W: Write + Drop, U: Update + Drop> Update for Lines<R, W, U
 
         // What was taken of the reader was answered, and nothing else was told.
         ensures lines { (input : List ℕ) → self.old.hand ≡ bytes_in_hand (rest_of input)
-            → TakesBetween D.state server.old server.new input (may_change U.waits between_turns)
+            → TakesBetween D.state server.old server.new input (may_change U.when between_turns)
             (R.remaining self.old.reader) (R.remaining self.new.reader) self.new.hand
             self.old.log.is_told self.new.log.is_told
             (W.contents self.old.log.writer) (W.contents self.new.log.writer) }

@@ -13,10 +13,11 @@ use Rattle.mot_base.specs.declared.refusal.Refusal.{Refusal}
 use Rattle.mot_base.specs.declared.refusal.Refusal.TheVariants.{WriteFault}
 use Rattle.mot_carousel.specs.Carousel.{Carousel, carousel_after, carousel_if_accepted, change}
 use Rattle.mot_carousel.specs.declared.command.Command.{Command}
-use Rattle.mot_feed.specs.Feeding.{AreOf, Event, FedPacketsAreContinuous, Feeds, FeedsPart, Happen}
-use Rattle.mot_feed.specs.Feeding.{HasFed, IsUpdating, commands_among, are_uncut, has_ended}
-use Rattle.mot_feed.specs.Feeding.{may_change}
-use Rattle.mot_feed.specs.Feeding.{sents_in, turns_in}
+use Rattle.mot_feed.specs.Feeding.{AreOf, AreTimely, Event, FedPacketsAreContinuous}
+use Rattle.mot_feed.specs.Feeding.{Feeds, FeedsPart, Happen, HasFed, IsUpdating, When}
+use Rattle.mot_feed.specs.Feeding.{commands_among, are_uncut, has_ended, may_change, moments_of}
+use Rattle.mot_feed.specs.Feeding.{sents_in, turns_in, unmade, unwritten}
+use Rattle.mot_feed.specs.Feeding.{Always, BetweenTurns, Never}
 use Rattle.mot_feed.specs.Feeding.Event.{Accepted, Played}
 use Rattle.mot_feed.specs.Sending.{SendsPacket}
 use Rattle.mot_feed.specs.Sending as one
@@ -89,6 +90,14 @@ uncut-append ended (Played sent ∷ events) others one two =
 uncut-append ended (Accepted command ∷ events) others one two =
     uncut-cases ended (are_uncut ended events) (are_uncut ended (events ++ others)) one
     (λ is. uncut-append ended events others is two)
+
+moments-append : (ended : Bool) (events others : List Event)
+    → moments_of ended (events ++ others)
+    ≡ moments_of ended events ++ moments_of (has_ended ended events) others
+moments-append ended [] others = refl
+moments-append ended (Played sent ∷ events) others =
+    ap (λ l. ended ∷ l) (moments-append sent.ends_turn events others)
+moments-append ended (Accepted command ∷ events) others = moments-append ended events others
 
 turns-append : (events others : List Event)
     → turns_in (events ++ others) ≡ turns_in events + turns_in others
@@ -191,6 +200,11 @@ ended-map : (ended : Bool) (commands : List Command)
 ended-map ended [] = refl
 ended-map ended (command ∷ commands) = ended-map ended commands
 
+moments-map : (ended : Bool) (commands : List Command)
+    → moments_of ended (map Accepted commands) ≡ []
+moments-map ended [] = refl
+moments-map ended (command ∷ commands) = moments-map ended commands
+
 turns-map : (commands : List Command) → turns_in (map Accepted commands) ≡ 0
 turns-map [] = refl
 turns-map (command ∷ commands) = turns-map commands
@@ -205,13 +219,49 @@ none-accepted (mark ∷ marks) = refl
 
 -- one that waits runs no command within a turn
 uncut-update : (between : Bool) (commands : List Command) (marks : List Bool)
-    → (may_change true between ≡ false → commands ≡ [])
+    → (between ≡ false → commands ≡ [])
     → are_uncut between (map Accepted (accepted_commands commands marks)) ≡ true
 uncut-update true commands marks waits = uncut-map (accepted_commands commands marks)
 uncut-update false commands marks waits =
     let none : accepted_commands commands marks ≡ [] =
     ap (λ l. accepted_commands l marks) (waits refl) ∙ none-accepted marks in
     ap (λ l. are_uncut false (map Accepted l)) none
+
+-- an update more runs its commands when it may
+timely-update : (when : When) (between : Bool) (commands others : List Command)
+    (marks : List Bool) (events : List Event) → has_ended true events ≡ between
+    → (may_change when between ≡ false → others ≡ []) → AreTimely when commands events
+    → AreTimely when (commands ++ others)
+    (events ++ map Accepted (accepted_commands others marks))
+timely-update Never between commands others marks events ended waits so_far =
+    ap (λ l. l ++ others) so_far ∙ waits refl
+timely-update BetweenTurns between commands others marks events ended waits so_far =
+    let done : List Command = accepted_commands others marks in
+    uncut-append true events (map Accepted done) so_far
+    (subst (λ e. are_uncut e (map Accepted done) ≡ true) (sym ended)
+    (uncut-update between others marks waits))
+timely-update Always between commands others marks events ended waits so_far = tt
+
+-- a packet more runs none
+timely-sent : (when : When) (commands : List Command) (events : List Event) (sent : Sent)
+    → AreTimely when commands events → AreTimely when (commands ++ []) (events ++ Played sent ∷ [])
+timely-sent Never commands events sent so_far = append-nil commands ∙ so_far
+timely-sent BetweenTurns commands events sent so_far =
+    uncut-append true events (Played sent ∷ []) so_far refl
+timely-sent Always commands events sent so_far = tt
+
+-- where nothing was done
+timely-none : (when : When) → AreTimely when [] []
+timely-none Never = refl
+timely-none BetweenTurns = refl
+timely-none Always = tt
+
+-- where nothing more was done
+timely-kept : (when : When) (commands : List Command) (events : List Event)
+    → AreTimely when commands events → AreTimely when (commands ++ []) (events ++ [])
+timely-kept when commands events so_far =
+    subst (λ l. AreTimely when l (events ++ [])) (sym (append-nil commands))
+    (subst (AreTimely when commands) (sym (append-nil events)) so_far)
 
 -- commands bring no packet
 are-more : (events : List Event) (commands : List Command) (packets : List (List ℕ))
@@ -224,6 +274,29 @@ are-more events commands packets are =
       bytes = are.bytes ∙ ap (map packet_of) same;
       read = subst (λ l. AreSent l packets) same are.read;
     }
+
+-- ---- the moments of calls
+
+-- commands come at none, and then there is a call
+moments-update : (between : Bool) (commands : List Command) (events : List Event)
+    (earlier since later : Option (List Bool)) → Grows earlier since (moments_of true events)
+    → Grows since later (between ∷ [])
+    → Grows earlier later (moments_of true (events ++ map Accepted commands) ++ between ∷ [])
+moments-update between commands events earlier since later so_far call =
+    let same : moments_of true (events ++ map Accepted commands) ≡ moments_of true events =
+    moments-append true events (map Accepted commands)
+    ∙ ap (λ l. moments_of true events ++ l) (moments-map (has_ended true events) commands)
+    ∙ append-nil (moments_of true events) in
+    subst (λ l. Grows earlier later (l ++ between ∷ [])) (sym same)
+    (grows_trans earlier since later (moments_of true events) (between ∷ []) so_far call)
+
+-- a packet comes at that of the call in front of it
+moments-sent : (between : Bool) (events : List Event) (sent : Sent)
+    → has_ended true events ≡ between
+    → moments_of true events ++ between ∷ [] ≡ moments_of true (events ++ Played sent ∷ [])
+moments-sent between events sent ended =
+    ap (λ e. moments_of true events ++ e ∷ []) (sym ended)
+    ∙ sym (moments-append true events (Played sent ∷ []))
 
 -- ---- counting turns
 
@@ -363,9 +436,10 @@ module _ {D : Type 0} where
   -- ---- feeding
 
   -- what was fed so far: so many turns are left, and so many packets were sent
-  pub record SoFar (old new : ServerView D) (start now : State) (s : Standing) (waits : Bool)
+  pub record SoFar (old new : ServerView D) (start now : State) (s : Standing) (when : When)
       (turns left : ℕ) (between_turns : Bool) (count : ℕ)
-      (before after : Option (List (List ℕ))) : Type 0 where
+      (before after : Option (List (List ℕ))) (earlier later : Option (List Bool))
+      (more : List Bool) : Type 0 where
     -- what happened so far
     pub events : List Event
     -- this is what was fed, without a fault
@@ -376,8 +450,10 @@ module _ {D : Type 0} where
     pub are : AreOf events packets
     -- each was written in one write
     pub written : Grows before after packets
-    -- an update that waits has cut no turn
-    pub uncut : waits ≡ true → are_uncut true events ≡ true
+    -- the update was called in front of each, and then at these moments
+    pub called : Grows earlier later (moments_of true events ++ more)
+    -- commands came only when the carousel may be changed
+    pub timely : AreTimely when fed.commands events
     -- whether a turn has ended behind them, or none was begun
     pub ended : has_ended true events ≡ between_turns
     -- the turns to come and those that ended are all
@@ -388,37 +464,53 @@ module _ {D : Type 0} where
     pub done : left ≡ 0 → between_turns ≡ true
 
   -- feeding that begins has sent nothing
-  pub fed_none : (old : ServerView D) (start : State) (s : Standing) (waits : Bool) (turns : ℕ)
-      (contents : Option (List (List ℕ))) → IsHonestDisk start → start.IsHonest
-      → IsUnchanged start start → Holds old.view s start
-      → SoFar old old start start s waits turns turns true 0 contents contents
-  fed_none old start s waits turns contents sound honest still holds = record {
+  pub fed_none : (old : ServerView D) (start : State) (s : Standing) (when : When) (turns : ℕ)
+      (contents : Option (List (List ℕ))) (moments : Option (List Bool)) → IsHonestDisk start
+      → start.IsHonest → IsUnchanged start start → Holds old.view s start
+      → SoFar old old start start s when turns turns true 0 contents contents moments moments []
+  unfolding fed-read
+  fed_none old start s when turns contents moments sound honest still holds = record {
     events = [];
     fed = fed-read old old start start s None [] sound refl honest still holds refl (refl, refl);
     packets = [];
     are = are-none;
     written = grows_nil contents;
-    uncut = λ w. refl;
+    called = grows_nil moments;
+    timely = timely-none when;
     ended = refl;
     counted = omega arith;
     many = refl;
     done = λ e. refl;
   }
 
-  module _ {old mid : ServerView D} {start between : State} {s : Standing} {waits : Bool}
+  module _ {old mid : ServerView D} {start between : State} {s : Standing} {when : When}
       {turns left : ℕ} {between_turns : Bool} {count : ℕ} {before after : Option (List (List ℕ))}
-      (so_far : SoFar old mid start between s waits turns left between_turns count before after)
+      {earlier since : Option (List Bool)} {more : List Bool}
+      (so_far : SoFar old mid start between s when turns left between_turns count before after
+      earlier since more)
     where
+      -- the update was called in front of each packet, and then at these moments
+      so_far_called : (moments : List Bool) → more ≡ moments
+          → Grows earlier since (moments_of true so_far.events ++ moments)
+      so_far_called moments is =
+          subst (λ l. Grows earlier since (moments_of true so_far.events ++ l)) is so_far.called
+
+      -- and then at none
+      all_called : more ≡ [] → Grows earlier since (moments_of true so_far.events)
+      all_called none = subst (Grows earlier since) (append-nil (moments_of true so_far.events))
+          (so_far_called [] none)
+
       -- all turns were fed, or too many packets
-      pub fed_all : (left ≡ 0) ⊎ (count ≡ 18446744073709551615)
-          → Feeds old mid start between s waits turns before after
-      fed_all end = record {
+      pub fed_all : more ≡ [] → (left ≡ 0) ⊎ (count ≡ 18446744073709551615)
+          → Feeds old mid start between s when turns before after earlier since
+      fed_all none end = record {
         events = so_far.events;
         fed = so_far.fed;
         packets = so_far.packets;
         are = so_far.are;
         written = so_far.written;
-        uncut = so_far.uncut;
+        called = all_called none;
+        timely = so_far.timely;
         ended = all_ended end;
       }
         where
@@ -434,7 +526,7 @@ module _ {D : Type 0} where
       -- an update more
       module _ {up : ServerView D} {then_state : State} {fault : Option Refusal}
           (update : IsUpdating mid up between then_state so_far.fed.leaves.last
-          (may_change waits between_turns) fault) where
+          (may_change when between_turns) fault) where
         abbrev done_by : List Command
         done_by = accepted_commands update.commands update.marks
 
@@ -452,12 +544,19 @@ module _ {D : Type 0} where
         updated_are : AreOf updated_events so_far.packets
         updated_are = are-more so_far.events done_by so_far.packets so_far.are
 
-        -- where it waits, it cuts no turn
-        updated_uncut : waits ≡ true → are_uncut true updated_events ≡ true
-        updated_uncut w = uncut-append true so_far.events (map Accepted done_by) (so_far.uncut w)
-            (subst (λ e. are_uncut e (map Accepted done_by) ≡ true) (sym so_far.ended)
-            (uncut-update between_turns update.commands update.marks
-            (λ e. update.waits (subst (λ b. may_change b between_turns ≡ false) (sym w) e))))
+        -- it runs commands only when it may
+        updated_timely : AreTimely when updated_fed.commands updated_events
+        unfolding updated_fed fed-join fed-run
+        updated_timely = timely-update when between_turns so_far.fed.commands update.commands
+            update.marks so_far.events so_far.ended update.waits so_far.timely
+
+        -- it is called once, and comes at no packet
+        updated_called : (later : Option (List Bool)) → more ≡ []
+            → Grows since later (between_turns ∷ [])
+            → Grows earlier later (moments_of true updated_events ++ between_turns ∷ [])
+        updated_called later none call =
+            moments-update between_turns done_by so_far.events earlier since later
+            (all_called none) call
 
         updated_ended : has_ended true updated_events ≡ between_turns
         updated_ended = ended-append true so_far.events (map Accepted done_by)
@@ -474,10 +573,12 @@ module _ {D : Type 0} where
 
       -- feeding that a fault of an update ends, and not of a write
       pub update_fault : {up : ServerView D} {then_state : State} {refusal : Refusal}
+          {later : Option (List Bool)} → more ≡ []
           → IsUpdating mid up between then_state so_far.fed.leaves.last
-          (may_change waits between_turns) (Some refusal)
-          → refusal ≢ WriteFault → FeedsPart refusal old up start then_state s waits before after
-      update_fault {up} {then_state} {refusal} update other = record {
+          (may_change when between_turns) (Some refusal) → Grows since later (between_turns ∷ [])
+          → refusal ≢ WriteFault
+          → FeedsPart refusal old up start then_state s when before after earlier later
+      update_fault {up} {then_state} {refusal} {later} none update call other = record {
         fault = Some refusal;
         told = inl refl;
         events = updated_events update;
@@ -485,21 +586,26 @@ module _ {D : Type 0} where
         packets = so_far.packets;
         are = updated_are update;
         written = part.whole other so_far.written;
-        uncut = updated_uncut update;
+        called = unmade other (subst (λ e. Grows earlier later
+            (moments_of true (updated_events update) ++ e ∷ [])) (sym (updated_ended update))
+            (updated_called update later none call));
+        timely = updated_timely update;
       }
 
       -- what was fed so far, with an update that had no fault
-      pub updated : {up : ServerView D} {then_state : State}
-          → IsUpdating mid up between then_state so_far.fed.leaves.last
-          (may_change waits between_turns) None
-          → SoFar old up start then_state s waits turns left between_turns count before after
-      updated update = record {
+      pub updated : {up : ServerView D} {then_state : State} {later : Option (List Bool)}
+          → more ≡ [] → IsUpdating mid up between then_state so_far.fed.leaves.last
+          (may_change when between_turns) None → Grows since later (between_turns ∷ [])
+          → SoFar old up start then_state s when turns left between_turns count before after
+          earlier later (between_turns ∷ [])
+      updated {up} {then_state} {later} none update call = record {
         events = updated_events update;
         fed = updated_fed update;
         packets = so_far.packets;
         are = updated_are update;
         written = so_far.written;
-        uncut = updated_uncut update;
+        called = updated_called update later none call;
+        timely = updated_timely update;
         ended = updated_ended update;
         counted = updated_turns update;
         many = so_far.many;
@@ -532,16 +638,46 @@ module _ {D : Type 0} where
           sent_are = are-append so_far.events (Played step.sent ∷ []) so_far.packets (packet ∷ [])
               so_far.are (are-one (place_in mid t) (place_in new t) packet ends step)
 
-          sent_uncut : waits ≡ true → are_uncut true sent_events ≡ true
-          sent_uncut w = uncut-append true so_far.events (Played step.sent ∷ []) (so_far.uncut w)
-              refl
+          sent_called : more ≡ between_turns ∷ []
+              → Grows earlier since (moments_of true sent_events)
+          sent_called once = subst (Grows earlier since)
+              (moments-sent between_turns so_far.events step.sent so_far.ended)
+              (so_far_called (between_turns ∷ []) once)
+
+          sent_timely : AreTimely when sent_fed.commands sent_events
+          unfolding sent_fed fed-join fed-read
+          sent_timely =
+              timely-sent when so_far.fed.commands so_far.events step.sent so_far.timely
+
+        -- where no packet was made, nothing more was fed
+        unsent_fed : place_in new t ≡ place_in mid t
+            → HasFed old new start now s None (so_far.events ++ [])
+        unsent_fed same = fed-join old mid new start between now s None so_far.events [] so_far.fed
+            (fed-read mid new between now t None [] sound view honest still held refl
+            (refl, sym same))
+
+        unsent_timely : (same : place_in new t ≡ place_in mid t)
+            → AreTimely when (unsent_fed same).commands (so_far.events ++ [])
+        unfolding unsent_fed fed-join fed-read
+        unsent_timely same = timely-kept when so_far.fed.commands so_far.events so_far.timely
+
+        -- and there is no packet behind the last call
+        unsent_called : more ≡ between_turns ∷ []
+            → Grows earlier since (moments_of true (so_far.events ++ [])
+            ++ has_ended true (so_far.events ++ []) ∷ [])
+        unsent_called once = subst (λ (l : List Event).
+            Grows earlier since (moments_of true l ++ has_ended true l ∷ []))
+            (sym (append-nil so_far.events))
+            (subst (λ e. Grows earlier since (moments_of true so_far.events ++ e ∷ []))
+            (sym so_far.ended) (so_far_called (between_turns ∷ []) once))
 
         send_fault-cases : {last : Option (List (List ℕ))} (refusal : Refusal)
+            → more ≡ between_turns ∷ []
             → SendsPacket (Err refusal) (place_in mid t) (place_in new t) after last
-            → FeedsPart refusal old new start now s waits before last
-        send_fault-cases {last} refusal (one.whole packet e is step w) =
+            → FeedsPart refusal old new start now s when before last earlier since
+        send_fault-cases {last} refusal once (one.whole packet e is step w) =
             absurd (not_fine e refusal (sym is))
-        send_fault-cases {last} refusal (one.short packet e n is step lt w) = record {
+        send_fault-cases {last} refusal once (one.short packet e n is step lt w) = record {
           fault = None;
           told = inr refl;
           events = sent_events step;
@@ -550,35 +686,35 @@ module _ {D : Type 0} where
           are = sent_are step;
           written = part_after refusal so_far.packets (packet ∷ []) before after last so_far.written
               (part.short (same_refusal refusal WriteFault is) [] packet n refl lt w);
-          uncut = sent_uncut step;
+          called = unwritten (same_refusal refusal WriteFault is) (sent_called step once);
+          timely = sent_timely step;
         }
-        send_fault-cases {last} refusal (one.none r other is same w) = record {
+        send_fault-cases {last} refusal once (one.none r other is same w) = record {
           fault = None;
           told = inr refl;
           events = so_far.events ++ [];
-          fed = fed-join old mid new start between now s None so_far.events [] so_far.fed
-              (fed-read mid new between now t None [] sound view honest still held refl
-              (refl, sym same));
+          fed = unsent_fed same;
           packets = so_far.packets;
           are = subst (λ l. AreOf l so_far.packets) (sym (append-nil so_far.events)) so_far.are;
           written = part.whole (λ e. other (sym (same_refusal refusal r is) ∙ e))
               (grows_kept before after last so_far.packets so_far.written w);
-          uncut = λ w. subst (λ l. are_uncut true l ≡ true) (sym (append-nil so_far.events))
-              (so_far.uncut w);
+          called = unmade (λ e. other (sym (same_refusal refusal r is) ∙ e)) (unsent_called once);
+          timely = unsent_timely same;
         }
 
         -- feeding that a fault of a packet or of its write ends
         pub send_fault : {last : Option (List (List ℕ))} (refusal : Refusal)
-            → ((d : Standing) → Holds mid.view d between
+            → more ≡ between_turns ∷ [] → ((d : Standing) → Holds mid.view d between
             → SendsPacket (Err refusal) (place_in mid d) (place_in new d) after last)
-            → FeedsPart refusal old new start now s waits before last
-        send_fault refusal sends = send_fault-cases refusal (sends t held)
+            → FeedsPart refusal old new start now s when before last earlier since
+        send_fault refusal once sends = send_fault-cases refusal once (sends t held)
 
         -- one that was written whole
-        module _ (some : left ≡ 0 → ⊥) (ends : Bool) (rest : ℕ)
+        module _ (once : more ≡ between_turns ∷ []) (some : left ≡ 0 → ⊥) (ends : Bool) (rest : ℕ)
             (is_rest : rest + (if ends then 1 else 0) ≡ left) {last : Option (List (List ℕ))} where
           sent_on-cases : SendsPacket (Ok ends) (place_in mid t) (place_in new t) after last
-              → SoFar old new start now s waits turns rest ends (count + 1) before last
+              → SoFar old new start now s when turns rest ends (count + 1) before last
+              earlier since []
           sent_on-cases (one.whole packet e is step w) =
               let same : step.sent.ends_turn ≡ ends = sym step.ends ∙ sym (same_ends ends e is) in
               record {
@@ -588,7 +724,9 @@ module _ {D : Type 0} where
                 are = sent_are step;
                 written = grows_trans before after last so_far.packets (packet ∷ [])
                     so_far.written w;
-                uncut = sent_uncut step;
+                called = subst (Grows earlier since)
+                    (sym (append-nil (moments_of true (sent_events step)))) (sent_called step once);
+                timely = sent_timely step;
                 ended = ended-append true so_far.events (Played step.sent ∷ []) ∙ same;
                 counted = more_turns so_far.events step.sent ends rest left turns same is_rest
                     so_far.counted;
@@ -601,7 +739,8 @@ module _ {D : Type 0} where
           -- one more packet, which was made and written
           pub sent_on : ((d : Standing) → Holds mid.view d between
               → SendsPacket (Ok ends) (place_in mid d) (place_in new d) after last)
-              → SoFar old new start now s waits turns rest ends (count + 1) before last
+              → SoFar old new start now s when turns rest ends (count + 1) before last
+              earlier since []
           sent_on sends = sent_on-cases (sends t held)
 
 -- ---- continuity

@@ -1,16 +1,16 @@
--- Writes that were added to known ones.
+-- What was added to what is known.
 use Rattle.std.proofs.Common.{ℕ, List, [], ◌∷◌, ◌++◌, take, Option, Some, None}
 use Rattle.std.proofs.Common.{sym, ap, ◌∙◌, subst, append_assoc, append-nil}
 use Rattle.mot_base.specs.declared.refusal.Refusal.{Refusal}
 use Rattle.mot_feed.specs.Writing.{Grows, GrowsPart, whole, short}
 
--- known writes go on by none
-pub grows_nil : (a : Option (List (List ℕ))) → Grows a a []
+-- what is known goes on by nothing
+pub grows_nil : {A : Type 0} (a : Option (List A)) → Grows a a []
 grows_nil None = tt
 grows_nil (Some x) = sym (append-nil x)
 
--- writes that go on by some, and then by others, go on by both
-pub grows_trans : (a b c : Option (List (List ℕ))) (xs ys : List (List ℕ)) → Grows a b xs
+-- what goes on by some, and then by others, goes on by both
+pub grows_trans : {A : Type 0} (a b c : Option (List A)) (xs ys : List A) → Grows a b xs
     → Grows b c ys → Grows a c (xs ++ ys)
 grows_trans None b c xs ys p q = tt
 grows_trans (Some x) None c xs ys p q = absurd p
@@ -18,8 +18,8 @@ grows_trans (Some x) (Some y) None xs ys p q = absurd q
 grows_trans (Some x) (Some y) (Some z) xs ys p q =
     q ∙ ap (λ l. l ++ ys) p ∙ append_assoc x xs ys
 
--- nothing more was written
-pub grows_kept : (a b c : Option (List (List ℕ))) (xs : List (List ℕ)) → Grows a b xs
+-- nothing more was added
+pub grows_kept : {A : Type 0} (a b c : Option (List A)) (xs : List A) → Grows a b xs
     → Grows b c [] → Grows a c xs
 grows_kept a b c xs p q = subst (Grows a c) (append-nil xs) (grows_trans a b c xs [] p q)
 

@@ -1,4 +1,4 @@
 -- What holds of the definitions, for the crates above.
 
--- no writes were added
+-- nothing was added
 pub use Rattle.mot_feed.proofs.Grown.{grows_nil}

@@ -1,8 +1,10 @@
 -- What taking turns between updates and packets does.
-use Rattle.std.specs.Prelude.{ℕ, ◌≡◌, ◌⊎◌, ◌+◌, ◌<◌, Bool, true, false, not, ◌&&◌, ◌||◌}
-use Rattle.std.specs.Prelude.{if◌then◌else◌, List, [], ◌∷◌, length, map, Option, Some, None}
+use Rattle.std.specs.Prelude.{ℕ, ◌≡◌, ◌≢◌, ◌⊎◌, ◌+◌, ◌<◌, Bool, true, false, ◌&&◌}
+use Rattle.std.specs.Prelude.{if◌then◌else◌, List, [], ◌∷◌, ◌++◌, length, map, Option, Some, None}
+use Rattle.std.specs.Prelude.{⊤}
 use Rattle.disk_store.specs.Disk.{State}
 use Rattle.mot_base.specs.declared.refusal.Refusal.{Refusal}
+use Rattle.mot_base.specs.declared.refusal.Refusal.TheVariants.{WriteFault}
 use Rattle.mot_carousel.specs.Carousel.{Carousel, carousel_if_accepted, change}
 use Rattle.mot_carousel.specs.declared.command.Command.{Command}
 use Rattle.mot_feed.specs.Sending.{IsSendFault}
@@ -19,9 +21,17 @@ use Rattle.mot_server.specs.Server.{ServerView, place_in}
 use Rattle.mot_update.specs.Faults.{IsUpdateFault}
 use Rattle.mot_update.specs.HasRun.{HasRun}
 
--- whether an update may change the carousel: one that waits for a turn's end may only there
-abbrev pub may_change : Bool → Bool → Bool
-may_change waits between_turns = not waits || between_turns
+-- when an update may change the carousel
+pub data When : Type 0 where
+  Never : When
+  BetweenTurns : When
+  Always : When
+
+-- whether it may now
+abbrev pub may_change : When → (between_turns : Bool) → Bool
+may_change Never between_turns = false
+may_change BetweenTurns between_turns = between_turns
+may_change Always between_turns = true
 
 -- an update ran some commands, and none where it may not
 pub record IsUpdating {D : Type 0} (old new : ServerView D) (start now : State) (s : Standing)
@@ -71,6 +81,18 @@ are_uncut ended [] = true
 are_uncut ended (Accepted command ∷ events) = ended && are_uncut ended events
 are_uncut ended (Played sent ∷ events) = are_uncut sent.ends_turn events
 
+-- in front of each packet, whether a turn had ended there, or none was begun
+abbrev pub moments_of : Bool → List Event → List Bool
+moments_of ended [] = []
+moments_of ended (Accepted command ∷ events) = moments_of ended events
+moments_of ended (Played sent ∷ events) = ended ∷ moments_of sent.ends_turn events
+
+-- these commands were run, and these events happened, only when the carousel may be changed
+abbrev pub AreTimely : When → List Command → List Event → Type 0
+AreTimely Never commands events = commands ≡ []
+AreTimely BetweenTurns commands events = are_uncut true events ≡ true
+AreTimely Always commands events = ⊤
+
 -- how many turns end in these
 abbrev pub turns_in : List Event → ℕ
 turns_in [] = 0
@@ -95,22 +117,38 @@ pub record HasFed {D : Type 0} (old new : ServerView D) (start now : State) (s :
   pub happened : Happen s.geometry.objects s.geometry.segment_size s.carousel (place_in old s)
       events leaves.last.carousel (place_in new leaves.last)
 
--- So many turns were fed; or else so many packets that their number fits no word of 64 bits. An
--- update that waits cut none of them.
+-- In these, before and after are the writes of an outlet, and earlier and later the moments at which
+-- an update was called: as far as they are known.
+
+-- So many turns were fed; or else so many packets that their number fits no word of 64 bits. The
+-- update was called once in front of each packet, and nowhere else.
 pub record Feeds {D : Type 0} (old new : ServerView D) (start now : State) (s : Standing)
-    (waits : Bool) (turns : ℕ) (before after : Option (List (List ℕ))) : Type 0 where
+    (when : When) (turns : ℕ) (before after : Option (List (List ℕ)))
+    (earlier later : Option (List Bool)) : Type 0 where
   pub events : List Event
   pub fed : HasFed old new start now s None events
   pub packets : List (List ℕ)
   pub are : AreOf events packets
   pub written : Grows before after packets
-  pub uncut : waits ≡ true → are_uncut true events ≡ true
+  pub called : Grows earlier later (moments_of true events)
+  pub timely : AreTimely when fed.commands events
   pub ended : ((turns_in events ≡ turns) × (has_ended true events ≡ true))
       ⊎ (length packets ≡ 18446744073709551615)
 
+-- What calls there are with these events, which this refusal ended: one in front of each packet, and
+-- one more that no packet was made behind, unless it was a write that failed.
+pub data CallsPart (refusal : Refusal) (events : List Event)
+    (earlier later : Option (List Bool)) : Type 0 where
+  unmade : refusal ≢ WriteFault
+      → Grows earlier later (moments_of true events ++ has_ended true events ∷ [])
+      → CallsPart refusal events earlier later
+  unwritten : refusal ≡ WriteFault → Grows earlier later (moments_of true events)
+      → CallsPart refusal events earlier later
+
 -- This refusal came of an update, of a packet or of writing it: then no command was in flight.
 pub record FeedsPart {D : Type 0} (refusal : Refusal) (old new : ServerView D) (start now : State)
-    (s : Standing) (waits : Bool) (before after : Option (List (List ℕ))) : Type 0 where
+    (s : Standing) (when : When) (before after : Option (List (List ℕ)))
+    (earlier later : Option (List Bool)) : Type 0 where
   pub fault : Option Refusal
   pub told : (fault ≡ Some refusal) ⊎ (fault ≡ None)
   pub events : List Event
@@ -118,7 +156,8 @@ pub record FeedsPart {D : Type 0} (refusal : Refusal) (old new : ServerView D) (
   pub packets : List (List ℕ)
   pub are : AreOf events packets
   pub written : GrowsPart refusal packets before after
-  pub uncut : waits ≡ true → are_uncut true events ≡ true
+  pub called : CallsPart refusal events earlier later
+  pub timely : AreTimely when fed.commands events
 
 -- why feeding ended, on every disk: an update, a packet or a write did
 abbrev pub IsFeedFault : {D : Type 0} → ServerView D → (start now : State) → Refusal → Type 0

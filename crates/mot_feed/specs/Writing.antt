@@ -4,8 +4,8 @@ use Rattle.std.specs.Prelude.{None, ⊤}
 use Rattle.mot_base.specs.declared.refusal.Refusal.{Refusal}
 use Rattle.mot_base.specs.declared.refusal.Refusal.TheVariants.{WriteFault}
 
--- known writes go on by these
-abbrev pub Grows : Option (List (List ℕ)) → Option (List (List ℕ)) → List (List ℕ) → Type 0
+-- what is known goes on by these
+abbrev pub Grows : {A : Type 0} → Option (List A) → Option (List A) → List A → Type 0
 Grows None new more = ⊤
 Grows (Some known) None more = ⊥
 Grows (Some known) (Some new) more = new ≡ known ++ more

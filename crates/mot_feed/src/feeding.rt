@@ -1,8 +1,9 @@
 //! Taking turns between updating the carousel and sending its packets.
-ghost use Rattle.std.specs.Prelude.{◌≡◌, Bool, true, IfErr, IsOk, OnOk};
+ghost use Rattle.std.specs.Prelude.{◌≡◌, ◌∷◌, Bool, IfErr, IsOk, List, [], None, OnOk, Option};
 ghost use Rattle.disk_store.specs.Disk.{KeepsLength};
 ghost use Rattle.mot_feed.specs.Feeding.{FedPacketsAreContinuous, Feeds, FeedsPart};
-ghost use Rattle.mot_feed.specs.Feeding.{IsFeedFault, IsUpdating, may_change};
+ghost use Rattle.mot_feed.specs.Feeding.{IsFeedFault, IsUpdating, Never, When, may_change};
+ghost use Rattle.mot_feed.specs.Writing.{Grows};
 ghost use Rattle.mot_server.specs.Attempts.{fault_of};
 ghost use Rattle.mot_journal.specs.Image.{Standing};
 ghost use Rattle.mot_repository.specs.Repository.{Holds};
@@ -17,8 +18,11 @@ use std::alloc::Global;
 
 /// What changes a carousel between its packets, by commands.
 pub trait Update {
-    // Whether it changes the carousel between turns alone.
-    ghost waits: { Bool };
+    // When it may change the carousel.
+    ghost when: { When };
+
+    // Each call so far, in order, by whether it came between turns, where that is known.
+    ghost moments: { Self → Option (List Bool) } = { λ _. None };
 
     /// Does what is to be done now: before the first packet, and then behind each packet, which
     /// ended a turn or not. What would end a run of commands is the error, as is a body that can't
@@ -35,7 +39,8 @@ pub trait Update {
         ensures run { (s : Standing) → Holds server.old.view s (D.state server.old.disk)
             → (D.state server.new.disk).IsHonest
             → IsUpdating server.old server.new (D.state server.old.disk)
-            (D.state server.new.disk) s (may_change waits between_turns) (fault_of result) };
+            (D.state server.new.disk) s (may_change when between_turns) (fault_of result) }
+        ensures called { Grows (moments self.old) (moments self.new) (between_turns ∷ []) };
 }
 
 /// Sends packets, each in one write, with updates before the first and behind each, until so many
@@ -56,12 +61,14 @@ pub fn feed<D: Disk, O: Outlet, U: Update>(
     ensures fed { (s : Standing) → Holds server.old.view s (D.state server.old.disk)
         → (D.state server.new.disk).IsHonest
         → OnOk result (Feeds server.old server.new (D.state server.old.disk)
-        (D.state server.new.disk) s U.waits turns (O.writes outlet.old) (O.writes outlet.new)) }
+        (D.state server.new.disk) s U.when turns (O.writes outlet.old) (O.writes outlet.new)
+        (U.moments update.old) (U.moments update.new)) }
     ensures part { (s : Standing) → Holds server.old.view s (D.state server.old.disk)
         → (D.state server.new.disk).IsHonest
         → IfErr result (λ refusal. FeedsPart refusal server.old server.new
-        (D.state server.old.disk) (D.state server.new.disk) s U.waits
-        (O.writes outlet.old) (O.writes outlet.new)) }
+        (D.state server.old.disk) (D.state server.new.disk) s U.when
+        (O.writes outlet.old) (O.writes outlet.new)
+        (U.moments update.old) (U.moments update.new)) }
     ensures continuous { FedPacketsAreContinuous }
 {
     let mut left = turns;
@@ -84,7 +91,7 @@ pub fn feed<D: Disk, O: Outlet, U: Update>(
 pub struct NoUpdate;
 
 impl Update for NoUpdate {
-    ghost waits = { true };
+    ghost when = { Never };
 
     fn update<D: Disk>(
         &mut self,
@@ -98,7 +105,8 @@ impl Update for NoUpdate {
         ensures run { (s : Standing) → Holds server.old.view s (D.state server.old.disk)
             → (D.state server.new.disk).IsHonest
             → IsUpdating server.old server.new (D.state server.old.disk)
-            (D.state server.new.disk) s (may_change true between_turns) (fault_of result) }
+            (D.state server.new.disk) s (may_change Never between_turns) (fault_of result) }
+        ensures called { Grows None None (between_turns ∷ []) }
 
         // Nothing is done, and nothing refused.
         ensures ok { IsOk result }

@@ -31,7 +31,7 @@ impl<W: Write + Drop> Outlet for Direct<W> {
         ensures bound { IfOk result (λ count. count ≤ length bytes.now) }
         ensures one { MatchResult result
             (λ count. Grows None None (take count bytes.now ∷ []))
-            (λ _. Grows None None ([] ∷ [])) }
+            (λ _. Grows {A = List ℕ} None None ([] ∷ [])) }
 
         // The writer takes what is told, and nothing else.
         ensures written { WriteAppends (W.contents self.old.writer) (W.contents self.new.writer)

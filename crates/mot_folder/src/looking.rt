@@ -1,7 +1,8 @@
 //! A look at a folder, and looks between the turns of a feed.
-ghost use Rattle.std.specs.Prelude.{◌≡◌, ◌-◌, true, false};
+ghost use Rattle.std.specs.Prelude.{◌≡◌, ◌-◌, ◌∷◌, [], None, true, false};
 ghost use Rattle.disk_store.specs.Disk.{KeepsLength};
-ghost use Rattle.mot_feed.specs.Feeding.{IsUpdating, may_change};
+ghost use Rattle.mot_feed.specs.Feeding.{BetweenTurns, IsUpdating, may_change};
+ghost use Rattle.mot_feed.specs.Writing.{Grows};
 ghost use Rattle.mot_folder.specs.Looked.{HasLookedAtFolder, is_due};
 ghost use Rattle.mot_journal.specs.Image.{Standing};
 ghost use Rattle.mot_repository.specs.Repository.{Holds};
@@ -99,7 +100,7 @@ impl<'a, T: Files<File = File>, W: Write + Drop> Looks<'a, T, W> {
 }
 
 impl<'a, T: Files<File = File>, W: Write + Drop> Update for Looks<'a, T, W> {
-    ghost waits = { true };
+    ghost when = { BetweenTurns };
 
     fn update<D: Disk>(
         &mut self,
@@ -113,7 +114,8 @@ impl<'a, T: Files<File = File>, W: Write + Drop> Update for Looks<'a, T, W> {
         ensures run { (s : Standing) → Holds server.old.view s (D.state server.old.disk)
             → (D.state server.new.disk).IsHonest
             → IsUpdating server.old server.new (D.state server.old.disk)
-            (D.state server.new.disk) s (may_change true between_turns) (fault_of result) }
+            (D.state server.new.disk) s (may_change BetweenTurns between_turns) (fault_of result) }
+        ensures called { Grows None None (between_turns ∷ []) }
 
         // It looks where a look is due, and else it only counts.
         ensures counts { is_due self.old.left between_turns ≡ false

@@ -1,10 +1,9 @@
 use Rattle.std.proofs.Common.{None, inr, subst, sym}
-use Rattle.std.specs.Prelude.{is_none}
 use Rattle.std.proofs.lemmas.Result.{on_ok_weaker}
 use Rattle.mot_air.proofs.Begun.{IfErr-one, done-is, refused-is, since_opened}
 use Rattle.mot_air.specs.Inner.Packets.{target_of}
 use Rattle.mot_air.specs.Playing.{Plays}
-use Rattle.mot_air.specs.Program.{FailsPlaying, OnOpened, turns_of}
+use Rattle.mot_air.specs.Program.{FailsPlaying, OnOpened, turns_of, when_changed}
 use Rattle.mot_air.proofs.on_air.play_file.Goals as goal
 
 pub returns-clause-done : goal.returns-clause-done
@@ -12,7 +11,7 @@ returns-clause-done g c = λ is.
     let opens = c.in-Ok-open_from.ensures in
     let target = target_of c.in-Ok.opened in
     let ended = c.play_into-ended.result.ended in
-    let P = Plays (is_none c.args.lines) (turns_of target c.args.turns) None None in (
+    let P = Plays (when_changed c.args.lines c.args.folder) (turns_of target c.args.turns) None None in (
       target,
       c.in-Ok.ensures,
       subst (OnOpened P) (sym c.done.ensures.disk)
@@ -28,7 +27,7 @@ returns-clause-refused g c =
     let ended = c.play_into-ended.result.ended in
     refused-is _ ended.result c.done.result.result c.done.ensures.done c.done.ensures.refused
     (IfErr-one ended.result (λ r p.
-    let P = FailsPlaying target (is_none c.args.lines) c.args.turns r in
+    let P = FailsPlaying target (when_changed c.args.lines c.args.folder) c.args.turns r in
     inr (
       target,
       c.in-Ok.ensures,

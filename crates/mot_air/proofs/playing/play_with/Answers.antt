@@ -1,36 +1,93 @@
-use Rattle.std.proofs.Common.{sym, subst}
+use Rattle.std.proofs.Common.{inl, sym, subst}
 use Rattle.std.specs.Prelude.{IfErr, OnOk}
-use Rattle.mot_air.specs.Playing.{Plays, StopsPlaying, unopened}
+use Rattle.mot_air.specs.Playing.{Plays, PlaysBy, StopsBy, StopsPlaying, unopened}
 use Rattle.mot_air.proofs.Opened.{unopened_is}
-use Rattle.mot_air.proofs.Played.{plays, stops}
+use Rattle.mot_air.proofs.Played.{plays, plays_by, stops, stops_by}
 use Rattle.mot_feed.proofs.Laws.{grows_nil}
+use Rattle.mot_air.proofs.playing.play_with.Given as given
 use Rattle.mot_air.proofs.playing.play_with.Goals as goal
+use Rattle.mot_air.proofs.playing.play_with.Goals.{After-feed-result}
 
 pub returns-in-Err-clause-refused : goal.returns-in-Err-clause-refused
 returns-in-Err-clause-refused g c =
     let state = g.D.Disk.state in
     let opens = c.in-Err.ensures in
     let writes = g.O.Outlet.writes c.args.outlet.now in
-    subst (λ (e : _). IfErr e.result (λ r. StopsPlaying r g.U.Update.waits writes writes
+    subst (λ (e : _). IfErr e.result (λ r. StopsPlaying r g.U.Update.when writes writes
     (state c.args.disk) (state e.disk))) (sym c.unopened.ensures)
     (unopened (unopened_is _ (state c.args.disk) _ opens.refused opens.calm opens.only_syncs.still)
     (grows_nil writes))
 
+pub returns-in-Err-clause-called_before : goal.returns-in-Err-clause-called_before
+returns-in-Err-clause-called_before g c =
+    let state = g.D.Disk.state in
+    let opens = c.in-Err.ensures in
+    let writes = g.O.Outlet.writes c.args.outlet.now in
+    let moments = g.U.Update.moments c.args.update.now in
+    subst (λ (e : _). IfErr e.result (λ r. StopsBy r g.U.Update.when writes writes moments moments
+    (state c.args.disk) (state e.disk))) (sym c.unopened.ensures) (inl (
+      unopened_is _ (state c.args.disk) _ opens.refused opens.calm opens.only_syncs.still,
+      grows_nil moments,
+    ))
+
+-- the playing, with its calls
+by : (g : given.Over) (c : After-feed-result g) → OnOk c.feed-result.result
+    (PlaysBy g.U.Update.when c.args.turns (g.O.Outlet.writes c.args.outlet.now)
+    (g.O.Outlet.writes c.feed-result.new.outlet) (g.U.Update.moments c.args.update.now)
+    (g.U.Update.moments c.feed-result.new.update) (g.D.Disk.state c.args.disk)
+    (g.D.Disk.state c.feed-result.new.server.disk))
+by g c =
+    let opens = c.in-Ok.ensures in
+    let feeds = c.feed-result.ensures in
+    plays_by g.D.Disk.state c.args.disk c.in-Ok.server c.feed-result.new.server g.met.D.Disk.sound
+    opens.only_syncs opens.opened opens.calm opens.going opens.at_start c.geometry.ensures.valid
+    feeds.keeps feeds.continuous g.U.Update.when c.args.turns _ _ _ _ c.feed-result.result feeds.fed
+
+pub returns-clause-called : goal.returns-clause-called
+returns-clause-called g c =
+    let state = g.D.Disk.state in
+    let from = (goal.at.returns-clause-called g c).After-feed-result in
+    let old = g.O.Outlet.writes c.args.outlet.now in
+    let new = g.O.Outlet.writes c.feed-result.new.outlet in
+    let earlier = g.U.Update.moments c.args.update.now in
+    let later = g.U.Update.moments c.feed-result.new.update in
+    subst (λ d. OnOk c.feed-result.result (PlaysBy g.U.Update.when c.args.turns old new earlier later
+    (state c.args.disk) (state d))) (sym c.into_disk.ensures) (by g from)
+
 pub returns-clause-done : goal.returns-clause-done
 returns-clause-done g c =
+    let state = g.D.Disk.state in
+    let from = (goal.at.returns-clause-done g c).After-feed-result in
+    let opens = c.in-Ok.ensures in
+    let feeds = c.feed-result.ensures in
+    let result = c.feed-result.result in
+    let old = g.O.Outlet.writes c.args.outlet.now in
+    let new = g.O.Outlet.writes c.feed-result.new.outlet in
+    subst (λ d. OnOk result (Plays g.U.Update.when c.args.turns old new (state c.args.disk)
+    (state d)))
+    (sym c.into_disk.ensures)
+    (plays state c.args.disk c.in-Ok.server c.feed-result.new.server g.met.D.Disk.sound
+    opens.only_syncs
+    opens.opened opens.calm opens.going opens.at_start c.geometry.ensures.valid feeds.keeps
+    feeds.continuous g.U.Update.when c.args.turns old new _ _ result feeds.calm (by g from))
+
+pub returns-clause-called_before : goal.returns-clause-called_before
+returns-clause-called_before g c =
     let state = g.D.Disk.state in
     let opens = c.in-Ok.ensures in
     let feeds = c.feed-result.ensures in
     let result = c.feed-result.result in
     let old = g.O.Outlet.writes c.args.outlet.now in
     let new = g.O.Outlet.writes c.feed-result.new.outlet in
-    subst (λ d. OnOk result (Plays g.U.Update.waits c.args.turns old new (state c.args.disk)
-    (state d)))
+    let earlier = g.U.Update.moments c.args.update.now in
+    let later = g.U.Update.moments c.feed-result.new.update in
+    subst (λ d. IfErr result (λ r. StopsBy r g.U.Update.when old new earlier later
+    (state c.args.disk) (state d)))
     (sym c.into_disk.ensures)
-    (plays state c.args.disk c.in-Ok.server c.feed-result.new.server g.met.D.Disk.sound
+    (stops_by state c.args.disk c.in-Ok.server c.feed-result.new.server g.met.D.Disk.sound
     opens.only_syncs
     opens.opened opens.calm opens.going opens.at_start c.geometry.ensures.valid feeds.keeps
-    feeds.continuous g.U.Update.waits c.args.turns old new result feeds.calm feeds.fed)
+    feeds.continuous g.U.Update.when old new earlier later result feeds.part)
 
 pub returns-clause-refused : goal.returns-clause-refused
 returns-clause-refused g c =
@@ -41,9 +98,10 @@ returns-clause-refused g c =
     let old = g.O.Outlet.writes c.args.outlet.now in
     let new = g.O.Outlet.writes c.feed-result.new.outlet in
     subst (λ d. IfErr result
-    (λ r. StopsPlaying r g.U.Update.waits old new (state c.args.disk) (state d)))
+    (λ r. StopsPlaying r g.U.Update.when old new (state c.args.disk) (state d)))
     (sym c.into_disk.ensures)
     (stops state c.args.disk c.in-Ok.server c.feed-result.new.server g.met.D.Disk.sound
     opens.only_syncs
     opens.opened opens.calm opens.going opens.at_start c.geometry.ensures.valid feeds.keeps
-    feeds.continuous g.U.Update.waits old new result feeds.fault feeds.part)
+    feeds.continuous g.U.Update.when old new (g.U.Update.moments c.args.update.now)
+    (g.U.Update.moments c.feed-result.new.update) result feeds.fault feeds.part)

@@ -1,7 +1,10 @@
 use Rattle.std.proofs.Common.{◌≡◌, ◌⊎◌, inl, inr, subst}
-use Rattle.std.specs.Prelude.{IfErr, is_none}
+use Rattle.std.specs.Prelude.{IfErr}
 use Rattle.mot_air.specs.Program.{IsUnlined, IsUntold, IsUntyped, PlaysTo, StopsPlayingTo}
+use Rattle.mot_air.specs.Program.{when_changed}
+use Rattle.mot_air.specs.declared.playing.Followed.{Followed}
 use Rattle.mot_air.proofs.Begun.{IfErr-one, refused_untouched}
+use Rattle.mot_air.proofs.Played.{same_changed}
 use Rattle.mot_base.specs.declared.refusal.Refusal.TheVariants.{DeviceFault, WriteFault}
 use Rattle.mot_air.proofs.program.play.Goals as goal
 
@@ -11,7 +14,7 @@ returns-in-Err-clause-refused g c =
     let ended = c.unbegun.result in
     refused_untouched (g.W.Write.contents c.args.writer.now)
     (λ r. IsUntyped task.types r ⊎ IsUnlined task.lines r ⊎ (r ≡ DeviceFault) ⊎ (r ≡ WriteFault))
-    (λ r d. StopsPlayingTo task.packets.now (is_none task.lines) task.turns r d) c.args.start
+    (λ r d. StopsPlayingTo task.packets.now (when_changed task.lines task.folder) task.turns r d) c.args.start
     c.in-Err.unbegun.refusal ended.result ended.disk c.unbegun.ensures.result
     c.unbegun.ensures.disk (inl c.in-Err.ensures.refused)
 
@@ -21,7 +24,7 @@ returns-in-Err-line_folder-clause-refused g c =
     let ended = c.unbegun-in-Err-line_folder.result in
     refused_untouched (g.W.Write.contents c.args.writer.now)
     (λ r. IsUntyped task.types r ⊎ IsUnlined task.lines r ⊎ (r ≡ DeviceFault) ⊎ (r ≡ WriteFault))
-    (λ r d. StopsPlayingTo task.packets.now (is_none task.lines) task.turns r d) c.args.start
+    (λ r d. StopsPlayingTo task.packets.now (when_changed task.lines task.folder) task.turns r d) c.args.start
     c.in-Err-line_folder.unbegun.refusal ended.result ended.disk
     c.unbegun-in-Err-line_folder.ensures.result c.unbegun-in-Err-line_folder.ensures.disk
     (inr (inl c.in-Err-line_folder.ensures.refused))
@@ -29,8 +32,9 @@ returns-in-Err-line_folder-clause-refused g c =
 pub returns-clause-done : goal.returns-clause-done
 returns-clause-done g c = λ is.
     let task = c.args.task in
-    subst (λ waits. PlaysTo task.packets.now waits task.turns c.play_file.result.disk)
-    c.in-Ok-line_folder.ensures.given (c.play_file.ensures.done is)
+    subst (λ when. PlaysTo task.packets.now when task.turns c.play_file.result.disk)
+    (same_changed (λ (followed : Followed). followed.path) _ _ _ _
+    c.in-Ok-line_folder.ensures.given c.followed-folder.ensures) (c.play_file.ensures.done is)
 
 pub returns-clause-told : goal.returns-clause-told
 returns-clause-told g c = c.play_file.ensures.told
@@ -41,11 +45,12 @@ returns-clause-refused g c =
     let ended = c.play_file.result in
     let old = g.W.Write.contents c.args.writer.now in
     let new = g.W.Write.contents c.play_file.new.writer in
-    subst (λ waits. IfErr ended.result (λ r.
+    subst (λ when. IfErr ended.result (λ r.
     ((IsUntyped task.types r ⊎ IsUnlined task.lines r ⊎ (r ≡ DeviceFault) ⊎ (r ≡ WriteFault))
     × IsUntold ended.disk old new)
-    ⊎ StopsPlayingTo task.packets.now waits task.turns r ended.disk))
-    c.in-Ok-line_folder.ensures.given (IfErr-one ended.result (λ r why. elim why [
+    ⊎ StopsPlayingTo task.packets.now when task.turns r ended.disk))
+    (same_changed (λ (followed : Followed). followed.path) _ _ _ _
+    c.in-Ok-line_folder.ensures.given c.followed-folder.ensures) (IfErr-one ended.result (λ r why. elim why [
       | inl early ↦ inl (inr (inr early.0), early.1)
       | inr stops ↦ inr stops
     ]) c.play_file.ensures.refused)

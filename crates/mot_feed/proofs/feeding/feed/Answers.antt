@@ -1,4 +1,4 @@
-use Rattle.std.proofs.Common.{◌≡◌, ◌+◌, refl, arith, inl, inr}
+use Rattle.std.proofs.Common.{◌≡◌, ◌+◌, ◌∷◌, [], refl, arith, inl, inr}
 use Rattle.std.specs.Prelude.{if◌then◌else◌}
 use Rattle.mot_base.proofs.Laws.{same_error}
 use Rattle.disk_store.proofs.Laws.{keeps_none, keeps_on, unchanged_none}
@@ -19,18 +19,18 @@ loop-init g c =
     record {
       keeps = keeps_none state;
       calm = calm_here c.args.server.now state;
-      fed = λ s holds honest. fed_none c.args.server.now state s g.U.Update.waits c.args.turns
-          (g.O.Outlet.writes c.args.outlet.now)
+      fed = λ s holds honest. fed_none c.args.server.now state s g.U.Update.when c.args.turns
+          (g.O.Outlet.writes c.args.outlet.now) (g.U.Update.moments c.args.update.now)
           (g.met.D.Disk.sound c.args.server.now.disk honest) honest (unchanged_none state) holds;
     }
 
 pub returns-then-left-eq0-clause-fed : goal.returns-then-left-eq0-clause-fed
 returns-then-left-eq0-clause-fed g c = λ s holds honest.
-    fed_all (c.loop.invariant.fed s holds honest) (inl c.if-left-eq0.true)
+    fed_all (c.loop.invariant.fed s holds honest) refl (inl c.if-left-eq0.true)
 
 pub returns-clause-fed : goal.returns-clause-fed
 returns-clause-fed g c = λ s holds honest.
-    fed_all (c.loop.invariant.fed s holds honest)
+    fed_all (c.loop.invariant.fed s holds honest) refl
     (inr (let last = c.loop-test.false in let bound = c.loop.auto.counter-end in
     omega (arith, last, bound)))
 
@@ -42,7 +42,8 @@ returns-in_err-update-clause-part g c = λ s holds honest.
     let so_far = c.loop.invariant.fed s holds (one.keeps.was_honest honest) in
     let refusal = c.in_err-update.field-0.0 in
     rw (same_error c.from_residual.result refusal c.from_residual.ensures.1)
-    (update_fault so_far (one.run so_far.fed.leaves.last (so_far.fed.leaves.going refl) honest)
+    (update_fault so_far refl
+    (one.run so_far.fed.leaves.last (so_far.fed.leaves.going refl) honest) one.called
     (not_of_writing mid (state mid.disk) (state c.update.new.server.disk) refusal one.faults))
 
 pub returns-in_err-update-clause-fault : goal.returns-in_err-update-clause-fault
@@ -76,13 +77,15 @@ found : (g : given.Over) (c : After-send_one g) (s : Standing)
     → Holds c.args.server.now.view s (g.D.Disk.state c.args.server.now.disk)
     → (g.D.Disk.state c.update.new.server.disk).IsHonest
     → SoFar c.args.server.now c.update.new.server (g.D.Disk.state c.args.server.now.disk)
-    (g.D.Disk.state c.update.new.server.disk) s g.U.Update.waits c.args.turns c.loop.left
+    (g.D.Disk.state c.update.new.server.disk) s g.U.Update.when c.args.turns c.loop.left
     c.loop.between_turns c.loop.counter (g.O.Outlet.writes c.args.outlet.now)
-    (g.O.Outlet.writes c.loop.outlet)
+    (g.O.Outlet.writes c.loop.outlet) (g.U.Update.moments c.args.update.now)
+    (g.U.Update.moments c.update.new.self) (c.loop.between_turns ∷ [])
 found g c s holds honest =
     let one = c.in_ok-update.ensures in
     let so_far = c.loop.invariant.fed s holds (one.keeps.was_honest honest) in
-    updated so_far (one.run so_far.fed.leaves.last (so_far.fed.leaves.going refl) honest)
+    updated so_far refl (one.run so_far.fed.leaves.last (so_far.fed.leaves.going refl) honest)
+    one.called
 
 pub returns-in_err-between_turns-clause-part : goal.returns-in_err-between_turns-clause-part
 returns-in_err-between_turns-clause-part g c = λ s holds honest.
@@ -93,7 +96,7 @@ returns-in_err-between_turns-clause-part g c = λ s holds honest.
     c.from_residual-in_err-between_turns.ensures.1)
     (send_fault (found g from s holds then_honest) c.send_one.new.server
     (g.met.D.Disk.sound c.update.new.server.disk then_honest) two.view honest
-    (two.only_reads.unchanged honest) c.in_err-between_turns.field-0.0
+    (two.only_reads.unchanged honest) c.in_err-between_turns.field-0.0 refl
     (λ d held. two.sent d held honest))
 
 pub loop-preserved : goal.loop-preserved
@@ -125,8 +128,8 @@ loop-preserved g c =
       fed = λ s holds honest.
           let then_honest = two.only_reads.keeps.was_honest honest in
           sent_on (found g from s holds then_honest) new (g.met.D.Disk.sound up.disk then_honest)
-          two.view honest (two.only_reads.unchanged honest) c.if-left-eq0.false ends rest is_rest
-          (λ d held. two.sent d held honest);
+          two.view honest (two.only_reads.unchanged honest) refl c.if-left-eq0.false ends rest
+          is_rest (λ d held. two.sent d held honest);
     }
 
 pub returns-clause-continuous : goal.returns-clause-continuous

@@ -1,3 +1,4 @@
+use Rattle.std.proofs.Common.{[]}
 use Rattle.disk_store.specs.Disk.{KeepsLength}
 use Rattle.mot_feed.proofs.Fed.{SoFar}
 use Rattle.mot_journal.specs.Image.{Standing}
@@ -13,6 +14,7 @@ invariant-loop g l = record {
   fed : (s : Standing) → Holds l.initial.server.view s (g.D.Disk.state l.initial.server.disk)
       → (g.D.Disk.state l.server.disk).IsHonest
       → SoFar l.initial.server l.server (g.D.Disk.state l.initial.server.disk)
-      (g.D.Disk.state l.server.disk) s g.U.Update.waits l.turns l.left l.between_turns l.counter
-      (g.O.Outlet.writes l.initial.outlet) (g.O.Outlet.writes l.outlet);
+      (g.D.Disk.state l.server.disk) s g.U.Update.when l.turns l.left l.between_turns l.counter
+      (g.O.Outlet.writes l.initial.outlet) (g.O.Outlet.writes l.outlet)
+      (g.U.Update.moments l.initial.update) (g.U.Update.moments l.update) [];
 }
