@@ -87,8 +87,8 @@ module _ {S : Type 0} {start : Ghosts S} where
   -- In these the writer's known bytes were old and are new. Of what a pipe, a device or a file
   -- takes no contract tells.
 
-  -- the task was done; where no lines are given, no command came within a turn, and without a folder
-  -- none at all
+  -- the task was done; where no lines are given, no command came within a turn, and without a
+  -- folder none at all
   abbrev pub Does : Task → AirDisk S start → (old new : Option (List ℕ)) → Type 0
   Does (Play p) used old new =
       PlaysTo p.packets.now (when_changed p.lines p.folder) p.turns used

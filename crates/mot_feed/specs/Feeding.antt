@@ -117,8 +117,8 @@ pub record HasFed {D : Type 0} (old new : ServerView D) (start now : State) (s :
   pub happened : Happen s.geometry.objects s.geometry.segment_size s.carousel (place_in old s)
       events leaves.last.carousel (place_in new leaves.last)
 
--- In these, before and after are the writes of an outlet, and earlier and later the moments at which
--- an update was called: as far as they are known.
+-- In these, before and after are the writes of an outlet, and earlier and later the moments at
+-- which an update was called: as far as they are known.
 
 -- So many turns were fed; or else so many packets that their number fits no word of 64 bits. The
 -- update was called once in front of each packet, and nowhere else.
@@ -135,8 +135,8 @@ pub record Feeds {D : Type 0} (old new : ServerView D) (start now : State) (s : 
   pub ended : ((turns_in events ≡ turns) × (has_ended true events ≡ true))
       ⊎ (length packets ≡ 18446744073709551615)
 
--- What calls there are with these events, which this refusal ended: one in front of each packet, and
--- one more that no packet was made behind, unless it was a write that failed.
+-- What calls there are with these events, which this refusal ended: one in front of each packet,
+-- and one more that no packet was made behind, unless it was a write that failed.
 pub data CallsPart (refusal : Refusal) (events : List Event)
     (earlier later : Option (List Bool)) : Type 0 where
   unmade : refusal ≢ WriteFault

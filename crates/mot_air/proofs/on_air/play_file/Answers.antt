@@ -11,7 +11,8 @@ returns-clause-done g c = λ is.
     let opens = c.in-Ok-open_from.ensures in
     let target = target_of c.in-Ok.opened in
     let ended = c.play_into-ended.result.ended in
-    let P = Plays (when_changed c.args.lines c.args.folder) (turns_of target c.args.turns) None None in (
+    let when = when_changed c.args.lines c.args.folder in
+    let P = Plays when (turns_of target c.args.turns) None None in (
       target,
       c.in-Ok.ensures,
       subst (OnOpened P) (sym c.done.ensures.disk)

@@ -51,8 +51,8 @@ returns-clause-called g c =
     let new = g.O.Outlet.writes c.feed-result.new.outlet in
     let earlier = g.U.Update.moments c.args.update.now in
     let later = g.U.Update.moments c.feed-result.new.update in
-    subst (λ d. OnOk c.feed-result.result (PlaysBy g.U.Update.when c.args.turns old new earlier later
-    (state c.args.disk) (state d))) (sym c.into_disk.ensures) (by g from)
+    subst (λ d. OnOk c.feed-result.result (PlaysBy g.U.Update.when c.args.turns old new
+    earlier later (state c.args.disk) (state d))) (sym c.into_disk.ensures) (by g from)
 
 pub returns-clause-done : goal.returns-clause-done
 returns-clause-done g c =

@@ -14,8 +14,8 @@ returns-in-Err-clause-refused g c =
     let ended = c.unbegun.result in
     refused_untouched (g.W.Write.contents c.args.writer.now)
     (λ r. IsUntyped task.types r ⊎ IsUnlined task.lines r ⊎ (r ≡ DeviceFault) ⊎ (r ≡ WriteFault))
-    (λ r d. StopsPlayingTo task.packets.now (when_changed task.lines task.folder) task.turns r d) c.args.start
-    c.in-Err.unbegun.refusal ended.result ended.disk c.unbegun.ensures.result
+    (λ r d. StopsPlayingTo task.packets.now (when_changed task.lines task.folder) task.turns r d)
+    c.args.start c.in-Err.unbegun.refusal ended.result ended.disk c.unbegun.ensures.result
     c.unbegun.ensures.disk (inl c.in-Err.ensures.refused)
 
 pub returns-in-Err-line_folder-clause-refused : goal.returns-in-Err-line_folder-clause-refused
@@ -24,8 +24,8 @@ returns-in-Err-line_folder-clause-refused g c =
     let ended = c.unbegun-in-Err-line_folder.result in
     refused_untouched (g.W.Write.contents c.args.writer.now)
     (λ r. IsUntyped task.types r ⊎ IsUnlined task.lines r ⊎ (r ≡ DeviceFault) ⊎ (r ≡ WriteFault))
-    (λ r d. StopsPlayingTo task.packets.now (when_changed task.lines task.folder) task.turns r d) c.args.start
-    c.in-Err-line_folder.unbegun.refusal ended.result ended.disk
+    (λ r d. StopsPlayingTo task.packets.now (when_changed task.lines task.folder) task.turns r d)
+    c.args.start c.in-Err-line_folder.unbegun.refusal ended.result ended.disk
     c.unbegun-in-Err-line_folder.ensures.result c.unbegun-in-Err-line_folder.ensures.disk
     (inr (inl c.in-Err-line_folder.ensures.refused))
 
@@ -50,7 +50,8 @@ returns-clause-refused g c =
     × IsUntold ended.disk old new)
     ⊎ StopsPlayingTo task.packets.now when task.turns r ended.disk))
     (same_changed (λ (followed : Followed). followed.path) _ _ _ _
-    c.in-Ok-line_folder.ensures.given c.followed-folder.ensures) (IfErr-one ended.result (λ r why. elim why [
+    c.in-Ok-line_folder.ensures.given c.followed-folder.ensures)
+    (IfErr-one ended.result (λ r why. elim why [
       | inl early ↦ inl (inr (inr early.0), early.1)
       | inr stops ↦ inr stops
     ]) c.play_file.ensures.refused)
