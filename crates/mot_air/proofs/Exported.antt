@@ -1,7 +1,6 @@
 -- A carousel printed as lines, from the disk's opening on.
 use Rattle.std.proofs.Common.{◌≡◌, ◌<◌, ◌≤◌, ℕ, List, length, Option, Result, Ok, Err, inl, inr}
 use Rattle.std.specs.Prelude.{All, IfErr, IsFalse, OnOk}
-use Rattle.std.specs.Io.KnownBytes.{Appends}
 use Rattle.disk_store.specs.Disk.{IsHonestDisk, IsStill, State, OnlyReads, OnlySyncs}
 use Rattle.mot_air.specs.Exporting.{Exports, RebuildsByLines, StopsExporting, unprinted, unread}
 use Rattle.mot_air.specs.Inner.Printing.{IsPrintingFault}
@@ -14,7 +13,8 @@ use Rattle.mot_lines.proofs.Laws.{export_text-asks}
 use Rattle.mot_lines.specs.Export.{export_text}
 use Rattle.mot_repository.proofs.Laws.{rules_kept, standings-are_sound}
 use Rattle.mot_repository.specs.Opening.{IsOpened}
-use Rattle.mot_repository.specs.Repository.{Holds}
+use Rattle.mot_repository.specs.Repository.{Holds, IsOf}
+use Rattle.mot_session.specs.Output.{Writes}
 use Rattle.mot_server.specs.Server.{ServerView}
 use Rattle.mot_server.proofs.Laws.{still_unchanged}
 use Rattle.mot_update.proofs.Laws.{exports_are_taken}
@@ -43,19 +43,25 @@ module _ {D : Type 0} (state : D → State) (disk : D) (server new : ServerView 
       still_unchanged (state disk) (state server.disk) (state new.disk)
       (opens.still (reads.keeps.was_honest honest)) (reads.unchanged honest)
 
+  -- what the disk stood for is what the server holds
+  held : (s : Standing) → (state new.disk).IsHonest
+      → ((image : List ℕ) → (state disk).MayLeave image → IsOf s image)
+      → Holds server.view s (state server.disk)
+  held s honest all =
+      let was = reads.keeps.was_honest honest in
+      all_hold (state disk) (state server.disk) server.view s
+      (sound disk (opens.keeps.was_honest was)) all (opened was) was (sound server.disk was)
+      (opens.still was) going
+
   -- lines that print what an open server holds export the disk's carousel, from its opening on
   pub exports : (result : Result Unit Refusal)
       → ((s : Standing) → Holds server.view s (state server.disk) → (state new.disk).IsHonest
-      → OnOk result (Appends before after (export_text s.carousel)))
+      → Writes result (export_text s.carousel) before after)
       → OnOk result (Exports before after (state disk) (state new.disk))
   exports (Err refusal) written = tt
   exports (Ok done) written = record {
     still = still_all;
-    printed = λ s honest all.
-        let was = reads.keeps.was_honest honest in
-        written s (all_hold (state disk) (state server.disk) server.view s
-        (sound disk (opens.keeps.was_honest was)) all (opened was) was (sound server.disk was)
-        (opens.still was) going) honest;
+    printed = λ s honest all. written s (held s honest all) honest;
     rebuilds = λ s honest all.
         let first = sound disk (opens.keeps.was_honest (reads.keeps.was_honest honest)) in
         let bytes = (state disk).bytes in
@@ -65,10 +71,14 @@ module _ {D : Type 0} (state : D → State) (disk : D) (server new : ServerView 
 
   -- a fault of the printing stops the export, from the disk's opening on
   pub stops : (result : Result Unit Refusal)
+      → ((s : Standing) → Holds server.view s (state server.disk) → (state new.disk).IsHonest
+      → Writes result (export_text s.carousel) before after)
       → IfErr result (λ r. IsPrintingFault r (state server.disk).failures (state new.disk).failures)
       → IfErr result (λ r. StopsExporting r before after (state disk) (state new.disk))
-  stops (Ok done) why = tt
-  stops (Err refusal) (inl is) = unprinted is still_all
-  stops (Err refusal) (inr failed) = unread failed.0
+  stops (Ok done) written why = tt
+  stops (Err refusal) written (inl is) = unprinted is still_all
+      (λ s honest all. written s (held s honest all) honest)
+  stops (Err refusal) written (inr failed) = unread failed.0
       (rises_later (state disk).failures (state server.disk).failures (state new.disk).failures
       opens.keeps.later reads.keeps.later failed.1) still_all
+      (λ s honest all. written s (held s honest all) honest)

@@ -1,7 +1,9 @@
 -- The lines of a carousel, written one after the other.
 use Rattle.std.proofs.Common.{◌≡◌, ℕ, zero, suc, ◌+◌, ◌-◌, ◌/◌, ◌%◌, ◌<◌, ◌≤◌, List, [], ◌∷◌, ◌++◌}
 use Rattle.std.proofs.Common.{length, take, drop, get_or}
-use Rattle.std.proofs.Common.{Option, Some, map, refl, sym, ap, ◌∙◌, subst, arith, add-one, append-nil}
+use Rattle.std.proofs.Common.{Result, take-append-drop}
+use Rattle.std.proofs.Common.{Option, Some, map, refl, sym, ap, ◌∙◌, subst, arith, add-one}
+use Rattle.std.proofs.Common.{append-nil}
 use Rattle.std.specs.Prelude.{slice_get, slice_index, slice_range}
 use Rattle.std.specs.List.{flat_map}
 use Rattle.std.specs.Io.KnownBytes.{Appends}
@@ -10,6 +12,7 @@ use Rattle.std.proofs.Math.Seq.{take-add}
 use Rattle.std.proofs.lemmas.List.{take_all}
 use Rattle.std.proofs.lemmas.List.Concat.{flat_map-append}
 use Rattle.hex.specs.Hex.{encode_lower, encode_with, lower_digits}
+use Rattle.mot_base.specs.declared.refusal.Refusal.{Refusal}
 use Rattle.mot_carousel.specs.declared.object.Object as beside
 use Rattle.mot_carousel.specs.Carousel.{Object}
 use Rattle.mot_carousel.specs.Carousel as whole
@@ -18,6 +21,10 @@ use Rattle.mot_journal.specs.Image.{Standing}
 use Rattle.mot_lines.specs.Export.{front_words, put_line}
 use Rattle.mot_carousel.specs.Stands.{object_of, objects_of}
 use Rattle.mot_repository.specs.Repository.{Agrees, RepositoryView, object_body}
+use Rattle.mot_session.proofs.Laws.{Writes-after, WritesFront-after, WritesFront-all}
+use Rattle.mot_session.proofs.Laws.{WritesFront-before}
+use Rattle.mot_session.specs.Output.{Writes}
+use Rattle.mot_session.specs.Served.{WritesFront}
 
 digits-append : (t xs ys : List ℕ) → encode_with t (xs ++ ys) ≡ encode_with t xs ++ encode_with t ys
 unfolding encode_with
@@ -143,12 +150,90 @@ module _ (view : RepositoryView) (s : Standing) (agrees : Agrees view s) where
       ap length whole_is in
       take_all i objects (omega (arith, few, size, le))
 
+-- the digits of a body, cut
+pub digits-cut : (body : List ℕ) (n : ℕ)
+    → encode_lower body ≡ encode_lower (take n body) ++ encode_lower (drop n body)
+digits-cut body n = ap encode_lower (sym (take-append-drop n body))
+    ∙ digits-append lower_digits (take n body) (drop n body)
+
+-- the digits of a body up to a place, and some first of those of the next piece
+pub front-digits : (body piece : List ℕ) (from n : ℕ) (a b c : Option (List ℕ))
+    → piece ≡ slice_range body from (from + n)
+    → Appends a b (encode_lower (take from body)) → WritesFront (encode_lower piece) b c
+    → WritesFront (encode_lower body) a c
+front-digits body piece from n a b c is before front =
+    subst (λ l. WritesFront l a c)
+    (ap (λ l. l ++ encode_lower (drop (from + n) body)) (sym (digits-more body piece from n is))
+    ∙ sym (digits-cut body (from + n)))
+    (WritesFront-before (encode_lower (take from body) ++ encode_lower piece)
+    (encode_lower (drop (from + n) body)) a c
+    (WritesFront-after (encode_lower (take from body)) (encode_lower piece) a b c before front))
+
+-- the digits of a body up to a place
+pub front-piece : (body : List ℕ) (from : ℕ) (a b : Option (List ℕ))
+    → Appends a b (encode_lower (take from body)) → WritesFront (encode_lower body) a b
+front-piece body from a b before = subst (λ l. WritesFront l a b) (sym (digits-cut body from))
+    (WritesFront-before (encode_lower (take from body)) (encode_lower (drop from body)) a b
+    (WritesFront-all (encode_lower (take from body)) a b before))
+
 -- the words of an object, its body and an end make its line
-pub line_put : (a b c d : Option (List ℕ)) (o : Object)
-    → Appends a b (front_words o.name o.content o.mime) → Appends b c (encode_lower o.body)
-    → Appends c d (10 ∷ []) → Appends a d (put_line o)
-line_put a b c d o front body end =
-    let words = front_words o.name o.content o.mime in
-    let digits = encode_lower o.body in
-    Appends-trans a c d (words ++ digits) (10 ∷ [])
-    (Appends-trans a b c words digits front body) end
+module _ (o : Object) where
+  abbrev words : List ℕ
+  words = front_words o.name o.content o.mime
+
+  abbrev digits : List ℕ
+  digits = encode_lower o.body
+
+  front-words : (a b : Option (List ℕ)) → WritesFront words a b → WritesFront (put_line o) a b
+  front-words a b front = WritesFront-before (words ++ digits) (10 ∷ []) a b
+      (WritesFront-before words digits a b front)
+
+  front-body : (a b c : Option (List ℕ)) → Appends a b words → WritesFront digits b c
+      → WritesFront (put_line o) a c
+  front-body a b c before front = WritesFront-before (words ++ digits) (10 ∷ []) a c
+      (WritesFront-after words digits a b c before front)
+
+  line-end : (result : Result Unit Refusal) (a b c d : Option (List ℕ)) → Appends a b words
+      → Appends b c digits → Writes result (10 ∷ []) c d → Writes result (put_line o) a d
+  line-end result a b c d before body end = Writes-after result (words ++ digits) (10 ∷ []) a c d
+      (Appends-trans a b c words digits before body) end
+
+-- the same of an object that is this one
+module _ (x o : Object) (same : x ≡ o) where
+  -- some first bytes of the words
+  pub stops-in_words : (a b : Option (List ℕ)) (text items : List ℕ) → text ≡ items
+      → items ≡ words x → WritesFront text a b → WritesFront (put_line o) a b
+  stops-in_words a b text items of is front = subst (λ p. WritesFront (put_line p) a b) same
+      (front-words x a b (subst (λ l. WritesFront l a b) (of ∙ is) front))
+
+  -- the words, and some first digits
+  pub stops-in_body : (a b c : Option (List ℕ)) (text items : List ℕ) → text ≡ items
+      → items ≡ words x → Appends a b text → WritesFront (digits x) b c
+      → WritesFront (put_line o) a c
+  stops-in_body a b c text items of is before front = subst (λ p. WritesFront (put_line p) a c)
+      same (front-body x a b c (subst (Appends a b) (of ∙ is) before) front)
+
+  -- the words, the digits, and what came of the end
+  pub ends-line : (result : Result Unit Refusal) (a b c d : Option (List ℕ)) (text items : List ℕ)
+      → text ≡ items → items ≡ words x → Appends a b text → Appends b c (digits x)
+      → Writes result (10 ∷ []) c d → Writes result (put_line o) a d
+  ends-line result a b c d text items of is before body end =
+      subst (λ p. Writes result (put_line p) a d) same
+      (line-end x result a b c d (subst (Appends a b) (of ∙ is) before) body end)
+
+-- the lines up to a place, and some first bytes of the next one
+pub front-lines : (objects : List Object) (at : ℕ) (o : Object) (rest : List ℕ)
+    (a b c : Option (List ℕ)) → slice_get objects at ≡ Some o
+    → Appends a b (flat_map put_line (take at objects)) → WritesFront (put_line o) b c
+    → WritesFront (flat_map put_line objects ++ rest) a c
+front-lines objects at o rest a b c is before front =
+    let first = flat_map put_line (take at objects) in
+    let behind = flat_map put_line (drop (at + 1) objects) in
+    let whole : (first ++ put_line o) ++ behind ≡ flat_map put_line objects =
+    ap (λ l. l ++ behind) (sym (lines-more put_line objects at o is))
+    ∙ sym (flat_map-append put_line (take (at + 1) objects) (drop (at + 1) objects))
+    ∙ ap (flat_map put_line) (take-append-drop (at + 1) objects) in
+    WritesFront-before (flat_map put_line objects) rest a c
+    (subst (λ l. WritesFront l a c) whole
+    (WritesFront-before (first ++ put_line o) behind a c
+    (WritesFront-after first (put_line o) a b c before front)))

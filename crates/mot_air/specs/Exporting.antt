@@ -9,6 +9,7 @@ use Rattle.mot_base.specs.declared.refusal.Refusal.TheVariants.{DeviceFault, Wri
 use Rattle.mot_carousel.specs.Carousel.{Carousel}
 use Rattle.mot_carousel.specs.declared.command.Command.{Command}
 use Rattle.mot_lines.specs.Export.{AsksForJust, export_text}
+use Rattle.mot_session.specs.Served.{WritesFront}
 use Rattle.mot_update.specs.Export.{IsEmpty, Rebuilds}
 
 -- Each line of the text is a command, and these make of the first carousel, with room for so many
@@ -29,12 +30,19 @@ pub record Exports (old new : Option (List ℕ)) (start now : State) : Type 0 wh
       → length s.carousel.objects ≤ limit
       → RebuildsByLines first limit (export_text s.carousel) s.carousel) start now
 
--- why it could not be; the disk was only synced all the same
+-- some first bytes of the lines were printed
+abbrev pub PrintsFront : Option (List ℕ) → Option (List ℕ) → State → State → Type 0
+PrintsFront old new start now = OfStanding (λ s. WritesFront (export_text s.carousel) old new)
+    start now
+
+-- Why it could not be; the disk was only synced all the same. Where printing had begun, what was
+-- printed is a beginning of the lines.
 pub data StopsExporting (refusal : Refusal) (old new : Option (List ℕ)) (start now : State) :
     Type 0 where
   unopened : IsUnopened refusal start now → Keeps old new
       → StopsExporting refusal old new start now
   unread : refusal ≡ DeviceFault → Rises start.failures now.failures
-      → (now.IsHonest → IsStill start now) → StopsExporting refusal old new start now
-  unprinted : refusal ≡ WriteFault → (now.IsHonest → IsStill start now)
+      → (now.IsHonest → IsStill start now) → PrintsFront old new start now
       → StopsExporting refusal old new start now
+  unprinted : refusal ≡ WriteFault → (now.IsHonest → IsStill start now)
+      → PrintsFront old new start now → StopsExporting refusal old new start now

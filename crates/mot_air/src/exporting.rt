@@ -1,7 +1,6 @@
 //! A carousel as the lines that rebuild it.
 ghost use Rattle.std.specs.Prelude.{◌≡◌, ◌≤◌, ◌<◌, Some, length, vec_len, IfErr, IsFalse, OnOk};
 ghost use Rattle.std.specs.Prelude.{slice_get};
-ghost use Rattle.std.specs.Io.KnownBytes.{Appends};
 ghost use Rattle.disk_store.specs.Disk.{KeepsLength, OnlyReads};
 ghost use Rattle.hex.specs.Hex.{encode_lower};
 ghost use Rattle.mot_air.specs.Exporting.{Exports, StopsExporting};
@@ -9,15 +8,16 @@ ghost use Rattle.mot_air.specs.Inner.Printing.{IsPrintingFault};
 ghost use Rattle.mot_base.specs.declared.refusal.Refusal.TheVariants.{WriteFault};
 ghost use Rattle.mot_carousel.specs.Carousel as whole;
 ghost use Rattle.mot_journal.specs.Image.{Standing};
-ghost use Rattle.mot_lines.specs.Export.{content_words, export_text, front_words, mime_words};
-ghost use Rattle.mot_lines.specs.Export.{name_words, period_line, put_line};
+ghost use Rattle.mot_lines.specs.Export.{export_text, put_line};
 ghost use Rattle.mot_repository.specs.Repository.{Holds, object_body};
+ghost use Rattle.mot_session.specs.Output.{Writes};
 
 use crate::Ended;
 use disk_store::Disk;
 use mot_base::Refusal;
-use mot_carousel::{Content, Mime, Name, Object};
+use mot_lines::{period_text, put_text};
 use mot_server::Server;
+use mot_session::write_whole;
 use std::alloc::Global;
 use std::io::Write;
 
@@ -25,7 +25,7 @@ use std::io::Write;
 const PIECE: usize = 4_096;
 
 /// Opens the disk and writes its carousel as lines: a `put` line for each object, in order, and the
-/// `period` line where it is not 0.
+/// `period` line where it is not 0. What is refused in the middle has written a beginning of them.
 pub fn export_disk<D: Disk, W: Write>(alloc: Global, disk: D, writer: &mut W) -> Ended<D, ()>
     ensures keeps { KeepsLength (D.state disk) (D.state result.disk) }
     ensures done { OnOk result.result (Exports (W.contents writer.old) (W.contents writer.new)
@@ -44,36 +44,24 @@ pub fn export_disk<D: Disk, W: Write>(alloc: Global, disk: D, writer: &mut W) ->
     }
 }
 
-/// Writes the lines of an open server's carousel.
+/// Writes the lines of an open server's carousel; after a fault some first bytes of them.
 fn write_export<D: Disk, W: Write>(server: &mut Server<D>, writer: &mut W) -> Result<(), Refusal>
     requires { IsFalse server.old.view.halted }
     ensures only_reads { OnlyReads (D.state server.old.disk) (D.state server.new.disk) }
     ensures written { (s : Standing) → Holds server.old.view s (D.state server.old.disk)
-        → (D.state server.new.disk).IsHonest → OnOk result (Appends (W.contents writer.old)
-        (W.contents writer.new) (export_text s.carousel)) }
+        → (D.state server.new.disk).IsHonest
+        → Writes result (export_text s.carousel) (W.contents writer.old) (W.contents writer.new) }
     ensures fault { IfErr result (λ r. IsPrintingFault r (D.state server.old.disk).failures
         (D.state server.new.disk).failures) }
 {
     for place in 0..server.carousel().objects.len() {
         write_object(server, place, writer)?;
     }
-    write_period(writer, server.carousel().period.get())?;
+    write_bytes(writer, period_text(server.carousel().period).as_slice())?;
     match writer.flush() {
         Ok(()) => Ok(()),
         Err(_) => Err(Refusal::WriteFault),
     }
-}
-
-/// Writes the line that sets the period, where it is not 0.
-fn write_period<W: Write>(writer: &mut W, period: u32) -> Result<(), Refusal>
-    ensures written { OnOk result (Appends (W.contents writer.old) (W.contents writer.new)
-        (period_line period)) }
-    ensures fault { IfErr result (λ r. r ≡ WriteFault) }
-{
-    if period != 0 && writeln!(writer, "period {period}").is_err() {
-        return Err(Refusal::WriteFault);
-    }
-    Ok(())
 }
 
 /// Writes the line of the object at this place.
@@ -88,63 +76,17 @@ fn write_object<D: Disk, W: Write>(
     ensures view { server.new.view ≡ server.old.view }
     ensures written { (s : Standing) (o : whole.Object)
         → Holds server.old.view s (D.state server.old.disk) → (D.state server.new.disk).IsHonest
-        → slice_get s.carousel.objects place ≡ Some o → OnOk result
-        (Appends (W.contents writer.old) (W.contents writer.new) (put_line o)) }
+        → slice_get s.carousel.objects place ≡ Some o
+        → Writes result (put_line o) (W.contents writer.old) (W.contents writer.new) }
     ensures fault { IfErr result (λ r. IsPrintingFault r (D.state server.old.disk).failures
         (D.state server.new.disk).failures) }
 {
-    write_words(writer, &server.carousel().objects[place])?;
+    write_bytes(
+        writer,
+        put_text(&server.carousel().objects[place]).as_slice(),
+    )?;
     write_body(server, place, writer)?;
     write_bytes(writer, b"\n")
-}
-
-/// Writes the words before the body, and the space behind them.
-fn write_words<W: Write>(writer: &mut W, object: &Object) -> Result<(), Refusal>
-    ensures written { OnOk result (Appends (W.contents writer.old) (W.contents writer.new)
-        (front_words object.now.name object.now.content object.now.mime)) }
-    ensures fault { IfErr result (λ r. r ≡ WriteFault) }
-{
-    write_name(writer, &object.name)?;
-    write_content(writer, &object.content)?;
-    write_mime(writer, &object.mime)
-}
-
-/// Writes the first word and the name.
-fn write_name<W: Write>(writer: &mut W, name: &Name) -> Result<(), Refusal>
-    ensures written { OnOk result (Appends (W.contents writer.old) (W.contents writer.new)
-        (name_words name.now)) }
-    ensures fault { IfErr result (λ r. r ≡ WriteFault) }
-{
-    write_bytes(writer, b"put ")?;
-    write_bytes(writer, name.as_bytes())?;
-    write_bytes(writer, b" ")
-}
-
-/// Writes the content type and the subtype.
-fn write_content<W: Write>(writer: &mut W, content: &Content) -> Result<(), Refusal>
-    ensures written { OnOk result (Appends (W.contents writer.old) (W.contents writer.new)
-        (content_words content.now)) }
-    ensures fault { IfErr result (λ r. r ≡ WriteFault) }
-{
-    let content_type = content.content_type();
-    let subtype = content.subtype();
-    match write!(writer, "{content_type} {subtype} ") {
-        Ok(()) => Ok(()),
-        Err(_) => Err(Refusal::WriteFault),
-    }
-}
-
-/// Writes the MIME type.
-fn write_mime<W: Write>(writer: &mut W, mime: &Option<Mime>) -> Result<(), Refusal>
-    ensures written { OnOk result (Appends (W.contents writer.old) (W.contents writer.new)
-        (mime_words mime.now)) }
-    ensures fault { IfErr result (λ r. r ≡ WriteFault) }
-{
-    match mime {
-        Some(mime) => write_bytes(writer, mime.as_bytes())?,
-        None => write_bytes(writer, b"-")?,
-    }
-    write_bytes(writer, b" ")
 }
 
 /// Writes the body in small hexadecimal digits, a piece at a time.
@@ -158,8 +100,9 @@ fn write_body<D: Disk, W: Write>(
     ensures only_reads { OnlyReads (D.state server.old.disk) (D.state server.new.disk) }
     ensures view { server.new.view ≡ server.old.view }
     ensures written { (s : Standing) → Holds server.old.view s (D.state server.old.disk)
-        → (D.state server.new.disk).IsHonest → OnOk result (Appends (W.contents writer.old)
-        (W.contents writer.new) (encode_lower (object_body s.carousel.objects place))) }
+        → (D.state server.new.disk).IsHonest
+        → Writes result (encode_lower (object_body s.carousel.objects place))
+        (W.contents writer.old) (W.contents writer.new) }
     ensures fault { IfErr result (λ r. IsPrintingFault r (D.state server.old.disk).failures
         (D.state server.new.disk).failures) }
 {
@@ -179,8 +122,8 @@ fn write_body<D: Disk, W: Write>(
 /// Writes bytes in small hexadecimal digits.
 fn write_digits<W: Write>(writer: &mut W, bytes: &[u8]) -> Result<(), Refusal>
     requires { length bytes.now ≤ PIECE }
-    ensures written { OnOk result (Appends (W.contents writer.old) (W.contents writer.new)
-        (encode_lower bytes.now)) }
+    ensures written { Writes result (encode_lower bytes.now)
+        (W.contents writer.old) (W.contents writer.new) }
     ensures fault { IfErr result (λ r. r ≡ WriteFault) }
 {
     let mut digits = [0u8; 2 * PIECE];
@@ -192,14 +135,13 @@ fn write_digits<W: Write>(writer: &mut W, bytes: &[u8]) -> Result<(), Refusal>
     write_bytes(writer, &digits[..count])
 }
 
-/// Writes all of the bytes.
+/// Writes all of the bytes; after a fault some first of them were written.
 fn write_bytes<W: Write>(writer: &mut W, bytes: &[u8]) -> Result<(), Refusal>
-    ensures written { OnOk result
-        (Appends (W.contents writer.old) (W.contents writer.new) bytes.now) }
+    ensures written { Writes result bytes.now (W.contents writer.old) (W.contents writer.new) }
     ensures fault { IfErr result (λ r. r ≡ WriteFault) }
 {
-    match writer.write_all(bytes) {
-        Ok(()) => Ok(()),
-        Err(_) => Err(Refusal::WriteFault),
-    }
+    let Ok(()) = write_whole(writer, bytes) else {
+        return Err(Refusal::WriteFault);
+    };
+    Ok(())
 }

@@ -35,7 +35,7 @@ pub(crate) fn line_folder<'a>(
     ensures given { IfOk result (λ lines. is_none lines ≡ is_none path.entry) }
     ensures folder { IfOk result
         (λ lines. option_map (λ (lines : LineFolder). lines.path) lines ≡ path.entry) }
-    ensures every { IfOk result (λ lines. IfSome lines (λ l. l.every ≡ unwrap_or every 8)) }
+    ensures every { IfOk result (λ lines. IfSome lines (λ l. l.every ≡ unwrap_or every EVERY)) }
     ensures refused { IfErr result (λ unbegun. IsUnlined path.entry unbegun.refusal) }
 {
     let Some(path) = path else {

@@ -120,7 +120,7 @@ impl<'a, T: Files<File = File>, W: Write + Drop> Update for Looks<'a, T, W> {
         // It looks where a look is due, and else it only counts.
         ensures counts { is_due self.old.left between_turns ≡ false
             → (server.new ≡ server.old) × (self.new.left ≡ self.old.left - 1) }
-        ensures looks { is_due self.old.left between_turns ≡ true → self.new.left ≡ 1000 }
+        ensures looks { is_due self.old.left between_turns ≡ true → self.new.left ≡ PACKETS }
         ensures looked { is_due self.old.left between_turns ≡ true
             → (s : Standing) → Holds server.old.view s (D.state server.old.disk)
             → (D.state server.new.disk).IsHonest

@@ -14,5 +14,5 @@ pub use line_end::cut_at_line_end;
 pub use mot_groups::SegmentBytes;
 pub use text::{
     LINE_ROOM, PACKET_LINE_ROOM, PacketLine, TextLine, carousel_text, done_text, object_text,
-    refusal_text, set_packet_text,
+    period_text, put_text, refusal_text, set_packet_text,
 };

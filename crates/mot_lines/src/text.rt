@@ -1,8 +1,9 @@
-//! The lines of replies.
+//! The lines of replies, and of an export.
 ghost use Rattle.std.specs.Prelude.{◌≡◌, ℕ, ◌+◌, ◌*◌, ◌<◌, ◌≤◌, List, Option, ◌++◌, length};
 ghost use Rattle.std.specs.Prelude.{slice_index};
 ghost use Rattle.arrayvec.specs.ArrayVec.{array_vec_len};
 ghost use Rattle.hex.specs.Hex.{encode_lower, lower_digits};
+ghost use Rattle.mot_lines.specs.Export.{front_words, period_line};
 ghost use Rattle.mot_lines.specs.Listing.{numbers_line, mime_word};
 ghost use Rattle.mot_lines.specs.Listing.{object_line_beside};
 ghost use Rattle.mot_lines.specs.Text.{field, taken_words, done_line, played_line};
@@ -11,7 +12,7 @@ ghost use Rattle.mot_lines.specs.Text.{refusal_line};
 use arrayvec::ArrayVec;
 use itoa::Buffer;
 use mot_base::{Refusal, TransportId, array_append};
-use mot_carousel::{Carousel, Done, Mime, Object};
+use mot_carousel::{Carousel, Done, Mime, Object, Period};
 use mot_packets::{MAX_PACKET, Packet};
 
 /// Room for a line of a reply.
@@ -139,6 +140,35 @@ pub fn object_text(object: &Object) -> TextLine
     array_append(&mut text, b" ");
     append_mime(&mut text, &object.mime);
     array_append(&mut text, b"\n");
+    text
+}
+
+/// The words of the line that puts an object, up to its body.
+pub fn put_text(object: &Object) -> TextLine
+    ensures { result.items ≡ front_words object.now.name object.now.content object.now.mime }
+{
+    let mut text = TextLine::new();
+    array_append(&mut text, b"put ");
+    array_append(&mut text, object.name.as_bytes());
+    array_append(&mut text, b" ");
+    append_field(&mut text, u32::from(object.content.content_type()));
+    append_field(&mut text, u32::from(object.content.subtype()));
+    append_mime(&mut text, &object.mime);
+    array_append(&mut text, b" ");
+    text
+}
+
+/// The line that sets a period; none where it is 0.
+pub fn period_text(period: Period) -> TextLine
+    ensures { result.items ≡ period_line period }
+{
+    let mut buffer = Buffer::new();
+    let mut text = TextLine::new();
+    if period.get() != 0 {
+        array_append(&mut text, b"period ");
+        array_append(&mut text, buffer.format(period.get()).as_bytes());
+        array_append(&mut text, b"\n");
+    }
     text
 }
 

@@ -51,14 +51,14 @@ WritesFront-before bytes rest old new w = record {
 }
 
 -- writing goes on after bytes that were written
-pub Writes-after : {T : Type 0} (result : Result T WriteFault) (front bytes : List ℕ)
+pub Writes-after : {T E : Type 0} (result : Result T E) (front bytes : List ℕ)
     (old mid new : Option (List ℕ)) → Appends old mid front → Writes result bytes mid new
     → Writes result (front ++ bytes) old new
 Writes-after (Ok done) front bytes old mid new h w = Appends-trans old mid new front bytes h w
 Writes-after (Err fault) front bytes old mid new h w = WritesFront-after front bytes old mid new h w
 
 -- a flush keeps what was written, and may fail after all of it
-pub Writes-kept : {T : Type 0} (result : Result T WriteFault) (bytes : List ℕ)
+pub Writes-kept : {T E : Type 0} (result : Result T E) (bytes : List ℕ)
     (old mid new : Option (List ℕ)) → Appends old mid bytes → Keeps mid new
     → Writes result bytes old new
 Writes-kept (Ok done) bytes old mid new h k = Appends-kept old mid new bytes h k

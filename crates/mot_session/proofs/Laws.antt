@@ -1,7 +1,12 @@
--- What holds of every raw reply; and, for the crates above, of answers on every disk.
+-- What holds of every raw reply; and, for the crates above, of answers on every disk, and of some
+-- first bytes that were written.
 
 -- what a command is answered, and a line that was parsed, told of what is kept in memory
 pub use Rattle.mot_session.proofs.Anyhow.{anyhow-accepted, anyhow-refused, answers-parsed}
+
+-- some first bytes that were written
+pub use Rattle.mot_session.proofs.Fronts.{WritesFront-after, WritesFront-all, WritesFront-before}
+pub use Rattle.mot_session.proofs.Fronts.{Writes-after, Writes-kept}
 use Rattle.std.proofs.Common.{◌≡◌, ℕ, ◌-◌, ◌<◌, ◌≤◌, List, [], ◌∷◌, length, Some, sym}
 use Rattle.std.proofs.Common.{ap, subst, inl, inr, arith}
 use Rattle.mot_base.specs.Geometry.{packet_room}

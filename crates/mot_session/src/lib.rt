@@ -10,4 +10,5 @@ pub use mot_base::Geometry;
 pub use mot_lines::{Description, Line, SegmentBytes, parse_line};
 pub use serving::{
     MAX_READS, READ_SIZE, ServeEnd, WriteFault, answer_reading, serve, serve_line, write_listing,
+    write_whole,
 };

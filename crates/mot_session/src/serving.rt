@@ -23,7 +23,7 @@ pub use listing::write_listing;
 use mot_base::Refusal;
 use mot_lines::{Hand, cut_at_line_end, parse_line};
 use mot_server::Server;
-pub use output::WriteFault;
+pub use output::{WriteFault, write_whole};
 pub use reading::answer_reading;
 use reply::respond;
 use std::alloc::Global;

@@ -20,7 +20,7 @@ impl From<WriteFault> for Refusal {
 }
 
 /// Writes all of the bytes; after a fault some first of them were written.
-pub(super) fn write_whole<W: Write>(writer: &mut W, bytes: &[u8]) -> Result<(), WriteFault>
+pub fn write_whole<W: Write>(writer: &mut W, bytes: &[u8]) -> Result<(), WriteFault>
     ensures { Writes result bytes.now (W.contents writer.old) (W.contents writer.new) }
 {
     let mut at = 0;

@@ -4,7 +4,8 @@ use Rattle.std.specs.Io.KnownBytes.{Appends}
 use Rattle.std.proofs.KnownBytes.{Appends-nil, Appends-trans}
 use Rattle.std.proofs.lemmas.List.{take_all}
 use Rattle.hex.specs.Hex.{encode_lower}
-use Rattle.mot_air.proofs.Printed.{digits-more, digits-none}
+use Rattle.std.proofs.lemmas.Result.{err_from_is_err_and}
+use Rattle.mot_air.proofs.Printed.{digits-more, digits-none, front-digits, front-piece}
 use Rattle.mot_repository.specs.Repository.{object_body}
 use Rattle.disk_store.proofs.Laws.{reads_none, reads_on}
 use Rattle.mot_server.proofs.Laws.{holds_still}
@@ -62,3 +63,35 @@ returns-clause-written g c = λ s holds honest.
     subst (λ l. Appends (g.W.Write.contents c.args.writer.now)
     (g.W.Write.contents c.loop-from.writer)
     (encode_lower l)) whole (c.loop-from.invariant.written s holds honest)
+
+pub returns-in_err-read_body-clause-written : goal.returns-in_err-read_body-clause-written
+returns-in_err-read_body-clause-written g c = λ s holds honest.
+    let p = err_from_is_err_and c.from_residual.result c.from_residual.ensures.1 in
+    let was = c.in_err-read_body.ensures.only_reads.keeps.was_honest honest in
+    rw p.1 (front-piece (object_body s.carousel.objects c.args.place) c.loop-from.from
+    (g.W.Write.contents c.args.writer.now) (g.W.Write.contents c.loop-from.writer)
+    (c.loop-from.invariant.written s holds was))
+
+pub returns-in_err-write_digits-clause-written : goal.returns-in_err-write_digits-clause-written
+returns-in_err-write_digits-clause-written g c = λ s holds honest.
+    let p = err_from_is_err_and c.from_residual-in_err-write_digits.result
+    c.from_residual-in_err-write_digits.ensures.1 in
+    let state = g.D.Disk.state in
+    let old = c.args.server.now in
+    let mid = c.loop-from.server in
+    let is = c.loop-from.invariant in
+    let one = c.in_ok-read_body.ensures in
+    let was = one.only_reads.keeps.was_honest honest in
+    let held = holds_still old.view mid.view s (state old.disk) (state mid.disk) holds was
+    (is.reads.unchanged was) is.view in
+    let body = object_body s.carousel.objects c.args.place in
+    let min = c.min-count.ensures in
+    let long = c.min-count.array_long in
+    let size = length-take c.min-count.result c.loop-from.piece in
+    let count : length (take c.min-count.result c.loop-from.piece) ≡ c.min-count.result =
+    omega (arith, size, long, min) in
+    rw p.1 (front-digits body c.read_body.new.out c.loop-from.from c.min-count.result
+    (g.W.Write.contents c.args.writer.now) (g.W.Write.contents c.loop-from.writer)
+    (g.W.Write.contents c.write_digits.new.writer)
+    (subst (λ n. c.read_body.new.out ≡ slice_range body c.loop-from.from (c.loop-from.from + n))
+    count (one.bytes s held honest)) (is.written s holds was) c.in_err-write_digits.ensures.written)

@@ -1,12 +1,41 @@
 use Rattle.std.proofs.Common.{◌<◌, subst}
-use Rattle.std.specs.Io.KnownBytes.{Appends}
-use Rattle.std.proofs.lemmas.Result.{on_ok_weaker}
-use Rattle.mot_air.proofs.Printed.{kept_at, line_put, object_is}
-use Rattle.mot_lines.specs.Export.{put_line}
-use Rattle.mot_carousel.specs.Carousel.{Object}
+use Rattle.std.proofs.lemmas.Result.{err_from_is_err_and}
+use Rattle.mot_air.proofs.Printed.{ends-line, kept_at, object_is, stops-in_body, stops-in_words}
 use Rattle.mot_carousel.specs.Stands.{object_of}
 use Rattle.mot_repository.specs.Repository.{object_body}
 use Rattle.mot_air.proofs.exporting.write_object.Goals as goal
+
+pub returns-in_err-write_bytes-clause-written : goal.returns-in_err-write_bytes-clause-written
+returns-in_err-write_bytes-clause-written g c = λ s o holds honest at.
+    let p = err_from_is_err_and c.from_residual.result c.from_residual.ensures.1 in
+    let known = g.W.Write.contents in
+    let view = c.args.server.now.view in
+    let x = c.index.result.now in
+    let is = kept_at c.carousel.result.now view.carousel c.args.place x c.index.ensures
+    c.carousel.ensures.value in
+    let within = subst (λ n. c.args.place < n) view.carousel.objects.ok.0 c.requires.place in
+    let same = object_is view s holds.agrees c.args.place x o within is at in
+    rw p.1 (stops-in_words (object_of x (object_body s.carousel.objects c.args.place)) o same
+    (known c.args.writer.now) (known c.write_bytes.new.writer) c.as_slice.result.now
+    c.put_text.result.items c.as_slice.ensures.value c.put_text.ensures
+    c.in_err-write_bytes.ensures.written)
+
+pub returns-in_err-write_body-clause-written : goal.returns-in_err-write_body-clause-written
+returns-in_err-write_body-clause-written g c = λ s o holds honest at.
+    let p = err_from_is_err_and c.from_residual-in_err-write_body.result
+    c.from_residual-in_err-write_body.ensures.1 in
+    let known = g.W.Write.contents in
+    let view = c.args.server.now.view in
+    let x = c.index.result.now in
+    let is = kept_at c.carousel.result.now view.carousel c.args.place x c.index.ensures
+    c.carousel.ensures.value in
+    let within = subst (λ n. c.args.place < n) view.carousel.objects.ok.0 c.requires.place in
+    let same = object_is view s holds.agrees c.args.place x o within is at in
+    rw p.1 (stops-in_body (object_of x (object_body s.carousel.objects c.args.place)) o same
+    (known c.args.writer.now) (known c.write_bytes.new.writer) (known c.write_body.new.writer)
+    c.as_slice.result.now c.put_text.result.items c.as_slice.ensures.value c.put_text.ensures
+    c.in_ok-write_bytes.ensures.written
+    (c.in_err-write_body.ensures.written s holds honest))
 
 pub returns-clause-written : goal.returns-clause-written
 returns-clause-written g c = λ s o holds honest at.
@@ -17,10 +46,9 @@ returns-clause-written g c = λ s o holds honest at.
     c.carousel.ensures.value in
     let within = subst (λ n. c.args.place < n) view.carousel.objects.ok.0 c.requires.place in
     let same = object_is view s holds.agrees c.args.place x o within is at in
-    on_ok_weaker c.write_bytes.result (λ end.
-    subst (λ (p : Object). Appends (known c.args.writer.now) (known c.write_bytes.new.writer)
-    (put_line p)) same (line_put (known c.args.writer.now) (known c.write_words.new.writer)
-    (known c.write_body.new.writer) (known c.write_bytes.new.writer)
-    (object_of x (object_body s.carousel.objects c.args.place))
-    c.in_ok-write_words.ensures.written (c.in_ok-write_body.ensures.written s holds honest) end))
-    c.write_bytes.ensures.written
+    ends-line (object_of x (object_body s.carousel.objects c.args.place)) o same
+    c.write_bytes-2.result (known c.args.writer.now) (known c.write_bytes.new.writer)
+    (known c.write_body.new.writer) (known c.write_bytes-2.new.writer) c.as_slice.result.now
+    c.put_text.result.items c.as_slice.ensures.value c.put_text.ensures
+    c.in_ok-write_bytes.ensures.written (c.in_ok-write_body.ensures.written s holds honest)
+    c.write_bytes-2.ensures.written
