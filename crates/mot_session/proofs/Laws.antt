@@ -3,7 +3,6 @@
 
 -- what a command is answered, and a line that was parsed, told of what is kept in memory
 pub use Rattle.mot_session.proofs.Anyhow.{anyhow-accepted, anyhow-refused, answers-parsed}
-
 -- some first bytes that were written
 pub use Rattle.mot_session.proofs.Fronts.{WritesFront-after, WritesFront-all, WritesFront-before}
 pub use Rattle.mot_session.proofs.Fronts.{Writes-after, Writes-kept}
