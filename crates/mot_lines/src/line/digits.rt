@@ -29,7 +29,7 @@ const WORTH: [u16; 256] = [
 const NO_DIGIT: u16 = 0x100;
 
 /// The bytes that a word writes in pairs of hex digits, or `BadBody`; or `OutOfMemory`. A table
-/// of digits takes half of the time that `hex::decode` takes, which most commands wait for.
+/// takes half of the instructions of `hex::decode`, which were close to half of a command's.
 pub(super) fn decode(alloc: Global, word: &[u8]) -> Result<Vec<u8>, Refusal>
     ensures read { IfOk result (λ bytes. decode_of word.now ≡ Ok bytes.items) }
     ensures refused { IfErr result (λ refusal.
