@@ -1,6 +1,6 @@
 -- A file as a disk.
 use Rattle.std.specs.Prelude.{List, IsTrue, IsFalse}
-use Rattle.disk_store.specs.Disk.{State}
+use Rattle.disk_model.specs.Disk.{State}
 use Rattle.disk_store.specs.Content.{Content, replayed_state}
 use Rattle.disk_store.specs.Calls.{Call, after_call, content_after, no_content, AreRight}
 use Rattle.disk_store.specs.declared.file.start.Start.{Ghosts}

@@ -2,7 +2,7 @@
 use Rattle.std.specs.Prelude.{◌≡◌, ℕ, ◌≤◌, length, take}
 use Rattle.std.proofs.Common.{refl, arith, ap, sym, subst}
 use Rattle.std.proofs.lemmas.List.{take_all}
-use Rattle.disk_store.specs.Disk.{IsHonestDisk}
+use Rattle.disk_model.specs.Disk.{IsHonestDisk}
 use Rattle.disk_store.specs.Content.{IsImageOf}
 use Rattle.disk_store.specs.Calls.{content_after}
 use Rattle.disk_store.specs.File.{calls_on, file_content, file_state}

@@ -1,5 +1,5 @@
 -- A disk in memory none of whose calls is made to fail.
-use Rattle.disk_store.specs.Disk.{State}
+use Rattle.disk_model.specs.Disk.{State}
 use Rattle.disk_store.specs.Memory.{memory_state}
 use Rattle.disk_store.specs.declared.memory.ram.RamDisk.{RamDisk}
 

@@ -4,7 +4,7 @@ use Rattle.std.proofs.Common.{Err, sym, subst}
 use Rattle.std.proofs.KnownBytes.{Keeps-refl}
 use Rattle.std.specs.Prelude.{IfErr, IfOk, OnOk}
 use Rattle.disk_store.specs.Calls.{opening_calls}
-use Rattle.disk_store.specs.Disk.{IsNew, State}
+use Rattle.disk_model.specs.Disk.{IsNew, State}
 use Rattle.disk_store.specs.File.{calls_on, file_state}
 use Rattle.disk_store.specs.declared.file.FileDiskFrom.{FileDiskFrom}
 use Rattle.disk_store.specs.declared.file.start.Start.{Ghosts}

@@ -1,7 +1,7 @@
 -- A carousel printed as lines, from the disk's opening on.
 use Rattle.std.proofs.Common.{◌≡◌, ◌<◌, ◌≤◌, ℕ, List, length, Option, Result, Ok, Err, inl, inr}
 use Rattle.std.specs.Prelude.{All, IfErr, IsFalse, OnOk}
-use Rattle.disk_store.specs.Disk.{IsHonestDisk, IsStill, State, OnlyReads, OnlySyncs}
+use Rattle.disk_model.specs.Disk.{IsHonestDisk, IsStill, State, OnlyReads, OnlySyncs}
 use Rattle.mot_air.specs.Exporting.{Exports, RebuildsByLines, StopsExporting, unprinted, unread}
 use Rattle.mot_air.specs.Inner.Printing.{IsPrintingFault}
 use Rattle.mot_air.proofs.Opened.{all_hold, rises_later}

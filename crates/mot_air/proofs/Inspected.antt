@@ -5,7 +5,7 @@ use Rattle.std.proofs.lemmas.List.Sums.{sum_by-append}
 use Rattle.std.specs.Prelude.{IfErr, IsFalse, OnOk}
 use Rattle.std.specs.List.{fold, sum_by}
 use Rattle.std.specs.Io.KnownBytes.{Appends}
-use Rattle.disk_store.specs.Disk.{IsHonestDisk, IsStill, State, OnlyReads, OnlySyncs}
+use Rattle.disk_model.specs.Disk.{IsHonestDisk, IsStill, State, OnlyReads, OnlySyncs}
 use Rattle.mot_air.specs.Inspecting.{Inspects, StopsInspecting, bytes_of_all, bytes_of_bodies}
 use Rattle.mot_air.specs.Inspecting.{inspection_text, rates_text, sizes_text, turn_text, use_text}
 use Rattle.mot_air.specs.Inspecting.{uncounted, unprinted, unread}

@@ -5,10 +5,10 @@ use Rattle.std.proofs.Common.{◌≤◌, arith, sym, subst}
 use Rattle.std.specs.Prelude.{IsFalse}
 use Rattle.std.proofs.Math.Logic.{⊎_elim}
 use Rattle.std.proofs.Math.Nat.{eq-or-lt_of_le}
-use Rattle.disk_store.specs.Disk.{IsHonestDisk, IsStill, State}
-use Rattle.disk_store.specs.Failures.{Rises}
-use Rattle.disk_store.specs.Disk.{Throughout}
-use Rattle.disk_store.proofs.Laws.{begins, joins, stays}
+use Rattle.disk_model.specs.Disk.{IsHonestDisk, IsStill, State}
+use Rattle.disk_model.specs.Failures.{Rises}
+use Rattle.disk_model.specs.Disk.{Throughout}
+use Rattle.disk_model.proofs.Laws.{begins, joins, stays}
 use Rattle.mot_air.specs.Opening.{IsBreak, IsUnopened, Leaves}
 use Rattle.mot_air.specs.Opening as opening
 use Rattle.mot_base.specs.declared.refusal.Refusal.{Refusal}

@@ -3,7 +3,7 @@ use Rattle.std.proofs.Common.{◌≡◌, ◌∙◌, ◌<◌, ap, arith, ℕ, Boo
 use Rattle.std.proofs.Common.{Result, Ok, Err, inr, refl, subst}
 use Rattle.std.specs.Prelude.{IsFalse, OnOk, IfErr, is_none, option_map}
 use Rattle.std.proofs.lemmas.Bool.Decides.{nat_tests}
-use Rattle.disk_store.specs.Disk.{State, IsHonestDisk, KeepsLength, OnlySyncs}
+use Rattle.disk_model.specs.Disk.{State, IsHonestDisk, KeepsLength, OnlySyncs}
 use Rattle.mot_air.specs.Opening.{OfStanding}
 use Rattle.mot_air.specs.Playing.{HasAired, Plays, PlaysBy, StopsBy, StopsPlaying, WritesPart}
 use Rattle.mot_air.specs.Playing.{first_place, stopped, when_followed}
@@ -13,7 +13,8 @@ use Rattle.mot_base.specs.Geometry.{packet_room}
 use Rattle.mot_base.specs.declared.geometry.Geometry.{Geometry}
 use Rattle.mot_base.specs.declared.refusal.Refusal.{Refusal}
 use Rattle.mot_feed.specs.Feeding.{AreOf, AreTimely, CallsPart, Event, FedPacketsAreContinuous}
-use Rattle.mot_feed.specs.Feeding.{Feeds, FeedsPart, Happen, HasFed, IsFeedFault, When}
+use Rattle.mot_feed.specs.Feeding.{Feeds, FeedsPart, Happen, HasFed, IsFeedFault}
+use Rattle.mot_update.specs.Between.{When}
 use Rattle.mot_base.specs.Geometry.{is_valid}
 use Rattle.mot_journal.specs.Image.{Standing}
 use Rattle.mot_player.specs.Place.{Place}

@@ -1,8 +1,8 @@
 -- A carousel printed as the lines that rebuild it.
 use Rattle.std.specs.Prelude.{◌≡◌, ℕ, ◌≤◌, List, length, Option}
 use Rattle.std.specs.Io.KnownBytes.{Appends, Keeps}
-use Rattle.disk_store.specs.Disk.{State, IsStill}
-use Rattle.disk_store.specs.Failures.{Rises}
+use Rattle.disk_model.specs.Disk.{State, IsStill}
+use Rattle.disk_model.specs.Failures.{Rises}
 use Rattle.mot_air.specs.Opening.{IsUnopened, OfStanding}
 use Rattle.mot_base.specs.declared.refusal.Refusal.{Refusal}
 use Rattle.mot_base.specs.declared.refusal.Refusal.TheVariants.{DeviceFault, WriteFault}

@@ -4,8 +4,8 @@ use Rattle.std.specs.Prelude.{Option, Ok, codes}
 use Rattle.std.specs.Fmt.{decimal}
 use Rattle.std.specs.List.{sum_by}
 use Rattle.std.specs.Io.KnownBytes.{Appends, Keeps}
-use Rattle.disk_store.specs.Disk.{State, IsStill}
-use Rattle.disk_store.specs.Failures.{Rises}
+use Rattle.disk_model.specs.Disk.{State, IsStill}
+use Rattle.disk_model.specs.Failures.{Rises}
 use Rattle.mot_air.specs.Opening.{IsUnopened, OfStanding}
 use Rattle.mot_air.specs.Playing.{first_place}
 use Rattle.mot_base.specs.declared.geometry.Geometry.{Geometry}

@@ -1,7 +1,7 @@
 -- A command on the server of a disk that it opens.
 use Rattle.std.specs.Prelude.{◌≡◌, ◌≢◌, ℕ, List, [], ◌++◌, Bool, Option}
-use Rattle.disk_store.specs.Disk.{State, IsStill, Throughout}
-use Rattle.disk_store.specs.Failures.{Rises}
+use Rattle.disk_model.specs.Disk.{State, IsStill, Throughout}
+use Rattle.disk_model.specs.Failures.{Rises}
 use Rattle.mot_base.specs.declared.refusal.Refusal.{Refusal}
 use Rattle.mot_base.specs.declared.refusal.Refusal.TheVariants.{DeviceFault, OutOfMemory}
 use Rattle.mot_base.specs.declared.refusal.Refusal.TheVariants.{WriteFault}

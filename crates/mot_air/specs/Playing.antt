@@ -1,19 +1,20 @@
 -- What playing a disk writes, and what it leaves of the disk.
 use Rattle.std.specs.Prelude.{◌≡◌, ◌⊎◌, ℕ, Bool, true, List, [], length, Option, Some, None}
-use Rattle.disk_store.specs.Disk.{State}
+use Rattle.disk_model.specs.Disk.{State}
 use Rattle.mot_base.specs.Geometry.{packet_room}
 use Rattle.mot_base.specs.declared.refusal.Refusal.{Refusal}
 use Rattle.mot_carousel.specs.Carousel.{Carousel}
 use Rattle.mot_carousel.specs.declared.command.Command.{Command}
 use Rattle.mot_air.specs.Opening.{IsBreak, IsUnopened, Leaves, OfStanding}
-use Rattle.mot_feed.specs.Feeding.{AreOf, AreTimely, BetweenTurns, CallsPart, Event, Happen}
-use Rattle.mot_feed.specs.Feeding.{Never, When, commands_among, has_ended, moments_of, turns_in}
-use Rattle.mot_feed.specs.Writing.{Grows, GrowsPart}
+use Rattle.mot_feed.specs.Feeding.{AreOf, AreTimely, CallsPart, Event, Happen}
+use Rattle.mot_feed.specs.Feeding.{commands_among, has_ended, moments_of, turns_in}
+use Rattle.mot_feed.specs.Writing.{GrowsPart}
 use Rattle.mot_journal.specs.Image.{Standing}
 use Rattle.mot_player.specs.Continuity.{IsContinuous}
 use Rattle.mot_player.specs.Place.{Place, opened_place}
 use Rattle.mot_player.specs.Turn.{turn_of_carousel}
 use Rattle.mot_server.specs.Runs.{accepted_commands}
+use Rattle.mot_update.specs.Between.{BetweenTurns, Grows, Never, When}
 
 -- when a folder, where there is one, may change the carousel that is played
 abbrev pub when_followed : {F : Type 0} → (folder : Option F) → When

@@ -4,7 +4,7 @@ use Rattle.std.specs.Prelude.{codes}
 use Rattle.std.specs.Io.KnownBytes.{Keeps}
 use Rattle.clap.specs.Words.{Text}
 use Rattle.disk_store.specs.Calls.{opening_calls}
-use Rattle.disk_store.specs.Disk.{IsNew, State}
+use Rattle.disk_model.specs.Disk.{IsNew, State}
 use Rattle.disk_store.specs.File.{calls_on, file_state}
 use Rattle.disk_store.specs.declared.file.FileDiskFrom.{FileDiskFrom}
 use Rattle.disk_store.specs.declared.file.start.Start.{Ghosts}
@@ -23,7 +23,7 @@ use Rattle.mot_base.specs.declared.refusal.Refusal.{Refusal}
 use Rattle.mot_base.specs.declared.refusal.Refusal.TheVariants.{BadNumber, DeviceFault}
 use Rattle.mot_base.specs.declared.refusal.Refusal.TheVariants.{OutOfMemory, ReadFault}
 use Rattle.mot_base.specs.declared.refusal.Refusal.TheVariants.{WriteFault}
-use Rattle.mot_feed.specs.Feeding.{Always, When}
+use Rattle.mot_update.specs.Between.{Always, When}
 use Rattle.mot_folder.specs.Types.{IsTypesRefusal}
 
 -- how many turns are played, where so many are asked for; and else sixteen into a file, behind

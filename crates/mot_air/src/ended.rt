@@ -1,7 +1,7 @@
 //! How a command on a disk ends.
 ghost use Rattle.std.specs.Prelude.{◌≡◌, Err};
 
-use disk_store::Disk;
+use disk_model::Disk;
 use mot_base::Refusal;
 use mot_server::Refused;
 

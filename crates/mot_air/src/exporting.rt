@@ -1,7 +1,7 @@
 //! A carousel as the lines that rebuild it.
 ghost use Rattle.std.specs.Prelude.{◌≡◌, ◌≤◌, ◌<◌, Some, length, vec_len, IfErr, IsFalse, OnOk};
 ghost use Rattle.std.specs.Prelude.{slice_get};
-ghost use Rattle.disk_store.specs.Disk.{KeepsLength, OnlyReads};
+ghost use Rattle.disk_model.specs.Disk.{KeepsLength, OnlyReads};
 ghost use Rattle.hex.specs.Hex.{encode_lower};
 ghost use Rattle.mot_air.specs.Exporting.{Exports, StopsExporting};
 ghost use Rattle.mot_air.specs.Inner.Printing.{IsPrintingFault};
@@ -13,7 +13,7 @@ ghost use Rattle.mot_repository.specs.Repository.{Holds, object_body};
 ghost use Rattle.mot_session.specs.Output.{Writes};
 
 use crate::Ended;
-use disk_store::Disk;
+use disk_model::Disk;
 use mot_base::Refusal;
 use mot_lines::{period_text, put_text};
 use mot_server::Server;

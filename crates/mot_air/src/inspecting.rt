@@ -2,7 +2,7 @@
 ghost use Rattle.std.specs.Prelude.{◌≡◌, ◌≤◌, ◌<◌, ◌^◌, ℕ, IfErr, IfOk, IsFalse, OnOk, length};
 ghost use Rattle.std.specs.List.{sum_by};
 ghost use Rattle.std.specs.Io.KnownBytes.{Appends};
-ghost use Rattle.disk_store.specs.Disk.{KeepsLength, OnlyReads};
+ghost use Rattle.disk_model.specs.Disk.{KeepsLength, OnlyReads};
 ghost use Rattle.mot_air.specs.Inspecting.{Inspects, StopsInspecting, data_text, number_line};
 ghost use Rattle.mot_air.specs.Inspecting.{rates_text, seconds_line, shares_line, sizes_text};
 ghost use Rattle.mot_air.specs.Inspecting.{turn_text, use_text};
@@ -16,7 +16,7 @@ ghost use Rattle.mot_repository.specs.Repository.{Holds};
 ghost use Rattle.mot_server.specs.Server.{place_in};
 
 use crate::Ended;
-use disk_store::Disk;
+use disk_model::Disk;
 use mot_base::{Geometry, Refusal};
 use mot_carousel::Object;
 use mot_journal::Layout;

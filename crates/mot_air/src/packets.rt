@@ -5,7 +5,7 @@ ghost use Rattle.std.specs.Io.{WritesAtMost};
 ghost use Rattle.std.specs.Io.KnownBytes.{Appends};
 ghost use Rattle.mot_air.specs.Inner.Packets.{target_of};
 ghost use Rattle.mot_air.specs.Program.{IsTarget};
-ghost use Rattle.mot_feed.specs.Writing.{Grows};
+ghost use Rattle.mot_update.specs.Between.{Grows};
 
 use crate::beside::{NewFile, is_file_at};
 use crate::fault::{Cause, PacketsFault};

@@ -2,7 +2,7 @@
 use Rattle.std.proofs.Common.{◌≡◌, inl, inr, ℕ, Bool, true, false, List, [], Option}
 use Rattle.std.proofs.Common.{◌∷◌, None, Result, Ok, Err, refl, sym, ap, subst, ◌∙◌}
 use Rattle.std.specs.Prelude.{if◌then◌else◌}
-use Rattle.disk_store.specs.Disk.{State, IsHonestDisk}
+use Rattle.disk_model.specs.Disk.{State, IsHonestDisk}
 use Rattle.mot_base.specs.declared.refusal.Refusal.{Refusal}
 use Rattle.mot_base.specs.declared.refusal.Refusal.TheVariants.{OutOfMemory}
 use Rattle.mot_carousel.specs.declared.command.Command.{Command}
@@ -24,7 +24,7 @@ use Rattle.mot_session.proofs.Laws.{answers-parsed}
 use Rattle.mot_control.proofs.Commands.{out_of_memory_is_told}
 use Rattle.mot_update.specs.HasRun.{HasRun}
 use Rattle.mot_update.proofs.Laws.{has_read}
-use Rattle.disk_store.proofs.Laws.{unchanged_none}
+use Rattle.disk_model.proofs.Laws.{unchanged_none}
 
 -- false is not true
 pub never : false ≡ true → ⊥

@@ -8,7 +8,7 @@ use Rattle.std.proofs.KnownBytes.{Appends-nil, Appends-trans, Consumes-kept, Con
 use Rattle.std.proofs.lemmas.Grind.{flat_map-append}
 use Rattle.std.proofs.lemmas.List.{map-append}
 use Rattle.std.proofs.lemmas.List.Concat.{flat_map-cons}
-use Rattle.disk_store.specs.Disk.{State, IsHonestDisk}
+use Rattle.disk_model.specs.Disk.{State, IsHonestDisk}
 use Rattle.mot_base.specs.declared.refusal.Refusal.{Refusal}
 use Rattle.mot_control.specs.Answering.{AnswersMore, AreReplies, TakesMore, asked_here}
 use Rattle.mot_control.specs.Answering.{commands_run, run_in}
@@ -27,7 +27,7 @@ use Rattle.mot_session.specs.OnAnyDisk.{AnswersAnyhow}
 use Rattle.mot_session.specs.Stored.{command_in}
 use Rattle.mot_update.specs.HasRun.{HasRun}
 use Rattle.mot_update.proofs.Laws.{has_read, join}
-use Rattle.disk_store.proofs.Laws.{unchanged_none}
+use Rattle.disk_model.proofs.Laws.{unchanged_none}
 
 -- ---- bytes
 

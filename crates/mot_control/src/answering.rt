@@ -1,9 +1,9 @@
 //! Answering what there is of a reader that does not wait.
 ghost use Rattle.std.specs.Prelude.{◌≡◌, ◌++◌, ℕ, List, Ok, Err, None, IfNone, IfSome, true};
-ghost use Rattle.disk_store.specs.Disk.{KeepsLength};
+ghost use Rattle.disk_model.specs.Disk.{KeepsLength};
 ghost use Rattle.mot_control.specs.Answering.{AnswersMore, TakesMore, asked_here};
 ghost use Rattle.mot_control.specs.Inner.Request.{HasAnswered, end_of, reply_of};
-ghost use Rattle.mot_feed.specs.Feeding.{IsUpdating};
+ghost use Rattle.mot_update.specs.Between.{IsUpdating};
 ghost use Rattle.mot_server.specs.Attempts.{fault_of};
 ghost use Rattle.mot_journal.specs.Image.{Standing};
 ghost use Rattle.mot_lines.specs.Hand.{bytes_in_hand};
@@ -15,7 +15,7 @@ ghost use Rattle.mot_session.specs.OnAnyDisk.{read_only};
 ghost use Rattle.mot_update.specs.Faults.{TellsFaults};
 
 use crate::Log;
-use disk_store::Disk;
+use disk_model::Disk;
 use mot_base::Refusal;
 use mot_carousel::Command;
 use mot_lines::{Hand, Line, TextLine, cut_at_line_end, done_text, parse_line, refusal_text};

@@ -1,9 +1,9 @@
 //! Lines between the packets of a feed.
 ghost use Rattle.std.specs.Prelude.{◌≡◌, ◌<◌, ◌-◌, ◌∷◌, ℕ, List, [], true, OnOk};
-ghost use Rattle.disk_store.specs.Disk.{KeepsLength};
+ghost use Rattle.disk_model.specs.Disk.{KeepsLength};
 ghost use Rattle.mot_control.specs.Answering.{TakesBetween};
-ghost use Rattle.mot_feed.specs.Feeding.{Always, IsUpdating, may_change};
-ghost use Rattle.mot_feed.specs.Writing.{Grows};
+ghost use Rattle.mot_update.specs.Between.{Always, IsUpdating, may_change};
+ghost use Rattle.mot_update.specs.Between.{Grows};
 ghost use Rattle.mot_server.specs.Attempts.{fault_of};
 ghost use Rattle.mot_journal.specs.Image.{Standing};
 ghost use Rattle.mot_lines.specs.Hand.{bytes_in_hand};
@@ -12,11 +12,11 @@ ghost use Rattle.mot_repository.specs.Repository.{Holds};
 ghost use Rattle.mot_update.specs.Faults.{TellsFaults};
 
 use crate::{Log, answer_there};
-use disk_store::Disk;
+use disk_model::Disk;
 use mot_base::Refusal;
-use mot_feed::Update;
 use mot_lines::Hand;
 use mot_server::Server;
+use mot_update::Update;
 use std::alloc::Global;
 use std::io::{Read, Write};
 

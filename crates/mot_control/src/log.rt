@@ -3,7 +3,7 @@ ghost use Rattle.std.specs.Prelude.{ℕ, List};
 ghost use Rattle.mot_control.specs.Inner.Request.{TellsThere};
 ghost use Rattle.mot_session.specs.OnAnyDisk.{AnswersAnyhow, read_only};
 
-use disk_store::Disk;
+use disk_model::Disk;
 use mot_base::Refusal;
 use mot_lines::Line;
 use mot_server::Server;

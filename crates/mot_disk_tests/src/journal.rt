@@ -7,7 +7,8 @@ mod stops;
 
 use crate::disks::{ONE, blank_disk, new_disk};
 use crate::expecting::expect;
-use disk_store::{Disk, DiskFault, MemoryDisk};
+use disk_model::{Disk, DiskFault};
+use disk_store::MemoryDisk;
 use mot_base::{Refusal, TransportId};
 use mot_carousel::Period;
 use mot_journal::{Action, Geometry, Journal, Layout, Record, format, format_from, load};

@@ -2,15 +2,16 @@
 //! should.
 ghost use Rattle.std.specs.Prelude.{◌≡◌, ◌⊎◌, ℕ, ◌+◌, ◌<◌, ◌≤◌, length, slice_index, slice_range};
 ghost use Rattle.std.specs.Prelude.{IfOk, OnOk};
-ghost use Rattle.disk_store.specs.Disk.{Keeps, KeepsLength, AgreeOutside, Torn};
-ghost use Rattle.disk_store.specs.Failures.{HasCause};
-ghost use Rattle.disk_store.specs.Disk.{Throughout};
+ghost use Rattle.disk_model.specs.Disk.{Keeps, KeepsLength, AgreeOutside, Torn};
+ghost use Rattle.disk_model.specs.Failures.{HasCause};
+ghost use Rattle.disk_model.specs.Disk.{Throughout};
 ghost use Rattle.disk_store.specs.File.{file_state};
 
 mod files;
 mod memory;
 
-use disk_store::{Disk, DiskFault, FileDiskFrom, Start};
+use disk_model::{Disk, DiskFault};
+use disk_store::{FileDiskFrom, Start};
 
 // What a read of the whole disk of 8 bytes gives.
 fn bytes_of<D: Disk>(disk: &mut D) -> Result<[u8; 8], DiskFault>

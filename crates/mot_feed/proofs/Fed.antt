@@ -5,7 +5,7 @@ use Rattle.std.proofs.Common.{sym, ap}
 use Rattle.std.proofs.Common.{◌∙◌, subst, arith, length-append, append-nil, inl, inr}
 use Rattle.std.proofs.lemmas.List.{map-append}
 use Rattle.std.specs.Prelude.{◌⊎◌, ◌≢◌, if◌then◌else◌}
-use Rattle.disk_store.specs.Disk.{State, IsHonestDisk, IsUnchanged}
+use Rattle.disk_model.specs.Disk.{State, IsHonestDisk, IsUnchanged}
 use Rattle.mot_base.specs.Reading.{◌>>=◌}
 use Rattle.mot_base.proofs.Laws.{read_each-append}
 use Rattle.mot_base.specs.declared.geometry.Geometry.{Geometry}
@@ -14,14 +14,17 @@ use Rattle.mot_base.specs.declared.refusal.Refusal.TheVariants.{WriteFault}
 use Rattle.mot_carousel.specs.Carousel.{Carousel, carousel_after, carousel_if_accepted, change}
 use Rattle.mot_carousel.specs.declared.command.Command.{Command}
 use Rattle.mot_feed.specs.Feeding.{AreOf, AreTimely, Event, FedPacketsAreContinuous}
-use Rattle.mot_feed.specs.Feeding.{Feeds, FeedsPart, Happen, HasFed, IsUpdating, When}
-use Rattle.mot_feed.specs.Feeding.{commands_among, are_uncut, has_ended, may_change, moments_of}
+use Rattle.mot_feed.specs.Feeding.{Feeds, FeedsPart, Happen, HasFed}
+use Rattle.mot_update.specs.Between.{IsUpdating, When}
+use Rattle.mot_feed.specs.Feeding.{commands_among, are_uncut, has_ended, moments_of}
+use Rattle.mot_update.specs.Between.{may_change}
 use Rattle.mot_feed.specs.Feeding.{sents_in, turns_in, unmade, unwritten}
-use Rattle.mot_feed.specs.Feeding.{Always, BetweenTurns, Never}
+use Rattle.mot_update.specs.Between.{Always, BetweenTurns, Never}
 use Rattle.mot_feed.specs.Feeding.Event.{Accepted, Played}
 use Rattle.mot_feed.specs.Sending.{SendsPacket}
 use Rattle.mot_feed.specs.Sending as one
-use Rattle.mot_feed.specs.Writing.{Grows, GrowsPart}
+use Rattle.mot_feed.specs.Writing.{GrowsPart}
+use Rattle.mot_update.specs.Between.{Grows}
 use Rattle.mot_feed.specs.Writing as part
 use Rattle.mot_feed.proofs.Grown.{grows_nil, grows_trans, grows_kept, part_after}
 use Rattle.mot_feed.proofs.Sent.{not_fine, same_refusal}

@@ -7,14 +7,15 @@ use Rattle.mot_journal.specs.Image.{Standing}
 use Rattle.mot_player.specs.PlayerView as player
 use Rattle.mot_repository.specs.Repository.{RepositoryView}
 use Rattle.mot_server.specs.Server.{ServerView, bodies_of, place_in}
-use Rattle.disk_store.specs.Disk.{State}
-use Rattle.disk_store.specs.Failures.{Rises}
+use Rattle.disk_model.specs.Disk.{State}
+use Rattle.disk_model.specs.Failures.{Rises}
 use Rattle.mot_base.specs.declared.refusal.Refusal.{Refusal}
 use Rattle.mot_base.specs.declared.refusal.Refusal.TheVariants.{DeviceFault, Halted, OutOfMemory}
 use Rattle.mot_base.specs.declared.refusal.Refusal.TheVariants.{WriteFault}
 use Rattle.mot_feed.specs.Sending.{IsSendFault, SendsPackets, SendsPacket, SendsPart}
 use Rattle.mot_feed.specs.Sending as one
-use Rattle.mot_feed.specs.Writing.{Grows, GrowsPart}
+use Rattle.mot_feed.specs.Writing.{GrowsPart}
+use Rattle.mot_update.specs.Between.{Grows}
 use Rattle.mot_feed.specs.Writing as part
 use Rattle.mot_feed.proofs.Grown.{grows_nil, grows_trans, grows_kept}
 use Rattle.mot_packets.specs.Packet.{PacketFields, read_packet}

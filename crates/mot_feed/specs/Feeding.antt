@@ -2,13 +2,13 @@
 use Rattle.std.specs.Prelude.{ℕ, ◌≡◌, ◌≢◌, ◌⊎◌, ◌+◌, ◌<◌, Bool, true, false, ◌&&◌}
 use Rattle.std.specs.Prelude.{if◌then◌else◌, List, [], ◌∷◌, ◌++◌, length, map, Option, Some, None}
 use Rattle.std.specs.Prelude.{⊤}
-use Rattle.disk_store.specs.Disk.{State}
+use Rattle.disk_model.specs.Disk.{State}
 use Rattle.mot_base.specs.declared.refusal.Refusal.{Refusal}
 use Rattle.mot_base.specs.declared.refusal.Refusal.TheVariants.{WriteFault}
 use Rattle.mot_carousel.specs.Carousel.{Carousel, carousel_if_accepted, change}
 use Rattle.mot_carousel.specs.declared.command.Command.{Command}
 use Rattle.mot_feed.specs.Sending.{IsSendFault}
-use Rattle.mot_feed.specs.Writing.{Grows, GrowsPart}
+use Rattle.mot_feed.specs.Writing.{GrowsPart}
 use Rattle.mot_journal.specs.Image.{Standing}
 use Rattle.mot_packets.specs.Written.{bytes_of_packet}
 use Rattle.mot_player.specs.Continuity.{IsContinuous}
@@ -18,28 +18,8 @@ use Rattle.mot_player.specs.Turn.{Turn, turn_of_carousel}
 use Rattle.mot_server.specs.RunEnds.{RunLeaves}
 use Rattle.mot_server.specs.Runs.{accepted_commands}
 use Rattle.mot_server.specs.Server.{ServerView, place_in}
+use Rattle.mot_update.specs.Between.{Always, BetweenTurns, Grows, Never, When}
 use Rattle.mot_update.specs.Faults.{IsUpdateFault}
-use Rattle.mot_update.specs.HasRun.{HasRun}
-
--- when an update may change the carousel
-pub data When : Type 0 where
-  Never : When
-  BetweenTurns : When
-  Always : When
-
--- whether it may now
-abbrev pub may_change : When → (between_turns : Bool) → Bool
-may_change Never between_turns = false
-may_change BetweenTurns between_turns = between_turns
-may_change Always between_turns = true
-
--- an update ran some commands, and none where it may not
-pub record IsUpdating {D : Type 0} (old new : ServerView D) (start now : State) (s : Standing)
-    (may : Bool) (fault : Option Refusal) : Type 0 where
-  pub commands : List Command
-  pub marks : List Bool
-  pub run : HasRun old new start now s commands marks fault
-  pub waits : may ≡ false → commands ≡ []
 
 -- what happens while a server is fed from: a command is accepted, or a packet is sent
 pub data Event : Type 0 where

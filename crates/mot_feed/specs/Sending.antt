@@ -1,11 +1,12 @@
 -- Packets sent, one write each.
 use Rattle.std.specs.Prelude.{ℕ, ◌≡◌, ◌≢◌, ◌≤◌, ◌<◌, Bool, List, [], ◌∷◌, length, take, Option}
 use Rattle.std.specs.Prelude.{Result, Ok, Err, IsTrue, IsFalse}
-use Rattle.disk_store.specs.Disk.{State}
-use Rattle.disk_store.specs.Failures.{Rises}
+use Rattle.disk_model.specs.Disk.{State}
+use Rattle.disk_model.specs.Failures.{Rises}
 use Rattle.mot_base.specs.declared.refusal.Refusal.{Refusal}
 use Rattle.mot_base.specs.declared.refusal.Refusal.TheVariants.{DeviceFault, Halted, WriteFault}
-use Rattle.mot_feed.specs.Writing.{Grows, GrowsPart}
+use Rattle.mot_feed.specs.Writing.{GrowsPart}
+use Rattle.mot_update.specs.Between.{Grows}
 use Rattle.mot_player.specs.Laws.{IsStep}
 use Rattle.mot_player.specs.Place.{Place}
 use Rattle.mot_server.specs.Playing.{HasPlayed}

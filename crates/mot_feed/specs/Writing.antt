@@ -1,14 +1,8 @@
 -- What was written, told as writes: of an outlet the writes are known or not.
 use Rattle.std.specs.Prelude.{◌≡◌, ◌≢◌, ℕ, ◌<◌, List, [], ◌∷◌, ◌++◌, length, take, Option, Some}
-use Rattle.std.specs.Prelude.{None, ⊤}
 use Rattle.mot_base.specs.declared.refusal.Refusal.{Refusal}
 use Rattle.mot_base.specs.declared.refusal.Refusal.TheVariants.{WriteFault}
-
--- what is known goes on by these
-abbrev pub Grows : {A : Type 0} → Option (List A) → Option (List A) → List A → Type 0
-Grows None new more = ⊤
-Grows (Some known) None more = ⊥
-Grows (Some known) (Some new) more = new ≡ known ++ more
+use Rattle.mot_update.specs.Between.{Grows}
 
 -- What writing packets leaves that this refusal ended: all of them were written, each in one write;
 -- or, where a write failed, all but the last, of which one write took less than the whole.

@@ -1,47 +1,18 @@
 //! Taking turns between updating the carousel and sending its packets.
-ghost use Rattle.std.specs.Prelude.{◌≡◌, ◌∷◌, Bool, IfErr, IsOk, List, [], None, OnOk, Option};
-ghost use Rattle.disk_store.specs.Disk.{KeepsLength};
-ghost use Rattle.mot_feed.specs.Feeding.{FedPacketsAreContinuous, Feeds, FeedsPart};
-ghost use Rattle.mot_feed.specs.Feeding.{IsFeedFault, IsUpdating, Never, When, may_change};
-ghost use Rattle.mot_feed.specs.Writing.{Grows};
-ghost use Rattle.mot_server.specs.Attempts.{fault_of};
+ghost use Rattle.std.specs.Prelude.{IfErr, OnOk};
+ghost use Rattle.disk_model.specs.Disk.{KeepsLength};
+ghost use Rattle.mot_feed.specs.Feeding.{FedPacketsAreContinuous, Feeds, FeedsPart, IsFeedFault};
 ghost use Rattle.mot_journal.specs.Image.{Standing};
 ghost use Rattle.mot_repository.specs.Repository.{Holds};
-ghost use Rattle.mot_update.specs.Faults.{StaysCalm, TellsFaults};
+ghost use Rattle.mot_update.specs.Faults.{StaysCalm};
 
 use crate::Outlet;
 use crate::sending::send_one;
-use disk_store::Disk;
+use disk_model::Disk;
 use mot_base::Refusal;
 use mot_server::Server;
+use mot_update::Update;
 use std::alloc::Global;
-
-/// What changes a carousel between its packets, by commands.
-pub trait Update {
-    // When it may change the carousel.
-    ghost when: { When };
-
-    // Each call so far, in order, by whether it came between turns, where that is known.
-    ghost moments: { Self → Option (List Bool) } = { λ _. None };
-
-    /// Does what is to be done now: before the first packet, and then behind each packet, which
-    /// ended a turn or not. What would end a run of commands is the error, as is a body that can't
-    /// be read.
-    fn update<D: Disk>(
-        &mut self,
-        server: &mut Server<D>,
-        alloc: Global,
-        between_turns: bool,
-    ) -> Result<(), Refusal>
-        ensures keeps { KeepsLength (D.state server.old.disk) (D.state server.new.disk) }
-        ensures faults { TellsFaults server.old server.new
-            (D.state server.old.disk) (D.state server.new.disk) result }
-        ensures run { (s : Standing) → Holds server.old.view s (D.state server.old.disk)
-            → (D.state server.new.disk).IsHonest
-            → IsUpdating server.old server.new (D.state server.old.disk)
-            (D.state server.new.disk) s (may_change when between_turns) (fault_of result) }
-        ensures called { Grows (moments self.old) (moments self.new) (between_turns ∷ []) };
-}
 
 /// Sends packets, each in one write, with updates before the first and behind each, until so many
 /// turns have ended: with `u64::MAX` for as good as ever. The errors are those of the updates and
@@ -84,34 +55,4 @@ pub fn feed<D: Disk, O: Outlet, U: Update>(
         }
     }
     Ok(())
-}
-
-/// No updates: the carousel is played as it is.
-#[derive(Clone, Copy, Debug)]
-pub struct NoUpdate;
-
-impl Update for NoUpdate {
-    ghost when = { Never };
-
-    fn update<D: Disk>(
-        &mut self,
-        server: &mut Server<D>,
-        _alloc: Global,
-        between_turns: bool,
-    ) -> Result<(), Refusal>
-        ensures keeps { KeepsLength (D.state server.old.disk) (D.state server.new.disk) }
-        ensures faults { TellsFaults server.old server.new
-            (D.state server.old.disk) (D.state server.new.disk) result }
-        ensures run { (s : Standing) → Holds server.old.view s (D.state server.old.disk)
-            → (D.state server.new.disk).IsHonest
-            → IsUpdating server.old server.new (D.state server.old.disk)
-            (D.state server.new.disk) s (may_change Never between_turns) (fault_of result) }
-        ensures called { Grows None None (between_turns ∷ []) }
-
-        // Nothing is done, and nothing refused.
-        ensures ok { IsOk result }
-        ensures same { server.new ≡ server.old }
-    {
-        Ok(())
-    }
 }

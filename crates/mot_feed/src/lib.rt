@@ -5,6 +5,6 @@ mod feeding;
 mod outlet;
 mod sending;
 
-pub use feeding::{NoUpdate, Update, feed};
+pub use feeding::feed;
 pub use outlet::{Direct, Outlet};
 pub use sending::send_packets;

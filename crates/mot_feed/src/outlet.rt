@@ -2,7 +2,7 @@
 ghost use Rattle.std.specs.Prelude.{◌≤◌, ◌∷◌, ℕ, List, [], None, Option, length, take, IfOk};
 ghost use Rattle.std.specs.Prelude.{MatchResult};
 ghost use Rattle.std.specs.Io.KnownBytes.{WriteAppends};
-ghost use Rattle.mot_feed.specs.Writing.{Grows};
+ghost use Rattle.mot_update.specs.Between.{Grows};
 
 use std::io::{self, Write};
 

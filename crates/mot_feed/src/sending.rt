@@ -1,13 +1,13 @@
 //! Packets, each in one write.
 ghost use Rattle.std.specs.Prelude.{◌≡◌, IfErr, OnOk};
-ghost use Rattle.disk_store.specs.Disk.{OnlyReads};
+ghost use Rattle.disk_model.specs.Disk.{OnlyReads};
 ghost use Rattle.mot_feed.specs.Sending.{IsSendFault, SendsPackets, SendsPacket, SendsPart};
 ghost use Rattle.mot_journal.specs.Image.{Standing};
 ghost use Rattle.mot_repository.specs.Repository.{Holds};
 ghost use Rattle.mot_server.specs.Server.{place_in};
 
 use crate::Outlet;
-use disk_store::Disk;
+use disk_model::Disk;
 use mot_base::Refusal;
 use mot_packets::Packet;
 use mot_server::Server;

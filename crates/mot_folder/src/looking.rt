@@ -1,8 +1,8 @@
 //! A look at a folder, and looks between the turns of a feed.
 ghost use Rattle.std.specs.Prelude.{◌≡◌, ◌-◌, ◌∷◌, [], None, true, false};
-ghost use Rattle.disk_store.specs.Disk.{KeepsLength};
-ghost use Rattle.mot_feed.specs.Feeding.{BetweenTurns, IsUpdating, may_change};
-ghost use Rattle.mot_feed.specs.Writing.{Grows};
+ghost use Rattle.disk_model.specs.Disk.{KeepsLength};
+ghost use Rattle.mot_update.specs.Between.{BetweenTurns, IsUpdating, may_change};
+ghost use Rattle.mot_update.specs.Between.{Grows};
 ghost use Rattle.mot_folder.specs.Looked.{HasLookedAtFolder, is_due};
 ghost use Rattle.mot_journal.specs.Image.{Standing};
 ghost use Rattle.mot_repository.specs.Repository.{Holds};
@@ -13,11 +13,10 @@ use crate::folder::Folder;
 use crate::listing::list;
 use crate::report::Report;
 use crate::types::FileTypes;
-use disk_store::Disk;
+use disk_model::Disk;
 use mot_base::Refusal;
-use mot_feed::Update;
 use mot_server::Server;
-use mot_update::look;
+use mot_update::{Update, look};
 use std::alloc::Global;
 use std::fs::File;
 use std::io::Write;

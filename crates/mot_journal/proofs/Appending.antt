@@ -6,8 +6,8 @@ use Rattle.std.specs.Prelude.{slice_index}
 use Rattle.std.proofs.lemmas.Bool.{cases_eq}
 use Rattle.std.proofs.lemmas.Bool.Decides.{nat_tests}
 use Rattle.std.proofs.lemmas.List.{length-drop}
-use Rattle.disk_store.specs.Disk.{State, AgreeOutside, IsHonestDisk, Torn, Throughout}
-use Rattle.disk_store.proofs.Laws.{agree_more, weakens}
+use Rattle.disk_model.specs.Disk.{State, AgreeOutside, IsHonestDisk, Torn, Throughout}
+use Rattle.disk_model.proofs.Laws.{agree_more, weakens}
 use Rattle.mot_base.specs.Geometry.{length_of}
 use Rattle.mot_journal.specs.declared.record.Record.{Record}
 use Rattle.mot_journal.specs.Slot.{is_open, read_slot, slot_size, slot_count, bytes_of_slot}

@@ -2,8 +2,8 @@
 use Rattle.std.proofs.Common.{◌≡◌, ℕ, ◌+◌, ◌-◌, ◌*◌, ◌<◌, ◌≤◌, List, take, drop, slice_range, ◌∙◌}
 use Rattle.std.proofs.Common.{ap, arith, below_more}
 use Rattle.std.specs.Prelude.{slice_get}
-use Rattle.disk_store.specs.Disk.{State, AgreeOutside, IsHonestDisk, WritesWithin, Torn}
-use Rattle.disk_store.proofs.Laws.{agree_refl, agree_trans, agree_more, begins, goes_on, at_end}
+use Rattle.disk_model.specs.Disk.{State, AgreeOutside, IsHonestDisk, WritesWithin, Torn}
+use Rattle.disk_model.proofs.Laws.{agree_refl, agree_trans, agree_more, begins, goes_on, at_end}
 use Rattle.mot_base.specs.declared.geometry.Geometry.{Geometry}
 use Rattle.mot_base.specs.Geometry.{half_start, half_size, area_start}
 use Rattle.mot_journal.specs.declared.layout.Layout.{Layout}

@@ -10,7 +10,7 @@ use Rattle.std.proofs.lemmas.List.{ext_get_or, length-replicate, length-map, get
 use Rattle.std.proofs.lemmas.List.{get_or-replicate, get_or_append_left, get_or-append_right}
 use Rattle.std.proofs.lemmas.List.{get_or-take, get_or-drop}
 use Rattle.std.proofs.lemmas.Option.{slice_get_cases}
-use Rattle.disk_store.specs.Disk.{AgreeOutside}
+use Rattle.disk_model.specs.Disk.{AgreeOutside}
 use Rattle.mot_base.specs.Fields.{number_in}
 use Rattle.mot_base.specs.declared.geometry.Geometry.{Geometry}
 use Rattle.mot_base.specs.declared.refusal.Refusal.{Refusal}

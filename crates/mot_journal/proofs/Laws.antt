@@ -6,7 +6,7 @@ use Rattle.std.proofs.Common.{Option, Result, Ok, Err, subst}
 use Rattle.std.specs.Prelude.{slice_index, ◌==◌, ◌&&◌, nat_le, bytes_eq, if◌then◌else◌, IsOk}
 use Rattle.std.proofs.lemmas.List.{ext_get_or, length-take, length-drop, get_or-take, get_or-drop}
 use Rattle.std.proofs.lemmas.List.{drop-drop}
-use Rattle.disk_store.specs.Disk.{AgreeOutside}
+use Rattle.disk_model.specs.Disk.{AgreeOutside}
 use Rattle.mot_base.specs.Fields.{number_in}
 use Rattle.mot_base.specs.Reading.{◌>>=◌}
 use Rattle.mot_base.specs.declared.geometry.Geometry.{Geometry}

@@ -7,7 +7,7 @@ use Rattle.std.specs.Prelude.{if◌then◌else◌, nat_le, ◌&&◌, ◌==◌, s
 use Rattle.std.proofs.lemmas.Bool.{leb-true}
 use Rattle.std.proofs.lemmas.List.{length-drop, length-append, length-replicate, get_or-take}
 use Rattle.std.proofs.Math.Seq.{take-append_seam}
-use Rattle.disk_store.specs.Disk.{State}
+use Rattle.disk_model.specs.Disk.{State}
 use Rattle.mot_base.specs.declared.refusal.Refusal.{Refusal}
 use Rattle.mot_base.specs.declared.refusal.Refusal.TheVariants.{NotFormatted}
 use Rattle.mot_base.specs.declared.geometry.Geometry.{Geometry}

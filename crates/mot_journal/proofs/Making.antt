@@ -3,8 +3,8 @@ use Rattle.std.proofs.Common.{◌≡◌, ◌⊎◌, inl, inr, ⊎_elim, ℕ, ◌
 use Rattle.std.proofs.Common.{[], ◌∷◌, take, slice_range, sym, ◌∙◌, ap, arith}
 use Rattle.std.specs.Prelude.{bytes_eq}
 use Rattle.std.proofs.lemmas.Bool.{cases_Bool}
-use Rattle.disk_store.specs.Disk.{State, AgreeOutside, IsHonestDisk, WritesWithin, Torn, Throughout}
-use Rattle.disk_store.proofs.Laws.{agree_trans, agree_more, at_end, joins, weakens}
+use Rattle.disk_model.specs.Disk.{State, AgreeOutside, IsHonestDisk, WritesWithin, Torn, Throughout}
+use Rattle.disk_model.proofs.Laws.{agree_trans, agree_more, at_end, joins, weakens}
 use Rattle.mot_base.specs.declared.geometry.Geometry.{Geometry}
 use Rattle.mot_base.specs.Geometry.{IsValid, length_of, half_size, half_start, area_start}
 use Rattle.mot_journal.specs.declared.layout.Layout.TheVariants.{Two}

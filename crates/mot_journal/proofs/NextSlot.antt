@@ -8,7 +8,7 @@ use Rattle.std.proofs.lemmas.Bool.{cases_eq, cases_lt}
 use Rattle.std.proofs.lemmas.List.{ext_get_or, length-take, length-drop, get_or-take, get_or-drop}
 use Rattle.std.proofs.lemmas.List.{length-set, set_split, get_or-set_other}
 use Rattle.std.proofs.lemmas.Grind.{get_or-set_at}
-use Rattle.disk_store.specs.Disk.{AgreeOutside}
+use Rattle.disk_model.specs.Disk.{AgreeOutside}
 use Rattle.mot_base.specs.declared.geometry.Geometry.{Geometry}
 use Rattle.mot_base.specs.Geometry.{half_size, half_start, area_start}
 use Rattle.mot_journal.specs.declared.layout.Layout.{Layout}

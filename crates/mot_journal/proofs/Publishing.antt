@@ -1,10 +1,10 @@
 -- What a crash leaves while bytes are written between two syncs.
 use Rattle.std.proofs.Common.{◌≡◌, ◌⊎◌, inl, inr, ℕ, ◌+◌, ◌-◌, List, length, drop, get_or}
 use Rattle.std.proofs.Common.{slice_range, sym, ◌∙◌, ap, subst, arith, add-zero}
-use Rattle.disk_store.specs.Disk.{State, AgreeOutside, IsHonestDisk, IsFirm, IsStill, WritesWithin}
-use Rattle.disk_store.specs.Disk.{Torn, Throughout}
-use Rattle.disk_store.proofs.Laws.{begins, goes_on, stays}
-use Rattle.disk_store.proofs.Laws.{only_bytes}
+use Rattle.disk_model.specs.Disk.{State, AgreeOutside, IsHonestDisk, IsFirm, IsStill, WritesWithin}
+use Rattle.disk_model.specs.Disk.{Torn, Throughout}
+use Rattle.disk_model.proofs.Laws.{begins, goes_on, stays}
+use Rattle.disk_model.proofs.Laws.{only_bytes}
 use Rattle.mot_journal.specs.Inner.Steps.{IsWritten}
 use Rattle.std.proofs.lemmas.List.{get_or-take, get_or-drop}
 

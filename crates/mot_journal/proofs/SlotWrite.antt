@@ -3,10 +3,10 @@ use Rattle.std.proofs.Common.{◌≡◌, inl, inr, ℕ, suc, ◌+◌, ◌-◌, �
 use Rattle.std.proofs.Common.{drop, get_or, slice_range, refl, sym, ◌∙◌, ap, subst, arith}
 use Rattle.std.proofs.Math.Seq.{drop-cons, take-length}
 use Rattle.std.proofs.lemmas.List.{length-drop}
-use Rattle.disk_store.specs.Disk.{State, AgreeOutside, IsHonestDisk, IsFirm, IsStill, WritesWithin}
-use Rattle.disk_store.specs.Disk.{Torn, Throughout}
-use Rattle.disk_store.proofs.Laws.{agree_refl, agree_trans, agree_more, only_bytes, begins, goes_on}
-use Rattle.disk_store.proofs.Laws.{stays}
+use Rattle.disk_model.specs.Disk.{State, AgreeOutside, IsHonestDisk, IsFirm, IsStill, WritesWithin}
+use Rattle.disk_model.specs.Disk.{Torn, Throughout}
+use Rattle.disk_model.proofs.Laws.{agree_refl, agree_trans, agree_more, only_bytes, begins, goes_on}
+use Rattle.disk_model.proofs.Laws.{stays}
 use Rattle.mot_journal.specs.Inner.Steps.{IsBehindGate, IsWritten, IsGated}
 use Rattle.mot_journal.proofs.NextSlot.{drop_behind}
 

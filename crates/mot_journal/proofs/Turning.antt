@@ -1,8 +1,8 @@
 -- What a crash leaves while the other half is filled and selected.
 use Rattle.std.proofs.Common.{◌≡◌, ◌⊎◌, inl, inr, ⊎_elim, ℕ, ◌-◌, ◌<◌, ◌≤◌, List, [], ◌∷◌, length}
 use Rattle.std.proofs.Common.{get_or, sym, ◌∙◌, ap, arith}
-use Rattle.disk_store.specs.Disk.{State, AgreeOutside, IsHonestDisk, Torn, Throughout}
-use Rattle.disk_store.proofs.Laws.{weakens, joins, at_end}
+use Rattle.disk_model.specs.Disk.{State, AgreeOutside, IsHonestDisk, Torn, Throughout}
+use Rattle.disk_model.proofs.Laws.{weakens, joins, at_end}
 use Rattle.mot_base.specs.Geometry.{half_start, half_size}
 use Rattle.mot_journal.specs.declared.layout.Layout.{Layout}
 use Rattle.mot_journal.specs.declared.record.Record.{Record}

@@ -1,8 +1,8 @@
 -- What a journal keeps in memory, and what images have of it.
 use Rattle.std.specs.Prelude.{◌≡◌, ◌⊎◌, ℕ, ◌-◌, Bool, false, List, [], ◌∷◌, ◌++◌, length}
 use Rattle.std.specs.Prelude.{Some, Result, Ok, Err, OnOk, IsOk, IsFalse}
-use Rattle.disk_store.specs.Disk.{State, Throughout}
-use Rattle.disk_store.specs.Failures.{Rises}
+use Rattle.disk_model.specs.Disk.{State, Throughout}
+use Rattle.disk_model.specs.Failures.{Rises}
 use Rattle.mot_base.specs.declared.refusal.Refusal.{Refusal}
 use Rattle.mot_base.specs.declared.refusal.Refusal.TheVariants.{OutOfMemory, DeviceFault}
 use Rattle.mot_base.specs.declared.refusal.Refusal.TheVariants.{NotFormatted, Damaged}

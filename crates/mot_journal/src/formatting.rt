@@ -2,9 +2,9 @@
 ghost use Rattle.std.specs.Prelude.{◌≡◌, ◌⊎◌, ◌↔◌, ◌+◌, ◌-◌, ◌*◌, ◌<◌, ◌≤◌, ℕ, List, [], ◌∷◌};
 ghost use Rattle.std.specs.Prelude.{length, drop, MatchResult};
 ghost use Rattle.std.specs.Prelude.{true, false, Ok, OnOk, IfOk, IfErr, IsErrOf};
-ghost use Rattle.disk_store.specs.Disk.{Keeps, KeepsLength, IsUnchanged, IsStill, OnlySyncs};
-ghost use Rattle.disk_store.specs.Failures.{HasCause, Rises};
-ghost use Rattle.disk_store.specs.Disk.{Throughout, Costs, IsFirm};
+ghost use Rattle.disk_model.specs.Disk.{Keeps, KeepsLength, IsUnchanged, IsStill, OnlySyncs};
+ghost use Rattle.disk_model.specs.Failures.{HasCause, Rises};
+ghost use Rattle.disk_model.specs.Disk.{Throughout, Costs, IsFirm};
 ghost use Rattle.mot_base.specs.Geometry.{IsValid, area_start, length_of};
 ghost use Rattle.mot_base.specs.declared.refusal.Refusal.TheVariants.{DeviceFault, BadGeometry};
 ghost use Rattle.mot_base.specs.declared.refusal.Refusal.TheVariants.{DiskTooSmall};
@@ -20,7 +20,7 @@ ghost use Rattle.mot_journal.specs.Inner.Format.{IsMade, IsNewDisk, behind_magic
 
 use crate::writing::{fill_half, publish};
 use crate::{Action, Geometry, Layout, Record};
-use disk_store::{Disk, DiskFault};
+use disk_model::{Disk, DiskFault};
 use mot_base::{Refusal, TransportId};
 use mot_carousel::Period;
 

@@ -1,7 +1,7 @@
 //! The gates of a half, as they are read.
 ghost use Rattle.std.specs.Prelude.{◌≡◌, ◌+◌, ◌/◌, ◌≤◌, length, IfOk, OnOk, IsErr};
-ghost use Rattle.disk_store.specs.Disk.{OnlyReads};
-ghost use Rattle.disk_store.specs.Failures.{Rises};
+ghost use Rattle.disk_model.specs.Disk.{OnlyReads};
+ghost use Rattle.disk_model.specs.Failures.{Rises};
 ghost use Rattle.mot_base.specs.Geometry.{length_of};
 ghost use Rattle.mot_journal.specs.Image.{are_gates_clean as gates_clean, gate_reads, slots_in};
 ghost use Rattle.mot_journal.specs.Slot.{slot_size};
@@ -11,7 +11,7 @@ ghost use Rattle.mot_journal.specs.Inner.Steps.{slots_in_half};
 use crate::encoding::OPEN;
 use crate::places::{half_size, half_start};
 use crate::{Geometry, Layout};
-use disk_store::{Disk, DiskFault};
+use disk_model::{Disk, DiskFault};
 
 /// The most bytes of a half that are read at once: whole slots, of either layout.
 const PIECE: usize = 4096;

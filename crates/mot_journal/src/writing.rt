@@ -1,7 +1,7 @@
 //! The writes of the journal, as runs of calls of the disk.
 ghost use Rattle.std.specs.Prelude.{◌≡◌, ◌+◌, ◌*◌, ◌^◌, ◌<◌, ◌≤◌, ℕ, length, OnOk};
-ghost use Rattle.disk_store.specs.Disk.{Keeps, Costs, Throughout};
-ghost use Rattle.disk_store.specs.Failures.{HasCause};
+ghost use Rattle.disk_model.specs.Disk.{Keeps, Costs, Throughout};
+ghost use Rattle.disk_model.specs.Failures.{HasCause};
 ghost use Rattle.mot_base.specs.Geometry.{half_size, half_start as start_of_half, length_of};
 ghost use Rattle.mot_journal.specs.Slot.{slot_count, slot_size};
 ghost use Rattle.mot_journal.specs.Inner.Steps.{IsGated, LeavesWritten, HasCauseOf, ChangesWithin};
@@ -11,7 +11,7 @@ ghost use Rattle.mot_journal.specs.Slot.{AreSound};
 use crate::encoding::slot_or_zeros;
 use crate::places::half_start;
 use crate::{Geometry, Layout, Record};
-use disk_store::{Disk, DiskFault};
+use disk_model::{Disk, DiskFault};
 
 /// Writes a slot without its gate, syncs, then its gate, and syncs.
 pub fn write_slot<D: Disk>(disk: &mut D, place: u64, slot: &[u8]) -> Result<(), DiskFault>

@@ -3,7 +3,7 @@ ghost use Rattle.std.specs.Prelude.{◌≡◌, ◌+◌, ◌<◌, ◌≤◌, List
 ghost use Rattle.std.specs.Prelude.{OnOk, IfErr};
 ghost use Rattle.mot_base.specs.declared.refusal.Refusal.TheVariants.{DeviceFault};
 ghost use Rattle.mot_player.specs.Bodies.{body_at};
-ghost use Rattle.disk_store.specs.Failures.{HasCause};
+ghost use Rattle.disk_model.specs.Failures.{HasCause};
 
 use mot_base::Refusal;
 use mot_carousel::Body;

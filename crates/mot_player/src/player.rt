@@ -4,7 +4,7 @@ ghost use Rattle.std.specs.Prelude.{IfErr, OnOk, OnErr};
 ghost use Rattle.mot_base.specs.PacketLength.{room_of};
 ghost use Rattle.mot_base.specs.declared.refusal.Refusal.TheVariants.{OutOfMemory, DeviceFault};
 ghost use Rattle.mot_packets.specs.Packet.{read_packet};
-ghost use Rattle.disk_store.specs.Failures.{Rises};
+ghost use Rattle.disk_model.specs.Failures.{Rises};
 ghost use Rattle.mot_player.specs.PlayerView.{AreBodiesFor, place_of, turn_with};
 ghost use Rattle.mot_player.specs.AnyBodies.{IsStepOfSome};
 ghost use Rattle.mot_player.specs.Laws.{ChangesGoOn, IsPlace, IsStep, RequestsGoOn};

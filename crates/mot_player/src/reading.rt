@@ -2,7 +2,7 @@
 ghost use Rattle.std.specs.Prelude.{◌≡◌, ◌+◌, ◌<◌, ◌≤◌, length, map, take, drop, vec_len};
 ghost use Rattle.std.specs.Prelude.{slice_range, OnOk, OnErr, IfErr};
 ghost use Rattle.mot_base.specs.declared.refusal.Refusal.TheVariants.{DeviceFault};
-ghost use Rattle.disk_store.specs.Failures.{Rises};
+ghost use Rattle.disk_model.specs.Failures.{Rises};
 ghost use Rattle.mot_player.specs.PlayerView.{AreBodiesFor};
 ghost use Rattle.mot_player.specs.Inner.Entities.{entity_bytes, entity_length};
 

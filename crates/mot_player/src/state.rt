@@ -43,7 +43,7 @@ pub struct Played {
 impl State {
     ghost use Rattle.mot_packets.specs.Packet.{read_packet};
     ghost use Rattle.mot_packets.specs.Written.{bytes_of_packet};
-    ghost use Rattle.disk_store.specs.Failures.{Rises};
+    ghost use Rattle.disk_model.specs.Failures.{Rises};
     ghost use Rattle.mot_player.specs.Place.{packet_sent};
     ghost use Rattle.mot_player.specs.Inner.Ready.{HasBegun, HasTaken, IsFitted, place_with};
     ghost use Rattle.mot_player.specs.State.{view_of};

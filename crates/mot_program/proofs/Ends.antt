@@ -5,8 +5,8 @@ use Rattle.std.proofs.Common.{subst, sym}
 use Rattle.std.proofs.Math.Logic.{⊎_elim}
 use Rattle.std.proofs.Math.Nat.{eq-or-lt_of_le}
 use Rattle.std.specs.Prelude.{IfErr, OnErr}
-use Rattle.disk_store.specs.Disk.{Elapses, IsStill, IsUnchanged, Nothing, State}
-use Rattle.disk_store.specs.Failures.{Rises}
+use Rattle.disk_model.specs.Disk.{Elapses, IsStill, IsUnchanged, Nothing, State}
+use Rattle.disk_model.specs.Failures.{Rises}
 use Rattle.mot_base.specs.declared.refusal.Refusal.{Refusal}
 use Rattle.mot_base.specs.declared.refusal.Refusal.TheVariants.{DeviceFault, OutOfMemory}
 use Rattle.mot_base.specs.declared.refusal.Refusal.TheVariants.{ReadFault, WriteFault}

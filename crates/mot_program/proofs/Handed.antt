@@ -6,7 +6,7 @@ use Rattle.std.proofs.Math.Seq.{take-append_seam}
 use Rattle.std.proofs.lemmas.List.{take-append-drop}
 use Rattle.disk_store.specs.Calls.{AreRight, Call, after_call, content_after, no_content}
 use Rattle.disk_store.specs.Content.{replayed_state}
-use Rattle.disk_store.specs.Disk.{IsNew, KeepsLength, State}
+use Rattle.disk_model.specs.Disk.{IsNew, KeepsLength, State}
 use Rattle.disk_store.specs.File.{calls_on, file_state}
 use Rattle.disk_store.specs.declared.file.start.Start.{Ghosts}
 use Rattle.disk_store.specs.declared.file.FileDiskFrom.{FileDiskFrom}

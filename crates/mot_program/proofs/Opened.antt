@@ -1,9 +1,9 @@
 -- What is known of a disk that was just opened.
 use Rattle.std.proofs.Common.{◌≡◌, ℕ, List, Result, Ok, refl, sym, ◌∙◌, subst}
 use Rattle.std.specs.Prelude.{IsFalse}
-use Rattle.disk_store.specs.Disk.{State, IsHonestDisk, IsStill, Keeps, KeepsLength, OnlySyncs}
-use Rattle.disk_store.specs.Disk.{Throughout}
-use Rattle.disk_store.proofs.Laws.{only_bytes, begins, joins, stays}
+use Rattle.disk_model.specs.Disk.{State, IsHonestDisk, IsStill, Keeps, KeepsLength, OnlySyncs}
+use Rattle.disk_model.specs.Disk.{Throughout}
+use Rattle.disk_model.proofs.Laws.{only_bytes, begins, joins, stays}
 use Rattle.mot_base.specs.Geometry.{packet_room}
 use Rattle.mot_base.specs.declared.refusal.Refusal.{Refusal}
 use Rattle.mot_journal.specs.Image.{Standing, stands_for}

@@ -1,5 +1,5 @@
 -- A file's disk from its opening on, as a disk.
-use Rattle.disk_store.specs.Disk.{State}
+use Rattle.disk_model.specs.Disk.{State}
 use Rattle.disk_store.specs.File.{file_state}
 use Rattle.disk_store.specs.declared.file.start.Start as start
 use Rattle.mot_program.specs.declared.begun.Beginning as beginning

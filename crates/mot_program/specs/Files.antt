@@ -3,7 +3,7 @@ use Rattle.std.specs.Prelude.{◌≡◌, ℕ, Bool, true, false, List, length, t
 use Rattle.disk_store.specs.Calls.{AreRight, Call, after_call, content_after, making_calls}
 use Rattle.disk_store.specs.Calls.{no_content, opening_calls}
 use Rattle.disk_store.specs.Content.{replayed_state}
-use Rattle.disk_store.specs.Disk.{IsNew, State}
+use Rattle.disk_model.specs.Disk.{IsNew, State}
 use Rattle.disk_store.specs.File.{calls_on, file_state}
 use Rattle.disk_store.specs.declared.file.start.Start.{Ghosts}
 use Rattle.disk_store.specs.declared.file.FileDiskFrom.{FileDiskFrom}

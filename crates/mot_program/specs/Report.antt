@@ -3,8 +3,8 @@ use Rattle.std.specs.Prelude.{◌≡◌, ◌≢◌, ◌↔◌, ◌<◌, ℕ, Boo
 use Rattle.std.specs.Prelude.{Ok, IsTrue, codes}
 use Rattle.std.specs.Fmt.{decimal}
 use Rattle.std.specs.Io.KnownBytes.{Appends, Keeps}
-use Rattle.disk_store.specs.Disk.{State, KeepsLength, IsStill, IsUnchanged, Throughout}
-use Rattle.disk_store.specs.Failures.{Rises}
+use Rattle.disk_model.specs.Disk.{State, KeepsLength, IsStill, IsUnchanged, Throughout}
+use Rattle.disk_model.specs.Failures.{Rises}
 use Rattle.mot_base.specs.Geometry.{length_of}
 use Rattle.mot_base.specs.declared.geometry.Geometry.{Geometry}
 use Rattle.mot_base.specs.declared.refusal.Refusal.{Refusal}

@@ -1,7 +1,7 @@
 -- What serving says, and what it leaves of a disk.
 use Rattle.std.specs.Prelude.{ℕ, ◌≡◌, ◌⊎◌, List, Option, IsFalse}
 use Rattle.std.specs.Io.KnownBytes.{IsAtEnd, Keeps}
-use Rattle.disk_store.specs.Disk.{State, IsStill}
+use Rattle.disk_model.specs.Disk.{State, IsStill}
 use Rattle.mot_base.specs.declared.refusal.Refusal.{Refusal}
 use Rattle.mot_base.specs.declared.refusal.Refusal.TheVariants.{OutOfMemory, ReadFault, WriteFault}
 use Rattle.mot_journal.specs.Image.{Standing}

@@ -3,7 +3,8 @@ ghost use Rattle.std.specs.Prelude.{Bool, true, false};
 ghost use Rattle.disk_store.specs.File.{calls_on, file_state};
 ghost use Rattle.mot_program.specs.Files.{BeginWith, first_calls};
 
-use disk_store::{Disk, DiskFault, FileDiskFrom, Start};
+use disk_model::{Disk, DiskFault};
+use disk_store::{FileDiskFrom, Start};
 use std::marker::PhantomData;
 
 /// Whether a file was made, or was there and was opened. A word of contracts.

@@ -2,8 +2,8 @@
 ghost use Rattle.std.specs.Prelude.{◌≡◌, ◌↔◌, ◌++◌, ℕ, Bool, List, IsTrue, IsFalse, Ok, OnOk};
 ghost use Rattle.std.specs.Prelude.{IfErr, ◌⊎◌};
 ghost use Rattle.std.specs.Io.KnownBytes.{Appends, Keeps};
-ghost use Rattle.disk_store.specs.Disk.{KeepsLength, OnlyReads};
-ghost use Rattle.disk_store.specs.Failures.{Rises};
+ghost use Rattle.disk_model.specs.Disk.{KeepsLength, OnlyReads};
+ghost use Rattle.disk_model.specs.Failures.{Rises};
 ghost use Rattle.mot_base.specs.declared.refusal.Refusal.TheVariants.{DeviceFault, WriteFault};
 ghost use Rattle.mot_journal.specs.Image.{Standing, stands_for, IsClean};
 ghost use Rattle.mot_journal.specs.Journal.{StandsWhere};
@@ -14,7 +14,8 @@ ghost use Rattle.mot_program.specs.Report.{Checks, StopsChecking, clean_line, la
 use crate::ended::{Ended, Finished};
 use crate::file::open_file;
 use crate::printing::{write_bytes, write_last};
-use disk_store::{Disk, Start};
+use disk_model::Disk;
+use disk_store::Start;
 use mot_base::Refusal;
 use mot_journal::Layout;
 use mot_repository::Repository;

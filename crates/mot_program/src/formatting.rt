@@ -1,7 +1,7 @@
 //! What `format` does.
 ghost use Rattle.std.specs.Prelude.{◌≡◌, OnOk, IfErr, ◌⊎◌};
 ghost use Rattle.std.specs.Io.KnownBytes.{Appends};
-ghost use Rattle.disk_store.specs.Disk.{KeepsLength};
+ghost use Rattle.disk_model.specs.Disk.{KeepsLength};
 ghost use Rattle.mot_base.specs.Geometry.{IsValid};
 ghost use Rattle.mot_base.specs.declared.refusal.Refusal.TheVariants.{WriteFault};
 ghost use Rattle.mot_program.specs.Program.{IsMakingRefusal, IsUntold, OnOpenedOrMade};
@@ -9,7 +9,8 @@ ghost use Rattle.mot_program.specs.Report.{Formats, StopsFormatting, formatted_l
 
 use crate::ended::{Ended, Finished};
 use crate::file::{make_file, open_file};
-use disk_store::{Disk, Start, Unopened, take_away};
+use disk_model::Disk;
+use disk_store::{Start, Unopened, take_away};
 use mot_base::{Geometry, Refusal, TransportId};
 use mot_journal::format_from;
 use std::io::Write;

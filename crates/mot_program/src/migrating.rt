@@ -1,6 +1,6 @@
 //! What `migrate` does.
 ghost use Rattle.std.specs.Prelude.{◌≡◌, OnOk, IfErr, ◌⊎◌};
-ghost use Rattle.disk_store.specs.Disk.{KeepsLength};
+ghost use Rattle.disk_model.specs.Disk.{KeepsLength};
 ghost use Rattle.mot_base.specs.declared.refusal.Refusal.TheVariants.{DeviceFault};
 ghost use Rattle.mot_program.specs.Program.{IsUntold, OnOpened};
 ghost use Rattle.mot_program.specs.Report.{Migrates, StopsMigrating, migrated_line};
@@ -8,7 +8,8 @@ ghost use Rattle.mot_program.specs.Report.{Migrates, StopsMigrating, migrated_li
 use crate::ended::{Ended, Finished};
 use crate::file::open_file;
 use crate::printing::write_last;
-use disk_store::{Disk, Start};
+use disk_model::Disk;
+use disk_store::Start;
 use mot_repository::Repository;
 use std::alloc::Global;
 use std::io::Write;

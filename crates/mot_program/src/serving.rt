@@ -1,14 +1,15 @@
 //! What `memory` and `serve` do.
 ghost use Rattle.std.specs.Prelude.{◌≡◌, ◌⊎◌, OnOk, IfErr};
 ghost use Rattle.std.specs.Io.KnownBytes.{Keeps};
-ghost use Rattle.disk_store.specs.Disk.{KeepsLength};
+ghost use Rattle.disk_model.specs.Disk.{KeepsLength};
 ghost use Rattle.mot_base.specs.declared.refusal.Refusal.TheVariants.{DeviceFault};
 ghost use Rattle.mot_program.specs.Program.{IsMemoryRefusal, IsUntold, OnMemory, OnOpened, SinceNew};
 ghost use Rattle.mot_program.specs.Serving.{ServesInput, StopsServing};
 
 use crate::ended::{Ended, Finished, UsedDisk};
 use crate::file::open_file;
-use disk_store::{Disk, RamDisk, Start};
+use disk_model::Disk;
+use disk_store::{RamDisk, Start};
 use mot_base::{Geometry, Refusal};
 use mot_journal::format;
 use mot_server::Server;

@@ -1,8 +1,8 @@
 -- What a body's write and then a record's append leave: the two halves of a commit.
 use Rattle.std.proofs.Common.{◌≡◌, ◌⊎◌, inl, inr, ⊎_elim, ℕ, ◌+◌, List, [], ◌∷◌, ◌++◌, length, Ok}
 use Rattle.std.proofs.Common.{refl, sym, ◌∙◌, ap, subst, arith}
-use Rattle.disk_store.specs.Disk.{State, Keeps, WritesWithin, Torn, Throughout, IsHonestDisk}
-use Rattle.disk_store.proofs.Laws.{begins, goes_on, joins, weakens, at_end}
+use Rattle.disk_model.specs.Disk.{State, Keeps, WritesWithin, Torn, Throughout, IsHonestDisk}
+use Rattle.disk_model.proofs.Laws.{begins, goes_on, joins, weakens, at_end}
 use Rattle.mot_base.specs.declared.geometry.Geometry.{Geometry}
 use Rattle.mot_journal.specs.declared.layout.Layout.{Layout}
 use Rattle.mot_journal.specs.declared.record.Record.{Record}

@@ -1,7 +1,7 @@
 -- A rewrite or a migration, by what the journal tells of it.
 use Rattle.std.proofs.Common.{◌≡◌, List, Ok, refl, sym, ◌∙◌, ap, subst}
 use Rattle.std.specs.Prelude.{IsFalse, IsOk}
-use Rattle.disk_store.specs.Disk.{State, IsHonestDisk, Throughout}
+use Rattle.disk_model.specs.Disk.{State, IsHonestDisk, Throughout}
 use Rattle.mot_journal.specs.declared.layout.Layout.{Layout}
 use Rattle.mot_journal.specs.declared.record.Record.{Record}
 use Rattle.mot_journal.specs.Catalogue.{Catalogue, catalogue_of}

@@ -4,8 +4,8 @@ use Rattle.std.proofs.Common.{Err, All, refl, sym, ap, ◌∙◌, subst, arith}
 use Rattle.std.specs.Prelude.{IsFalse, Result, IsErr, OnOk, is_err}
 use Rattle.std.proofs.Math.Nat.{eq-or-lt_of_le}
 use Rattle.std.specs.List.{AllByRecursion}
-use Rattle.disk_store.specs.Disk.{State, IsStill, IsUnchanged, IsFirm, IsHonestDisk}
-use Rattle.disk_store.specs.Failures.{Rises, HasCause}
+use Rattle.disk_model.specs.Disk.{State, IsStill, IsUnchanged, IsFirm, IsHonestDisk}
+use Rattle.disk_model.specs.Failures.{Rises, HasCause}
 use Rattle.mot_base.specs.Geometry.{length_of}
 use Rattle.mot_base.specs.declared.geometry.Geometry.{Geometry}
 use Rattle.mot_base.specs.declared.refusal.Refusal.{Refusal}

@@ -7,7 +7,7 @@ use Rattle.std.proofs.lemmas.List.{take-append-le, drop-append-le, drop_all, tak
 use Rattle.std.proofs.lemmas.List.{drop-take}
 use Rattle.std.specs.Prelude.{IsFalse, bytes_eq, if◌then◌else◌}
 use Rattle.std.specs.List.{AllByRecursion, list_all}
-use Rattle.disk_store.specs.Disk.{State, IsHonestDisk, IsFirm}
+use Rattle.disk_model.specs.Disk.{State, IsHonestDisk, IsFirm}
 use Rattle.mot_base.specs.declared.refusal.Refusal.{Refusal}
 use Rattle.mot_carousel.specs.declared.carousel.Carousel.{Carousel}
 use Rattle.mot_carousel.specs.declared.object.Object.{Object}

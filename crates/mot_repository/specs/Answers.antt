@@ -1,7 +1,7 @@
 -- What the calls of a repository answer, and what they leave in memory.
 use Rattle.std.specs.Prelude.{◌≡◌, false, Result, Ok, Err, IsTrue, IsFalse}
-use Rattle.disk_store.specs.Disk.{State, IsUnchanged}
-use Rattle.disk_store.specs.Failures.{Rises}
+use Rattle.disk_model.specs.Disk.{State, IsUnchanged}
+use Rattle.disk_model.specs.Failures.{Rises}
 use Rattle.mot_base.specs.declared.refusal.Refusal.{Refusal}
 use Rattle.mot_base.specs.declared.refusal.Refusal.TheVariants.{OutOfMemory, DeviceFault, Halted}
 use Rattle.mot_carousel.specs.declared.command.Command.{Command}

@@ -1,7 +1,7 @@
 -- What an opening gives, and why a disk is not opened.
 use Rattle.std.specs.Prelude.{◌≡◌, ◌⊎◌, ℕ, List, length, Ok, Err, IsFalse}
-use Rattle.disk_store.specs.Disk.{State, IsFirm}
-use Rattle.disk_store.specs.Failures.{Rises}
+use Rattle.disk_model.specs.Disk.{State, IsFirm}
+use Rattle.disk_model.specs.Failures.{Rises}
 use Rattle.mot_base.specs.declared.refusal.Refusal.{Refusal}
 use Rattle.mot_base.specs.declared.refusal.Refusal.TheVariants.{OutOfMemory, DeviceFault}
 use Rattle.mot_base.specs.declared.refusal.Refusal.TheVariants.{NotFormatted, Damaged}

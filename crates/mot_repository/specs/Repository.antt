@@ -1,6 +1,6 @@
 -- A repository, its disk, and what both stand for.
 use Rattle.std.specs.Prelude.{◌≡◌, ◌⊎◌, ℕ, zero, suc, Bool, List, [], ◌∷◌, Ok, IsFalse}
-use Rattle.disk_store.specs.Disk.{State}
+use Rattle.disk_model.specs.Disk.{State}
 use Rattle.mot_carousel.specs.declared.carousel.Carousel.{Carousel}
 use Rattle.mot_carousel.specs.declared.command.Command.{Command}
 use Rattle.mot_carousel.specs.declared.command.Done.{Done}

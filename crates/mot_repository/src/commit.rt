@@ -1,8 +1,8 @@
 //! A commit as a whole: room in the half, the body, and the record.
 ghost use Rattle.std.specs.Prelude.{◌≡◌, ◌+◌, ◌≤◌, ◌<◌, ℕ, List, true, length, Ok, OnOk, OnErr};
 ghost use Rattle.std.specs.Prelude.{All, IfErr, IsFalse};
-ghost use Rattle.disk_store.specs.Disk.{Keeps, Costs, Throughout};
-ghost use Rattle.disk_store.specs.Failures.{HasCause};
+ghost use Rattle.disk_model.specs.Disk.{Keeps, Costs, Throughout};
+ghost use Rattle.disk_model.specs.Failures.{HasCause};
 ghost use Rattle.mot_base.specs.declared.refusal.Refusal.TheVariants.{DeviceFault};
 ghost use Rattle.mot_base.specs.Geometry.{area_start, length_of};
 ghost use Rattle.mot_carousel.specs.declared.carousel.Carousel.{Carousel};
@@ -23,7 +23,7 @@ ghost use Rattle.mot_repository.specs.Repository.{IsBeforeOrAfter};
 
 mod entry;
 
-use disk_store::Disk;
+use disk_model::Disk;
 use entry::write_change;
 use mot_base::Refusal;
 use mot_journal::{Journal, Record};

@@ -1,6 +1,6 @@
 //! A disk opened: its records folded into a carousel, whose bodies stay where they lie.
 ghost use Rattle.std.specs.Prelude.{◌≡◌, ◌≤◌, ◌+◌, ◌⊎◌, false, IfOk, IfErr, IsFalse, MatchResult};
-ghost use Rattle.disk_store.specs.Disk.{Costs, OnlyReads, OnlySyncs};
+ghost use Rattle.disk_model.specs.Disk.{Costs, OnlyReads, OnlySyncs};
 ghost use Rattle.mot_base.specs.declared.refusal.Refusal.TheVariants.{DeviceFault};
 ghost use Rattle.mot_repository.specs.Inner.InOrder.{IsInOrder};
 ghost use Rattle.mot_repository.specs.Inner.Loaded.{IsLoaded};
@@ -12,7 +12,7 @@ mod fold;
 
 use crate::Repository;
 use crate::inventory::Inventory;
-use disk_store::Disk;
+use disk_model::Disk;
 use fold::inventory_of;
 use mot_base::Refusal;
 use mot_journal::{Journal, load};

@@ -7,7 +7,7 @@ use crate::gap::longest_gap;
 use crate::inventory::Inventory;
 use crate::prepared::{Prepared, prepare_change};
 use crate::records::records_of;
-use disk_store::Disk;
+use disk_model::Disk;
 use mot_base::Refusal;
 use mot_carousel::{Carousel, Command, Done};
 use mot_journal::{Geometry, Journal, Layout, area_start};
@@ -43,9 +43,9 @@ impl<D: Disk> Model for Repository<D> {
 }
 
 impl<D: Disk> Repository<D> {
-    ghost use Rattle.disk_store.specs.Disk.{Keeps, KeepsLength, Costs, IsUnchanged, OnlyReads};
-    ghost use Rattle.disk_store.specs.Failures.{HasCause};
-    ghost use Rattle.disk_store.specs.Disk.{Throughout};
+    ghost use Rattle.disk_model.specs.Disk.{Keeps, KeepsLength, Costs, IsUnchanged, OnlyReads};
+    ghost use Rattle.disk_model.specs.Failures.{HasCause};
+    ghost use Rattle.disk_model.specs.Disk.{Throughout};
     ghost use Rattle.mot_base.specs.declared.refusal.Refusal.TheVariants.{DeviceFault};
     ghost use Rattle.mot_base.specs.Geometry.{area_start};
     ghost use Rattle.mot_carousel.specs.declared.command.Command.{Command};

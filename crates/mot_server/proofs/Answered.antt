@@ -2,7 +2,7 @@
 use Rattle.std.proofs.Common.{◌≡◌, ◌≤◌, Bool, true, false, List, [], ◌∷◌, ◌++◌, length, Some}
 use Rattle.std.proofs.Common.{Result, Ok, Err, refl, sym, ◌∙◌, ap, subst}
 use Rattle.std.specs.Prelude.{slice_get, IsTrue, IsFalse}
-use Rattle.disk_store.specs.Disk.{State, Throughout, Keeps, IsHonestDisk}
+use Rattle.disk_model.specs.Disk.{State, Throughout, Keeps, IsHonestDisk}
 use Rattle.mot_base.specs.declared.refusal.Refusal.{Refusal}
 use Rattle.mot_base.specs.declared.refusal.Refusal.TheVariants.{DeviceFault}
 use Rattle.mot_carousel.specs.declared.command.Command.{Command}

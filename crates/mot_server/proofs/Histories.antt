@@ -2,7 +2,7 @@
 use Rattle.std.proofs.Common.{◌≡◌, ℕ, Bool, false, List, [], ◌∷◌, ◌++◌, length, take, append_assoc}
 use Rattle.std.proofs.Common.{Option, Some, None, sym, subst}
 use Rattle.std.specs.Prelude.{◌&&◌, nat_le, if◌then◌else◌}
-use Rattle.disk_store.specs.Disk.{State}
+use Rattle.disk_model.specs.Disk.{State}
 use Rattle.mot_base.specs.declared.geometry.Geometry.{Geometry}
 use Rattle.mot_base.specs.Reading.{◌>>=◌}
 use Rattle.mot_base.specs.Geometry.{length_of}

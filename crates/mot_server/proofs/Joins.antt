@@ -3,8 +3,8 @@ use Rattle.std.proofs.Common.{◌≡◌, ℕ, Bool, true, false, List, [], ◌�
 use Rattle.std.proofs.Common.{Option, None, refl, sym, ◌∙◌, ap, subst, arith, append_assoc}
 use Rattle.std.proofs.lemmas.List.{append-nil}
 use Rattle.std.specs.Prelude.{if◌then◌else◌}
-use Rattle.disk_store.specs.Disk.{State, Throughout, IsHonestDisk, IsUnchanged}
-use Rattle.disk_store.proofs.Laws.{stays, joins, weakens}
+use Rattle.disk_model.specs.Disk.{State, Throughout, IsHonestDisk, IsUnchanged}
+use Rattle.disk_model.proofs.Laws.{stays, joins, weakens}
 use Rattle.mot_base.specs.declared.refusal.Refusal.{Refusal}
 use Rattle.mot_carousel.specs.declared.command.Command.{Command}
 use Rattle.mot_journal.specs.declared.layout.Layout.{Layout}

@@ -5,9 +5,9 @@ use Rattle.std.proofs.Common.{arith}
 use Rattle.std.proofs.Math.Logic.{⊎_elim}
 use Rattle.std.proofs.lemmas.Bool.Decides.{nat_tests}
 use Rattle.std.specs.Prelude.{IsFalse, ◌&&◌, nat_le, if◌then◌else◌}
-use Rattle.disk_store.specs.Disk.{State, Elapses, IsHonestDisk, IsStill, IsUnchanged, Nothing}
-use Rattle.disk_store.specs.Disk.{OnlyReads, OnlySyncs}
-use Rattle.disk_store.proofs.Laws.{keeps_on, only_bytes}
+use Rattle.disk_model.specs.Disk.{State, Elapses, IsHonestDisk, IsStill, IsUnchanged, Nothing}
+use Rattle.disk_model.specs.Disk.{OnlyReads, OnlySyncs}
+use Rattle.disk_model.proofs.Laws.{keeps_on, only_bytes}
 use Rattle.mot_base.specs.declared.geometry.Geometry.{Geometry}
 use Rattle.mot_base.specs.declared.refusal.Refusal.{Refusal}
 use Rattle.mot_base.specs.Geometry.{packet_room, length_of}

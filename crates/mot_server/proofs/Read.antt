@@ -3,8 +3,8 @@ use Rattle.std.proofs.Common.{◌≡◌, false, true, inl, ⊎_elim, ℕ, zero, 
 use Rattle.std.proofs.Common.{length, map, get_or, refl, sym, ap, ◌∙◌, subst, arith}
 use Rattle.std.proofs.Math.Nat.{eq-or-lt_of_le}
 use Rattle.std.proofs.lemmas.List.{ext_get_or, get_or-map}
-use Rattle.disk_store.specs.Disk.{State, IsHonestDisk, IsUnchanged}
-use Rattle.disk_store.specs.Failures.{Rises}
+use Rattle.disk_model.specs.Disk.{State, IsHonestDisk, IsUnchanged}
+use Rattle.disk_model.specs.Failures.{Rises}
 use Rattle.mot_base.specs.declared.geometry.Geometry.{Geometry}
 use Rattle.mot_carousel.specs.Carousel as whole
 use Rattle.mot_carousel.specs.Stands.{AreBodiesOf}

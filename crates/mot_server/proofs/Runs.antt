@@ -5,8 +5,8 @@ use Rattle.std.proofs.Common.{subst, arith}
 use Rattle.std.proofs.lemmas.List.{take-append-le, length-append, append-nil}
 use Rattle.std.proofs.Math.Seq.{take-append-add}
 use Rattle.std.specs.Prelude.{slice_get}
-use Rattle.disk_store.specs.Disk.{State, Throughout, Keeps, IsHonestDisk, IsUnchanged}
-use Rattle.disk_store.proofs.Laws.{begins as begins_moments, stays, joins, weakens, at_end}
+use Rattle.disk_model.specs.Disk.{State, Throughout, Keeps, IsHonestDisk, IsUnchanged}
+use Rattle.disk_model.proofs.Laws.{begins as begins_moments, stays, joins, weakens, at_end}
 use Rattle.mot_base.specs.Reading.{◌>>=◌}
 use Rattle.mot_base.specs.declared.refusal.Refusal.{Refusal}
 use Rattle.mot_base.specs.declared.refusal.Refusal.TheVariants.{DeviceFault}

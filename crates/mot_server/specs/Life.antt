@@ -1,6 +1,6 @@
 -- What becomes of a disk from its formatting on, in the words of commands and of a receiver alone.
 use Rattle.std.specs.Prelude.{◌≡◌, ◌≤◌, ◌<◌, ℕ, List, ◌++◌, length, take, true, false, Some}
-use Rattle.disk_store.specs.Disk.{State}
+use Rattle.disk_model.specs.Disk.{State}
 use Rattle.mot_base.specs.Geometry.{IsValid, length_of}
 use Rattle.mot_base.specs.declared.geometry.Geometry.{Geometry}
 use Rattle.mot_base.specs.declared.refusal.Refusal.{Refusal}

@@ -4,7 +4,7 @@ use Rattle.std.specs.Prelude.{Some}
 use Rattle.std.specs.Prelude.{IsTrue, IsFalse}
 use Rattle.mot_packets.specs.Written.{bytes_of_packet}
 use Rattle.arrayvec.specs.ArrayVec.{ArrayVec}
-use Rattle.disk_store.specs.Failures.{Rises}
+use Rattle.disk_model.specs.Failures.{Rises}
 use Rattle.mot_base.specs.declared.refusal.Refusal.{Refusal}
 use Rattle.mot_base.specs.declared.refusal.Refusal.TheVariants.{OutOfMemory, DeviceFault, Halted}
 use Rattle.mot_player.specs.Laws.{AreSent}

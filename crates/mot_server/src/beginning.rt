@@ -1,8 +1,8 @@
 //! The beginning of every history: a disk formatted here.
 ghost use Rattle.std.specs.Prelude.{◌≡◌, ◌⊎◌, ◌↔◌, ◌<◌, ℕ, List, true, false, Ok, IfOk};
 ghost use Rattle.std.specs.Prelude.{IfErr, OnOk, IsErrOf};
-ghost use Rattle.disk_store.specs.Disk.{KeepsLength, IsUnchanged, IsStill, Throughout};
-ghost use Rattle.disk_store.specs.Failures.{Rises};
+ghost use Rattle.disk_model.specs.Disk.{KeepsLength, IsUnchanged, IsStill, Throughout};
+ghost use Rattle.disk_model.specs.Failures.{Rises};
 ghost use Rattle.mot_base.specs.Geometry.{IsValid, length_of};
 ghost use Rattle.mot_base.specs.declared.refusal.Refusal.TheVariants.{DeviceFault, BadGeometry};
 ghost use Rattle.mot_base.specs.declared.refusal.Refusal.TheVariants.{DiskTooSmall};
@@ -18,7 +18,7 @@ ghost use Rattle.mot_server.specs.History.{HistoriesAreCommands};
 ghost use Rattle.mot_server.specs.Playing.{bytes_of_packets};
 
 use crate::{Refused, Restarted, restart};
-use disk_store::Disk;
+use disk_model::Disk;
 use mot_base::Refusal;
 use mot_journal::{Geometry, format};
 use std::alloc::Global;

@@ -1,13 +1,13 @@
 //! Whether a body on the disk has these bytes.
 ghost use Rattle.std.specs.Prelude.{◌≡◌, ◌<◌, ◌↔◌, length, IfOk, IfErr, IsTrue, OnErr, OnOk};
-ghost use Rattle.disk_store.specs.Disk.{OnlyReads};
-ghost use Rattle.disk_store.specs.Failures.{Rises};
+ghost use Rattle.disk_model.specs.Disk.{OnlyReads};
+ghost use Rattle.disk_model.specs.Failures.{Rises};
 ghost use Rattle.mot_base.specs.declared.refusal.Refusal.TheVariants.{DeviceFault};
 ghost use Rattle.mot_journal.specs.Image.{Standing};
 ghost use Rattle.mot_repository.specs.OnDisk.{extent_at};
 ghost use Rattle.mot_repository.specs.Repository.{Holds, object_body};
 
-use disk_store::Disk;
+use disk_model::Disk;
 use mot_base::Refusal;
 use mot_repository::Repository;
 

@@ -1,7 +1,7 @@
 //! The headline: what a crash leaves of a run of commands, opened and played.
 ghost use Rattle.std.specs.Prelude.{◌≡◌, ◌++◌, ℕ, List, length, take, vec_len, IfOk, IfErr};
 ghost use Rattle.std.specs.Prelude.{IfSome, IfNone};
-ghost use Rattle.disk_store.specs.Disk.{Keeps};
+ghost use Rattle.disk_model.specs.Disk.{Keeps};
 ghost use Rattle.mot_base.specs.declared.geometry.Geometry.{Geometry};
 ghost use Rattle.mot_journal.specs.Image.{Standing};
 ghost use Rattle.mot_player.specs.Reading.{ReadsAs};
@@ -15,7 +15,7 @@ ghost use Rattle.mot_server.specs.Runs.{accepted_commands, commands_in_flight};
 ghost use Rattle.mot_server.specs.Runs.{IsAfter, IsAfterSome};
 
 use crate::{Refused, Restarted, RunEnd, Server, restart};
-use disk_store::Disk;
+use disk_model::Disk;
 use mot_carousel::Command;
 use std::alloc::Global;
 

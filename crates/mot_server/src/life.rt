@@ -1,7 +1,7 @@
 //! The life of a disk: formatted, opened, given commands; and what a crash at any moment of that
 //! left, opened and played. Nothing here is told in the words of the disk's format or of memory.
 ghost use Rattle.std.specs.Prelude.{◌≡◌, ◌++◌, [], false, IfOk, IfErr};
-ghost use Rattle.disk_store.specs.Disk.{KeepsLength, Throughout};
+ghost use Rattle.disk_model.specs.Disk.{KeepsLength, Throughout};
 ghost use Rattle.mot_carousel.specs.Carousel.{new_carousel};
 ghost use Rattle.mot_journal.specs.Geometry.{has_magic};
 ghost use Rattle.mot_journal.specs.Image.{Standing};
@@ -15,7 +15,7 @@ ghost use Rattle.mot_server.specs.Playing.{bytes_of_packets};
 ghost use Rattle.mot_server.specs.Runs.{accepted_commands, commands_in_flight};
 
 use crate::{Refused, Restarted, RunEnd, Server, restart};
-use disk_store::Disk;
+use disk_model::Disk;
 use mot_carousel::Command;
 use mot_journal::{Geometry, format};
 use mot_packets::Packet;

@@ -8,7 +8,7 @@ ghost use Rattle.mot_player.specs.PlayerView.{place_of};
 ghost use Rattle.mot_player.specs.Turn.{turn_of_carousel};
 ghost use Rattle.mot_server.specs.Inner.Plays.{PlaysCarousel};
 
-use disk_store::Disk;
+use disk_model::Disk;
 use mot_base::Refusal;
 use mot_player::{Player, Turn};
 use mot_repository::Repository;

@@ -1,6 +1,6 @@
 //! A disk opened, and its first turn played.
 ghost use Rattle.std.specs.Prelude.{◌≡◌, ◌⊎◌, Ok, IfOk, IfErr, MatchResult};
-ghost use Rattle.disk_store.specs.Disk.{OnlySyncs};
+ghost use Rattle.disk_model.specs.Disk.{OnlySyncs};
 ghost use Rattle.mot_base.specs.declared.refusal.Refusal.TheVariants.{DeviceFault};
 ghost use Rattle.mot_base.specs.Geometry.{packet_room};
 ghost use Rattle.mot_journal.specs.Image.{Standing};
@@ -14,7 +14,7 @@ ghost use Rattle.mot_server.specs.Playing.{HasPlayedTurn, bytes_of_packets};
 ghost use Rattle.mot_server.specs.Server.{place_in};
 
 use crate::{Refused, Server};
-use disk_store::Disk;
+use disk_model::Disk;
 use mot_packets::Packet;
 use std::alloc::Global;
 

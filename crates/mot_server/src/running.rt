@@ -5,7 +5,7 @@ ghost use Rattle.mot_base.specs.declared.refusal.Refusal.TheVariants.{DeviceFaul
 ghost use Rattle.mot_server.specs.RunEnds.{is_run_ending};
 
 use crate::Server;
-use disk_store::Disk;
+use disk_model::Disk;
 use mot_base::Refusal;
 use mot_carousel::{Command, Done};
 use std::alloc::Global;
@@ -29,7 +29,7 @@ pub enum Attempt {
 }
 
 impl<D: Disk> Server<D> {
-    ghost use Rattle.disk_store.specs.Disk.{Keeps};
+    ghost use Rattle.disk_model.specs.Disk.{Keeps};
     ghost use Rattle.mot_journal.specs.Image.{Standing};
     ghost use Rattle.mot_repository.specs.Repository.{Holds};
     ghost use Rattle.mot_repository.specs.Answers.{IsAnswered};

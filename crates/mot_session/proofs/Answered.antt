@@ -2,9 +2,9 @@
 use Rattle.std.proofs.Common.{◌≡◌, ℕ, ◌≤◌, inl, inr, Bool, true, false, List, [], ◌∷◌, ◌++◌}
 use Rattle.std.proofs.Common.{Ok, Err, Result, refl, sym, ap, ◌∙◌, subst, arith, append-nil}
 use Rattle.std.specs.Prelude.{IsTrue, IsFalse, if◌then◌else◌}
-use Rattle.disk_store.proofs.Laws.{unchanged_on}
-use Rattle.disk_store.specs.Disk.{State, IsHonestDisk, IsUnchanged, Throughout}
-use Rattle.disk_store.proofs.Laws.{begins, stays, weakens}
+use Rattle.disk_model.proofs.Laws.{unchanged_on}
+use Rattle.disk_model.specs.Disk.{State, IsHonestDisk, IsUnchanged, Throughout}
+use Rattle.disk_model.proofs.Laws.{begins, stays, weakens}
 use Rattle.mot_base.specs.declared.group_kind.GroupKind.{GroupKind}
 use Rattle.mot_base.specs.declared.refusal.Refusal.{Refusal}
 use Rattle.mot_base.specs.declared.refusal.Refusal.TheVariants.{OutOfMemory, DeviceFault, Halted}

@@ -4,8 +4,8 @@ use Rattle.std.proofs.Common.{◌++◌}
 use Rattle.std.proofs.Common.{refl, sym, ap, ◌∙◌, subst, arith, append_assoc, append-nil}
 use Rattle.std.proofs.lemmas.List.Concat.{flat_map-append}
 use Rattle.std.specs.Prelude.{IsTrue, IsFalse}
-use Rattle.disk_store.specs.Disk.{State, IsHonestDisk}
-use Rattle.disk_store.proofs.Laws.{at_end}
+use Rattle.disk_model.specs.Disk.{State, IsHonestDisk}
+use Rattle.disk_model.proofs.Laws.{at_end}
 use Rattle.mot_carousel.specs.declared.command.Command.{Command}
 use Rattle.mot_journal.specs.Image.{Standing}
 use Rattle.mot_lines.specs.Line.{line_of}

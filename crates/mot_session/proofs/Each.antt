@@ -2,7 +2,7 @@
 use Rattle.std.proofs.Common.{◌≡◌, ℕ, List, [], ◌∷◌, ◌++◌, length, Option, Result, Ok, Err}
 use Rattle.std.proofs.Common.{refl, subst, sym}
 use Rattle.std.specs.Prelude.{OnOk, OnErr}
-use Rattle.disk_store.specs.Disk.{State, IsHonestDisk}
+use Rattle.disk_model.specs.Disk.{State, IsHonestDisk}
 use Rattle.mot_lines.specs.Line.{line_of}
 use Rattle.mot_lines.specs.Lines.{whole_lines}
 use Rattle.mot_lines.proofs.Laws.{whole_lines-none}

@@ -1,7 +1,7 @@
 -- What is told of bytes that were answered is told of a line that asks for the same.
 use Rattle.std.proofs.Common.{◌≡◌, ℕ, List, [], ◌++◌, Option, ap, subst}
 use Rattle.std.specs.Prelude.{if◌then◌else◌}
-use Rattle.disk_store.specs.Disk.{State, Throughout}
+use Rattle.disk_model.specs.Disk.{State, Throughout}
 use Rattle.mot_carousel.specs.declared.command.Command.{Command}
 use Rattle.mot_journal.specs.Image.{Standing}
 use Rattle.mot_lines.specs.Line.{line_of}

@@ -9,7 +9,7 @@ use Rattle.std.proofs.lemmas.List.{length-map}
 use Rattle.std.specs.Io.KnownBytes.{Appends, Keeps}
 use Rattle.std.specs.List.{flat_map}
 use Rattle.std.specs.Prelude.{IsTrue, IsFalse, IfOk, if◌then◌else◌}
-use Rattle.disk_store.specs.Disk.{State, IsHonestDisk, IsUnchanged, Throughout}
+use Rattle.disk_model.specs.Disk.{State, IsHonestDisk, IsUnchanged, Throughout}
 use Rattle.mot_base.specs.declared.geometry.Geometry.{Geometry}
 use Rattle.mot_base.specs.declared.refusal.Refusal.{Refusal}
 use Rattle.mot_base.specs.declared.refusal.Refusal.TheVariants.{OutOfMemory, ReadFault, WriteFault}

@@ -2,9 +2,9 @@
 use Rattle.std.proofs.Common.{◌≡◌, ℕ, Bool, List, Option, Some, Result, refl, sym, ap, ◌∙◌}
 use Rattle.std.proofs.Common.{subst}
 use Rattle.std.specs.Prelude.{IfOk}
-use Rattle.disk_store.specs.Disk.{State}
-use Rattle.disk_store.proofs.Laws.{keeps_none, keeps_on, reads_none, reads_on, unchanged_none}
-use Rattle.disk_store.proofs.Laws.{unchanged_on}
+use Rattle.disk_model.specs.Disk.{State}
+use Rattle.disk_model.proofs.Laws.{keeps_none, keeps_on, reads_none, reads_on, unchanged_none}
+use Rattle.disk_model.proofs.Laws.{unchanged_on}
 use Rattle.mot_journal.specs.Image.{Standing}
 use Rattle.mot_lines.specs.Text.{played_line}
 use Rattle.mot_packets.specs.Packet.{read_packet}

@@ -1,7 +1,7 @@
 -- Bytes of a chunk that were taken, and the lines served that ended in them.
 use Rattle.std.proofs.Common.{◌≡◌, ℕ, ◌+◌, List, [], ◌∷◌, ◌++◌, Option, sym, ap, subst, ◌∙◌}
 use Rattle.std.proofs.Common.{append_assoc, append-nil}
-use Rattle.disk_store.specs.Disk.{State, IsHonestDisk}
+use Rattle.disk_model.specs.Disk.{State, IsHonestDisk}
 use Rattle.mot_lines.specs.Hand.{bytes_in_hand}
 use Rattle.mot_lines.specs.Line.{line_of}
 use Rattle.mot_lines.specs.Lines.{HasNoLineEnd, whole_lines, rest_of}

@@ -3,8 +3,8 @@ use Rattle.std.proofs.Common.{ℕ, ◌+◌, ⊎_elim, List, [], ◌++◌, length
 use Rattle.std.proofs.Common.{sym, ap, ◌∙◌, subst, arith, append_assoc, append-nil, length-append}
 use Rattle.std.proofs.Math.Seq.{take-append-add}
 use Rattle.std.specs.Prelude.{IsFalse, OnOk, OnErr}
-use Rattle.disk_store.specs.Disk.{State, IsHonestDisk}
-use Rattle.disk_store.proofs.Laws.{at_end, weakens}
+use Rattle.disk_model.specs.Disk.{State, IsHonestDisk}
+use Rattle.disk_model.proofs.Laws.{at_end, weakens}
 use Rattle.mot_carousel.specs.declared.command.Command.{Command}
 use Rattle.mot_journal.specs.Image.{Standing}
 use Rattle.mot_lines.specs.Line.{line_of}

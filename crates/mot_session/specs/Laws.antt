@@ -1,7 +1,7 @@
 -- What holds of every raw reply, and of every session.
 use Rattle.std.specs.Prelude.{ℕ, ◌≡◌, ◌+◌, ◌⊎◌, ◌<◌, ◌≤◌, Bool, true, false, List, [], ◌∷◌, ◌++◌}
 use Rattle.std.specs.Prelude.{length, if◌then◌else◌, Some, Result}
-use Rattle.disk_store.specs.Failures.{most_failures}
+use Rattle.disk_model.specs.Failures.{most_failures}
 use Rattle.mot_base.specs.Geometry.{IsValid}
 use Rattle.mot_base.specs.declared.geometry.Geometry.{Geometry}
 use Rattle.mot_base.specs.declared.group_kind.GroupKind.{GroupKind}

@@ -2,7 +2,7 @@
 -- was after it: so what comes behind a line takes nothing of it back.
 use Rattle.std.specs.Prelude.{ℕ, ◌≡◌, List, [], ◌∷◌, ◌++◌, length, Option, IsTrue}
 use Rattle.std.specs.Io.KnownBytes.{Appends}
-use Rattle.disk_store.specs.Disk.{State, IsUnchanged, KeepsLength}
+use Rattle.disk_model.specs.Disk.{State, IsUnchanged, KeepsLength}
 use Rattle.mot_lines.specs.Line.{line_of}
 use Rattle.mot_server.specs.Server.{ServerView}
 use Rattle.mot_session.specs.OnAnyDisk.{AnswersAnyhow, BeginsAnyhow}

@@ -3,7 +3,7 @@
 use Rattle.std.specs.Prelude.{ℕ, ◌≡◌, ◌<◌, ◌≤◌, Bool, true, false, List, ◌++◌, length, map}
 use Rattle.std.specs.Prelude.{replicate, Result, Ok, Err, IsTrue, IsFalse}
 use Rattle.std.specs.List.{flat_map}
-use Rattle.disk_store.specs.Failures.{Rises}
+use Rattle.disk_model.specs.Failures.{Rises}
 use Rattle.mot_base.specs.declared.group_kind.GroupKind.{GroupKind}
 use Rattle.mot_base.specs.declared.refusal.Refusal.{Refusal}
 use Rattle.mot_base.specs.declared.refusal.Refusal.TheVariants.{OutOfMemory, BadLine, DeviceFault}

@@ -1,6 +1,6 @@
 -- What a server on a disk stands for.
 use Rattle.std.specs.Prelude.{◌≡◌, ℕ, ◌≤◌, Bool, IsFalse}
-use Rattle.disk_store.specs.Disk as disk
+use Rattle.disk_model.specs.Disk as disk
 use Rattle.mot_base.specs.Geometry.{packet_room}
 use Rattle.mot_journal.specs.declared.layout.Layout.{Layout}
 use Rattle.mot_journal.specs.Image.{Standing}

@@ -1,6 +1,6 @@
 //! What the answer to a line is.
 ghost use Rattle.std.specs.Prelude.{◌≡◌, [], Ok, IsTrue, IsFalse};
-ghost use Rattle.disk_store.specs.Disk.{IsUnchanged, KeepsLength, Throughout};
+ghost use Rattle.disk_model.specs.Disk.{IsUnchanged, KeepsLength, Throughout};
 ghost use Rattle.mot_journal.specs.Image.{Standing};
 ghost use Rattle.mot_repository.specs.Repository.{Holds};
 ghost use Rattle.mot_server.specs.Runs.{StandsAfterSome};
@@ -10,7 +10,7 @@ ghost use Rattle.mot_session.specs.State.{Leads};
 
 mod group;
 
-use disk_store::Disk;
+use disk_model::Disk;
 pub(crate) use group::group_of;
 use mot_base::Refusal;
 use mot_carousel::{Command, Done};

@@ -1,7 +1,7 @@
 //! The life of a disk, told of lines: formatted, opened and served; and what a crash at any moment
 //! of that left, opened and played. Input bytes, output bytes and packets are all that is told.
 ghost use Rattle.std.specs.Prelude.{◌≤◌, ◌++◌, ℕ, List, [], IfOk, IfErr};
-ghost use Rattle.disk_store.specs.Disk.{KeepsLength};
+ghost use Rattle.disk_model.specs.Disk.{KeepsLength};
 ghost use Rattle.mot_base.specs.declared.geometry.Geometry.{Geometry};
 ghost use Rattle.mot_carousel.specs.declared.command.Command.{Command};
 ghost use Rattle.mot_repository.specs.Opening.{IsPassing};
@@ -12,7 +12,7 @@ ghost use Rattle.mot_session.specs.Life.{IsKeptFrom, Told, Tells, commands_done}
 ghost use Rattle.mot_session.specs.Served.{TakesInput};
 
 use crate::{Geometry, MAX_READS, ServeEnd, serve};
-use disk_store::Disk;
+use disk_model::Disk;
 use mot_server::{FirstTurn, Refused, Restarted, Server, first_turn, format_and_open, restart};
 use std::alloc::Global;
 use std::io::{Read, Write};

@@ -2,7 +2,7 @@
 ghost use Rattle.std.specs.Prelude.{◌≡◌, ℕ, ◌+◌, ◌-◌, ◌^◌, ◌≤◌, ◌<◌, ◌⊎◌, Option, List, ◌++◌};
 ghost use Rattle.std.specs.Prelude.{length, OnOk, OnErr, None, Some, IsTrue};
 ghost use Rattle.std.specs.Io.KnownBytes.{Keeps, IsAtEnd};
-ghost use Rattle.disk_store.specs.Disk.{IsUnchanged, KeepsLength};
+ghost use Rattle.disk_model.specs.Disk.{IsUnchanged, KeepsLength};
 ghost use Rattle.mot_base.specs.declared.refusal.Refusal.TheVariants.{OutOfMemory, ReadFault};
 ghost use Rattle.mot_lines.specs.Lines.{whole_lines, lines_of};
 ghost use Rattle.mot_session.specs.Inner.InHand.{InHand};
@@ -18,7 +18,7 @@ mod output;
 mod reading;
 mod reply;
 
-use disk_store::Disk;
+use disk_model::Disk;
 pub use listing::write_listing;
 use mot_base::Refusal;
 use mot_lines::{Hand, cut_at_line_end, parse_line};

@@ -1,5 +1,6 @@
 //! Disks in memory, and servers on them.
-use disk_store::{Disk, MemoryDisk};
+use disk_model::Disk;
+use disk_store::MemoryDisk;
 use mot_base::Refusal;
 use mot_journal::{Geometry, format};
 use std::alloc::Global;

@@ -5,7 +5,8 @@ use crate::expecting::expect;
 use crate::streams::FailingWriter;
 use mot_base::Refusal;
 use mot_carousel::{Body, Command, Content, Name};
-use mot_feed::{Direct, NoUpdate, feed, send_packets};
+use mot_feed::{Direct, feed, send_packets};
+use mot_update::NoUpdate;
 use std::alloc::Global;
 
 fn put_of(alloc: Global, name: &[u8]) -> Result<Command, Refusal> {

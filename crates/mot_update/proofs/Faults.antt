@@ -1,8 +1,8 @@
 -- Faults of calls one after the other.
 use Rattle.std.proofs.Common.{◌≡◌, ◌∙◌, ◌⊎◌, inl, inr, Result, Ok, Err, refl, sym, ap, subst}
 use Rattle.std.specs.Prelude.{IfErr, MatchResult, OnOk, IsTrue, IsFalse}
-use Rattle.disk_store.specs.Disk.{State}
-use Rattle.disk_store.specs.Failures.{Rises}
+use Rattle.disk_model.specs.Disk.{State}
+use Rattle.disk_model.specs.Failures.{Rises}
 use Rattle.mot_base.specs.declared.refusal.Refusal.{Refusal}
 use Rattle.mot_base.specs.declared.refusal.Refusal.TheVariants.{DeviceFault, Halted, OutOfMemory}
 use Rattle.mot_server.specs.Playing.{IsReadRefusal}

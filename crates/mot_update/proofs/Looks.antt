@@ -13,7 +13,7 @@ use Rattle.std.proofs.lemmas.Bool.{and_parts, and_from, or_parts, or_from, not-t
 use Rattle.std.proofs.lemmas.Grind.{flat_map-append}
 use Rattle.std.proofs.lemmas.List.{map-append}
 use Rattle.std.proofs.lemmas.List.Concat.{flat_map-cons}
-use Rattle.disk_store.specs.Disk.{State, IsHonestDisk, IsUnchanged}
+use Rattle.disk_model.specs.Disk.{State, IsHonestDisk, IsUnchanged}
 use Rattle.mot_base.specs.declared.refusal.Refusal.{Refusal}
 use Rattle.mot_carousel.specs.Carousel.{Carousel, are_names_distinct, carousel_after}
 use Rattle.mot_carousel.specs.Stands.{object_of, objects_of}

@@ -1,6 +1,6 @@
 //! A look at a source: what it gives, made of a server's carousel.
 ghost use Rattle.std.specs.Prelude.{◌≡◌, [], true, IfErr, IfOk};
-ghost use Rattle.disk_store.specs.Disk.{KeepsLength};
+ghost use Rattle.disk_model.specs.Disk.{KeepsLength};
 ghost use Rattle.mot_base.specs.declared.refusal.Refusal.TheVariants.{OutOfMemory};
 ghost use Rattle.mot_carousel.specs.Carousel.{are_names_distinct};
 ghost use Rattle.mot_journal.specs.Image.{Standing};
@@ -12,7 +12,7 @@ ghost use Rattle.mot_update.specs.Looking.{unknown_names, withdraw_all};
 ghost use Rattle.mot_update.specs.Told.{TellsMore};
 
 use crate::{Source, settle, withdraw};
-use disk_store::Disk;
+use disk_model::Disk;
 use mot_base::Refusal;
 use mot_carousel::{Carousel, Name};
 use mot_server::Server;

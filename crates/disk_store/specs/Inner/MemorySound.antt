@@ -2,7 +2,7 @@
 use Rattle.std.specs.Prelude.{◌≡◌, ℕ, ◌≤◌, length, take}
 use Rattle.std.proofs.Common.{refl, arith, ap, sym, ◌∙◌, subst}
 use Rattle.std.proofs.lemmas.List.{take_all}
-use Rattle.disk_store.specs.Disk.{IsHonestDisk}
+use Rattle.disk_model.specs.Disk.{IsHonestDisk}
 use Rattle.disk_store.specs.Content.{after_events, at_start, IsImageOf}
 use Rattle.disk_store.specs.Memory.{content, memory_state}
 use Rattle.disk_store.specs.declared.memory.MemoryDisk.{MemoryDisk}

@@ -4,10 +4,10 @@ ghost use Rattle.std.specs.Prelude.{◌≡◌, ◌⊎◌, ◌+◌, ◌≤◌, []
 ghost use Rattle.std.specs.Prelude.{OnOk, OnErr, IsErr};
 ghost use Rattle.disk_store.specs.Calls.{Gave, FailedRead, Wrote, FailedWrite, Synced};
 ghost use Rattle.disk_store.specs.Calls.{FailedSync};
-ghost use Rattle.disk_store.specs.Disk.{Keeps, KeepsLength, IsUnchanged, IsStill, WritesWithin};
-ghost use Rattle.disk_store.specs.Failures.{HasCause};
-ghost use Rattle.disk_store.specs.Disk.{IsMarked, IsFirm, LeavesAll};
-ghost use Rattle.disk_store.specs.Failures.{most_failures};
+ghost use Rattle.disk_model.specs.Disk.{Keeps, KeepsLength, IsUnchanged, IsStill, WritesWithin};
+ghost use Rattle.disk_model.specs.Failures.{HasCause};
+ghost use Rattle.disk_model.specs.Disk.{IsMarked, IsFirm, LeavesAll};
+ghost use Rattle.disk_model.specs.Failures.{most_failures};
 
 use super::{FileDiskFrom, Start};
 use crate::{Disk, DiskFault};

@@ -3,7 +3,7 @@ ghost use Rattle.std.specs.Prelude.{◌≡◌, [], ◌∷◌, ◌++◌, length, 
 ghost use Rattle.disk_store.specs.Calls.{content_after, opening_calls, making_calls};
 ghost use Rattle.disk_store.specs.Calls.{Locked, Opened, Made, Synced, Dropped, Named};
 ghost use Rattle.disk_store.specs.Inner.Noting.{HasOnlyOpened};
-ghost use Rattle.disk_store.specs.Disk.{IsNew, LeavesAll};
+ghost use Rattle.disk_model.specs.Disk.{IsNew, LeavesAll};
 ghost use Rattle.disk_store.specs.File.{file_state, calls_on, CanSync};
 
 use super::system::{HeldFile, take_away};

@@ -1,8 +1,8 @@
 //! A disk in memory to work on, none of whose calls is made to fail.
 ghost use Rattle.std.specs.Prelude.{◌≡◌, ◌+◌, ◌<◌, ◌≤◌, length, replicate, slice_range, IfSome, IsOk};
 ghost use Rattle.std.specs.Prelude.{OnErr};
-ghost use Rattle.disk_store.specs.Disk.{IsNew};
-ghost use Rattle.disk_store.specs.Failures.{most_failures};
+ghost use Rattle.disk_model.specs.Disk.{IsNew};
+ghost use Rattle.disk_model.specs.Failures.{most_failures};
 ghost use Rattle.disk_store.specs.Faults.{no_plan};
 ghost use Rattle.disk_store.specs.Memory.{fault_plan};
 
@@ -31,9 +31,9 @@ impl RamDisk {
 }
 
 impl Disk for RamDisk {
-    ghost use Rattle.disk_store.specs.Disk.{Keeps, IsUnchanged, IsStill, IsFirm, WritesWithin};
-    ghost use Rattle.disk_store.specs.Failures.{HasCause};
-    ghost use Rattle.disk_store.specs.Disk.{IsMarked};
+    ghost use Rattle.disk_model.specs.Disk.{Keeps, IsUnchanged, IsStill, IsFirm, WritesWithin};
+    ghost use Rattle.disk_model.specs.Failures.{HasCause};
+    ghost use Rattle.disk_model.specs.Disk.{IsMarked};
     ghost use Rattle.disk_store.specs.Ram.{ram_state};
     ghost use Rattle.disk_store.specs.Inner.MemorySound.{memory_sound};
     ghost use Rattle.std.specs.Prelude.{OnOk};

@@ -1,7 +1,7 @@
 -- What an open server is inspected by.
 use Rattle.std.specs.Prelude.{◌≡◌, ◌⊎◌, ℕ, List, length, Option}
 use Rattle.std.specs.Io.KnownBytes.{Appends, Keeps}
-use Rattle.disk_store.specs.Failures.{Rises}
+use Rattle.disk_model.specs.Failures.{Rises}
 use Rattle.mot_air.specs.Inspecting.{bytes_of_all, inspection_text}
 use Rattle.mot_base.specs.declared.refusal.Refusal.{Refusal}
 use Rattle.mot_base.specs.declared.refusal.Refusal.TheVariants.{BadNumber, DeviceFault, WriteFault}

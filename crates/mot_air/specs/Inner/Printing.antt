@@ -1,6 +1,6 @@
 -- Why the lines of a carousel could not be printed.
 use Rattle.std.specs.Prelude.{◌≡◌, ◌⊎◌, ℕ}
-use Rattle.disk_store.specs.Failures.{Rises}
+use Rattle.disk_model.specs.Failures.{Rises}
 use Rattle.mot_base.specs.declared.refusal.Refusal.{Refusal}
 use Rattle.mot_base.specs.declared.refusal.Refusal.TheVariants.{DeviceFault, WriteFault}
 

@@ -2,7 +2,8 @@
 use super::last_of;
 use crate::disks::{self, ONE, new_disk, write_at};
 use crate::expecting::expect;
-use disk_store::{Disk, MemoryDisk};
+use disk_model::Disk;
+use disk_store::MemoryDisk;
 use mot_base::{Refusal, TransportId};
 use mot_carousel::{BodyLength, Content, Mime, Name, Period};
 use mot_journal::{Action, Layout, Record, load, slot_bytes};

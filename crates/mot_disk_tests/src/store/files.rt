@@ -1,7 +1,8 @@
 //! Rows of real files. Each test makes a folder of its own where it runs, and takes it away again.
 use super::{bytes_of, copy_byte, leading_zeros, read_after_crash, zeros_of};
 use crate::expecting::expect;
-use disk_store::{Disk, DiskFault, FileDisk, FileDiskFrom, MemoryDisk, Unknown};
+use disk_model::{Disk, DiskFault};
+use disk_store::{FileDisk, FileDiskFrom, MemoryDisk, Unknown};
 use std::os::fd::AsRawFd;
 use std::os::unix;
 use std::os::unix::fs::MetadataExt;

@@ -4,7 +4,8 @@ ghost use Rattle.disk_store.specs.Memory.{memory_state};
 
 use super::{answers, bytes_of, write_sync_write};
 use crate::expecting::expect;
-use disk_store::{Disk, DiskFault, MemoryDisk};
+use disk_model::{Disk, DiskFault};
+use disk_store::MemoryDisk;
 use std::alloc::Global;
 
 // A function below that holds a disk has few ways out: at each, its end is proved anew.

@@ -2,8 +2,8 @@
 use Rattle.std.specs.Prelude.{◌≡◌, ◌⊎◌, ℕ, ◌+◌, ◌*◌, ◌<◌, ◌≤◌, List, length, take, drop}
 use Rattle.std.specs.Prelude.{replicate, slice_range, slice_get, Option, Some, None}
 use Rattle.std.specs.Prelude.{Result, IsErr}
-use Rattle.disk_store.specs.Disk.{State, AgreeOutside, Torn, Throughout}
-use Rattle.disk_store.specs.Failures.{Rises, most_failures}
+use Rattle.disk_model.specs.Disk.{State, AgreeOutside, Torn, Throughout}
+use Rattle.disk_model.specs.Failures.{Rises, most_failures}
 use Rattle.mot_base.specs.declared.geometry.Geometry.{Geometry}
 use Rattle.mot_base.specs.Geometry.{half_start, half_size}
 use Rattle.mot_journal.specs.declared.layout.Layout.{Layout}

@@ -4,7 +4,7 @@ use Rattle.mot_journal.specs.Catalogue.{Placed, Catalogue, extents_of}
 use Rattle.mot_repository.specs.Prepared.{IsFull}
 use Rattle.mot_repository.specs.Repository.{RepositoryView}
 use Rattle.std.specs.Prelude.{◌⊎◌, IsFalse, List}
-use Rattle.disk_store.specs.Disk.{State}
+use Rattle.disk_model.specs.Disk.{State}
 use Rattle.mot_journal.specs.declared.record.Record.{Record}
 use Rattle.mot_journal.specs.Image.{Standing}
 use Rattle.mot_journal.specs.Journal.{JournalView}

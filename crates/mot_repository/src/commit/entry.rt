@@ -1,8 +1,8 @@
 //! What a commit writes where the half has room: the body into its gap, and then the record.
 ghost use Rattle.std.specs.Prelude.{◌≡◌, ◌+◌, ◌≤◌, ◌<◌, ◌++◌, [], ◌∷◌, ℕ, List, true, length};
 ghost use Rattle.std.specs.Prelude.{slice_range, Ok, OnOk, OnErr, IfErr, IsFalse};
-ghost use Rattle.disk_store.specs.Disk.{Keeps, Costs, Throughout, WritesWithin};
-ghost use Rattle.disk_store.specs.Failures.{HasCause};
+ghost use Rattle.disk_model.specs.Disk.{Keeps, Costs, Throughout, WritesWithin};
+ghost use Rattle.disk_model.specs.Failures.{HasCause};
 ghost use Rattle.mot_base.specs.declared.refusal.Refusal.TheVariants.{DeviceFault};
 ghost use Rattle.mot_base.specs.Geometry.{area_start, length_of};
 ghost use Rattle.mot_carousel.specs.declared.command.Command.{Command};
@@ -19,7 +19,7 @@ ghost use Rattle.mot_repository.specs.Outcome.{after_command};
 ghost use Rattle.mot_repository.specs.Repository.{RepositoryView, Agrees, IsOf, Holds};
 ghost use Rattle.mot_repository.specs.Repository.{IsBeforeOrAfter};
 
-use disk_store::Disk;
+use disk_model::Disk;
 use mot_base::Refusal;
 use mot_journal::{Journal, Record};
 

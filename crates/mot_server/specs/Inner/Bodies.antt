@@ -1,6 +1,6 @@
 -- The bodies of a repository, as its disk gives them.
 use Rattle.std.specs.Prelude.{◌≡◌, ℕ, ◌+◌, ◌≤◌, List, ◌++◌, map, take, replicate, slice_range}
-use Rattle.disk_store.specs.Disk.{State, KeepsLength, IsUnchanged}
+use Rattle.disk_model.specs.Disk.{State, KeepsLength, IsUnchanged}
 use Rattle.mot_base.specs.Geometry.{area_start}
 use Rattle.mot_base.specs.declared.geometry.Geometry.{Geometry}
 use Rattle.mot_repository.specs.Repository.{RepositoryView}

@@ -1,8 +1,8 @@
 -- Where no read has come, all stays.
 use Rattle.std.specs.Prelude.{refl}
 use Rattle.std.proofs.Common.{le-add_right}
-use Rattle.disk_store.proofs.Laws.{keeps_none, unchanged_none}
-use Rattle.disk_store.specs.Disk.{State}
+use Rattle.disk_model.proofs.Laws.{keeps_none, unchanged_none}
+use Rattle.disk_model.specs.Disk.{State}
 use Rattle.mot_repository.specs.Repository.{RepositoryView}
 use Rattle.mot_server.specs.Inner.Bodies.{HasRead}
 

@@ -4,7 +4,7 @@ use Rattle.std.specs.Prelude.{Ok}
 use Rattle.std.specs.Prelude.{Err}
 use Rattle.std.specs.Prelude.{IfOk, IsTrue, IsFalse}
 use Rattle.std.specs.Io.KnownBytes.{Appends}
-use Rattle.disk_store.specs.Disk.{State, IsUnchanged, OnlyReads, Throughout}
+use Rattle.disk_model.specs.Disk.{State, IsUnchanged, OnlyReads, Throughout}
 use Rattle.mot_base.specs.declared.refusal.Refusal.{Refusal}
 use Rattle.mot_base.specs.declared.refusal.Refusal.TheVariants.{DeviceFault}
 use Rattle.mot_lines.specs.declared.line.Line.{Line}

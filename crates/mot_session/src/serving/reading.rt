@@ -13,7 +13,7 @@ use super::listing::write_listing;
 use super::output::{WriteFault, write_whole};
 use super::reply::write_packets;
 use crate::deciding::group_of;
-use disk_store::Disk;
+use disk_model::Disk;
 use mot_base::{Geometry, GroupKind, Refusal, TransportId};
 use mot_lines::{Line, SegmentBytes, refusal_text};
 use mot_server::Server;

@@ -21,7 +21,7 @@ ghost use Rattle.mot_session.specs.State.{Leads, ServerState, StandsFor, state_o
 use super::listing::write_listing;
 use super::output::{WriteFault, write_whole};
 use crate::deciding::{Decision, decide};
-use disk_store::Disk;
+use disk_model::Disk;
 use mot_base::{Geometry, Refusal};
 use mot_lines::{Line, PacketLine, done_text, refusal_text, set_packet_text};
 use mot_packets::{Packet, cut_packet, packet_count};

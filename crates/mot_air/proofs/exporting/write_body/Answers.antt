@@ -7,7 +7,7 @@ use Rattle.hex.specs.Hex.{encode_lower}
 use Rattle.std.proofs.lemmas.Result.{err_from_is_err_and}
 use Rattle.mot_air.proofs.Printed.{digits-more, digits-none, front-digits, front-piece}
 use Rattle.mot_repository.specs.Repository.{object_body}
-use Rattle.disk_store.proofs.Laws.{reads_none, reads_on}
+use Rattle.disk_model.proofs.Laws.{reads_none, reads_on}
 use Rattle.mot_server.proofs.Laws.{holds_still}
 use Rattle.mot_air.proofs.exporting.write_body.Goals as goal
 

@@ -9,7 +9,7 @@ use Rattle.mot_lines.specs.Export.{export_text, period_line, put_line}
 use Rattle.mot_carousel.specs.Carousel as whole
 use Rattle.mot_carousel.specs.declared.carousel.Carousel.{Carousel}
 use Rattle.mot_repository.specs.Repository.{RepositoryView}
-use Rattle.disk_store.proofs.Laws.{reads_none, reads_on}
+use Rattle.disk_model.proofs.Laws.{reads_none, reads_on}
 use Rattle.mot_server.proofs.Laws.{holds_still}
 use Rattle.mot_session.proofs.Laws.{WritesFront-after, WritesFront-all}
 use Rattle.mot_session.specs.Served.{WritesFront}

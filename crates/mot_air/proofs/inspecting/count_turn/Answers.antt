@@ -1,7 +1,7 @@
 use Rattle.std.proofs.Common.{◌∙◌, [], ◌∷◌, ◌++◌, length-append, refl, arith}
 use Rattle.mot_air.proofs.Inspected.{bytes_more}
 use Rattle.mot_server.proofs.Laws.{HasPlayedTurn-ended, IsGoing-more, IsGoing-none, holds_still}
-use Rattle.disk_store.proofs.Laws.{reads_none, reads_on}
+use Rattle.disk_model.proofs.Laws.{reads_none, reads_on}
 use Rattle.mot_server.specs.Server.{place_in}
 use Rattle.mot_air.proofs.inspecting.count_turn.Goals as goal
 

@@ -1,5 +1,5 @@
 use Rattle.std.proofs.Common.{◌≡◌, ◌≤◌, ◌*◌, ℕ, List, length}
-use Rattle.disk_store.specs.Disk.{OnlyReads}
+use Rattle.disk_model.specs.Disk.{OnlyReads}
 use Rattle.mot_air.specs.Inspecting.{bytes_of_all}
 use Rattle.mot_journal.specs.Image.{Standing}
 use Rattle.mot_repository.specs.Repository.{Holds}

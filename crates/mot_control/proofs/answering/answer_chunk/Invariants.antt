@@ -1,7 +1,7 @@
 use Rattle.std.proofs.Common.{◌≡◌, ◌++◌, ℕ, List, length, true, None}
-use Rattle.disk_store.specs.Disk.{KeepsLength}
+use Rattle.disk_model.specs.Disk.{KeepsLength}
 use Rattle.mot_control.specs.Answering.{AnswersMore}
-use Rattle.mot_feed.specs.Feeding.{IsUpdating}
+use Rattle.mot_update.specs.Between.{IsUpdating}
 use Rattle.mot_journal.specs.Image.{Standing}
 use Rattle.mot_lines.specs.Hand.{bytes_in_hand}
 use Rattle.mot_lines.specs.Lines.{rest_of}

@@ -1,7 +1,7 @@
 use Rattle.std.proofs.Common.{◌≡◌, ◌+◌, ◌∷◌, [], refl, arith, inl, inr}
 use Rattle.std.specs.Prelude.{if◌then◌else◌}
 use Rattle.mot_base.proofs.Laws.{same_error}
-use Rattle.disk_store.proofs.Laws.{keeps_none, keeps_on, unchanged_none}
+use Rattle.disk_model.proofs.Laws.{keeps_none, keeps_on, unchanged_none}
 use Rattle.mot_feed.proofs.Fed.{SoFar, continuous, fed_all, fed_none, rest_else, rest_then}
 use Rattle.mot_feed.proofs.Fed.{send_fault, sent_on, update_fault, updated}
 use Rattle.mot_feed.proofs.Sent.{not_of_writing, send_fault_behind, sent_calm}

@@ -1,7 +1,7 @@
 use Rattle.std.proofs.Common.{◌∙◌, ◌<◌, [], ◌∷◌, take, length, refl, subst}
 use Rattle.std.proofs.lemmas.List.{take_all}
 use Rattle.mot_feed.specs.Sending.{whole, short, none}
-use Rattle.mot_feed.specs.Writing.{Grows}
+use Rattle.mot_update.specs.Between.{Grows}
 use Rattle.mot_feed.proofs.Grown.{grows_nil}
 use Rattle.mot_feed.proofs.Sent.{not_written, same_place, some_bytes, unread}
 use Rattle.mot_base.proofs.Laws.{same_error}

@@ -1,5 +1,5 @@
 use Rattle.std.proofs.Common.{◌≡◌, ◌∙◌, refl, subst, arith}
-use Rattle.disk_store.proofs.Laws.{reads_none, reads_on}
+use Rattle.disk_model.proofs.Laws.{reads_none, reads_on}
 use Rattle.mot_server.proofs.Laws.{holds_still}
 use Rattle.mot_feed.specs.Sending.{SendsPackets}
 use Rattle.mot_server.specs.Server.{place_in}

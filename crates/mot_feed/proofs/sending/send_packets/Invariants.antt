@@ -1,5 +1,5 @@
 use Rattle.std.proofs.Common.{◌≡◌}
-use Rattle.disk_store.specs.Disk.{OnlyReads}
+use Rattle.disk_model.specs.Disk.{OnlyReads}
 use Rattle.mot_feed.specs.Sending.{SendsPackets}
 use Rattle.mot_journal.specs.Image.{Standing}
 use Rattle.mot_repository.specs.Repository.{Holds}

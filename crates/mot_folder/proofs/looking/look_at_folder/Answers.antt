@@ -11,7 +11,7 @@ use Rattle.mot_server.specs.declared.running.Attempt.TheVariants.{Refused}
 use Rattle.mot_server.specs.Attempts.{fault_of}
 use Rattle.mot_update.specs.Looking.{HasLooked}
 use Rattle.mot_update.proofs.Laws.{has_read}
-use Rattle.disk_store.proofs.Laws.{unchanged_none}
+use Rattle.disk_model.proofs.Laws.{unchanged_none}
 use Rattle.mot_folder.proofs.looking.look_at_folder.Goals as goal
 
 pub returns-in_default-clause-looked : goal.returns-in_default-clause-looked

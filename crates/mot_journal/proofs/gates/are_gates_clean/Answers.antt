@@ -3,7 +3,7 @@ use Rattle.std.proofs.Common.{subst, arith, rules}
 use Rattle.std.specs.Prelude.{is_some}
 use Rattle.std.specs.Int.{div_ceil}
 use Rattle.std.proofs.lemmas.List.{length-take}
-use Rattle.disk_store.proofs.Laws.{reads_on, reads_once}
+use Rattle.disk_model.proofs.Laws.{reads_on, reads_once}
 use Rattle.mot_journal.specs.Image.{gate_reads}
 use Rattle.mot_journal.specs.Inner.Scan.{scan}
 use Rattle.mot_journal.specs.Inner.Steps.{slots_in_half}

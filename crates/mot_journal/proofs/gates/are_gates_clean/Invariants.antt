@@ -1,5 +1,5 @@
 use Rattle.std.proofs.Common.{◌≡◌, ◌+◌, false}
-use Rattle.disk_store.specs.Disk.{OnlyReads}
+use Rattle.disk_model.specs.Disk.{OnlyReads}
 use Rattle.mot_journal.specs.Inner.Scan.{scan}
 use Rattle.mot_journal.specs.Inner.Steps.{slots_in_half}
 use Rattle.mot_journal.proofs.Scan.{slots_from}

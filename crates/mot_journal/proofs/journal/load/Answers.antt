@@ -2,8 +2,8 @@ use Rattle.std.proofs.Common.{◌≡◌, ℕ, ◌+◌, ◌-◌, ◌*◌, ◌≤�
 use Rattle.std.proofs.Common.{refl, sym, ◌∙◌, ap, arith, rules}
 use Rattle.std.specs.Prelude.{slice_index, if◌then◌else◌, ◌==◌}
 use Rattle.std.proofs.Math.Nat.{mul-le-mul_left, mul_comm}
-use Rattle.disk_store.proofs.Laws.{reads_on, reads_once}
-use Rattle.disk_store.specs.Disk.{OnlyReads}
+use Rattle.disk_model.proofs.Laws.{reads_on, reads_once}
+use Rattle.disk_model.specs.Disk.{OnlyReads}
 use Rattle.mot_base.specs.Geometry.{is_valid, length_of, half_size, half_start}
 use Rattle.mot_journal.specs.Geometry.{geometry_of}
 use Rattle.mot_journal.specs.Image.{records_of, journal_in_half}

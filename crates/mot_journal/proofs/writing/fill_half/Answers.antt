@@ -1,7 +1,7 @@
 use Rattle.std.proofs.Common.{◌≡◌, ◌+◌, ◌*◌, ◌<◌, length, slice_range, sym, ◌∙◌, ap, subst, arith}
 use Rattle.std.proofs.Common.{rules}
-use Rattle.disk_store.specs.Disk.{WritesWithin}
-use Rattle.disk_store.proofs.Laws.{keeps_all_on}
+use Rattle.disk_model.specs.Disk.{WritesWithin}
+use Rattle.disk_model.proofs.Laws.{keeps_all_on}
 use Rattle.mot_base.specs.Geometry.{half_start, half_size}
 use Rattle.mot_journal.specs.Slot.{slot_size}
 use Rattle.mot_journal.proofs.Fill.{one_more, slot_more, slot_ends, range_whole}

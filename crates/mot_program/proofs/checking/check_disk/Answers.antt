@@ -2,8 +2,8 @@ use Rattle.std.proofs.Common.{◌++◌, ◌∙◌, ap, sym, subst, inl, inr}
 use Rattle.std.proofs.KnownBytes.{Keeps-refl}
 use Rattle.std.specs.Prelude.{◌↔◌, IfErr, IsTrue}
 use Rattle.std.proofs.lemmas.Result.{on_ok_weaker}
-use Rattle.disk_store.specs.Disk.{IsStill}
-use Rattle.disk_store.specs.Failures.{Rises}
+use Rattle.disk_model.specs.Disk.{IsStill}
+use Rattle.disk_model.specs.Failures.{Rises}
 use Rattle.mot_journal.specs.Image.{stands_for, IsClean}
 use Rattle.mot_journal.specs.Journal.{StandsWhere, with_records}
 use Rattle.mot_lines.specs.Listing.{listing_text}

@@ -1,6 +1,6 @@
 use Rattle.std.proofs.Common.{◌≡◌, ◌∙◌, ap, inl, inr, subst, sym}
 use Rattle.std.specs.Prelude.{IfErr}
-use Rattle.disk_store.specs.Disk.{IsStill}
+use Rattle.disk_model.specs.Disk.{IsStill}
 use Rattle.mot_lines.specs.Lines.{whole_lines, lines_of}
 use Rattle.mot_session.specs.Served.{Served, Stopped}
 use Rattle.mot_program.specs.Serving.{ServesInput, StopsServing}

@@ -1,6 +1,6 @@
 use Rattle.std.proofs.Common.{◌≡◌, ◌∙◌, ◌+◌, inl, refl, sym, ap, subst, List, ℕ, length}
 use Rattle.std.proofs.Common.{slice_range}
-use Rattle.disk_store.proofs.Laws.{weakens, joins}
+use Rattle.disk_model.proofs.Laws.{weakens, joins}
 use Rattle.mot_base.specs.Geometry.{area_start}
 use Rattle.mot_journal.specs.Gaps.{AreBeside}
 use Rattle.mot_journal.specs.Journal.{JournalView}

@@ -1,5 +1,5 @@
 use Rattle.std.proofs.Common.{◌∙◌, inl, inr, refl, sym, ap, subst}
-use Rattle.disk_store.proofs.Laws.{begins}
+use Rattle.disk_model.proofs.Laws.{begins}
 use Rattle.mot_journal.specs.Journal.{JournalView, HoldsRecords}
 use Rattle.mot_repository.specs.Repository.{IsOf}
 use Rattle.mot_repository.proofs.Moved.{here, folds, moments, held}

@@ -5,7 +5,7 @@ use Rattle.std.proofs.lemmas.List.{take_all}
 use Rattle.std.proofs.lemmas.Slice.Eq.{bytes_eq-Decides}
 use Rattle.std.specs.Prelude.{bytes_eq, slice_range}
 use Rattle.std.proofs.Common.{length-take}
-use Rattle.disk_store.proofs.Laws.{reads_on, reads_once}
+use Rattle.disk_model.proofs.Laws.{reads_on, reads_once}
 use Rattle.mot_repository.specs.Repository.{object_body}
 use Rattle.mot_server.proofs.Answered.{not_halted}
 use Rattle.mot_server.proofs.Read.{body_length, holds_still, no_failure}

@@ -1,5 +1,5 @@
 use Rattle.std.proofs.Common.{length, take, ◌-◌, ◌≡◌, ◌≤◌}
-use Rattle.disk_store.specs.Disk.{OnlyReads}
+use Rattle.disk_model.specs.Disk.{OnlyReads}
 use Rattle.mot_journal.specs.Image.{Standing}
 use Rattle.mot_repository.specs.Repository.{Holds, object_body}
 use Rattle.mot_server.proofs.comparing.is_body.Given as goal

@@ -1,4 +1,4 @@
-use Rattle.disk_store.proofs.Laws.{keeps_on, stays}
+use Rattle.disk_model.proofs.Laws.{keeps_on, stays}
 use Rattle.mot_journal.specs.Journal.{NoneOrNew, new_standing}
 use Rattle.mot_server.proofs.Openings.{opened_holds}
 use Rattle.mot_server.proofs.Runs.{after_none}

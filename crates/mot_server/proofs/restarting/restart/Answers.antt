@@ -1,5 +1,5 @@
 use Rattle.std.proofs.Common.{subst, sym}
-use Rattle.disk_store.specs.Disk.{OnlySyncs}
+use Rattle.disk_model.specs.Disk.{OnlySyncs}
 use Rattle.mot_repository.specs.Opening.{IsOpeningRefusal}
 use Rattle.mot_base.specs.Geometry.{packet_room}
 use Rattle.mot_player.specs.Place.{Place}

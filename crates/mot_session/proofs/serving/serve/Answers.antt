@@ -5,7 +5,7 @@ use Rattle.std.proofs.Math.Logic.{⊎_elim}
 use Rattle.std.specs.Io.KnownBytes.{Consumes, Keeps}
 use Rattle.std.proofs.KnownBytes.{Consumes-nil, Consumes-trans}
 use Rattle.mot_session.specs.declared.serving.TheConstants.{READ_SIZE}
-use Rattle.disk_store.proofs.Laws.{keeps_none, unchanged_none}
+use Rattle.disk_model.proofs.Laws.{keeps_none, unchanged_none}
 use Rattle.mot_session.specs.Served.{TakesInput}
 use Rattle.mot_session.specs.State.{state_of}
 use Rattle.mot_session.proofs.SessionLaws.{session-laws}

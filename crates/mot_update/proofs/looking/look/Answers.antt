@@ -8,7 +8,7 @@ use Rattle.mot_update.proofs.Answers.{tells_nil, tells_trans}
 use Rattle.mot_update.proofs.Faults.{tells_on}
 use Rattle.mot_update.proofs.Looks.{err_of, gives_nil, look_cut, look_on, withdrawals-are}
 use Rattle.mot_update.proofs.Looks.{withdrew_cut, withdrew_none}
-use Rattle.disk_store.proofs.Laws.{keeps_none, keeps_on, unchanged_none}
+use Rattle.disk_model.proofs.Laws.{keeps_none, keeps_on, unchanged_none}
 use Rattle.mot_base.proofs.Laws.{same_error}
 use Rattle.mot_update.proofs.looking.look.Goals as goal
 

@@ -1,5 +1,5 @@
 use Rattle.std.proofs.Common.{◌≡◌, [], take, true}
-use Rattle.disk_store.specs.Disk.{KeepsLength}
+use Rattle.disk_model.specs.Disk.{KeepsLength}
 use Rattle.mot_journal.specs.Image.{Standing}
 use Rattle.mot_repository.specs.Repository.{Holds}
 use Rattle.mot_update.specs.Faults.{StaysCalm}

@@ -1,6 +1,6 @@
 use Rattle.std.proofs.Common.{◌≡◌, ◌∙◌, subst}
 use Rattle.disk_store.specs.Calls.{making_calls}
-use Rattle.disk_store.specs.Disk.{IsNew}
+use Rattle.disk_model.specs.Disk.{IsNew}
 use Rattle.disk_store.specs.File.{calls_on, file_state}
 use Rattle.disk_store.proofs.FileCalls.{begun_made, made_bytes}
 use Rattle.disk_store.proofs.file.FileDiskFrom.fill.Goals as goal

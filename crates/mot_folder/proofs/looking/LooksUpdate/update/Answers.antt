@@ -1,15 +1,15 @@
 use Rattle.std.proofs.Common.{◌≡◌, ℕ, Bool, true, false, List, Option, None, [], refl, sym, subst}
 use Rattle.std.proofs.Common.{◌∙◌}
-use Rattle.disk_store.specs.Disk.{State}
+use Rattle.disk_model.specs.Disk.{State}
 use Rattle.mot_base.specs.declared.refusal.Refusal.{Refusal}
-use Rattle.mot_feed.specs.Feeding.{IsUpdating}
+use Rattle.mot_update.specs.Between.{IsUpdating}
 use Rattle.mot_server.specs.Attempts.{fault_of}
 use Rattle.mot_folder.specs.declared.report.Report.{Report}
 use Rattle.mot_folder.specs.Looked.{HasLookedAtFolder, is_due, listed, unlisted}
 use Rattle.mot_journal.specs.Image.{Standing}
 use Rattle.mot_server.specs.Server.{ServerView}
 use Rattle.mot_update.proofs.Laws.{has_read}
-use Rattle.disk_store.proofs.Laws.{unchanged_none}
+use Rattle.disk_model.proofs.Laws.{unchanged_none}
 use Rattle.mot_folder.proofs.looking.LooksUpdate.update.Goals as goal
 
 -- a look runs commands

@@ -1,6 +1,6 @@
 use Rattle.std.proofs.Common.{◌≡◌, ◌≤◌, true, List, ◌++◌, [], ◌∷◌, length, Some, Ok, refl, sym}
 use Rattle.std.proofs.Common.{◌∙◌, ap, subst, arith, length-append}
-use Rattle.disk_store.specs.Disk.{Throughout}
+use Rattle.disk_model.specs.Disk.{Throughout}
 use Rattle.mot_journal.specs.declared.record.Record.{Record}
 use Rattle.mot_journal.specs.Slot.{is_sound, read_slot, slot_size, bytes_of_slot}
 use Rattle.mot_journal.specs.Image.{records_of}

@@ -1,5 +1,5 @@
 use Rattle.std.proofs.Common.{◌≤◌, List, length, refl, sym, subst, rules}
-use Rattle.disk_store.specs.Disk.{Throughout}
+use Rattle.disk_model.specs.Disk.{Throughout}
 use Rattle.mot_journal.specs.declared.record.Record.{Record}
 use Rattle.mot_journal.specs.Slot.{slot_count}
 use Rattle.mot_journal.specs.Journal.{JournalView, HoldsRecords, FoldOf, OldOrGiven, HasReadArea}

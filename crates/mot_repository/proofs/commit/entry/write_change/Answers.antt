@@ -1,7 +1,7 @@
 use Rattle.std.proofs.Common.{◌≡◌, ℕ, ◌+◌, List, ◌++◌, [], ◌∷◌, ◌∙◌, Ok, inl, sym, ap, subst}
 use Rattle.std.proofs.Common.{length}
-use Rattle.disk_store.specs.Disk.{WritesWithin}
-use Rattle.disk_store.proofs.Laws.{weakens}
+use Rattle.disk_model.specs.Disk.{WritesWithin}
+use Rattle.disk_model.proofs.Laws.{weakens}
 use Rattle.mot_base.specs.Geometry.{area_start}
 use Rattle.mot_journal.specs.declared.record.Record.{Record}
 use Rattle.mot_journal.specs.Catalogue.{Catalogue, catalogue_of}

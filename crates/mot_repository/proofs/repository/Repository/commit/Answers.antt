@@ -1,5 +1,5 @@
 use Rattle.std.proofs.Common.{refl, sym, subst}
-use Rattle.disk_store.proofs.Laws.{at_end}
+use Rattle.disk_model.proofs.Laws.{at_end}
 use Rattle.mot_repository.specs.Prepared.{IsPreparedFor, view_with}
 use Rattle.mot_repository.specs.Repository.{RepositoryView, IsBeforeOrAfter}
 use Rattle.mot_repository.proofs.Outcomes.{prepared_is_accepted}

@@ -1,5 +1,5 @@
 use Rattle.std.proofs.Common.{refl, inl, inr}
-use Rattle.disk_store.proofs.Laws.{begins, keeps_none}
+use Rattle.disk_model.proofs.Laws.{begins, keeps_none}
 use Rattle.mot_repository.specs.Answers.{refused}
 use Rattle.mot_repository.specs.Repository.{IsBeforeOrAfter}
 use Rattle.mot_repository.proofs.Answering.{at_once, calm_where_ok, committed, fault_alone, no_less}

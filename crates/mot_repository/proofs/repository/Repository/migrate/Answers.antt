@@ -1,6 +1,6 @@
 use Rattle.std.proofs.Common.{◌≡◌, ◌∙◌, refl, sym, ap, subst, arith, inl, inr}
 use Rattle.std.proofs.Common.{true, false, ℕ, ◌+◌, ◌≤◌}
-use Rattle.disk_store.proofs.Laws.{at_end, begins, keeps_none, unchanged_none}
+use Rattle.disk_model.proofs.Laws.{at_end, begins, keeps_none, unchanged_none}
 use Rattle.mot_base.proofs.Laws.{same_error}
 use Rattle.mot_base.specs.declared.refusal.Refusal.TheVariants.{OutOfMemory}
 use Rattle.mot_journal.specs.declared.layout.Layout.{Layout}

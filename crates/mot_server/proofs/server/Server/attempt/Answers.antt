@@ -2,7 +2,7 @@ use Rattle.std.proofs.Common.{◌≡◌, ◌∙◌, ◌⊎◌, inl, inr, refl, s
 use Rattle.std.proofs.Common.{None}
 use Rattle.std.proofs.Common.{Result, Ok, Err}
 use Rattle.std.proofs.Math.Nat.{le_refl}
-use Rattle.disk_store.specs.Disk.{State}
+use Rattle.disk_model.specs.Disk.{State}
 use Rattle.mot_base.specs.declared.refusal.Refusal.{Refusal}
 use Rattle.mot_base.specs.declared.refusal.Refusal.TheVariants.{DeviceFault}
 use Rattle.mot_carousel.specs.declared.command.Command.{Command}

@@ -3,7 +3,7 @@ use Rattle.mot_base.specs.declared.geometry.Geometry.{Geometry}
 use Rattle.mot_player.specs.Place.{change_turn}
 use Rattle.mot_player.specs.PlayerView.{PlayerView, TurnPlan, place_of, turn_with}
 use Rattle.mot_repository.specs.Answers.{IsRefusal, accepted, refused}
-use Rattle.disk_store.proofs.Laws.{unchanged_none}
+use Rattle.disk_model.proofs.Laws.{unchanged_none}
 use Rattle.mot_server.proofs.Turns.{place_after, plays_of, plays_same}
 use Rattle.mot_base.proofs.Laws.{same_error}
 use Rattle.mot_server.proofs.server.Server.execute.Goals as goal

@@ -1,5 +1,5 @@
 use Rattle.std.proofs.Common.{◌≡◌, ◌≤◌, ◌+◌, length}
-use Rattle.disk_store.specs.Disk.{OnlyReads}
+use Rattle.disk_model.specs.Disk.{OnlyReads}
 use Rattle.mot_journal.specs.Image.{Standing}
 use Rattle.mot_player.specs.AnyBodies.{PlaysOn}
 use Rattle.mot_player.specs.Laws.{bytes_left}

@@ -11,7 +11,7 @@ use Rattle.mot_server.specs.Server.{place_in}
 use Rattle.mot_server.proofs.Places.{none_done, stays_there, turns_there}
 use Rattle.mot_server.proofs.Runs.{Reached, begins, rests, one_longer, marks_after, accepted-true}
 use Rattle.mot_server.proofs.Runs.{accepted-false}
-use Rattle.disk_store.proofs.Laws.{keeps_all_on}
+use Rattle.disk_model.proofs.Laws.{keeps_all_on}
 use Rattle.mot_server.specs.RunAnswers.{AreAnswered}
 use Rattle.mot_server.proofs.RunAnswered.{answered_true, answered_false, answered_end}
 use Rattle.mot_server.proofs.RunAnswered.{answered_halted, answered_no_memory, answered_whole}

@@ -1,6 +1,6 @@
 use Rattle.std.proofs.Common.{◌≡◌, ◌≤◌, length}
 use Rattle.std.specs.Prelude.{vec_capacity}
-use Rattle.disk_store.specs.Disk.{Keeps}
+use Rattle.disk_model.specs.Disk.{Keeps}
 use Rattle.mot_journal.specs.Image.{Standing}
 use Rattle.mot_repository.specs.Repository.{Holds}
 use Rattle.mot_server.specs.RunAnswers.{AreAnswered}

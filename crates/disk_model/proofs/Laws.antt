@@ -3,9 +3,9 @@
 use Rattle.std.proofs.Common.{◌≡◌, inl, inr, ⊎_elim, ℕ, ◌+◌, ◌≤◌, List, length, refl, sym, ◌∙◌}
 use Rattle.std.proofs.Common.{arith}
 use Rattle.std.proofs.lemmas.List.{ext_get_or}
-use Rattle.disk_store.specs.Disk.{State, AgreeOutside, Elapses, Nothing, Throughout, IsHonestDisk}
-use Rattle.disk_store.specs.Disk.{IsFirm}
-use Rattle.disk_store.specs.Disk.{Keeps, KeepsLength, IsUnchanged, OnlyReads}
+use Rattle.disk_model.specs.Disk.{State, AgreeOutside, Elapses, Nothing, Throughout, IsHonestDisk}
+use Rattle.disk_model.specs.Disk.{IsFirm}
+use Rattle.disk_model.specs.Disk.{Keeps, KeepsLength, IsUnchanged, OnlyReads}
 
 -- Images that agree outside a range.
 

@@ -1,0 +1,34 @@
+-- What changes a carousel between its packets: when it may, and what is known of its calls.
+use Rattle.std.specs.Prelude.{◌≡◌, Bool, true, false, List, [], ◌++◌, Option, Some, None, ⊤, ⊥}
+use Rattle.disk_model.specs.Disk.{State}
+use Rattle.mot_base.specs.declared.refusal.Refusal.{Refusal}
+use Rattle.mot_carousel.specs.declared.command.Command.{Command}
+use Rattle.mot_journal.specs.Image.{Standing}
+use Rattle.mot_server.specs.Server.{ServerView}
+use Rattle.mot_update.specs.HasRun.{HasRun}
+
+-- when an update may change the carousel
+pub data When : Type 0 where
+  Never : When
+  BetweenTurns : When
+  Always : When
+
+-- whether it may now
+abbrev pub may_change : When → (between_turns : Bool) → Bool
+may_change Never between_turns = false
+may_change BetweenTurns between_turns = between_turns
+may_change Always between_turns = true
+
+-- an update ran some commands, and none where it may not
+pub record IsUpdating {D : Type 0} (old new : ServerView D) (start now : State) (s : Standing)
+    (may : Bool) (fault : Option Refusal) : Type 0 where
+  pub commands : List Command
+  pub marks : List Bool
+  pub run : HasRun old new start now s commands marks fault
+  pub waits : may ≡ false → commands ≡ []
+
+-- what is known goes on by these
+abbrev pub Grows : {A : Type 0} → Option (List A) → Option (List A) → List A → Type 0
+Grows None new more = ⊤
+Grows (Some known) None more = ⊥
+Grows (Some known) (Some new) more = new ≡ known ++ more
