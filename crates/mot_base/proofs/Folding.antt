@@ -209,6 +209,7 @@ fold_front m j xs tail e steps same =
 
 -- ---- the words that it is folded into
 
+-- words are added bit by bit, and what stands behind them too
 pub add_word : (a b : ℕ) (front rest : List Bool) →
     added_to_front (bits_of 64 a ++ front) (bits_of 64 b ++ rest)
     ≡ bits_of 64 (bit_xor a b) ++ added_to_front front rest

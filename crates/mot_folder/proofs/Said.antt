@@ -21,6 +21,7 @@ pub answer-ok : {A : Type 0} (result answer : Result A Refusal) → result ≡ a
 answer-ok (Ok value) answer e = sym e
 answer-ok (Err refusal) answer e = tt
 
+-- what is refused is refused for what the answer says, or for want of memory
 pub answer-why : {A : Type 0} (result answer : Result A Refusal) → result ≡ answer
     → IfErr result (MayRefuse answer)
 answer-why (Ok value) answer e = tt

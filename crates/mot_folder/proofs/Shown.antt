@@ -8,10 +8,3 @@ shown-push : (names : List (List ℕ)) (name : List ℕ) → is_hidden name ≡ 
     → AreShown (names ++ name ∷ [])
 shown-push [] name is shown = (is, tt)
 shown-push (other ∷ names) name is shown = (shown.0, shown-push names name is shown.1)
-
--- one more, where it is none of them already
-pub shown-add : (names new : List (List ℕ)) (name : List ℕ) (known : Bool)
-    → is_hidden name ≡ false → new ≡ (if known then names else names ++ name ∷ [])
-    → AreShown names → AreShown new
-shown-add names new name true is e shown = subst AreShown (sym e) shown
-shown-add names new name false is e shown = subst AreShown (sym e) (shown-push names name is shown)

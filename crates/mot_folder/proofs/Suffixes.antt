@@ -81,11 +81,6 @@ pub record IsGoneOver (start now : List SuffixType) (text rest : List ℕ) : Typ
   pub right : refusal_of_lines lines ≡ None
   pub added : now ≡ start ++ types_of_lines lines
 
--- nothing was
-pub gone_over-none : (start : List SuffixType) (text : List ℕ) → IsGoneOver start start text text
-gone_over-none start text =
-    record { lines = []; split = refl; right = refl; added = sym (append-nil start) }
-
 -- a line, and what follows its end
 pub saying-line : (line others : List ℕ) → HasNoLineEnd line
     → saying_lines (line ++ 10 ∷ others) ≡ saying line ++ saying_lines others

@@ -19,9 +19,9 @@ use Rattle.mot_base.specs.Geometry.{is_valid}
 use Rattle.mot_journal.specs.Catalogue.{result_then}
 use Rattle.mot_journal.specs.Image.{DiskRecords, records_of, half_of, journal_in_half}
 use Rattle.mot_journal.specs.Image.{or_not_formatted}
-use Rattle.mot_journal.specs.Loading.{IsHalfRefusal}
-use Rattle.mot_journal.specs.Loading.IsHalfRefusal.{no_memory as half_memory}
-use Rattle.mot_journal.specs.Loading.IsHalfRefusal.{damaged as half_damaged}
+use Rattle.mot_journal.specs.Inner.Loading.{IsHalfRefusal}
+use Rattle.mot_journal.specs.Inner.Loading.IsHalfRefusal.{no_memory as half_memory}
+use Rattle.mot_journal.specs.Inner.Loading.IsHalfRefusal.{damaged as half_damaged}
 use Rattle.mot_journal.specs.Journal.{IsLoadRefusal}
 use Rattle.mot_journal.specs.Journal.IsLoadRefusal.{no_memory, damaged}
 use Rattle.std.proofs.lemmas.Bool.Decides.{nat_tests}
@@ -47,10 +47,6 @@ geometry_good image g e =
       leb-true (length_of g) (length image)
           (subst (λ (x : Geometry). nat_le (length_of x) (length image) ≡ true) is.1 two.1),
     )
-
-abbrev found : Geometry → ℕ → Layout → List Record → Result DiskRecords Refusal
-found g half layout records =
-    Ok (record { geometry = g; half = half; layout = layout; records = records })
 
 -- the first 64 bytes tell the geometry of the whole
 pub geometry_told : (bytes head : List ℕ) (len : ℕ) (o : Option Geometry) → length bytes ≡ len

@@ -112,7 +112,3 @@ pub written_open : (layout : Layout) (records : List Record)
     → AreOpen (map (bytes_of_slot layout) records)
 written_open layout [] = tt
 written_open layout (r ∷ records) = (written_is_open layout r, written_open layout records)
-
-abbrev found : Geometry → ℕ → Layout → List Record → Result DiskRecords Refusal
-found g half layout records =
-    Ok (record { geometry = g; half = half; layout = layout; records = records })

@@ -1,6 +1,7 @@
 -- What only private contracts and proofs need.
 pub mod Fitting
 pub mod Format
+pub mod Loading
 pub mod Places
 pub mod Reading
 pub mod Scan

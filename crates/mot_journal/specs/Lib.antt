@@ -4,5 +4,4 @@ pub mod Geometry
 pub mod Image
 pub mod Inner
 pub mod Journal
-pub mod Loading
 pub mod Slot

@@ -6,7 +6,7 @@ ghost use Rattle.mot_base.specs.declared.geometry.TheConstants.{MAX_OBJECTS};
 ghost use Rattle.mot_base.specs.Geometry.{is_valid as valid};
 ghost use Rattle.mot_journal.specs.Geometry.{geometry_of};
 ghost use Rattle.mot_journal.specs.Slot.{is_sound, slot_size, slot_count, layout_of};
-ghost use Rattle.mot_journal.specs.Loading.{HalfHas, IsHalfRefusal};
+ghost use Rattle.mot_journal.specs.Inner.Loading.{HalfHas, IsHalfRefusal};
 
 use crate::decoding::{number, read_record};
 use crate::encoding::OPEN;
@@ -16,7 +16,7 @@ use mot_base::Refusal;
 use std::alloc::Global;
 
 /// The geometry that the first 64 bytes of a disk of this length tell.
-pub fn geometry_of_head(head: &[u8], len: u64) -> Option<Geometry>
+pub(crate) fn geometry_of_head(head: &[u8], len: u64) -> Option<Geometry>
     requires { length head.now ≡ 64 }
     ensures { (rest : List ℕ) → 64 + length rest ≡ len → result ≡ geometry_of (head.now ++ rest) }
 {
@@ -47,7 +47,7 @@ fn is_valid(geometry: &Geometry) -> bool
 }
 
 /// The layout of a half.
-pub fn layout_of_half(half: &[u8]) -> Layout
+pub(crate) fn layout_of_half(half: &[u8]) -> Layout
     requires { 2 ≤ length half.now }
     ensures { result ≡ layout_of half.now }
 {
@@ -73,7 +73,7 @@ fn slot_at<'a>(geometry: &Geometry, layout: Layout, half: &'a [u8], place: usize
 }
 
 /// The records of a half up to its first closed gate.
-pub fn records_of_half(
+pub(crate) fn records_of_half(
     alloc: Global,
     geometry: &Geometry,
     layout: Layout,

@@ -45,10 +45,6 @@ worth_bound c = worth_bound-cases (hex_digit_value c) (below_16 c)
     worth_bound-cases (Some v) small = let p = small v refl in omega (arith, p)
     worth_bound-cases None small = omega arith
 
--- what the two characters of a pair are worth fits 16 bits
-pub pair_bound : (a b : ℕ) → digit_worth a * 16 + digit_worth b ≤ 0x1100
-pair_bound a b = let p = worth_bound a in let q = worth_bound b in omega (arith, p, q)
-
 fine-cases : (a b i : ℕ) (high low : Option ℕ) → value_or_none high * 16 + value_or_none low < 0x100
     → (digit_or_error a i high >>= (λ h. digit_or_error b (i + 1) low >>= (λ l. Ok (h * 16 + l))))
     ≡ Ok (value_or_none high * 16 + value_or_none low)

@@ -57,10 +57,6 @@ pub lines_of-begun : (xs : List ℕ) → (rest_of xs ≡ [] → ⊥)
     → lines_of xs ≡ whole_lines xs ++ rest_of xs ∷ []
 lines_of-begun xs some = input.lines_last xs some
 
--- what is kept of a line in hand asks for what the line asks for
-pub line_of-in_hand : (line : List ℕ) → line_of (bytes_in_hand line) ≡ line_of line
-line_of-in_hand line = requests.line_of-in_hand line
-
 -- no line is refused for a fault of the disk
 pub line_of-no_fault : (line : List ℕ) → line_of line ≡ Err DeviceFault → ⊥
 line_of-no_fault line = faults.line line

@@ -1,7 +1,7 @@
 -- What holds of the definitions, for the crates above.
 
 -- a packet that can be written reads back, and only its own bytes read as it
-pub use Rattle.mot_packets.proofs.ReadBack.{read_packet-bytes_of_packet, length-bytes_of_packet}
+pub use Rattle.mot_packets.proofs.ReadBack.{read_packet-bytes_of_packet}
 pub use Rattle.mot_packets.proofs.ReadBack.{AreBytes-bytes_of_packet}
 pub use Rattle.mot_packets.proofs.Only.{read_packet-only}
 -- the packets of a group can be written

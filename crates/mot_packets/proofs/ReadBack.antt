@@ -68,17 +68,6 @@ length-field useful room h =
       length-replicate {A = ℕ} (room - length useful) 0,
     )
 
--- a packet has five bytes more than its room
-pub length-bytes_of_packet : (p : PacketFields) → length p.useful ≤ p.room →
-    length (bytes_of_packet p) ≡ p.room + 5
-unfolding bytes_of_packet
-length-bytes_of_packet p h =
-    omega (
-      arith,
-      length-append (covered_bytes p) (to_be_bytes w16 (crc_of (covered_bytes p))),
-      length-field p.useful p.room h,
-    )
-
 fields_again : (p : PacketFields) (room : ℕ) (first last : Bool) → room ≡ p.room → first ≡ p.first →
     last ≡ p.last →
     record {

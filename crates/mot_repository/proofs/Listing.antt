@@ -19,9 +19,6 @@ use Rattle.mot_repository.specs.Inner.Fold.{HaveLengths, are_extents_apart, obje
 tail : {x y : ℕ} {xs ys : List ℕ} → x ∷ xs ≡ y ∷ ys → xs ≡ ys
 tail e = cc
 
-head : {x y : ℕ} {xs ys : List ℕ} → x ∷ xs ≡ y ∷ ys → x ≡ y
-head e = cc
-
 -- an object and its extent
 abbrev in-one : Object → ℕ × ℕ → Placed
 in-one o e = record {

@@ -42,9 +42,6 @@ use Rattle.mot_repository.proofs.Folding.{is_step, good_step, good_new, fold_kee
 use Rattle.mot_repository.proofs.Folding.{after_each}
 use Rattle.mot_repository.proofs.Reading.{by_recursion, IsRead, HasShortId, records_read}
 
-abbrev InRange : ℕ → Type 0
-InRange id = (1 ≤ id) × (id ≤ 65535)
-
 set-has : (g : Geometry) (layout : Layout) (a : Action) → is_sound_action g layout a ≡ true
     → HasShortId a → SetHas (IsSoundPlaced g layout) a
 set-has g layout Nothing is short = tt

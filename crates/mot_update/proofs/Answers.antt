@@ -14,11 +14,13 @@ use Rattle.mot_update.specs.declared.settling.Settled.{Settled}
 use Rattle.mot_update.specs.declared.settling.Settled.TheVariants as settled
 use Rattle.mot_update.specs.declared.wanted.Wanted.{Wanted}
 
+-- what was told, and then more
 pub tells_trans : (a b c : List Answer → Type 0) (xs ys : List Answer) → TellsMore a b xs
     → TellsMore b c ys → TellsMore a c (xs ++ ys)
 tells_trans a b c xs ys p q = λ told was.
     subst c (append_assoc told xs ys) (q (told ++ xs) (p told was))
 
+-- what tells of answers tells no more of them
 pub tells_nil : (a : List Answer → Type 0) → TellsMore a a []
 tells_nil a = λ told was. subst a (sym (append-nil told)) was
 

@@ -4,7 +4,7 @@ use Rattle.std.specs.List.{All}
 use Rattle.std.proofs.lemmas.List.Elements.{All-nil, All-cons, All-append}
 use Rattle.mot_journal.specs.declared.record.Record.{Record}
 use Rattle.mot_journal.specs.Slot.{slot_count, is_sound, read_slot}
-use Rattle.mot_journal.specs.Loading.IsHalfRefusal.{damaged}
+use Rattle.mot_journal.specs.Inner.Loading.IsHalfRefusal.{damaged}
 use Rattle.mot_journal.proofs.Slots.{has_shut, has_all, has_fault, reads_more, open_more}
 use Rattle.mot_journal.proofs.Slots.{read_is_sound, open_is, shut_is, ok-same}
 use Rattle.mot_journal.proofs.loading.records_of_half.Goals as goal
