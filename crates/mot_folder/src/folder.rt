@@ -68,21 +68,19 @@ impl<'a, T: Files<File = File>> Folder<'a, T> {
         ensures { IfOk result
             (λ wanted. slice_get self.now.names.names.items place ≡ Some wanted.name) }
     {
-        let name = self.names.names[place].clone()?;
+        let name = &self.names.names[place];
         let Ok(text) = from_utf8(name.as_bytes()) else {
             return Err(Refusal::BadName);
         };
         let Some(file_type) = self.types.of_name(name.as_bytes()) else {
             return Err(Refusal::BadName);
         };
-        let content = file_type.content;
-        let mime = file_type.mime.clone()?;
-        let path = joined(alloc, self.path, text)?;
-        let body = read_body(self.rt, alloc, path.as_str())?;
+        let body = read_body(self.rt, alloc, self.path, text)?;
+        let mime = Some(file_type.mime.clone()?);
         Ok(Wanted {
-            name,
-            content,
-            mime: Some(mime),
+            name: name.clone()?,
+            content: file_type.content,
+            mime,
             body,
         })
     }
@@ -157,9 +155,20 @@ fn tell_settled(report: &mut Report, names: &FileNames, place: usize, settled: S
     }
 }
 
+/// The bytes of the file of this name in the folder, as a body.
+fn read_body<T: Files<File = File>>(
+    rt: &T,
+    alloc: Global,
+    folder: &str,
+    name: &str,
+) -> Result<Body, Refusal> {
+    let path = joined(alloc, folder, name)?;
+    read_file(rt, alloc, path.as_str())
+}
+
 /// The bytes of the file, as a body; `ReadFault` where they can't be read, or were changed while
 /// they were.
-fn read_body<T: Files<File = File>>(rt: &T, alloc: Global, path: &str) -> Result<Body, Refusal> {
+fn read_file<T: Files<File = File>>(rt: &T, alloc: Global, path: &str) -> Result<Body, Refusal> {
     let before = length_of(rt, path)?;
     let Ok(file) = OpenOptions::new().read(true).open(rt, path) else {
         return Err(Refusal::ReadFault);

@@ -56,6 +56,7 @@ fn segment_at(turn: &Turn, segment_size: SegmentSize, entity: usize, segment: us
     ensures plannable { IsPlannable turn.now }
     ensures size { (64 ≤ segment_size) × (segment_size ≤ MAX_SEGMENT) }
 {
+    // A turn has a directory and its bodies.
     let _ = turn.entity_count();
     let size = usize::from(segment_size.get());
     let entity_len = turn.entity_length(entity);

@@ -100,6 +100,7 @@ impl Player {
         ensures turn { self.new.turn ≡ turn }
         ensures size { self.new.segment_size ≡ self.old.segment_size }
     {
+        // A turn has a directory and its bodies.
         let _ = turn.entity_count();
         self.state.turn = turn;
         self.state.entity = 0;

@@ -42,7 +42,7 @@ pub(crate) fn record_of_change(
 {
     let action = action_of_change(old, next, command, start)?;
     let made = record_with(next, action);
-    see_fields(&made);
+    know_fields(&made);
     Ok(made)
 }
 
@@ -75,7 +75,7 @@ fn action_of_change(
 }
 
 /// What the types of the fields keep of a record. It does nothing.
-fn see_fields(made: &Record)
+fn know_fields(made: &Record)
     ensures { IsTyped made.now }
 {
     made.directory.get();

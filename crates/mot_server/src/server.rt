@@ -379,6 +379,7 @@ impl<D: Disk> Server<D> {
         if self.halted() {
             return Err(Refusal::Halted);
         }
+        // There is a body for each object.
         let _ = self.bodies.repository.body_count();
         self.bodies.repository.read_body(place, from, out)
     }
@@ -406,6 +407,7 @@ impl<D: Disk> Server<D> {
         if self.halted() {
             return Err(Refusal::Halted);
         }
+        // There is a body for each object.
         let _ = self.bodies.repository.body_count();
         is_body(&mut self.bodies.repository, place, bytes)
     }

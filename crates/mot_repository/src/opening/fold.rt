@@ -64,6 +64,7 @@ fn know_ids(entry: &Record)
     know_object_id(&entry.action);
 }
 
+/// What the type of the id of a record that names an object says.
 fn know_object_id(action: &Action)
     ensures { HasShortId action.now }
 {
