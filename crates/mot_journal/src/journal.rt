@@ -176,7 +176,7 @@ impl Journal {
         are_gates_clean(disk, &self.geometry, self.half, self.layout)
     }
 
-    // Where the first closed slot lies.
+    /// Where the first closed slot lies.
     fn next_place(&self) -> u64
         requires { self.now.count < slot_count self.now.layout self.now.geometry }
         ensures value { result ≡ start_of_slot self.now self.now.count }
@@ -263,7 +263,7 @@ impl Journal {
         self.write_other_half(disk, Layout::Two, given)
     }
 
-    // Writes these records into the other half, in this layout, and selects it.
+    /// Writes these records into the other half, in this layout, and selects it.
     fn write_other_half<D: Disk>(
         &mut self,
         disk: &mut D,

@@ -28,7 +28,7 @@ use entry::write_change;
 use mot_base::Refusal;
 use mot_journal::{Journal, Record};
 
-// Where the half is full, writes the given records into the other one, and selects it.
+/// Where the half is full, writes the given records into the other one, and selects it.
 fn make_room<D: Disk>(journal: &mut Journal, disk: &mut D, given: &[Record]) -> Result<(), Refusal>
     requires going { IsFalse journal.old.spent }
     requires long_enough { length_of journal.old.geometry ≤ (D.state disk.old).len }

@@ -150,7 +150,7 @@ impl<D: Disk> Repository<D> {
         self.journal.record_count()
     }
 
-    // Where on the disk a byte of the body of the object at this place lies.
+    /// Where on the disk a byte of the body of the object at this place lies.
     fn place_on_disk(&self, place: usize, from: usize) -> u64
         requires place { place < length self.now.view.extents }
         requires within { from ≤ (extent_at self.now.view.extents place).1 }

@@ -54,7 +54,7 @@ impl History {
         }
     }
 
-    // Its proof is written by hand: it adds to the list, which no memory holds.
+    /// Its proof is written by hand: it adds to the list, which no memory holds.
     fn note(&mut self, _numbers: &[u64], _bytes: &[u8])
         ensures { self.new.calls ≡ self.old.calls ++ call_of _numbers.now _bytes.now ∷ [] }
     {}

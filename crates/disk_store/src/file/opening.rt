@@ -107,9 +107,9 @@ impl<S: Start> FileDiskFrom<S> {
         }
     }
 
-    // Opens what stands at the path. The lock comes before all else, so that no other program of
-    // ours changes the file in between. What an earlier one wrote is synced, and what the system
-    // keeps of it dropped, before anything is asked of the file.
+    /// Opens what stands at the path. The lock comes before all else, so that no other program of
+    /// ours changes the file in between. What an earlier one wrote is synced, and what the system
+    /// keeps of it dropped, before anything is asked of the file.
     fn open_path(rt: &HostRuntime, path: &str) -> Result<FileDiskFrom<S>, OpenFault>
         ensures new { IfOk result (λ disk. IsNew (file_state disk).bytes (file_state disk)) }
         ensures first_bytes { IfOk result (λ disk. (file_state disk).len ≡ length S.Start.bytes
@@ -124,7 +124,7 @@ impl<S: Start> FileDiskFrom<S> {
         Ok(FileDiskFrom::begin(file, len))
     }
 
-    // Makes what the path names nothing for yet, and takes it away again where that fails.
+    /// Makes what the path names nothing for yet, and takes it away again where that fails.
     fn make_path(rt: &HostRuntime, path: &str, len: u64) -> Result<FileDiskFrom<S>, OpenFault>
         ensures new { IfOk result (λ disk. IsNew (replicate len 0) (file_state disk)) }
         ensures can_sync { IfOk result CanSync }
@@ -145,7 +145,7 @@ impl<S: Start> FileDiskFrom<S> {
         }
     }
 
-    // Fills a new file with zeros, and makes them and its name last.
+    /// Fills a new file with zeros, and makes them and its name last.
     fn fill(
         file: File,
         rt: &HostRuntime,
@@ -162,7 +162,7 @@ impl<S: Start> FileDiskFrom<S> {
         Ok(FileDiskFrom::begin(made, len))
     }
 
-    // The disk before its first call.
+    /// The disk before its first call.
     fn begin(file: HeldFile, len: u64) -> FileDiskFrom<S>
         requires { HasOnlyOpened S.Start.bytes len file.history.calls }
         ensures new { IsNew (file_state result).bytes (file_state result) }
@@ -181,7 +181,7 @@ impl<S: Start> FileDiskFrom<S> {
     }
 }
 
-// The file at the path, if it may be a disk.
+/// The file at the path, if it may be a disk.
 fn lock_disk(rt: &HostRuntime, path: &str) -> Result<HeldFile, OpenFault>
     ensures { IfOk result (λ held. held.history.calls ≡ Locked ∷ []) }
 {
@@ -190,7 +190,7 @@ fn lock_disk(rt: &HostRuntime, path: &str) -> Result<HeldFile, OpenFault>
     Ok(file)
 }
 
-// How long it is, once what stands there lasts and is what the device has.
+/// How long it is, once what stands there lasts and is what the device has.
 fn synced_length(file: &mut HeldFile, rt: &HostRuntime, path: &str) -> io::Result<u64>
     ensures { IfOk result (λ len. file.new.history.calls
         ≡ file.old.history.calls ++ Synced ∷ Dropped ∷ Opened len ∷ []) }
@@ -200,7 +200,7 @@ fn synced_length(file: &mut HeldFile, rt: &HostRuntime, path: &str) -> io::Resul
     file.take_length()
 }
 
-// Fills it with zeros, and makes them and its name last.
+/// Fills it with zeros, and makes them and its name last.
 fn make_zeros(made: &mut HeldFile, rt: &HostRuntime, path: &str, len: u64) -> io::Result<()>
     ensures { OnOk result (made.new.history.calls
         ≡ made.old.history.calls ++ Made len ∷ Synced ∷ Dropped ∷ Named ∷ []) }

@@ -51,13 +51,13 @@ impl HeldFile {
         Ok(())
     }
 
-    // Nothing else has a length that stays.
+    /// Nothing else has a length that stays.
     fn is_disk(&self) -> io::Result<bool> {
         let kind = self.file.metadata()?.file_type();
         Ok(kind.is_file() || kind.is_block_device())
     }
 
-    // What the system keeps of such a file is not dropped.
+    /// What the system keeps of such a file is not dropped.
     fn has_other_names(&self) -> io::Result<bool> {
         let found = self.file.metadata()?;
         Ok(found.is_file() && found.nlink() != 1)
@@ -139,7 +139,7 @@ impl HeldFile {
     }
 }
 
-// The last piece goes first, so that a length that the system refuses is refused at once.
+/// The last piece goes first, so that a length that the system refuses is refused at once.
 fn write_zeros(file: &File, len: u64) -> io::Result<()> {
     let zeros = [0; PIECE as usize];
     let mut end = len;
@@ -151,10 +151,10 @@ fn write_zeros(file: &File, len: u64) -> io::Result<()> {
     Ok(())
 }
 
-// No call of std drops a file's cached pages. The opening of the kit's SQLite does, of the file of a
-// path, once it has synced the file and its folder; nothing else is asked of what it opens. It wants
-// an empty file beside, which it makes where there is none: that stays, so that a disk opens on a
-// file system that has become full. A block device's pages are dropped with its last handle.
+/// No call of std drops a file's cached pages. The opening of the kit's SQLite does, of the file of a
+/// path, once it has synced the file and its folder; nothing else is asked of what it opens. It wants
+/// an empty file beside, which it makes where there is none: that stays, so that a disk opens on a
+/// file system that has become full. A block device's pages are dropped with its last handle.
 fn drop_cached_pages(rt: &HostRuntime, file: &File, path: &str) -> io::Result<()> {
     if file.metadata()?.file_type().is_block_device() {
         return Ok(());
@@ -177,7 +177,7 @@ pub fn take_away(rt: &HostRuntime, path: &str) -> io::Result<()> {
     fs::remove_file(rt, path)
 }
 
-// Takes away what an opening has made beside a file, and nobody else's file.
+/// Takes away what an opening has made beside a file, and nobody else's file.
 fn remove_empty(rt: &HostRuntime, path: &str) -> io::Result<()> {
     match fs::symlink_metadata(rt, path) {
         Ok(found) if found.is_file() && found.len() == 0 => fs::remove_file(rt, path),

@@ -71,7 +71,7 @@ impl Cells {
     }
 }
 
-// Writes these bytes from a position on.
+/// Writes these bytes from a position on.
 fn overwrite(bytes: &mut Vec<u8>, at: usize, new: &[u8])
     requires { at + length new.now ≤ length bytes.old.items }
     ensures bytes { bytes.new.items ≡ after_overwrite at new.now bytes.old.items }
@@ -81,7 +81,7 @@ fn overwrite(bytes: &mut Vec<u8>, at: usize, new: &[u8])
     bytes[at..at + new.len()].copy_from_slice(new);
 }
 
-// Marks n positions.
+/// Marks n positions.
 fn mark(loose: &mut Vec<bool>, at: usize, n: usize)
     requires { at + n ≤ length loose.old.items }
     ensures marked { loose.new.items ≡ after_mark at n loose.old.items }
@@ -90,7 +90,7 @@ fn mark(loose: &mut Vec<bool>, at: usize, n: usize)
     loose[at..at + n].fill(true);
 }
 
-// Marks no position.
+/// Marks no position.
 fn unmark(loose: &mut Vec<bool>)
     ensures unmarked { loose.new.items ≡ replicate (length loose.old.items) false }
     ensures len { length loose.new.items ≡ length loose.old.items }
@@ -98,7 +98,7 @@ fn unmark(loose: &mut Vec<bool>)
     loose.fill(false);
 }
 
-// Puts the byte that a crash leaves at each loose position.
+/// Puts the byte that a crash leaves at each loose position.
 fn tear(image: &mut [u8], loose: &[bool], synced: &[u8], choices: &[u8])
     requires loose { length loose.now ≡ length image.old }
     requires synced { length synced.now ≡ length image.old }

@@ -23,7 +23,7 @@ use disk_model::Disk;
 use mot_base::Refusal;
 use mot_journal::{Journal, Record};
 
-// Writes a body here. What brings no body makes no call of the disk.
+/// Writes a body here. What brings no body makes no call of the disk.
 fn write_body<D: Disk>(disk: &mut D, at: u64, body: &[u8]) -> Result<(), Refusal>
     requires within { at + length body.now ≤ (D.state disk.old).len }
 
