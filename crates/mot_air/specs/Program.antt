@@ -1,6 +1,5 @@
 -- What the commands on air do.
-use Rattle.std.specs.Prelude.{ℕ, ◌≡◌, ◌⊎◌, ◌↔◌, true, false, List, length, Option, Some, None}
-use Rattle.std.specs.Prelude.{codes}
+use Rattle.std.specs.Prelude.{ℕ, ◌≡◌, ◌⊎◌, true, false, List, length, Option, Some, None}
 use Rattle.std.specs.Io.KnownBytes.{Keeps}
 use Rattle.clap.specs.Words.{Text}
 use Rattle.disk_store.specs.Calls.{opening_calls}
@@ -13,8 +12,8 @@ use Rattle.mot_air.specs.Inspecting.{Inspects, StopsInspecting}
 use Rattle.mot_air.specs.Playing.{Plays, StopsPlaying, when_followed}
 use Rattle.mot_air.specs.Syncing.{StopsSyncing, Syncs}
 use Rattle.mot_air.specs.Task.{AskFor, AskForHelp}
-use Rattle.mot_air.specs.declared.packets.Target.{Target}
-use Rattle.mot_air.specs.declared.packets.Target.TheVariants.{File, Output, Stream}
+use Rattle.mot_files.specs.declared.packets.Target.{Target}
+use Rattle.mot_files.specs.declared.packets.Target.TheVariants.{File, Output, Stream}
 use Rattle.mot_air.specs.declared.task.Task.{Task}
 use Rattle.mot_air.specs.declared.task.Task.TheVariants.{Play, Sync, Export, Inspect}
 use Rattle.mot_air.specs.declared.used.AirDisk.{AirDisk}
@@ -24,6 +23,8 @@ use Rattle.mot_base.specs.declared.refusal.Refusal.TheVariants.{BadNumber, Devic
 use Rattle.mot_base.specs.declared.refusal.Refusal.TheVariants.{OutOfMemory, ReadFault}
 use Rattle.mot_base.specs.declared.refusal.Refusal.TheVariants.{WriteFault}
 use Rattle.mot_update.specs.Between.{Always, When}
+use Rattle.mot_files.specs.Lines.{IsUnlined}
+use Rattle.mot_files.specs.Packets.{IsTarget}
 use Rattle.mot_folder.specs.Types.{IsTypesRefusal}
 
 -- how many turns are played, where so many are asked for; and else sixteen into a file, behind
@@ -38,10 +39,6 @@ turns_of File None = 16
 abbrev pub when_changed : {L F : Type 0} → (lines : Option L) → (folder : Option F) → When
 when_changed None folder = when_followed folder
 when_changed (Some lines) folder = Always
-
--- what a path names, as far as it tells by itself: `-`, and nothing else, is standard output
-abbrev pub IsTarget : Text → Target → Type 0
-IsTarget path target = (path ≡ codes "-") ↔ (target ≡ Output)
 
 -- why a disk was not played as it should be, in the turns that are asked for: playing stopped; or
 -- all was played, and the file did not take its place
@@ -121,11 +118,6 @@ module _ {S : Type 0} {start : Ghosts S} where
 abbrev pub IsUntyped : {A : Type 0} → (types : Option A) → Refusal → Type 0
 IsUntyped None r = r ≡ OutOfMemory
 IsUntyped (Some types) r = (r ≡ ReadFault) ⊎ IsTypesRefusal r
-
--- why there are no lines, where their folder is given: it is none, or there is no memory for a line
-abbrev pub IsUnlined : {A : Type 0} → (lines : Option A) → Refusal → Type 0
-IsUnlined None r = ⊥
-IsUnlined (Some lines) r = (r ≡ ReadFault) ⊎ (r ≡ OutOfMemory)
 
 -- why a task is not begun: there is no table of suffixes, or no folder of lines, or the disk, or
 -- what is to take the packets, can't be opened

@@ -2,19 +2,13 @@
 //! folder; and those that write it as lines, and tell its sizes.
 #![tactic(auto)]
 
-mod beside;
 mod command;
 mod ended;
 mod exporting;
-mod fault;
 mod inspecting;
-mod lines;
-mod log;
 mod on_air;
-mod packets;
 mod playing;
 mod program;
-mod spool;
 mod subject;
 mod task;
 mod types;
@@ -23,8 +17,7 @@ mod used;
 pub use ended::Ended;
 pub use exporting::export_disk;
 pub use inspecting::inspect_disk;
-pub use lines::LineFolder;
-pub use packets::Target;
+pub use mot_files::{LineFolder, Target};
 pub use playing::{Followed, play_and_answer, play_disk, play_with, sync_disk};
 pub use program::{is_air, run_air, run_air_on};
 pub use task::{PlayTask, Task};

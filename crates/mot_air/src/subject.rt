@@ -1,11 +1,9 @@
 //! What a refusal is about: the file that was not opened or written, or the option whose number is
 //! none. It is printed, and nothing is decided by it.
-use crate::beside::SUFFIX;
-use crate::fault::Cause;
-use crate::packets::OUTPUT;
 use clap::ArgMatches;
 use disk_store::OpenFault;
 use mot_base::Refusal;
+use mot_files::{Cause, OUTPUT, SUFFIX};
 use std::fmt::{self, Display, Formatter};
 use std::io::Write;
 use std::rt::Files;

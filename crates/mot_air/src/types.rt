@@ -2,8 +2,8 @@
 ghost use Rattle.std.specs.Prelude.{◌≡◌, IfErr};
 ghost use Rattle.mot_air.specs.Program.{IsUntyped};
 
-use crate::fault::{Cause, TypesFault, Unbegun};
 use mot_base::Refusal;
+use mot_files::{Cause, TypesFault, Unbegun};
 use mot_folder::FileTypes;
 use std::alloc::{AllocError, Global};
 use std::fs::OpenOptions;

@@ -1,7 +1,7 @@
 use Rattle.std.proofs.Common.{None, inr, subst, sym}
 use Rattle.std.proofs.lemmas.Result.{on_ok_weaker}
 use Rattle.mot_air.proofs.Begun.{IfErr-one, done-is, refused-is, since_opened}
-use Rattle.mot_air.specs.Inner.Packets.{target_of}
+use Rattle.mot_files.specs.Packets.{target_of}
 use Rattle.mot_air.specs.Playing.{Plays}
 use Rattle.mot_air.specs.Program.{FailsPlaying, OnOpened, turns_of, when_changed}
 use Rattle.mot_air.proofs.on_air.play_file.Goals as goal

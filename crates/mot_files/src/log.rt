@@ -4,7 +4,7 @@ use std::io::{self, ErrorKind, Write};
 
 /// A log that others write to as well, each while the others do not.
 #[derive(Drop)]
-pub(crate) struct SharedLog<'a, W: Write> {
+pub struct SharedLog<'a, W: Write> {
     log: &'a RefCell<W>,
 }
 

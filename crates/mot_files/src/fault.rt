@@ -10,7 +10,7 @@ use std::io;
 
 /// Why packets could not be written, or what should take them not be opened.
 #[derive(Clone, Copy)]
-pub(crate) enum PacketsFault {
+pub enum PacketsFault {
     /// The system refused a call, for this reason.
     System(io::Error),
     /// Another program writes it.
@@ -25,7 +25,7 @@ pub(crate) enum PacketsFault {
 
 /// What is wrong with a file that adds suffixes.
 #[derive(Clone, Copy)]
-pub(crate) enum TypesFault {
+pub enum TypesFault {
     /// The system refused a call, for this reason.
     System(io::Error),
     /// A line is none.
@@ -34,7 +34,7 @@ pub(crate) enum TypesFault {
 
 /// What is wrong with the folder that lines come from.
 #[derive(Clone, Copy)]
-pub(crate) enum LinesFault {
+pub enum LinesFault {
     /// The system refused a call, for this reason.
     System(io::Error),
     /// It is none.
@@ -45,7 +45,7 @@ pub(crate) enum LinesFault {
 
 /// Why a task could not be done: it is printed, and nothing is decided by it.
 #[derive(Clone, Copy)]
-pub(crate) enum Cause {
+pub enum Cause {
     /// The disk was not opened.
     Disk(OpenFault),
     /// The file that adds suffixes was not read, or a line of it is wrong.
@@ -60,7 +60,7 @@ pub(crate) enum Cause {
 
 /// Why a task was not begun.
 #[derive(Clone, Copy)]
-pub(crate) struct Unbegun {
+pub struct Unbegun {
     /// The refusal.
     pub refusal: Refusal,
     /// What is wrong with a file, where that is it.
@@ -90,7 +90,7 @@ impl Unbegun {
 }
 
 impl From<PacketsFault> for Cause {
-    ghost use Rattle.mot_air.specs.declared.fault.Cause.TheVariants.{Packets};
+    ghost use Rattle.mot_files.specs.declared.fault.Cause.TheVariants.{Packets};
 
     ghost from_gives = { λ fault cause. cause ≡ Packets fault };
 
@@ -142,7 +142,7 @@ impl Display for LinesFault {
 }
 
 impl From<io::Error> for LinesFault {
-    ghost use Rattle.mot_air.specs.declared.fault.LinesFault.TheVariants.{System};
+    ghost use Rattle.mot_files.specs.declared.fault.LinesFault.TheVariants.{System};
 
     ghost from_gives = { λ error fault. fault ≡ System error };
 
@@ -152,7 +152,7 @@ impl From<io::Error> for LinesFault {
 }
 
 impl From<io::Error> for PacketsFault {
-    ghost use Rattle.mot_air.specs.declared.fault.PacketsFault.TheVariants.{System};
+    ghost use Rattle.mot_files.specs.declared.fault.PacketsFault.TheVariants.{System};
 
     ghost from_gives = { λ error fault. fault ≡ System error };
 

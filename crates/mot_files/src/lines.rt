@@ -1,7 +1,7 @@
 //! The folder that lines come from while a disk is played.
 ghost use Rattle.std.specs.Prelude.{◌≡◌, IfErr, IfOk, IfSome, is_none, option_map, unwrap_or};
-ghost use Rattle.mot_air.specs.Program.{IsUnlined};
-ghost use Rattle.mot_air.specs.declared.lines.LineFolder.{LineFolder};
+ghost use Rattle.mot_files.specs.Lines.{IsUnlined};
+ghost use Rattle.mot_files.specs.declared.lines.LineFolder.{LineFolder};
 
 use crate::beside::is_file_at;
 use crate::fault::{Cause, LinesFault, Unbegun};
@@ -25,7 +25,7 @@ pub struct LineFolder<'a> {
 }
 
 /// The folder at the path, if one is given, with room for a line. It is not that of the objects.
-pub(crate) fn line_folder<'a>(
+pub fn line_folder<'a>(
     rt: &HostRuntime,
     alloc: Global,
     path: Option<&'a str>,

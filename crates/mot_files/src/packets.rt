@@ -3,8 +3,7 @@ ghost use Rattle.std.specs.Prelude.{◌≡◌, ◌≤◌, ◌∷◌, ℕ, List, 
 ghost use Rattle.std.specs.Prelude.{take};
 ghost use Rattle.std.specs.Io.{WritesAtMost};
 ghost use Rattle.std.specs.Io.KnownBytes.{Appends};
-ghost use Rattle.mot_air.specs.Inner.Packets.{target_of};
-ghost use Rattle.mot_air.specs.Program.{IsTarget};
+ghost use Rattle.mot_files.specs.Packets.{IsTarget, target_of};
 ghost use Rattle.mot_update.specs.Between.{Grows};
 
 use crate::beside::{NewFile, is_file_at};
@@ -16,7 +15,7 @@ use std::os::unix::fs::MetadataExt;
 use std::rt::Files;
 
 /// The word that names standard output.
-pub(crate) const OUTPUT: &str = "-";
+pub const OUTPUT: &str = "-";
 
 /// What takes the packets of `play`.
 #[derive(Clone, Copy, Debug, PartialEq, Eq)]
@@ -31,7 +30,7 @@ pub enum Target {
 
 /// What was opened to take packets.
 #[derive(Drop)]
-pub(crate) enum OpenPackets<'a> {
+pub enum OpenPackets<'a> {
     /// Standard output, which is open.
     Standard,
     /// A named pipe or a device.
@@ -52,7 +51,7 @@ impl<'a> OpenPackets<'a> {
 /// Opens what the path names, to write packets to it. A pipe or a device is opened for reading and
 /// writing: so a pipe's opening waits for no reader, and its reader may go and come back. The disk
 /// itself is refused.
-pub(crate) fn open_packets<'a>(
+pub fn open_packets<'a>(
     rt: &HostRuntime,
     path: &'a str,
     disk: &str,
@@ -98,8 +97,10 @@ fn is_stream(rt: &HostRuntime, path: &str, disk: &str) -> Result<bool, PacketsFa
 /// A writer of packets, each in one write that is handed on at once. It keeps why one was not
 /// written.
 #[derive(Drop)]
-pub(crate) struct PacketWriter<W: Write + Drop> {
-    writer: W,
+pub struct PacketWriter<W: Write + Drop> {
+    /// What takes the packets.
+    pub writer: W,
+    /// Why the last packet was not taken.
     pub fault: Option<PacketsFault>,
 }
 

@@ -8,11 +8,12 @@ use std::path::Path;
 use std::rt::Files;
 
 /// What stands behind the name of the file that is written.
-pub(crate) const SUFFIX: &str = ".new";
+pub const SUFFIX: &str = ".new";
 
 /// A new file of `PATH.new`, which no other program of ours writes.
 #[derive(Drop)]
-pub(crate) struct NewFile<'a> {
+pub struct NewFile<'a> {
+    /// The new file, open.
     pub file: File,
     path: &'a str,
     beside: String,
@@ -71,7 +72,7 @@ fn hold(rt: &HostRuntime, file: &File, path: &str, disk: &str) -> Result<(), Pac
 }
 
 /// Whether the path names this file.
-pub(crate) fn is_file_at(rt: &HostRuntime, path: &str, device: u64, number: u64) -> bool {
+pub fn is_file_at(rt: &HostRuntime, path: &str, device: u64, number: u64) -> bool {
     match rt.metadata(path) {
         Ok(found) => found.dev() == device && found.ino() == number,
         Err(_) => false,

@@ -18,15 +18,17 @@ const ROOM: usize = 16_384;
 /// again behind a crash and are lost by none. One that can't be read or taken away is told, and is
 /// the last: else its lines would come again and again.
 #[derive(Drop)]
-pub(crate) struct Spool<'a, T: Files<File = File>, W: Write + Drop> {
+pub struct Spool<'a, T: Files<File = File>, W: Write + Drop> {
     rt: &'a T,
     alloc: Global,
-    folder: &'a str,
-    /// What is told of a file.
-    log: W,
+    /// The folder's path.
+    pub folder: &'a str,
+    /// What is told of a file goes there.
+    pub log: W,
     /// The file that is read.
     open: Option<LineFile>,
-    is_stopped: bool,
+    /// Whether no more is read.
+    pub is_stopped: bool,
 }
 
 /// A file of lines that is read.

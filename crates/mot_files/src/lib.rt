@@ -1,0 +1,17 @@
+//! The files around a disk that is played: what its packets go to, where lines come from, and why
+//! one of them can't be used.
+#![tactic(auto)]
+
+mod beside;
+mod fault;
+mod lines;
+mod log;
+mod packets;
+mod spool;
+
+pub use beside::{NewFile, SUFFIX};
+pub use fault::{Cause, LinesFault, PacketsFault, TypesFault, Unbegun};
+pub use lines::{LineFolder, line_folder};
+pub use log::SharedLog;
+pub use packets::{OUTPUT, OpenPackets, PacketWriter, Target, open_packets};
+pub use spool::Spool;
