@@ -1,7 +1,6 @@
 //! Where a player stands, and its buffers.
-ghost use Rattle.std.specs.Prelude.{◌≡◌, ℕ, ◌+◌, ◌^◌, ◌<◌, ◌≤◌, List, length, map, take, drop};
-ghost use Rattle.std.specs.Prelude.{vec_len, Some, IfErr, OnOk, OnErr};
-ghost use Rattle.mot_base.specs.declared.refusal.Refusal.TheVariants.{DeviceFault};
+ghost use Rattle.std.specs.Prelude.{◌≡◌, ℕ, ◌+◌, ◌^◌, ◌<◌, ◌≤◌, List, length, take, drop};
+ghost use Rattle.std.specs.Prelude.{vec_len, Some, OnOk, OnErr};
 
 use crate::last::begin_group;
 use crate::last_group::LastGroup;
@@ -43,7 +42,7 @@ pub struct Played {
 impl State {
     ghost use Rattle.mot_packets.specs.Packet.{read_packet};
     ghost use Rattle.mot_packets.specs.Written.{bytes_of_packet};
-    ghost use Rattle.disk_store.specs.Failures.{Rises};
+    ghost use Rattle.mot_player.specs.Bodies.{ReadsBodies};
     ghost use Rattle.mot_player.specs.Place.{packet_sent};
     ghost use Rattle.mot_player.specs.Inner.Ready.{HasBegun, HasTaken, IsFitted, place_with};
     ghost use Rattle.mot_player.specs.State.{view_of};
@@ -73,13 +72,8 @@ impl State {
         ensures turn { self.new.turn ≡ self.old.turn }
         ensures size { self.new.segment_size ≡ self.old.segment_size }
         ensures stays { OnErr result (view_of self.new ≡ view_of self.old) }
-        ensures lengths { map length (B.bodies bodies.new) ≡ map length (B.bodies bodies.old) }
-        ensures unchanged { B.IsHonest bodies.old → B.bodies bodies.new ≡ B.bodies bodies.old }
-        ensures was_honest { B.IsHonest bodies.new → B.IsHonest bodies.old }
-        ensures only_read { B.HasOnlyRead bodies.old bodies.new }
-        ensures failed { OnErr result (Rises (B.failures bodies.old) (B.failures bodies.new)) }
-        ensures no_fault { OnOk result (B.failures bodies.new ≡ B.failures bodies.old) }
-        ensures refused { IfErr result (λ refusal. refusal ≡ DeviceFault) }
+        ensures reads { ReadsBodies B.bodies B.IsHonest B.failures B.HasOnlyRead bodies.old
+            bodies.new result }
     {
         let part = part_at(&self.turn, self.segment_size, self.entity, self.segment);
         read_front(
