@@ -13,7 +13,7 @@ ghost use Rattle.mot_player.specs.Laws.{TurnsEnd, TurnsReadAsTheirCarousels};
 ghost use Rattle.mot_player.specs.Place.{Sent, change_turn, opened_place, request};
 ghost use Rattle.mot_player.specs.Rounds.{RoundsAreContinuous};
 
-use crate::last_group::LastGroup;
+use crate::groups::LastGroup;
 use crate::state::State;
 use crate::{Bodies, Played, Turn};
 use mot_base::{Address, PacketLength, Refusal, SegmentSize};

@@ -2,8 +2,7 @@
 ghost use Rattle.std.specs.Prelude.{◌≡◌, ℕ, ◌+◌, ◌^◌, ◌<◌, ◌≤◌, List, length, take, drop};
 ghost use Rattle.std.specs.Prelude.{vec_len, Some, OnOk, OnErr};
 
-use crate::last::begin_group;
-use crate::last_group::LastGroup;
+use crate::groups::LastGroup;
 use crate::part::{Part, part_at};
 use crate::reading::read_front;
 use crate::{Bodies, Turn};
@@ -115,9 +114,8 @@ impl State {
         let tid = self.turn.entity_tid(part.entity);
         let bytes = &self.buffer.as_slice()[..part.len];
         if part.entity == 0 {
-            begin_group(
+            self.last_directory.begin_group(
                 &mut self.group,
-                &mut self.last_directory,
                 GroupKind::Directory,
                 tid,
                 part.number,
@@ -125,9 +123,8 @@ impl State {
                 bytes,
             );
         } else {
-            begin_group(
+            self.last_body.begin_group(
                 &mut self.group,
-                &mut self.last_body,
                 GroupKind::Body,
                 tid,
                 part.number,
@@ -160,6 +157,8 @@ impl State {
             ≡ (packet_sent (place_with self.old bodies) self.old.group.items
             self.old.sent).ends_turn }
     {
+        // One packet a call, since a turn may change between two; a loop over all packets of a
+        // group stands where a group is not sent but shown (`write_packets` of `mot_session`).
         cut_packet_into(
             packet,
             self.group.as_slice(),
