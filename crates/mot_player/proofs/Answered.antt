@@ -11,7 +11,7 @@ use Rattle.mot_packets.specs.Packet.{read_packet}
 use Rattle.mot_packets.specs.Written.{bytes_of_packet}
 use Rattle.mot_groups.specs.Group.{GroupFields, bytes_of_group}
 use Rattle.mot_player.specs.declared.state.State.{State}
-use Rattle.mot_player.specs.declared.last_group.LastGroup.{LastGroup}
+use Rattle.mot_player.specs.declared.groups.LastGroup.{LastGroup}
 use Rattle.mot_player.specs.LastGroup.{kept_last}
 use Rattle.mot_player.specs.Laws.{IsPlace, IsStep}
 use Rattle.mot_player.specs.PlayerView.{AreBodiesFor, PlayerView, TurnPlan, place_of}

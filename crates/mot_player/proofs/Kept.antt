@@ -7,7 +7,7 @@ use Rattle.std.specs.Prelude.{◌==◌, bytes_eq, vec_len}
 use Rattle.mot_base.proofs.Laws.{is_empty-some}
 use Rattle.mot_player.specs.LastGroup.{kept_last}
 use Rattle.mot_player.specs.Place.{next_index}
-use Rattle.mot_player.specs.declared.last_group.LastGroup.{LastGroup}
+use Rattle.mot_player.specs.declared.groups.LastGroup.{LastGroup}
 
 both-first : (first second third : Bool)
     → ((first && second) && third) ≡ (first && (second && third))

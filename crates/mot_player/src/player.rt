@@ -1,10 +1,10 @@
 //! The player of a carousel.
-ghost use Rattle.std.specs.Prelude.{◌≡◌, ◌<◌, ℕ, List, false, length, map, Some, None, IfOk};
+ghost use Rattle.std.specs.Prelude.{◌≡◌, ◌<◌, ℕ, List, false, Some, None, IfOk};
 ghost use Rattle.std.specs.Prelude.{IfErr, OnOk, OnErr};
 ghost use Rattle.mot_base.specs.PacketLength.{room_of};
-ghost use Rattle.mot_base.specs.declared.refusal.Refusal.TheVariants.{OutOfMemory, DeviceFault};
+ghost use Rattle.mot_base.specs.declared.refusal.Refusal.TheVariants.{OutOfMemory};
 ghost use Rattle.mot_packets.specs.Packet.{read_packet};
-ghost use Rattle.disk_model.specs.Failures.{Rises};
+ghost use Rattle.mot_player.specs.Bodies.{ReadsBodies};
 ghost use Rattle.mot_player.specs.PlayerView.{AreBodiesFor, place_of, turn_with};
 ghost use Rattle.mot_player.specs.AnyBodies.{IsStepOfSome};
 ghost use Rattle.mot_player.specs.Laws.{ChangesGoOn, IsPlace, IsStep, RequestsGoOn};
@@ -13,7 +13,7 @@ ghost use Rattle.mot_player.specs.Laws.{TurnsEnd, TurnsReadAsTheirCarousels};
 ghost use Rattle.mot_player.specs.Place.{Sent, change_turn, opened_place, request};
 ghost use Rattle.mot_player.specs.Rounds.{RoundsAreContinuous};
 
-use crate::last_group::LastGroup;
+use crate::groups::LastGroup;
 use crate::state::State;
 use crate::{Bodies, Played, Turn};
 use mot_base::{Address, PacketLength, Refusal, SegmentSize};
@@ -130,13 +130,8 @@ impl Player {
         ensures turn { self.new.turn ≡ self.old.turn }
         ensures size { self.new.segment_size ≡ self.old.segment_size }
         ensures stays { OnErr result (self.new ≡ self.old) }
-        ensures lengths { map length (B.bodies bodies.new) ≡ map length (B.bodies bodies.old) }
-        ensures unchanged { B.IsHonest bodies.old → B.bodies bodies.new ≡ B.bodies bodies.old }
-        ensures was_honest { B.IsHonest bodies.new → B.IsHonest bodies.old }
-        ensures only_read { B.HasOnlyRead bodies.old bodies.new }
-        ensures failed { OnErr result (Rises (B.failures bodies.old) (B.failures bodies.new)) }
-        ensures no_fault { OnOk result (B.failures bodies.new ≡ B.failures bodies.old) }
-        ensures refused { IfErr result (λ refusal. refusal ≡ DeviceFault) }
+        ensures reads { ReadsBodies B.bodies B.IsHonest B.failures B.HasOnlyRead bodies.old
+            bodies.new result }
 
         // Whatever bytes a read gave, each packet brings the end of the turn nearer.
         ensures nearer { IfOk result (λ played. played.ends_turn ≡ false
@@ -169,13 +164,8 @@ impl Player {
         ensures turn { self.new.turn ≡ self.old.turn }
         ensures size { self.new.segment_size ≡ self.old.segment_size }
         ensures stays { OnErr result (self.new ≡ self.old) }
-        ensures lengths { map length (B.bodies bodies.new) ≡ map length (B.bodies bodies.old) }
-        ensures unchanged { B.IsHonest bodies.old → B.bodies bodies.new ≡ B.bodies bodies.old }
-        ensures was_honest { B.IsHonest bodies.new → B.IsHonest bodies.old }
-        ensures only_read { B.HasOnlyRead bodies.old bodies.new }
-        ensures failed { OnErr result (Rises (B.failures bodies.old) (B.failures bodies.new)) }
-        ensures no_fault { OnOk result (B.failures bodies.new ≡ B.failures bodies.old) }
-        ensures refused { IfErr result (λ refusal. refusal ≡ DeviceFault) }
+        ensures reads { ReadsBodies B.bodies B.IsHonest B.failures B.HasOnlyRead bodies.old
+            bodies.new result }
 
         // Whatever bytes a read gave, each packet brings the end of the turn nearer.
         ensures nearer { IfOk result (λ ends_turn. ends_turn ≡ false

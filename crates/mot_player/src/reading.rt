@@ -1,8 +1,7 @@
 //! Reading the bytes of an entity.
-ghost use Rattle.std.specs.Prelude.{◌≡◌, ◌+◌, ◌<◌, ◌≤◌, length, map, take, drop, vec_len};
-ghost use Rattle.std.specs.Prelude.{slice_range, OnOk, OnErr, IfErr};
-ghost use Rattle.mot_base.specs.declared.refusal.Refusal.TheVariants.{DeviceFault};
-ghost use Rattle.disk_model.specs.Failures.{Rises};
+ghost use Rattle.std.specs.Prelude.{◌≡◌, ◌+◌, ◌<◌, ◌≤◌, length, take, drop, vec_len};
+ghost use Rattle.std.specs.Prelude.{slice_range, OnOk};
+ghost use Rattle.mot_player.specs.Bodies.{ReadsBodies};
 ghost use Rattle.mot_player.specs.PlayerView.{AreBodiesFor};
 ghost use Rattle.mot_player.specs.Inner.Entities.{entity_bytes, entity_length};
 
@@ -24,13 +23,8 @@ pub(crate) fn read_front<B: Bodies>(
     requires range { from + len ≤ entity_length turn.now entity }
     requires room { len ≤ vec_len buffer.old }
     ensures len { vec_len buffer.new ≡ vec_len buffer.old }
-    ensures lengths { map length (B.bodies bodies.new) ≡ map length (B.bodies bodies.old) }
-    ensures unchanged { B.IsHonest bodies.old → B.bodies bodies.new ≡ B.bodies bodies.old }
-    ensures was_honest { B.IsHonest bodies.new → B.IsHonest bodies.old }
-    ensures only_read { B.HasOnlyRead bodies.old bodies.new }
-    ensures failed { OnErr result (Rises (B.failures bodies.old) (B.failures bodies.new)) }
-    ensures no_fault { OnOk result (B.failures bodies.new ≡ B.failures bodies.old) }
-    ensures refused { IfErr result (λ refusal. refusal ≡ DeviceFault) }
+    ensures reads { ReadsBodies B.bodies B.IsHonest B.failures B.HasOnlyRead bodies.old
+        bodies.new result }
     ensures bytes { B.IsHonest bodies.new → OnOk result
         (take len buffer.new.items
         ≡ take len (drop from (entity_bytes turn.now (B.bodies bodies.old) entity))) }
@@ -54,13 +48,8 @@ fn read_entity<B: Bodies>(
     requires bodies { AreBodiesFor turn.now (B.bodies bodies.old) }
     requires entity { entity < length turn.now.bodies + 1 }
     requires range { from + length out.old ≤ entity_length turn.now entity }
-    ensures lengths { map length (B.bodies bodies.new) ≡ map length (B.bodies bodies.old) }
-    ensures unchanged { B.IsHonest bodies.old → B.bodies bodies.new ≡ B.bodies bodies.old }
-    ensures was_honest { B.IsHonest bodies.new → B.IsHonest bodies.old }
-    ensures only_read { B.HasOnlyRead bodies.old bodies.new }
-    ensures failed { OnErr result (Rises (B.failures bodies.old) (B.failures bodies.new)) }
-    ensures no_fault { OnOk result (B.failures bodies.new ≡ B.failures bodies.old) }
-    ensures refused { IfErr result (λ refusal. refusal ≡ DeviceFault) }
+    ensures reads { ReadsBodies B.bodies B.IsHonest B.failures B.HasOnlyRead bodies.old
+        bodies.new result }
     ensures bytes { B.IsHonest bodies.new → OnOk result
         (out.new ≡ slice_range (entity_bytes turn.now (B.bodies bodies.old) entity) from
         (from + length out.old)) }

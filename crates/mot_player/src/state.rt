@@ -1,10 +1,8 @@
 //! Where a player stands, and its buffers.
-ghost use Rattle.std.specs.Prelude.{◌≡◌, ℕ, ◌+◌, ◌^◌, ◌<◌, ◌≤◌, List, length, map, take, drop};
-ghost use Rattle.std.specs.Prelude.{vec_len, Some, IfErr, OnOk, OnErr};
-ghost use Rattle.mot_base.specs.declared.refusal.Refusal.TheVariants.{DeviceFault};
+ghost use Rattle.std.specs.Prelude.{◌≡◌, ℕ, ◌+◌, ◌^◌, ◌<◌, ◌≤◌, List, length, take, drop};
+ghost use Rattle.std.specs.Prelude.{vec_len, Some, OnOk, OnErr};
 
-use crate::last::begin_group;
-use crate::last_group::LastGroup;
+use crate::groups::LastGroup;
 use crate::part::{Part, part_at};
 use crate::reading::read_front;
 use crate::{Bodies, Turn};
@@ -43,7 +41,7 @@ pub struct Played {
 impl State {
     ghost use Rattle.mot_packets.specs.Packet.{read_packet};
     ghost use Rattle.mot_packets.specs.Written.{bytes_of_packet};
-    ghost use Rattle.disk_model.specs.Failures.{Rises};
+    ghost use Rattle.mot_player.specs.Bodies.{ReadsBodies};
     ghost use Rattle.mot_player.specs.Place.{packet_sent};
     ghost use Rattle.mot_player.specs.Inner.Ready.{HasBegun, HasTaken, IsFitted, place_with};
     ghost use Rattle.mot_player.specs.State.{view_of};
@@ -73,13 +71,8 @@ impl State {
         ensures turn { self.new.turn ≡ self.old.turn }
         ensures size { self.new.segment_size ≡ self.old.segment_size }
         ensures stays { OnErr result (view_of self.new ≡ view_of self.old) }
-        ensures lengths { map length (B.bodies bodies.new) ≡ map length (B.bodies bodies.old) }
-        ensures unchanged { B.IsHonest bodies.old → B.bodies bodies.new ≡ B.bodies bodies.old }
-        ensures was_honest { B.IsHonest bodies.new → B.IsHonest bodies.old }
-        ensures only_read { B.HasOnlyRead bodies.old bodies.new }
-        ensures failed { OnErr result (Rises (B.failures bodies.old) (B.failures bodies.new)) }
-        ensures no_fault { OnOk result (B.failures bodies.new ≡ B.failures bodies.old) }
-        ensures refused { IfErr result (λ refusal. refusal ≡ DeviceFault) }
+        ensures reads { ReadsBodies B.bodies B.IsHonest B.failures B.HasOnlyRead bodies.old
+            bodies.new result }
     {
         let part = part_at(&self.turn, self.segment_size, self.entity, self.segment);
         read_front(
@@ -121,9 +114,8 @@ impl State {
         let tid = self.turn.entity_tid(part.entity);
         let bytes = &self.buffer.as_slice()[..part.len];
         if part.entity == 0 {
-            begin_group(
+            self.last_directory.begin_group(
                 &mut self.group,
-                &mut self.last_directory,
                 GroupKind::Directory,
                 tid,
                 part.number,
@@ -131,9 +123,8 @@ impl State {
                 bytes,
             );
         } else {
-            begin_group(
+            self.last_body.begin_group(
                 &mut self.group,
-                &mut self.last_body,
                 GroupKind::Body,
                 tid,
                 part.number,
@@ -166,6 +157,8 @@ impl State {
             ≡ (packet_sent (place_with self.old bodies) self.old.group.items
             self.old.sent).ends_turn }
     {
+        // One packet a call, since a turn may change between two; a loop over all packets of a
+        // group stands where a group is not sent but shown (`write_packets` of `mot_session`).
         cut_packet_into(
             packet,
             self.group.as_slice(),

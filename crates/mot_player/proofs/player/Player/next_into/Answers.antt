@@ -1,9 +1,11 @@
-use Rattle.std.proofs.Common.{◌≡◌, ◌∙◌, ◌<◌, ℕ, List, Some, false, map, length, ap, arith}
-use Rattle.std.proofs.Common.{sym, subst}
+use Rattle.std.proofs.Common.{◌≡◌, ◌∙◌, ◌<◌, ℕ, List, Some, false, ap, arith, refl}
+use Rattle.std.proofs.Common.{sym, subst, Bool, Result, Ok}
+use Rattle.mot_base.specs.declared.refusal.Refusal.{Refusal}
 use Rattle.mot_base.proofs.Laws.{same_error}
 use Rattle.mot_packets.specs.Packet.{read_packet}
 use Rattle.mot_packets.specs.Written.{bytes_of_packet}
 use Rattle.mot_player.specs.AnyBodies.{IsStepOfSome}
+use Rattle.mot_player.specs.Bodies.{ReadsBodies}
 use Rattle.mot_player.specs.Laws.{IsStep, blank_bodies, bytes_due, bytes_left}
 use Rattle.mot_player.specs.Inner.Ready.{HasTaken, place_with}
 use Rattle.mot_player.specs.State.{view_of}
@@ -15,6 +17,10 @@ use Rattle.mot_player.proofs.Nearer.{are-blank, left-less, nearer-begun, nearer-
 use Rattle.mot_player.proofs.player.Player.next_into.Goals as goal
 use Rattle.mot_player.proofs.player.Player.next_into.Goals.{then-self-eq0+in_ok-begin}
 use Rattle.mot_player.proofs.player.Player.next_into.Goals.{else-self-eq0}
+
+-- a call that gave a value
+abbrev answered : Bool → Result Bool Refusal
+answered ends_turn = Ok ends_turn
 
 pub returns-clause-sent : goal.returns-clause-sent
 returns-clause-sent g c = λ honest.
@@ -179,10 +185,6 @@ pub returns-in_err-begin-clause-sent_of_some : goal.returns-in_err-begin-clause-
 returns-in_err-begin-clause-sent_of_some g c =
     rw (same_error c.from_residual.result c.in_err-begin.field-0.0 c.from_residual.ensures.1) tt
 
-pub returns-in_err-begin-clause-no_fault : goal.returns-in_err-begin-clause-no_fault
-returns-in_err-begin-clause-no_fault g c =
-    rw (same_error c.from_residual.result c.in_err-begin.field-0.0 c.from_residual.ensures.1) tt
-
 pub returns-in_err-begin-clause-nearer : goal.returns-in_err-begin-clause-nearer
 returns-in_err-begin-clause-nearer g c =
     rw (same_error c.from_residual.result c.in_err-begin.field-0.0 c.from_residual.ensures.1) tt
@@ -199,27 +201,18 @@ returns-in_err-begin-clause-stays g c = rw (
   same_error c.from_residual.result c.in_err-begin.field-0.0 c.from_residual.ensures.1,
 ) c.in_err-begin.ensures.stays
 
-pub returns-in_err-begin-clause-lengths : goal.returns-in_err-begin-clause-lengths
-returns-in_err-begin-clause-lengths g c = c.in_err-begin.ensures.lengths
-
-pub returns-in_err-begin-clause-unchanged : goal.returns-in_err-begin-clause-unchanged
-returns-in_err-begin-clause-unchanged g c = c.in_err-begin.ensures.unchanged
-
-pub returns-in_err-begin-clause-was_honest : goal.returns-in_err-begin-clause-was_honest
-returns-in_err-begin-clause-was_honest g c = c.in_err-begin.ensures.was_honest
-
-pub returns-in_err-begin-clause-only_read : goal.returns-in_err-begin-clause-only_read
-returns-in_err-begin-clause-only_read g c = c.in_err-begin.ensures.only_read
-
-pub returns-in_err-begin-clause-failed : goal.returns-in_err-begin-clause-failed
-returns-in_err-begin-clause-failed g c =
-    rw (same_error c.from_residual.result c.in_err-begin.field-0.0 c.from_residual.ensures.1)
-    c.in_err-begin.ensures.failed
-
-pub returns-in_err-begin-clause-refused : goal.returns-in_err-begin-clause-refused
-returns-in_err-begin-clause-refused g c =
-    rw (same_error c.from_residual.result c.in_err-begin.field-0.0 c.from_residual.ensures.1)
-    c.in_err-begin.ensures.refused
+pub returns-in_err-begin-clause-reads : goal.returns-in_err-begin-clause-reads
+returns-in_err-begin-clause-reads g c =
+    let begun = c.in_err-begin.ensures.reads in
+    rw (same_error c.from_residual.result c.in_err-begin.field-0.0 c.from_residual.ensures.1) (record {
+      lengths = begun.lengths;
+      unchanged = begun.unchanged;
+      was_honest = begun.was_honest;
+      only_read = begun.only_read;
+      failed = begun.failed;
+      no_fault = tt;
+      refused = begun.refused;
+    })
 
 pub returns-clause-turn : goal.returns-clause-turn
 returns-clause-turn g c = rw (← c.self.view_is) (
@@ -241,44 +234,32 @@ returns-clause-size g c = rw (← c.self.view_is) (
     ] in
     c.send.ensures.size ∙ same)
 
-pub returns-clause-lengths : goal.returns-clause-lengths
-returns-clause-lengths g c =
-    elim c.if-self-eq0.branch [
-      | then-self-eq0+in_ok-begin w ↦ (ap (λ b. map length (g.B.Bodies.bodies b)) w.bodies-is
-          ∙ w.in_ok-begin.ensures.lengths)
-      | else-self-eq0 w ↦ (ap (λ b. map length (g.B.Bodies.bodies b)) w.bodies-is)
-    ]
-
-pub returns-clause-unchanged : goal.returns-clause-unchanged
-returns-clause-unchanged g c = λ honest.
-    elim c.if-self-eq0.branch [
-      | then-self-eq0+in_ok-begin w ↦ (ap g.B.Bodies.bodies w.bodies-is
-          ∙ w.in_ok-begin.ensures.unchanged honest)
-      | else-self-eq0 w ↦ (ap g.B.Bodies.bodies w.bodies-is)
-    ]
-
-pub returns-clause-was_honest : goal.returns-clause-was_honest
-returns-clause-was_honest g c = λ honest.
+pub returns-clause-reads : goal.returns-clause-reads
+returns-clause-reads g c =
     elim c.if-self-eq0.branch [
       | then-self-eq0+in_ok-begin w ↦ (
-          w.in_ok-begin.ensures.was_honest (subst g.B.Bodies.IsHonest w.bodies-is honest))
-      | else-self-eq0 w ↦ (subst g.B.Bodies.IsHonest w.bodies-is honest)
-    ]
-
-pub returns-clause-only_read : goal.returns-clause-only_read
-returns-clause-only_read g c =
-    elim c.if-self-eq0.branch [
-      | then-self-eq0+in_ok-begin w ↦
-          (subst (λ b. g.B.Bodies.HasOnlyRead c.args.bodies.now b) (sym w.bodies-is)
-          w.in_ok-begin.ensures.only_read)
-      | else-self-eq0 w ↦ (subst (λ b. g.B.Bodies.HasOnlyRead c.args.bodies.now b) (sym w.bodies-is)
-          (g.B.Bodies.unread c.args.bodies.now))
-    ]
-
-pub returns-clause-no_fault : goal.returns-clause-no_fault
-returns-clause-no_fault g c =
-    elim c.if-self-eq0.branch [
-      | then-self-eq0+in_ok-begin w ↦ (ap g.B.Bodies.failures w.bodies-is
-          ∙ w.in_ok-begin.ensures.no_fault)
-      | else-self-eq0 w ↦ (ap g.B.Bodies.failures w.bodies-is)
+          let begun = w.in_ok-begin.ensures.reads in
+          subst (λ b. ReadsBodies g.B.Bodies.bodies g.B.Bodies.IsHonest g.B.Bodies.failures
+          g.B.Bodies.HasOnlyRead c.args.bodies.now b (answered c.send.result)) (sym w.bodies-is)
+          (record {
+            lengths = begun.lengths;
+            unchanged = begun.unchanged;
+            was_honest = begun.was_honest;
+            only_read = begun.only_read;
+            failed = tt;
+            no_fault = begun.no_fault;
+            refused = tt;
+          }))
+      | else-self-eq0 w ↦ (
+          subst (λ b. ReadsBodies g.B.Bodies.bodies g.B.Bodies.IsHonest g.B.Bodies.failures
+          g.B.Bodies.HasOnlyRead c.args.bodies.now b (answered c.send.result)) (sym w.bodies-is)
+          (record {
+            lengths = refl;
+            unchanged = λ honest. refl;
+            was_honest = λ honest. honest;
+            only_read = g.B.Bodies.unread c.args.bodies.now;
+            failed = tt;
+            no_fault = refl;
+            refused = tt;
+          }))
     ]

@@ -80,11 +80,6 @@ returns-in_err-read_front-clause-some g c =
     rw (same_error c.from_residual.result c.in_err-read_front.field-0.0
     c.from_residual.ensures.1) tt
 
-pub returns-in_err-read_front-clause-no_fault : goal.returns-in_err-read_front-clause-no_fault
-returns-in_err-read_front-clause-no_fault g c =
-    rw (same_error c.from_residual.result c.in_err-read_front.field-0.0
-    c.from_residual.ensures.1) tt
-
 pub returns-in_err-read_front-clause-sent : goal.returns-in_err-read_front-clause-sent
 returns-in_err-read_front-clause-sent g c = c.requires.sent
 
@@ -107,39 +102,13 @@ returns-in_err-read_front-clause-stays g c =
     rw (same_error c.from_residual.result c.in_err-read_front.field-0.0
     c.from_residual.ensures.1) refl
 
-pub returns-in_err-read_front-clause-lengths : goal.returns-in_err-read_front-clause-lengths
-returns-in_err-read_front-clause-lengths g c = c.read_front.ensures.lengths
-
-pub returns-clause-lengths : goal.returns-clause-lengths
-returns-clause-lengths g c = c.read_front.ensures.lengths
-
-pub returns-in_err-read_front-clause-unchanged : goal.returns-in_err-read_front-clause-unchanged
-returns-in_err-read_front-clause-unchanged g c = c.read_front.ensures.unchanged
-
-pub returns-clause-unchanged : goal.returns-clause-unchanged
-returns-clause-unchanged g c = c.read_front.ensures.unchanged
-
-pub returns-in_err-read_front-clause-was_honest : goal.returns-in_err-read_front-clause-was_honest
-returns-in_err-read_front-clause-was_honest g c = c.read_front.ensures.was_honest
-
-pub returns-clause-was_honest : goal.returns-clause-was_honest
-returns-clause-was_honest g c = c.read_front.ensures.was_honest
-
-pub returns-in_err-read_front-clause-only_read : goal.returns-in_err-read_front-clause-only_read
-returns-in_err-read_front-clause-only_read g c = c.read_front.ensures.only_read
-
-pub returns-clause-only_read : goal.returns-clause-only_read
-returns-clause-only_read g c = c.read_front.ensures.only_read
-
-pub returns-in_err-read_front-clause-failed : goal.returns-in_err-read_front-clause-failed
-returns-in_err-read_front-clause-failed g c =
+pub returns-in_err-read_front-clause-reads : goal.returns-in_err-read_front-clause-reads
+returns-in_err-read_front-clause-reads g c =
     rw (same_error c.from_residual.result c.in_err-read_front.field-0.0 c.from_residual.ensures.1)
-    c.in_err-read_front.ensures.failed
+    c.in_err-read_front.ensures.reads
 
-pub returns-in_err-read_front-clause-refused : goal.returns-in_err-read_front-clause-refused
-returns-in_err-read_front-clause-refused g c =
-    rw (same_error c.from_residual.result c.in_err-read_front.field-0.0 c.from_residual.ensures.1)
-    c.in_err-read_front.ensures.refused
+pub returns-clause-reads : goal.returns-clause-reads
+returns-clause-reads g c = c.in_ok-read_front.ensures.reads
 
 pub returns-clause-fitted : goal.returns-clause-fitted
 returns-clause-fitted g c = c.begin_part.ensures.fitted
@@ -155,6 +124,3 @@ returns-clause-turn g c = c.begin_part.ensures.turn
 
 pub returns-clause-size : goal.returns-clause-size
 returns-clause-size g c = c.begin_part.ensures.size
-
-pub returns-clause-no_fault : goal.returns-clause-no_fault
-returns-clause-no_fault g c = c.in_ok-read_front.ensures.no_fault

@@ -1,6 +1,8 @@
-//! The last data group of a type.
+//! The last data group of each type, and beginning one behind it.
 ghost use Rattle.std.specs.Prelude.{◌≡◌, ◌<◌, ◌≤◌, length, vec_len, vec_capacity};
 
+use mot_base::{GroupKind, TransportId};
+use mot_groups::{content_front, write_group};
 use std::alloc::{AllocError, Global};
 
 /// The group of a type that was begun last: its continuity index, its segment, and what stands in
@@ -15,7 +17,12 @@ pub(crate) struct LastGroup {
 }
 
 impl LastGroup {
-    ghost use Rattle.std.specs.Prelude.{Some, None, ◌++◌, IfOk};
+    ghost use Rattle.std.specs.Prelude.{◌+◌, ◌^◌, [], ◌++◌, Some, None, IfOk};
+    ghost use Rattle.mot_base.specs.GroupKind.{kind_number};
+    ghost use Rattle.mot_base.specs.declared.numbers.TheConstants.{MAX_SEGMENT};
+    ghost use Rattle.mot_groups.specs.Group.{GroupFields, IsGroup, content_of, bytes_of_group};
+    ghost use Rattle.mot_groups.specs.Group.{group_of};
+    ghost use Rattle.mot_groups.specs.Group.{read_group, segment_content};
     ghost use Rattle.mot_player.specs.LastGroup.{kept_last};
     ghost use Rattle.mot_player.specs.Place.{Last, next_index};
 
@@ -60,5 +67,38 @@ impl LastGroup {
         self.front = *front;
         self.segment.clear();
         self.segment.extend_from_slice(segment).unwrap();
+    }
+    /// Writes the group of a segment in place of another, with the continuity index that follows
+    /// from this one, and keeps it in place of this one.
+    pub fn begin_group(
+        &mut self,
+        group: &mut Vec<u8>,
+        kind: GroupKind,
+        tid: TransportId,
+        number: u16,
+        is_last: bool,
+        segment: &[u8],
+    )
+        requires room { length segment.now + 11 ≤ vec_capacity group.old }
+        requires last { length segment.now ≤ vec_capacity self.old.segment }
+        requires number { number < 2 ^ 15 }
+        requires segment { (0 < length segment.now) × (length segment.now ≤ MAX_SEGMENT) }
+        ensures written { let s = (group_of 0 (kind_number kind) tid number is_last
+            segment.now).segment in
+            let index = next_index (kept_last self.old) (segment_content s) in
+            group.new.items ≡ bytes_of_group (record { index = index; segment = s }) }
+        ensures last { let s = (group_of 0 (kind_number kind) tid number is_last
+            segment.now).segment in
+            let index = next_index (kept_last self.old) (segment_content s) in
+            kept_last self.new ≡ Some (record { index = index; content = segment_content s }) }
+        ensures len { vec_len group.new ≡ length segment.now + 11 }
+        ensures capacity { vec_capacity group.old ≤ vec_capacity group.new }
+        ensures last_capacity { vec_capacity self.old.segment ≤ vec_capacity self.new.segment }
+    {
+        let front = content_front(tid, number, is_last, segment.len() as u16);
+        let index = self.next_index(&front, segment);
+        group.clear();
+        write_group(group, kind, index, tid, number, is_last, segment);
+        self.keep(index, &front, segment);
     }
 }

@@ -3,7 +3,7 @@ use Rattle.mot_base.specs.GroupKind.{kind_number}
 use Rattle.mot_groups.specs.Group.{bytes_of_group, group_of, segment_content}
 use Rattle.mot_player.specs.LastGroup.{kept_last}
 use Rattle.mot_player.specs.Place.{next_index}
-use Rattle.mot_player.proofs.last.begin_group.Goals as goal
+use Rattle.mot_player.proofs.groups.LastGroup.begin_group.Goals as goal
 
 content_is : (c : goal.After-keep) → c.content_front-front.result ++ c.args.segment.now
     ≡ segment_content (group_of 0 (kind_number c.args.kind) c.args.tid c.args.number c.args.is_last
@@ -11,11 +11,11 @@ content_is : (c : goal.After-keep) → c.content_front-front.result ++ c.args.se
 content_is c = ap (λ (front : List ℕ). front ++ c.args.segment.now) c.content_front-front.ensures
 
 index_is : (c : goal.After-keep) → c.next_index-index.result
-    ≡ next_index (kept_last c.args.last.now) (segment_content
+    ≡ next_index (kept_last c.args.self.now) (segment_content
     (group_of 0 (kind_number c.args.kind) c.args.tid c.args.number c.args.is_last
     c.args.segment.now).segment)
 index_is c = c.next_index-index.ensures.value
-    ∙ ap (next_index (kept_last c.args.last.now)) (content_is c)
+    ∙ ap (next_index (kept_last c.args.self.now)) (content_is c)
 
 pub returns-clause-written : goal.returns-clause-written
 returns-clause-written c =

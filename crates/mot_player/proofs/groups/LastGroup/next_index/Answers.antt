@@ -1,9 +1,9 @@
 use Rattle.std.proofs.Common.{true, false, refl, sym, ◌∙◌, ap}
 use Rattle.std.specs.Prelude.{bytes_eq}
 use Rattle.mot_player.proofs.Kept.{index-of_other}
-use Rattle.mot_player.proofs.last_group.LastGroup.next_index.Goals as goal
-use Rattle.mot_player.proofs.last_group.LastGroup.next_index.Goals.{else-eq-via-then-eq+else-eq-2}
-use Rattle.mot_player.proofs.last_group.LastGroup.next_index.Goals.{else-eq-via-else-eq}
+use Rattle.mot_player.proofs.groups.LastGroup.next_index.Goals as goal
+use Rattle.mot_player.proofs.groups.LastGroup.next_index.Goals.{else-eq-via-then-eq+else-eq-2}
+use Rattle.mot_player.proofs.groups.LastGroup.next_index.Goals.{else-eq-via-else-eq}
 
 pub returns-else-eq-clause-value : goal.returns-else-eq-clause-value
 returns-else-eq-clause-value c =
