@@ -1,6 +1,4 @@
 pub mod Asked
-pub mod Inspected
 pub mod Looked
 pub mod Made
 pub mod Packets
-pub mod Printing

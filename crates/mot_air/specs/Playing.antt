@@ -1,30 +1,23 @@
 -- What playing a disk writes, and what it leaves of the disk.
 use Rattle.std.specs.Prelude.{◌≡◌, ◌⊎◌, ℕ, Bool, true, List, [], length, Option, Some, None}
 use Rattle.disk_store.specs.Disk.{State}
-use Rattle.mot_base.specs.Geometry.{packet_room}
 use Rattle.mot_base.specs.declared.refusal.Refusal.{Refusal}
 use Rattle.mot_carousel.specs.Carousel.{Carousel}
 use Rattle.mot_carousel.specs.declared.command.Command.{Command}
-use Rattle.mot_air.specs.Opening.{IsBreak, IsUnopened, Leaves, OfStanding}
+use Rattle.mot_air.specs.Opening.{IsBreak, Leaves}
 use Rattle.mot_feed.specs.Feeding.{AreOf, AreTimely, BetweenTurns, CallsPart, Event, Happen}
 use Rattle.mot_feed.specs.Feeding.{Never, When, commands_among, has_ended, moments_of, turns_in}
 use Rattle.mot_feed.specs.Writing.{Grows, GrowsPart}
 use Rattle.mot_journal.specs.Image.{Standing}
 use Rattle.mot_player.specs.Continuity.{IsContinuous}
-use Rattle.mot_player.specs.Place.{Place, opened_place}
-use Rattle.mot_player.specs.Turn.{turn_of_carousel}
+use Rattle.mot_player.specs.Place.{Place}
+use Rattle.mot_reading.specs.Opening.{IsUnopened, OfStanding, first_place}
 use Rattle.mot_server.specs.Runs.{accepted_commands}
 
 -- when a folder, where there is one, may change the carousel that is played
 abbrev pub when_followed : {F : Type 0} → (folder : Option F) → When
 when_followed None = Never
 when_followed (Some folder) = BetweenTurns
-
--- where a server begins to play that was just opened of a disk that stands for this
-abbrev pub first_place : Standing → Place
-first_place s =
-    opened_place s.geometry.address (packet_room s.geometry) s.geometry.segment_size
-    (turn_of_carousel s.carousel s.geometry.segment_size)
 
 -- These happened on a server that was opened of a disk that stood for s: their commands left this
 -- of the disk, and their packets are these, with their continuity indexes.

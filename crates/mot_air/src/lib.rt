@@ -4,10 +4,7 @@
 
 mod beside;
 mod command;
-mod ended;
-mod exporting;
 mod fault;
-mod inspecting;
 mod lines;
 mod log;
 mod on_air;
@@ -20,10 +17,8 @@ mod task;
 mod types;
 mod used;
 
-pub use ended::Ended;
-pub use exporting::export_disk;
-pub use inspecting::inspect_disk;
 pub use lines::LineFolder;
+pub use mot_reading::Ended;
 pub use packets::Target;
 pub use playing::{Followed, play_and_answer, play_disk, play_with, sync_disk};
 pub use program::{is_air, run_air, run_air_on};
