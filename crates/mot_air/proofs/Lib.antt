@@ -1,9 +1,6 @@
 pub mod Asked
 pub mod Begun
-pub mod Exported
-pub mod Inspected
 pub mod Opened
 pub mod Played
-pub mod Printed
 pub mod Synced
 pub mod Values

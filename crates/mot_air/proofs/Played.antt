@@ -4,11 +4,10 @@ use Rattle.std.proofs.Common.{Result, Ok, Err, inr, refl, subst}
 use Rattle.std.specs.Prelude.{IsFalse, OnOk, IfErr, is_none, option_map}
 use Rattle.std.proofs.lemmas.Bool.Decides.{nat_tests}
 use Rattle.disk_model.specs.Disk.{State, IsHonestDisk, KeepsLength, OnlySyncs}
-use Rattle.mot_air.specs.Opening.{OfStanding}
 use Rattle.mot_air.specs.Playing.{HasAired, Plays, PlaysBy, StopsBy, StopsPlaying, WritesPart}
-use Rattle.mot_air.specs.Playing.{first_place, stopped, when_followed}
+use Rattle.mot_air.specs.Playing.{stopped, when_followed}
 use Rattle.mot_air.specs.Program.{when_changed}
-use Rattle.mot_air.proofs.Opened.{AllAre, breaks_off, all_hold, opened_leaves}
+use Rattle.mot_air.proofs.Opened.{breaks_off, opened_leaves}
 use Rattle.mot_base.specs.Geometry.{packet_room}
 use Rattle.mot_base.specs.declared.geometry.Geometry.{Geometry}
 use Rattle.mot_base.specs.declared.refusal.Refusal.{Refusal}
@@ -19,6 +18,8 @@ use Rattle.mot_base.specs.Geometry.{is_valid}
 use Rattle.mot_journal.specs.Image.{Standing}
 use Rattle.mot_player.specs.Place.{Place}
 use Rattle.mot_player.specs.Turn.{turn_of_carousel}
+use Rattle.mot_reading.proofs.Laws.{AllAre, all_hold}
+use Rattle.mot_reading.specs.Opening.{OfStanding, first_place}
 use Rattle.mot_repository.specs.Opening.{IsOpened}
 use Rattle.mot_repository.specs.Repository.{Agrees, Holds}
 use Rattle.mot_server.specs.Server.{ServerView, place_in}

@@ -11,7 +11,7 @@ use Rattle.mot_air.specs.Syncing.{HasSynced, IsBrokenOff, IsEqual, StopsSyncing,
 use Rattle.mot_air.specs.Syncing.{SyncsAndTells}
 use Rattle.mot_air.specs.Syncing.{broken, untold, stopped}
 use Rattle.mot_air.specs.Syncing as synced
-use Rattle.mot_air.proofs.Opened.{AllAre, breaks_off, all_hold, opened_leaves}
+use Rattle.mot_air.proofs.Opened.{breaks_off, opened_leaves}
 use Rattle.mot_base.specs.declared.geometry.Geometry.{Geometry}
 use Rattle.mot_base.specs.declared.geometry.TheConstants.{MAX_OBJECTS}
 use Rattle.mot_base.specs.declared.refusal.Refusal.{Refusal}
@@ -24,6 +24,7 @@ use Rattle.mot_folder.specs.Looked.{HasLookedAtFolder, listed, unlisted}
 use Rattle.mot_folder.specs.declared.report.Report.{Report}
 use Rattle.mot_base.specs.Geometry.{is_valid}
 use Rattle.mot_journal.specs.Image.{Standing}
+use Rattle.mot_reading.proofs.Laws.{AllAre, all_hold}
 use Rattle.mot_repository.proofs.Laws.{standings-are_sound}
 use Rattle.mot_repository.specs.Opening.{IsOpened}
 use Rattle.mot_repository.specs.Repository.{Agrees, Holds}

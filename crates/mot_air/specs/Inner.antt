@@ -1,5 +1,3 @@
 pub mod Asked
-pub mod Inspected
 pub mod Looked
 pub mod Made
-pub mod Printing

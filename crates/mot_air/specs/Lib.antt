@@ -1,7 +1,5 @@
 pub mod Command
-pub mod Exporting
 pub mod Inner
-pub mod Inspecting
 pub mod Opening
 pub mod Playing
 pub mod Program

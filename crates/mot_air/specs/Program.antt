@@ -7,8 +7,6 @@ use Rattle.disk_model.specs.Disk.{IsNew, State}
 use Rattle.disk_store.specs.File.{calls_on, file_state}
 use Rattle.disk_store.specs.declared.file.FileDiskFrom.{FileDiskFrom}
 use Rattle.disk_store.specs.declared.file.start.Start.{Ghosts}
-use Rattle.mot_air.specs.Exporting.{Exports, StopsExporting}
-use Rattle.mot_air.specs.Inspecting.{Inspects, StopsInspecting}
 use Rattle.mot_air.specs.Playing.{Plays, StopsPlaying, when_followed}
 use Rattle.mot_air.specs.Syncing.{StopsSyncing, Syncs}
 use Rattle.mot_air.specs.Task.{AskFor, AskForHelp}
@@ -26,6 +24,8 @@ use Rattle.mot_update.specs.Between.{Always, When}
 use Rattle.mot_files.specs.Lines.{IsUnlined}
 use Rattle.mot_files.specs.Packets.{IsTarget}
 use Rattle.mot_folder.specs.Types.{IsTypesRefusal}
+use Rattle.mot_reading.specs.Exporting.{Exports, StopsExporting}
+use Rattle.mot_reading.specs.Inspecting.{Inspects, StopsInspecting}
 
 -- how many turns are played, where so many are asked for; and else sixteen into a file, behind
 -- which its packets can begin anew, and as good as without end into all else

@@ -4,13 +4,14 @@ use Rattle.std.specs.Prelude.{Option, Some, None}
 use Rattle.std.specs.Io.KnownBytes.{Appends}
 use Rattle.std.specs.List.{flat_map}
 use Rattle.disk_model.specs.Disk.{State}
-use Rattle.mot_air.specs.Opening.{IsBreak, IsUnopened, Leaves, OfStanding}
+use Rattle.mot_air.specs.Opening.{IsBreak, Leaves}
 use Rattle.mot_base.specs.declared.refusal.Refusal.{Refusal}
 use Rattle.mot_base.specs.declared.refusal.Refusal.TheVariants.{OutOfMemory, ReadFault, WriteFault}
 use Rattle.mot_carousel.specs.declared.command.Command.{Command}
 use Rattle.mot_folder.specs.Log.{LogEntry, entry, log_entry_of, log_line, of_look}
 use Rattle.mot_folder.specs.Types.{AreShown}
 use Rattle.mot_journal.specs.Image.{Standing}
+use Rattle.mot_reading.specs.Opening.{IsUnopened, OfStanding}
 use Rattle.mot_repository.specs.Repository.{IsOf}
 use Rattle.mot_server.specs.declared.running.Attempt.TheVariants.{Refused}
 use Rattle.mot_update.specs.Laws.{IsUpdate, IsUpdated, names_of}

@@ -3,9 +3,6 @@
 #![tactic(auto)]
 
 mod command;
-mod ended;
-mod exporting;
-mod inspecting;
 mod on_air;
 mod playing;
 mod program;
@@ -14,10 +11,8 @@ mod task;
 mod types;
 mod used;
 
-pub use ended::Ended;
-pub use exporting::export_disk;
-pub use inspecting::inspect_disk;
 pub use mot_files::{LineFolder, Target};
+pub use mot_reading::Ended;
 pub use playing::{Followed, play_and_answer, play_disk, play_with, sync_disk};
 pub use program::{is_air, run_air, run_air_on};
 pub use task::{PlayTask, Task};

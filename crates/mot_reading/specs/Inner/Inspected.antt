@@ -1,0 +1,40 @@
+-- What an open server is inspected by.
+use Rattle.std.specs.Prelude.{◌≡◌, ◌⊎◌, ℕ, List, length, Option}
+use Rattle.std.specs.Io.KnownBytes.{Appends, Keeps}
+use Rattle.disk_model.specs.Failures.{Rises}
+use Rattle.mot_base.specs.declared.refusal.Refusal.{Refusal}
+use Rattle.mot_base.specs.declared.refusal.Refusal.TheVariants.{BadNumber, DeviceFault, WriteFault}
+use Rattle.mot_journal.specs.Image.{Standing}
+use Rattle.mot_journal.specs.Journal.{JournalView}
+use Rattle.mot_player.specs.Place.{Place}
+use Rattle.mot_reading.specs.Inspecting.{bytes_of_all, inspection_text}
+use Rattle.mot_repository.specs.Gap.{IsLongestGap}
+use Rattle.mot_server.specs.Playing.{HasPlayedTurn}
+
+-- a turn from this place on has so many packets and bytes
+pub record IsTurnSize (place : Place) (count bytes : ℕ) : Type 0 where
+  pub packets : List (List ℕ)
+  pub last : Place
+  pub turn : HasPlayedTurn place packets last
+  pub count_is : count ≡ length packets
+  pub bytes_are : bytes ≡ bytes_of_all packets
+
+-- why a turn could not be counted; the counts of failures are those before and after
+abbrev pub IsCountingFault : Refusal → ℕ → ℕ → Type 0
+IsCountingFault refusal before now =
+    (refusal ≡ BadNumber) ⊎ ((refusal ≡ DeviceFault) × Rises before now)
+
+-- what was told of a server that plays from this place
+pub record HasInspected (journal : JournalView) (place : Place) (s : Standing)
+    (old new : Option (List ℕ)) : Type 0 where
+  pub gap : ℕ
+  pub longest : IsLongestGap s.extents s.geometry.data_area gap
+  pub packets : List (List ℕ)
+  pub last : Place
+  pub turn : HasPlayedTurn place packets last
+  pub printed : Appends old new (inspection_text s journal.layout journal.count gap packets)
+
+-- why it could not be
+abbrev pub IsInspectingFault : Refusal → ℕ → ℕ → (old new : Option (List ℕ)) → Type 0
+IsInspectingFault refusal before now old new =
+    (refusal ≡ WriteFault) ⊎ (IsCountingFault refusal before now × Keeps old new)

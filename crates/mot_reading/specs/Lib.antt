@@ -1,0 +1,4 @@
+pub mod Exporting
+pub mod Inner
+pub mod Inspecting
+pub mod Opening

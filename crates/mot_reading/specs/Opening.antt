@@ -1,0 +1,30 @@
+-- A command on the server of a disk that it opens.
+use Rattle.std.specs.Prelude.{◌≡◌, ◌≢◌, ℕ, List}
+use Rattle.disk_model.specs.Disk.{State, IsStill}
+use Rattle.mot_base.specs.Geometry.{packet_room}
+use Rattle.mot_base.specs.declared.refusal.Refusal.{Refusal}
+use Rattle.mot_base.specs.declared.refusal.Refusal.TheVariants.{DeviceFault}
+use Rattle.mot_journal.specs.Image.{Standing}
+use Rattle.mot_player.specs.Place.{Place, opened_place}
+use Rattle.mot_player.specs.Turn.{turn_of_carousel}
+use Rattle.mot_repository.specs.Opening.{IsOpeningRefusal}
+use Rattle.mot_repository.specs.Repository.{IsOf}
+
+-- In these the disk was in a state start and is in a state now.
+
+-- where the disk stood for something, clean, and is honest to the end, there is P of that
+abbrev pub OfStanding : (Standing → Type 0) → State → State → Type 0
+OfStanding P start now =
+    (s : Standing) → now.IsHonest → ((image : List ℕ) → start.MayLeave image → IsOf s image) → P s
+
+-- the disk was not opened, and only synced
+pub record IsUnopened (refusal : Refusal) (start now : State) : Type 0 where
+  pub why : IsOpeningRefusal start now refusal
+  pub calm : refusal ≢ DeviceFault → now.failures ≡ start.failures
+  pub still : now.IsHonest → IsStill start now
+
+-- where a server begins to play that was just opened of a disk that stands for this
+abbrev pub first_place : Standing → Place
+first_place s =
+    opened_place s.geometry.address (packet_room s.geometry) s.geometry.segment_size
+    (turn_of_carousel s.carousel s.geometry.segment_size)

@@ -1,0 +1,27 @@
+//! How a command on a disk ends.
+ghost use Rattle.std.specs.Prelude.{◌≡◌, Err};
+
+use disk_model::Disk;
+use mot_base::Refusal;
+use mot_server::Refused;
+
+/// What a command on a disk came to, and the disk as it stands then.
+#[derive(Drop)]
+pub struct Ended<D: Disk, T> {
+    /// The disk.
+    pub disk: D,
+    /// What it came to.
+    pub result: Result<T, Refusal>,
+}
+
+impl<D: Disk, T> Ended<D, T> {
+    /// Of a disk that was not opened.
+    pub fn unopened(refused: Refused<D>) -> Self
+        ensures { result ≡ record { disk = refused.disk; result = Err refused.refusal } }
+    {
+        Ended {
+            disk: refused.disk,
+            result: Err(refused.refusal),
+        }
+    }
+}

@@ -1,0 +1,147 @@
+//! A carousel as the lines that rebuild it.
+ghost use Rattle.std.specs.Prelude.{◌≡◌, ◌≤◌, ◌<◌, Some, length, vec_len, IfErr, IsFalse, OnOk};
+ghost use Rattle.std.specs.Prelude.{slice_get};
+ghost use Rattle.disk_model.specs.Disk.{KeepsLength, OnlyReads};
+ghost use Rattle.hex.specs.Hex.{encode_lower};
+ghost use Rattle.mot_base.specs.declared.refusal.Refusal.TheVariants.{WriteFault};
+ghost use Rattle.mot_carousel.specs.Carousel as whole;
+ghost use Rattle.mot_journal.specs.Image.{Standing};
+ghost use Rattle.mot_lines.specs.Export.{export_text, put_line};
+ghost use Rattle.mot_reading.specs.Exporting.{Exports, StopsExporting};
+ghost use Rattle.mot_reading.specs.Inner.Printing.{IsPrintingFault};
+ghost use Rattle.mot_repository.specs.Repository.{Holds, object_body};
+ghost use Rattle.mot_session.specs.Output.{Writes};
+
+use crate::Ended;
+use disk_model::Disk;
+use mot_base::Refusal;
+use mot_lines::{period_text, put_text};
+use mot_server::Server;
+use mot_session::write_whole;
+use std::alloc::Global;
+use std::io::Write;
+
+/// The most bytes of a body that are read at once.
+const PIECE: usize = 4_096;
+
+/// Opens the disk and writes its carousel as lines: a `put` line for each object, in order, and the
+/// `period` line where it is not 0. What is refused in the middle has written a beginning of them.
+pub fn export_disk<D: Disk, W: Write>(alloc: Global, disk: D, writer: &mut W) -> Ended<D, ()>
+    ensures keeps { KeepsLength (D.state disk) (D.state result.disk) }
+    ensures done { OnOk result.result (Exports (W.contents writer.old) (W.contents writer.new)
+        (D.state disk) (D.state result.disk)) }
+    ensures refused { IfErr result.result (λ r. StopsExporting r
+        (W.contents writer.old) (W.contents writer.new) (D.state disk) (D.state result.disk)) }
+{
+    let mut server = match Server::open(alloc, disk) {
+        Ok(server) => server,
+        Err(refused) => return Ended::unopened(refused),
+    };
+    let result = write_export(&mut server, writer);
+    Ended {
+        disk: server.into_disk(),
+        result,
+    }
+}
+
+/// Writes the lines of an open server's carousel; after a fault some first bytes of them.
+fn write_export<D: Disk, W: Write>(server: &mut Server<D>, writer: &mut W) -> Result<(), Refusal>
+    requires { IsFalse server.old.view.halted }
+    ensures only_reads { OnlyReads (D.state server.old.disk) (D.state server.new.disk) }
+    ensures written { (s : Standing) → Holds server.old.view s (D.state server.old.disk)
+        → (D.state server.new.disk).IsHonest
+        → Writes result (export_text s.carousel) (W.contents writer.old) (W.contents writer.new) }
+    ensures fault { IfErr result (λ r. IsPrintingFault r (D.state server.old.disk).failures
+        (D.state server.new.disk).failures) }
+{
+    for place in 0..server.carousel().objects.len() {
+        write_object(server, place, writer)?;
+    }
+    write_bytes(writer, period_text(server.carousel().period).as_slice())?;
+    match writer.flush() {
+        Ok(()) => Ok(()),
+        Err(_) => Err(Refusal::WriteFault),
+    }
+}
+
+/// Writes the line of the object at this place.
+fn write_object<D: Disk, W: Write>(
+    server: &mut Server<D>,
+    place: usize,
+    writer: &mut W,
+) -> Result<(), Refusal>
+    requires place { place < vec_len server.old.view.carousel.objects }
+    requires going { IsFalse server.old.view.halted }
+    ensures only_reads { OnlyReads (D.state server.old.disk) (D.state server.new.disk) }
+    ensures view { server.new.view ≡ server.old.view }
+    ensures written { (s : Standing) (o : whole.Object)
+        → Holds server.old.view s (D.state server.old.disk) → (D.state server.new.disk).IsHonest
+        → slice_get s.carousel.objects place ≡ Some o
+        → Writes result (put_line o) (W.contents writer.old) (W.contents writer.new) }
+    ensures fault { IfErr result (λ r. IsPrintingFault r (D.state server.old.disk).failures
+        (D.state server.new.disk).failures) }
+{
+    write_bytes(
+        writer,
+        put_text(&server.carousel().objects[place]).as_slice(),
+    )?;
+    write_body(server, place, writer)?;
+    write_bytes(writer, b"\n")
+}
+
+/// Writes the body in small hexadecimal digits, a piece at a time.
+fn write_body<D: Disk, W: Write>(
+    server: &mut Server<D>,
+    place: usize,
+    writer: &mut W,
+) -> Result<(), Refusal>
+    requires place { place < vec_len server.old.view.carousel.objects }
+    requires going { IsFalse server.old.view.halted }
+    ensures only_reads { OnlyReads (D.state server.old.disk) (D.state server.new.disk) }
+    ensures view { server.new.view ≡ server.old.view }
+    ensures written { (s : Standing) → Holds server.old.view s (D.state server.old.disk)
+        → (D.state server.new.disk).IsHonest
+        → Writes result (encode_lower (object_body s.carousel.objects place))
+        (W.contents writer.old) (W.contents writer.new) }
+    ensures fault { IfErr result (λ r. IsPrintingFault r (D.state server.old.disk).failures
+        (D.state server.new.disk).failures) }
+{
+    let length = server.body_length(place);
+    let mut piece = [0u8; PIECE];
+    let mut from = 0;
+    while from < length {
+        let count = PIECE.min(length - from);
+        let read = &mut piece[..count];
+        server.read_body(place, from, read)?;
+        write_digits(writer, read)?;
+        from += count;
+    }
+    Ok(())
+}
+
+/// Writes bytes in small hexadecimal digits.
+fn write_digits<W: Write>(writer: &mut W, bytes: &[u8]) -> Result<(), Refusal>
+    requires { length bytes.now ≤ PIECE }
+    ensures written { Writes result (encode_lower bytes.now)
+        (W.contents writer.old) (W.contents writer.new) }
+    ensures fault { IfErr result (λ r. r ≡ WriteFault) }
+{
+    let mut digits = [0u8; 2 * PIECE];
+    let count = 2 * bytes.len();
+    // The digits have the room that they want.
+    let Ok(()) = hex::encode_to_slice(bytes, &mut digits[..count]) else {
+        return Err(Refusal::WriteFault);
+    };
+    write_bytes(writer, &digits[..count])
+}
+
+/// Writes all of the bytes; after a fault some first of them were written.
+fn write_bytes<W: Write>(writer: &mut W, bytes: &[u8]) -> Result<(), Refusal>
+    ensures written { Writes result bytes.now (W.contents writer.old) (W.contents writer.new) }
+    ensures fault { IfErr result (λ r. r ≡ WriteFault) }
+{
+    let Ok(()) = write_whole(writer, bytes) else {
+        return Err(Refusal::WriteFault);
+    };
+    Ok(())
+}

@@ -1,0 +1,259 @@
+//! What is told of a disk's sizes, of what is free of them, and of its turn.
+ghost use Rattle.std.specs.Prelude.{◌≡◌, ◌≤◌, ◌<◌, ◌^◌, ℕ, IfErr, IfOk, IsFalse, OnOk, length};
+ghost use Rattle.std.specs.List.{sum_by};
+ghost use Rattle.std.specs.Io.KnownBytes.{Appends};
+ghost use Rattle.disk_model.specs.Disk.{KeepsLength, OnlyReads};
+ghost use Rattle.mot_base.specs.declared.refusal.Refusal.TheVariants.{WriteFault};
+ghost use Rattle.mot_carousel.specs.declared.object.Object.{Object};
+ghost use Rattle.mot_journal.specs.Image.{Standing};
+ghost use Rattle.mot_reading.specs.Inspecting.{Inspects, StopsInspecting, data_text, number_line};
+ghost use Rattle.mot_reading.specs.Inspecting.{rates_text, seconds_line, shares_line, sizes_text};
+ghost use Rattle.mot_reading.specs.Inspecting.{turn_text, use_text};
+ghost use Rattle.mot_reading.specs.Inner.Inspected.{HasInspected, IsCountingFault};
+ghost use Rattle.mot_reading.specs.Inner.Inspected.{IsInspectingFault, IsTurnSize};
+ghost use Rattle.mot_repository.specs.Gap.{IsLongestGap};
+ghost use Rattle.mot_repository.specs.Repository.{Holds};
+ghost use Rattle.mot_server.specs.Server.{place_in};
+
+use crate::Ended;
+use disk_model::Disk;
+use mot_base::{Geometry, Refusal};
+use mot_carousel::Object;
+use mot_journal::Layout;
+use mot_player::Played;
+use mot_server::Server;
+use std::alloc::Global;
+use std::io::Write;
+
+/// How many packets a turn has, and how many bytes these.
+#[derive(Clone, Copy)]
+struct TurnSize {
+    packets: u64,
+    bytes: u128,
+}
+
+/// Opens the disk, plays a turn of it to nobody, and writes its sizes, what is used and free of
+/// them, and what the turn takes.
+pub fn inspect_disk<D: Disk, W: Write>(alloc: Global, disk: D, writer: &mut W) -> Ended<D, ()>
+    ensures keeps { KeepsLength (D.state disk) (D.state result.disk) }
+    ensures done { OnOk result.result (Inspects (W.contents writer.old) (W.contents writer.new)
+        (D.state disk) (D.state result.disk)) }
+    ensures refused { IfErr result.result (λ r. StopsInspecting r
+        (W.contents writer.old) (W.contents writer.new) (D.state disk) (D.state result.disk)) }
+{
+    let mut server = match Server::open(alloc, disk) {
+        Ok(server) => server,
+        Err(refused) => return Ended::unopened(refused),
+    };
+    let result = write_inspection(&mut server, writer);
+    Ended {
+        disk: server.into_disk(),
+        result,
+    }
+}
+
+/// Writes what is told of an open server; all of it is known before the first byte.
+fn write_inspection<D: Disk, W: Write>(
+    server: &mut Server<D>,
+    writer: &mut W,
+) -> Result<(), Refusal>
+    requires { IsFalse server.old.view.halted }
+    ensures only_reads { OnlyReads (D.state server.old.disk) (D.state server.new.disk) }
+    ensures told { (s : Standing) → Holds server.old.view s (D.state server.old.disk)
+        → (D.state server.new.disk).IsHonest → OnOk result
+        (HasInspected server.old.view.journal (place_in server.old s) s
+        (W.contents writer.old) (W.contents writer.new)) }
+    ensures fault { IfErr result (λ r. IsInspectingFault r (D.state server.old.disk).failures
+        (D.state server.new.disk).failures (W.contents writer.old) (W.contents writer.new)) }
+{
+    let TurnSize { packets, bytes } = count_turn(server)?;
+    write_sizes(writer, &server.geometry())?;
+    write_use(writer, server)?;
+    write_turn(writer, packets, bytes)?;
+    write_rates(writer, bytes)?;
+    match writer.flush() {
+        Ok(()) => Ok(()),
+        Err(_) => Err(Refusal::WriteFault),
+    }
+}
+
+/// Plays a turn, and counts its packets and their bytes. The refusals are `DeviceFault` where a body
+/// can't be read, and `BadNumber` for more packets than are counted.
+fn count_turn<D: Disk>(server: &mut Server<D>) -> Result<TurnSize, Refusal>
+    requires { IsFalse server.old.view.halted }
+    ensures only_reads { OnlyReads (D.state server.old.disk) (D.state server.new.disk) }
+    ensures view { server.new.view ≡ server.old.view }
+    ensures counted { (s : Standing) → Holds server.old.view s (D.state server.old.disk)
+        → (D.state server.new.disk).IsHonest → IfOk result
+        (λ size. IsTurnSize (place_in server.old s) size.packets size.bytes) }
+    ensures few { IfOk result (λ size. size.bytes < 2 ^ 72) }
+    ensures fault { IfErr result (λ r. IsCountingFault r (D.state server.old.disk).failures
+        (D.state server.new.disk).failures) }
+{
+    let mut bytes: u128 = 0;
+    for others in 0..u64::MAX {
+        let Played { packet, ends_turn } = server.next_packet()?;
+        // It has no more bytes than its room.
+        let _ = packet.is_full();
+        bytes += packet.len() as u128;
+        if ends_turn {
+            return Ok(TurnSize {
+                packets: others + 1,
+                bytes,
+            });
+        }
+    }
+    Err(Refusal::BadNumber)
+}
+
+/// Writes the address and the lengths of packets and segments.
+fn write_sizes<W: Write>(writer: &mut W, geometry: &Geometry) -> Result<(), Refusal>
+    ensures written { OnOk result (Appends (W.contents writer.old) (W.contents writer.new)
+        (sizes_text geometry.now)) }
+    ensures fault { IfErr result (λ r. r ≡ WriteFault) }
+{
+    write_number(writer, "address", u128::from(geometry.address))?;
+    write_number(writer, "packet", u128::from(geometry.packet_length))?;
+    write_number(writer, "segment", u128::from(geometry.segment_size))
+}
+
+/// Writes what is used and free.
+fn write_use<D: Disk, W: Write>(writer: &mut W, server: &Server<D>) -> Result<(), Refusal>
+    ensures written { OnOk result ((gap : ℕ) × IsLongestGap server.now.view.extents
+        server.now.view.journal.geometry.data_area gap
+        × Appends (W.contents writer.old) (W.contents writer.new)
+        (use_text server.now.view.journal.geometry server.now.view.journal.layout
+        (length server.now.view.carousel.objects.items)
+        (sum_by (λ (o : Object). o.length) server.now.view.carousel.objects.items)
+        gap server.now.view.journal.count)) }
+    ensures fault { IfErr result (λ r. r ≡ WriteFault) }
+{
+    let gap = server.longest_gap();
+    let records = server.record_count();
+    write_used(
+        writer,
+        &server.geometry(),
+        server.layout(),
+        &server.carousel().objects,
+        gap,
+        records,
+    )
+}
+
+/// Writes what these objects use, and so many records.
+fn write_used<W: Write>(
+    writer: &mut W,
+    geometry: &Geometry,
+    layout: Layout,
+    objects: &[Object],
+    gap: u32,
+    records: usize,
+) -> Result<(), Refusal>
+    ensures written { OnOk result (Appends (W.contents writer.old) (W.contents writer.new)
+        (use_text geometry.now layout (length objects.now)
+        (sum_by (λ (o : Object). o.length) objects.now) gap records)) }
+    ensures fault { IfErr result (λ r. r ≡ WriteFault) }
+{
+    write_shares(
+        writer,
+        "objects",
+        u128::from(geometry.objects),
+        objects.len() as u128,
+    )?;
+    write_data(
+        writer,
+        u128::from(geometry.data_area),
+        used_bytes(objects),
+        gap,
+    )?;
+    let slots = layout.slot_count(geometry);
+    write_shares(writer, "slots", slots as u128, records as u128)
+}
+
+/// Writes the bytes for bodies, and the longest gap.
+fn write_data<W: Write>(writer: &mut W, all: u128, used: u128, gap: u32) -> Result<(), Refusal>
+    ensures written { OnOk result (Appends (W.contents writer.old) (W.contents writer.new)
+        (data_text all used gap)) }
+    ensures fault { IfErr result (λ r. r ≡ WriteFault) }
+{
+    write_shares(writer, "data", all, used)?;
+    write_number(writer, "gap", u128::from(gap))
+}
+
+/// The bytes of all bodies.
+fn used_bytes(objects: &[Object]) -> u128
+    ensures { result ≡ sum_by (λ (o : Object). o.length) objects.now }
+{
+    let mut bytes: u128 = 0;
+    for object in objects {
+        bytes += u128::from(object.length.get());
+    }
+    bytes
+}
+
+/// Writes how many packets and bytes a turn has.
+fn write_turn<W: Write>(writer: &mut W, packets: u64, bytes: u128) -> Result<(), Refusal>
+    ensures written { OnOk result (Appends (W.contents writer.old) (W.contents writer.new)
+        (turn_text packets bytes)) }
+    ensures fault { IfErr result (λ r. r ≡ WriteFault) }
+{
+    match writeln!(writer, "turn {packets} packets {bytes} bytes") {
+        Ok(()) => Ok(()),
+        Err(_) => Err(Refusal::WriteFault),
+    }
+}
+
+/// Writes how long a turn of so many bytes is in sub-channels of some rates.
+fn write_rates<W: Write>(writer: &mut W, bytes: u128) -> Result<(), Refusal>
+    requires { bytes < 2 ^ 72 }
+    ensures written { OnOk result (Appends (W.contents writer.old) (W.contents writer.new)
+        (rates_text bytes)) }
+    ensures fault { IfErr result (λ r. r ≡ WriteFault) }
+{
+    write_seconds(writer, 8, bytes)?;
+    write_seconds(writer, 16, bytes)?;
+    write_seconds(writer, 32, bytes)?;
+    write_seconds(writer, 64, bytes)
+}
+
+/// Writes how many seconds so many bytes take at so many kbit/s.
+fn write_seconds<W: Write>(writer: &mut W, rate: u128, bytes: u128) -> Result<(), Refusal>
+    requires some { 0 < rate }
+    requires low { rate ≤ 64 }
+    requires few { bytes < 2 ^ 72 }
+    ensures written { OnOk result (Appends (W.contents writer.old) (W.contents writer.new)
+        (seconds_line rate bytes)) }
+    ensures fault { IfErr result (λ r. r ≡ WriteFault) }
+{
+    let tenths = (2 * bytes + 25 * rate - 1) / (25 * rate);
+    let (whole, rest) = (tenths / 10, tenths % 10);
+    match writeln!(writer, "seconds {rate} {whole}.{rest}") {
+        Ok(()) => Ok(()),
+        Err(_) => Err(Refusal::WriteFault),
+    }
+}
+
+/// Writes a word and a number.
+fn write_number<W: Write>(writer: &mut W, word: &str, number: u128) -> Result<(), Refusal>
+    ensures written { OnOk result (Appends (W.contents writer.old) (W.contents writer.new)
+        (number_line word.now number)) }
+    ensures fault { IfErr result (λ r. r ≡ WriteFault) }
+{
+    match writeln!(writer, "{word} {number}") {
+        Ok(()) => Ok(()),
+        Err(_) => Err(Refusal::WriteFault),
+    }
+}
+
+/// Writes how many there are in all, and how many of them are used and free.
+fn write_shares<W: Write>(writer: &mut W, word: &str, all: u128, used: u128) -> Result<(), Refusal>
+    ensures written { OnOk result (Appends (W.contents writer.old) (W.contents writer.new)
+        (shares_line word.now all used)) }
+    ensures fault { IfErr result (λ r. r ≡ WriteFault) }
+{
+    let free = all.saturating_sub(used);
+    match writeln!(writer, "{word} {all} used {used} free {free}") {
+        Ok(()) => Ok(()),
+        Err(_) => Err(Refusal::WriteFault),
+    }
+}

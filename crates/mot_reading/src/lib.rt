@@ -1,0 +1,10 @@
+//! The commands that only read a disk: printing its carousel as lines, and telling its sizes.
+#![tactic(auto)]
+
+mod ended;
+mod exporting;
+mod inspecting;
+
+pub use ended::Ended;
+pub use exporting::export_disk;
+pub use inspecting::inspect_disk;
