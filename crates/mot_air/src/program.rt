@@ -1,5 +1,6 @@
 //! The commands on air, over any streams and files.
-ghost use Rattle.std.specs.Prelude.{◌≡◌, ◌≢◌, ◌⊎◌, ◌↔◌, Option, map, true, false, IfErr, IfOk, IsTrue};
+ghost use Rattle.std.specs.Prelude.{◌≡◌, ◌≢◌, ◌⊎◌, ◌↔◌, Option, map, true, false, IfErr, IfOk};
+ghost use Rattle.std.specs.Prelude.{IsTrue};
 ghost use Rattle.std.specs.Prelude.{List, None, Ok, Some, codes, option_map};
 ghost use Rattle.std.specs.Io.KnownBytes.{Keeps};
 ghost use Rattle.clap.specs.Words.{Text, found_of, kind_of, rows_of};
@@ -68,8 +69,8 @@ pub fn run_air<S: AsStr, B: Start, W: Write, E: Write>(
 }
 
 /// Does what the words after the program's own name ask for, and hands out the disk that it worked
-/// on. What is told goes to `writer`, but where packets go there the log to `errors`. What went wrong
-/// is printed to `errors`.
+/// on. What is told goes to `writer`, but where packets go there the log to `errors`. What went
+/// wrong is printed to `errors`.
 ///
 /// `start` is for clauses alone: what the file of the disk held as it was opened. A program gives
 /// `Unknown`.
@@ -272,8 +273,8 @@ fn followed<'a>(folder: Option<&'a str>, types: &'a FileTypes) -> Option<Followe
     }
 }
 
-/// Makes the carousel of the disk of the file at the path equal to the files of a folder that have one
-/// of the known suffixes, or of those that a file adds.
+/// Makes the carousel of the disk of the file at the path equal to the files of a folder that have
+/// one of the known suffixes, or of those that a file adds.
 fn sync<B: Start, W: Write>(
     rt: &HostRuntime,
     alloc: Global,

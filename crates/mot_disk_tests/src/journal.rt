@@ -52,8 +52,8 @@ fn last_of<D: Disk>(alloc: Global, disk: &mut D) -> Result<(usize, u32), Refusal
     }
 }
 
-// The sizes and the layout of a new disk with the default ones, how many records it has, and whether
-// its half is full.
+// The sizes and the layout of a new disk with the default ones, how many records it has, and
+// whether its half is full.
 fn loaded_of_new(alloc: Global) -> Result<(Geometry, Layout, usize, bool), Refusal> {
     let mut disk = new_disk(alloc, &Geometry::default())?;
     let loaded = load(alloc, &mut disk)?;

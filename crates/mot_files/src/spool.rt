@@ -78,8 +78,8 @@ impl<'a, T: Files<File = File>, W: Write + Drop> Spool<'a, T, W> {
         Ok(())
     }
 
-    /// Takes away the file that was read. Its path is kept, so that no memory can lack here and make
-    /// its lines come again.
+    /// Takes away the file that was read. Its path is kept, so that no memory can lack here and
+    /// make its lines come again.
     fn take_away(&mut self, lines: &LineFile) {
         if self.rt.remove_file(lines.path.as_str()).is_err() {
             self.stop(lines.name.as_str());

@@ -1,4 +1,5 @@
-//! What no clause says of the carousel: that its calls succeed where there is memory; and worked rows.
+//! What no clause says of the carousel: that its calls succeed where there is memory; and worked
+//! rows.
 ghost use Rattle.std.specs.Prelude.{◌≤◌};
 
 use crate::expecting::expect;

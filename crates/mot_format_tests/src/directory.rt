@@ -86,8 +86,8 @@ fn headers(rt: HostRuntime) {
     }
 }
 
-// The directory of so many copies of an object, in segments of this size: how long it is, and how it
-// begins and ends. The greatest of all has 13 bytes, and 250 times 2 + 334.
+// The directory of so many copies of an object, in segments of this size: how long it is, and how
+// it begins and ends. The greatest of all has 13 bytes, and 250 times 2 + 334.
 const DIRECTORIES: [(u8, u16, Row); 3] = [
     (
         0,

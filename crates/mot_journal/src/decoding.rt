@@ -2,7 +2,8 @@
 ghost use Rattle.std.specs.Prelude.{◌≡◌, ◌+◌, ◌-◌, ◌^◌, ◌<◌, ◌≤◌, length, drop, Some, IfOk};
 ghost use Rattle.mot_carousel.specs.declared.mime.TheConstants.{MAX_MIME};
 ghost use Rattle.mot_journal.specs.Slot.{slot_size, read_slot, longest_name};
-ghost use Rattle.mot_journal.specs.Inner.Reading.{number_at, sound_action_of, if_sound, set_in_slot};
+ghost use Rattle.mot_journal.specs.Inner.Reading.{number_at, sound_action_of, if_sound};
+ghost use Rattle.mot_journal.specs.Inner.Reading.{set_in_slot};
 ghost use Rattle.mot_journal.specs.Inner.Reading.{name_from, mime_from};
 
 use crate::{Action, Geometry, Layout, Record};

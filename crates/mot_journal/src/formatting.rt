@@ -27,9 +27,9 @@ use mot_carousel::Period;
 /// What a formatted disk begins with.
 pub const MAGIC: [u8; 8] = *b"MOTCAR01";
 
-/// Makes a new disk of layout 2, with no object, whose directory has the transport id 1. It takes no
-/// memory, and a disk that has the magic keeps its bytes. The magic is written last, so that a crash
-/// leaves no magic or the new disk.
+/// Makes a new disk of layout 2, with no object, whose directory has the transport id 1. It takes
+/// no memory, and a disk that has the magic keeps its bytes. The magic is written last, so that a
+/// crash leaves no magic or the new disk.
 pub fn format<D: Disk>(disk: &mut D, geometry: &Geometry) -> Result<(), Refusal>
     ensures keeps { KeepsLength (D.state disk.old) (D.state disk.new) }
     ensures bad { IsErrOf result BadGeometry ↔ (IsValid geometry.now → ⊥) }

@@ -62,8 +62,8 @@ pub(crate) fn geometry_of(matches: &ArgMatches<'_>) -> Option<Geometry>
     options_of(matches)?.geometry()
 }
 
-/// The transport id of a new disk's directory, the one behind the id that the words give, or else the
-/// first; `None` where that is no number, or fits no id.
+/// The transport id of a new disk's directory, the one behind the id that the words give, or else
+/// the first; `None` where that is no number, or fits no id.
 pub(crate) fn directory_of(matches: &ArgMatches<'_>) -> Option<TransportId>
     ensures some { IfSome result (GiveDirectory (rows_of (found_of matches.now))) }
     ensures none { IfNone result ((directory : ℕ)

@@ -3,7 +3,8 @@ ghost use Rattle.std.specs.Prelude.{◌≡◌, ◌⊎◌, OnOk, IfErr};
 ghost use Rattle.std.specs.Io.KnownBytes.{Keeps};
 ghost use Rattle.disk_model.specs.Disk.{KeepsLength};
 ghost use Rattle.mot_base.specs.declared.refusal.Refusal.TheVariants.{DeviceFault};
-ghost use Rattle.mot_program.specs.Program.{IsMemoryRefusal, IsUntold, OnMemory, OnOpened, SinceNew};
+ghost use Rattle.mot_program.specs.Program.{IsMemoryRefusal, IsUntold, OnMemory, OnOpened};
+ghost use Rattle.mot_program.specs.Program.{SinceNew};
 ghost use Rattle.mot_program.specs.Serving.{ServesInput, StopsServing};
 
 use crate::ended::{Ended, Finished, UsedDisk};

@@ -77,8 +77,8 @@ fn write_inspection<D: Disk, W: Write>(
     }
 }
 
-/// Plays a turn, and counts its packets and their bytes. The refusals are `DeviceFault` where a body
-/// can't be read, and `BadNumber` for more packets than are counted.
+/// Plays a turn, and counts its packets and their bytes. The refusals are `DeviceFault` where a
+/// body can't be read, and `BadNumber` for more packets than are counted.
 fn count_turn<D: Disk>(server: &mut Server<D>) -> Result<TurnSize, Refusal>
     requires { IsFalse server.old.view.halted }
     ensures only_reads { OnlyReads (D.state server.old.disk) (D.state server.new.disk) }

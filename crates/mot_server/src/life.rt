@@ -95,8 +95,8 @@ pub fn format_run_and_restart<D: Disk, E: Disk + Drop>(
     })
 }
 
-/// A new disk, formatted and opened: it stands for the new carousel, and at each moment until then a
-/// crash leaves no magic, or an image that does.
+/// A new disk, formatted and opened: it stands for the new carousel, and at each moment until then
+/// a crash leaves no magic, or an image that does.
 pub fn format_and_open<D: Disk>(
     alloc: Global,
     disk: D,

@@ -28,15 +28,15 @@ pub struct ServedLife<D: Disk, E: Disk> {
     pub after_crash: Result<FirstTurn<E>, Refused<E>>,
 }
 
-/// Formats a disk, opens it and serves the reader's lines, as the program does. A crash comes at any
-/// moment of that, before or inside any call of the disk, or behind it; `left` is any disk that
+/// Formats a disk, opens it and serves the reader's lines, as the program does. A crash comes at
+/// any moment of that, before or inside any call of the disk, or behind it; `left` is any disk that
 /// reads as an image which that crash may have left. It is opened, and its first turn is played.
 ///
 /// What the operator is promised, whole: for every input the packets of that turn read, by the
 /// standards' grammars, as exactly the carousel after a beginning of the commands whose replies say
 /// `done`, with at most the one in flight. That beginning holds each command whose reply was made
-/// before a moment of the disk's clock, where the crash came since; and behind the call it holds all
-/// of them. So a command whose `done` was written is never lost.
+/// before a moment of the disk's clock, where the crash came since; and behind the call it holds
+/// all of them. So a command whose `done` was written is never lost.
 pub fn format_serve_and_restart<R: Read, W: Write, D: Disk, E: Disk + Drop>(
     disk: D,
     alloc: Global,
@@ -92,10 +92,11 @@ pub struct ServedOn<E: Disk> {
     pub restarted: Result<Restarted<E>, Refused<E>>,
 }
 
-/// One more life: serves the reader's lines on a disk that `format_and_open` made, and that may have
-/// been served and crashed and opened by this function since, any number of times. A crash comes at
-/// any moment, as in `format_serve_and_restart`; `left` is any disk that reads as an image which it
-/// may have left. It is opened, and its first turn is played: so it has another life before it.
+/// One more life: serves the reader's lines on a disk that `format_and_open` made, and that may
+/// have been served and crashed and opened by this function since, any number of times. A crash
+/// comes at any moment, as in `format_serve_and_restart`; `left` is any disk that reads as an image
+/// which it may have left. It is opened, and its first turn is played: so it has another life
+/// before it.
 ///
 /// Whatever the lives were, the packets of each first turn read as exactly the carousel that the
 /// commands done make of the new one: those done when the life before began, then those of its

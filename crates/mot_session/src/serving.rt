@@ -54,8 +54,8 @@ pub struct ServeEnd {
 /// What is promised of replies, of what a crash leaves, and of the server afterwards has as its
 /// premise that the server stood for something (`StandsFor`: every server does that was opened on a
 /// disk formatted here), and that the disk is honest to the end; of each line it is promised where
-/// the disk is honest up to that line, whatever a later one reads (`ServesEach`). Which reply a line
-/// gets is right on every disk for what the server keeps in memory.
+/// the disk is honest up to that line, whatever a later one reads (`ServesEach`). Which reply a
+/// line gets is right on every disk for what the server keeps in memory.
 pub fn serve<R: Read, W: Write, D: Disk>(
     alloc: Global,
     reader: &mut R,

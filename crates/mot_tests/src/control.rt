@@ -5,9 +5,9 @@ use crate::packet_streams::{Flushing, Parts};
 use mot_base::{Geometry, Refusal};
 use mot_control::{Lines, Log};
 use mot_feed::{Direct, feed, send_packets};
-use mot_update::{NoUpdate, Update};
 use mot_lines::Hand;
 use mot_session::serve_line;
+use mot_update::{NoUpdate, Update};
 use std::alloc::Global;
 use std::test::Fail;
 

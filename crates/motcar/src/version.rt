@@ -12,7 +12,8 @@ const VERSION: &str = "motcar 0.2.0\n";
 const NOTE: &str = "../share/motcar/VERSION";
 
 /// Prints the version, and below it what the note of the installation tells of this version. No
-/// constant of the program could tell that, since it is known once the program was proved and built.
+/// constant of the program could tell that, since it is known once the program was proved and
+/// built.
 pub(crate) fn print_version<W: Write>(rt: &HostRuntime, writer: &mut W) -> io::Result<()> {
     if let Ok(note) = read_note(rt) {
         if note.as_str().starts_with(VERSION) {

@@ -151,10 +151,10 @@ fn write_zeros(file: &File, len: u64) -> io::Result<()> {
     Ok(())
 }
 
-/// No call of std drops a file's cached pages. The opening of the kit's SQLite does, of the file of a
-/// path, once it has synced the file and its folder; nothing else is asked of what it opens. It wants
-/// an empty file beside, which it makes where there is none: that stays, so that a disk opens on a
-/// file system that has become full. A block device's pages are dropped with its last handle.
+/// No call of std drops a file's cached pages. The opening of the kit's SQLite does, of the file of
+/// a path, once it has synced the file and its folder; nothing else is asked of what it opens. It
+/// wants an empty file beside, which it makes where there is none: that stays, so that a disk opens
+/// on a file system that has become full. A block device's pages are dropped with its last handle.
 fn drop_cached_pages(rt: &HostRuntime, file: &File, path: &str) -> io::Result<()> {
     if file.metadata()?.file_type().is_block_device() {
         return Ok(());

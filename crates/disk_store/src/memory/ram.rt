@@ -1,5 +1,6 @@
 //! A disk in memory to work on, none of whose calls is made to fail.
-ghost use Rattle.std.specs.Prelude.{◌≡◌, ◌+◌, ◌<◌, ◌≤◌, length, replicate, slice_range, IfSome, IsOk};
+ghost use Rattle.std.specs.Prelude.{◌≡◌, ◌+◌, ◌<◌, ◌≤◌, length, replicate, slice_range, IfSome};
+ghost use Rattle.std.specs.Prelude.{IsOk};
 ghost use Rattle.std.specs.Prelude.{OnErr};
 ghost use Rattle.disk_model.specs.Disk.{IsNew};
 ghost use Rattle.disk_model.specs.Failures.{most_failures};

@@ -116,8 +116,8 @@ fn an_object_is_written_so(rt: HostRuntime) {
 #[test]
 fn numbers_out_of_range_are_damage(rt: HostRuntime) {
     let damaged = Err(Refusal::Damaged(0));
-    // Nothing; the kind; no directory, cursor, object; type 64; subtype 512; where the body ends; no
-    // length. An id counts where the kind has one.
+    // Nothing; the kind; no directory, cursor, object; type 64; subtype 512; where the body ends;
+    // no length. An id counts where the kind has one.
     let rows: [(u16, &[u8], Result<usize, Refusal>); 12] = [
         (0, &[], Ok(1)),
         (1, &[4], damaged),

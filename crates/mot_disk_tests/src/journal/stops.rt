@@ -76,7 +76,8 @@ fn left_by(alloc: Global, call: Call, stop: u64, choices: &[u8]) -> Result<(bool
     Ok((is_done, last_of(alloc, &mut left)))
 }
 
-// Whether each crash leaves the records after the call or, where that did not succeed, those before.
+// Whether each crash leaves the records after the call or, where that did not succeed, those
+// before.
 fn is_right(alloc: Global, call: Call, stop: u64, before: Last, after: Last) -> bool
     requires { 1 ≤ stop }
 {

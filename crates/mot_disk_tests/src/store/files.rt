@@ -348,15 +348,16 @@ fn a_short_read_is_a_fault(rt: HostRuntime) {
     take_away(&rt, "short.test");
 }
 
-// Whether a folder has a file of the name `disk`, one beside it, and nothing else. It is taken away.
+// Whether a folder has a file of the name `disk`, one beside it, and nothing else. It is taken
+// away.
 fn has_two_files(rt: &HostRuntime, folder: &str, disk: &str, beside: &str) -> bool {
     let disk = fs::remove_file(rt, disk).is_ok();
     let beside = fs::remove_file(rt, beside).is_ok();
     disk && beside && fs::remove_dir(rt, folder).is_ok()
 }
 
-// An opening makes an empty file beside the disk, changes nobody else's, and a file that is not made
-// leaves none.
+// An opening makes an empty file beside the disk, changes nobody else's, and a file that is not
+// made leaves none.
 #[test]
 fn an_empty_file_stands_beside(rt: HostRuntime) {
     make_empty_folder(&rt, "beside.test");

@@ -49,8 +49,8 @@ fn loose_disk(alloc: Global) -> Result<MemoryDisk, DiskFault>
     Ok(disk)
 }
 
-// What a crash of a disk leaves: how many calls it has recorded, and its bytes; and the bytes that a
-// crash of that leaves.
+// What a crash of a disk leaves: how many calls it has recorded, and its bytes; and the bytes that
+// a crash of that leaves.
 fn left_by_crashes(
     alloc: Global,
     disk: &MemoryDisk,
@@ -144,8 +144,8 @@ fn a_failed_write_is_loose_and_a_failed_sync_does_nothing(rt: HostRuntime) {
     expect(&rt, failed_twice(rt.alloc()), Ok((failed, left)));
 }
 
-// Which calls succeed of a new disk whose call k fails, or whose calls from k on do, and how many it
-// has recorded.
+// Which calls succeed of a new disk whose call k fails, or whose calls from k on do, and how many
+// it has recorded.
 fn planned(alloc: Global, k: u64, stops: bool) -> Result<([bool; 7], u64), DiskFault>
     requires first { 1 ≤ k }
 {
@@ -223,7 +223,8 @@ fn a_refused_growth_changes_nothing(rt: HostRuntime) {
 }
 
 // Whether a disk of 8 bytes reads as what was written with success, and a crash leaves what was
-// synced with success: the record of calls grows at its first, which is a sync, and later at a write.
+// synced with success: the record of calls grows at its first, which is a sync, and later at a
+// write.
 fn are_told(alloc: Global, disk: &mut MemoryDisk) -> bool
     requires len { (memory_state disk.old).len ≡ 8 }
 {

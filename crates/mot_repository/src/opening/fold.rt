@@ -97,8 +97,8 @@ fn new_inventory(alloc: Global, limit: u16) -> Result<Inventory, AllocError>
     })
 }
 
-/// What it is after one record more; `None` for a fault of the list. It is consistent before, so only
-/// what the record brings is compared with what stands.
+/// What it is after one record more; `None` for a fault of the list. It is consistent before, so
+/// only what the record brings is compared with what stands.
 fn inventory_after(
     inventory: Inventory,
     bounds: &mut Bounds,

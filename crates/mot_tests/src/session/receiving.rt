@@ -133,8 +133,8 @@ fn put_each(alloc: Global, server: &mut Server) -> Result<(), Fail> {
     Ok(())
 }
 
-/// Puts these objects and withdraws them in turn, each under way; whether each time the group ended,
-/// and the directory followed.
+/// Puts these objects and withdraws them in turn, each under way; whether each time the group
+/// ended, and the directory followed.
 fn directories_follow(alloc: Global, server: &mut Server) -> Result<bool, Fail> {
     put_each(alloc, server)?;
     for number in 0..OBJECTS {
