@@ -9,5 +9,6 @@ pub mod Planned
 pub mod PlayerView
 pub mod Reading
 pub mod Rounds
+pub mod Sending
 pub mod State
 pub mod Turn

@@ -1,7 +1,7 @@
 -- Playing, request by request.
 use Rattle.std.proofs.Common.{◌≡◌, ℕ, suc, zero, Bool, true, false, List, [], ◌∷◌, ◌++◌, length}
 use Rattle.std.proofs.Common.{map, replicate, Option, Some}
-use Rattle.std.proofs.Common.{refl, sym, ap, ◌∙◌, subst, inl, inr}
+use Rattle.std.proofs.Common.{refl, sym, ap, ◌∙◌, subst, inl, inr, ◌+◌, add-one}
 use Rattle.std.proofs.lemmas.Bool.{false≢true}
 use Rattle.std.proofs.lemmas.List.{map-append}
 use Rattle.std.specs.Prelude.{◌⊎◌, Result, Ok, Err, OnErr, IsErr, MatchResult}
@@ -14,6 +14,7 @@ use Rattle.mot_player.specs.AnyBodies.{IsStepOfSome, PlaysOn, PlaysToTheEnd}
 use Rattle.mot_player.specs.Laws.{AreSent, IsStep}
 use Rattle.mot_player.specs.Place.{Place, Sent, Request, sent_by}
 use Rattle.mot_player.specs.PlayerView as player
+use Rattle.mot_player.specs.Sending.{HasSent}
 use Rattle.mot_player.proofs.Laws.{requests-go_on}
 use Rattle.mot_server.specs.Playing.{IsGoing}
 use Rattle.mot_server.specs.Playing.{HasPlayed, HasPlayedTurn, bytes_of_packets}
@@ -34,11 +35,16 @@ sends sents place = Some (sents, place)
 module _ (old mid new : Place) (n : ℕ) (packets : List (List ℕ))
     (played : HasPlayed old n packets mid)
     (packet : List ℕ) (ends : Bool) (step : IsStep mid packet ends new) where
+  are_sent : AreSent played.sents packets
+  are_sent =
+      subst (λ (ps : List (List ℕ)). AreSent played.sents ps) (sym played.bytes) played.sent.read
+
   steps-more : sent_by old (Request ∷ replicate n Request)
       ≡ sends (played.sents ++ step.sent ∷ []) new
   steps-more =
       ap (sent_by old) (sym (replicate-more n Request))
-      ∙ requests-go_on old mid (replicate n Request) played.sents step.sent played.steps step.asked
+      ∙ requests-go_on old mid (replicate n Request) played.sents step.sent played.sent.steps
+      step.asked
       ∙ ap (sends (played.sents ++ step.sent ∷ [])) (sym step.place)
 
   bytes-more : packets ++ packet ∷ []
@@ -55,9 +61,16 @@ module _ (old mid new : Place) (n : ℕ) (packets : List (List ℕ))
   read-more : AreSent (played.sents ++ step.sent ∷ []) (packets ++ packet ∷ [])
   read-more =
       read_each-append read_packet packets (packet ∷ []) (map (λ (s : Sent). s.packet) played.sents)
-      (step.sent.packet ∷ []) played.read one-read
+      (step.sent.packet ∷ []) are_sent one-read
       ∙ ap (λ (ps : List PacketFields). Some ps)
       (sym (map-append (λ (s : Sent). s.packet) played.sents (step.sent ∷ [])))
+
+  sent-more : HasSent old (suc n) (played.sents ++ step.sent ∷ []) new
+  sent-more = record {
+    steps = steps-more;
+    read = subst (λ (ps : List (List ℕ)). AreSent (played.sents ++ step.sent ∷ []) ps) bytes-more
+        read-more;
+  }
 
   ends-more : (before : List Bool) → map (λ (s : Sent). s.ends_turn) played.sents ≡ before →
       map (λ (s : Sent). s.ends_turn) (played.sents ++ step.sent ∷ []) ≡ before ++ ends ∷ []
@@ -69,7 +82,8 @@ module _ (old mid new : Place) (n : ℕ) (packets : List (List ℕ))
 -- of no requests no packets are played
 pub HasPlayed-none : (place : Place) → HasPlayed place 0 [] place
 unfolding sent_by
-HasPlayed-none place = record { sents = []; steps = refl; bytes = refl; read = refl }
+HasPlayed-none place =
+    record { sents = []; sent = record { steps = refl; read = refl }; bytes = refl }
 
 -- a request behind others plays one packet more
 pub HasPlayed-more : (old mid new : Place) (n : ℕ) (packets : List (List ℕ))
@@ -78,9 +92,8 @@ pub HasPlayed-more : (old mid new : Place) (n : ℕ) (packets : List (List ℕ))
     → HasPlayed old (suc n) (packets ++ packet ∷ []) new
 HasPlayed-more old mid new n packets played packet ends step = record {
   sents = played.sents ++ step.sent ∷ [];
-  steps = steps-more old mid new n packets played packet ends step;
+  sent = sent-more old mid new n packets played packet ends step;
   bytes = bytes-more old mid new n packets played packet ends step;
-  read = read-more old mid new n packets played packet ends step;
 }
 
 -- a turn of which no packet was played goes on
@@ -118,16 +131,32 @@ pub HasPlayedTurn-ended : (old mid new : Place) (packets : List (List ℕ)) → 
     → (packet : List ℕ)
     (ends : Bool) → IsStep mid packet ends new → ends ≡ true
     → HasPlayedTurn old (packets ++ packet ∷ []) new
-HasPlayedTurn-ended old mid new packets g packet ends step last = record {
-  before = length packets;
-  sents = g.played.sents ++ step.sent ∷ [];
-  steps = steps-more old mid new (length packets) packets g.played packet ends step;
-  ends = ends-more old mid new (length packets) packets g.played packet ends step
-      (replicate (length packets) false) g.going
-      ∙ ap (λ (b : Bool). replicate (length packets) false ++ b ∷ []) last;
-  bytes = bytes-more old mid new (length packets) packets g.played packet ends step;
-  read = read-more old mid new (length packets) packets g.played packet ends step;
-}
+unfolding HasPlayed-more
+HasPlayedTurn-ended old mid new packets g packet ends step last =
+    let P : ℕ → Type 0 = λ k. (p : HasPlayed old k (packets ++ packet ∷ []) new)
+    × (map (λ (s : Sent). s.ends_turn) p.sents ≡ replicate (length packets) false ++ true ∷ []) in
+    let q : P (length packets + 1) = subst P (sym (add-one (length packets))) (
+      HasPlayed-more old mid new (length packets) packets g.played packet ends step,
+      ends-more old mid new (length packets) packets g.played packet ends step
+          (replicate (length packets) false) g.going
+          ∙ ap (λ (b : Bool). replicate (length packets) false ++ b ∷ []) last,
+    ) in
+    record { before = length packets; played = q.0; ends = q.1 }
+
+-- the packets of a whole turn read as what was sent, by as many requests as the laws of turns ask
+-- for
+pub HasPlayedTurn-read : (old new : Place) (packets : List (List ℕ))
+    (turn : HasPlayedTurn old packets new) → AreSent turn.played.sents packets
+HasPlayedTurn-read old new packets turn =
+    subst (λ (ps : List (List ℕ)). AreSent turn.played.sents ps) (sym turn.played.bytes)
+    turn.played.sent.read
+
+pub HasPlayedTurn-steps : (old new : Place) (packets : List (List ℕ))
+    (turn : HasPlayedTurn old packets new)
+    → sent_by old (Request ∷ replicate turn.before Request) ≡ Some (turn.played.sents, new)
+HasPlayedTurn-steps old new packets turn =
+    subst (λ (k : ℕ). sent_by old (replicate k Request) ≡ Some (turn.played.sents, new))
+    (add-one turn.before) turn.played.sent.steps
 
 -- the bytes of one packet more
 pub bytes_of_packets-more : (packets : List (ArrayVec ℕ)) (packet : ArrayVec ℕ) →

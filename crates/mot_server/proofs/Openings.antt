@@ -1,7 +1,7 @@
 -- What a disk that was just opened stands for, and what is played of it.
 use Rattle.std.proofs.Common.{◌≡◌, inl, ℕ, ◌<◌, ◌≤◌, Bool, true, false, List, [], ◌∷◌, length}
 use Rattle.std.proofs.Common.{replicate, Option, Some, None, Result, Ok, refl, sym, ◌∙◌, subst}
-use Rattle.std.proofs.Common.{arith}
+use Rattle.std.proofs.Common.{arith, ◌+◌}
 use Rattle.std.proofs.Math.Logic.{⊎_elim}
 use Rattle.std.proofs.lemmas.Bool.Decides.{nat_tests}
 use Rattle.std.specs.Prelude.{IsFalse, ◌&&◌, nat_le, if◌then◌else◌}
@@ -25,6 +25,7 @@ use Rattle.mot_repository.specs.Repository.{RepositoryView, Agrees, IsOf, Holds}
 use Rattle.mot_repository.specs.Opening.{IsOpened, IsOpeningRefusal}
 use Rattle.mot_repository.specs.Opening as openings
 use Rattle.mot_server.specs.Playing.{HasPlayedTurn, IsTurnRefusal, halted, no_memory, failed}
+use Rattle.mot_server.proofs.Going.{HasPlayedTurn-read}
 use Rattle.mot_server.specs.Server.{ServerView}
 use Rattle.mot_server.proofs.Read.{rises_on}
 
@@ -142,8 +143,9 @@ pub opened_continuous : (address room size : ℕ) (turn : Turn) (packets : List 
     (place : Place) → StepsAreContinuous → 0 < room
     → HasPlayedTurn (opened_place address room size turn) packets place → IsContinuous packets
 opened_continuous address room size turn packets place law some played =
-    law address room size turn (Request ∷ replicate played.before Request) played.sents place
-    packets some played.steps played.read
+    law address room size turn (replicate (played.before + 1) Request) played.played.sents place
+    packets some played.played.sent.steps
+    (HasPlayedTurn-read (opened_place address room size turn) place packets played)
 
 abbrev Clash : Bool → Type 0
 Clash true = ⊥

@@ -15,6 +15,7 @@ use Rattle.mot_repository.proofs.Laws.{standings-are_sound}
 use Rattle.mot_server.specs.Inner.Plays.{PlaysCarousel}
 use Rattle.mot_server.specs.Playing.{HasPlayedTurn}
 use Rattle.mot_server.specs.Server.{bodies_of}
+use Rattle.mot_server.proofs.Going.{HasPlayedTurn-read, HasPlayedTurn-steps}
 use Rattle.mot_server.proofs.Turns.{bodies_kept}
 
 -- a whole turn, played from its beginning, reads as the carousel that the disk stands for
@@ -40,8 +41,9 @@ turn_reads view s state player packets new sound holds plays place turn begins =
     let size : player.segment_size ≡ s.geometry.segment_size =
     plays.size_is ∙ ap (λ (g : Geometry). g.segment_size) holds.agrees.geometry in
     subst (ReadsAs packets s.carousel) size
-    (turns_read_as_their_carousels (place_of player bodies) new s.carousel turn.before turn.sents
-    packets (place bodies (plays.sized bodies kept.0))
+    (turns_read_as_their_carousels (place_of player bodies) new s.carousel turn.before
+    turn.played.sents packets (place bodies (plays.sized bodies kept.0))
     (subst (IsTurnOf (turn_with player.turn bodies) s.carousel) (sym plays.size_is) is)
     whole_carousel begins
-    turn.steps turn.ends turn.read)
+    (HasPlayedTurn-steps (place_of player bodies) new packets turn) turn.ends
+    (HasPlayedTurn-read (place_of player bodies) new packets turn))

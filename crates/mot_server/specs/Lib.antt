@@ -5,6 +5,7 @@ pub mod Life
 pub mod Lives
 pub mod Marks
 pub mod Playing
+pub mod Run
 pub mod RunAnswers
 pub mod RunEnds
 pub mod Runs

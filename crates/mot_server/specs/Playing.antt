@@ -1,14 +1,12 @@
 -- What a server plays.
-use Rattle.std.specs.Prelude.{ℕ, ◌≡◌, true, false, List, [], ◌∷◌, ◌++◌, length, map, replicate}
-use Rattle.std.specs.Prelude.{Some}
-use Rattle.std.specs.Prelude.{IsTrue, IsFalse}
-use Rattle.mot_packets.specs.Written.{bytes_of_packet}
+use Rattle.std.specs.Prelude.{ℕ, ◌≡◌, ◌+◌, true, false, List, [], ◌∷◌, ◌++◌, length, map}
+use Rattle.std.specs.Prelude.{replicate, IsTrue, IsFalse}
 use Rattle.arrayvec.specs.ArrayVec.{ArrayVec}
 use Rattle.disk_model.specs.Failures.{Rises}
 use Rattle.mot_base.specs.declared.refusal.Refusal.{Refusal}
 use Rattle.mot_base.specs.declared.refusal.Refusal.TheVariants.{OutOfMemory, DeviceFault, Halted}
-use Rattle.mot_player.specs.Laws.{AreSent}
-use Rattle.mot_player.specs.Place.{Place, Sent, Request, sent_by}
+use Rattle.mot_player.specs.Place.{Place, Sent}
+use Rattle.mot_player.specs.Sending.{HasSent, packets_sent}
 use Rattle.mot_server.specs.Server.{ServerView}
 
 -- the bytes of packets of the program
@@ -19,18 +17,14 @@ bytes_of_packets packets = map (λ (p : ArrayVec ℕ). p.items) packets
 pub record HasPlayed (old : Place) (count : ℕ) (packets : List (List ℕ))
     (new : Place) : Type 0 where
   pub sents : List Sent
-  pub steps : sent_by old (replicate count Request) ≡ Some (sents, new)
-  pub bytes : packets ≡ map (λ (s : Sent). bytes_of_packet s.packet) sents
-  pub read : AreSent sents packets
+  pub sent : HasSent old count sents new
+  pub bytes : packets ≡ packets_sent sents
 
 -- the packets of requests up to the first that ends a turn
 pub record HasPlayedTurn (old : Place) (packets : List (List ℕ)) (new : Place) : Type 0 where
   pub before : ℕ
-  pub sents : List Sent
-  pub steps : sent_by old (Request ∷ replicate before Request) ≡ Some (sents, new)
-  pub ends : map (λ (s : Sent). s.ends_turn) sents ≡ replicate before false ++ true ∷ []
-  pub bytes : packets ≡ map (λ (s : Sent). bytes_of_packet s.packet) sents
-  pub read : AreSent sents packets
+  pub played : HasPlayed old (before + 1) packets new
+  pub ends : map (λ (s : Sent). s.ends_turn) played.sents ≡ replicate before false ++ true ∷ []
 
 -- what playing a turn keeps true until it ends: the packets of the turn so far, none of which ended
 -- it

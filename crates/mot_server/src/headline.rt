@@ -1,7 +1,5 @@
 //! The headline: what a crash leaves of a run of commands, opened and played.
-ghost use Rattle.std.specs.Prelude.{◌≡◌, ◌++◌, ℕ, List, length, take, vec_len, IfOk, IfErr};
-ghost use Rattle.std.specs.Prelude.{IfSome, IfNone};
-ghost use Rattle.disk_model.specs.Disk.{Keeps};
+ghost use Rattle.std.specs.Prelude.{◌++◌, ℕ, List, take, IfOk, IfErr};
 ghost use Rattle.mot_base.specs.declared.geometry.Geometry.{Geometry};
 ghost use Rattle.mot_journal.specs.Image.{Standing};
 ghost use Rattle.mot_player.specs.Reading.{ReadsAs};
@@ -9,8 +7,7 @@ ghost use Rattle.mot_repository.specs.Opening.{IsPassing};
 ghost use Rattle.mot_repository.specs.Repository.{IsOf, Holds};
 ghost use Rattle.mot_server.specs.History.{IsHistory};
 ghost use Rattle.mot_server.specs.Playing.{bytes_of_packets};
-ghost use Rattle.mot_server.specs.RunAnswers.{RunAnswers};
-ghost use Rattle.mot_server.specs.RunEnds.{IsRunFault, RunLeaves};
+ghost use Rattle.mot_server.specs.Run.{IsRun};
 ghost use Rattle.mot_server.specs.Runs.{accepted_commands, commands_in_flight};
 ghost use Rattle.mot_server.specs.Runs.{IsAfter, IsAfterSome};
 
@@ -76,15 +73,8 @@ pub fn run_and_restart<D: Disk, E: Disk>(
         × ReadsAs (bytes_of_packets r.packets.items) last.carousel last.geometry.segment_size) }
 
     // the commands were run, and marked as they stand
-    ensures keeps { Keeps (D.state server.old.disk) (D.state server.new.disk) }
-    ensures answers { RunAnswers server.old.view server.new.view commands.now
-        result.end.done.items result.end.fault }
-    ensures whole { IfNone result.end.fault (vec_len result.end.done ≡ length commands.now) }
-    ensures fault { IfSome result.end.fault (λ refusal. IsRunFault server.old.view server.new.view
-        (D.state server.old.disk) (D.state server.new.disk) refusal) }
-    ensures leaves { (now : Standing) → Holds server.old.view now (D.state server.old.disk)
-        → RunLeaves server.old.view server.new.view (D.state server.old.disk)
-        (D.state server.new.disk) now commands.now result.end.done.items result.end.fault }
+    ensures runs { IsRun server.old.view server.new.view (D.state server.old.disk)
+        (D.state server.new.disk) commands.now result.end }
 
     // so any number of runs, crashes and restarts may follow each other, from formatting on
     ensures in_a_row { (g : Geometry) (before : List Command) (now : Standing)

@@ -1,5 +1,5 @@
 //! Commands in a row, up to the first that can't be answered.
-ghost use Rattle.std.specs.Prelude.{◌≡◌, ◌<◌, [], ◌∷◌, length, vec_len, Some, IfSome, IfNone};
+ghost use Rattle.std.specs.Prelude.{◌≡◌, ◌<◌, [], ◌∷◌, length, vec_len, Some};
 ghost use Rattle.std.specs.Prelude.{◌⊎◌, IfErr, IsTrue, MatchResult, OnOk};
 ghost use Rattle.mot_base.specs.declared.refusal.Refusal.TheVariants.{DeviceFault, Halted};
 ghost use Rattle.mot_server.specs.RunEnds.{is_run_ending};
@@ -34,7 +34,7 @@ impl<D: Disk> Server<D> {
     ghost use Rattle.mot_repository.specs.Repository.{Holds};
     ghost use Rattle.mot_repository.specs.Answers.{IsAnswered};
     ghost use Rattle.mot_server.specs.Attempts.{answer_of, fault_of, marks_of};
-    ghost use Rattle.mot_server.specs.RunAnswers.{RunAnswers};
+    ghost use Rattle.mot_server.specs.Run.{IsRun};
     ghost use Rattle.mot_server.specs.RunEnds.{IsRunFault, RunLeaves, place_behind};
     ghost use Rattle.mot_server.specs.Runs.{accepted_commands, IsAfter};
     ghost use Rattle.mot_server.specs.Server.{place_in};
@@ -43,27 +43,15 @@ impl<D: Disk> Server<D> {
     /// is one whose body finds no room, or whose name is too long for layout 1, and the run goes
     /// on; every other refusal ends it. On a server that is halted it ends at once.
     pub fn run(&mut self, alloc: Global, commands: &[Command]) -> RunEnd
-        ensures keeps { Keeps (D.state self.old.disk) (D.state self.new.disk) }
-        ensures whole { IfNone result.fault (vec_len result.done ≡ length commands.now) }
-        ensures fault { IfSome result.fault (λ refusal. IsRunFault self.old.view self.new.view
-            (D.state self.old.disk) (D.state self.new.disk) refusal) }
+        ensures runs { IsRun self.old.view self.new.view (D.state self.old.disk)
+            (D.state self.new.disk) commands.now result }
 
         // A server that is halted does nothing.
         ensures halted { IsTrue self.old.view.halted → (self.new ≡ self.old)
             × (result.done.items ≡ []) × (result.fault ≡ Some Halted) }
-
-        // On every disk each mark is right, a fault is that of the command behind the marks, and
-        // what is kept in memory is what the accepted commands made of it.
-        ensures answers { RunAnswers self.old.view self.new.view commands.now
-            result.done.items result.fault }
         ensures layout { self.new.view.journal.layout ≡ self.old.view.journal.layout }
         ensures in_flight { result.fault ≡ Some DeviceFault
             → vec_len result.done < length commands.now }
-
-        // The marks, the carousel, and what a crash leaves at each moment and at the end.
-        ensures leaves { (s : Standing) → Holds self.old.view s (D.state self.old.disk)
-            → RunLeaves self.old.view self.new.view (D.state self.old.disk)
-            (D.state self.new.disk) s commands.now result.done.items result.fault }
 
         // Only accepted commands change what is played.
         ensures place { (s last : Standing) → Holds self.old.view s (D.state self.old.disk)

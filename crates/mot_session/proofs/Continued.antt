@@ -17,11 +17,12 @@ use Rattle.mot_packets.specs.Packet.{PacketFields, read_packet}
 use Rattle.mot_player.specs.Continuity.{IsContinuous}
 use Rattle.mot_player.specs.Laws.{AreSent}
 use Rattle.mot_player.specs.Place.{Place, Sent, Step, Request, NewTurn, change_turn, sent_by}
+use Rattle.mot_player.specs.Sending.{packets_sent}
 use Rattle.mot_player.specs.Turn.{turn_of_carousel}
 use Rattle.mot_player.proofs.Laws.{steps-are-continuous, steps-go_on}
 use Rattle.std.specs.Prelude.{replicate}
 use Rattle.mot_session.specs.Laws.{SessionsAreContinuous, StoppedSessionsAreContinuous}
-use Rattle.mot_session.specs.Played.{FailsToSend, Sends, packets_sent}
+use Rattle.mot_session.specs.Played.{FailsToSend, Sends}
 use Rattle.mot_session.specs.Served.{Begins, whole, next_begun, turn_begun}
 use Rattle.mot_session.specs.Session.{Exchange, Reply, refused, listing, IsCommandAnswer, accepts}
 use Rattle.mot_session.specs.Session.{refuses}
@@ -80,8 +81,8 @@ sends : (before after : ServerState) (reply : Reply) (count : ℕ) (sents : List
 sends before after reply count sents e s = rw e (record {
   steps = replicate count Request;
   sents = sents;
-  taken = s.steps;
-  read = s.read;
+  taken = s.sent.steps;
+  read = s.sent.read;
 })
 
 -- the packets before a request that failed

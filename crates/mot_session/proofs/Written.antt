@@ -19,13 +19,14 @@ use Rattle.mot_lines.specs.Text.{refusal_line}
 use Rattle.mot_packets.specs.Packet.{read_packet}
 use Rattle.mot_packets.specs.Written.{bytes_of_packet}
 use Rattle.mot_player.specs.Place.{Place, Sent, Step, Request, sent_by}
+use Rattle.mot_player.specs.Sending.{packets_sent}
 use Rattle.mot_player.proofs.Laws.{requests-go_on}
 use Rattle.mot_session.specs.declared.serving.output.WriteFault.{WriteFault}
 use Rattle.mot_session.specs.Inner.Writes.{Answered, AnswersWith, AnswersRequest, SendsOne}
 use Rattle.mot_session.specs.Output.{Writes}
 use Rattle.mot_session.specs.Inner.Writes.{may_have_done}
-use Rattle.mot_session.specs.Played.{FailsToSend, Sends, SendsTurn, SendsWithinTurn, packets_sent}
-use Rattle.mot_session.specs.Played.{sent_line, sent_lines}
+use Rattle.mot_session.specs.Played.{FailsToSend, Sends, SendsTurn, SendsWithinTurn, sent_line}
+use Rattle.mot_session.specs.Played.{sent_lines}
 use Rattle.mot_session.specs.Served.{Begins, whole, next_begun, turn_begun, WritesFront}
 use Rattle.mot_session.specs.Session.{Reply, Answers, IsAnswer, decided, accepted, listing, packets}
 use Rattle.mot_session.specs.Session.{played, refused, cut_short, text_of, all, cut}
@@ -187,7 +188,8 @@ keeps-more before mid after a b = record {
 -- nothing was asked for yet
 pub Sends-none : (state : ServerState) → Sends state 0 [] state
 unfolding sent_by
-Sends-none state = record { steps = refl; read = refl; keeps = keeps-none state }
+Sends-none state =
+    record { sent = record { steps = refl; read = refl }; keeps = keeps-none state }
 
 map-more : {A B : Type 0} (f : A → B) (xs : List A) (x : A)
     → map f (xs ++ x ∷ []) ≡ map f xs ++ f x ∷ []
@@ -199,18 +201,21 @@ module _ (before mid after : ServerState) (s : Sent) (one : SendsOne mid s after
   -- one more request
   pub Sends-more : Sends before count sents mid → Sends before (count + 1) (sents ++ s ∷ []) after
   Sends-more so_far = record {
-    steps = subst (λ (steps : List Step). sent_by before.place steps
-        ≡ Some (sents ++ s ∷ [], after.place))
-        (replicate_more count Request)
-        (requests-go_on before.place mid.place
-        (replicate count Request) sents s so_far.steps one.asked
-        ∙ ap (λ (p : Place). Some (sents ++ s ∷ [], p)) (sym one.place));
-    read = rw (
-      map-more (λ (x : Sent). bytes_of_packet x.packet) sents s,
-      map-more (λ (x : Sent). x.packet) sents s,
-    )
-        (read_each-append read_packet (packets_sent sents) (bytes_of_packet s.packet ∷ [])
-        (map (λ (x : Sent). x.packet) sents) (s.packet ∷ []) so_far.read (rw one.read refl));
+    sent = record {
+      steps = subst (λ (steps : List Step). sent_by before.place steps
+          ≡ Some (sents ++ s ∷ [], after.place))
+          (replicate_more count Request)
+          (requests-go_on before.place mid.place
+          (replicate count Request) sents s so_far.sent.steps one.asked
+          ∙ ap (λ (p : Place). Some (sents ++ s ∷ [], p)) (sym one.place));
+      read = rw (
+        map-more (λ (x : Sent). bytes_of_packet x.packet) sents s,
+        map-more (λ (x : Sent). x.packet) sents s,
+      )
+          (read_each-append read_packet (packets_sent sents) (bytes_of_packet s.packet ∷ [])
+          (map (λ (x : Sent). x.packet) sents) (s.packet ∷ []) so_far.sent.read
+          (rw one.read refl));
+    };
     keeps = keeps-more before mid after so_far.keeps one.keeps;
   }
 

@@ -1,31 +1,24 @@
 -- What requests of packets give.
 use Rattle.std.specs.Prelude.{ℕ, ◌≡◌, ◌+◌, true, false, List, [], ◌∷◌, ◌++◌, map, replicate}
-use Rattle.std.specs.Prelude.{Some}
 use Rattle.std.specs.List.{flat_map}
 use Rattle.disk_model.specs.Failures.{Rises}
 use Rattle.mot_lines.specs.Text.{played_line}
 use Rattle.mot_packets.specs.Written.{bytes_of_packet}
-use Rattle.mot_player.specs.Laws.{AreSent}
-use Rattle.mot_player.specs.Place.{Sent, Request, sent_by}
+use Rattle.mot_player.specs.Place.{Sent}
+use Rattle.mot_player.specs.Sending.{HasSent}
 use Rattle.mot_session.specs.State.{ServerState, KeepsCarousel, Stays}
 
--- the packets that were sent
-abbrev pub packets_sent : List Sent → List (List ℕ)
-packets_sent sents = map (λ (s : Sent). bytes_of_packet s.packet) sents
-
--- a line for each
+-- a line for each packet that was sent
 abbrev pub sent_line : Sent → List ℕ
 sent_line s = played_line (bytes_of_packet s.packet) s.ends_turn
 
 abbrev pub sent_lines : List Sent → List ℕ
 sent_lines sents = flat_map sent_line sents
 
--- so many requests sent these packets, each of which reads as what was sent, and nothing else
--- changed
+-- so many requests sent these packets, and nothing else changed
 pub record Sends (before : ServerState) (count : ℕ) (sents : List Sent) (after : ServerState) :
     Type 0 where
-  pub steps : sent_by before.place (replicate count Request) ≡ Some (sents, after.place)
-  pub read : AreSent sents (packets_sent sents)
+  pub sent : HasSent before.place count sents after.place
   pub keeps : KeepsCarousel before after
 
 -- so many requests sent packets of which none ends a turn

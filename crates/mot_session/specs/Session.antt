@@ -14,10 +14,10 @@ use Rattle.mot_lines.specs.Line.{NeedsMemory, line_of}
 use Rattle.mot_lines.specs.Listing.{listing_text}
 use Rattle.mot_lines.specs.Text.{done_line, packet_line, refusal_line}
 use Rattle.mot_player.specs.Place.{Sent, change_turn}
+use Rattle.mot_player.specs.Sending.{packets_sent}
 use Rattle.mot_player.specs.Turn.{turn_of_carousel}
 use Rattle.mot_repository.specs.Outcome.{after_command}
-use Rattle.mot_session.specs.Played.{FailsToSend, Sends, SendsTurn, SendsWithinTurn, packets_sent}
-use Rattle.mot_session.specs.Played.{sent_lines}
+use Rattle.mot_session.specs.Played.{FailsToSend, Sends, SendsTurn, SendsWithinTurn, sent_lines}
 use Rattle.mot_session.specs.Raw.{raw_packets}
 use Rattle.mot_session.specs.State.{ServerState, IsLater, Stays}
 

@@ -183,6 +183,8 @@ pub(super) fn write_packets<W: Write>(
         (flat_map packet_line (packets_at geometry.now group.now))
         (W.contents writer.old) (W.contents writer.new) }
 {
+    // This loop is `State::send` of `mot_player` in one go: a group that is shown has no turn, so
+    // no other group comes between its packets, and their indexes begin at 0.
     let length = geometry.length_of_packets();
     let address = geometry.address_of_packets();
     let mut text = PacketLine::new();

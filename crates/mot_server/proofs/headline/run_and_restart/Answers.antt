@@ -8,7 +8,7 @@ use Rattle.mot_server.proofs.headline.run_and_restart.Goals as goal
 
 pub returns-clause-headline : goal.returns-clause-headline
 returns-clause-headline g c = λ s now acknowledged history holds left.
-    let leaves = c.run-end.ensures.leaves now holds in
+    let leaves = c.run-end.ensures.runs.leaves now holds in
     let stands = leaves.any_moment.each (g.E.Disk.state c.args.left).bytes left in
     let first = accepted_commands c.args.commands.now c.run-end.result.done.items in
     let flight = commands_in_flight c.args.commands.now c.run-end.result.done.items
@@ -25,7 +25,7 @@ returns-clause-headline g c = λ s now acknowledged history holds left.
 
 pub returns-clause-acknowledged : goal.returns-clause-acknowledged
 returns-clause-acknowledged g c = λ s now acknowledged history holds left.
-    let leaves = c.run-end.ensures.leaves now holds in
+    let leaves = c.run-end.ensures.runs.leaves now holds in
     let stands = leaves.at_end (g.E.Disk.state c.args.left).bytes left in
     let first = accepted_commands c.args.commands.now c.run-end.result.done.items in
     let flight = commands_in_flight c.args.commands.now c.run-end.result.done.items
@@ -42,7 +42,7 @@ returns-clause-acknowledged g c = λ s now acknowledged history holds left.
 
 pub returns-clause-in_a_row : goal.returns-clause-in_a_row
 returns-clause-in_a_row g c = λ geometry before now history holds left.
-    let leaves = c.run-end.ensures.leaves now holds in
+    let leaves = c.run-end.ensures.runs.leaves now holds in
     let stands = leaves.any_moment.each (g.E.Disk.state c.args.left).bytes left in
     let some = accepted_commands c.args.commands.now c.run-end.result.done.items
     ++ commands_in_flight c.args.commands.now c.run-end.result.done.items c.run-end.result.fault in
@@ -56,7 +56,7 @@ returns-clause-in_a_row g c = λ geometry before now history holds left.
 
 pub returns-clause-opens : goal.returns-clause-opens
 returns-clause-opens g c = λ now holds left.
-    let leaves = c.run-end.ensures.leaves now holds in
+    let leaves = c.run-end.ensures.runs.leaves now holds in
     let stands = leaves.any_moment.each (g.E.Disk.state c.args.left).bytes left in
     if_err _ _ c.restart-restarted.result
     (λ e why honest. passing (g.E.Disk.state c.args.left) (g.E.Disk.state e.disk) stands.last
@@ -65,7 +65,7 @@ returns-clause-opens g c = λ now holds left.
 
 pub returns-clause-in_a_row_after : goal.returns-clause-in_a_row_after
 returns-clause-in_a_row_after g c = λ geometry before now history holds left.
-    let leaves = c.run-end.ensures.leaves now holds in
+    let leaves = c.run-end.ensures.runs.leaves now holds in
     let stands = leaves.at_end (g.E.Disk.state c.args.left).bytes left in
     let done = c.run-end.result.done.items in
     let sure = accepted_commands c.args.commands.now done in

@@ -11,7 +11,7 @@ returns-clause-headline g c = λ honest blank left.
     let state = g.D.Disk.state in
     let first = g.E.Disk.state c.args.left in
     let opens = c.in_ok-server.ensures in
-    let run = c.run-end.ensures in
+    let run = c.run-end.ensures.runs in
     let result = c.first_turn-after_crash.result in
     let reads = c.first_turn-after_crash.ensures.reads in
     let done = c.run-end.result.done.items in
@@ -38,8 +38,8 @@ returns-clause-acknowledged g c = λ honest left.
     let first = g.E.Disk.state c.args.left in
     let done = c.run-end.result.done.items in
     let run_honest = subst (λ d. (state d).IsHonest) c.into_disk.ensures honest in
-    let open_honest = c.run-end.ensures.keeps.frame.was_honest run_honest in
-    let leaves = c.run-end.ensures.leaves (new_standing c.args.geometry.now)
+    let open_honest = c.run-end.ensures.runs.keeps.frame.was_honest run_honest in
+    let leaves = c.run-end.ensures.runs.leaves (new_standing c.args.geometry.now)
     (c.in_ok-server.ensures.holds open_honest) in
     plays_after c.first_turn-after_crash.result (λ a. (g.E.Disk.state a.disk).IsHonest)
     (λ a. bytes_of_packets a.packets.items)
@@ -54,8 +54,8 @@ returns-clause-opens g c = λ honest left.
     let state = g.D.Disk.state in
     let first = g.E.Disk.state c.args.left in
     let run_honest = subst (λ d. (state d).IsHonest) c.into_disk.ensures honest in
-    let open_honest = c.run-end.ensures.keeps.frame.was_honest run_honest in
-    let leaves = c.run-end.ensures.leaves (new_standing c.args.geometry.now)
+    let open_honest = c.run-end.ensures.runs.keeps.frame.was_honest run_honest in
+    let leaves = c.run-end.ensures.runs.leaves (new_standing c.args.geometry.now)
     (c.in_ok-server.ensures.holds open_honest) in
     let stands = leaves.at_end first.bytes
     (subst (λ d. (state d).MayLeave first.bytes) c.into_disk.ensures left) in

@@ -32,36 +32,78 @@ command_at g c =
     subst (λ i. slice_get c.args.commands.now i ≡ Some c.command-item.result)
     (sym c.loop-command.invariant.index) read
 
-pub returns-in_default-clause-leaves : goal.returns-in_default-clause-leaves
-returns-in_default-clause-leaves g c = λ s holds.
+pub returns-then-halted-clause-runs : goal.returns-then-halted-clause-runs
+returns-then-halted-clause-runs g c = record {
+  keeps = search rules;
+  answers = answered_halted c.args.self.now.view c.args.commands.now _ c.new.ensures.items
+      (search rules);
+  whole = tt;
+  fault = search rules;
+  leaves = search rules;
+}
+
+pub returns-in_default-clause-runs : goal.returns-in_default-clause-runs
+returns-in_default-clause-runs g c =
     let state = g.D.Disk.state c.args.self.now.disk in
     let view = c.args.self.now.view in
-    let sound = g.met.D.Disk.sound c.args.self.now.disk holds.journal.honest in
-    subst (λ l. RunLeaves view view state state s c.args.commands.now l (Some OutOfMemory))
-    (sym c.new-in_default.ensures.items)
-    (rests view.journal.layout view view state state s c.args.commands.now [] (Some OutOfMemory)
-    refl
-    (begins view state s c.args.commands.now sound holds))
+    record {
+      keeps = search rules;
+      answers = answered_no_memory view c.args.commands.now _ c.new-in_default.ensures.items
+          (search rules);
+      whole = tt;
+      fault = search rules;
+      leaves = λ s holds.
+          let sound = g.met.D.Disk.sound c.args.self.now.disk holds.journal.honest in
+          subst (λ l. RunLeaves view view state state s c.args.commands.now l (Some OutOfMemory))
+          (sym c.new-in_default.ensures.items)
+          (rests view.journal.layout view view state state s c.args.commands.now []
+          (Some OutOfMemory) refl (begins view state s c.args.commands.now sound holds));
+    }
 
-pub returns-clause-leaves : goal.returns-clause-leaves
-returns-clause-leaves g c = λ s holds.
+pub returns-clause-runs : goal.returns-clause-runs
+returns-clause-runs g c =
     let state = g.D.Disk.state in
-    rests c.args.self.now.view.journal.layout c.args.self.now.view c.loop-command.self.view
-    (state c.args.self.now.disk) (state c.loop-command.self.disk) s c.args.commands.now
-    c.loop-command.done.items None refl
-    (c.loop-command.invariant.reached s holds)
+    record {
+      keeps = c.loop-command.invariant.keeps;
+      answers = answered_whole c.args.self.now.view c.loop-command.self.view
+          c.args.commands.now c.loop-command.done.items (search rules)
+          c.loop-command.invariant.answered;
+      whole = search rules;
+      fault = tt;
+      leaves = λ s holds.
+          rests c.args.self.now.view.journal.layout c.args.self.now.view c.loop-command.self.view
+          (state c.args.self.now.disk) (state c.loop-command.self.disk) s c.args.commands.now
+          c.loop-command.done.items None refl (c.loop-command.invariant.reached s holds);
+    }
 
-pub returns-then-ends_run-clause-leaves : goal.returns-then-ends_run-clause-leaves
-returns-then-ends_run-clause-leaves g c = λ s holds.
+pub returns-then-ends_run-clause-runs : goal.returns-then-ends_run-clause-runs
+returns-then-ends_run-clause-runs g c =
     let state = g.D.Disk.state in
-    let at = command_at g (goal.at.returns-then-ends_run-clause-leaves g c).After-execute in
-    let so_far = c.loop-command.invariant.reached s holds in
-    ends_here c.args.self.now.view.journal.layout c.loop-command.self.view c.execute.new.self.view
-    (state c.args.self.now.disk) (state c.loop-command.self.disk)
-    (state c.execute.new.self.disk) s c.args.commands.now c.loop-command.done.items
-    c.command-item.result at so_far c.in-Err.ensures.keeps
-    (c.in-Err.ensures.any_moment so_far.last so_far.holds) c.args.self.now.view refl
-    (g.met.D.Disk.sound c.execute.new.self.disk) c.in-Err.refusal c.in-Err.ensures.answered
+    let old = c.args.self.now in
+    let mid = c.loop-command.self in
+    let new = c.execute.new.self in
+    let so_far = c.loop-command.invariant in
+    let commands = c.args.commands.now in
+    let done = c.loop-command.done.items in
+    let at = command_at g (goal.at.returns-then-ends_run-clause-runs g c).After-execute in
+    let ends = sym c.ends_run.ensures ∙ c.if-ends_run.true in
+    record {
+      keeps = keeps_all_on (state old.disk) (state mid.disk) (state new.disk) so_far.keeps
+          c.in-Err.ensures.keeps;
+      answers = answered_end old.view mid.view new.view (state mid.disk) (state new.disk) commands
+          done c.command-item.result at so_far.answered c.in-Err.refusal ends
+          c.in-Err.ensures.answered;
+      whole = tt;
+      fault = run_fault old.view mid.view new.view (state old.disk) (state mid.disk)
+          (state new.disk) c.command-item.result c.in-Err.refusal so_far.keeps.frame.later
+          c.in-Err.ensures.keeps.frame.later so_far.halted ends c.in-Err.ensures.answered;
+      leaves = λ s holds.
+          let reached = so_far.reached s holds in
+          ends_here old.view.journal.layout mid.view new.view (state old.disk) (state mid.disk)
+          (state new.disk) s commands done c.command-item.result at reached c.in-Err.ensures.keeps
+          (c.in-Err.ensures.any_moment reached.last reached.holds) old.view refl
+          (g.met.D.Disk.sound new.disk) c.in-Err.refusal c.in-Err.ensures.answered;
+    }
 
 pub loop-command-init : goal.loop-command-init
 loop-command-init g c = record {
@@ -201,43 +243,11 @@ returns-then-ends_run-clause-place g c = λ s last holds after.
     (place_behind accepted last (place_in c.args.self.now s)) c.in-Err.ensures.stays
     (c.loop-command.invariant.plays s last holds after)
 
-pub returns-then-ends_run-clause-fault : goal.returns-then-ends_run-clause-fault
-returns-then-ends_run-clause-fault g c =
-    let state = g.D.Disk.state in
-    run_fault c.args.self.now.view c.loop-command.self.view c.execute.new.self.view
-    (state c.args.self.now.disk) (state c.loop-command.self.disk)
-    (state c.execute.new.self.disk) c.command-item.result c.in-Err.refusal
-    c.loop-command.invariant.keeps.frame.later c.in-Err.ensures.keeps.frame.later
-    c.loop-command.invariant.halted (sym c.ends_run.ensures ∙ c.if-ends_run.true)
-    c.in-Err.ensures.answered
-
-pub returns-then-halted-clause-answers : goal.returns-then-halted-clause-answers
-returns-then-halted-clause-answers g c = answered_halted c.args.self.now.view
-    c.args.commands.now _ c.new.ensures.items (search rules)
-
-pub returns-in_default-clause-answers : goal.returns-in_default-clause-answers
-returns-in_default-clause-answers g c = answered_no_memory c.args.self.now.view
-    c.args.commands.now _ c.new-in_default.ensures.items (search rules)
-
-pub returns-then-ends_run-clause-answers : goal.returns-then-ends_run-clause-answers
-returns-then-ends_run-clause-answers g c =
-    let state = g.D.Disk.state in
-    let at = command_at g (goal.at.returns-then-ends_run-clause-answers g c).After-execute in
-    answered_end c.args.self.now.view c.loop-command.self.view c.execute.new.self.view
-    (state c.loop-command.self.disk) (state c.execute.new.self.disk) c.args.commands.now
-    c.loop-command.done.items c.command-item.result at c.loop-command.invariant.answered
-    c.in-Err.refusal (sym c.ends_run.ensures ∙ c.if-ends_run.true) c.in-Err.ensures.answered
-
-pub returns-clause-answers : goal.returns-clause-answers
-returns-clause-answers g c = answered_whole c.args.self.now.view c.loop-command.self.view
-    c.args.commands.now c.loop-command.done.items (search rules)
-    c.loop-command.invariant.answered
-
 pub returns-then-ends_run-clause-layout : goal.returns-then-ends_run-clause-layout
 returns-then-ends_run-clause-layout g c = keeps_layout c.args.self.now.view
     c.execute.new.self.view c.args.commands.now c.loop-command.done.items (Some c.in-Err.refusal)
-    (returns-then-ends_run-clause-answers g c)
+    (returns-then-ends_run-clause-runs g c).answers
 
 pub returns-clause-layout : goal.returns-clause-layout
 returns-clause-layout g c = keeps_layout c.args.self.now.view c.loop-command.self.view
-    c.args.commands.now c.loop-command.done.items None (returns-clause-answers g c)
+    c.args.commands.now c.loop-command.done.items None (returns-clause-runs g c).answers
