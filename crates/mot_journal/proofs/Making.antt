@@ -10,7 +10,7 @@ use Rattle.mot_base.specs.Geometry.{IsValid, length_of, half_size, half_start, a
 use Rattle.mot_journal.specs.declared.layout.Layout.TheVariants.{Two}
 use Rattle.mot_journal.specs.Geometry.{has_magic, magic}
 use Rattle.mot_journal.specs.Slot.{slot_count, slot_size}
-use Rattle.mot_journal.specs.Inner.Format.{first_record, behind_magic, IsMade, IsNewDisk}
+use Rattle.mot_journal.specs.Inner.Format.{first_record, behind_magic, HasAllButMagic, IsNewDisk}
 use Rattle.mot_journal.specs.Inner.Steps.{ChangesWithin, HasSlots, Publishes, LeavesWritten}
 use Rattle.mot_journal.specs.Journal.{NoneOrFrom}
 use Rattle.mot_journal.proofs.Laws.{part}
@@ -63,7 +63,7 @@ module _ {g : Geometry} {old wrote mid : State} (found : Found g old wrote mid) 
   pub is_made : {last : State} → ChangesWithin (half_start g 1) (half_size g) mid last
       → (directory : ℕ) → slice_range wrote.bytes 8 (8 + 56) ≡ behind_magic g
       → HasSlots g 0 Two (first_record directory ∷ []) (slot_count Two g) mid.bytes
-      → HasSlots g 1 Two [] (slot_count Two g) last.bytes → IsMade g directory last.bytes
+      → HasSlots g 1 Two [] (slot_count Two g) last.bytes → HasAllButMagic g directory last.bytes
   is_made {last} second directory head slots other = record {
     other = other;
     head = part (half_start g 1) (half_size g) mid.bytes last.bytes second.bytes 8 56
@@ -84,8 +84,8 @@ module _ {g : Geometry} {old wrote mid : State} (found : Found g old wrote mid) 
 
 -- outside the magic a new disk stays one
 made_stays : (g : Geometry) (directory : ℕ) (b c : List ℕ) → AgreeOutside 0 8 b c
-    → IsMade g directory b
-    → IsMade g directory c
+    → HasAllButMagic g directory b
+    → HasAllButMagic g directory c
 made_stays g directory b c agree made = record {
   head = ap (λ l. take 56 l) (drop_behind 0 8 b c agree 8 (omega arith)) ∙ made.head;
   slots = λ i lt.
@@ -107,7 +107,7 @@ made_stays g directory b c agree made = record {
 
 module _ (g : Geometry) (directory : ℕ) (valid : IsValid g) (filled : State)
     (sound1 : IsHonestDisk filled) (long : length_of g ≤ filled.len)
-    (made : IsMade g directory filled.bytes) where
+    (made : HasAllButMagic g directory filled.bytes) where
   new : (c : List ℕ) → AgreeOutside 0 8 filled.bytes c → has_magic c ≡ true
       → IsNewDisk g directory c
   new c agree named =
@@ -141,7 +141,7 @@ module _ (g : Geometry) (directory : ℕ) (start filled : State)
 
   -- so it does until the magic is written
   pub publishing : IsValid g → IsHonestDisk filled → length_of g ≤ filled.len
-      → IsMade g directory filled.bytes → (last : State)
+      → HasAllButMagic g directory filled.bytes → (last : State)
       → Publishes 0 8 filled last → Throughout start last (NoneOrFrom g directory)
   publishing valid sound1 long made last publishes =
       joins start filled last (NoneOrFrom g directory)

@@ -16,7 +16,7 @@ use Rattle.mot_base.specs.Geometry.{is_valid}
 use Rattle.mot_journal.specs.Image.{IsSecondHalfEmpty}
 use Rattle.mot_journal.specs.Slot.{slot_count, slot_size}
 use Rattle.mot_journal.specs.Catalogue.{Catalogue, new_catalogue, catalogue_of, fold_from}
-use Rattle.mot_journal.specs.Inner.Format.{first_record, behind_magic, IsMade, IsNewDisk}
+use Rattle.mot_journal.specs.Inner.Format.{first_record, behind_magic, HasAllButMagic, IsNewDisk}
 use Rattle.mot_journal.specs.Inner.Reading.{number_at}
 use Rattle.mot_journal.specs.Inner.Steps.{HasSlots}
 use Rattle.mot_journal.specs.Journal.{JournalView, with_records}
@@ -70,7 +70,7 @@ empty_half g c other =
 
 module _ (g : Geometry) (directory : ℕ) (valid : IsValid g) (c : List ℕ)
     (long : length_of g ≤ length c) (named : has_magic c ≡ true)
-    (made : IsMade g directory c) where
+    (made : HasAllButMagic g directory c) where
   -- a number of the head
   number_is : (at width : ℕ) → 8 ≤ at → at + width ≤ 64
       → number_at at width c ≡ number_in (take width (drop (at - 8) (behind_magic g)))

@@ -16,7 +16,7 @@ ghost use Rattle.mot_journal.specs.Image.{stands_for, IsClean, IsInLayoutTwo, Is
 ghost use Rattle.mot_journal.specs.Journal.{NoneOrFrom, NoneOrNew, new_standing};
 ghost use Rattle.mot_journal.specs.Journal.{standing_from};
 ghost use Rattle.mot_journal.specs.Inner.Steps.{ChangesWithin, HasCauseOf};
-ghost use Rattle.mot_journal.specs.Inner.Format.{IsMade, IsNewDisk, behind_magic};
+ghost use Rattle.mot_journal.specs.Inner.Format.{HasAllButMagic, IsNewDisk, behind_magic};
 
 use crate::writing::{fill_half, publish};
 use crate::{Action, Geometry, Layout, Record};
@@ -186,7 +186,7 @@ fn fill<D: Disk>(disk: &mut D, geometry: &Geometry, directory: TransportId) -> R
     ensures range { (D.state disk.old).IsHonest → ChangesWithin 8 (area_start geometry.now - 8)
         (D.state disk.old) (D.state disk.new) }
     ensures made { (D.state disk.old).IsHonest
-        → OnOk result (IsMade geometry.now directory (D.state disk.new).bytes) }
+        → OnOk result (HasAllButMagic geometry.now directory (D.state disk.new).bytes) }
 {
     let first = Record {
         period: Period::ZERO,
