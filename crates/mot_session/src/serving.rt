@@ -1,8 +1,7 @@
 //! Serving the lines of an input.
 ghost use Rattle.std.specs.Prelude.{◌≡◌, ℕ, ◌+◌, ◌-◌, ◌^◌, ◌≤◌, ◌<◌, ◌⊎◌, Option, List, ◌++◌};
-ghost use Rattle.std.specs.Prelude.{length, OnOk, OnErr, None, Some, IsTrue};
+ghost use Rattle.std.specs.Prelude.{length, OnOk, OnErr, None, Some};
 ghost use Rattle.std.specs.Io.KnownBytes.{Keeps, IsAtEnd};
-ghost use Rattle.disk_model.specs.Disk.{IsUnchanged, KeepsLength};
 ghost use Rattle.mot_base.specs.declared.refusal.Refusal.TheVariants.{OutOfMemory, ReadFault};
 ghost use Rattle.mot_lines.specs.Lines.{whole_lines, lines_of};
 ghost use Rattle.mot_session.specs.Inner.InHand.{InHand};
@@ -105,12 +104,10 @@ pub fn serve<R: Read, W: Write, D: Disk>(
         × Keeps (R.remaining reader.old) (R.remaining reader.new)
         × Keeps (W.contents writer.old) (W.contents writer.new) }
     ensures faults { EndsServing result.fault }
-    ensures keeps { KeepsLength (D.state server.old.disk) (D.state server.new.disk) }
 
-    // A server that is halted changes nothing.
-    ensures halted { IsTrue server.old.view.halted → (server.new.view ≡ server.old.view)
-        × ((D.state server.new.disk).IsHonest
-        → IsUnchanged (D.state server.old.disk) (D.state server.new.disk)) }
+    // The disk keeps its length, and a server that is halted changes nothing.
+    ensures goes { GoesOn server.old server.new
+        (D.state server.old.disk) (D.state server.new.disk) }
 
     // The packets of raw replies read as what was asked for, those of a session have their
     // continuity indexes, and no more device faults are answered than the disk has.

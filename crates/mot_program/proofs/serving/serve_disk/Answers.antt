@@ -43,7 +43,7 @@ returns-clause-done g c =
       served = opens_to state c.args.disk c.in-Ok.server new
           (λ before after. Served (state new.disk) before after (lines_of r.0) old written)
           g.met.D.Disk.sound opens.only_syncs opens.opened opens.going opens.at_start
-          c.serve-fault.ensures.keeps r.4;
+          c.serve-fault.ensures.goes.keeps r.4;
     })) c.after.ensures.done
 
 pub returns-clause-refused : goal.returns-clause-refused
@@ -77,7 +77,7 @@ returns-clause-refused g c =
       served = opens_to state c.args.disk server new
           (λ before after. Served (state new.disk) before after (whole_lines r.0) old written)
           g.met.D.Disk.sound opens.only_syncs opens.opened opens.going opens.at_start
-          calls.keeps r.3;
+          calls.goes.keeps r.3;
     }))
     (λ is e. let r = calls.unwritten e in
     unwritten is (record {
@@ -89,14 +89,14 @@ returns-clause-refused g c =
             (λ before after.
             Stopped (state new.disk) before after (whole_lines r.0) count old written)
             g.met.D.Disk.sound opens.only_syncs opens.opened opens.going opens.at_start
-            calls.keeps led.0)
+            calls.goes.keeps led.0)
         | inr led ↦ inr (
           led.0,
           opens_to state c.args.disk server new
               (λ before after.
               Stopped (state new.disk) before after (lines_of r.0) count old written)
               g.met.D.Disk.sound opens.only_syncs opens.opened opens.going opens.at_start
-              calls.keeps led.1,
+              calls.goes.keeps led.1,
         )
       ];
     })))) c.after.ensures.refused

@@ -14,7 +14,7 @@ returns-clause-told g c = λ honest.
     let new = c.serve-end.new.server in
     let g0 = c.args.geometry.now in
     let now_honest = subst (λ d. (state d).IsHonest) c.into_disk.ensures honest in
-    let open_honest = serve.keeps.was_honest now_honest in
+    let open_honest = serve.goes.keeps.was_honest now_honest in
     let all = served_so state g.met.D.Disk.sound (new_standing g0) [] (new_standing g0)
     (after_none (new_standing g0))
     opened new c.args.reads (g.R.Read.remaining c.args.reader.now)
@@ -62,7 +62,7 @@ returns-clause-opens g c = λ honest may.
     (g.R.Read.remaining c.serve-end.new.reader) (g.W.Write.contents c.args.writer.now)
     (g.W.Write.contents c.serve-end.new.writer) c.serve-end.result.lines c.serve-end.result.fault
     now_honest
-    (c.in_ok-server.ensures.holds (serve.keeps.was_honest now_honest)) serve.faults
+    (c.in_ok-server.ensures.holds (serve.goes.keeps.was_honest now_honest)) serve.faults
     (λ is. let e = serve.ended is in (e.0, e.1, e.3, e.5))
     (λ is. let e = serve.unread is in (e.0, e.1, e.2, e.4))
     (λ is. let e = serve.unwritten is in (e.0, e.1, some_of e.2))

@@ -5,7 +5,6 @@ use Rattle.std.proofs.Math.Logic.{⊎_elim}
 use Rattle.std.specs.Io.KnownBytes.{Consumes, Keeps}
 use Rattle.std.proofs.KnownBytes.{Consumes-nil, Consumes-trans}
 use Rattle.mot_session.specs.declared.serving.TheConstants.{READ_SIZE}
-use Rattle.disk_model.proofs.Laws.{keeps_none, unchanged_none}
 use Rattle.mot_session.specs.Served.{TakesInput}
 use Rattle.mot_session.specs.State.{state_of}
 use Rattle.mot_session.proofs.SessionLaws.{session-laws}
@@ -230,12 +229,9 @@ returns-in_default-clause-none g c = λ memory. (
 pub returns-in_default-clause-faults : goal.returns-in_default-clause-faults
 returns-in_default-clause-faults g c = inr (inl (fault_of_end _ _ _ c.ended.ensures))
 
-pub returns-in_default-clause-keeps : goal.returns-in_default-clause-keeps
-returns-in_default-clause-keeps g c = keeps_none (g.D.Disk.state c.args.server.now.disk)
-
-pub returns-in_default-clause-halted : goal.returns-in_default-clause-halted
-returns-in_default-clause-halted g c = λ halted.
-    (refl, λ honest. unchanged_none (g.D.Disk.state c.args.server.now.disk))
+pub returns-in_default-clause-goes : goal.returns-in_default-clause-goes
+returns-in_default-clause-goes g c =
+    goes_on-none c.args.server.now (g.D.Disk.state c.args.server.now.disk)
 
 pub returns-in_default-read-clause-unwritten : goal.returns-in_default-read-clause-unwritten
 returns-in_default-read-clause-unwritten g c = λ write.
@@ -249,11 +245,8 @@ pub returns-in_default-read-clause-faults : goal.returns-in_default-read-clause-
 returns-in_default-read-clause-faults g c =
     inr (inr (inl (fault_of_end _ _ _ c.ended-in_default-read.ensures)))
 
-pub returns-in_default-read-clause-keeps : goal.returns-in_default-read-clause-keeps
-returns-in_default-read-clause-keeps g c = c.loop.invariant.goes.keeps
-
-pub returns-in_default-read-clause-halted : goal.returns-in_default-read-clause-halted
-returns-in_default-read-clause-halted g c = c.loop.invariant.goes.halted
+pub returns-in_default-read-clause-goes : goal.returns-in_default-read-clause-goes
+returns-in_default-read-clause-goes g c = c.loop.invariant.goes
 
 pub returns-clause-unwritten : goal.returns-clause-unwritten
 returns-clause-unwritten g c = λ write.
@@ -266,11 +259,8 @@ returns-clause-none g c = λ memory.
 pub returns-clause-faults : goal.returns-clause-faults
 returns-clause-faults g c = inr (inr (inl (fault_of_end _ _ _ c.ended-2.ensures)))
 
-pub returns-clause-keeps : goal.returns-clause-keeps
-returns-clause-keeps g c = c.loop.invariant.goes.keeps
-
-pub returns-clause-halted : goal.returns-clause-halted
-returns-clause-halted g c = c.loop.invariant.goes.halted
+pub returns-clause-goes : goal.returns-clause-goes
+returns-clause-goes g c = c.loop.invariant.goes
 
 pub returns-in_default-read-clause-unread : goal.returns-in_default-read-clause-unread
 returns-in_default-read-clause-unread g c = λ read.
@@ -310,25 +300,15 @@ pub returns-in_default-answer_chunk-clause-faults :
 returns-in_default-answer_chunk-clause-faults g c =
     inr (inr (inr (fault_of_end _ _ _ c.ended-in_default-answer_chunk.ensures)))
 
-pub returns-in_default-answer_chunk-clause-keeps :
-    goal.returns-in_default-answer_chunk-clause-keeps
-returns-in_default-answer_chunk-clause-keeps g c =
+pub returns-in_default-answer_chunk-clause-goes :
+    goal.returns-in_default-answer_chunk-clause-goes
+returns-in_default-answer_chunk-clause-goes g c =
     let state = g.D.Disk.state in
     let first = c.args.server.now in
     let mid = c.loop.server in
     let new = c.answer_chunk.new.server in
-    (goes_on-more first mid new (state first.disk) (state mid.disk) (state new.disk)
-    c.loop.invariant.goes c.in_default-answer_chunk.ensures.goes).keeps
-
-pub returns-in_default-answer_chunk-clause-halted :
-    goal.returns-in_default-answer_chunk-clause-halted
-returns-in_default-answer_chunk-clause-halted g c =
-    let state = g.D.Disk.state in
-    let first = c.args.server.now in
-    let mid = c.loop.server in
-    let new = c.answer_chunk.new.server in
-    (goes_on-more first mid new (state first.disk) (state mid.disk) (state new.disk)
-    c.loop.invariant.goes c.in_default-answer_chunk.ensures.goes).halted
+    goes_on-more first mid new (state first.disk) (state mid.disk) (state new.disk)
+    c.loop.invariant.goes c.in_default-answer_chunk.ensures.goes
 
 pub returns-then-count-eq0-clause-unread : goal.returns-then-count-eq0-clause-unread
 returns-then-count-eq0-clause-unread g c = λ read.
@@ -344,20 +324,11 @@ pub returns-then-count-eq0-clause-faults : goal.returns-then-count-eq0-clause-fa
 returns-then-count-eq0-clause-faults g c =
     ⊎_elim (λ none. inl none) (λ write. inr (inr (inr write))) c.answer_last.ensures.fault
 
-pub returns-then-count-eq0-clause-keeps : goal.returns-then-count-eq0-clause-keeps
-returns-then-count-eq0-clause-keeps g c =
+pub returns-then-count-eq0-clause-goes : goal.returns-then-count-eq0-clause-goes
+returns-then-count-eq0-clause-goes g c =
     let state = g.D.Disk.state in
     let first = c.args.server.now in
     let mid = c.loop.server in
     let new = c.answer_last.new.server in
-    (goes_on-more first mid new (state first.disk) (state mid.disk) (state new.disk)
-    c.loop.invariant.goes c.answer_last.ensures.goes).keeps
-
-pub returns-then-count-eq0-clause-halted : goal.returns-then-count-eq0-clause-halted
-returns-then-count-eq0-clause-halted g c =
-    let state = g.D.Disk.state in
-    let first = c.args.server.now in
-    let mid = c.loop.server in
-    let new = c.answer_last.new.server in
-    (goes_on-more first mid new (state first.disk) (state mid.disk) (state new.disk)
-    c.loop.invariant.goes c.answer_last.ensures.goes).halted
+    goes_on-more first mid new (state first.disk) (state mid.disk) (state new.disk)
+    c.loop.invariant.goes c.answer_last.ensures.goes
