@@ -1,22 +1,24 @@
 -- The action of a slot that sets an object, from its parts.
-use Rattle.std.proofs.Common.{◌≡◌, inl, inr, ℕ, ◌+◌, ◌-◌, ◌≤◌, Bool, true, false, List, length}
+use Rattle.std.proofs.Common.{◌≡◌, inl, inr, ℕ, ◌+◌, ◌-◌, ◌≤◌, ◌<◌, Bool, true, false, List, length}
 use Rattle.std.proofs.Common.{take, drop, Option, Some, None, sym, ◌∙◌, ap, arith}
 use Rattle.std.specs.Prelude.{if◌then◌else◌, nat_lt, nat_le}
 use Rattle.std.specs.Option.{option_map_or}
 use Rattle.std.proofs.Math.Seq.{take-length}
-use Rattle.std.proofs.lemmas.List.{drop-drop, length-drop}
-use Rattle.std.proofs.lemmas.Bool.{cases_Bool, le-leb, lt-ltb}
+use Rattle.std.proofs.lemmas.List.{drop-drop, length-drop, length-take}
+use Rattle.std.proofs.lemmas.Bool.{cases_Bool, le-leb, lt-ltb, leb-true}
+use Rattle.std.proofs.lemmas.Bool.{ltb-true, false_from_ne_true}
 use Rattle.mot_carousel.specs.Content.{ContentNumbers}
 use Rattle.mot_base.specs.declared.geometry.Geometry.{Geometry}
 use Rattle.mot_journal.specs.declared.layout.Layout.{Layout}
+use Rattle.mot_journal.specs.declared.layout.Layout.TheVariants.{One, Two}
 use Rattle.mot_journal.specs.declared.record.Action.{Action}
 use Rattle.mot_journal.specs.declared.record.Action.TheVariants.{Set}
-use Rattle.mot_journal.specs.Slot.{short_text_in, is_sound_action, longest_name}
+use Rattle.mot_journal.specs.Slot.{short_text_in, is_sound_action, longest_name, slot_size}
 use Rattle.mot_carousel.specs.Mime.{is_mime}
 use Rattle.mot_carousel.specs.Name.{is_name}
 use Rattle.mot_journal.specs.Inner.Reading.{number_at, content_at, if_sound, set_in_slot, name_from}
 use Rattle.mot_journal.specs.Inner.Reading.{mime_from}
-use Rattle.mot_journal.proofs.Decoded.{both, text, act-of, kept, and-false}
+use Rattle.mot_journal.proofs.Decoded.{both, parts, text, act-of, kept, and-false}
 
 -- what follows a name of n bytes
 pub rest_is : (xs : List ℕ) (at n : ℕ)
@@ -62,6 +64,29 @@ no_mime_parts bytes e = elim (cases_Bool (option_map_or is_mime (short_text_in b
   | inr isnt ↦ isnt
 ]
 
+-- bytes that are not read as a name break its rule
+pub no_name : (longest : ℕ) (bytes : List ℕ) → name_from longest bytes ≡ None
+    → is_name longest bytes ≡ true → ⊥
+no_name longest bytes e is =
+    let read : name_from longest bytes ≡ text bytes =
+    ap (λ (b : Bool). if b then text bytes else None) is in cc
+
+no_shorter : (layout : Layout) (slot : List ℕ) (n : ℕ) → length slot ≡ slot_size layout → n < 256
+    → longest_name layout < n → longest_name layout < length (take n (drop 24 slot))
+no_shorter One slot n size fits long = simp (length-take, length-drop) (omega arith)
+no_shorter Two slot n size fits long = absurd (omega arith)
+
+-- a slot's name that is longer than its layout allows breaks its rule
+pub long_name : (layout : Layout) (slot : List ℕ) (n : ℕ) → length slot ≡ slot_size layout
+    → n < 256 → longest_name layout < n
+    → is_name (longest_name layout) (take n (drop 24 slot)) ≡ true → ⊥
+long_name layout slot n size fits long is =
+    let p1 = parts _ _ is in
+    let p2 = parts _ _ p1.0 in
+    let p3 = parts _ _ p2.0 in
+    let most : length (take n (drop 24 slot)) ≤ longest_name layout = leb-true _ _ p3.1 in
+    let more = no_shorter layout slot n size fits long in omega arith
+
 same-set : (tid tid' version version' : ℕ) (content content' : ContentNumbers)
     (start start' size size' : ℕ) (name name' : List ℕ) (mime mime' : Option (List ℕ))
     → tid' ≡ tid → version' ≡ version → content' ≡ content → start' ≡ start → size' ≡ size
@@ -72,6 +97,39 @@ same-set tid tid' version version' content content' start start' size size' name
     e2 e3 e4 e5 e6 e7 = cc
 
 module _ (g : Geometry) (layout : Layout) (slot : List ℕ) where
+  -- what the fields of a slot have that sets an object
+  pub record HasFields : Type 0 where
+    pub tid : 1 ≤ number_at 9 2 slot
+    pub type : number_at 12 1 slot ≤ 63
+    pub subtype : number_at 13 2 slot ≤ 511
+    pub some : 1 ≤ number_at 19 4 slot
+    pub most : number_at 19 4 slot ≤ 262144
+    pub inside : number_at 15 4 slot + number_at 19 4 slot ≤ g.data_area
+    pub name : is_name (longest_name layout) (take (number_at 23 1 slot) (drop 24 slot)) ≡ true
+
+  -- a slot whose fields have not all of that sets no object
+  pub none_of : (HasFields → ⊥) → if_sound g layout (set_in_slot slot) ≡ None
+  none_of lacks =
+      let fails : is_sound_action g layout (set_in_slot slot) ≡ true → ⊥ = λ all.
+      let p1 = parts _ _ all in
+      let p2 = parts _ _ p1.0 in
+      let p3 = parts _ _ p2.0 in
+      let p4 = parts _ _ p3.0 in
+      let p5 = parts _ _ p4.0 in
+      let p6 = parts _ _ p5.0 in
+      let size = parts _ _ p4.1 in
+      lacks (record {
+        tid = ltb-true _ _ p6.0;
+        type = leb-true _ _ p6.1;
+        subtype = leb-true _ _ p5.1;
+        some = leb-true _ _ size.0;
+        most = leb-true _ _ size.1;
+        inside = leb-true _ _ p3.1;
+        name = p2.1;
+      }) in
+      ap (λ (b : Bool). if b then act-of (set_in_slot slot) else None)
+      (false_from_ne_true (is_sound_action g layout (set_in_slot slot)) fails)
+
   -- a slot whose MIME type breaks its rule sets no object
   pub no_mime_of : mime_from (drop (number_at 23 1 slot) (drop 24 slot)) ≡ None
       → if_sound g layout (set_in_slot slot) ≡ None

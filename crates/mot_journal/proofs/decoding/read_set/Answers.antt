@@ -1,7 +1,9 @@
-use Rattle.std.proofs.Common.{◌≡◌, ◌+◌, ◌-◌, sym, ◌∙◌, ap, take, drop, length, arith}
+use Rattle.std.proofs.Common.{◌≡◌, ◌≤◌, ◌<◌, subst, ◌+◌, ◌-◌, sym, ◌∙◌, ap, take, drop, length}
+use Rattle.std.proofs.Common.{arith}
 use Rattle.mot_journal.specs.Slot.{longest_name}
 use Rattle.mot_journal.specs.Inner.Reading.{number_at, name_from, mime_from}
-use Rattle.mot_journal.proofs.Setting.{rest_is, no_mime_of, set_sound}
+use Rattle.mot_journal.proofs.Setting.{rest_is, no_mime_of, set_sound, none_of, no_name, long_name}
+use Rattle.mot_journal.proofs.Decoded.{wrong-ok}
 use Rattle.mot_journal.proofs.decoding.read_set.Goals as goal
 
 pub returns-in_default-3 : goal.returns-in_default-3
@@ -33,3 +35,64 @@ returns c =
     (sym (ap (λ b. name_from (longest_name c.args.layout) b) name) ∙ sym c.in_ok-name.ensures
     ∙ c.in-Some-2.is)
     (sym (ap mime_from same) ∙ sym c.in_ok-mime.ensures ∙ c.in-Some-3.is))
+
+pub returns-in_default : goal.returns-in_default
+returns-in_default c =
+    sym (none_of c.args.geometry.now c.args.layout c.args.slot.now (λ has.
+    wrong-ok (c.in_default.ensures.valid.1
+    (subst (λ n. 1 ≤ n) (sym c.number.ensures.value) has.tid))))
+
+pub returns-in_default-new : goal.returns-in_default-new
+returns-in_default-new c =
+    sym (none_of c.args.geometry.now c.args.layout c.args.slot.now (λ has.
+    wrong-ok (c.in_default-new.ensures.valid.1 (
+      subst (λ n. n ≤ 63) (sym c.number-2.ensures.value) has.type,
+      subst (λ n. n ≤ 511) (sym c.number-3.ensures.value) has.subtype,
+    ))))
+
+pub returns-in_default-new-2 : goal.returns-in_default-new-2
+returns-in_default-new-2 c =
+    sym (none_of c.args.geometry.now c.args.layout c.args.slot.now (λ has.
+    wrong-ok (c.in_default-new-2.ensures.valid.1 (
+      subst (λ n. 1 ≤ n) (sym c.number-4.ensures.value) has.some,
+      subst (λ n. n ≤ 262144) (sym c.number-4.ensures.value) has.most,
+    ))))
+
+pub returns-then-from : goal.returns-then-from
+returns-then-from c =
+    sym (none_of c.args.geometry.now c.args.layout c.args.slot.now (λ has.
+    omega (
+      arith,
+      has.inside,
+      c.number-start.ensures.value,
+      c.number-4.ensures.value,
+      c.in-Some-new.ensures.value,
+      c.get.ensures.value,
+      c.from.ensures,
+      c.from-2.ensures,
+      c.from-3.ensures,
+      c.if-from.true,
+    )))
+
+pub returns-then-name_length-longest_name : goal.returns-then-name_length-longest_name
+returns-then-name_length-longest_name c =
+    let slot = c.args.slot.now in
+    sym (none_of c.args.geometry.now c.args.layout slot (λ has.
+    long_name c.args.layout slot (number_at 23 1 slot) c.requires
+    (subst (λ n. n < 256) c.number-name_length.ensures.value c.number-name_length.ensures.fits)
+    (subst (λ n. longest_name c.args.layout < n) c.number-name_length.ensures.value
+    (subst (λ n. n < c.number-name_length.result) c.longest_name.ensures
+    c.if-name_length-longest_name.true)) has.name))
+
+pub returns-in_default-2 : goal.returns-in_default-2
+returns-in_default-2 c =
+    let slot = c.args.slot.now in
+    let n = c.number-name_length.result in
+    let width : 24 + n - 24 ≡ number_at 23 1 slot =
+    omega (arith, c.number-name_length.ensures.value) in
+    let name : take (24 + n - 24) (drop 24 slot) ≡ take (number_at 23 1 slot) (drop 24 slot) =
+    ap (λ k. take k (drop 24 slot)) width in
+    sym (none_of c.args.geometry.now c.args.layout slot (λ has.
+    no_name (longest_name c.args.layout) (take (number_at 23 1 slot) (drop 24 slot))
+    (sym (ap (λ b. name_from (longest_name c.args.layout) b) name) ∙ sym c.in_ok-name.ensures
+    ∙ c.in_default-2.is) has.name))
