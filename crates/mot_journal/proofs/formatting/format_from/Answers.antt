@@ -1,7 +1,7 @@
 -- What is refused, what it costs and what stays, told for each way out.
 use Rattle.std.proofs.Common.{ℕ, ◌+◌, ◌*◌, ◌⊎◌, ◌≡◌, ◌<◌, ◌≤◌, ◌↔◌, inl, inr, Ok, Err, refl, arith}
 use Rattle.std.specs.Prelude.{Result}
-use Rattle.disk_store.proofs.Laws.{unchanged_none}
+use Rattle.disk_model.proofs.Laws.{unchanged_none}
 use Rattle.mot_base.specs.declared.refusal.Refusal.{Refusal}
 use Rattle.mot_base.specs.declared.refusal.Refusal.TheVariants.{DeviceFault, BadGeometry}
 use Rattle.mot_base.specs.declared.refusal.Refusal.TheVariants.{DiskTooSmall, AlreadyFormatted}
