@@ -1,4 +1,2 @@
-pub mod Asked
 pub mod Looked
-pub mod Made
 pub mod Packets

@@ -3,7 +3,6 @@
 #![tactic(auto)]
 
 mod beside;
-mod command;
 mod fault;
 mod lines;
 mod log;
@@ -13,14 +12,13 @@ mod playing;
 mod program;
 mod spool;
 mod subject;
-mod task;
 mod types;
 mod used;
 
 pub use lines::LineFolder;
 pub use mot_reading::Ended;
+pub use mot_words::{AirTask as Task, PlayTask};
 pub use packets::Target;
 pub use playing::{Followed, play_and_answer, play_disk, play_with, sync_disk};
 pub use program::{is_air, run_air, run_air_on};
-pub use task::{PlayTask, Task};
 pub use used::{AirDisk, AirExit};
