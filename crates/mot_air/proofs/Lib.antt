@@ -1,6 +1,4 @@
-pub mod Asked
 pub mod Begun
 pub mod Opened
 pub mod Played
 pub mod Synced
-pub mod Values

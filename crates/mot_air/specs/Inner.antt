@@ -1,3 +1,1 @@
-pub mod Asked
 pub mod Looked
-pub mod Made

@@ -1,7 +1,5 @@
-pub mod Command
 pub mod Inner
 pub mod Opening
 pub mod Playing
 pub mod Program
 pub mod Syncing
-pub mod Task

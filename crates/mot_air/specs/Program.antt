@@ -9,11 +9,8 @@ use Rattle.disk_store.specs.declared.file.FileDiskFrom.{FileDiskFrom}
 use Rattle.disk_store.specs.declared.file.start.Start.{Ghosts}
 use Rattle.mot_air.specs.Playing.{Plays, StopsPlaying, when_followed}
 use Rattle.mot_air.specs.Syncing.{StopsSyncing, Syncs}
-use Rattle.mot_air.specs.Task.{AskFor, AskForHelp}
 use Rattle.mot_files.specs.declared.packets.Target.{Target}
 use Rattle.mot_files.specs.declared.packets.Target.TheVariants.{File, Output, Stream}
-use Rattle.mot_air.specs.declared.task.Task.{Task}
-use Rattle.mot_air.specs.declared.task.Task.TheVariants.{Play, Sync, Export, Inspect}
 use Rattle.mot_air.specs.declared.used.AirDisk.{AirDisk}
 use Rattle.mot_air.specs.declared.used.AirDisk.TheVariants.{Opened, Untouched}
 use Rattle.mot_base.specs.declared.refusal.Refusal.{Refusal}
@@ -26,6 +23,11 @@ use Rattle.mot_files.specs.Packets.{IsTarget}
 use Rattle.mot_folder.specs.Types.{IsTypesRefusal}
 use Rattle.mot_reading.specs.Exporting.{Exports, StopsExporting}
 use Rattle.mot_reading.specs.Inspecting.{Inspects, StopsInspecting}
+use Rattle.mot_words.specs.Air.Command.{air_app}
+use Rattle.mot_words.specs.Air.Task.{IsAirTask}
+use Rattle.mot_words.specs.Asked.{AskFor, AskForHelp}
+use Rattle.mot_words.specs.declared.air.task.AirTask.{AirTask}
+use Rattle.mot_words.specs.declared.air.task.AirTask.TheVariants.{Play, Sync, Export, Inspect}
 
 -- how many turns are played, where so many are asked for; and else sixteen into a file, behind
 -- which its packets can begin anew, and as good as without end into all else
@@ -86,7 +88,7 @@ module _ {S : Type 0} {start : Ghosts S} where
 
   -- the task was done; where no lines are given, no command came within a turn, and without a
   -- folder none at all
-  abbrev pub Does : Task → AirDisk S start → (old new : Option (List ℕ)) → Type 0
+  abbrev pub Does : AirTask → AirDisk S start → (old new : Option (List ℕ)) → Type 0
   Does (Play p) used old new =
       PlaysTo p.packets.now (when_changed p.lines p.folder) p.turns used
   Does (Sync disk folder types) used old new = OnOpened (Syncs true folder.now old new) used
@@ -94,7 +96,7 @@ module _ {S : Type 0} {start : Ghosts S} where
   Does (Inspect disk) used old new = OnOpened (Inspects old new) used
 
   -- the task was begun, and this refusal ended it; or a file was refused, with none
-  abbrev pub DoesInPart : Task → Option Refusal → AirDisk S start → (old new : Option (List ℕ))
+  abbrev pub DoesInPart : AirTask → Option Refusal → AirDisk S start → (old new : Option (List ℕ))
       → Type 0
   DoesInPart (Play p) None used old new = ⊥
   DoesInPart (Play p) (Some r) used old new =
@@ -121,7 +123,7 @@ IsUntyped (Some types) r = (r ≡ ReadFault) ⊎ IsTypesRefusal r
 
 -- why a task is not begun: there is no table of suffixes, or no folder of lines, or the disk, or
 -- what is to take the packets, can't be opened
-abbrev pub IsBeginningRefusal : Task → Refusal → Type 0
+abbrev pub IsBeginningRefusal : AirTask → Refusal → Type 0
 IsBeginningRefusal (Play p) r =
     IsUntyped p.types r ⊎ IsUnlined p.lines r ⊎ (r ≡ DeviceFault) ⊎ (r ≡ WriteFault)
 IsBeginningRefusal (Sync disk folder types) r = IsUntyped types r ⊎ (r ≡ DeviceFault)
@@ -133,8 +135,8 @@ module _ {S : Type 0} {start : Ghosts S} (words : List Text) where
   -- the task that the words ask for was done; or they ask for help
   abbrev pub Succeeds : AirDisk S start → (old new : Option (List ℕ)) → Type 0
   Succeeds used old new =
-      ((task : Task) × AskFor words task × Does task used old new)
-      ⊎ (AskForHelp words × IsUntouched used)
+      ((task : AirTask) × AskFor air_app IsAirTask words task × Does task used old new)
+      ⊎ (AskForHelp air_app words × IsUntouched used)
 
   -- why it was refused
   pub data IsRefused (refusal : Option Refusal) (used : AirDisk S start)
@@ -142,14 +144,16 @@ module _ {S : Type 0} {start : Ghosts S} (words : List Text) where
     -- before it could be told what the words ask for
     no_memory : refusal ≡ Some OutOfMemory → IsUntold used old new → IsRefused refusal used old new
     -- a number of theirs is none, so that they ask for no task
-    no_task : refusal ≡ Some BadNumber → ((task : Task) → AskFor words task → ⊥)
+    no_task : refusal ≡ Some BadNumber
+        → ((task : AirTask) → AskFor air_app IsAirTask words task → ⊥)
         → IsUntold used old new → IsRefused refusal used old new
     -- the help could not be printed
-    no_help : AskForHelp words → refusal ≡ Some WriteFault → IsUntouched used
+    no_help : AskForHelp air_app words → refusal ≡ Some WriteFault → IsUntouched used
         → IsRefused refusal used old new
     -- the task was not begun
-    unbegun : (task : Task) (r : Refusal) → refusal ≡ Some r → AskFor words task
-        → IsBeginningRefusal task r → IsUntold used old new → IsRefused refusal used old new
+    unbegun : (task : AirTask) (r : Refusal) → refusal ≡ Some r
+        → AskFor air_app IsAirTask words task → IsBeginningRefusal task r
+        → IsUntold used old new → IsRefused refusal used old new
     -- the task was begun
-    begun : (task : Task) → AskFor words task → DoesInPart task refusal used old new
-        → IsRefused refusal used old new
+    begun : (task : AirTask) → AskFor air_app IsAirTask words task
+        → DoesInPart task refusal used old new → IsRefused refusal used old new

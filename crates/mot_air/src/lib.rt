@@ -2,18 +2,16 @@
 //! folder; and those that write it as lines, and tell its sizes.
 #![tactic(auto)]
 
-mod command;
 mod on_air;
 mod playing;
 mod program;
 mod subject;
-mod task;
 mod types;
 mod used;
 
 pub use mot_files::{LineFolder, Target};
 pub use mot_reading::Ended;
+pub use mot_words::{AirTask as Task, PlayTask};
 pub use playing::{Followed, play_and_answer, play_disk, play_with, sync_disk};
 pub use program::{is_air, run_air, run_air_on};
-pub use task::{PlayTask, Task};
 pub use used::{AirDisk, AirExit};

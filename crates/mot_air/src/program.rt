@@ -4,12 +4,10 @@ ghost use Rattle.std.specs.Prelude.{IsTrue};
 ghost use Rattle.std.specs.Prelude.{List, None, Ok, Some, codes, option_map};
 ghost use Rattle.std.specs.Io.KnownBytes.{Keeps};
 ghost use Rattle.clap.specs.Words.{Text, found_of, kind_of, rows_of};
-ghost use Rattle.mot_air.specs.Inner.Asked.{AskBy};
 ghost use Rattle.mot_air.specs.Program.{Does, DoesInPart, IsBeginningRefusal, IsRefused, IsUntold};
 ghost use Rattle.mot_air.specs.Program.{IsUntouched, IsUntyped, OnOpened, PlaysTo};
 ghost use Rattle.mot_air.specs.Program.{StopsPlayingTo, Succeeds, when_changed};
 ghost use Rattle.mot_air.specs.Syncing.{StopsSyncing, Syncs};
-ghost use Rattle.mot_air.specs.Task.{AreWrong};
 ghost use Rattle.mot_air.specs.declared.playing.Followed.{Followed};
 ghost use Rattle.mot_air.specs.declared.used.AirDisk.{AirDisk};
 ghost use Rattle.mot_air.specs.declared.used.AirDisk.TheVariants.{Untouched};
@@ -19,12 +17,13 @@ ghost use Rattle.mot_base.specs.declared.refusal.Refusal.TheVariants.{WriteFault
 ghost use Rattle.mot_files.specs.Lines.{IsUnlined};
 ghost use Rattle.mot_reading.specs.Exporting.{Exports, StopsExporting};
 ghost use Rattle.mot_reading.specs.Inspecting.{Inspects, StopsInspecting};
+ghost use Rattle.mot_words.specs.Air.Command.{air_app};
+ghost use Rattle.mot_words.specs.Air.Task.{IsAirTask};
+ghost use Rattle.mot_words.specs.Asked.{AreWrong, AskBy};
 
-use crate::command::matches_of;
 use crate::on_air::play_file;
 use crate::playing::{Followed, sync_disk};
 use crate::subject::{Subject, subject_of, tell, tell_folder};
-use crate::task::{PlayTask, Task, task_of};
 use crate::types::file_types;
 use crate::used::{AirDisk, AirExit, Finished};
 use clap::error::ErrorKind;
@@ -34,6 +33,7 @@ use mot_base::Refusal;
 use mot_files::line_folder;
 use mot_folder::FileTypes;
 use mot_reading::{export_disk, inspect_disk};
+use mot_words::{AirTask, PlayTask, air_matches, air_task};
 use std::alloc::Global;
 use std::convert::AsStr;
 use std::io::Write;
@@ -62,7 +62,7 @@ pub fn run_air<S: AsStr, B: Start, W: Write, E: Write>(
     ensures refused { result ≡ 1 → (disk : AirDisk B B.Start) × (refusal : Option Refusal)
         × IsRefused (map S.text words.now) refusal disk
         (W.contents writer.old) (W.contents writer.new) }
-    ensures usage { result ≡ 2 → AreWrong (map S.text words.now)
+    ensures usage { result ≡ 2 → AreWrong air_app (map S.text words.now)
         × Keeps (W.contents writer.old) (W.contents writer.new) }
 {
     run_air_on(rt, alloc, words, start, writer, errors).status
@@ -91,10 +91,10 @@ pub fn run_air_on<S: AsStr, B: Start, W: Write, E: Write>(
     // What this refusal left of the disk that is handed out.
     ensures refused { result.status ≡ 1 → IsRefused (map S.text words.now) result.refusal
         result.disk (W.contents writer.old) (W.contents writer.new) }
-    ensures usage { result.status ≡ 2 → AreWrong (map S.text words.now)
+    ensures usage { result.status ≡ 2 → AreWrong air_app (map S.text words.now)
         × IsUntouched result.disk × Keeps (W.contents writer.old) (W.contents writer.new) }
 {
-    let matches = match matches_of(alloc, words) {
+    let matches = match air_matches(alloc, words) {
         Ok(matches) => matches,
         Err(error) => return explain(writer, errors, &error, start),
     };
@@ -115,14 +115,16 @@ fn run_command<B: Start, W: Write, E: Write>(
     errors: &mut E,
 ) -> AirExit<B>
     ensures status { (result.status ≡ 0) ⊎ (result.status ≡ 1) }
-    ensures done { (all : List Text) → AskBy name.now (rows_of (found_of words.now)) all
+    ensures done { (all : List Text)
+        → AskBy air_app IsAirTask name.now (rows_of (found_of words.now)) all
         → result.status ≡ 0
         → Succeeds all result.disk (W.contents writer.old) (W.contents writer.new) }
-    ensures refused { (all : List Text) → AskBy name.now (rows_of (found_of words.now)) all
+    ensures refused { (all : List Text)
+        → AskBy air_app IsAirTask name.now (rows_of (found_of words.now)) all
         → result.status ≡ 1 → IsRefused all result.refusal result.disk
         (W.contents writer.old) (W.contents writer.new) }
 {
-    let Some(task) = task_of(name, words) else {
+    let Some(task) = air_task(name, words) else {
         let subject = subject_of(Refusal::BadNumber, words, None);
         return refuse(
             errors,
@@ -201,7 +203,7 @@ fn refuse<B: Start, E: Write>(
 fn execute<B: Start, W: Write, E: Write>(
     rt: &HostRuntime,
     alloc: Global,
-    task: Task<'_>,
+    task: AirTask<'_>,
     start: B,
     writer: &mut W,
     errors: &mut E,
@@ -216,14 +218,14 @@ fn execute<B: Start, W: Write, E: Write>(
         (W.contents writer.old) (W.contents writer.new)) }
 {
     match task {
-        Task::Play(task) => play(rt, alloc, task, start, writer, errors),
-        Task::Sync {
+        AirTask::Play(task) => play(rt, alloc, task, start, writer, errors),
+        AirTask::Sync {
             disk,
             folder,
             types,
         } => sync(rt, alloc, disk, folder, types, start, writer),
-        Task::Export(disk) => export_file(rt, alloc, disk, start, writer),
-        Task::Inspect(disk) => inspect_file(rt, alloc, disk, start, writer),
+        AirTask::Export(disk) => export_file(rt, alloc, disk, start, writer),
+        AirTask::Inspect(disk) => inspect_file(rt, alloc, disk, start, writer),
     }
 }
 

@@ -1,9 +1,5 @@
 pub mod Begun
-pub mod Command
 pub mod Files
-pub mod Inner
-pub mod Options
 pub mod Program
 pub mod Report
 pub mod Serving
-pub mod Task

@@ -15,14 +15,17 @@ use Rattle.mot_base.specs.declared.refusal.Refusal.TheVariants.{OutOfMemory, Wri
 use Rattle.mot_journal.specs.Journal.{new_standing}
 use Rattle.mot_program.specs.declared.ended.UsedDisk.{UsedDisk}
 use Rattle.mot_program.specs.declared.ended.UsedDisk.TheVariants.{InMemory, OfFile, Untouched}
-use Rattle.mot_program.specs.declared.task.Task.{Task}
-use Rattle.mot_program.specs.declared.task.Task.TheVariants.{Memory, Format, Serve, Check, Migrate}
 use Rattle.mot_program.specs.Files.{SinceMade, SinceOpened}
 use Rattle.mot_program.specs.Report.{Checks, Formats, Migrates, StopsChecking, StopsFormatting}
 use Rattle.mot_program.specs.Report.{StopsMigrating}
 use Rattle.mot_program.specs.Serving.{ServesInput, StopsServing}
-use Rattle.mot_program.specs.Task.{AskFor, AskForHelp}
 use Rattle.mot_repository.specs.Repository.{IsOf}
+use Rattle.mot_words.specs.Asked.{AskFor, AskForHelp}
+use Rattle.mot_words.specs.Program.Command.{program_app}
+use Rattle.mot_words.specs.Program.Task.{IsTask}
+use Rattle.mot_words.specs.declared.program.task.Task.{Task}
+use Rattle.mot_words.specs.declared.program.task.Task.TheVariants.{Memory, Format, Serve, Check}
+use Rattle.mot_words.specs.declared.program.task.Task.TheVariants.{Migrate}
 
 -- a disk in memory that is new, of this geometry
 pub record IsNewInMemory (geometry : Geometry) (disk : RamDisk) : Type 0 where
@@ -118,8 +121,8 @@ module _ {S : Type 0} {start : Ghosts S} (words : List Text) where
   -- the task that the words ask for was done; or they ask for help, and nothing was read
   abbrev pub Succeeds : UsedDisk S start → (unread left old new : Option (List ℕ)) → Type 0
   Succeeds used unread left old new =
-      ((task : Task) × AskFor words task × Does task used unread left old new)
-      ⊎ (AskForHelp words × IsUntouched used × Keeps unread left)
+      ((task : Task) × AskFor program_app IsTask words task × Does task used unread left old new)
+      ⊎ (AskForHelp program_app words × IsUntouched used × Keeps unread left)
 
   -- why it was refused
   pub data IsRefused (refusal : Refusal) (used : UsedDisk S start)
@@ -128,16 +131,17 @@ module _ {S : Type 0} {start : Ghosts S} (words : List Text) where
     no_memory : refusal ≡ OutOfMemory → IsUntold used old new → Keeps unread left
         → IsRefused refusal used unread left old new
     -- a number of theirs fits no field of a geometry, so that they ask for no task
-    no_task : refusal ≡ BadGeometry → ((task : Task) → AskFor words task → ⊥)
+    no_task : refusal ≡ BadGeometry → ((task : Task) → AskFor program_app IsTask words task → ⊥)
         → IsUntold used old new → Keeps unread left
         → IsRefused refusal used unread left old new
     -- the help could not be printed
-    no_help : AskForHelp words → refusal ≡ WriteFault → IsUntouched used → Keeps unread left
-        → IsRefused refusal used unread left old new
+    no_help : AskForHelp program_app words → refusal ≡ WriteFault → IsUntouched used
+        → Keeps unread left → IsRefused refusal used unread left old new
     -- the task was not begun
-    unbegun : (task : Task) → AskFor words task → IsBeginningRefusal task refusal
-        → IsUntold used old new → Keeps unread left
+    unbegun : (task : Task) → AskFor program_app IsTask words task
+        → IsBeginningRefusal task refusal → IsUntold used old new → Keeps unread left
         → IsRefused refusal used unread left old new
     -- the task was begun
-    begun : (task : Task) → AskFor words task → DoesInPart task refusal used unread left old new
+    begun : (task : Task) → AskFor program_app IsTask words task
+        → DoesInPart task refusal used unread left old new
         → IsRefused refusal used unread left old new

@@ -3,25 +3,25 @@ ghost use Rattle.std.specs.Prelude.{◌≡◌, ◌⊎◌, List, map, IfErr, OnOk
 ghost use Rattle.std.specs.Io.KnownBytes.{Keeps};
 ghost use Rattle.clap.specs.Words.{Text, found_of, rows_of};
 ghost use Rattle.mot_base.specs.declared.refusal.Refusal.{Refusal};
-ghost use Rattle.mot_program.specs.Inner.Asked.{AskBy};
 ghost use Rattle.mot_program.specs.Program.{Does, DoesInPart, IsBeginningRefusal, IsUntold};
 ghost use Rattle.mot_program.specs.Program.{IsRefused, IsUntouched, Succeeds};
-ghost use Rattle.mot_program.specs.Task.{AreWrong};
 ghost use Rattle.mot_program.specs.declared.ended.UsedDisk.{UsedDisk};
+ghost use Rattle.mot_words.specs.Asked.{AreWrong, AskBy};
+ghost use Rattle.mot_words.specs.Program.Command.{program_app};
+ghost use Rattle.mot_words.specs.Program.Task.{IsTask};
 
 use crate::Task;
 use crate::checking::check_file;
-use crate::command::matches_of;
 use crate::ended::{Exit, Finished, UsedDisk};
 use crate::formatting::format_file;
 use crate::migrating::migrate_file;
 use crate::printing::{explain, refuse};
 use crate::serving::{serve_file, serve_memory};
 use crate::subject::{Subject, subject_of};
-use crate::task::task_of;
 use clap::ArgMatches;
 use disk_store::Start;
 use mot_base::Refusal;
+use mot_words::{program_matches, program_task};
 use std::alloc::Global;
 use std::convert::AsStr;
 use std::io::{Read, Write};
@@ -46,7 +46,7 @@ pub fn run_program<S: AsStr, B: Start, R: Read, W: Write, E: Write>(
         × IsRefused (map S.text words.now) refusal disk
         (R.remaining reader.old) (R.remaining reader.new)
         (W.contents writer.old) (W.contents writer.new) }
-    ensures usage { result ≡ 2 → AreWrong (map S.text words.now)
+    ensures usage { result ≡ 2 → AreWrong program_app (map S.text words.now)
         × Keeps (R.remaining reader.old) (R.remaining reader.new)
         × Keeps (W.contents writer.old) (W.contents writer.new) }
 {
@@ -78,12 +78,12 @@ pub fn run_on<S: AsStr, B: Start, R: Read, W: Write, E: Write>(
         × IsRefused (map S.text words.now) refusal result.disk
         (R.remaining reader.old) (R.remaining reader.new)
         (W.contents writer.old) (W.contents writer.new) }
-    ensures usage { result.status ≡ 2 → AreWrong (map S.text words.now)
+    ensures usage { result.status ≡ 2 → AreWrong program_app (map S.text words.now)
         × IsUntouched result.disk
         × Keeps (R.remaining reader.old) (R.remaining reader.new)
         × Keeps (W.contents writer.old) (W.contents writer.new) }
 {
-    let matches = match matches_of(alloc, words) {
+    let matches = match program_matches(alloc, words) {
         Ok(matches) => matches,
         Err(error) => return explain(writer, errors, &error, start),
     };
@@ -105,17 +105,19 @@ fn run_command<B: Start, R: Read, W: Write, E: Write>(
     errors: &mut E,
 ) -> Exit<B>
     ensures status { (result.status ≡ 0) ⊎ (result.status ≡ 1) }
-    ensures done { (all : List Text) → AskBy name.now (rows_of (found_of words.now)) all
+    ensures done { (all : List Text)
+        → AskBy program_app IsTask name.now (rows_of (found_of words.now)) all
         → result.status ≡ 0 → Succeeds all result.disk
         (R.remaining reader.old) (R.remaining reader.new)
         (W.contents writer.old) (W.contents writer.new) }
-    ensures refused { (all : List Text) → AskBy name.now (rows_of (found_of words.now)) all
+    ensures refused { (all : List Text)
+        → AskBy program_app IsTask name.now (rows_of (found_of words.now)) all
         → result.status ≡ 1 → (refusal : Refusal) × (result.refusal ≡ Some refusal)
         × IsRefused all refusal result.disk
         (R.remaining reader.old) (R.remaining reader.new)
         (W.contents writer.old) (W.contents writer.new) }
 {
-    let Some(task) = task_of(name, words) else {
+    let Some(task) = program_task(name, words) else {
         let subject = subject_of(Refusal::BadGeometry, words, None);
         return refuse(
             errors,

@@ -3,14 +3,17 @@ use Rattle.std.proofs.KnownBytes.{Keeps-refl}
 use Rattle.std.specs.Io.KnownBytes.{Keeps}
 use Rattle.clap.specs.Words.{found_of, rows_of}
 use Rattle.mot_air.specs.Program.{IsUntouched, no_help, no_memory}
-use Rattle.mot_air.specs.Task.{AreWrong}
-use Rattle.mot_air.proofs.Asked.{AskBy-matched, AskForHelp-shown, AreWrong-fault, AreWrong-none}
+use Rattle.mot_words.proofs.Laws.{AreWrong-fault, AreWrong-none, AskBy-matched, AskForHelp-shown}
+use Rattle.mot_words.proofs.Laws.{air_simple}
+use Rattle.mot_words.specs.Air.Command.{air_app}
+use Rattle.mot_words.specs.Air.Task.{IsAirTask}
+use Rattle.mot_words.specs.Asked.{AreWrong}
 use Rattle.mot_air.proofs.program.run_air_on.Goals as goal
 
 pub returns-in-Err-clause-done : goal.returns-in-Err-clause-done
 returns-in-Err-clause-done g c = λ z. inr (
-  AskForHelp-shown (map g.S.AsStr.text c.args.words.now) c.in-Err.error c.in-Err.ensures.kinds
-      (c.explain.ensures.help z),
+  AskForHelp-shown air_app (map g.S.AsStr.text c.args.words.now) c.in-Err.error
+      c.in-Err.ensures.kinds (c.explain.ensures.help z),
   subst (λ (d : _). IsUntouched d) (sym c.explain.ensures.untouched) tt,
 )
 
@@ -19,14 +22,14 @@ returns-in-Err-clause-refused g c = λ z.
     let untouched = subst (λ (d : _). IsUntouched d) (sym c.explain.ensures.untouched) tt in
     elim (c.explain.ensures.refused z) [
       | inl why ↦ no_memory why.0 (record { untouched = untouched; silent = why.1 })
-      | inr why ↦ no_help (AskForHelp-shown (map g.S.AsStr.text c.args.words.now) c.in-Err.error
-          c.in-Err.ensures.kinds why.1) why.0 untouched
+      | inr why ↦ no_help (AskForHelp-shown air_app (map g.S.AsStr.text c.args.words.now)
+          c.in-Err.error c.in-Err.ensures.kinds why.1) why.0 untouched
     ]
 
 pub returns-in-Err-clause-usage : goal.returns-in-Err-clause-usage
 returns-in-Err-clause-usage g c = λ z. (
-  AreWrong-fault (map g.S.AsStr.text c.args.words.now) c.in-Err.error c.in-Err.ensures.kinds
-      (c.explain.ensures.usage z).0 (c.explain.ensures.usage z).1,
+  AreWrong-fault air_app (map g.S.AsStr.text c.args.words.now) c.in-Err.error
+      c.in-Err.ensures.kinds (c.explain.ensures.usage z).0 (c.explain.ensures.usage z).1,
   subst (λ (d : _). IsUntouched d) (sym c.explain.ensures.untouched) tt,
   (c.explain.ensures.usage z).2,
 )
@@ -35,9 +38,10 @@ pub returns-in_default-clause-usage : goal.returns-in_default-clause-usage
 returns-in_default-clause-usage g c =
     let words = map g.S.AsStr.text c.args.words.now in
     let old = g.W.Write.contents c.args.writer.now in
-    subst (λ (e : _). e.status ≡ 2 → AreWrong words × IsUntouched e.disk × Keeps old old)
+    subst (λ (e : _). e.status ≡ 2 → AreWrong air_app words × IsUntouched e.disk × Keeps old old)
     (sym c.unrefused.ensures) (λ z. (
-      AreWrong-none words c.in-Ok.matches c.in-Ok.ensures.matches c.in_default.ensures.rows,
+      AreWrong-none air_app words air_simple c.in-Ok.matches c.in-Ok.ensures.matches
+          c.in_default.ensures.rows,
       tt,
       Keeps-refl _,
     ))
@@ -51,16 +55,16 @@ returns-clause-status g c = elim c.run_command.ensures.status [
 pub returns-clause-done : goal.returns-clause-done
 returns-clause-done g c =
     let words = map g.S.AsStr.text c.args.words.now in
-    c.run_command.ensures.done words (AskBy-matched words c.in-Ok.matches c.in-Some.name.now
-    (rows_of (found_of c.in-Some.rest.now)) c.in-Ok.ensures.matches c.in-Some.ensures.name
-    c.in-Some.ensures.rows)
+    c.run_command.ensures.done words (AskBy-matched air_app words IsAirTask air_simple
+    c.in-Ok.matches c.in-Some.name.now (rows_of (found_of c.in-Some.rest.now))
+    c.in-Ok.ensures.matches c.in-Some.ensures.name c.in-Some.ensures.rows)
 
 pub returns-clause-refused : goal.returns-clause-refused
 returns-clause-refused g c =
     let words = map g.S.AsStr.text c.args.words.now in
-    c.run_command.ensures.refused words (AskBy-matched words c.in-Ok.matches c.in-Some.name.now
-    (rows_of (found_of c.in-Some.rest.now)) c.in-Ok.ensures.matches c.in-Some.ensures.name
-    c.in-Some.ensures.rows)
+    c.run_command.ensures.refused words (AskBy-matched air_app words IsAirTask air_simple
+    c.in-Ok.matches c.in-Some.name.now (rows_of (found_of c.in-Some.rest.now))
+    c.in-Ok.ensures.matches c.in-Some.ensures.name c.in-Some.ensures.rows)
 
 pub returns-clause-usage : goal.returns-clause-usage
 returns-clause-usage g c = λ two. elim c.run_command.ensures.status [

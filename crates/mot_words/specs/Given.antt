@@ -1,0 +1,19 @@
+-- The words and numbers that were given.
+use Rattle.std.specs.Prelude.{ℕ, ◌≡◌, ◌<◌, ◌^◌, List, Option, Some, None}
+use Rattle.std.specs.Str.Parse.{IsNumeral, digits_value, without_leading_plus}
+use Rattle.clap.specs.Words.{Row, Text, first_of}
+
+-- this word was given for that one
+abbrev pub NameWord : List Row → Text → Text → Type 0
+NameWord rows name word = first_of name rows ≡ Some word
+
+-- the text writes a number of 32 bits
+abbrev pub IsNumberOf32Bits : List ℕ → Type 0
+IsNumberOf32Bits text = IsNumeral 10 (without_leading_plus text)
+    × (digits_value 10 (without_leading_plus text) < 2 ^ 32)
+
+-- the number that the text of an option writes, where the option was given
+abbrev pub IsGiven : Option (List ℕ) → Option ℕ → Type 0
+IsGiven None number = number ≡ None
+IsGiven (Some text) number =
+    IsNumberOf32Bits text × (number ≡ Some (digits_value 10 (without_leading_plus text)))

@@ -1,0 +1,6 @@
+pub mod Air
+pub mod Asked
+pub mod Given
+pub mod Inner
+pub mod Parts
+pub mod Program

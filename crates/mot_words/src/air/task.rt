@@ -1,0 +1,108 @@
+//! What the words of the command line ask for.
+ghost use Rattle.std.specs.Prelude.{◌≡◌, IfNone, IfSome, codes, option_map};
+ghost use Rattle.std.specs.Borrow.{Bor};
+ghost use Rattle.clap.specs.Words.{Text, first_of, found_of, rows_of};
+ghost use Rattle.mot_words.specs.Air.Task.{IsAirTask};
+ghost use Rattle.mot_words.specs.Given.{NameWord};
+ghost use Rattle.mot_words.specs.declared.air.task.AirTask.{AirTask};
+
+use crate::given::{number_of, word_of};
+use clap::ArgMatches;
+
+/// What is played, and into what.
+#[derive(Clone, Copy, Debug)]
+pub struct PlayTask<'a> {
+    /// The path of the disk's file.
+    pub disk: &'a str,
+    /// What takes the packets: the path of a pipe, a device or a file, or `-`.
+    pub packets: &'a str,
+    /// The path of the folder that the carousel is made equal to, if one is given.
+    pub folder: Option<&'a str>,
+    /// The path of the file that adds suffixes, if one is given.
+    pub types: Option<&'a str>,
+    /// The path of the folder whose files are answered as lines, if one is given.
+    pub lines: Option<&'a str>,
+    /// Behind how many packets lines are read; where none is given, 8.
+    pub every: Option<u32>,
+    /// How many whole turns; where none is given, 16 into a file, and else without end.
+    pub turns: Option<u32>,
+}
+
+/// What a command on air is to do.
+#[derive(Clone, Copy, Debug)]
+pub enum AirTask<'a> {
+    /// Play a disk.
+    Play(PlayTask<'a>),
+    /// Make the carousel of a disk equal to a folder.
+    Sync {
+        /// The path of the disk's file.
+        disk: &'a str,
+        /// The path of the folder.
+        folder: &'a str,
+        /// The path of the file that adds suffixes, if one is given.
+        types: Option<&'a str>,
+    },
+    /// Print the carousel of the disk of the file at this path.
+    Export(&'a str),
+    /// Tell the sizes of the disk of the file at this path.
+    Inspect(&'a str),
+}
+
+/// The task of a command and the words behind it; `None` where a number is none.
+pub fn air_task<'a>(name: &str, words: &ArgMatches<'a>) -> Option<AirTask<'a>>
+    ensures some { IfSome result (IsAirTask name.now (rows_of (found_of words.now))) }
+    ensures none { IfNone result ((task : AirTask)
+        → IsAirTask name.now (rows_of (found_of words.now)) task → ⊥) }
+{
+    let disk = word_of(words, "DISK")?;
+    match name {
+        "play" => play_of(disk, words),
+        "sync" => sync_of(disk, words),
+        "export" => Some(AirTask::Export(disk)),
+        "inspect" => Some(AirTask::Inspect(disk)),
+        _ => None,
+    }
+}
+
+/// The task of the command `play` on this disk.
+fn play_of<'a>(disk: &'a str, words: &ArgMatches<'a>) -> Option<AirTask<'a>>
+    ensures some { IfSome result (λ task.
+        NameWord (rows_of (found_of words.now)) (codes "DISK") disk.now
+        → IsAirTask (codes "play") (rows_of (found_of words.now)) task) }
+    ensures none { IfNone result ((task : AirTask)
+        → IsAirTask (codes "play") (rows_of (found_of words.now)) task → ⊥) }
+{
+    Some(AirTask::Play(PlayTask {
+        disk,
+        packets: word_of(words, "PACKETS")?,
+        folder: option_of(words, "folder"),
+        types: option_of(words, "types"),
+        lines: option_of(words, "lines"),
+        every: number_of(words, "every")?,
+        turns: number_of(words, "turns")?,
+    }))
+}
+
+/// The task of the command `sync` on this disk.
+fn sync_of<'a>(disk: &'a str, words: &ArgMatches<'a>) -> Option<AirTask<'a>>
+    ensures some { IfSome result (λ task.
+        NameWord (rows_of (found_of words.now)) (codes "DISK") disk.now
+        → IsAirTask (codes "sync") (rows_of (found_of words.now)) task) }
+    ensures none { IfNone result ((task : AirTask)
+        → IsAirTask (codes "sync") (rows_of (found_of words.now)) task → ⊥) }
+{
+    Some(AirTask::Sync {
+        disk,
+        folder: word_of(words, "DIR")?,
+        types: option_of(words, "types"),
+    })
+}
+
+/// The word of an option, if it was given.
+#[tactic(auto, using(crate::proofs::Values::first_found))]
+fn option_of<'a>(words: &ArgMatches<'a>, name: &str) -> Option<&'a str>
+    ensures { option_map (λ (word : Bor Text). word.now) result
+        ≡ first_of name.now (rows_of (found_of words.now)) }
+{
+    words.get_str(name)
+}

@@ -1,0 +1,52 @@
+//! What the words of the command line ask for.
+ghost use Rattle.std.specs.Prelude.{IfNone, IfSome};
+ghost use Rattle.clap.specs.Words.{found_of, rows_of};
+ghost use Rattle.mot_words.specs.Program.Task.{IsTask};
+ghost use Rattle.mot_words.specs.declared.program.task.Task.{Task};
+
+use super::options::{directory_of, geometry_of};
+use crate::given::word_of;
+use clap::ArgMatches;
+use mot_base::{Geometry, TransportId};
+
+/// What the program is to do.
+#[derive(Clone, Copy, Debug)]
+pub enum Task<'a> {
+    /// Serve a carousel in memory.
+    Memory(Geometry),
+    /// Make a disk of the file at this path.
+    Format {
+        /// The file's path.
+        path: &'a str,
+        /// The sizes of the disk.
+        geometry: Geometry,
+        /// The transport id of the new directory, behind which all later ones are taken.
+        directory: TransportId,
+    },
+    /// Serve the disk of the file at this path.
+    Serve(&'a str),
+    /// Tell what the disk of the file at this path keeps.
+    Check(&'a str),
+    /// Rewrite the disk of the file at this path into layout 2.
+    Migrate(&'a str),
+}
+
+/// The task of a command and the words behind it; `None` where a number does not fit its field.
+pub fn program_task<'a>(name: &str, words: &ArgMatches<'a>) -> Option<Task<'a>>
+    ensures some { IfSome result (IsTask name.now (rows_of (found_of words.now))) }
+    ensures none { IfNone result ((task : Task)
+        → IsTask name.now (rows_of (found_of words.now)) task → ⊥) }
+{
+    match name {
+        "memory" => Some(Task::Memory(geometry_of(words)?)),
+        "format" => Some(Task::Format {
+            path: word_of(words, "DISK")?,
+            geometry: geometry_of(words)?,
+            directory: directory_of(words)?,
+        }),
+        "serve" => Some(Task::Serve(word_of(words, "DISK")?)),
+        "check" => Some(Task::Check(word_of(words, "DISK")?)),
+        "migrate" => Some(Task::Migrate(word_of(words, "DISK")?)),
+        _ => None,
+    }
+}
