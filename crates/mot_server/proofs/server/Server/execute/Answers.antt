@@ -1,12 +1,19 @@
-use Rattle.std.proofs.Common.{◌≡◌, refl, sym, ap, ◌∙◌}
+use Rattle.std.proofs.Common.{◌≡◌, ℕ, ◌+◌, ◌≤◌, Err, inl, inr, refl, sym, ap, ◌∙◌, arith}
+use Rattle.std.proofs.lemmas.Result.{IfOk-from_err, MatchResult-from_err}
+use Rattle.disk_model.proofs.Laws.{begins, keeps_none}
+use Rattle.mot_repository.specs.Repository.{IsBeforeOrAfter}
+use Rattle.mot_server.proofs.Going.{OnErr-always}
 use Rattle.mot_base.specs.declared.geometry.Geometry.{Geometry}
 use Rattle.mot_player.specs.Place.{change_turn}
 use Rattle.mot_player.specs.PlayerView.{PlayerView, TurnPlan, place_of, turn_with}
-use Rattle.mot_repository.specs.Answers.{IsRefusal, accepted, refused}
+use Rattle.mot_repository.specs.Answers.{IsRefusal, accepted, refused, failed}
 use Rattle.disk_model.proofs.Laws.{unchanged_none}
 use Rattle.mot_server.proofs.Turns.{place_after, plays_of, plays_same}
 use Rattle.mot_base.proofs.Laws.{same_error}
 use Rattle.mot_server.proofs.server.Server.execute.Goals as goal
+
+no_less : (a n : ℕ) → a ≤ a + n
+no_less a n = omega arith
 
 pub returns-in_err-prepared-clause-answered : goal.returns-in_err-prepared-clause-answered
 returns-in_err-prepared-clause-answered g c =
@@ -65,3 +72,169 @@ returns-clause-place g c = λ s next was agrees.
 pub returns-clause-ok : goal.returns-clause-ok
 returns-clause-ok g c = rw (← c.self.view_is) (λ s holds.
     c.in_ok-done.ensures.ok c.args.command.now c.in_ok-prepared.ensures.prepared s holds)
+
+pub returns-in_err-prepared-clause-keeps : goal.returns-in_err-prepared-clause-keeps
+returns-in_err-prepared-clause-keeps g c =
+    record { frame = keeps_none (g.D.Disk.state c.args.self.now.disk); honest = λ is. is }
+
+pub returns-in_err-prepared-clause-going : goal.returns-in_err-prepared-clause-going
+returns-in_err-prepared-clause-going g c =
+    IfOk-from_err c.from_residual.result _ c.from_residual.ensures.0
+
+pub returns-in_err-prepared-clause-calm : goal.returns-in_err-prepared-clause-calm
+returns-in_err-prepared-clause-calm g c =
+    IfOk-from_err c.from_residual.result _ c.from_residual.ensures.0
+
+pub returns-in_err-prepared-clause-cost : goal.returns-in_err-prepared-clause-cost
+returns-in_err-prepared-clause-cost g c =
+    record {
+      at_most = no_less _ _;
+      exact = IfOk-from_err c.from_residual.result _ c.from_residual.ensures.0;
+    }
+
+pub returns-in_err-prepared-clause-untouched : goal.returns-in_err-prepared-clause-untouched
+returns-in_err-prepared-clause-untouched g c =
+    MatchResult-from_err c.from_residual.result _ _ c.from_residual.ensures.0 (λ refusal. inr refl)
+
+pub returns-in_err-prepared-clause-any_moment : goal.returns-in_err-prepared-clause-any_moment
+returns-in_err-prepared-clause-any_moment g c =
+    λ s holds.
+    let old = c.args.self.now in
+    begins (g.D.Disk.state old.disk)
+    (IsBeforeOrAfter old.view.journal.layout s c.args.command.now)
+    (g.met.D.Disk.sound old.disk holds.journal.honest) (λ image left. inl (holds.each image left))
+
+pub returns-in_err-prepared-clause-ok : goal.returns-in_err-prepared-clause-ok
+returns-in_err-prepared-clause-ok g c =
+    λ s holds. IfOk-from_err c.from_residual.result _ c.from_residual.ensures.0
+
+pub returns-in_err-prepared-clause-place : goal.returns-in_err-prepared-clause-place
+returns-in_err-prepared-clause-place g c =
+    λ s next was agrees. IfOk-from_err c.from_residual.result _ c.from_residual.ensures.0
+
+pub returns-in_err-prepared-clause-stays : goal.returns-in_err-prepared-clause-stays
+returns-in_err-prepared-clause-stays g c =
+    OnErr-always c.from_residual.result _ refl
+
+pub returns-in_err-turn-clause-keeps : goal.returns-in_err-turn-clause-keeps
+returns-in_err-turn-clause-keeps g c =
+    record { frame = keeps_none (g.D.Disk.state c.args.self.now.disk); honest = λ is. is }
+
+pub returns-in_err-turn-clause-going : goal.returns-in_err-turn-clause-going
+returns-in_err-turn-clause-going g c =
+    IfOk-from_err c.from_residual-in_err-turn.result _ c.from_residual-in_err-turn.ensures.0
+
+pub returns-in_err-turn-clause-calm : goal.returns-in_err-turn-clause-calm
+returns-in_err-turn-clause-calm g c =
+    IfOk-from_err c.from_residual-in_err-turn.result _ c.from_residual-in_err-turn.ensures.0
+
+pub returns-in_err-turn-clause-cost : goal.returns-in_err-turn-clause-cost
+returns-in_err-turn-clause-cost g c =
+    record {
+      at_most = no_less _ _;
+      exact = IfOk-from_err c.from_residual-in_err-turn.result _ c.from_residual-in_err-turn.ensures.0;
+    }
+
+pub returns-in_err-turn-clause-untouched : goal.returns-in_err-turn-clause-untouched
+returns-in_err-turn-clause-untouched g c =
+    MatchResult-from_err c.from_residual-in_err-turn.result _ _
+    c.from_residual-in_err-turn.ensures.0 (λ refusal. inr refl)
+
+pub returns-in_err-turn-clause-any_moment : goal.returns-in_err-turn-clause-any_moment
+returns-in_err-turn-clause-any_moment g c =
+    λ s holds.
+    let old = c.args.self.now in
+    begins (g.D.Disk.state old.disk)
+    (IsBeforeOrAfter old.view.journal.layout s c.args.command.now)
+    (g.met.D.Disk.sound old.disk holds.journal.honest) (λ image left. inl (holds.each image left))
+
+pub returns-in_err-turn-clause-ok : goal.returns-in_err-turn-clause-ok
+returns-in_err-turn-clause-ok g c =
+    λ s holds. IfOk-from_err c.from_residual-in_err-turn.result _
+    c.from_residual-in_err-turn.ensures.0
+
+pub returns-in_err-turn-clause-place : goal.returns-in_err-turn-clause-place
+returns-in_err-turn-clause-place g c =
+    λ s next was agrees. IfOk-from_err c.from_residual-in_err-turn.result _
+    c.from_residual-in_err-turn.ensures.0
+
+pub returns-in_err-turn-clause-stays : goal.returns-in_err-turn-clause-stays
+returns-in_err-turn-clause-stays g c =
+    OnErr-always c.from_residual-in_err-turn.result _ refl
+
+pub returns-in_err-done-clause-keeps : goal.returns-in_err-done-clause-keeps
+returns-in_err-done-clause-keeps g c =
+    rw (← c.self.view_is) c.commit.ensures.keeps
+
+pub returns-in_err-done-clause-going : goal.returns-in_err-done-clause-going
+returns-in_err-done-clause-going g c =
+    IfOk-from_err c.from_residual-in_err-done.result _ c.from_residual-in_err-done.ensures.0
+
+pub returns-in_err-done-clause-calm : goal.returns-in_err-done-clause-calm
+returns-in_err-done-clause-calm g c =
+    IfOk-from_err c.from_residual-in_err-done.result _ c.from_residual-in_err-done.ensures.0
+
+pub returns-in_err-done-clause-cost : goal.returns-in_err-done-clause-cost
+returns-in_err-done-clause-cost g c =
+    let all = c.commit.ensures.cost c.args.command.now c.in_ok-prepared.ensures.prepared in
+    rw (← c.self.view_is) (record {
+      at_most = all.at_most;
+      exact = IfOk-from_err c.from_residual-in_err-done.result _
+          c.from_residual-in_err-done.ensures.0;
+    })
+
+pub returns-in_err-done-clause-untouched : goal.returns-in_err-done-clause-untouched
+returns-in_err-done-clause-untouched g c =
+    rw (same_error c.from_residual-in_err-done.result c.in_err-done.field-0.0
+    c.from_residual-in_err-done.ensures.1)
+    (inl c.in_err-done.ensures.fault)
+
+pub returns-in_err-done-clause-answered : goal.returns-in_err-done-clause-answered
+returns-in_err-done-clause-answered g c =
+    rw (← c.self.view_is) (
+    failed (same_error c.from_residual-in_err-done.result c.in_err-done.field-0.0
+    c.from_residual-in_err-done.ensures.1
+    ∙ ap Err c.in_err-done.ensures.fault) c.in_ok-prepared.ensures.going
+    (c.in_err-done.ensures.cause.cause refl) c.in_err-done.ensures.halted)
+
+pub returns-in_err-done-clause-ok : goal.returns-in_err-done-clause-ok
+returns-in_err-done-clause-ok g c =
+    λ s holds. IfOk-from_err c.from_residual-in_err-done.result _
+    c.from_residual-in_err-done.ensures.0
+
+pub returns-in_err-done-clause-place : goal.returns-in_err-done-clause-place
+returns-in_err-done-clause-place g c =
+    λ s next was agrees. IfOk-from_err c.from_residual-in_err-done.result _
+    c.from_residual-in_err-done.ensures.0
+
+pub returns-in_err-done-clause-stays : goal.returns-in_err-done-clause-stays
+returns-in_err-done-clause-stays g c =
+    OnErr-always c.from_residual-in_err-done.result _ (rw (← c.self.view_is) refl)
+
+pub returns-clause-keeps : goal.returns-clause-keeps
+returns-clause-keeps g c =
+    rw (← c.self.view_is) c.commit.ensures.keeps
+
+pub returns-clause-going : goal.returns-clause-going
+returns-clause-going g c =
+    rw (← c.self.view_is) c.in_ok-prepared.ensures.going
+
+pub returns-clause-cost : goal.returns-clause-cost
+returns-clause-cost g c =
+    rw (← c.self.view_is)
+    (c.in_ok-done.ensures.cost c.args.command.now c.in_ok-prepared.ensures.prepared)
+
+pub returns-clause-untouched : goal.returns-clause-untouched
+returns-clause-untouched g c =
+    tt
+
+pub returns-clause-stays : goal.returns-clause-stays
+returns-clause-stays g c =
+    tt
+
+pub commit-requires-clause-going : goal.commit-requires-clause-going
+commit-requires-clause-going g c = c.in_ok-prepared.ensures.going
+
+pub commit-requires-clause-prepared : goal.commit-requires-clause-prepared
+commit-requires-clause-prepared g c =
+    (c.args.command.now, c.in_ok-prepared.ensures.prepared)
