@@ -1,5 +1,5 @@
 -- What changes a carousel between its packets: when it may, and what is known of its calls.
-use Rattle.std.specs.Prelude.{◌≡◌, Bool, true, false, List, [], ◌++◌, Option, Some, None, ⊤, ⊥}
+use Rattle.std.specs.Prelude.{◌≡◌, Bool, true, false, List, [], ◌++◌, Option, Some, None, ⊤}
 use Rattle.disk_model.specs.Disk.{State}
 use Rattle.mot_base.specs.declared.refusal.Refusal.{Refusal}
 use Rattle.mot_carousel.specs.declared.command.Command.{Command}
