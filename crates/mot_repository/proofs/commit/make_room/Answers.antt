@@ -1,9 +1,127 @@
-use Rattle.std.proofs.Common.{◌∙◌, inl, inr, refl, sym, ap, subst}
-use Rattle.disk_model.proofs.Laws.{begins}
+use Rattle.std.proofs.Common.{◌≡◌, ◌∙◌, ◌+◌, ◌≤◌, ◌<◌, ℕ, false, true, inl, inr, refl, sym, ap}
+use Rattle.std.proofs.Common.{subst, arith}
+use Rattle.std.proofs.lemmas.Bool.{cases_lt, le-leb, false_from_ne_true, leb-true}
+use Rattle.std.specs.Prelude.{if◌then◌else◌, nat_le}
+use Rattle.mot_journal.specs.Slot.{slot_count}
+use Rattle.mot_repository.specs.Cost.{calls_for_room}
+use Rattle.mot_repository.proofs.Answering.{calm_where_ok, no_less}
+use Rattle.disk_model.proofs.Laws.{begins, keeps_none}
 use Rattle.mot_journal.specs.Journal.{JournalView, HoldsRecords}
 use Rattle.mot_repository.specs.Repository.{IsOf}
 use Rattle.mot_repository.proofs.Moved.{here, folds, moments, held}
 use Rattle.mot_repository.proofs.commit.make_room.Goals as goal
+
+not_both : false ≡ true → ⊥
+not_both e = cc
+
+below : (a b : ℕ) → (b ≤ a → ⊥) → a < b
+below a b not = elim (cases_lt a b) [ inl lt ↦ lt | inr le ↦ absurd (not le) ]
+
+none_more : (a n : ℕ) → n ≡ 0 → a ≡ a + n
+none_more a n none = omega arith
+
+-- the calls that make room: none while a slot is free, and otherwise those of a rewrite
+room_free : (j : JournalView) → (slot_count j.layout j.geometry ≤ j.count → ⊥)
+    → calls_for_room j ≡ 0
+room_free j free =
+    let slots = slot_count j.layout j.geometry in
+    ap (λ b. if b then slots + 3 else 0)
+    (false_from_ne_true (nat_le slots j.count) (λ e. free (leb-true slots j.count e)))
+
+room_full : (j : JournalView) → slot_count j.layout j.geometry ≤ j.count
+    → slot_count j.layout j.geometry + 3 ≡ calls_for_room j
+room_full j full =
+    let slots = slot_count j.layout j.geometry in
+    sym (ap (λ b. if b then slots + 3 else 0) (le-leb slots j.count full))
+
+pub returns-then-not-is_full-clause-keeps : goal.returns-then-not-is_full-clause-keeps
+returns-then-not-is_full-clause-keeps g c =
+    record { frame = keeps_none (g.D.Disk.state c.args.disk.now); honest = λ is. is }
+
+pub returns-then-not-is_full-clause-cause : goal.returns-then-not-is_full-clause-cause
+returns-then-not-is_full-clause-cause g c = tt
+
+pub returns-then-not-is_full-clause-calm : goal.returns-then-not-is_full-clause-calm
+returns-then-not-is_full-clause-calm g c = refl
+
+pub returns-then-not-is_full-clause-cost : goal.returns-then-not-is_full-clause-cost
+returns-then-not-is_full-clause-cost g c = record {
+  at_most = no_less _ _;
+  exact = none_more _ _
+      (room_free c.args.journal.now (λ full. not_both (c.if-not-is_full.ensures.1 full)));
+}
+
+pub returns-then-not-is_full-clause-geometry : goal.returns-then-not-is_full-clause-geometry
+returns-then-not-is_full-clause-geometry g c = refl
+
+pub returns-then-not-is_full-clause-layout : goal.returns-then-not-is_full-clause-layout
+returns-then-not-is_full-clause-layout g c = refl
+
+pub returns-then-not-is_full-clause-going : goal.returns-then-not-is_full-clause-going
+returns-then-not-is_full-clause-going g c = c.requires.going
+
+pub returns-then-not-is_full-clause-not_full : goal.returns-then-not-is_full-clause-not_full
+returns-then-not-is_full-clause-not_full g c =
+    below _ _ (λ full. not_both (c.if-not-is_full.ensures.1 full))
+
+pub returns-in_default-clause-keeps : goal.returns-in_default-clause-keeps
+returns-in_default-clause-keeps g c = c.rewrite.ensures.keeps
+
+pub returns-in_default-clause-cause : goal.returns-in_default-clause-cause
+returns-in_default-clause-cause g c =
+    let is = c.in_default.ensures.cause in
+    record { later = is.later; fits = is.fits; cause = is.cause; shown = is.shown }
+
+pub returns-in_default-clause-calm : goal.returns-in_default-clause-calm
+returns-in_default-clause-calm g c = tt
+
+pub returns-in_default-clause-cost : goal.returns-in_default-clause-cost
+returns-in_default-clause-cost g c =
+    let state = g.D.Disk.state in
+    let old = state c.args.disk.now in
+    let new = state c.rewrite.new.disk in
+    record {
+      at_most = subst (λ n. new.calls ≤ old.calls + n)
+          (room_full c.args.journal.now (c.if-not-is_full.ensures.0 refl))
+          c.in_default.ensures.cost.at_most;
+      exact = tt;
+    }
+
+pub returns-in_default-clause-geometry : goal.returns-in_default-clause-geometry
+returns-in_default-clause-geometry g c =
+    ap (λ (i : JournalView). i.geometry) c.in_default.ensures.spent
+
+pub returns-in_default-clause-layout : goal.returns-in_default-clause-layout
+returns-in_default-clause-layout g c =
+    ap (λ (i : JournalView). i.layout) c.in_default.ensures.spent
+
+pub returns-in_default-clause-room : goal.returns-in_default-clause-room
+returns-in_default-clause-room g c = λ view s k is holds fold fold'. tt
+
+pub returns-clause-keeps : goal.returns-clause-keeps
+returns-clause-keeps g c = c.rewrite.ensures.keeps
+
+pub returns-clause-calm : goal.returns-clause-calm
+returns-clause-calm g c = calm_where_ok _ c.in-Ok.ensures.cause
+
+pub returns-clause-cost : goal.returns-clause-cost
+returns-clause-cost g c =
+    let state = g.D.Disk.state in
+    let old = state c.args.disk.now in
+    let new = state c.rewrite.new.disk in
+    let full = room_full c.args.journal.now (c.if-not-is_full.ensures.0 refl) in
+    record {
+      at_most = subst (λ n. new.calls ≤ old.calls + n) full c.in-Ok.ensures.cost.at_most;
+      exact = subst (λ n. new.calls ≡ old.calls + n) full c.in-Ok.ensures.cost.exact;
+    }
+
+pub returns-clause-geometry : goal.returns-clause-geometry
+returns-clause-geometry g c =
+    ap (λ (i : JournalView). i.geometry) c.in-Ok.ensures.rewrites.moves
+
+pub returns-clause-layout : goal.returns-clause-layout
+returns-clause-layout g c =
+    ap (λ (i : JournalView). i.layout) c.in-Ok.ensures.rewrites.moves
 
 pub returns-then-not-is_full-clause-any_moment : goal.returns-then-not-is_full-clause-any_moment
 returns-then-not-is_full-clause-any_moment g c = λ view s k is holds fold fold'.
