@@ -31,7 +31,7 @@ use Rattle.mot_server.proofs.Laws.{none_of, not_halted, still_agrees}
 use Rattle.mot_session.specs.Raw.{raw_group, packets_at}
 use Rattle.mot_session.specs.Inner.Decision.{Decides, may_be_done, written_by}
 use Rattle.mot_session.specs.Session as session
-use Rattle.mot_session.specs.Session.{Reply, Answers, IsAnswer, Accepts, NeedsCarousel}
+use Rattle.mot_session.specs.Session.{Reply, Answers, IsAnswer, NeedsCarousel}
 use Rattle.mot_session.specs.Session.{decided, no_memory, accepts, refuses, fails}
 use Rattle.mot_session.specs.declared.deciding.Decision.{Decision}
 use Rattle.mot_session.specs.declared.deciding.Decision.TheVariants.{Refused, Accepted, Listing}

@@ -14,7 +14,7 @@ use Rattle.mot_lines.specs.declared.line.Line.{Line}
 use Rattle.mot_lines.specs.declared.line.Line.TheVariants as asks
 use Rattle.mot_repository.specs.Outcome.{after_command}
 use Rattle.mot_repository.proofs.Laws.{refused_so}
-use Rattle.mot_session.specs.Session.{Reply, refused, accepted, listing, packets, played, cut_short}
+use Rattle.mot_session.specs.Session.{Reply, refused, listing, packets, played, cut_short}
 use Rattle.mot_session.specs.Session.{IsCommandAnswer, accepts, refuses, fails}
 use Rattle.mot_session.specs.Session.{IsNextAnswer, IsTurnAnswer, IsAnswer, all, cut}
 use Rattle.mot_session.specs.Served.{Begins, whole, next_begun, turn_begun}

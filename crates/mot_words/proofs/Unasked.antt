@@ -44,15 +44,6 @@ no_geometry rows o a (Some g) is = tt
 no_geometry rows o a None is = λ g gives. let same = geometry_same rows o gives.0 a gives.1 in
     let none : None ≡ Some g = is ∙ same ∙ gives.2 in absurd (cc)
 
--- a number that is out of its range is one that gives no directory's id
-pub no_directory : (rows : List Row) (number : Option ℕ)
-    → IsGiven (first_of (codes "after") rows) number → None ≡ field_in number 0
-    → (directory : ℕ) → GiveDirectory rows directory → ⊥
-no_directory rows number given none directory gives =
-    let same = given_same _ number gives.0 given gives.2 in
-    let clashes : None ≡ Some gives.1 = none ∙ ap (λ n. field_in n 0) same ∙ gives.3 in
-    absurd (cc)
-
 module _ (rows : List Row) (none : (g : Geometry) → GiveGeometry rows g → ⊥) where
   -- words without a geometry ask for no disk in memory
   pub memory_needs_geometry : (name : Text) → name ≡ codes "memory" → (task : Task)
