@@ -1,4 +1,5 @@
 mod Appending
+mod Calls
 mod Decoded
 mod Encoded
 mod Fill

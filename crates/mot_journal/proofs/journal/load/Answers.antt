@@ -1,13 +1,17 @@
-use Rattle.std.proofs.Common.{◌≡◌, ℕ, ◌+◌, ◌-◌, ◌*◌, ◌≤◌, true, length, take, drop, Some, None}
-use Rattle.std.proofs.Common.{refl, sym, ◌∙◌, ap, arith, rules}
+use Rattle.std.proofs.Common.{◌≡◌, ℕ, Bool, ◌+◌, ◌-◌, ◌*◌, ◌≤◌, true, length, take, drop, Some}
+use Rattle.std.proofs.Common.{None}
+use Rattle.std.proofs.Common.{refl, sym, ◌∙◌, ap, arith, rules, subst, inl, inr, is_err, false}
+use Rattle.std.proofs.lemmas.Bool.{cases_lt}
+use Rattle.std.specs.Prelude.{Result}
+use Rattle.disk_model.specs.Failures.{HasCause, Rises}
 use Rattle.std.specs.Prelude.{slice_index, if◌then◌else◌, ◌==◌}
 use Rattle.std.proofs.Math.Nat.{mul-le-mul_left, mul_comm}
-use Rattle.disk_model.proofs.Laws.{reads_on, reads_once}
+use Rattle.disk_model.proofs.Laws.{reads_none, reads_on, reads_once}
 use Rattle.disk_model.specs.Disk.{OnlyReads}
 use Rattle.mot_base.specs.Geometry.{is_valid, length_of, half_size, half_start}
 use Rattle.mot_journal.specs.Geometry.{geometry_of}
 use Rattle.mot_journal.specs.Image.{records_of, journal_in_half}
-use Rattle.mot_journal.specs.Journal.IsLoadRefusal.{not_formatted}
+use Rattle.mot_journal.specs.Journal.IsLoadRefusal.{not_formatted, no_memory, device}
 use Rattle.mot_journal.proofs.Heads.{short_has_none}
 use Rattle.mot_journal.proofs.Loads.{told_good, geometry_told, none_formatted, half_told, on_ok}
 use Rattle.mot_journal.proofs.Loads.{chosen_one, chosen_none, load_refused_of_half, sub-same}
@@ -16,6 +20,137 @@ use Rattle.mot_journal.proofs.journal.load.Given as given
 use Rattle.mot_journal.proofs.journal.load.Goals as goal
 use Rattle.mot_journal.proofs.journal.load.Goals.{In-Some, After-read-2, After-deref-2}
 use Rattle.mot_journal.proofs.journal.load.Goals.{then-head-eq1, else-head-eq1}
+
+not_both : false ≡ true → ⊥
+not_both e = cc
+
+-- a call that did not err has not failed
+calm : {T E : Type 0} {before now : ℕ} (r : Result T E) (b : Bool) → b ≡ is_err r → b ≡ false
+    → HasCause before now r → now ≡ before
+calm {T} {E} {before} {now} r b is isnt cause = elim (cases_lt before now) [
+  | inl lt ↦ absurd (not_both (sym isnt ∙ is ∙ cause.shown (inl lt)))
+  | inr le ↦ let later = cause.later in omega (arith, le, later)
+]
+
+no_less : (a : ℕ) → a ≤ a + 2
+no_less a = omega arith
+
+once : (old new : ℕ) → new ≡ old + 1 → new ≤ old + 2
+once old new e = omega arith
+
+twice : (old mid new : ℕ) → mid ≡ old + 1 → new ≡ mid + 1 → new ≡ old + 2
+twice old mid new e f = omega arith
+
+at_most_twice : (old mid new : ℕ) → mid ≡ old + 1 → new ≡ mid + 1 → new ≤ old + 2
+at_most_twice old mid new e f = omega arith
+
+pub returns-then-len-clause-only_reads : goal.returns-then-len-clause-only_reads
+returns-then-len-clause-only_reads g c = reads_none (g.D.Disk.state c.args.disk.now)
+
+pub returns-then-len-clause-calm : goal.returns-then-len-clause-calm
+returns-then-len-clause-calm g c = inr refl
+
+pub returns-then-len-clause-cost : goal.returns-then-len-clause-cost
+returns-then-len-clause-cost g c = record { at_most = no_less _; exact = tt }
+
+pub returns-then-is_err-clause-only_reads : goal.returns-then-is_err-clause-only_reads
+returns-then-is_err-clause-only_reads g c =
+    reads_once (g.D.Disk.state c.args.disk.now) (g.D.Disk.state c.read.new.self)
+    c.read.ensures.keeps c.read.ensures.unchanged
+
+pub returns-then-is_err-clause-calm : goal.returns-then-is_err-clause-calm
+returns-then-is_err-clause-calm g c = inl refl
+
+pub returns-then-is_err-clause-cost : goal.returns-then-is_err-clause-cost
+returns-then-is_err-clause-cost g c = record {
+  at_most = once _ _ c.read.ensures.called;
+  exact =
+      tt;
+}
+
+pub returns-then-is_err-clause-refused : goal.returns-then-is_err-clause-refused
+returns-then-is_err-clause-refused g c =
+    device refl (c.read.ensures.cause.cause (sym c.is_err.ensures.value ∙ c.if-is_err.true))
+
+pub returns-in_default-clause-only_reads : goal.returns-in_default-clause-only_reads
+returns-in_default-clause-only_reads g c =
+    reads_once (g.D.Disk.state c.args.disk.now) (g.D.Disk.state c.read.new.self)
+    c.read.ensures.keeps c.read.ensures.unchanged
+
+pub returns-in_default-clause-calm : goal.returns-in_default-clause-calm
+returns-in_default-clause-calm g c =
+    inr (calm c.read.result c.is_err.result c.is_err.ensures.value c.if-is_err.false
+    c.read.ensures.cause)
+
+pub returns-in_default-clause-cost : goal.returns-in_default-clause-cost
+returns-in_default-clause-cost g c = record { at_most = once _ _ c.read.ensures.called; exact = tt }
+
+pub returns-in_default-vec-clause-only_reads : goal.returns-in_default-vec-clause-only_reads
+returns-in_default-vec-clause-only_reads g c =
+    reads_once (g.D.Disk.state c.args.disk.now) (g.D.Disk.state c.read.new.self)
+    c.read.ensures.keeps c.read.ensures.unchanged
+
+pub returns-in_default-vec-clause-calm : goal.returns-in_default-vec-clause-calm
+returns-in_default-vec-clause-calm g c =
+    inr (calm c.read.result c.is_err.result c.is_err.ensures.value c.if-is_err.false
+    c.read.ensures.cause)
+
+pub returns-in_default-vec-clause-cost : goal.returns-in_default-vec-clause-cost
+returns-in_default-vec-clause-cost g c =
+    record { at_most = once _ _ c.read.ensures.called; exact = tt }
+
+pub returns-in_default-vec-clause-refused : goal.returns-in_default-vec-clause-refused
+returns-in_default-vec-clause-refused g c = no_memory refl
+
+pub returns-then-is_err-2-clause-calm : goal.returns-then-is_err-2-clause-calm
+returns-then-is_err-2-clause-calm g c = inl refl
+
+pub returns-then-is_err-2-clause-cost : goal.returns-then-is_err-2-clause-cost
+returns-then-is_err-2-clause-cost g c =
+    record {
+      at_most = at_most_twice _ _ _ c.read.ensures.called c.read-2.ensures.called;
+      exact = tt;
+    }
+
+pub returns-then-is_err-2-clause-refused : goal.returns-then-is_err-2-clause-refused
+returns-then-is_err-2-clause-refused g c =
+    device refl (subst (λ n. Rises n (g.D.Disk.state c.read-2.new.self).failures)
+    (calm c.read.result c.is_err.result c.is_err.ensures.value c.if-is_err.false
+    c.read.ensures.cause)
+    (c.read-2.ensures.cause.cause (sym c.is_err-2.ensures.value ∙ c.if-is_err-2.true)))
+
+pub returns-in-Ok-records_of_half-clause-calm : goal.returns-in-Ok-records_of_half-clause-calm
+returns-in-Ok-records_of_half-clause-calm g c =
+    calm c.read-2.result c.is_err-2.result c.is_err-2.ensures.value c.if-is_err-2.false
+    c.read-2.ensures.cause
+    ∙ calm c.read.result c.is_err.result c.is_err.ensures.value c.if-is_err.false
+    c.read.ensures.cause
+
+pub returns-in-Ok-records_of_half-clause-cost : goal.returns-in-Ok-records_of_half-clause-cost
+returns-in-Ok-records_of_half-clause-cost g c = record {
+  at_most = at_most_twice _ _ _ c.read.ensures.called c.read-2.ensures.called;
+  exact = twice _ _ _ c.read.ensures.called c.read-2.ensures.called;
+}
+
+pub returns-in-Ok-records_of_half-clause-few : goal.returns-in-Ok-records_of_half-clause-few
+returns-in-Ok-records_of_half-clause-few g c = c.in-Ok-records_of_half.ensures.few
+
+pub returns-in-Ok-records_of_half-clause-sound : goal.returns-in-Ok-records_of_half-clause-sound
+returns-in-Ok-records_of_half-clause-sound g c = c.in-Ok-records_of_half.ensures.sound
+
+pub returns-clause-calm : goal.returns-clause-calm
+returns-clause-calm g c =
+    inr (calm c.read-2.result c.is_err-2.result c.is_err-2.ensures.value c.if-is_err-2.false
+    c.read-2.ensures.cause
+    ∙ calm c.read.result c.is_err.result c.is_err.ensures.value c.if-is_err.false
+    c.read.ensures.cause)
+
+pub returns-clause-cost : goal.returns-clause-cost
+returns-clause-cost g c =
+    record {
+      at_most = at_most_twice _ _ _ c.read.ensures.called c.read-2.ensures.called;
+      exact = tt;
+    }
 
 pub returns-then-len-clause-refused : goal.returns-then-len-clause-refused
 returns-then-len-clause-refused g c =

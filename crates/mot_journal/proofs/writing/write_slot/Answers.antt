@@ -1,4 +1,7 @@
-use Rattle.std.proofs.Common.{◌<◌, length, arith}
+use Rattle.std.proofs.Common.{◌<◌, ◌∙◌, length, refl, arith}
+use Rattle.std.proofs.lemmas.Result.{IfOk-from_err}
+use Rattle.disk_model.proofs.Laws.{keeps_all_on}
+use Rattle.mot_journal.proofs.Calls.{calm, fails, succeeds, one_more, costs_failed, costs_all}
 use Rattle.mot_journal.proofs.SlotWrite.{tail_whole, Found, to_sync, to_open, to_end, written}
 use Rattle.mot_journal.proofs.writing.write_slot.Given as given
 use Rattle.mot_journal.proofs.writing.write_slot.Goals as goal
@@ -65,3 +68,127 @@ returns-clause-ok g c = λ honest.
     (c.sync-2.ensures.still before.still_honest)
     (g.met.D.Disk.sound c.sync-2.new.self (c.sync-2.ensures.keeps.honest before.still_honest))
     (c.in_ok-sync-2.ensures.firm before.still_honest)
+
+pub returns-in_err-write-clause-keeps : goal.returns-in_err-write-clause-keeps
+returns-in_err-write-clause-keeps g c =
+    c.write.ensures.keeps
+
+pub returns-in_err-write-clause-cause : goal.returns-in_err-write-clause-cause
+returns-in_err-write-clause-cause g c =
+    fails c.from_residual.result c.from_residual.ensures.0
+    refl
+    c.in_err-write.ensures.cause
+
+pub returns-in_err-write-clause-cost : goal.returns-in_err-write-clause-cost
+returns-in_err-write-clause-cost g c =
+    let state = g.D.Disk.state in
+    costs_failed 4 1 (state c.args.disk.now) (state c.write.new.self) c.from_residual.result
+    c.from_residual.ensures.0 (omega arith)
+    c.write.ensures.called
+
+pub returns-in_err-write-clause-ok : goal.returns-in_err-write-clause-ok
+returns-in_err-write-clause-ok g c = λ honest.
+    IfOk-from_err c.from_residual.result _ c.from_residual.ensures.0
+
+pub returns-in_err-sync-clause-keeps : goal.returns-in_err-sync-clause-keeps
+returns-in_err-sync-clause-keeps g c =
+    let state = g.D.Disk.state in
+    keeps_all_on (state c.args.disk.now) (state c.write.new.self) (state c.sync.new.self)
+    c.write.ensures.keeps c.sync.ensures.keeps
+
+pub returns-in_err-sync-clause-cause : goal.returns-in_err-sync-clause-cause
+returns-in_err-sync-clause-cause g c =
+    fails c.from_residual-in_err-sync.result c.from_residual-in_err-sync.ensures.0
+    (calm c.in_ok-write.ensures.cause)
+    c.in_err-sync.ensures.cause
+
+pub returns-in_err-sync-clause-cost : goal.returns-in_err-sync-clause-cost
+returns-in_err-sync-clause-cost g c =
+    let state = g.D.Disk.state in
+    costs_failed 4 2 (state c.args.disk.now) (state c.sync.new.self)
+    c.from_residual-in_err-sync.result
+    c.from_residual-in_err-sync.ensures.0 (omega arith)
+    (one_more _ _ _ 1 c.write.ensures.called c.sync.ensures.called)
+
+pub returns-in_err-sync-clause-ok : goal.returns-in_err-sync-clause-ok
+returns-in_err-sync-clause-ok g c = λ honest.
+    IfOk-from_err c.from_residual-in_err-sync.result _ c.from_residual-in_err-sync.ensures.0
+
+pub returns-in_err-write-2-clause-keeps : goal.returns-in_err-write-2-clause-keeps
+returns-in_err-write-2-clause-keeps g c =
+    let state = g.D.Disk.state in
+    keeps_all_on (state c.args.disk.now) (state c.sync.new.self) (state c.write-2.new.self)
+    (keeps_all_on (state c.args.disk.now) (state c.write.new.self) (state c.sync.new.self)
+    c.write.ensures.keeps c.sync.ensures.keeps) c.write-2.ensures.keeps
+
+pub returns-in_err-write-2-clause-cause : goal.returns-in_err-write-2-clause-cause
+returns-in_err-write-2-clause-cause g c =
+    fails c.from_residual-in_err-write-2.result c.from_residual-in_err-write-2.ensures.0
+    (calm c.in_ok-sync.ensures.cause
+    ∙ calm c.in_ok-write.ensures.cause)
+    c.in_err-write-2.ensures.cause
+
+pub returns-in_err-write-2-clause-cost : goal.returns-in_err-write-2-clause-cost
+returns-in_err-write-2-clause-cost g c =
+    let state = g.D.Disk.state in
+    costs_failed 4 3 (state c.args.disk.now) (state c.write-2.new.self)
+    c.from_residual-in_err-write-2.result
+    c.from_residual-in_err-write-2.ensures.0 (omega arith)
+    (one_more _ _ _ 2 (one_more _ _ _ 1 c.write.ensures.called c.sync.ensures.called)
+    c.write-2.ensures.called)
+
+pub returns-in_err-write-2-clause-ok : goal.returns-in_err-write-2-clause-ok
+returns-in_err-write-2-clause-ok g c = λ honest.
+    IfOk-from_err c.from_residual-in_err-write-2.result _ c.from_residual-in_err-write-2.ensures.0
+
+pub returns-in_err-sync-2-clause-keeps : goal.returns-in_err-sync-2-clause-keeps
+returns-in_err-sync-2-clause-keeps g c =
+    let state = g.D.Disk.state in
+    keeps_all_on (state c.args.disk.now) (state c.write-2.new.self) (state c.sync-2.new.self)
+    (keeps_all_on (state c.args.disk.now) (state c.sync.new.self) (state c.write-2.new.self)
+    (keeps_all_on (state c.args.disk.now) (state c.write.new.self) (state c.sync.new.self)
+    c.write.ensures.keeps c.sync.ensures.keeps) c.write-2.ensures.keeps) c.sync-2.ensures.keeps
+
+pub returns-in_err-sync-2-clause-cause : goal.returns-in_err-sync-2-clause-cause
+returns-in_err-sync-2-clause-cause g c =
+    fails c.from_residual-in_err-sync-2.result c.from_residual-in_err-sync-2.ensures.0
+    (calm c.in_ok-write-2.ensures.cause
+    ∙ calm c.in_ok-sync.ensures.cause
+    ∙ calm c.in_ok-write.ensures.cause)
+    c.in_err-sync-2.ensures.cause
+
+pub returns-in_err-sync-2-clause-cost : goal.returns-in_err-sync-2-clause-cost
+returns-in_err-sync-2-clause-cost g c =
+    let state = g.D.Disk.state in
+    costs_failed 4 4 (state c.args.disk.now) (state c.sync-2.new.self)
+    c.from_residual-in_err-sync-2.result
+    c.from_residual-in_err-sync-2.ensures.0 (omega arith)
+    (one_more _ _ _ 3 (one_more _ _ _ 2 (one_more _ _ _ 1 c.write.ensures.called
+    c.sync.ensures.called) c.write-2.ensures.called) c.sync-2.ensures.called)
+
+pub returns-in_err-sync-2-clause-ok : goal.returns-in_err-sync-2-clause-ok
+returns-in_err-sync-2-clause-ok g c = λ honest.
+    IfOk-from_err c.from_residual-in_err-sync-2.result _ c.from_residual-in_err-sync-2.ensures.0
+
+pub returns-clause-keeps : goal.returns-clause-keeps
+returns-clause-keeps g c =
+    let state = g.D.Disk.state in
+    keeps_all_on (state c.args.disk.now) (state c.write-2.new.self) (state c.sync-2.new.self)
+    (keeps_all_on (state c.args.disk.now) (state c.sync.new.self) (state c.write-2.new.self)
+    (keeps_all_on (state c.args.disk.now) (state c.write.new.self) (state c.sync.new.self)
+    c.write.ensures.keeps c.sync.ensures.keeps) c.write-2.ensures.keeps) c.sync-2.ensures.keeps
+
+pub returns-clause-cause : goal.returns-clause-cause
+returns-clause-cause g c =
+    succeeds
+    (calm c.in_ok-write-2.ensures.cause
+    ∙ calm c.in_ok-sync.ensures.cause
+    ∙ calm c.in_ok-write.ensures.cause)
+    c.in_ok-sync-2.ensures.cause
+
+pub returns-clause-cost : goal.returns-clause-cost
+returns-clause-cost g c =
+    let state = g.D.Disk.state in
+    costs_all 4 (state c.args.disk.now) (state c.sync-2.new.self)
+    (one_more _ _ _ 3 (one_more _ _ _ 2 (one_more _ _ _ 1 c.write.ensures.called
+    c.sync.ensures.called) c.write-2.ensures.called) c.sync-2.ensures.called)

@@ -1,0 +1,53 @@
+-- What a run of calls of a disk keeps, costs and tells of failures.
+use Rattle.std.proofs.Common.{◌≡◌, ℕ, ◌+◌, ◌≤◌, false, true, Result, Ok, Err, inl, inr, refl, sym}
+use Rattle.std.proofs.Common.{subst, arith}
+use Rattle.std.specs.Prelude.{IsErr}
+use Rattle.std.proofs.lemmas.Bool.{cases_lt}
+use Rattle.std.proofs.lemmas.Result.{IfOk-from_err}
+use Rattle.disk_model.specs.Disk.{State, Costs}
+use Rattle.disk_model.specs.Failures.{HasCause, Rises}
+
+not_both : false ≡ true → ⊥
+not_both e = cc
+
+-- a call that succeeded has not failed
+pub calm : {T E : Type 0} {before now : ℕ} {v : T} → HasCause {E = E} before now (Ok v)
+    → now ≡ before
+calm {before = before} {now} cause = elim (cases_lt before now) [
+  | inl lt ↦ absurd (not_both (cause.shown (inl lt)))
+  | inr le ↦ let later = cause.later in omega (arith, le, later)
+]
+
+-- calls that succeeded, and then one that failed, have its cause
+pub fails : {T A E F : Type 0} {old mid new : ℕ} {e : E} (r : Result A F) → IsErr r → mid ≡ old
+    → HasCause {T = T} mid new (Err e) → HasCause old new r
+fails {old = old} {mid} {new} r err same cause = record {
+  later = let later = cause.later in omega (arith, later, same);
+  fits = cause.fits;
+  cause = λ is. subst (λ n. Rises n new) same (cause.cause refl);
+  shown = λ rises. err;
+}
+
+-- calls that all succeeded have no cause
+pub succeeds : {T A E F : Type 0} {old mid new : ℕ} {v : T} {w : A} → mid ≡ old
+    → HasCause {E = E} mid new (Ok v) → HasCause {E = F} old new (Ok w)
+succeeds {old = old} {mid} {new} same cause = record {
+  later = let later = cause.later in omega (arith, later, same);
+  fits = cause.fits;
+  cause = λ is. absurd (not_both is);
+  shown = λ rises. cause.shown (subst (λ n. Rises n new) (sym same) rises);
+}
+
+-- one call more
+pub one_more : (a b c k : ℕ) → b ≡ a + k → c ≡ b + 1 → c ≡ a + (k + 1)
+one_more a b c k e f = omega arith
+
+-- fewer calls than a whole run makes, the last of which failed
+pub costs_failed : {A F : Type 0} (n k : ℕ) (old new : State) (r : Result A F) → IsErr r → k ≤ n
+    → new.calls ≡ old.calls + k → Costs n old new r
+costs_failed n k old new r err le called =
+    record { at_most = omega (arith, le, called); exact = IfOk-from_err r _ err }
+
+pub costs_all : {A F : Type 0} {w : A} (n : ℕ) (old new : State)
+    → new.calls ≡ old.calls + n → Costs {E = F} n old new (Ok w)
+costs_all n old new called = record { at_most = omega (arith, called); exact = called }
