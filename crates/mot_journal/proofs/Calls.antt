@@ -1,11 +1,13 @@
 -- What a run of calls of a disk keeps, costs and tells of failures.
-use Rattle.std.proofs.Common.{◌≡◌, ℕ, ◌+◌, ◌≤◌, false, true, Result, Ok, Err, inl, inr, refl, sym}
+use Rattle.std.proofs.Common.{◌≡◌, ℕ, ◌+◌, ◌≤◌, ◌<◌, false, true, Result, Ok, Err, inl, inr, refl}
+use Rattle.std.proofs.Common.{sym}
 use Rattle.std.proofs.Common.{subst, arith}
 use Rattle.std.specs.Prelude.{IsErr}
 use Rattle.std.proofs.lemmas.Bool.{cases_lt}
 use Rattle.std.proofs.lemmas.Result.{IfOk-from_err}
 use Rattle.disk_model.specs.Disk.{State, Costs}
 use Rattle.disk_model.specs.Failures.{HasCause, Rises}
+use Rattle.mot_journal.specs.Inner.Steps.{HasCauseOf}
 
 not_both : false ≡ true → ⊥
 not_both e = cc
@@ -51,3 +53,41 @@ costs_failed n k old new r err le called =
 pub costs_all : {A F : Type 0} {w : A} (n : ℕ) (old new : State)
     → new.calls ≡ old.calls + n → Costs {E = F} n old new (Ok w)
 costs_all n old new called = record { at_most = omega (arith, called); exact = called }
+
+-- one call is a run
+pub as_run : {T E : Type 0} {old new : State} {r : Result T E}
+    → HasCause old.failures new.failures r → HasCauseOf old new r
+as_run cause = record {
+  later = cause.later;
+  fits = λ is. cause.fits;
+  cause = cause.cause;
+  shown = λ less. cause.shown (inl less);
+}
+
+-- a run that succeeded has not failed
+pub calm_of : {T E : Type 0} {old new : State} {v : T} → HasCauseOf {E = E} old new (Ok v)
+    → new.failures ≡ old.failures
+calm_of {old = old} {new} cause = elim (cases_lt old.failures new.failures) [
+  | inl lt ↦ absurd (not_both (cause.shown lt))
+  | inr le ↦ let later = cause.later in omega (arith, le, later)
+]
+
+-- a run behind one that succeeded
+pub fails_of : {T A E F : Type 0} {old mid new : State} {e : E} (r : Result A F) → IsErr r
+    → mid.failures ≡ old.failures → HasCauseOf {T = T} mid new (Err e) → HasCauseOf old new r
+fails_of {old = old} {mid} {new} r err same cause = record {
+  later = let later = cause.later in omega (arith, later, same);
+  fits = λ is. cause.fits refl;
+  cause = λ is. subst (λ n. Rises n new.failures) same (cause.cause refl);
+  shown = λ less. err;
+}
+
+pub succeeds_of : {T A E F : Type 0} {old mid new : State} {v : T} {w : A}
+    → mid.failures ≡ old.failures → HasCauseOf {E = E} mid new (Ok v)
+    → HasCauseOf {E = F} old new (Ok w)
+succeeds_of {old = old} {mid} {new} same cause = record {
+  later = let later = cause.later in omega (arith, later, same);
+  fits = λ is. absurd (not_both is);
+  cause = λ is. absurd (not_both is);
+  shown = λ less. cause.shown (subst (λ n. n < new.failures) (sym same) less);
+}

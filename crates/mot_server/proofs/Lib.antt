@@ -8,6 +8,7 @@ pub mod Lives
 pub mod Openings
 pub mod Places
 pub mod Read
+pub mod ReadRefusals
 pub mod RunAnswered
 pub mod Runs
 pub mod Survival
