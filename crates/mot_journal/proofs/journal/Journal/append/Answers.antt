@@ -1,3 +1,5 @@
+use Rattle.std.proofs.lemmas.Result.{IfOk-from_err, MatchResult-from_err}
+use Rattle.mot_journal.proofs.Calls.{fails, succeeds}
 use Rattle.std.proofs.Common.{◌≡◌, ◌≤◌, true, List, ◌++◌, [], ◌∷◌, length, Some, Ok, refl, sym}
 use Rattle.std.proofs.Common.{◌∙◌, ap, subst, arith, length-append}
 use Rattle.disk_model.specs.Disk.{Throughout}
@@ -97,3 +99,52 @@ returns-clause-area g c = λ records holds fold image left.
     let written = rw (c.next_place-place.ensures.value, c.deref.ensures.0, slot_is g from)
     at (c.in_ok-write_slot.ensures.ok holds.honest) in
     (with_slot _ _ _ _ (found g from records holds fold) image (written image left)).1
+
+pub returns-in_err-write_slot-clause-keeps : goal.returns-in_err-write_slot-clause-keeps
+returns-in_err-write_slot-clause-keeps g c =
+    c.write_slot.ensures.keeps
+
+pub returns-in_err-write_slot-clause-cause : goal.returns-in_err-write_slot-clause-cause
+returns-in_err-write_slot-clause-cause g c =
+    fails c.from_residual.result c.from_residual.ensures.0 refl c.in_err-write_slot.ensures.cause
+
+pub returns-in_err-write_slot-clause-cost : goal.returns-in_err-write_slot-clause-cost
+returns-in_err-write_slot-clause-cost g c =
+    record {
+      at_most = c.write_slot.ensures.cost.at_most;
+      exact = IfOk-from_err
+          c.from_residual.result _ c.from_residual.ensures.0;
+    }
+
+pub returns-in_err-write_slot-clause-spent : goal.returns-in_err-write_slot-clause-spent
+returns-in_err-write_slot-clause-spent g c =
+    MatchResult-from_err c.from_residual.result _ _ c.from_residual.ensures.0 (λ fault. rw (←
+    c.self.view_is) refl)
+
+pub returns-in_err-write_slot-clause-added : goal.returns-in_err-write_slot-clause-added
+returns-in_err-write_slot-clause-added g c =
+    IfOk-from_err c.from_residual.result _ c.from_residual.ensures.0
+
+pub returns-in_err-write_slot-clause-ok : goal.returns-in_err-write_slot-clause-ok
+returns-in_err-write_slot-clause-ok g c =
+    λ records holds folds. IfOk-from_err c.from_residual.result _ c.from_residual.ensures.0
+
+pub returns-in_err-write_slot-clause-area : goal.returns-in_err-write_slot-clause-area
+returns-in_err-write_slot-clause-area g c =
+    λ records holds folds. IfOk-from_err c.from_residual.result _ c.from_residual.ensures.0
+
+pub returns-clause-keeps : goal.returns-clause-keeps
+returns-clause-keeps g c =
+    c.write_slot.ensures.keeps
+
+pub returns-clause-cause : goal.returns-clause-cause
+returns-clause-cause g c =
+    succeeds refl c.in_ok-write_slot.ensures.cause
+
+pub returns-clause-cost : goal.returns-clause-cost
+returns-clause-cost g c =
+    let is = c.in_ok-write_slot.ensures.cost in record { at_most = is.at_most; exact = is.exact }
+
+pub returns-clause-spent : goal.returns-clause-spent
+returns-clause-spent g c =
+    tt
