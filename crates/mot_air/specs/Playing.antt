@@ -9,11 +9,12 @@ use Rattle.mot_feed.specs.Feeding.{AreOf, AreTimely, CallsPart, Event, Happen}
 use Rattle.mot_feed.specs.Feeding.{commands_among, has_ended, moments_of, turns_in}
 use Rattle.mot_feed.specs.Writing.{GrowsPart}
 use Rattle.mot_journal.specs.Image.{Standing}
+use Rattle.mot_packets.specs.Outlet.{Grows}
 use Rattle.mot_player.specs.Continuity.{IsContinuous}
 use Rattle.mot_player.specs.Place.{Place}
 use Rattle.mot_reading.specs.Opening.{IsUnopened, OfStanding, first_place}
 use Rattle.mot_server.specs.Runs.{accepted_commands}
-use Rattle.mot_update.specs.Between.{BetweenTurns, Grows, Never, When}
+use Rattle.mot_update.specs.Between.{BetweenTurns, Never, When}
 
 -- when a folder, where there is one, may change the carousel that is played
 abbrev pub when_followed : {F : Type 0} → (folder : Option F) → When

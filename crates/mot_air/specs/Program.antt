@@ -20,7 +20,7 @@ use Rattle.mot_base.specs.declared.refusal.Refusal.TheVariants.{WriteFault}
 use Rattle.mot_update.specs.Between.{Always, When}
 use Rattle.mot_files.specs.Lines.{IsUnlined}
 use Rattle.mot_files.specs.Packets.{IsTarget}
-use Rattle.mot_folder.specs.Types.{IsTypesRefusal}
+use Rattle.mot_files.specs.Types.{IsUntyped}
 use Rattle.mot_reading.specs.Exporting.{Exports, StopsExporting}
 use Rattle.mot_reading.specs.Inspecting.{Inspects, StopsInspecting}
 use Rattle.mot_words.specs.Air.Command.{air_app}
@@ -114,12 +114,6 @@ module _ {S : Type 0} {start : Ghosts S} where
   pub record IsUntold (used : AirDisk S start) (old new : Option (List ℕ)) : Type 0 where
     pub untouched : IsUntouched used
     pub silent : Keeps old new
-
--- why there is no table of suffixes: there is no memory for it; or the file that adds some, where
--- one is given, can't be read, or a line of it is wrong
-abbrev pub IsUntyped : {A : Type 0} → (types : Option A) → Refusal → Type 0
-IsUntyped None r = r ≡ OutOfMemory
-IsUntyped (Some types) r = (r ≡ ReadFault) ⊎ IsTypesRefusal r
 
 -- why a task is not begun: there is no table of suffixes, or no folder of lines, or the disk, or
 -- what is to take the packets, can't be opened

@@ -9,11 +9,11 @@ use Rattle.mot_base.specs.declared.refusal.Refusal.{Refusal}
 use Rattle.mot_base.specs.declared.refusal.Refusal.TheVariants.{OutOfMemory, ReadFault, WriteFault}
 use Rattle.mot_carousel.specs.declared.command.Command.{Command}
 use Rattle.mot_folder.specs.Log.{LogEntry, entry, log_entry_of, log_line, of_look}
-use Rattle.mot_folder.specs.Types.{AreShown}
 use Rattle.mot_journal.specs.Image.{Standing}
 use Rattle.mot_reading.specs.Opening.{IsUnopened, OfStanding}
 use Rattle.mot_repository.specs.Repository.{IsOf}
 use Rattle.mot_server.specs.declared.running.Attempt.TheVariants.{Refused}
+use Rattle.mot_suffixes.specs.Types.{AreShown}
 use Rattle.mot_update.specs.Laws.{IsUpdate, IsUpdated, names_of}
 use Rattle.mot_update.specs.Told.{Answer, AreAnswers}
 use Rattle.mot_update.specs.Updating.{updating}

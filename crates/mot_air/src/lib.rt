@@ -6,7 +6,6 @@ mod on_air;
 mod playing;
 mod program;
 mod subject;
-mod types;
 mod used;
 
 pub use mot_files::{LineFolder, Target};

@@ -7,7 +7,7 @@ use std::rc::Rc;
 
 /// Bytes that don't change: those of a text that was just made stand alone; its copies stand
 /// together, so that a copy of a copy takes no memory.
-#[derive(Debug, Drop)]
+#[derive(Drop)]
 pub(crate) enum Text {
     Alone(Vec<u8>),
     Together(Rc<Vec<u8>>),

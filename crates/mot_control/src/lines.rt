@@ -2,8 +2,8 @@
 ghost use Rattle.std.specs.Prelude.{◌≡◌, ◌<◌, ◌-◌, ◌∷◌, ℕ, List, [], true, OnOk};
 ghost use Rattle.disk_model.specs.Disk.{KeepsLength};
 ghost use Rattle.mot_control.specs.Answering.{TakesBetween};
+ghost use Rattle.mot_packets.specs.Outlet.{Grows};
 ghost use Rattle.mot_update.specs.Between.{Always, IsUpdating, may_change};
-ghost use Rattle.mot_update.specs.Between.{Grows};
 ghost use Rattle.mot_server.specs.Attempts.{fault_of};
 ghost use Rattle.mot_journal.specs.Image.{Standing};
 ghost use Rattle.mot_lines.specs.Hand.{bytes_in_hand};

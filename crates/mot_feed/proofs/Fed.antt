@@ -15,6 +15,7 @@ use Rattle.mot_carousel.specs.Carousel.{Carousel, carousel_after, carousel_if_ac
 use Rattle.mot_carousel.specs.declared.command.Command.{Command}
 use Rattle.mot_feed.specs.Feeding.{AreOf, AreTimely, Event, FedPacketsAreContinuous}
 use Rattle.mot_feed.specs.Feeding.{Feeds, FeedsPart, Happen, HasFed}
+use Rattle.mot_packets.specs.Outlet.{Grows}
 use Rattle.mot_update.specs.Between.{IsUpdating, When}
 use Rattle.mot_feed.specs.Feeding.{commands_among, are_uncut, has_ended, moments_of}
 use Rattle.mot_update.specs.Between.{may_change}
@@ -24,7 +25,6 @@ use Rattle.mot_feed.specs.Feeding.Event.{Accepted, Played}
 use Rattle.mot_feed.specs.Sending.{SendsPacket}
 use Rattle.mot_feed.specs.Sending as one
 use Rattle.mot_feed.specs.Writing.{GrowsPart}
-use Rattle.mot_update.specs.Between.{Grows}
 use Rattle.mot_feed.specs.Writing as part
 use Rattle.mot_feed.proofs.Grown.{grows_nil, grows_trans, grows_kept, part_after}
 use Rattle.mot_feed.proofs.Sent.{not_fine, same_refusal}

@@ -3,7 +3,7 @@ use Rattle.std.proofs.Common.{ℕ, List, [], ◌∷◌, ◌++◌, take, Option, 
 use Rattle.std.proofs.Common.{sym, ap, ◌∙◌, subst, append_assoc, append-nil}
 use Rattle.mot_base.specs.declared.refusal.Refusal.{Refusal}
 use Rattle.mot_feed.specs.Writing.{GrowsPart, whole, short}
-use Rattle.mot_update.specs.Between.{Grows}
+use Rattle.mot_packets.specs.Outlet.{Grows}
 
 -- what is known goes on by nothing
 pub grows_nil : {A : Type 0} (a : Option (List A)) → Grows a a []

@@ -4,6 +4,7 @@ use Rattle.std.proofs.Common.{Option, Some, Result, Ok, Err, take, refl, sym, ap
 use Rattle.std.proofs.Common.{add-one}
 use Rattle.std.specs.Prelude.{◌≢◌, IsFalse, IsTrue}
 use Rattle.mot_journal.specs.Image.{Standing}
+use Rattle.mot_packets.specs.Outlet.{Grows}
 use Rattle.mot_player.specs.PlayerView as player
 use Rattle.mot_repository.specs.Repository.{RepositoryView}
 use Rattle.mot_server.specs.Server.{ServerView, bodies_of, place_in}
@@ -15,7 +16,6 @@ use Rattle.mot_base.specs.declared.refusal.Refusal.TheVariants.{WriteFault}
 use Rattle.mot_feed.specs.Sending.{IsSendFault, SendsPackets, SendsPacket, SendsPart}
 use Rattle.mot_feed.specs.Sending as one
 use Rattle.mot_feed.specs.Writing.{GrowsPart}
-use Rattle.mot_update.specs.Between.{Grows}
 use Rattle.mot_feed.specs.Writing as part
 use Rattle.mot_feed.proofs.Grown.{grows_nil, grows_trans, grows_kept}
 use Rattle.mot_packets.specs.Packet.{PacketFields, read_packet}

@@ -10,6 +10,7 @@ use Rattle.mot_carousel.specs.declared.command.Command.{Command}
 use Rattle.mot_feed.specs.Sending.{IsSendFault}
 use Rattle.mot_feed.specs.Writing.{GrowsPart}
 use Rattle.mot_journal.specs.Image.{Standing}
+use Rattle.mot_packets.specs.Outlet.{Grows}
 use Rattle.mot_player.specs.Continuity.{IsContinuous}
 use Rattle.mot_player.specs.Laws.{AreSent}
 use Rattle.mot_player.specs.Place.{Place, Sent, change_turn, opened_place, request}
@@ -18,7 +19,7 @@ use Rattle.mot_player.specs.Turn.{Turn, turn_of_carousel}
 use Rattle.mot_server.specs.RunEnds.{RunLeaves}
 use Rattle.mot_server.specs.Runs.{accepted_commands}
 use Rattle.mot_server.specs.Server.{ServerView, place_in}
-use Rattle.mot_update.specs.Between.{Always, BetweenTurns, Grows, Never, When}
+use Rattle.mot_update.specs.Between.{Always, BetweenTurns, Never, When}
 use Rattle.mot_update.specs.Faults.{IsUpdateFault}
 
 -- what happens while a server is fed from: a command is accepted, or a packet is sent

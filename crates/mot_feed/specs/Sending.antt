@@ -6,7 +6,7 @@ use Rattle.disk_model.specs.Failures.{Rises}
 use Rattle.mot_base.specs.declared.refusal.Refusal.{Refusal}
 use Rattle.mot_base.specs.declared.refusal.Refusal.TheVariants.{DeviceFault, Halted, WriteFault}
 use Rattle.mot_feed.specs.Writing.{GrowsPart}
-use Rattle.mot_update.specs.Between.{Grows}
+use Rattle.mot_packets.specs.Outlet.{Grows}
 use Rattle.mot_player.specs.Laws.{IsStep}
 use Rattle.mot_player.specs.Place.{Place}
 use Rattle.mot_server.specs.Playing.{HasPlayed}

@@ -2,7 +2,7 @@
 use Rattle.std.specs.Prelude.{◌≡◌, ◌≢◌, ℕ, ◌<◌, List, [], ◌∷◌, ◌++◌, length, take, Option, Some}
 use Rattle.mot_base.specs.declared.refusal.Refusal.{Refusal}
 use Rattle.mot_base.specs.declared.refusal.Refusal.TheVariants.{WriteFault}
-use Rattle.mot_update.specs.Between.{Grows}
+use Rattle.mot_packets.specs.Outlet.{Grows}
 
 -- What writing packets leaves that this refusal ended: all of them were written, each in one write;
 -- or, where a write failed, all but the last, of which one write took less than the whole.

@@ -2,9 +2,8 @@
 #![tactic(auto)]
 
 mod feeding;
-mod outlet;
 mod sending;
 
 pub use feeding::feed;
-pub use outlet::{Direct, Outlet};
+pub use mot_packets::{Direct, Outlet};
 pub use sending::send_packets;

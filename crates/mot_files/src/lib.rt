@@ -1,5 +1,5 @@
-//! The files around a disk that is played: what its packets go to, where lines come from, and why
-//! one of them can't be used.
+//! The files around a disk that is played: what its packets go to, where lines come from, which
+//! suffixes one adds, and why one of them can't be used.
 #![tactic(auto)]
 
 mod beside;
@@ -8,6 +8,7 @@ mod lines;
 mod log;
 mod packets;
 mod spool;
+mod types;
 
 pub use beside::{NewFile, SUFFIX};
 pub use fault::{Cause, LinesFault, PacketsFault, TypesFault, Unbegun};
@@ -15,3 +16,4 @@ pub use lines::{LineFolder, line_folder};
 pub use log::SharedLog;
 pub use packets::{OUTPUT, OpenPackets, PacketWriter, Target, open_packets};
 pub use spool::Spool;
+pub use types::file_types;

@@ -4,11 +4,11 @@ ghost use Rattle.std.specs.Prelude.{take};
 ghost use Rattle.std.specs.Io.{WritesAtMost};
 ghost use Rattle.std.specs.Io.KnownBytes.{Appends};
 ghost use Rattle.mot_files.specs.Packets.{IsTarget, target_of};
-ghost use Rattle.mot_update.specs.Between.{Grows};
+ghost use Rattle.mot_packets.specs.Outlet.{Grows};
 
 use crate::beside::{NewFile, is_file_at};
 use crate::fault::{Cause, PacketsFault};
-use mot_feed::Outlet;
+use mot_packets::Outlet;
 use std::fs::{File, OpenOptions};
 use std::io::{self, ErrorKind, Write};
 use std::os::unix::fs::MetadataExt;

@@ -1,14 +1,11 @@
 -- The definitions, computed on worked rows.
-use Rattle.std.proofs.Common.{◌≡◌, ◌++◌, [], ◌∷◌, Some, None, true, false, refl}
+use Rattle.std.proofs.Common.{◌≡◌, [], ◌∷◌, Some, None, true, false, refl}
 use Rattle.std.specs.Prelude.{codes}
 use Rattle.std.specs.Fmt.{digits}
-use Rattle.mot_base.specs.declared.refusal.Refusal.TheVariants.{BadLine, EmptyBody, NoRoom}
+use Rattle.mot_base.specs.declared.refusal.Refusal.TheVariants.{EmptyBody, NoRoom}
 use Rattle.mot_base.specs.declared.refusal.Refusal.TheVariants.{ReadFault}
 use Rattle.mot_folder.specs.Log.{entry, log_entry_of, log_line, of_look}
 use Rattle.mot_folder.specs.Looked.{is_due}
-use Rattle.mot_folder.specs.Types.{known_types, refusal_in, suffix_of, suffix_type, type_of_name}
-use Rattle.mot_folder.specs.Types.{type_of_words, types_in}
-use Rattle.mot_lines.specs.Words.{number_of_word}
 use Rattle.mot_server.specs.declared.running.Attempt.TheVariants.{Accepted, Refused}
 use Rattle.mot_update.specs.Told.{Put, Replaced, Withdrew}
 
@@ -62,42 +59,3 @@ not_due_within = refl
 
 not_due_before : is_due 2 true ≡ false
 not_due_before = refl
-
--- what follows the last dot, of a name that has one and does not begin with one
-suffix_behind_two : suffix_of (codes "a.b.jpeg") ≡ Some (codes "jpeg")
-suffix_behind_two = refl
-
-no_suffix : suffix_of (codes "png") ≡ None
-no_suffix = refl
-
-no_suffix_hidden : suffix_of (codes ".a.png") ≡ None
-no_suffix_hidden = refl
-
--- whatever the case, and the later line counts
-known_type : type_of_name known_types (codes "A.PnG")
-    ≡ Some (suffix_type (codes "png") 2 3 (codes "image/png"))
-known_type = refl
-
-later_type : type_of_name (known_types ++ suffix_type (codes "PNG") 2 9 (codes "a/b") ∷ [])
-    (codes "a.png")
-    ≡ Some (suffix_type (codes "PNG") 2 9 (codes "a/b"))
-later_type = refl
-
-unknown_type : type_of_name known_types (codes "a.svg") ≡ None
-unknown_type = refl
-
--- an empty line and one that begins with `#` say nothing
-said_types : types_in (codes "# own\n\nsvg 2 0 a/b\nx 1 1 c/d")
-    ≡ suffix_type (codes "svg") 2 0 (codes "a/b") ∷ suffix_type (codes "x") 1 1 (codes "c/d") ∷ []
-unfolding number_of_word type_of_words
-said_types = refl
-
--- what stands behind a line that is refused is not added
-said_before : types_in (codes "svg 2 0 a/b\nsvg 2 0\nx 1 1 c/d")
-    ≡ suffix_type (codes "svg") 2 0 (codes "a/b") ∷ []
-unfolding number_of_word type_of_words
-said_before = refl
-
-refused_line_of_types : refusal_in (codes "svg 2 0 a/b\nsvg 2 0\nx 1 1 c/d") ≡ Some BadLine
-unfolding number_of_word type_of_words
-refused_line_of_types = refl

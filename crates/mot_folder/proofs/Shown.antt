@@ -1,7 +1,7 @@
 -- Names none of which begins with a dot.
 use Rattle.std.proofs.Common.{◌≡◌, ◌++◌, ℕ, Bool, true, false, List, [], ◌∷◌, subst, sym}
 use Rattle.std.specs.Prelude.{if◌then◌else◌}
-use Rattle.mot_folder.specs.Types.{AreShown, is_hidden}
+use Rattle.mot_suffixes.specs.Types.{AreShown, is_hidden}
 
 -- one more of them at the end
 shown-push : (names : List (List ℕ)) (name : List ℕ) → is_hidden name ≡ false → AreShown names

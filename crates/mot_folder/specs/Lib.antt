@@ -1,4 +1,3 @@
 pub mod Inner
 pub mod Log
 pub mod Looked
-pub mod Types

@@ -5,11 +5,11 @@ use Rattle.disk_model.specs.Disk.{State}
 use Rattle.mot_base.specs.declared.refusal.Refusal.{Refusal}
 use Rattle.mot_base.specs.declared.refusal.Refusal.TheVariants.{ReadFault}
 use Rattle.mot_folder.specs.Log.{LogEntry, ReportTells, TellsAnswers, entry, of_look}
-use Rattle.mot_folder.specs.Types.{AreShown}
 use Rattle.mot_folder.specs.declared.report.Report.{Report}
 use Rattle.mot_journal.specs.Image.{Standing}
 use Rattle.mot_server.specs.Server.{ServerView}
 use Rattle.mot_server.specs.declared.running.Attempt.TheVariants.{Refused}
+use Rattle.mot_suffixes.specs.Types.{AreShown}
 use Rattle.mot_update.specs.HasRun.{HasRun}
 use Rattle.mot_update.specs.Looking.{HasLooked}
 

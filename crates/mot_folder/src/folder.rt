@@ -8,12 +8,12 @@ ghost use Rattle.mot_update.specs.Told.{TellsMore, answers_of};
 
 use crate::listing::{FileNames, joined};
 use crate::report::Report;
-use crate::types::FileTypes;
 use mot_base::Refusal;
 use mot_carousel::{Body, MAX_BODY, Name};
 use mot_server::Attempt;
+use mot_suffixes::{FileType, FileTypes};
 use mot_update::{Settled, Source, Wanted};
-use std::alloc::Global;
+use std::alloc::{AllocError, Global};
 use std::fs::{File, OpenOptions};
 use std::io::Read;
 use std::rt::Files;
@@ -69,20 +69,11 @@ impl<'a, T: Files<File = File>> Folder<'a, T> {
             (λ wanted. slice_get self.now.names.names.items place ≡ Some wanted.name) }
     {
         let name = &self.names.names[place];
-        let Ok(text) = from_utf8(name.as_bytes()) else {
-            return Err(Refusal::BadName);
-        };
         let Some(file_type) = self.types.of_name(name.as_bytes()) else {
             return Err(Refusal::BadName);
         };
-        let body = read_body(self.rt, alloc, self.path, text)?;
-        let mime = Some(file_type.mime.clone()?);
-        Ok(Wanted {
-            name: name.clone()?,
-            content: file_type.content,
-            mime,
-            body,
-        })
+        let body = read_body(self.rt, alloc, self.path, name)?;
+        Ok(wanted(name, file_type, body)?)
     }
 }
 
@@ -155,13 +146,28 @@ fn tell_settled(report: &mut Report, names: &FileNames, place: usize, settled: S
     }
 }
 
+/// An object of this name and body, of what its suffix says.
+fn wanted(name: &Name, file_type: &FileType, body: Body) -> Result<Wanted, AllocError>
+    ensures { IfOk result (λ wanted. wanted.name ≡ name.now) }
+{
+    Ok(Wanted {
+        name: name.clone()?,
+        content: file_type.content,
+        mime: Some(file_type.mime.clone()?),
+        body,
+    })
+}
+
 /// The bytes of the file of this name in the folder, as a body.
 fn read_body<T: Files<File = File>>(
     rt: &T,
     alloc: Global,
     folder: &str,
-    name: &str,
+    name: &Name,
 ) -> Result<Body, Refusal> {
+    let Ok(name) = from_utf8(name.as_bytes()) else {
+        return Err(Refusal::BadName);
+    };
     let path = joined(alloc, folder, name)?;
     read_file(rt, alloc, path.as_str())
 }

@@ -5,8 +5,7 @@ mod folder;
 mod listing;
 mod looking;
 mod report;
-mod types;
 
 pub use looking::{Looks, look_at_folder};
+pub use mot_suffixes::{FileType, FileTypes};
 pub use report::Report;
-pub use types::{FileType, FileTypes};

@@ -2,14 +2,14 @@
 ghost use Rattle.std.specs.Prelude.{◌≡◌, ◌∷◌, ◌++◌, [], true, if◌then◌else◌, IfOk, OnErr, OnOk};
 ghost use Rattle.mot_carousel.specs.Carousel.{are_names_distinct};
 ghost use Rattle.mot_folder.specs.Log.{TellsAnswers};
-ghost use Rattle.mot_folder.specs.Types.{AreShown};
+ghost use Rattle.mot_suffixes.specs.Types.{AreShown};
 ghost use Rattle.mot_update.specs.Told.{TellsMore};
 ghost use Rattle.mot_update.specs.Updating.{is_known};
 
 use crate::report::Report;
-use crate::types::FileTypes;
 use mot_base::Refusal;
 use mot_carousel::Name;
+use mot_suffixes::FileTypes;
 use std::alloc::{AllocError, Global};
 use std::fs::File;
 use std::io::{self, ErrorKind, Read};
@@ -72,16 +72,33 @@ pub(crate) fn list<T: Files<File = File>>(
     ensures shown { IfOk result (λ names. AreShown names.names.items) }
 {
     let mut names = FileNames::new(alloc);
-    let mut dir = rt.open_dir(path)?;
-    let mut room = Vec::from_elem(alloc, 0u8, ROOM)?;
-    for _ in 0..u64::MAX {
-        let count = dir.read(&mut room)?;
-        if count == 0 {
-            return Ok(names);
-        }
-        add_all(rt, alloc, path, types, &room[..count], &mut names, report)?;
-    }
+    let mut folder = rt.open_dir(path)?;
+    read_names(rt, alloc, path, types, &mut folder, &mut names, report)?;
     Ok(names)
+}
+
+/// Adds those of the names that the open folder gives that are objects.
+fn read_names<T: Files<File = File>, R: Read>(
+    rt: &T,
+    alloc: Global,
+    path: &str,
+    types: &FileTypes,
+    folder: &mut R,
+    names: &mut FileNames,
+    report: &mut Report,
+) -> io::Result<()>
+    ensures told { TellsMore (TellsAnswers report.old) (TellsAnswers report.new) [] }
+    ensures shown { AreShown names.old.names.items → AreShown names.new.names.items }
+{
+    let mut room = [0; ROOM];
+    for _ in 0..u64::MAX {
+        let count = folder.read(&mut room)?;
+        if count == 0 {
+            return Ok(());
+        }
+        add_all(rt, alloc, path, types, &room[..count], names, report)?;
+    }
+    Ok(())
 }
 
 /// Adds those of the names, each ended by a zero byte, that are objects.

@@ -1,8 +1,8 @@
 //! A look at a folder, and looks between the turns of a feed.
 ghost use Rattle.std.specs.Prelude.{◌≡◌, ◌-◌, ◌∷◌, [], None, true, false};
 ghost use Rattle.disk_model.specs.Disk.{KeepsLength};
+ghost use Rattle.mot_packets.specs.Outlet.{Grows};
 ghost use Rattle.mot_update.specs.Between.{BetweenTurns, IsUpdating, may_change};
-ghost use Rattle.mot_update.specs.Between.{Grows};
 ghost use Rattle.mot_folder.specs.Looked.{HasLookedAtFolder, is_due};
 ghost use Rattle.mot_journal.specs.Image.{Standing};
 ghost use Rattle.mot_repository.specs.Repository.{Holds};
@@ -12,10 +12,10 @@ ghost use Rattle.mot_server.specs.Attempts.{fault_of};
 use crate::folder::Folder;
 use crate::listing::list;
 use crate::report::Report;
-use crate::types::FileTypes;
 use disk_model::Disk;
 use mot_base::Refusal;
 use mot_server::Server;
+use mot_suffixes::FileTypes;
 use mot_update::{Update, look};
 use std::alloc::Global;
 use std::fs::File;

@@ -6,7 +6,7 @@ use mot_base::{MAX_SEGMENT, Refusal};
 use std::marker::Model;
 
 /// The bytes of one segment, 1 to 8,189 (EN 301 234).
-#[derive(Debug, Drop)]
+#[derive(Drop)]
 pub struct SegmentBytes {
     bytes: Vec<u8>,
 }

@@ -29,7 +29,7 @@ pub const MAX_LINE: usize = 530_000;
 pub const MAX_PACKETS: u32 = 100_000;
 
 /// What a line asks for.
-#[derive(Debug, Drop)]
+#[derive(Drop)]
 pub enum Line {
     /// A command: `put NAME TYPE SUBTYPE MIME HEX`, `replace` with the same words, `withdraw NAME`
     /// or `period N`.

@@ -2,6 +2,8 @@
 #![tactic(auto)]
 
 mod header;
+mod outlet;
 mod packet;
 
+pub use outlet::{Direct, Outlet};
 pub use packet::{MAX_PACKET, Packet, cut_packet, cut_packet_into, packet_count};

@@ -7,7 +7,7 @@ use std::alloc::{AllocError, Global};
 
 /// The group of a type that was begun last: its continuity index, its segment, and what stands in
 /// front of that in its content. The segment is empty where no group was begun.
-#[derive(Debug, Drop)]
+#[derive(Drop)]
 pub(crate) struct LastGroup {
     pub index: u8,
     pub front: [u8; 7],

@@ -10,7 +10,7 @@ use mot_base::SegmentSize;
 use mot_groups::segment_count;
 
 /// A segment of an entity of a turn, and which comes behind it.
-#[derive(Clone, Copy, Debug)]
+#[derive(Clone, Copy)]
 pub(crate) struct Part {
     pub entity: usize,
     /// Where in the entity its bytes begin, and how many there are.

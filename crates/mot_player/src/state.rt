@@ -32,7 +32,7 @@ pub(crate) struct State {
 
 /// A packet, and whether it ends the turn: nothing of the turn is left behind it, and no changed
 /// turn waits.
-#[derive(Debug, Drop)]
+#[derive(Drop)]
 pub struct Played {
     pub packet: Packet,
     pub ends_turn: bool,

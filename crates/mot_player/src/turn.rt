@@ -15,7 +15,7 @@ use std::marker::Model;
 
 /// One playing of a carousel: the directory's transport id and bytes, and each body's transport id
 /// and length.
-#[derive(Debug, Drop)]
+#[derive(Drop)]
 pub struct Turn {
     tid: TransportId,
     directory: Vec<u8>,

@@ -11,7 +11,7 @@ use mot_carousel::{Command, Done};
 use std::alloc::Global;
 
 /// What a run of commands came to.
-#[derive(Debug, Drop)]
+#[derive(Drop)]
 pub struct RunEnd {
     /// For each command that was answered, in order, whether it was accepted.
     pub done: Vec<bool>,

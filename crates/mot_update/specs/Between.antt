@@ -1,5 +1,5 @@
 -- What changes a carousel between its packets: when it may, and what is known of its calls.
-use Rattle.std.specs.Prelude.{◌≡◌, Bool, true, false, List, [], ◌++◌, Option, Some, None, ⊤}
+use Rattle.std.specs.Prelude.{◌≡◌, Bool, true, false, List, [], Option}
 use Rattle.disk_model.specs.Disk.{State}
 use Rattle.mot_base.specs.declared.refusal.Refusal.{Refusal}
 use Rattle.mot_carousel.specs.declared.command.Command.{Command}
@@ -26,9 +26,3 @@ pub record IsUpdating {D : Type 0} (old new : ServerView D) (start now : State) 
   pub marks : List Bool
   pub run : HasRun old new start now s commands marks fault
   pub waits : may ≡ false → commands ≡ []
-
--- what is known goes on by these
-abbrev pub Grows : {A : Type 0} → Option (List A) → Option (List A) → List A → Type 0
-Grows None new more = ⊤
-Grows (Some known) None more = ⊥
-Grows (Some known) (Some new) more = new ≡ known ++ more

@@ -2,9 +2,10 @@
 ghost use Rattle.std.specs.Prelude.{◌≡◌, ◌∷◌, Bool, IsOk, List, [], None, Option};
 ghost use Rattle.disk_model.specs.Disk.{KeepsLength};
 ghost use Rattle.mot_journal.specs.Image.{Standing};
+ghost use Rattle.mot_packets.specs.Outlet.{Grows};
 ghost use Rattle.mot_repository.specs.Repository.{Holds};
 ghost use Rattle.mot_server.specs.Attempts.{fault_of};
-ghost use Rattle.mot_update.specs.Between.{Grows, IsUpdating, Never, When, may_change};
+ghost use Rattle.mot_update.specs.Between.{IsUpdating, Never, When, may_change};
 ghost use Rattle.mot_update.specs.Faults.{TellsFaults};
 
 use disk_model::Disk;
@@ -40,7 +41,7 @@ pub trait Update {
 }
 
 /// No updates: the carousel is played as it is.
-#[derive(Clone, Copy, Debug)]
+#[derive(Clone, Copy)]
 pub struct NoUpdate;
 
 impl Update for NoUpdate {

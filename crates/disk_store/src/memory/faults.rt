@@ -4,7 +4,7 @@ ghost use Rattle.std.specs.Bool.{OnFalse};
 ghost use Rattle.disk_model.specs.Failures.{Rises, most_failures};
 
 /// Which of the next calls are to fail. The next call is number 1.
-#[derive(Clone, Copy, Debug)]
+#[derive(Clone, Copy)]
 pub struct Plan {
     /// The one call that fails.
     pub fail_at: Option<u64>,
@@ -14,7 +14,7 @@ pub struct Plan {
 
 /// The failures and the calls so far, both held at the greatest number, and which of the next calls
 /// fail.
-#[derive(Clone, Copy, Debug)]
+#[derive(Clone, Copy)]
 pub struct Faults {
     pub failures: u64,
     pub calls: u64,

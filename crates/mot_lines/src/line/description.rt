@@ -11,7 +11,7 @@ use mot_carousel::{Body, Content, Mime, Name};
 use std::alloc::Global;
 
 /// An object, as a put or a replace describes it.
-#[derive(Debug, Drop)]
+#[derive(Drop)]
 pub struct Description {
     /// NAME.
     pub name: Name,

@@ -10,7 +10,7 @@ use crate::given::{number_of, word_of};
 use clap::ArgMatches;
 
 /// What is played, and into what.
-#[derive(Clone, Copy, Debug)]
+#[derive(Clone, Copy)]
 pub struct PlayTask<'a> {
     /// The path of the disk's file.
     pub disk: &'a str,
@@ -29,7 +29,7 @@ pub struct PlayTask<'a> {
 }
 
 /// What a command on air is to do.
-#[derive(Clone, Copy, Debug)]
+#[derive(Clone, Copy)]
 pub enum AirTask<'a> {
     /// Play a disk.
     Play(PlayTask<'a>),

@@ -10,7 +10,7 @@ use clap::ArgMatches;
 use mot_base::{Geometry, TransportId};
 
 /// What the program is to do.
-#[derive(Clone, Copy, Debug)]
+#[derive(Clone, Copy)]
 pub enum Task<'a> {
     /// Serve a carousel in memory.
     Memory(Geometry),

@@ -1,7 +1,8 @@
 use Rattle.std.proofs.Common.{◌≡◌, ◌⊎◌, inl, inr, subst}
 use Rattle.std.specs.Prelude.{IfErr}
-use Rattle.mot_air.specs.Program.{IsUntold, IsUntyped, PlaysTo, StopsPlayingTo}
+use Rattle.mot_air.specs.Program.{IsUntold, PlaysTo, StopsPlayingTo}
 use Rattle.mot_files.specs.Lines.{IsUnlined}
+use Rattle.mot_files.specs.Types.{IsUntyped}
 use Rattle.mot_air.specs.Program.{when_changed}
 use Rattle.mot_air.specs.declared.playing.Followed.{Followed}
 use Rattle.mot_air.proofs.Begun.{IfErr-one, refused_untouched}

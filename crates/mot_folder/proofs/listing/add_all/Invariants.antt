@@ -1,6 +1,6 @@
 use Rattle.std.proofs.Common.{[], length}
 use Rattle.mot_folder.specs.Log.{TellsAnswers}
-use Rattle.mot_folder.specs.Types.{AreShown}
+use Rattle.mot_suffixes.specs.Types.{AreShown}
 use Rattle.mot_update.specs.Told.{TellsMore}
 use Rattle.mot_folder.proofs.listing.add_all.Given as goal
 

@@ -4,11 +4,11 @@ use Rattle.mot_base.specs.declared.refusal.Refusal.TheVariants.{ReadFault}
 use Rattle.mot_folder.specs.Log.{TellsAnswers, entry, is_of_look}
 use Rattle.mot_folder.specs.declared.report.Report.{Report}
 use Rattle.mot_folder.specs.Looked.{listed, unlisted}
-use Rattle.mot_folder.specs.Types.{AreShown}
 use Rattle.mot_folder.specs.declared.listing.FileNames.{FileNames}
 use Rattle.mot_folder.proofs.Log.{tells_none}
 use Rattle.mot_server.specs.declared.running.Attempt.TheVariants.{Refused}
 use Rattle.mot_server.specs.Attempts.{fault_of}
+use Rattle.mot_suffixes.specs.Types.{AreShown}
 use Rattle.mot_update.specs.Looking.{HasLooked}
 use Rattle.mot_update.proofs.Laws.{has_read}
 use Rattle.disk_model.proofs.Laws.{unchanged_none}

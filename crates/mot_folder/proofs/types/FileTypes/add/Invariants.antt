@@ -1,9 +1,0 @@
-use Rattle.std.proofs.Common.{length}
-use Rattle.mot_folder.proofs.Suffixes.{IsGoneOver}
-use Rattle.mot_folder.proofs.types.FileTypes.add.Given as goal
-
-abbrev pub invariant-loop-line : goal.invariant-loop-line
-invariant-loop-line l = IsGoneOver l.initial.self l.self l.text l.rest
-
-abbrev pub decreases-loop-line : goal.decreases-loop-line
-decreases-loop-line l = length l.rest

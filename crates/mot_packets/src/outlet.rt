@@ -1,0 +1,42 @@
+//! What packets go out by.
+ghost use Rattle.std.specs.Prelude.{◌≤◌, ◌∷◌, ℕ, List, [], None, Option, length, take, IfOk};
+ghost use Rattle.std.specs.Prelude.{MatchResult};
+ghost use Rattle.std.specs.Io.KnownBytes.{WriteAppends};
+ghost use Rattle.mot_packets.specs.Outlet.{Grows};
+
+use std::io::{self, Write};
+
+/// What takes packets, each in one write of its own: a pipe, a device or a file.
+pub trait Outlet {
+    // What each write took, in order, where that is known: nothing, where it failed.
+    ghost writes: { Self → Option (List (List ℕ)) } = { λ _. None };
+
+    /// Offers the bytes in one write. It takes so many first bytes of them.
+    fn write_once(&mut self, bytes: &[u8]) -> io::Result<usize>
+        ensures bound { IfOk result (λ count. count ≤ length bytes.now) }
+        ensures one { MatchResult result
+            (λ count. Grows (writes self.old) (writes self.new) (take count bytes.now ∷ []))
+            (λ _. Grows (writes self.old) (writes self.new) ([] ∷ [])) };
+}
+
+/// A writer as it is: each write is one call of its `write`.
+#[derive(Drop)]
+pub struct Direct<W: Write + Drop> {
+    /// The writer.
+    pub writer: W,
+}
+
+impl<W: Write + Drop> Outlet for Direct<W> {
+    fn write_once(&mut self, bytes: &[u8]) -> io::Result<usize>
+        ensures bound { IfOk result (λ count. count ≤ length bytes.now) }
+        ensures one { MatchResult result
+            (λ count. Grows None None (take count bytes.now ∷ []))
+            (λ _. Grows {A = List ℕ} None None ([] ∷ [])) }
+
+        // The writer takes what is told, and nothing else.
+        ensures written { WriteAppends (W.contents self.old.writer) (W.contents self.new.writer)
+            result bytes.now }
+    {
+        self.writer.write(bytes)
+    }
+}

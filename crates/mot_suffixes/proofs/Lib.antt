@@ -1,0 +1,5 @@
+pub mod Known
+pub mod Rows
+pub mod Said
+pub mod Suffixes
+pub mod Typed

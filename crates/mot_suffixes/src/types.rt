@@ -1,0 +1,202 @@
+//! What a file's suffix says of it.
+ghost use Rattle.std.specs.Prelude.{◌≡◌, ◌++◌, ◌⊎◌, [], true, List, Some, None, Ok};
+ghost use Rattle.std.specs.Prelude.{IfErr, IfNone, IfOk, IfSome, IsNone};
+ghost use Rattle.mot_base.specs.declared.refusal.Refusal.TheVariants.{BadMime, BadName};
+ghost use Rattle.mot_base.specs.declared.refusal.Refusal.TheVariants.{OutOfMemory};
+ghost use Rattle.mot_suffixes.specs.Inner.Types.{AddsLine, MayRefuse, StopsAtLine};
+ghost use Rattle.mot_suffixes.specs.Types.{AddsUpTo, IsTypesRefusal, SuffixType, is_hidden};
+ghost use Rattle.mot_suffixes.specs.Types.{known_types, last_of_suffix, refusal_in, says_nothing};
+ghost use Rattle.mot_suffixes.specs.Types.{suffix_in};
+ghost use Rattle.mot_suffixes.specs.Types.{suffix_of, type_in, type_mime_in, type_of_name, types_in};
+
+use memchr::memrchr;
+use mot_base::Refusal;
+use mot_carousel::{Content, Mime};
+use mot_lines::{cut_at_line_end, four_words, parse_content};
+use std::alloc::{AllocError, Global};
+use std::marker::Model;
+
+/// What is known of suffixes (TS 101 756, table 17).
+const KNOWN: &str = "\
+txt 1 0 text/plain
+html 1 2 text/html
+htm 1 2 text/html
+xml 1 0 text/xml
+gif 2 0 image/gif
+jpg 2 1 image/jpeg
+jpeg 2 1 image/jpeg
+bmp 2 2 image/bmp
+png 2 3 image/png
+";
+
+/// What files of a suffix are.
+#[derive(Drop)]
+pub struct FileType {
+    /// The suffix, without its dot.
+    suffix: Vec<u8>,
+    /// The content type and the subtype.
+    pub content: Content,
+    /// The MIME type.
+    pub mime: Mime,
+}
+
+impl Model for FileType {
+    ghost Value = { SuffixType };
+
+    ghost view = { λ it. record {
+      suffix = it.suffix.items;
+      content = it.content;
+      mime = it.mime;
+    } };
+}
+
+/// The suffixes of the files that are objects.
+#[derive(Drop)]
+pub struct FileTypes {
+    types: Vec<FileType>,
+}
+
+impl Model for FileTypes {
+    ghost Value = { List SuffixType };
+
+    ghost view = { λ known. known.types.items };
+}
+
+impl FileTypes {
+    /// The known ones.
+    pub fn new(alloc: Global) -> Result<FileTypes, AllocError>
+        ensures known { IfOk result (λ types. types ≡ known_types) }
+    {
+        let mut types = FileTypes {
+            types: Vec::new(alloc),
+        };
+        // Their lines are right: nothing but memory can be wanted.
+        let Ok(()) = types.add(alloc, KNOWN.as_bytes()) else {
+            return Err(AllocError);
+        };
+        Ok(types)
+    }
+
+    /// Adds those of the lines of a text, each `SUFFIX TYPE SUBTYPE MIME` with single spaces, where
+    /// an empty line and one that begins with `#` say nothing. Of two lines of one suffix the later
+    /// one counts. The refusals are those of a line's words, of which the lines before stay.
+    pub fn add(&mut self, alloc: Global, text: &[u8]) -> Result<(), Refusal>
+        ensures right { IfOk result (λ _. refusal_in text.now ≡ None) }
+        ensures added { IfOk result (λ _. self.new ≡ self.old ++ types_in text.now) }
+        ensures stays { IfErr result (AddsUpTo self.old self.new text.now) }
+        ensures refused { IfErr result IsTypesRefusal }
+    {
+        let mut rest = text;
+        while let Some((line, others)) = cut_at_line_end(rest) {
+            self.add_line(alloc, line)?;
+            rest = others;
+        }
+        self.add_line(alloc, rest)
+    }
+
+    /// Adds what a line says, if it says something.
+    fn add_line(&mut self, alloc: Global, line: &[u8]) -> Result<(), Refusal>
+        ensures added { IfOk result (λ _. AddsLine self.old self.new line.now) }
+        ensures stays { IfErr result (StopsAtLine self.old self.new line.now) }
+        ensures refused { IfErr result IsTypesRefusal }
+    {
+        if is_silent(line) {
+            return Ok(());
+        }
+        let file_type = type_of_line(alloc, line)?;
+        self.types.push(file_type)?;
+        Ok(())
+    }
+
+    /// What the suffix of the file's name says, whatever the case of its letters: the last of the
+    /// types of that suffix; none where there is none, or the name begins with a dot.
+    pub fn of_name(&self, name: &[u8]) -> Option<&FileType>
+        ensures found { IfSome result (λ it. type_of_name self.now name.now ≡ Some it.now) }
+        ensures none { IfNone result (type_of_name self.now name.now ≡ None) }
+        ensures hidden { is_hidden name.now ≡ true → IsNone result }
+    {
+        let suffix = find_suffix(name)?;
+        find_last(&self.types, suffix)
+    }
+}
+
+/// What follows the last dot of a name; none where there is none, or the name begins with one.
+fn find_suffix(name: &[u8]) -> Option<&[u8]>
+    ensures found { IfSome result (λ suffix. suffix_of name.now ≡ Some suffix.now) }
+    ensures none { IfNone result (suffix_of name.now ≡ None) }
+{
+    if begins_with_dot(name) {
+        return None;
+    }
+    let place = memrchr(b'.', name)?;
+    Some(&name[place + 1..])
+}
+
+/// Whether the name begins with a dot.
+fn begins_with_dot(name: &[u8]) -> bool
+    ensures { result ≡ is_hidden name.now }
+{
+    !name.is_empty() && name[0] == b'.'
+}
+
+/// The last of the types whose suffix it is, whatever the case of its letters.
+fn find_last<'a>(types: &'a [FileType], suffix: &[u8]) -> Option<&'a FileType>
+    ensures found { IfSome result (λ it. last_of_suffix suffix.now types.now ≡ Some it.now) }
+    ensures none { IfNone result (last_of_suffix suffix.now types.now ≡ None) }
+{
+    let mut found = None;
+    for file_type in types {
+        if file_type.suffix.eq_ignore_ascii_case(suffix) {
+            found = Some(file_type);
+        }
+    }
+    found
+}
+
+/// Whether a line says nothing.
+fn is_silent(line: &[u8]) -> bool
+    ensures { result ≡ says_nothing line.now }
+{
+    line.is_empty() || line[0] == b'#'
+}
+
+/// What a line says.
+fn type_of_line(alloc: Global, line: &[u8]) -> Result<FileType, Refusal>
+    ensures said { IfOk result (λ it. type_in line.now ≡ Ok it) }
+    ensures why { IfErr result (MayRefuse (type_in line.now)) }
+    ensures refused { IfErr result IsTypesRefusal }
+{
+    let Some((suffix, content_type, subtype, mime)) = four_words(line) else {
+        return Err(Refusal::BadLine);
+    };
+    let suffix = suffix_of_word(alloc, suffix)?;
+    let content = parse_content(content_type, subtype)?;
+    let mime = mime_of_word(alloc, mime)?;
+    Ok(FileType {
+        suffix,
+        content,
+        mime,
+    })
+}
+
+/// The suffix that a word is, or `BadName`; or `OutOfMemory`.
+fn suffix_of_word(alloc: Global, word: &[u8]) -> Result<Vec<u8>, Refusal>
+    ensures taken { IfOk result (λ suffix. suffix_in word.now ≡ Ok suffix.items) }
+    ensures why { IfErr result (MayRefuse (suffix_in word.now)) }
+    ensures refused { IfErr result (λ r. (r ≡ BadName) ⊎ (r ≡ OutOfMemory)) }
+{
+    if word.is_empty() || word.contains(&b'.') {
+        return Err(Refusal::BadName);
+    }
+    Ok(Vec::from_slice(alloc, word)?)
+}
+
+/// The MIME type that a word is, or `BadMime`; or `OutOfMemory`.
+fn mime_of_word(alloc: Global, word: &[u8]) -> Result<Mime, Refusal>
+    ensures taken { IfOk result (λ mime. type_mime_in word.now ≡ Ok mime) }
+    ensures why { IfErr result (MayRefuse (type_mime_in word.now)) }
+    ensures refused { IfErr result (λ r. (r ≡ BadMime) ⊎ (r ≡ OutOfMemory)) }
+{
+    let bytes = Vec::from_slice(alloc, word)?;
+    Mime::new(bytes)
+}
