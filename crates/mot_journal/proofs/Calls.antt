@@ -87,6 +87,16 @@ calm_of {old = old} {new} cause = elim (cases_lt old.failures new.failures) [
   | inr le ↦ let later = cause.later in omega (arith, le, later)
 ]
 
+-- a run in which no count rose, and that succeeded
+pub calm_run : {T E : Type 0} {old new : State} {v : T} → new.failures ≡ old.failures
+    → HasCauseOf {E = E} old new (Ok v)
+calm_run {old = old} {new} same = record {
+  later = omega (arith, same);
+  fits = λ is. absurd (not_both is);
+  cause = λ is. absurd (not_both is);
+  shown = λ less. absurd (omega (arith, less, same));
+}
+
 -- a run behind one that succeeded
 pub fails_of : {T A E F : Type 0} {old mid new : State} {e : E} (r : Result A F) → IsErr r
     → mid.failures ≡ old.failures → HasCauseOf {T = T} mid new (Err e) → HasCauseOf old new r

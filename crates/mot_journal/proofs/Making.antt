@@ -35,8 +35,8 @@ within_joins start n old mid new at m sound so_far then low high = record {
 }
 
 -- the head written so changes only what lies between the magic and the data area
-pub head_filled : (g : Geometry) (old wrote : State) → IsHonestDisk old → WritesWithin 8 56 old wrote
-    → ChangesWithin 8 (area_start g - 8) old wrote
+pub head_filled : (g : Geometry) (old wrote : State) → IsHonestDisk old
+    → WritesWithin 8 56 old wrote → ChangesWithin 8 (area_start g - 8) old wrote
 head_filled g old wrote sound writes =
     let rest = area_start g - 8 in
     one_more 8 rest old old wrote 8 56 sound (unchanged 8 rest old sound) writes (omega arith)

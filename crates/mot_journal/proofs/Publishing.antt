@@ -39,7 +39,8 @@ module _ {at n : ℕ} {old synced wrote : State} (found : Found at n old synced 
   pub to_write : Throughout old wrote (Outcome at n old)
   to_write =
       goes_on old synced wrote (Outcome at n old) (Torn at n synced)
-      (to_sync at n found.sound found.still) found.writes.time (λ c torn. inr (subst (λ d. AgreeOutside at n d c)
+      (to_sync at n found.sound found.still) found.writes.time
+      (λ c torn. inr (subst (λ d. AgreeOutside at n d c)
       (only_bytes synced found.synced_sound found.firm torn.0 torn.1 ∙ found.still.bytes)
       torn.2))
 

@@ -82,7 +82,8 @@ module _ {at : ℕ} {slot : List ℕ} {old wrote : State} (found : Found at slot
       }
 
   -- while the gate is published, it leaves the slot behind any gate, too
-  pub to_end : {last : State} → Publishes at 1 wrote last → Throughout old last (IsGated at slot old)
+  pub to_end : {last : State} → Publishes at 1 wrote last
+      → Throughout old last (IsGated at slot old)
   to_end {last} publishes =
       let so_far = to_write at slot found.sound found.writes in
       joins old wrote last (IsGated at slot old) (Outcome at 1 wrote) so_far publishes.time

@@ -3,7 +3,8 @@ use Rattle.std.proofs.lemmas.Result.{IfOk-from_err, on_ok_weaker}
 use Rattle.disk_model.proofs.Laws.{keeps_all_on}
 use Rattle.mot_base.specs.Geometry.{length_of}
 use Rattle.mot_journal.proofs.Calls.{as_run, calm, calm_of, fails_of, caused_of}
-use Rattle.mot_journal.proofs.Making.{Found, head_filled, first_sound, first_filled, all_filled, is_made}
+use Rattle.mot_journal.proofs.Making.{Found, head_filled, first_sound, first_filled}
+use Rattle.mot_journal.proofs.Making.{all_filled, is_made}
 use Rattle.mot_journal.proofs.formatting.fill.Given as given
 use Rattle.mot_journal.proofs.formatting.fill.Goals as goal
 use Rattle.mot_journal.proofs.formatting.fill.Goals.{After-fill_half}

@@ -89,7 +89,8 @@ module _ (geometry : Geometry) (directory : ℕ) {old : State} (sound : IsHonest
       → Throughout mid new (NoneOrFrom geometry directory))
       → Throughout old new (NoneOrFrom geometry directory)
   made {mid} {new} still then =
-      joins old mid new (NoneOrFrom geometry directory) (NoneOrFrom geometry directory) (asked still)
+      joins old mid new (NoneOrFrom geometry directory) (NoneOrFrom geometry directory)
+      (asked still)
       (then (λ image left. none image (still.images image left))) (λ image has. has)
 
 -- the length that was asked for, and that of the geometry
@@ -270,31 +271,16 @@ pub returns-then-not-is_valid-clause-synced : goal.returns-then-not-is_valid-cla
 returns-then-not-is_valid-clause-synced g c =
     λ honest e. absurd (bad-already e)
 
-pub returns-then-not-is_valid-clause-already_only : goal.returns-then-not-is_valid-clause-already_only
+pub returns-then-not-is_valid-clause-already_only
+    : goal.returns-then-not-is_valid-clause-already_only
 returns-then-not-is_valid-clause-already_only g c =
     λ honest e. absurd (bad-already e)
-
-pub returns-then-not-is_valid-clause-not_over : goal.returns-then-not-is_valid-clause-not_over
-returns-then-not-is_valid-clause-not_over g c =
-    λ honest. tt
 
 pub returns-then-not-is_valid-clause-any_moment : goal.returns-then-not-is_valid-clause-any_moment
 returns-then-not-is_valid-clause-any_moment g c =
     λ honest none.
     at_start c.args.geometry.now c.args.directory
     (g.met.D.Disk.sound c.args.disk.now honest) none
-
-pub returns-then-not-is_valid-clause-ok : goal.returns-then-not-is_valid-clause-ok
-returns-then-not-is_valid-clause-ok g c =
-    λ honest. tt
-
-pub returns-then-not-is_valid-clause-layout : goal.returns-then-not-is_valid-clause-layout
-returns-then-not-is_valid-clause-layout g c =
-    λ honest. tt
-
-pub returns-then-not-is_valid-clause-other_half : goal.returns-then-not-is_valid-clause-other_half
-returns-then-not-is_valid-clause-other_half g c =
-    λ honest. tt
 
 pub returns-then-len-length-clause-keeps : goal.returns-then-len-length-clause-keeps
 returns-then-len-length-clause-keeps g c =
@@ -320,27 +306,11 @@ pub returns-then-len-length-clause-already_only : goal.returns-then-len-length-c
 returns-then-len-length-clause-already_only g c =
     λ honest e. absurd (small-already e)
 
-pub returns-then-len-length-clause-not_over : goal.returns-then-len-length-clause-not_over
-returns-then-len-length-clause-not_over g c =
-    λ honest. tt
-
 pub returns-then-len-length-clause-any_moment : goal.returns-then-len-length-clause-any_moment
 returns-then-len-length-clause-any_moment g c =
     λ honest none.
     at_start c.args.geometry.now c.args.directory
     (g.met.D.Disk.sound c.args.disk.now honest) none
-
-pub returns-then-len-length-clause-ok : goal.returns-then-len-length-clause-ok
-returns-then-len-length-clause-ok g c =
-    λ honest. tt
-
-pub returns-then-len-length-clause-layout : goal.returns-then-len-length-clause-layout
-returns-then-len-length-clause-layout g c =
-    λ honest. tt
-
-pub returns-then-len-length-clause-other_half : goal.returns-then-len-length-clause-other_half
-returns-then-len-length-clause-other_half g c =
-    λ honest. tt
 
 pub returns-in_default-clause-keeps : goal.returns-in_default-clause-keeps
 returns-in_default-clause-keeps g c =
@@ -362,28 +332,12 @@ pub returns-in_default-clause-already_only : goal.returns-in_default-clause-alre
 returns-in_default-clause-already_only g c =
     λ honest e. absurd (fault-already e)
 
-pub returns-in_default-clause-not_over : goal.returns-in_default-clause-not_over
-returns-in_default-clause-not_over g c =
-    λ honest. tt
-
 pub returns-in_default-clause-any_moment : goal.returns-in_default-clause-any_moment
 returns-in_default-clause-any_moment g c =
     λ honest none.
     let asks = c.reads_magic.ensures.only_syncs in
     asked c.args.geometry.now c.args.directory
     (g.met.D.Disk.sound c.args.disk.now (asks.keeps.was_honest honest)) none (asks.still honest)
-
-pub returns-in_default-clause-ok : goal.returns-in_default-clause-ok
-returns-in_default-clause-ok g c =
-    λ honest. tt
-
-pub returns-in_default-clause-layout : goal.returns-in_default-clause-layout
-returns-in_default-clause-layout g c =
-    λ honest. tt
-
-pub returns-in_default-clause-other_half : goal.returns-in_default-clause-other_half
-returns-in_default-clause-other_half g c =
-    λ honest. tt
 
 pub returns-then-is_formatted-clause-keeps : goal.returns-then-is_formatted-clause-keeps
 returns-then-is_formatted-clause-keeps g c =
@@ -401,13 +355,10 @@ pub returns-then-is_formatted-clause-synced : goal.returns-then-is_formatted-cla
 returns-then-is_formatted-clause-synced g c =
     λ honest e. c.in-Ok.ensures.synced honest
 
-pub returns-then-is_formatted-clause-already_only : goal.returns-then-is_formatted-clause-already_only
+pub returns-then-is_formatted-clause-already_only
+    : goal.returns-then-is_formatted-clause-already_only
 returns-then-is_formatted-clause-already_only g c =
     λ honest e. sym (c.in-Ok.ensures.exact honest) ∙ c.if-is_formatted.true
-
-pub returns-then-is_formatted-clause-not_over : goal.returns-then-is_formatted-clause-not_over
-returns-then-is_formatted-clause-not_over g c =
-    λ honest. tt
 
 pub returns-then-is_formatted-clause-any_moment : goal.returns-then-is_formatted-clause-any_moment
 returns-then-is_formatted-clause-any_moment g c =
@@ -415,18 +366,6 @@ returns-then-is_formatted-clause-any_moment g c =
     let asks = c.reads_magic.ensures.only_syncs in
     asked c.args.geometry.now c.args.directory
     (g.met.D.Disk.sound c.args.disk.now (asks.keeps.was_honest honest)) none (asks.still honest)
-
-pub returns-then-is_formatted-clause-ok : goal.returns-then-is_formatted-clause-ok
-returns-then-is_formatted-clause-ok g c =
-    λ honest. tt
-
-pub returns-then-is_formatted-clause-layout : goal.returns-then-is_formatted-clause-layout
-returns-then-is_formatted-clause-layout g c =
-    λ honest. tt
-
-pub returns-then-is_formatted-clause-other_half : goal.returns-then-is_formatted-clause-other_half
-returns-then-is_formatted-clause-other_half g c =
-    λ honest. tt
 
 pub returns-in_default-make-clause-keeps : goal.returns-in_default-make-clause-keeps
 returns-in_default-make-clause-keeps g c =
@@ -469,22 +408,6 @@ returns-in_default-make-clause-any_moment g c =
     (g.met.D.Disk.sound c.args.disk.now (asks.keeps.was_honest honest1)) none (asks.still honest1)
     (c.make.ensures.any_moment honest1)
 
-pub returns-in_default-make-clause-not_over : goal.returns-in_default-make-clause-not_over
-returns-in_default-make-clause-not_over g c =
-    λ honest. tt
-
-pub returns-in_default-make-clause-ok : goal.returns-in_default-make-clause-ok
-returns-in_default-make-clause-ok g c =
-    λ honest. tt
-
-pub returns-in_default-make-clause-layout : goal.returns-in_default-make-clause-layout
-returns-in_default-make-clause-layout g c =
-    λ honest. tt
-
-pub returns-in_default-make-clause-other_half : goal.returns-in_default-make-clause-other_half
-returns-in_default-make-clause-other_half g c =
-    λ honest. tt
-
 pub returns-clause-keeps : goal.returns-clause-keeps
 returns-clause-keeps g c =
     let state = g.D.Disk.state in
@@ -496,10 +419,6 @@ returns-clause-already g c =
     λ honest magic.
     let exact = c.in-Ok.ensures.exact (c.make.ensures.keeps.frame.was_honest honest) in
     absurd (never _ c.if-is_formatted.false (exact ∙ magic))
-
-pub returns-clause-refused : goal.returns-clause-refused
-returns-clause-refused g c =
-    tt
 
 pub returns-clause-calm : goal.returns-clause-calm
 returns-clause-calm g c =
