@@ -107,7 +107,8 @@ returns-in_err-write-clause-cause g c =
 pub returns-in_err-write-clause-cost : goal.returns-in_err-write-clause-cost
 returns-in_err-write-clause-cost g c = record {
   at_most = within _ _ _ _ _
-      (subst (λ n. c.loop-number.number < n) c.slot_count-number-end.ensures c.loop-number-test.true)
+      (subst (λ n. c.loop-number.number < n) c.slot_count-number-end.ensures
+          c.loop-number-test.true)
       c.loop-number.invariant.cost c.write.ensures.called;
   exact = IfOk-from_err c.from_residual.result _ c.from_residual.ensures.0;
 }
