@@ -4,7 +4,7 @@ use Rattle.std.proofs.Common.{sym}
 use Rattle.std.proofs.Common.{subst, arith}
 use Rattle.std.specs.Prelude.{IsErr}
 use Rattle.std.proofs.lemmas.Bool.{cases_lt}
-use Rattle.std.proofs.lemmas.Result.{IfOk-from_err}
+use Rattle.std.proofs.lemmas.Result.{IfOk-from_err, on_ok_weaker}
 use Rattle.disk_model.specs.Disk.{State, Costs}
 use Rattle.disk_model.specs.Failures.{HasCause, Rises}
 use Rattle.mot_journal.specs.Inner.Steps.{HasCauseOf}
@@ -40,6 +40,11 @@ succeeds {old = old} {mid} {new} same cause = record {
   shown = λ rises. cause.shown (subst (λ n. Rises n new) (sym same) rises);
 }
 
+-- a run behind calls that succeeded has the cause of all
+pub caused : {T E : Type 0} {old mid new : ℕ} {r : Result T E} → mid ≡ old → HasCause mid new r
+    → HasCause old new r
+caused {new = new} {r} same cause = subst (λ n. HasCause n new r) same cause
+
 -- one call more
 pub one_more : (a b c k : ℕ) → b ≡ a + k → c ≡ b + 1 → c ≡ a + (k + 1)
 one_more a b c k e f = omega arith
@@ -50,9 +55,19 @@ pub costs_failed : {A F : Type 0} (n k : ℕ) (old new : State) (r : Result A F)
 costs_failed n k old new r err le called =
     record { at_most = omega (arith, le, called); exact = IfOk-from_err r _ err }
 
-pub costs_all : {A F : Type 0} {w : A} (n : ℕ) (old new : State)
-    → new.calls ≡ old.calls + n → Costs {E = F} n old new (Ok w)
-costs_all n old new called = record { at_most = omega (arith, called); exact = called }
+-- as many calls as a whole run makes
+pub costs_all : {A F : Type 0} (n : ℕ) (old new : State) (r : Result A F)
+    → new.calls ≡ old.calls + n → Costs n old new r
+costs_all n old new (Ok v) called = record { at_most = omega (arith, called); exact = called }
+costs_all n old new (Err e) called = record { at_most = omega (arith, called); exact = tt }
+
+-- a run behind so many calls
+pub costs_on : {A F : Type 0} (n m k : ℕ) (old mid new : State) (r : Result A F) → k ≡ n + m
+    → mid.calls ≡ old.calls + n → Costs m mid new r → Costs k old new r
+costs_on n m k old mid new r is called cost = record {
+  at_most = let most = cost.at_most in omega (arith, is, called, most);
+  exact = on_ok_weaker r (λ exact. omega (arith, is, called, exact)) cost.exact;
+}
 
 -- one call is a run
 pub as_run : {T E : Type 0} {old new : State} {r : Result T E}
@@ -72,6 +87,16 @@ calm_of {old = old} {new} cause = elim (cases_lt old.failures new.failures) [
   | inr le ↦ let later = cause.later in omega (arith, le, later)
 ]
 
+-- a run in which no count rose, and that succeeded
+pub calm_run : {T E : Type 0} {old new : State} {v : T} → new.failures ≡ old.failures
+    → HasCauseOf {E = E} old new (Ok v)
+calm_run {old = old} {new} same = record {
+  later = omega (arith, same);
+  fits = λ is. absurd (not_both is);
+  cause = λ is. absurd (not_both is);
+  shown = λ less. absurd (omega (arith, less, same));
+}
+
 -- a run behind one that succeeded
 pub fails_of : {T A E F : Type 0} {old mid new : State} {e : E} (r : Result A F) → IsErr r
     → mid.failures ≡ old.failures → HasCauseOf {T = T} mid new (Err e) → HasCauseOf old new r
@@ -82,12 +107,22 @@ fails_of {old = old} {mid} {new} r err same cause = record {
   shown = λ less. err;
 }
 
-pub succeeds_of : {T A E F : Type 0} {old mid new : State} {v : T} {w : A}
-    → mid.failures ≡ old.failures → HasCauseOf {E = E} mid new (Ok v)
-    → HasCauseOf {E = F} old new (Ok w)
-succeeds_of {old = old} {mid} {new} same cause = record {
+-- a run behind calls that succeeded has the cause of all
+pub caused_of : {T E : Type 0} {old mid new : State} {r : Result T E}
+    → mid.failures ≡ old.failures → HasCauseOf mid new r → HasCauseOf old new r
+caused_of {old = old} {mid} {new} same cause = record {
   later = let later = cause.later in omega (arith, later, same);
-  fits = λ is. absurd (not_both is);
-  cause = λ is. absurd (not_both is);
+  fits = cause.fits;
+  cause = λ is. subst (λ n. Rises n new.failures) same (cause.cause is);
   shown = λ less. cause.shown (subst (λ n. n < new.failures) (sym same) less);
+}
+
+-- a run of many calls that failed has the cause that one call would have
+pub fails_run : {T A E F : Type 0} {old new : State} {e : E} (r : Result A F) → IsErr r
+    → HasCauseOf {T = T} old new (Err e) → HasCause old.failures new.failures r
+fails_run r err cause = record {
+  later = cause.later;
+  fits = cause.fits refl;
+  cause = λ is. cause.cause refl;
+  shown = λ rises. err;
 }

@@ -11,13 +11,11 @@ use Rattle.disk_model.specs.Disk.{State}
 use Rattle.mot_base.specs.declared.refusal.Refusal.{Refusal}
 use Rattle.mot_base.specs.declared.refusal.Refusal.TheVariants.{NotFormatted}
 use Rattle.mot_base.specs.declared.geometry.Geometry.{Geometry}
-use Rattle.mot_journal.specs.declared.layout.Layout.{Layout}
-use Rattle.mot_journal.specs.declared.record.Record.{Record}
 use Rattle.mot_base.specs.Geometry.{length_of, half_size, half_start}
 use Rattle.mot_journal.specs.Geometry.{geometry_of, selected_half}
 use Rattle.mot_base.specs.Geometry.{is_valid}
 use Rattle.mot_journal.specs.Catalogue.{result_then}
-use Rattle.mot_journal.specs.Image.{DiskRecords, records_of, half_of, journal_in_half}
+use Rattle.mot_journal.specs.Image.{records_of, half_of, journal_in_half}
 use Rattle.mot_journal.specs.Image.{or_not_formatted}
 use Rattle.mot_journal.specs.Inner.Loading.{IsHalfRefusal}
 use Rattle.mot_journal.specs.Inner.Loading.IsHalfRefusal.{no_memory as half_memory}

@@ -1,15 +1,15 @@
 -- What a crash leaves while a new disk is made.
-use Rattle.std.proofs.Common.{◌≡◌, ◌⊎◌, inl, inr, ⊎_elim, ℕ, ◌+◌, ◌-◌, ◌*◌, ◌≤◌, true, false, List}
-use Rattle.std.proofs.Common.{[], ◌∷◌, take, slice_range, sym, ◌∙◌, ap, arith}
+use Rattle.std.proofs.Common.{◌≡◌, ◌⊎◌, inl, inr, ⊎_elim, ℕ, zero, suc, ◌+◌, ◌-◌, ◌*◌, ◌≤◌, true}
+use Rattle.std.proofs.Common.{false, List, [], ◌∷◌, take, slice_range, refl, sym, ◌∙◌, ap, arith}
 use Rattle.std.specs.Prelude.{bytes_eq}
-use Rattle.std.proofs.lemmas.Bool.{cases_Bool}
+use Rattle.std.proofs.lemmas.Bool.{cases_Bool, and_from, lt-ltb}
 use Rattle.disk_model.specs.Disk.{State, AgreeOutside, IsHonestDisk, WritesWithin, Torn, Throughout}
 use Rattle.disk_model.proofs.Laws.{agree_trans, agree_more, at_end, joins, weakens}
 use Rattle.mot_base.specs.declared.geometry.Geometry.{Geometry}
 use Rattle.mot_base.specs.Geometry.{IsValid, length_of, half_size, half_start, area_start}
 use Rattle.mot_journal.specs.declared.layout.Layout.TheVariants.{Two}
 use Rattle.mot_journal.specs.Geometry.{has_magic, magic}
-use Rattle.mot_journal.specs.Slot.{slot_count, slot_size}
+use Rattle.mot_journal.specs.Slot.{slot_count, slot_size, AreSound}
 use Rattle.mot_journal.specs.Inner.Format.{first_record, behind_magic, HasAllButMagic, IsNewDisk}
 use Rattle.mot_journal.specs.Inner.Steps.{ChangesWithin, HasSlots, Publishes, LeavesWritten}
 use Rattle.mot_journal.specs.Journal.{NoneOrFrom}
@@ -34,6 +34,21 @@ within_joins start n old mid new at m sound so_far then low high = record {
       ));
 }
 
+-- the head written so changes only what lies between the magic and the data area
+pub head_filled : (g : Geometry) (old wrote : State) → IsHonestDisk old
+    → WritesWithin 8 56 old wrote → ChangesWithin 8 (area_start g - 8) old wrote
+head_filled g old wrote sound writes =
+    let rest = area_start g - 8 in
+    one_more 8 rest old old wrote 8 56 sound (unchanged 8 rest old sound) writes (omega arith)
+    (omega arith)
+
+-- the record of a new disk is sound
+pub first_sound : (g : Geometry) (directory : ℕ) → 1 ≤ directory
+    → AreSound g Two (first_record directory ∷ [])
+first_sound g directory some zero other lt =
+    let id = lt-ltb 0 directory some in and_from _ _ (and_from _ _ id id) refl
+first_sound g directory some (suc k) other lt = absurd (omega (arith, lt))
+
 -- what the calls up to the first half found
 pub record Found (g : Geometry) (old wrote mid : State) : Type 0 where
   pub sound : IsHonestDisk old
@@ -47,11 +62,9 @@ module _ {g : Geometry} {old wrote mid : State} (found : Found g old wrote mid) 
   -- the head and half 0 written so change only what lies between the magic and the data area
   pub first_filled : ChangesWithin 8 (area_start g - 8) old mid
   first_filled =
-      let rest = area_start g - 8 in
-      let head_written = one_more 8 rest old old wrote 8 56 found.sound
-      (unchanged 8 rest old found.sound) found.writes (omega arith) (omega arith) in
-      within_joins 8 rest old wrote mid (half_start g 0) (half_size g) found.wrote_sound
-      head_written found.first (omega arith) (omega arith)
+      within_joins 8 (area_start g - 8) old wrote mid (half_start g 0) (half_size g)
+      found.wrote_sound (head_filled g old wrote found.sound found.writes) found.first
+      (omega arith) (omega arith)
 
   -- so they do with half 1 written too
   pub all_filled : {last : State} → ChangesWithin (half_start g 1) (half_size g) mid last

@@ -13,7 +13,7 @@ use Rattle.mot_journal.specs.Catalogue.{catalogue_of, carousel_in, extents_of, r
 use Rattle.mot_journal.specs.Image.{DiskRecords, Standing, records_in, slots_of, are_gates_clean}
 use Rattle.mot_journal.specs.Image.{has_clean_gates, journal_in_half, or_not_formatted, half_of}
 use Rattle.mot_journal.specs.Image.{records_of, stands_for, area_of}
-use Rattle.mot_journal.specs.Journal.{JournalView, with_records, HasRecords, StandsWhere}
+use Rattle.mot_journal.specs.Journal.{JournalView, with_records, HasRecords}
 use Rattle.mot_journal.proofs.Slots.{slots}
 use Rattle.mot_journal.proofs.Laws.{geometry_read, stands_by_parts}
 

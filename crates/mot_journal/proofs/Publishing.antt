@@ -18,6 +18,13 @@ first_of_one c at =
 abbrev pub Outcome : ℕ → ℕ → State → List ℕ → Type 0
 Outcome at n old c = old.MayLeave c ⊎ AgreeOutside at n old.bytes c
 
+-- the first sync leaves an old image
+pub to_sync : (at n : ℕ) {old synced : State} → IsHonestDisk old → IsStill old synced
+    → Throughout old synced (Outcome at n old)
+to_sync at n {old} {synced} sound still =
+    stays old old synced (Outcome at n old)
+    (begins old (Outcome at n old) sound (λ c left. inl left)) still.time
+
 -- what a sync of an honest disk and the write behind it found
 pub record Found (at n : ℕ) (old synced wrote : State) : Type 0 where
   pub sound : IsHonestDisk old
@@ -31,9 +38,8 @@ module _ {at n : ℕ} {old synced wrote : State} (found : Found at n old synced 
   -- so it is until the range is written
   pub to_write : Throughout old wrote (Outcome at n old)
   to_write =
-      let to_sync = stays old old synced (Outcome at n old)
-      (begins old (Outcome at n old) found.sound (λ c left. inl left)) found.still.time in
-      goes_on old synced wrote (Outcome at n old) (Torn at n synced) to_sync found.writes.time
+      goes_on old synced wrote (Outcome at n old) (Torn at n synced)
+      (to_sync at n found.sound found.still) found.writes.time
       (λ c torn. inr (subst (λ d. AgreeOutside at n d c)
       (only_bytes synced found.synced_sound found.firm torn.0 torn.1 ∙ found.still.bytes)
       torn.2))

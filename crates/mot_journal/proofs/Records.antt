@@ -1,19 +1,17 @@
 -- The records of slots: one more open gate, and slots as they are written.
 use Rattle.std.proofs.Common.{◌≡◌, ℕ, ◌+◌, Bool, true, false, List, [], ◌∷◌, ◌++◌, map, length}
-use Rattle.std.proofs.Common.{Option, Some, None, Result, Ok, Err, refl, sym, ◌∙◌, ap, arith}
-use Rattle.std.proofs.Common.{append_assoc, append-nil}
+use Rattle.std.proofs.Common.{Option, Some, None, Result, Ok, Err, refl, ◌∙◌, ap, arith}
+use Rattle.std.proofs.Common.{append-nil}
 use Rattle.std.specs.Prelude.{if◌then◌else◌, take_while}
 use Rattle.std.proofs.lemmas.List.Sums.{take_while-cons}
 use Rattle.mot_base.specs.declared.refusal.Refusal.{Refusal}
 use Rattle.mot_base.specs.declared.refusal.Refusal.TheVariants.{Damaged}
-use Rattle.mot_base.specs.declared.geometry.Geometry.{Geometry}
 use Rattle.mot_journal.specs.declared.layout.Layout.{Layout}
 use Rattle.mot_journal.specs.declared.record.Record.{Record}
-use Rattle.mot_journal.specs.Slot.{read_slot, bytes_of_slot, is_sound, is_open, layout_of}
-use Rattle.mot_journal.specs.Inner.Fitting.{FitsSlot}
+use Rattle.mot_journal.specs.Slot.{bytes_of_slot, is_open}
 use Rattle.mot_journal.specs.Catalogue.{or_damaged, result_then}
-use Rattle.mot_journal.specs.Image.{DiskRecords, records_in, slots_of, journal_in_half}
-use Rattle.mot_journal.proofs.Written.{slot_reads_back, written_is_open}
+use Rattle.mot_journal.specs.Image.{records_in}
+use Rattle.mot_journal.proofs.Written.{written_is_open}
 
 abbrev ok : List Record → Result (List Record) Refusal
 ok records = Ok records

@@ -19,7 +19,6 @@ use Rattle.mot_journal.specs.declared.layout.Layout.TheVariants.{One, Two}
 use Rattle.mot_journal.specs.Slot.{is_open, slot_size, slot_count}
 use Rattle.mot_journal.specs.Image.{are_gates_clean, gate_reads, slots_in}
 use Rattle.mot_journal.specs.Inner.Scan.{scan}
-use Rattle.mot_journal.specs.Inner.Steps.{slots_in_half}
 use Rattle.mot_journal.proofs.Fill.{range_whole}
 use Rattle.mot_journal.proofs.NextSlot.{part_of_half, gate_at, slot_longer_than_gate}
 use Rattle.mot_journal.proofs.Slots.{slot_of_place, length-slots_in, times-suc}

@@ -1,14 +1,14 @@
 -- What a crash leaves while a slot is written and its gate opened.
-use Rattle.std.proofs.Common.{◌≡◌, inl, inr, ℕ, suc, ◌+◌, ◌-◌, ◌<◌, List, [], ◌∷◌, length, take}
-use Rattle.std.proofs.Common.{drop, get_or, slice_range, refl, sym, ◌∙◌, ap, subst, arith}
+use Rattle.std.proofs.Common.{◌≡◌, inl, inr, ⊎_elim, ℕ, suc, ◌+◌, ◌-◌, ◌<◌, List, [], ◌∷◌, length}
+use Rattle.std.proofs.Common.{take, drop, get_or, slice_range, refl, sym, ◌∙◌, ap, arith}
 use Rattle.std.proofs.Math.Seq.{drop-cons, take-length}
 use Rattle.std.proofs.lemmas.List.{length-drop}
-use Rattle.disk_model.specs.Disk.{State, AgreeOutside, IsHonestDisk, IsFirm, IsStill, WritesWithin}
-use Rattle.disk_model.specs.Disk.{Torn, Throughout}
-use Rattle.disk_model.proofs.Laws.{agree_refl, agree_trans, agree_more, only_bytes, begins, goes_on}
-use Rattle.disk_model.proofs.Laws.{stays}
-use Rattle.mot_journal.specs.Inner.Steps.{IsBehindGate, IsWritten, IsGated}
+use Rattle.disk_model.specs.Disk.{State, AgreeOutside, IsHonestDisk, WritesWithin, Torn, Throughout}
+use Rattle.disk_model.proofs.Laws.{agree_refl, agree_trans, agree_more, at_end, begins, goes_on}
+use Rattle.disk_model.proofs.Laws.{joins}
+use Rattle.mot_journal.specs.Inner.Steps.{IsBehindGate, IsWritten, IsGated, Publishes}
 use Rattle.mot_journal.proofs.NextSlot.{drop_behind}
+use Rattle.mot_journal.proofs.Publishing.{Outcome, first_of_one}
 
 -- all the bytes of a slot but one, from the second on, are those behind its gate
 pub tail_whole : (slot : List ℕ) → take (length slot - 1) (drop 1 slot) ≡ drop 1 slot
@@ -45,74 +45,61 @@ slot_rebuilt at slot image some inside gate rest =
     ∙ ap (λ l. get_or image at 0 ∷ l) tail ∙ ap (λ x. x ∷ drop 1 slot) gate
     ∙ sym (whole_slot slot some)
 
--- Up to the end of the first sync, a crash leaves an old image torn behind the gate, or the slot
--- behind any gate.
-pub to_sync : (at : ℕ) (slot : List ℕ) {old wrote synced : State} → IsHonestDisk old
-    → WritesWithin (at + 1) (length (drop 1 slot)) old wrote → IsStill wrote synced
-    → Throughout old synced (IsGated at slot old)
-to_sync at slot {old} {wrote} {synced} sound writes still =
+-- Until the slot is written, a crash leaves an old image torn behind the gate.
+pub to_write : (at : ℕ) (slot : List ℕ) {old wrote : State} → IsHonestDisk old
+    → WritesWithin (at + 1) (length (drop 1 slot)) old wrote
+    → Throughout old wrote (IsGated at slot old)
+to_write at slot {old} {wrote} sound writes =
     let n = length (drop 1 slot) in
-    let here = begins old (IsGated at slot old) sound
-    (λ c left. inl (c, left, agree_refl (at + 1) n c)) in
-    let to_write = goes_on old old wrote (IsGated at slot old) (Torn (at + 1) n old) here
-    writes.time (λ c torn. inl torn) in
-    stays old wrote synced (IsGated at slot old) to_write still.time
+    goes_on old old wrote (IsGated at slot old) (Torn (at + 1) n old)
+    (begins old (IsGated at slot old) sound (λ c left. inl (c, left, agree_refl (at + 1) n c)))
+    writes.time (λ c torn. inl torn)
 
--- what the calls up to the write of the gate found
-pub record Found (at : ℕ) (slot : List ℕ) (old wrote synced opened : State) : Type 0 where
+-- what the write behind the gate found
+pub record Found (at : ℕ) (slot : List ℕ) (old wrote : State) : Type 0 where
   pub some : 0 < length slot
   pub sound : IsHonestDisk old
+  pub inside : at < length old.bytes
   pub writes : WritesWithin (at + 1) (length (drop 1 slot)) old wrote
   pub rest : slice_range wrote.bytes (at + 1) (at + 1 + length (drop 1 slot)) ≡ drop 1 slot
-  pub still : IsStill wrote synced
-  pub synced_sound : IsHonestDisk synced
-  pub firm : IsFirm synced
-  pub opens : WritesWithin at 1 synced opened
-  pub still_honest : opened.IsHonest
+  pub wrote_sound : IsHonestDisk wrote
 
-module _ {at : ℕ} {slot : List ℕ} {old wrote synced opened : State}
-    (found : Found at slot old wrote synced opened) where
+module _ {at : ℕ} {slot : List ℕ} {old wrote : State} (found : Found at slot old wrote) where
   -- an image changed at the gate alone has the slot behind it
-  behind : (c : List ℕ) → AgreeOutside at 1 synced.bytes c → IsBehindGate at slot old.bytes c
+  behind : (c : List ℕ) → AgreeOutside at 1 wrote.bytes c → IsBehindGate at slot old.bytes c
   behind c agree =
       let n = length (drop 1 slot) in
       let long = tail_length slot found.some in
       let one = agree_more (at + 1) n at (length slot) old.bytes wrote.bytes (omega arith)
       (omega (arith, long)) found.writes.bytes in
-      let same = subst (λ b. AgreeOutside at (length slot) old.bytes b) (sym found.still.bytes)
-      one in
-      let two = agree_more at 1 at (length slot) synced.bytes c (omega arith)
+      let two = agree_more at 1 at (length slot) wrote.bytes c (omega arith)
       (omega (arith, long)) agree in
       record {
-        agree = agree_trans at (length slot) old.bytes synced.bytes c same two;
+        agree = agree_trans at (length slot) old.bytes wrote.bytes c one two;
         rest = ap (λ l. take (at + 1 + n - (at + 1)) l)
-            (drop_behind at 1 synced.bytes c agree (at + 1) (omega arith))
-            ∙ ap (λ b. slice_range b (at + 1) (at + 1 + n)) found.still.bytes ∙ found.rest;
+            (drop_behind at 1 wrote.bytes c agree (at + 1) (omega arith))
+            ∙ found.rest;
       }
 
-  -- so it is until the gate is written
-  pub to_open : Throughout old opened (IsGated at slot old)
-  to_open = goes_on old synced opened (IsGated at slot old) (Torn at 1 synced)
-      (to_sync at slot found.sound found.writes found.still) found.opens.time
-      (λ c torn. inr (behind c (subst (λ d. AgreeOutside at 1 d c)
-      (only_bytes synced found.synced_sound found.firm torn.0 torn.1) torn.2)))
+  -- while the gate is published, it leaves the slot behind any gate, too
+  pub to_end : {last : State} → Publishes at 1 wrote last
+      → Throughout old last (IsGated at slot old)
+  to_end {last} publishes =
+      let so_far = to_write at slot found.sound found.writes in
+      joins old wrote last (IsGated at slot old) (Outcome at 1 wrote) so_far publishes.time
+      (λ c outcome.
+      ⊎_elim (λ left. at_end old wrote (IsGated at slot old) found.wrote_sound so_far c left)
+      (λ agree. inr (behind c agree)) outcome)
 
-  -- and up to the end of the last sync
-  pub to_end : {last : State} → IsStill opened last → Throughout old last (IsGated at slot old)
-  to_end {last} still = stays old opened last (IsGated at slot old) to_open still.time
-
-  -- after the last sync each image has the slot with its gate
-  pub written : {last : State} → slice_range opened.bytes at (at + 1) ≡ get_or slot 0 0 ∷ []
-      → at < length opened.bytes → IsStill opened last → IsHonestDisk last → IsFirm last
-      → (c : List ℕ) → last.MayLeave c → IsWritten at slot old.bytes c
-  written {last} gate inside still sound firm c left =
-      let same : c ≡ opened.bytes = only_bytes last sound firm c left ∙ still.bytes in
-      let is = behind opened.bytes found.opens.bytes in
-      let first : get_or opened.bytes at 0 ≡ get_or slot 0 0 =
-      sym (ap (λ l. get_or (take (at + 1 - at) l) 0 0) (drop-cons opened.bytes at 0 inside)
-      ∙ ap (λ k. get_or (take k (get_or opened.bytes at 0 ∷ drop (suc at) opened.bytes)) 0 0)
-      (let e : at + 1 - at ≡ 1 = omega arith in e)) ∙ ap (λ l. get_or l 0 0) gate in
-      subst (λ b. IsWritten at slot old.bytes b) (sym same) (record {
+  -- each image that has the gate has the slot
+  pub written : (c : List ℕ) → IsWritten at (get_or slot 0 0 ∷ []) wrote.bytes c
+      → IsWritten at slot old.bytes c
+  written c gate =
+      let is = behind c gate.agree in
+      let inside : at < length c = omega (arith, found.inside, is.agree.len_is) in
+      let first : get_or c at 0 ≡ get_or slot 0 0 =
+      sym (first_of_one c at) ∙ ap (λ l. get_or l 0 0) gate.slot_is in
+      record {
         agree = is.agree;
-        slot_is = slot_rebuilt at slot opened.bytes found.some inside first is.rest;
-      })
+        slot_is = slot_rebuilt at slot c found.some inside first is.rest;
+      }

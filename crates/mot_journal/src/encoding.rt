@@ -76,7 +76,8 @@ fn put_number(slot: &mut ArrayVec<u8, 512>, number: u32, width: usize)
     requires narrow { width ≤ 4 }
     requires fits { number < 256 ^ width }
     requires room { array_vec_len slot.old + width ≤ 512 }
-    ensures { slot.new.items ≡ slot.old.items ++ bytes_high_first width number }
+    ensures written { slot.new.items ≡ slot.old.items ++ bytes_high_first width number }
+    ensures len { array_vec_len slot.new ≡ array_vec_len slot.old + width }
 {
     let mut bytes = [0; 4];
     BigEndian::write_uint(&mut bytes, u64::from(number), width);

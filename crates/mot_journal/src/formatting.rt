@@ -2,6 +2,7 @@
 ghost use Rattle.std.specs.Prelude.{◌≡◌, ◌⊎◌, ◌↔◌, ◌+◌, ◌-◌, ◌*◌, ◌<◌, ◌≤◌, ℕ, List, [], ◌∷◌};
 ghost use Rattle.std.specs.Prelude.{length, drop, MatchResult};
 ghost use Rattle.std.specs.Prelude.{true, false, Ok, OnOk, IfOk, IfErr, IsErrOf};
+ghost use Rattle.arrayvec.specs.ArrayVec.{array_vec_len};
 ghost use Rattle.disk_model.specs.Disk.{Keeps, KeepsLength, IsUnchanged, IsStill, OnlySyncs};
 ghost use Rattle.disk_model.specs.Failures.{HasCause, Rises};
 ghost use Rattle.disk_model.specs.Disk.{Throughout, Costs, IsFirm};
@@ -20,8 +21,9 @@ ghost use Rattle.mot_journal.specs.Inner.Format.{HasAllButMagic, IsNewDisk, behi
 
 use crate::writing::{fill_half, publish};
 use crate::{Action, Geometry, Layout, Record};
+use arrayvec::ArrayVec;
 use disk_model::{Disk, DiskFault};
-use mot_base::{Refusal, TransportId};
+use mot_base::{Refusal, TransportId, array_append, array_append_number};
 use mot_carousel::Period;
 
 /// What a formatted disk begins with.
@@ -171,8 +173,7 @@ fn make<D: Disk>(disk: &mut D, geometry: &Geometry, directory: TransportId) -> R
         → (D.state disk.new).MayLeave image → IsNewDisk geometry.now directory image) }
 {
     fill(disk, geometry, directory)?;
-    publish(disk, 0, &MAGIC)?;
-    Ok(())
+    publish(disk, 0, &MAGIC)
 }
 
 /// Writes all from the byte behind the magic up to the data area.
@@ -188,28 +189,29 @@ fn fill<D: Disk>(disk: &mut D, geometry: &Geometry, directory: TransportId) -> R
     ensures made { (D.state disk.old).IsHonest
         → OnOk result (HasAllButMagic geometry.now directory (D.state disk.new).bytes) }
 {
+    disk.write(8, &head_behind_magic(geometry))?;
     let first = Record {
         period: Period::ZERO,
         directory,
         cursor: directory,
         action: Action::Nothing,
     };
-    disk.write(8, &head_behind_magic(geometry))?;
     fill_half(disk, geometry, 0, Layout::Two, &[first])?;
-    fill_half(disk, geometry, 1, Layout::Two, &[])?;
-    Ok(())
+    fill_half(disk, geometry, 1, Layout::Two, &[])
 }
 
-/// The 56 bytes between the magic and the halves: half 0, and the geometry.
-fn head_behind_magic(geometry: &Geometry) -> [u8; 56]
-    ensures value { result ≡ behind_magic geometry.now }
-    ensures len { length result ≡ 56 }
+/// The 56 bytes between the magic and the halves: half 0, and the geometry. It takes no memory.
+fn head_behind_magic(geometry: &Geometry) -> ArrayVec<u8, 56>
+    ensures value { result.items ≡ behind_magic geometry.now }
+    ensures len { array_vec_len result ≡ 56 }
 {
-    let mut head = [0; 56];
-    head[8..10].copy_from_slice(&geometry.objects.to_be_bytes());
-    head[10..12].copy_from_slice(&geometry.segment_size.to_be_bytes());
-    head[12..14].copy_from_slice(&geometry.address.to_be_bytes());
-    head[14..16].copy_from_slice(&geometry.packet_length.to_be_bytes());
-    head[16..20].copy_from_slice(&geometry.data_area.to_be_bytes());
+    let mut head = ArrayVec::new();
+    array_append(&mut head, &[0; 8]);
+    array_append_number(&mut head, geometry.objects);
+    array_append_number(&mut head, geometry.segment_size);
+    array_append_number(&mut head, geometry.address);
+    array_append_number(&mut head, geometry.packet_length);
+    array_append(&mut head, &geometry.data_area.to_be_bytes());
+    array_append(&mut head, &[0; 36]);
     head
 }

@@ -28,10 +28,7 @@ pub fn write_slot<D: Disk>(disk: &mut D, place: u64, slot: &[u8]) -> Result<(), 
         → OnOk result (LeavesWritten place slot.now (D.state disk.old) (D.state disk.new)) }
 {
     disk.write(place + 1, &slot[1..])?;
-    disk.sync()?;
-    disk.write(place, &[slot[0]])?;
-    disk.sync()?;
-    Ok(())
+    publish(disk, place, &[slot[0]])
 }
 
 /// Where a slot of a half lies.
@@ -92,6 +89,5 @@ pub fn publish<D: Disk>(disk: &mut D, place: u64, bytes: &[u8]) -> Result<(), Di
     // What counts from then on has to be on the disk first: a torn part of it might.
     disk.sync()?;
     disk.write(place, bytes)?;
-    disk.sync()?;
-    Ok(())
+    disk.sync()
 }

@@ -1,10 +1,19 @@
 use Rattle.std.proofs.Common.{◌≡◌, ◌≤◌, ◌<◌, subst, ◌+◌, ◌-◌, sym, ◌∙◌, ap, take, drop, length}
-use Rattle.std.proofs.Common.{arith}
-use Rattle.mot_journal.specs.Slot.{longest_name}
+use Rattle.std.proofs.Common.{ℕ, List, arith}
+use Rattle.std.proofs.lemmas.Result.{IfOk-from_err}
+use Rattle.mot_journal.specs.declared.layout.Layout.{Layout}
+use Rattle.mot_journal.specs.declared.layout.Layout.TheVariants.{One, Two}
+use Rattle.mot_journal.specs.Slot.{longest_name, slot_size}
 use Rattle.mot_journal.specs.Inner.Reading.{number_at, name_from, mime_from}
 use Rattle.mot_journal.proofs.Setting.{rest_is, no_mime_of, set_sound, none_of, no_name, long_name}
 use Rattle.mot_journal.proofs.Decoded.{wrong-ok}
 use Rattle.mot_journal.proofs.decoding.read_set.Goals as goal
+
+-- a slot of either layout is as long as the columns need
+in_slot : (layout : Layout) (slot : List ℕ) (end : ℕ) → end ≤ 256
+    → length slot ≡ slot_size layout → end ≤ length slot
+in_slot One slot end few size = omega (arith, few, size)
+in_slot Two slot end few size = omega (arith, few, size)
 
 pub returns-in_default-3 : goal.returns-in_default-3
 returns-in_default-3 c =
@@ -96,3 +105,38 @@ returns-in_default-2 c =
     no_name (longest_name c.args.layout) (take (number_at 23 1 slot) (drop 24 slot))
     (sym (ap (λ b. name_from (longest_name c.args.layout) b) name) ∙ sym c.in_ok-name.ensures
     ∙ c.in_default-2.is) has.name))
+
+pub number-requires-clause-within : goal.number-requires-clause-within
+number-requires-clause-within c =
+    in_slot c.args.layout c.args.slot.now 11 (omega arith) c.requires
+
+pub number-version-requires-clause-within : goal.number-version-requires-clause-within
+number-version-requires-clause-within c =
+    in_slot c.args.layout c.args.slot.now 12 (omega arith) c.requires
+
+pub number-requires-2-clause-within : goal.number-requires-2-clause-within
+number-requires-2-clause-within c =
+    in_slot c.args.layout c.args.slot.now 13 (omega arith) c.requires
+
+pub number-requires-3-clause-within : goal.number-requires-3-clause-within
+number-requires-3-clause-within c =
+    in_slot c.args.layout c.args.slot.now 15 (omega arith) c.requires
+
+pub number-start-requires-clause-within : goal.number-start-requires-clause-within
+number-start-requires-clause-within c =
+    in_slot c.args.layout c.args.slot.now 19 (omega arith) c.requires
+
+pub number-requires-4-clause-within : goal.number-requires-4-clause-within
+number-requires-4-clause-within c =
+    in_slot c.args.layout c.args.slot.now 23 (omega arith) c.requires
+
+pub number-name_length-requires-clause-within : goal.number-name_length-requires-clause-within
+number-name_length-requires-clause-within c =
+    in_slot c.args.layout c.args.slot.now 24 (omega arith) c.requires
+
+pub returns-in_err-name : goal.returns-in_err-name
+returns-in_err-name c = IfOk-from_err c.from_residual.result _ c.from_residual.ensures.0
+
+pub returns-in_err-mime : goal.returns-in_err-mime
+returns-in_err-mime c =
+    IfOk-from_err c.from_residual-in_err-mime.result _ c.from_residual-in_err-mime.ensures.0

@@ -1,8 +1,10 @@
-use Rattle.std.proofs.Common.{◌≡◌, ◌∙◌, ◌+◌, ◌*◌, ◌≤◌, ℕ, refl, arith}
-use Rattle.std.proofs.lemmas.Result.{IfOk-from_err}
+use Rattle.std.proofs.Common.{◌≡◌, ◌∙◌, ◌+◌, ◌*◌, ◌≤◌, ℕ, refl, sym, subst, arith}
+use Rattle.std.proofs.lemmas.Result.{IfOk-from_err, on_ok_weaker}
 use Rattle.disk_model.proofs.Laws.{keeps_all_on}
-use Rattle.mot_journal.proofs.Calls.{as_run, calm, calm_of, fails_of, succeeds_of}
-use Rattle.mot_journal.proofs.Making.{Found, first_filled, all_filled, is_made}
+use Rattle.mot_base.specs.Geometry.{length_of}
+use Rattle.mot_journal.proofs.Calls.{as_run, calm, calm_of, fails_of, caused_of}
+use Rattle.mot_journal.proofs.Making.{Found, head_filled, first_sound, first_filled}
+use Rattle.mot_journal.proofs.Making.{all_filled, is_made}
 use Rattle.mot_journal.proofs.formatting.fill.Given as given
 use Rattle.mot_journal.proofs.formatting.fill.Goals as goal
 use Rattle.mot_journal.proofs.formatting.fill.Goals.{After-fill_half}
@@ -31,7 +33,8 @@ found g c honest =
     let honest2 = c.fill_half.ensures.keeps.honest honest1 in
     record {
       sound = g.met.D.Disk.sound c.args.disk.now honest;
-      writes = rw c.head_behind_magic.ensures.len at (c.write.ensures.range honest);
+      writes = rw (c.deref.ensures.0, c.head_behind_magic.ensures.len) at
+          (c.write.ensures.range honest);
       wrote_sound = g.met.D.Disk.sound c.write.new.self honest1;
       first = c.fill_half.ensures.range honest1;
       mid_sound = g.met.D.Disk.sound c.fill_half.new.disk honest2;
@@ -43,12 +46,6 @@ returns-in_err-fill_half-clause-range g c = λ honest.
     let from = goal.at.returns-in_err-fill_half-clause-range g c in
     first_filled (found g from.After-fill_half honest)
 
-pub returns-in_err-fill_half-2-clause-range : goal.returns-in_err-fill_half-2-clause-range
-returns-in_err-fill_half-2-clause-range g c = λ honest.
-    let from = goal.at.returns-in_err-fill_half-2-clause-range g c in
-    let before = found g from.After-fill_half honest in
-    all_filled before (c.fill_half-2.ensures.range before.still_honest)
-
 pub returns-clause-range : goal.returns-clause-range
 returns-clause-range g c = λ honest.
     let before = found g (goal.at.returns-clause-range g c).After-fill_half honest in
@@ -57,11 +54,13 @@ returns-clause-range g c = λ honest.
 pub returns-clause-made : goal.returns-clause-made
 returns-clause-made g c = λ honest.
     let before = found g (goal.at.returns-clause-made g c).After-fill_half honest in
-    let head = rw c.head_behind_magic.ensures.len at (c.in_ok-write.ensures.bytes honest) in
+    let head = rw (c.deref.ensures.0, c.head_behind_magic.ensures.len) at
+    (c.in_ok-write.ensures.bytes honest) in
+    on_ok_weaker c.fill_half-2.result (λ other.
     is_made before (c.fill_half-2.ensures.range before.still_honest) c.args.directory
     (head ∙ c.head_behind_magic.ensures.value)
-    (c.in_ok-fill_half.ensures.slots (c.write.ensures.keeps.honest honest))
-    (c.in_ok-fill_half-2.ensures.slots before.still_honest)
+    (c.in_ok-fill_half.ensures.slots (c.write.ensures.keeps.honest honest)) other)
+    (c.fill_half-2.ensures.slots before.still_honest)
 
 pub returns-in_err-write-clause-keeps : goal.returns-in_err-write-clause-keeps
 returns-in_err-write-clause-keeps g c =
@@ -108,35 +107,6 @@ returns-in_err-fill_half-clause-made g c = λ honest.
     IfOk-from_err c.from_residual-in_err-fill_half.result _
     c.from_residual-in_err-fill_half.ensures.0
 
-pub returns-in_err-fill_half-2-clause-keeps : goal.returns-in_err-fill_half-2-clause-keeps
-returns-in_err-fill_half-2-clause-keeps g c =
-    let state = g.D.Disk.state in
-    keeps_all_on (state c.args.disk.now) (state c.fill_half.new.disk)
-    (state c.fill_half-2.new.disk)
-    (keeps_all_on (state c.args.disk.now) (state c.write.new.self) (state c.fill_half.new.disk)
-    c.write.ensures.keeps c.fill_half.ensures.keeps)
-    c.fill_half-2.ensures.keeps
-
-pub returns-in_err-fill_half-2-clause-cause : goal.returns-in_err-fill_half-2-clause-cause
-returns-in_err-fill_half-2-clause-cause g c =
-    fails_of c.from_residual-in_err-fill_half-2.result c.from_residual-in_err-fill_half-2.ensures.0
-    (calm_of c.in_ok-fill_half.ensures.cause ∙ calm c.in_ok-write.ensures.cause)
-    c.in_err-fill_half-2.ensures.cause
-
-pub returns-in_err-fill_half-2-clause-cost : goal.returns-in_err-fill_half-2-clause-cost
-returns-in_err-fill_half-2-clause-cost g c =
-    record {
-      at_most = three _ _ _ _ _ c.write.ensures.called
-          c.in_ok-fill_half.ensures.cost.exact c.fill_half-2.ensures.cost.at_most;
-      exact = IfOk-from_err c.from_residual-in_err-fill_half-2.result _
-          c.from_residual-in_err-fill_half-2.ensures.0;
-    }
-
-pub returns-in_err-fill_half-2-clause-made : goal.returns-in_err-fill_half-2-clause-made
-returns-in_err-fill_half-2-clause-made g c = λ honest.
-    IfOk-from_err c.from_residual-in_err-fill_half-2.result _
-    c.from_residual-in_err-fill_half-2.ensures.0
-
 pub returns-clause-keeps : goal.returns-clause-keeps
 returns-clause-keeps g c =
     let state = g.D.Disk.state in
@@ -148,14 +118,40 @@ returns-clause-keeps g c =
 
 pub returns-clause-cause : goal.returns-clause-cause
 returns-clause-cause g c =
-    succeeds_of (calm_of c.in_ok-fill_half.ensures.cause ∙ calm c.in_ok-write.ensures.cause)
-    c.in_ok-fill_half-2.ensures.cause
+    caused_of (calm_of c.in_ok-fill_half.ensures.cause ∙ calm c.in_ok-write.ensures.cause)
+    c.fill_half-2.ensures.cause
 
 pub returns-clause-cost : goal.returns-clause-cost
 returns-clause-cost g c =
     record {
       at_most = three _ _ _ _ _ c.write.ensures.called c.in_ok-fill_half.ensures.cost.exact
           c.fill_half-2.ensures.cost.at_most;
-      exact = all _ _ _ _ _ c.write.ensures.called c.in_ok-fill_half.ensures.cost.exact
-          c.in_ok-fill_half-2.ensures.cost.exact;
+      exact = on_ok_weaker c.fill_half-2.result (λ exact.
+          all _ _ _ _ _ c.write.ensures.called c.in_ok-fill_half.ensures.cost.exact exact)
+          c.fill_half-2.ensures.cost.exact;
     }
+
+pub returns-in_err-write-clause-range : goal.returns-in_err-write-clause-range
+returns-in_err-write-clause-range g c = λ honest.
+    let state = g.D.Disk.state in
+    head_filled c.args.geometry.now (state c.args.disk.now) (state c.write.new.self)
+    (g.met.D.Disk.sound c.args.disk.now honest)
+    (rw (c.deref.ensures.0, c.head_behind_magic.ensures.len) at (c.write.ensures.range honest))
+
+pub fill_half-requires-clause-long_enough : goal.fill_half-requires-clause-long_enough
+fill_half-requires-clause-long_enough g c =
+    subst (λ n. length_of c.args.geometry.now ≤ n) (sym c.write.ensures.keeps.frame.len)
+    c.requires.long_enough
+
+pub fill_half-requires-clause-sound : goal.fill_half-requires-clause-sound
+fill_half-requires-clause-sound g c =
+    first_sound c.args.geometry.now c.args.directory (omega arith)
+
+pub fill_half-requires-2-clause-long_enough : goal.fill_half-requires-2-clause-long_enough
+fill_half-requires-2-clause-long_enough g c =
+    subst (λ n. length_of c.args.geometry.now ≤ n)
+    (sym (c.fill_half.ensures.keeps.frame.len ∙ c.write.ensures.keeps.frame.len))
+    c.requires.long_enough
+
+pub fill_half-requires-2-clause-sound : goal.fill_half-requires-2-clause-sound
+fill_half-requires-2-clause-sound g c = λ k other lt. absurd (omega (arith, lt))

@@ -1,11 +1,17 @@
-use Rattle.std.proofs.Common.{◌≡◌, ◌+◌, ◌*◌, ◌<◌, length, slice_range, sym, ◌∙◌, ap, subst, arith}
-use Rattle.std.proofs.Common.{rules}
+use Rattle.std.proofs.Common.{◌≡◌, ℕ, ◌+◌, ◌*◌, ◌<◌, ◌≤◌, length, slice_range}
+use Rattle.std.proofs.Common.{sym, ◌∙◌, ap, subst, arith}
+use Rattle.std.proofs.lemmas.Result.{IfOk-from_err}
 use Rattle.disk_model.specs.Disk.{WritesWithin}
 use Rattle.disk_model.proofs.Laws.{keeps_all_on}
 use Rattle.mot_base.specs.Geometry.{half_start, half_size}
 use Rattle.mot_journal.specs.Slot.{slot_size}
+use Rattle.mot_journal.proofs.Calls.{as_run, calm, calm_run, fails_of}
 use Rattle.mot_journal.proofs.Fill.{one_more, slot_more, slot_ends, range_whole}
 use Rattle.mot_journal.proofs.writing.fill_half.Goals as goal
+
+-- one call more than so many, of fewer than the whole
+within : (old mid new i n : ℕ) → i < n → mid ≡ old + i → new ≡ mid + 1 → new ≤ old + n
+within old mid new i n less e f = omega arith
 
 pub write-requires : goal.write-requires
 write-requires g c =
@@ -60,7 +66,7 @@ loop-number-preserved g c =
     record {
       keeps = keeps_all_on (state c.args.disk.now) (state c.loop-number.disk)
           (state c.write.new.self) so_far.keeps c.write.ensures.keeps;
-      calm = search rules;
+      calm = calm c.in_ok-write.ensures.cause ∙ so_far.calm;
       cost = omega (arith, c.write.ensures.called, so_far.cost);
       range = λ honest.
           let honest1 = so_far.keeps.honest honest in
@@ -86,3 +92,36 @@ loop-number-preserved g c =
           ∙ c.slot_or_zeros.ensures.value)
           (c.slot_or_zeros.ensures.reads geometry c.requires.sound);
     }
+
+pub returns-in_err-write-clause-keeps : goal.returns-in_err-write-clause-keeps
+returns-in_err-write-clause-keeps g c =
+    let state = g.D.Disk.state in
+    keeps_all_on (state c.args.disk.now) (state c.loop-number.disk) (state c.write.new.self)
+    c.loop-number.invariant.keeps c.write.ensures.keeps
+
+pub returns-in_err-write-clause-cause : goal.returns-in_err-write-clause-cause
+returns-in_err-write-clause-cause g c =
+    fails_of {mid = g.D.Disk.state c.loop-number.disk} c.from_residual.result
+    c.from_residual.ensures.0 c.loop-number.invariant.calm (as_run c.in_err-write.ensures.cause)
+
+pub returns-in_err-write-clause-cost : goal.returns-in_err-write-clause-cost
+returns-in_err-write-clause-cost g c = record {
+  at_most = within _ _ _ _ _
+      (subst (λ n. c.loop-number.number < n) c.slot_count-number-end.ensures
+          c.loop-number-test.true)
+      c.loop-number.invariant.cost c.write.ensures.called;
+  exact = IfOk-from_err c.from_residual.result _ c.from_residual.ensures.0;
+}
+
+pub returns-in_err-write-clause-slots : goal.returns-in_err-write-clause-slots
+returns-in_err-write-clause-slots g c = λ honest.
+    IfOk-from_err c.from_residual.result _ c.from_residual.ensures.0
+
+pub returns-clause-keeps : goal.returns-clause-keeps
+returns-clause-keeps g c = c.loop-number.invariant.keeps
+
+pub returns-clause-cause : goal.returns-clause-cause
+returns-clause-cause g c = calm_run c.loop-number.invariant.calm
+
+pub returns-clause-range : goal.returns-clause-range
+returns-clause-range g c = c.loop-number.invariant.range

@@ -1,8 +1,8 @@
 use Rattle.std.proofs.Common.{◌∙◌, length, refl, arith}
-use Rattle.std.proofs.lemmas.Result.{IfOk-from_err}
+use Rattle.std.proofs.lemmas.Result.{IfOk-from_err, on_ok_weaker}
 use Rattle.disk_model.proofs.Laws.{keeps_all_on}
-use Rattle.mot_journal.proofs.Calls.{calm, fails, succeeds, one_more, costs_failed, costs_all}
-use Rattle.mot_journal.proofs.Publishing.{Found, to_write, to_end, written}
+use Rattle.mot_journal.proofs.Calls.{calm, fails, caused, one_more, costs_failed, costs_all}
+use Rattle.mot_journal.proofs.Publishing.{Found, to_sync, to_write, to_end, written}
 use Rattle.mot_journal.proofs.writing.publish.Given as given
 use Rattle.mot_journal.proofs.writing.publish.Goals as goal
 use Rattle.mot_journal.proofs.writing.publish.Goals.{After-write}
@@ -27,11 +27,6 @@ returns-in_err-write-clause-any_moment g c = λ honest.
     let from = goal.at.returns-in_err-write-clause-any_moment g c in
     record { time = to_write (found g from.After-write honest) }
 
-pub returns-in_err-sync-2-clause-any_moment : goal.returns-in_err-sync-2-clause-any_moment
-returns-in_err-sync-2-clause-any_moment g c = λ honest.
-    let before = found g (goal.at.returns-in_err-sync-2-clause-any_moment g c).After-write honest in
-    record { time = to_end before (c.sync-2.ensures.still before.still_honest) }
-
 pub returns-clause-any_moment : goal.returns-clause-any_moment
 returns-clause-any_moment g c = λ honest.
     let before = found g (goal.at.returns-clause-any_moment g c).After-write honest in
@@ -41,10 +36,11 @@ pub returns-clause-ok : goal.returns-clause-ok
 returns-clause-ok g c = λ honest.
     let before = found g (goal.at.returns-clause-ok g c).After-write honest in
     let last_honest = c.sync-2.ensures.keeps.honest before.still_honest in
+    on_ok_weaker c.sync-2.result (λ firm.
     written before refl (c.in_ok-write.ensures.bytes (c.sync.ensures.keeps.honest honest))
     (c.sync-2.ensures.still before.still_honest)
-    (g.met.D.Disk.sound c.sync-2.new.self last_honest)
-    (c.in_ok-sync-2.ensures.firm before.still_honest)
+    (g.met.D.Disk.sound c.sync-2.new.self last_honest) firm)
+    (c.sync-2.ensures.firm before.still_honest)
 
 pub returns-in_err-sync-clause-keeps : goal.returns-in_err-sync-clause-keeps
 returns-in_err-sync-clause-keeps g c =
@@ -62,6 +58,13 @@ returns-in_err-sync-clause-cost g c =
     costs_failed 3 1 (state c.args.disk.now) (state c.sync.new.self) c.from_residual.result
     c.from_residual.ensures.0 (omega arith)
     c.sync.ensures.called
+
+pub returns-in_err-sync-clause-any_moment : goal.returns-in_err-sync-clause-any_moment
+returns-in_err-sync-clause-any_moment g c = λ honest.
+    record {
+      time = to_sync c.args.place (length c.args.bytes.now)
+          (g.met.D.Disk.sound c.args.disk.now honest) (c.sync.ensures.still honest);
+    }
 
 pub returns-in_err-sync-clause-ok : goal.returns-in_err-sync-clause-ok
 returns-in_err-sync-clause-ok g c = λ honest.
@@ -91,33 +94,6 @@ pub returns-in_err-write-clause-ok : goal.returns-in_err-write-clause-ok
 returns-in_err-write-clause-ok g c = λ honest.
     IfOk-from_err c.from_residual-in_err-write.result _ c.from_residual-in_err-write.ensures.0
 
-pub returns-in_err-sync-2-clause-keeps : goal.returns-in_err-sync-2-clause-keeps
-returns-in_err-sync-2-clause-keeps g c =
-    let state = g.D.Disk.state in
-    keeps_all_on (state c.args.disk.now) (state c.write.new.self) (state c.sync-2.new.self)
-    (keeps_all_on (state c.args.disk.now) (state c.sync.new.self) (state c.write.new.self)
-    c.sync.ensures.keeps c.write.ensures.keeps) c.sync-2.ensures.keeps
-
-pub returns-in_err-sync-2-clause-cause : goal.returns-in_err-sync-2-clause-cause
-returns-in_err-sync-2-clause-cause g c =
-    fails c.from_residual-in_err-sync-2.result c.from_residual-in_err-sync-2.ensures.0
-    (calm c.in_ok-write.ensures.cause
-    ∙ calm c.in_ok-sync.ensures.cause)
-    c.in_err-sync-2.ensures.cause
-
-pub returns-in_err-sync-2-clause-cost : goal.returns-in_err-sync-2-clause-cost
-returns-in_err-sync-2-clause-cost g c =
-    let state = g.D.Disk.state in
-    costs_failed 3 3 (state c.args.disk.now) (state c.sync-2.new.self)
-    c.from_residual-in_err-sync-2.result
-    c.from_residual-in_err-sync-2.ensures.0 (omega arith)
-    (one_more _ _ _ 2 (one_more _ _ _ 1 c.sync.ensures.called c.write.ensures.called)
-    c.sync-2.ensures.called)
-
-pub returns-in_err-sync-2-clause-ok : goal.returns-in_err-sync-2-clause-ok
-returns-in_err-sync-2-clause-ok g c = λ honest.
-    IfOk-from_err c.from_residual-in_err-sync-2.result _ c.from_residual-in_err-sync-2.ensures.0
-
 pub returns-clause-keeps : goal.returns-clause-keeps
 returns-clause-keeps g c =
     let state = g.D.Disk.state in
@@ -127,14 +103,12 @@ returns-clause-keeps g c =
 
 pub returns-clause-cause : goal.returns-clause-cause
 returns-clause-cause g c =
-    succeeds
-    (calm c.in_ok-write.ensures.cause
-    ∙ calm c.in_ok-sync.ensures.cause)
-    c.in_ok-sync-2.ensures.cause
+    caused (calm c.in_ok-write.ensures.cause ∙ calm c.in_ok-sync.ensures.cause)
+    c.sync-2.ensures.cause
 
 pub returns-clause-cost : goal.returns-clause-cost
 returns-clause-cost g c =
     let state = g.D.Disk.state in
-    costs_all 3 (state c.args.disk.now) (state c.sync-2.new.self)
+    costs_all 3 (state c.args.disk.now) (state c.sync-2.new.self) c.sync-2.result
     (one_more _ _ _ 2 (one_more _ _ _ 1 c.sync.ensures.called c.write.ensures.called)
     c.sync-2.ensures.called)

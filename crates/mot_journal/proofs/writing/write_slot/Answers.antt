@@ -1,73 +1,36 @@
-use Rattle.std.proofs.Common.{◌<◌, ◌∙◌, length, refl, arith}
-use Rattle.std.proofs.lemmas.Result.{IfOk-from_err}
+use Rattle.std.proofs.Common.{◌≡◌, ◌+◌, ◌<◌, length, drop, slice_range, refl, arith}
+use Rattle.std.proofs.lemmas.Result.{IfOk-from_err, on_ok_weaker}
 use Rattle.disk_model.proofs.Laws.{keeps_all_on}
-use Rattle.mot_journal.proofs.Calls.{calm, fails, succeeds, one_more, costs_failed, costs_all}
-use Rattle.mot_journal.proofs.SlotWrite.{tail_whole, Found, to_sync, to_open, to_end, written}
+use Rattle.mot_journal.proofs.Calls.{calm, fails, caused, costs_failed, costs_on}
+use Rattle.mot_journal.proofs.SlotWrite.{tail_whole, Found, to_write, to_end, written}
 use Rattle.mot_journal.proofs.writing.write_slot.Given as given
 use Rattle.mot_journal.proofs.writing.write_slot.Goals as goal
-use Rattle.mot_journal.proofs.writing.write_slot.Goals.{After-write-2}
+use Rattle.mot_journal.proofs.writing.write_slot.Goals.{After-write}
 
-pub returns-in_err-sync-clause-any_moment : goal.returns-in_err-sync-clause-any_moment
-returns-in_err-sync-clause-any_moment g c = λ honest.
-    to_sync c.args.place c.args.slot.now (g.met.D.Disk.sound c.args.disk.now honest)
-    (rw tail_whole at (c.write.ensures.range honest))
-    (c.sync.ensures.still (c.write.ensures.keeps.honest honest))
-
--- what the calls up to the write of the gate found
-found : (g : given.Over) (c : After-write-2 g) → (g.D.Disk.state c.args.disk.now).IsHonest
+-- what the write behind the gate found
+found : (g : given.Over) (c : After-write g) → (g.D.Disk.state c.args.disk.now).IsHonest
+    → slice_range (g.D.Disk.state c.write.new.self).bytes (c.args.place + 1)
+    (c.args.place + 1 + length (drop 1 c.args.slot.now)) ≡ drop 1 c.args.slot.now
     → Found c.args.place c.args.slot.now (g.D.Disk.state c.args.disk.now)
-    (g.D.Disk.state c.write.new.self) (g.D.Disk.state c.sync.new.self)
-    (g.D.Disk.state c.write-2.new.self)
-found g c honest =
-    let honest1 = c.write.ensures.keeps.honest honest in
-    let honest2 = c.sync.ensures.keeps.honest honest1 in
-    record {
-      some = c.requires.some;
-      sound = g.met.D.Disk.sound c.args.disk.now honest;
-      writes = rw tail_whole at (c.write.ensures.range honest);
-      rest = rw tail_whole at (c.in_ok-write.ensures.bytes honest);
-      still = c.sync.ensures.still honest1;
-      synced_sound = g.met.D.Disk.sound c.sync.new.self honest2;
-      firm = c.in_ok-sync.ensures.firm honest1;
-      opens = c.write-2.ensures.range honest2;
-      still_honest = c.write-2.ensures.keeps.honest honest2;
-    }
-
-pub returns-in_err-write-2-clause-any_moment : goal.returns-in_err-write-2-clause-any_moment
-returns-in_err-write-2-clause-any_moment g c = λ honest.
-    to_open (found g (goal.at.returns-in_err-write-2-clause-any_moment g c).After-write-2 honest)
-
-pub returns-in_err-sync-2-clause-any_moment : goal.returns-in_err-sync-2-clause-any_moment
-returns-in_err-sync-2-clause-any_moment g c = λ honest.
-    let from = goal.at.returns-in_err-sync-2-clause-any_moment g c in
-    let before = found g from.After-write-2 honest in
-    to_end before (c.sync-2.ensures.still before.still_honest)
-
-pub returns-clause-any_moment : goal.returns-clause-any_moment
-returns-clause-any_moment g c = λ honest.
-    let before = found g (goal.at.returns-clause-any_moment g c).After-write-2 honest in
-    to_end before (c.sync-2.ensures.still before.still_honest)
-
-pub returns-clause-ok : goal.returns-clause-ok
-returns-clause-ok g c = λ honest.
-    let before = found g (goal.at.returns-clause-ok g c).After-write-2 honest in
-    let honest2 = c.sync.ensures.keeps.honest (c.write.ensures.keeps.honest honest) in
-    let opened = g.D.Disk.state c.write-2.new.self in
-    let sound = g.met.D.Disk.sound c.write-2.new.self before.still_honest in
-    let inside : c.args.place < length opened.bytes =
+    (g.D.Disk.state c.write.new.self)
+found g c honest rest =
+    let old = g.D.Disk.state c.args.disk.now in
+    let sound = g.met.D.Disk.sound c.args.disk.now honest in
+    let inside : c.args.place < length old.bytes =
     omega (
       arith,
-      (sound.images opened.bytes sound.bytes).len_is,
-      c.write.ensures.keeps.frame.len,
-      c.sync.ensures.keeps.frame.len,
-      c.write-2.ensures.keeps.frame.len,
+      (sound.images old.bytes sound.bytes).len_is,
       c.requires.fits,
       c.requires.some,
     ) in
-    written before (c.in_ok-write-2.ensures.bytes honest2) inside
-    (c.sync-2.ensures.still before.still_honest)
-    (g.met.D.Disk.sound c.sync-2.new.self (c.sync-2.ensures.keeps.honest before.still_honest))
-    (c.in_ok-sync-2.ensures.firm before.still_honest)
+    record {
+      some = c.requires.some;
+      sound = sound;
+      inside = inside;
+      writes = rw tail_whole at (c.write.ensures.range honest);
+      rest = rest;
+      wrote_sound = g.met.D.Disk.sound c.write.new.self (c.write.ensures.keeps.honest honest);
+    }
 
 pub returns-in_err-write-clause-keeps : goal.returns-in_err-write-clause-keeps
 returns-in_err-write-clause-keeps g c =
@@ -86,109 +49,39 @@ returns-in_err-write-clause-cost g c =
     c.from_residual.ensures.0 (omega arith)
     c.write.ensures.called
 
+pub returns-in_err-write-clause-any_moment : goal.returns-in_err-write-clause-any_moment
+returns-in_err-write-clause-any_moment g c = λ honest.
+    to_write c.args.place c.args.slot.now (g.met.D.Disk.sound c.args.disk.now honest)
+    (rw tail_whole at (c.write.ensures.range honest))
+
 pub returns-in_err-write-clause-ok : goal.returns-in_err-write-clause-ok
 returns-in_err-write-clause-ok g c = λ honest.
     IfOk-from_err c.from_residual.result _ c.from_residual.ensures.0
 
-pub returns-in_err-sync-clause-keeps : goal.returns-in_err-sync-clause-keeps
-returns-in_err-sync-clause-keeps g c =
-    let state = g.D.Disk.state in
-    keeps_all_on (state c.args.disk.now) (state c.write.new.self) (state c.sync.new.self)
-    c.write.ensures.keeps c.sync.ensures.keeps
-
-pub returns-in_err-sync-clause-cause : goal.returns-in_err-sync-clause-cause
-returns-in_err-sync-clause-cause g c =
-    fails c.from_residual-in_err-sync.result c.from_residual-in_err-sync.ensures.0
-    (calm c.in_ok-write.ensures.cause)
-    c.in_err-sync.ensures.cause
-
-pub returns-in_err-sync-clause-cost : goal.returns-in_err-sync-clause-cost
-returns-in_err-sync-clause-cost g c =
-    let state = g.D.Disk.state in
-    costs_failed 4 2 (state c.args.disk.now) (state c.sync.new.self)
-    c.from_residual-in_err-sync.result
-    c.from_residual-in_err-sync.ensures.0 (omega arith)
-    (one_more _ _ _ 1 c.write.ensures.called c.sync.ensures.called)
-
-pub returns-in_err-sync-clause-ok : goal.returns-in_err-sync-clause-ok
-returns-in_err-sync-clause-ok g c = λ honest.
-    IfOk-from_err c.from_residual-in_err-sync.result _ c.from_residual-in_err-sync.ensures.0
-
-pub returns-in_err-write-2-clause-keeps : goal.returns-in_err-write-2-clause-keeps
-returns-in_err-write-2-clause-keeps g c =
-    let state = g.D.Disk.state in
-    keeps_all_on (state c.args.disk.now) (state c.sync.new.self) (state c.write-2.new.self)
-    (keeps_all_on (state c.args.disk.now) (state c.write.new.self) (state c.sync.new.self)
-    c.write.ensures.keeps c.sync.ensures.keeps) c.write-2.ensures.keeps
-
-pub returns-in_err-write-2-clause-cause : goal.returns-in_err-write-2-clause-cause
-returns-in_err-write-2-clause-cause g c =
-    fails c.from_residual-in_err-write-2.result c.from_residual-in_err-write-2.ensures.0
-    (calm c.in_ok-sync.ensures.cause
-    ∙ calm c.in_ok-write.ensures.cause)
-    c.in_err-write-2.ensures.cause
-
-pub returns-in_err-write-2-clause-cost : goal.returns-in_err-write-2-clause-cost
-returns-in_err-write-2-clause-cost g c =
-    let state = g.D.Disk.state in
-    costs_failed 4 3 (state c.args.disk.now) (state c.write-2.new.self)
-    c.from_residual-in_err-write-2.result
-    c.from_residual-in_err-write-2.ensures.0 (omega arith)
-    (one_more _ _ _ 2 (one_more _ _ _ 1 c.write.ensures.called c.sync.ensures.called)
-    c.write-2.ensures.called)
-
-pub returns-in_err-write-2-clause-ok : goal.returns-in_err-write-2-clause-ok
-returns-in_err-write-2-clause-ok g c = λ honest.
-    IfOk-from_err c.from_residual-in_err-write-2.result _ c.from_residual-in_err-write-2.ensures.0
-
-pub returns-in_err-sync-2-clause-keeps : goal.returns-in_err-sync-2-clause-keeps
-returns-in_err-sync-2-clause-keeps g c =
-    let state = g.D.Disk.state in
-    keeps_all_on (state c.args.disk.now) (state c.write-2.new.self) (state c.sync-2.new.self)
-    (keeps_all_on (state c.args.disk.now) (state c.sync.new.self) (state c.write-2.new.self)
-    (keeps_all_on (state c.args.disk.now) (state c.write.new.self) (state c.sync.new.self)
-    c.write.ensures.keeps c.sync.ensures.keeps) c.write-2.ensures.keeps) c.sync-2.ensures.keeps
-
-pub returns-in_err-sync-2-clause-cause : goal.returns-in_err-sync-2-clause-cause
-returns-in_err-sync-2-clause-cause g c =
-    fails c.from_residual-in_err-sync-2.result c.from_residual-in_err-sync-2.ensures.0
-    (calm c.in_ok-write-2.ensures.cause
-    ∙ calm c.in_ok-sync.ensures.cause
-    ∙ calm c.in_ok-write.ensures.cause)
-    c.in_err-sync-2.ensures.cause
-
-pub returns-in_err-sync-2-clause-cost : goal.returns-in_err-sync-2-clause-cost
-returns-in_err-sync-2-clause-cost g c =
-    let state = g.D.Disk.state in
-    costs_failed 4 4 (state c.args.disk.now) (state c.sync-2.new.self)
-    c.from_residual-in_err-sync-2.result
-    c.from_residual-in_err-sync-2.ensures.0 (omega arith)
-    (one_more _ _ _ 3 (one_more _ _ _ 2 (one_more _ _ _ 1 c.write.ensures.called
-    c.sync.ensures.called) c.write-2.ensures.called) c.sync-2.ensures.called)
-
-pub returns-in_err-sync-2-clause-ok : goal.returns-in_err-sync-2-clause-ok
-returns-in_err-sync-2-clause-ok g c = λ honest.
-    IfOk-from_err c.from_residual-in_err-sync-2.result _ c.from_residual-in_err-sync-2.ensures.0
-
 pub returns-clause-keeps : goal.returns-clause-keeps
 returns-clause-keeps g c =
     let state = g.D.Disk.state in
-    keeps_all_on (state c.args.disk.now) (state c.write-2.new.self) (state c.sync-2.new.self)
-    (keeps_all_on (state c.args.disk.now) (state c.sync.new.self) (state c.write-2.new.self)
-    (keeps_all_on (state c.args.disk.now) (state c.write.new.self) (state c.sync.new.self)
-    c.write.ensures.keeps c.sync.ensures.keeps) c.write-2.ensures.keeps) c.sync-2.ensures.keeps
+    keeps_all_on (state c.args.disk.now) (state c.write.new.self) (state c.publish.new.disk)
+    c.write.ensures.keeps c.publish.ensures.keeps
 
 pub returns-clause-cause : goal.returns-clause-cause
-returns-clause-cause g c =
-    succeeds
-    (calm c.in_ok-write-2.ensures.cause
-    ∙ calm c.in_ok-sync.ensures.cause
-    ∙ calm c.in_ok-write.ensures.cause)
-    c.in_ok-sync-2.ensures.cause
+returns-clause-cause g c = caused (calm c.in_ok-write.ensures.cause) c.publish.ensures.cause
 
 pub returns-clause-cost : goal.returns-clause-cost
 returns-clause-cost g c =
     let state = g.D.Disk.state in
-    costs_all 4 (state c.args.disk.now) (state c.sync-2.new.self)
-    (one_more _ _ _ 3 (one_more _ _ _ 2 (one_more _ _ _ 1 c.write.ensures.called
-    c.sync.ensures.called) c.write-2.ensures.called) c.sync-2.ensures.called)
+    costs_on 1 3 4 (state c.args.disk.now) (state c.write.new.self) (state c.publish.new.disk)
+    c.publish.result refl c.write.ensures.called c.publish.ensures.cost
+
+pub returns-clause-any_moment : goal.returns-clause-any_moment
+returns-clause-any_moment g c = λ honest.
+    let rest = rw tail_whole at (c.in_ok-write.ensures.bytes honest) in
+    to_end (found g (goal.at.returns-clause-any_moment g c).After-write honest rest)
+    (c.publish.ensures.any_moment (c.write.ensures.keeps.honest honest))
+
+pub returns-clause-ok : goal.returns-clause-ok
+returns-clause-ok g c = λ honest.
+    let rest = rw tail_whole at (c.in_ok-write.ensures.bytes honest) in
+    let before = found g (goal.at.returns-clause-ok g c).After-write honest rest in
+    on_ok_weaker c.publish.result (λ leaves image left. written before image (leaves image left))
+    (c.publish.ensures.ok (c.write.ensures.keeps.honest honest))

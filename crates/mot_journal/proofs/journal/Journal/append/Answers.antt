@@ -1,5 +1,12 @@
 use Rattle.std.proofs.lemmas.Result.{IfOk-from_err, MatchResult-from_err}
 use Rattle.mot_journal.proofs.Calls.{fails, succeeds}
+use Rattle.std.proofs.Common.{ℕ, ◌+◌, ◌<◌}
+use Rattle.mot_base.specs.Geometry.{area_start, length_of}
+use Rattle.mot_base.specs.declared.geometry.Geometry.{Geometry}
+use Rattle.mot_journal.specs.declared.layout.Layout.{Layout}
+use Rattle.mot_journal.specs.declared.layout.Layout.TheVariants.{One, Two}
+use Rattle.mot_journal.specs.Inner.Places.{start_of_slot}
+use Rattle.mot_journal.proofs.Fill.{slot_ends}
 use Rattle.std.proofs.Common.{◌≡◌, ◌≤◌, true, List, ◌++◌, [], ◌∷◌, length, Some, Ok, refl, sym}
 use Rattle.std.proofs.Common.{◌∙◌, ap, subst, arith, length-append}
 use Rattle.disk_model.specs.Disk.{Throughout}
@@ -148,3 +155,35 @@ returns-clause-cost g c =
 pub returns-clause-spent : goal.returns-clause-spent
 returns-clause-spent g c =
     tt
+
+-- the slot has its layout's size
+size : (layout : Layout) → 0 < slot_size layout
+size One = omega arith
+size Two = omega arith
+
+-- a slot that ends before the data area ends on the disk
+fits : (g : Geometry) (at start n size len : ℕ) → at ≡ start → n ≡ size
+    → start + size ≤ area_start g → length_of g ≤ len → at + n ≤ len
+fits g at start n size len at_is size_is ends long = omega (arith, at_is, size_is, ends, long)
+
+pub write_slot-requires-clause-some : goal.write_slot-requires-clause-some
+write_slot-requires-clause-some g c =
+    let layout_is = ap (λ (x : JournalView). x.layout) c.self.view_is in
+    let sound = subst (λ y. is_sound c.args.self.now.geometry y c.args.entry.now ≡ true)
+    (sym layout_is) c.requires.sound in
+    subst (λ n. 0 < n) (sym (ap length c.deref.ensures.0
+    ∙ c.slot_bytes-slot.ensures.size c.args.self.now.geometry sound)) (size _)
+
+pub write_slot-requires-clause-fits : goal.write_slot-requires-clause-fits
+write_slot-requires-clause-fits g c =
+    let j = c.args.self.now in
+    let layout_is = ap (λ (x : JournalView). x.layout) c.self.view_is in
+    let sound = subst (λ y. is_sound j.geometry y c.args.entry.now ≡ true)
+    (sym layout_is) c.requires.sound in
+    let half = subst (λ (x : JournalView). x.half ≤ 1) c.self.view_is c.self.inside.two_halves in
+    fits j.geometry _ (start_of_slot j j.count) _ (slot_size j.layout) _
+    c.next_place-place.ensures.value
+    (ap length c.deref.ensures.0 ∙ c.slot_bytes-slot.ensures.size j.geometry sound
+    ∙ ap slot_size layout_is)
+    (slot_ends j.geometry j.half j.layout j.count half c.requires.not_full).1
+    c.requires.long_enough

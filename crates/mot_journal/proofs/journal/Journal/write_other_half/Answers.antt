@@ -1,12 +1,26 @@
-use Rattle.std.proofs.Common.{◌≤◌, List, length, refl, sym, subst, rules}
+use Rattle.std.proofs.Common.{◌≡◌, ℕ, ◌+◌, ◌≤◌, List, length, refl, sym, ap, subst, arith, rules}
+use Rattle.std.proofs.lemmas.Result.{IfOk-from_err, MatchResult-from_err}
+use Rattle.disk_model.proofs.Laws.{keeps_all_on}
+use Rattle.mot_base.specs.Geometry.{length_of}
+use Rattle.mot_journal.proofs.Calls.{calm_of, fails, fails_run, succeeds}
 use Rattle.disk_model.specs.Disk.{Throughout}
 use Rattle.mot_journal.specs.declared.record.Record.{Record}
-use Rattle.mot_journal.specs.Slot.{slot_count}
+use Rattle.mot_journal.specs.Slot.{slot_count, AreSound}
 use Rattle.mot_journal.specs.Journal.{JournalView, HoldsRecords, FoldOf, OldOrGiven, HasReadArea}
 use Rattle.mot_journal.proofs.Turning.{Found, filling, selecting, given_alone}
 use Rattle.mot_journal.proofs.journal.Journal.write_other_half.Given as given
 use Rattle.mot_journal.proofs.journal.Journal.write_other_half.Goals as goal
 use Rattle.mot_journal.proofs.journal.Journal.write_other_half.Goals.{After-fill_half}
+
+-- the calls of the half, and the three of the selector
+part_of : (old mid n m : ℕ) → n ≡ m → mid ≤ old + n → mid ≤ old + (m + 3)
+part_of old mid n m same most = omega arith
+
+at_most : (old mid new n m : ℕ) → n ≡ m → mid ≡ old + n → new ≤ mid + 3 → new ≤ old + (m + 3)
+at_most old mid new n m same first then = omega arith
+
+exactly : (old mid new n m : ℕ) → n ≡ m → mid ≡ old + n → new ≡ mid + 3 → new ≡ old + (m + 3)
+exactly old mid new n m same first then = omega arith
 
 -- the journal as the call met it
 abbrev journal : (g : given.Over) → After-fill_half g → JournalView
@@ -45,20 +59,23 @@ found g c records holds folds =
 
 pub returns-in_err-fill_half-clause-rewrites : goal.returns-in_err-fill_half-clause-rewrites
 returns-in_err-fill_half-clause-rewrites g c = record {
-  moves = search rules;
+  moves = IfOk-from_err c.from_residual.result _ c.from_residual.ensures.0;
   any_moment = λ records holds folds.
       let from = (goal.at.returns-in_err-fill_half-clause-rewrites g c).After-fill_half in
       let state = g.D.Disk.state in
       subst (λ (x : JournalView). Throughout (state c.args.disk.now) (state c.fill_half.new.disk)
       (OldOrGiven x c.args.layout records c.args.given.now (state c.args.disk.now)))
       c.self.view_is (filling (found g from records holds folds));
-  ok = λ records holds folds. search rules;
-  area = λ records holds folds. search rules;
+  ok = λ records holds folds.
+      IfOk-from_err c.from_residual.result _ c.from_residual.ensures.0;
+  area = λ records holds folds.
+      IfOk-from_err c.from_residual.result _ c.from_residual.ensures.0;
 }
 
 pub returns-in_err-publish-clause-rewrites : goal.returns-in_err-publish-clause-rewrites
 returns-in_err-publish-clause-rewrites g c = record {
-  moves = search rules;
+  moves = IfOk-from_err c.from_residual-in_err-publish.result _
+      c.from_residual-in_err-publish.ensures.0;
   any_moment = λ records holds folds.
       let from = (goal.at.returns-in_err-publish-clause-rewrites g c).After-fill_half in
       let before = found g from records holds folds in
@@ -68,8 +85,12 @@ returns-in_err-publish-clause-rewrites g c = record {
       c.self.view_is
       (selecting before (c.in_ok-fill_half.ensures.slots holds.honest)
       (c.publish.ensures.any_moment before.still_honest));
-  ok = λ records holds folds. search rules;
-  area = λ records holds folds. search rules;
+  ok = λ records holds folds.
+      IfOk-from_err c.from_residual-in_err-publish.result _
+      c.from_residual-in_err-publish.ensures.0;
+  area = λ records holds folds.
+      IfOk-from_err c.from_residual-in_err-publish.result _
+      c.from_residual-in_err-publish.ensures.0;
 }
 
 pub returns-clause-rewrites : goal.returns-clause-rewrites
@@ -103,4 +124,79 @@ returns-clause-rewrites g c =
           (state c.publish.new.disk) (c.in_ok-publish.ensures.ok before.still_honest) in
           subst (λ (x : JournalView). HasReadArea x (state c.args.disk.now) image) c.self.view_is
           (alone image left).1;
+    }
+
+pub fill_half-requires-clause-long_enough : goal.fill_half-requires-clause-long_enough
+fill_half-requires-clause-long_enough g c =
+    subst (λ (x : JournalView). length_of x.geometry ≤ (g.D.Disk.state c.args.disk.now).len)
+    (sym c.self.view_is) c.requires.long_enough
+
+pub fill_half-requires-clause-sound : goal.fill_half-requires-clause-sound
+fill_half-requires-clause-sound g c =
+    subst (λ (x : JournalView). AreSound x.geometry c.args.layout c.args.given.now)
+    (sym c.self.view_is) c.requires.sound
+
+pub returns-in_err-fill_half-clause-keeps : goal.returns-in_err-fill_half-clause-keeps
+returns-in_err-fill_half-clause-keeps g c = c.fill_half.ensures.keeps
+
+pub returns-in_err-fill_half-clause-cause : goal.returns-in_err-fill_half-clause-cause
+returns-in_err-fill_half-clause-cause g c =
+    fails_run c.from_residual.result c.from_residual.ensures.0 c.in_err-fill_half.ensures.cause
+
+pub returns-in_err-fill_half-clause-cost : goal.returns-in_err-fill_half-clause-cost
+returns-in_err-fill_half-clause-cost g c = record {
+  at_most = part_of _ _ _ _
+      (ap (λ (x : JournalView). slot_count c.args.layout x.geometry) c.self.view_is)
+      c.fill_half.ensures.cost.at_most;
+  exact = IfOk-from_err c.from_residual.result _ c.from_residual.ensures.0;
+}
+
+pub returns-in_err-fill_half-clause-spent : goal.returns-in_err-fill_half-clause-spent
+returns-in_err-fill_half-clause-spent g c =
+    MatchResult-from_err c.from_residual.result _ _ c.from_residual.ensures.0
+    (λ fault. rw (← c.self.view_is) refl)
+
+pub returns-in_err-publish-clause-keeps : goal.returns-in_err-publish-clause-keeps
+returns-in_err-publish-clause-keeps g c =
+    let state = g.D.Disk.state in
+    keeps_all_on (state c.args.disk.now) (state c.fill_half.new.disk) (state c.publish.new.disk)
+    c.fill_half.ensures.keeps c.publish.ensures.keeps
+
+pub returns-in_err-publish-clause-cause : goal.returns-in_err-publish-clause-cause
+returns-in_err-publish-clause-cause g c =
+    fails c.from_residual-in_err-publish.result c.from_residual-in_err-publish.ensures.0
+    (calm_of c.in_ok-fill_half.ensures.cause) c.in_err-publish.ensures.cause
+
+pub returns-in_err-publish-clause-cost : goal.returns-in_err-publish-clause-cost
+returns-in_err-publish-clause-cost g c = record {
+  at_most = at_most _ _ _ _ _
+      (ap (λ (x : JournalView). slot_count c.args.layout x.geometry) c.self.view_is)
+      c.in_ok-fill_half.ensures.cost.exact c.publish.ensures.cost.at_most;
+  exact = IfOk-from_err c.from_residual-in_err-publish.result _
+      c.from_residual-in_err-publish.ensures.0;
+}
+
+pub returns-in_err-publish-clause-spent : goal.returns-in_err-publish-clause-spent
+returns-in_err-publish-clause-spent g c =
+    MatchResult-from_err c.from_residual-in_err-publish.result _ _
+    c.from_residual-in_err-publish.ensures.0 (λ fault. rw (← c.self.view_is) refl)
+
+pub returns-clause-keeps : goal.returns-clause-keeps
+returns-clause-keeps g c =
+    let state = g.D.Disk.state in
+    keeps_all_on (state c.args.disk.now) (state c.fill_half.new.disk) (state c.publish.new.disk)
+    c.fill_half.ensures.keeps c.publish.ensures.keeps
+
+pub returns-clause-cause : goal.returns-clause-cause
+returns-clause-cause g c =
+    succeeds (calm_of c.in_ok-fill_half.ensures.cause) c.in_ok-publish.ensures.cause
+
+pub returns-clause-cost : goal.returns-clause-cost
+returns-clause-cost g c =
+    let same = ap (λ (x : JournalView). slot_count c.args.layout x.geometry) c.self.view_is in
+    record {
+      at_most = at_most _ _ _ _ _ same c.in_ok-fill_half.ensures.cost.exact
+          c.publish.ensures.cost.at_most;
+      exact = exactly _ _ _ _ _ same c.in_ok-fill_half.ensures.cost.exact
+          c.in_ok-publish.ensures.cost.exact;
     }
