@@ -26,3 +26,33 @@ returns-clause-begins g c = λ honest none left.
 
 pub returns-clause-histories : goal.returns-clause-histories
 returns-clause-histories g c = histories_are
+
+pub returns-clause-keeps : goal.returns-clause-keeps
+returns-clause-keeps g c = c.format-formatted.ensures.keeps
+
+pub returns-clause-bad : goal.returns-clause-bad
+returns-clause-bad g c = c.format-formatted.ensures.bad
+
+pub returns-clause-small : goal.returns-clause-small
+returns-clause-small g c = c.format-formatted.ensures.small
+
+pub returns-clause-refused : goal.returns-clause-refused
+returns-clause-refused g c = c.format-formatted.ensures.refused
+
+pub returns-clause-untouched : goal.returns-clause-untouched
+returns-clause-untouched g c = c.format-formatted.ensures.untouched
+
+pub returns-clause-already : goal.returns-clause-already
+returns-clause-already g c = c.format-formatted.ensures.already
+
+pub returns-clause-already_only : goal.returns-clause-already_only
+returns-clause-already_only g c = c.format-formatted.ensures.already_only
+
+pub returns-clause-not_over : goal.returns-clause-not_over
+returns-clause-not_over g c = c.format-formatted.ensures.not_over
+
+pub returns-clause-any_moment : goal.returns-clause-any_moment
+returns-clause-any_moment g c = c.format-formatted.ensures.any_moment
+
+pub returns-clause-ok : goal.returns-clause-ok
+returns-clause-ok g c = c.format-formatted.ensures.ok

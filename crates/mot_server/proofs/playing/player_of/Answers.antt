@@ -1,4 +1,5 @@
 use Rattle.std.proofs.Common.{◌≡◌, ℕ, List, ◌∙◌, sym, ap, subst}
+use Rattle.std.proofs.lemmas.Result.{err_from_is_err_and}
 use Rattle.mot_base.specs.Geometry.{packet_room}
 use Rattle.mot_base.specs.PacketLength.{room_of}
 use Rattle.mot_base.specs.declared.geometry.Geometry.{Geometry}
@@ -52,3 +53,27 @@ returns-clause-opened g c =
     c.length_of_packets-length.ensures
     c.size_of_segments-size.ensures (opened bodies (is.bodies bodies are')) (is.exact bodies are'))
     c.new.ensures.turn c.new.ensures.opened
+
+pub returns-in_err-turn-clause-plays : goal.returns-in_err-turn-clause-plays
+returns-in_err-turn-clause-plays g c =
+    let p = err_from_is_err_and c.from_residual.result c.from_residual.ensures.1 in
+    rw p.1 tt
+
+pub returns-in_err-turn-clause-opened : goal.returns-in_err-turn-clause-opened
+returns-in_err-turn-clause-opened g c =
+    let p = err_from_is_err_and c.from_residual.result c.from_residual.ensures.1 in
+    rw p.1 tt
+
+pub returns-in_err-turn-clause-refused : goal.returns-in_err-turn-clause-refused
+returns-in_err-turn-clause-refused g c =
+    let p = err_from_is_err_and c.from_residual.result c.from_residual.ensures.1 in
+    rw (p.1, p.2) c.in_err-turn.ensures.refused
+
+pub returns-clause-refused : goal.returns-clause-refused
+returns-clause-refused g c = c.new.ensures.refused
+
+pub of-requires : goal.of-requires
+of-requires g c = tt
+
+pub new-requires : goal.new-requires
+new-requires g c = tt
