@@ -2,7 +2,7 @@ use Rattle.std.proofs.Common.{⊎_elim}
 use Rattle.mot_journal.specs.Journal.{new_standing}
 use Rattle.mot_repository.specs.Repository.{IsOf}
 use Rattle.mot_server.proofs.Histories.{histories_are, not_opened}
-use Rattle.mot_server.proofs.Survival.{if_ok, if_both_ok}
+use Rattle.mot_server.proofs.Survival.{if_ok, if_both_ok, if_err, on_ok, passing}
 use Rattle.mot_server.proofs.beginning.format_and_restart.Goals as goal
 
 pub returns-clause-begins : goal.returns-clause-begins
@@ -56,3 +56,15 @@ returns-clause-any_moment g c = c.format-formatted.ensures.any_moment
 
 pub returns-clause-ok : goal.returns-clause-ok
 returns-clause-ok g c = c.format-formatted.ensures.ok
+
+pub returns-clause-opens : goal.returns-clause-opens
+returns-clause-opens g c = λ honest left.
+    let first = g.E.Disk.state c.args.left in
+    on_ok c.format-formatted.result (λ made.
+    let image : IsOf (new_standing c.args.geometry.now) first.bytes =
+    record { stands = (made first.bytes left).0; clean = (made first.bytes left).1 } in
+    if_err _ _ c.restart-restarted.result
+    (λ e refused still_honest. passing first (g.E.Disk.state e.disk)
+    (new_standing c.args.geometry.now) e.refusal still_honest image refused)
+    c.restart-restarted.ensures.refused)
+    (c.format-formatted.ensures.ok honest)

@@ -77,3 +77,6 @@ of-requires g c = tt
 
 pub new-requires : goal.new-requires
 new-requires g c = tt
+
+pub geometry-geometry-requires : goal.geometry-geometry-requires
+geometry-geometry-requires g c = λ κs in_lives a is. in_lives a is
