@@ -1,6 +1,7 @@
 use Rattle.std.proofs.Common.{◌≡◌, ℕ, List, ◌∙◌, sym, ap, subst}
 use Rattle.std.proofs.lemmas.Result.{err_from_is_err_and}
-use Rattle.mot_base.specs.Geometry.{packet_room}
+use Rattle.mot_base.specs.Geometry.{is_valid, packet_room}
+use Rattle.mot_base.proofs.Valid.{valid_is}
 use Rattle.mot_base.specs.PacketLength.{room_of}
 use Rattle.mot_base.specs.declared.geometry.Geometry.{Geometry}
 use Rattle.mot_carousel.specs.Stands.{AreBodiesOf, carousel_of}
@@ -80,3 +81,21 @@ new-requires g c = tt
 
 pub geometry-geometry-requires : goal.geometry-geometry-requires
 geometry-geometry-requires g c = λ κs in_lives a is. in_lives a is
+
+pub size_of_segments-size-requires : goal.size_of_segments-size-requires
+size_of_segments-size-requires g c =
+    valid_is c.geometry-geometry.result
+    (ap is_valid c.geometry-geometry.ensures.value ∙ c.geometry-geometry.ensures.valid)
+
+pub length_of_packets-length-requires : goal.length_of_packets-length-requires
+length_of_packets-length-requires g c =
+    valid_is c.geometry-geometry.result
+    (ap is_valid c.geometry-geometry.ensures.value ∙ c.geometry-geometry.ensures.valid)
+
+pub address_of_packets-address-requires : goal.address_of_packets-address-requires
+address_of_packets-address-requires g c =
+    valid_is c.geometry-geometry.result
+    (ap is_valid c.geometry-geometry.ensures.value ∙ c.geometry-geometry.ensures.valid)
+
+pub carousel-requires : goal.carousel-requires
+carousel-requires g c = λ κs in_lives a is. in_lives a is
