@@ -54,8 +54,12 @@ body_on-length : (g : Geometry) (extents : List (ℕ × ℕ)) (place : ℕ) (ima
 body_on-length g extents place image fits =
     let start : ℕ = area_start g + (extent_at extents place).0 in
     let n : ℕ = (extent_at extents place).1 in
-    omega (arith, fits, length-take (start + n - start) (drop start image),
-    length-drop start image)
+    omega (
+      arith,
+      fits,
+      length-take (start + n - start) (drop start image),
+      length-drop start image,
+    )
 
 -- where the image has it whole, it is the bytes of its extent
 pub body_at-whole : (g : Geometry) (extents : List (ℕ × ℕ)) (place : ℕ) (image : List ℕ)

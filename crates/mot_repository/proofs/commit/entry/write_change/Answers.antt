@@ -217,7 +217,8 @@ returns-in_default-clause-going g c = tt
 
 pub returns-in_default-clause-ok : goal.returns-in_default-clause-ok
 returns-in_default-clause-ok g c =
-    λ view s records before next from layout command done is at fold fold' beside holds same step. tt
+    λ view s records before next from layout command done is at fold fold' beside holds same
+    step. tt
 
 pub returns-clause-fault : goal.returns-clause-fault
 returns-clause-fault g c = tt

@@ -1,5 +1,5 @@
-use Rattle.std.proofs.Common.{◌≡◌, ◌<◌, ℕ, subst, false, List, [], ◌∷◌, ◌++◌, length, set, Some, true, refl, sym}
-use Rattle.std.proofs.Common.{ap, ◌∙◌, arith, remove}
+use Rattle.std.proofs.Common.{◌≡◌, ◌<◌, ℕ, List, [], ◌∷◌, ◌++◌, length, set, Some, true, false}
+use Rattle.std.proofs.Common.{refl, sym, subst, ap, ◌∙◌, arith, remove}
 use Rattle.mot_carousel.specs.declared.object.Object.{Object}
 use Rattle.mot_carousel.specs.Stands.{index_of}
 use Rattle.mot_repository.specs.Extents.{objects_in}

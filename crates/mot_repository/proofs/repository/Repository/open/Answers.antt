@@ -7,8 +7,8 @@ use Rattle.mot_repository.specs.Opening.IsOpeningRefusal.{device}
 use Rattle.mot_repository.specs.Prepared.{view_with}
 use Rattle.mot_repository.specs.Repository.{RepositoryView}
 use Rattle.mot_repository.proofs.Answering.{calm_where_ok}
-use Rattle.mot_repository.proofs.OpenDisk.{is_opened, refused_later, where_ok, syncs_on, three_calls}
-use Rattle.mot_repository.proofs.OpenDisk.{at_most_three, one_of_three}
+use Rattle.mot_repository.proofs.OpenDisk.{is_opened, refused_later, where_ok, syncs_on}
+use Rattle.mot_repository.proofs.OpenDisk.{three_calls, at_most_three, one_of_three}
 use Rattle.mot_repository.proofs.repository.Repository.open.Goals as goal
 
 pub returns-in-Ok-clause-opened : goal.returns-in-Ok-clause-opened

@@ -29,7 +29,8 @@ returns-clause-lengths g c =
 
 pub returns-clause-unchanged : goal.returns-clause-unchanged
 returns-clause-unchanged g c =
-    λ honest. same_bodies _ _ _ _ c.read_body.ensures.view (c.read_body.ensures.unchanged honest).bytes
+    λ honest. same_bodies _ _ _ _ c.read_body.ensures.view
+    (c.read_body.ensures.unchanged honest).bytes
 
 pub returns-clause-was_honest : goal.returns-clause-was_honest
 returns-clause-was_honest g c = c.read_body.ensures.keeps.was_honest

@@ -1,5 +1,5 @@
-use Rattle.std.proofs.Common.{ℕ, Bool, inl, inr, suc, List, [], ◌∷◌, ◌++◌, length, length-append, refl}
-use Rattle.std.proofs.Common.{sym, ap, ◌≡◌, ◌∙◌, subst, arith}
+use Rattle.std.proofs.Common.{ℕ, Bool, inl, inr, suc, List, [], ◌∷◌, ◌++◌, length, length-append}
+use Rattle.std.proofs.Common.{refl, sym, ap, ◌≡◌, ◌∙◌, subst, arith}
 use Rattle.std.proofs.lemmas.Result.{err_from_is_err_and}
 use Rattle.disk_model.proofs.Laws.{reads_none, reads_on}
 use Rattle.mot_base.proofs.Laws.{same_error}
@@ -223,7 +223,8 @@ pub returns-then-halted-clause-going : goal.returns-then-halted-clause-going
 returns-then-halted-clause-going g c = tt
 
 pub returns-then-halted-clause-refused : goal.returns-then-halted-clause-refused
-returns-then-halted-clause-refused g c = halted (sym c.halted.ensures.value ∙ c.if-halted.true) refl refl
+returns-then-halted-clause-refused g c =
+    halted (sym c.halted.ensures.value ∙ c.if-halted.true) refl refl
 
 pub returns-then-halted-clause-calm : goal.returns-then-halted-clause-calm
 returns-then-halted-clause-calm g c = inr refl
@@ -342,4 +343,5 @@ pub returns-then-ends_turn-clause-refused : goal.returns-then-ends_turn-clause-r
 returns-then-ends_turn-clause-refused g c = tt
 
 pub returns-then-ends_turn-clause-calm : goal.returns-then-ends_turn-clause-calm
-returns-then-ends_turn-clause-calm g c = c.in_ok-packet.ensures.no_fault ∙ c.loop-packets.invariant.calm
+returns-then-ends_turn-clause-calm g c =
+    c.in_ok-packet.ensures.no_fault ∙ c.loop-packets.invariant.calm
