@@ -1,6 +1,6 @@
 -- One object compared with the others, of which it is known that they are consistent.
 use Rattle.std.proofs.Common.{◌≡◌, ℕ, suc, ◌+◌, ◌-◌, ◌<◌, Bool, true, false, not, ◌&&◌, ◌||◌, List}
-use Rattle.std.proofs.Common.{[], ◌∷◌, length, map, get_or, take, drop, refl, sym, ap, ◌∙◌}
+use Rattle.std.proofs.Common.{[], ◌∷◌, ◌++◌, length, map, get_or, take, drop, refl, sym, ap, ◌∙◌}
 use Rattle.std.proofs.Common.{arith, add-one, set, cond, Option, Some, None}
 use Rattle.std.specs.Prelude.{remove, nat_eq, nat_le}
 use Rattle.std.specs.List.{list_all, list_any}
@@ -23,6 +23,7 @@ use Rattle.mot_repository.proofs.Folding.{step_from}
 use Rattle.mot_repository.proofs.Folding.IsWithoutOne.{gone, later}
 use Rattle.mot_repository.proofs.Listing.{used_by, ids_in, apart_in, same_count, lengths_remove}
 use Rattle.mot_repository.proofs.Pairwise.{are_pairwise, pairwise_at, pairwise_without, remove_set}
+use Rattle.mot_repository.proofs.Pairwise.{remove_last}
 
 abbrev differ : Object → Object → Bool
 differ o p = not (nat_eq o.tid p.tid)
@@ -188,6 +189,14 @@ consistent_but_set os es i o e l lt is =
     (remove_set os i o)
     ∙ ap (λ (fs : List (ℕ × ℕ)). are_consistent (objects_in (remove os i) fs)) (remove_set es i e)
     ∙ others_consistent os es l i o lt is
+
+-- with an object behind the others, all but the last are consistent
+pub consistent_but_last : (os : List Object) (es : List (ℕ × ℕ)) (o : Object) (e : ℕ × ℕ)
+    → length es ≡ length os → are_consistent (objects_in os es) ≡ true
+    → are_consistent (objects_in (remove (os ++ o ∷ []) (length os))
+    (remove (es ++ e ∷ []) (length os))) ≡ true
+consistent_but_last os es o e count is =
+    rw (sym count, remove_last es e, count, remove_last os o) is
 
 -- ---- what a change made, where it is consistent
 

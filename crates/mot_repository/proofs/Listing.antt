@@ -6,6 +6,7 @@ use Rattle.std.specs.Prelude.{remove, option_map, bytes_eq, nat_eq, position}
 use Rattle.std.specs.List.{position_from, list_all, list_any}
 use Rattle.std.proofs.lemmas.Bool.{lt-ltb, le-ltb}
 use Rattle.std.proofs.lemmas.Iterator.Adapters.{position_from-zero}
+use Rattle.std.proofs.lemmas.List.{map_push}
 use Rattle.std.proofs.lemmas.List.Elements.{All-head, All-tail}
 use Rattle.mot_carousel.specs.declared.object.Object.{Object}
 use Rattle.mot_carousel.specs.Ids.{contains}
@@ -188,6 +189,13 @@ lengths_set (p ∷ os) (x ∷ es) zero o start l = ap (λ r. o.length ∷ r) (ta
 lengths_set (p ∷ os) (x ∷ es) (suc i) o start l =
     same-step x.1 p.length (map extent-size es) (map size os) _ _ l
     (lengths_set os es i o start (tail l))
+
+-- an object behind the others, with its extent, keeps the lengths of the extents
+pub lengths_behind : (os : List Object) (es : List (ℕ × ℕ)) (o : Object) (start : ℕ)
+    → HaveLengths os es → HaveLengths (os ++ o ∷ []) (es ++ (start, o.length) ∷ [])
+lengths_behind os es o start l =
+    map_push extent-size es (start, o.length) ∙ ap (λ r. r ++ o.length ∷ []) l
+    ∙ sym (map_push size os o)
 
 -- an object taken out, with its extent, keeps the lengths of the extents
 pub lengths_remove : (os : List Object) (es : List (ℕ × ℕ)) (i : ℕ) → HaveLengths os es

@@ -1,10 +1,12 @@
 -- What was loaded and folded is in order, and why a disk is not opened.
-use Rattle.std.proofs.Common.{◌≡◌, inl, inr, ⊎_elim, ℕ, ◌≤◌, true, false, List, [], ◌∷◌, map, Ok}
-use Rattle.std.proofs.Common.{Err, All, refl, sym, ap, ◌∙◌, subst, arith}
+use Rattle.std.proofs.Common.{◌≡◌, inl, inr, ⊎_elim, ℕ, ◌+◌, ◌≤◌, true, false, List, [], ◌∷◌, map}
+use Rattle.std.proofs.Common.{Ok, Err, All, refl, sym, ap, ◌∙◌, subst, arith}
 use Rattle.std.specs.Prelude.{IsFalse, Result, IsErr, OnOk, is_err}
 use Rattle.std.proofs.Math.Nat.{eq-or-lt_of_le}
 use Rattle.std.specs.List.{AllByRecursion}
 use Rattle.disk_model.specs.Disk.{State, IsStill, IsUnchanged, IsFirm, IsHonestDisk}
+use Rattle.disk_model.specs.Disk.{KeepsLength, OnlyReads, OnlySyncs}
+use Rattle.disk_model.proofs.Laws.{keeps_on}
 use Rattle.disk_model.specs.Failures.{Rises, HasCause}
 use Rattle.mot_base.specs.Geometry.{length_of}
 use Rattle.mot_base.specs.declared.geometry.Geometry.{Geometry}
@@ -228,3 +230,41 @@ refused_later old mid new r refusal cause ok same (device is rises) =
 pub where_ok : {T E : Type 0} {P : Type 0} (r : Result T E) → is_err r ≡ false → OnOk r P → P
 where_ok (Ok x) e p = p
 where_ok (Err x) e p = cc
+
+-- ---- a sync, and reads behind it
+
+still-on : (old mid new : State) → IsStill old mid → IsUnchanged mid new → IsStill old new
+still-on old mid new still same = record {
+  bytes = same.bytes ∙ still.bytes;
+  time = record {
+    later = omega (arith, still.time.later, same.time.later);
+    nothing_else = λ t c le left.
+        ⊎_elim (λ was. still.time.nothing_else t c le was) (λ came. absurd came)
+        (same.time.nothing_else t c (omega (arith, le, still.time.later)) left);
+    keeps = λ t c le left. same.time.keeps t c (omega (arith, le, still.time.later))
+        (still.time.keeps t c le left);
+  };
+  images = λ c left. still.images c ((same.images c).0 left);
+  loose = λ k is. still.loose k ((same.loose k).0 is);
+}
+
+-- reads behind a sync leave a disk that was read and synced at most
+pub syncs_on : (old mid new : State) → KeepsLength old mid → (old.IsHonest → IsStill old mid)
+    → OnlyReads mid new → OnlySyncs old new
+syncs_on old mid new keeps still reads = record {
+  keeps = keeps_on old mid new keeps reads.keeps;
+  still = λ honest. still-on old mid new
+      (still (keeps.was_honest (reads.keeps.was_honest honest))) (reads.unchanged honest);
+}
+
+-- a sync and two calls more are three calls
+pub three_calls : (old mid new : ℕ) → mid ≡ old + 1 → new ≡ mid + 2 → new ≡ old + 3
+three_calls old mid new one two = omega arith
+
+-- a sync and at most two calls more are at most three calls
+pub at_most_three : (old mid new : ℕ) → mid ≡ old + 1 → new ≤ mid + 2 → new ≤ old + 3
+at_most_three old mid new one two = omega arith
+
+-- a sync alone is at most three calls
+pub one_of_three : (old new : ℕ) → new ≡ old + 1 → new ≤ old + 3
+one_of_three old new one = omega arith

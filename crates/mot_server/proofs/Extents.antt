@@ -1,7 +1,7 @@
 -- The bodies that lie on a disk.
 use Rattle.std.proofs.Common.{◌≡◌, ℕ, ◌+◌, ◌<◌, List, [], ◌∷◌, ◌++◌, length, map, take}
 use Rattle.std.proofs.Common.{replicate, refl, sym, ap, ◌∙◌, arith, slice_range, length-take}
-use Rattle.std.proofs.Common.{length-append}
+use Rattle.std.proofs.Common.{length-append, length-drop, drop, ◌-◌, ◌≤◌}
 use Rattle.std.proofs.lemmas.List.{get_or-map, length-replicate}
 use Rattle.std.proofs.Math.Seq.{take-append_seam}
 use Rattle.mot_base.specs.Geometry.{area_start}
@@ -39,3 +39,34 @@ pub body_at-filled : (g : Geometry) (extents : List (ℕ × ℕ)) (place : ℕ) 
     → body_at (bodies_on g extents image) place
     ≡ filled_up (extent_at extents place).1 (body_on g extents place image)
 body_at-filled g extents place image lt = get_or-map (bytes_in g image) extents place (0, 0) [] lt
+
+-- it has its extent's length, whatever the image
+pub body_at-length : (g : Geometry) (extents : List (ℕ × ℕ)) (place : ℕ) (image : List ℕ)
+    → place < length extents
+    → length (body_at (bodies_on g extents image) place) ≡ (extent_at extents place).1
+body_at-length g extents place image lt =
+    ap length (body_at-filled g extents place image lt)
+    ∙ filled_up-length (extent_at extents place).1 (body_on g extents place image)
+
+body_on-length : (g : Geometry) (extents : List (ℕ × ℕ)) (place : ℕ) (image : List ℕ)
+    → area_start g + (extent_at extents place).0 + (extent_at extents place).1 ≤ length image
+    → length (body_on g extents place image) ≡ (extent_at extents place).1
+body_on-length g extents place image fits =
+    let start : ℕ = area_start g + (extent_at extents place).0 in
+    let n : ℕ = (extent_at extents place).1 in
+    omega (
+      arith,
+      fits,
+      length-take (start + n - start) (drop start image),
+      length-drop start image,
+    )
+
+-- where the image has it whole, it is the bytes of its extent
+pub body_at-whole : (g : Geometry) (extents : List (ℕ × ℕ)) (place : ℕ) (image : List ℕ)
+    → place < length extents
+    → area_start g + (extent_at extents place).0 + (extent_at extents place).1 ≤ length image
+    → body_at (bodies_on g extents image) place ≡ body_on g extents place image
+body_at-whole g extents place image lt fits =
+    body_at-filled g extents place image lt
+    ∙ filled_up-whole (extent_at extents place).1 (body_on g extents place image)
+    (body_on-length g extents place image fits)

@@ -131,6 +131,21 @@ opened_room old new view s agrees opened =
     subst (λ g. 0 < packet_room g) agrees.geometry
     (has-room view.journal.geometry (valid-geometry old.bytes view.journal.geometry read))
 
+-- what was opened stays so where it is read at most
+pub opened_still : (old mid new : State) (view view' : RepositoryView) → IsOpened old mid view
+    → IsUnchanged mid new → view' ≡ view → IsOpened old new view'
+opened_still old mid new view view' opened still same =
+    subst (IsOpened old new) (sym same) (record {
+      standing = opened.standing;
+      stands = opened.stands;
+      agrees = opened.agrees;
+      firm = λ k loose. opened.firm k ((still.loose k).0 loose);
+      records = opened.records;
+      read = opened.read;
+      count = opened.count;
+      unspent = opened.unspent;
+    })
+
 -- a player just opened is at the beginning of its turn
 pub opened_beginning : (address room size : ℕ) (turn : Turn) (place : Place)
     → place ≡ opened_place address room size turn

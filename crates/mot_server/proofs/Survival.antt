@@ -1,7 +1,7 @@
 -- The headline, from what a run leaves and what a restart gives.
 use Rattle.std.proofs.Common.{◌≡◌, inl, inr, List, [], ◌++◌, append_assoc, append-nil, Result, Ok}
 use Rattle.std.proofs.Common.{Err, sym, ◌∙◌, subst}
-use Rattle.std.specs.Prelude.{IfOk, IfErr}
+use Rattle.std.specs.Prelude.{IfOk, IfErr, OnOk}
 use Rattle.disk_model.specs.Disk.{State}
 use Rattle.mot_base.specs.declared.refusal.Refusal.{Refusal}
 use Rattle.mot_carousel.specs.declared.command.Command.{Command}
@@ -60,6 +60,11 @@ pub if_ok : {A B : Type 0} (P Q : A → Type 0) (r : Result A B) → ((a : A) �
     → IfOk r Q
 if_ok P Q (Ok a) f p = f a p
 if_ok P Q (Err e) f p = tt
+
+-- what follows from a fact where the result is Ok
+pub on_ok : {A B : Type 0} {P Q : Type 0} (r : Result A B) → (P → Q) → OnOk r P → OnOk r Q
+on_ok (Ok a) f p = f p
+on_ok (Err e) f p = tt
 
 -- what follows from a fact of an error
 pub if_err : {A B : Type 0} (P Q : B → Type 0) (r : Result A B) → ((b : B) → P b → Q b) → IfErr r P

@@ -17,6 +17,9 @@ not_both e = cc
 below : (a b : ℕ) → (b ≤ a → ⊥) → a < b
 below a b not = elim (cases_lt a b) [ inl lt ↦ lt | inr le ↦ absurd (not le) ]
 
+no_more : {a b : ℕ} → a < b → a ≤ b
+no_more lt = omega arith
+
 none_more : (a n : ℕ) → n ≡ 0 → a ≡ a + n
 none_more a n none = omega arith
 
@@ -200,3 +203,47 @@ returns-clause-room g c = λ view s k is holds fold fold'.
           (c.in-Ok.ensures.rewrites.ok holds.records was fits)
           (c.in-Ok.ensures.rewrites.area holds.records was fits);
     }
+
+pub returns-then-not-is_full-clause-fault : goal.returns-then-not-is_full-clause-fault
+returns-then-not-is_full-clause-fault g c = tt
+
+pub rewrite-requires-clause-some : goal.rewrite-requires-clause-some
+rewrite-requires-clause-some g c = (c.requires.given (c.if-not-is_full.ensures.0 refl)).some
+
+pub rewrite-requires-clause-few : goal.rewrite-requires-clause-few
+rewrite-requires-clause-few g c =
+    no_more (c.requires.given (c.if-not-is_full.ensures.0 refl)).few
+
+pub rewrite-requires-clause-going : goal.rewrite-requires-clause-going
+rewrite-requires-clause-going g c = c.requires.going
+
+pub rewrite-requires-clause-long_enough : goal.rewrite-requires-clause-long_enough
+rewrite-requires-clause-long_enough g c = c.requires.long_enough
+
+pub rewrite-requires-clause-sound : goal.rewrite-requires-clause-sound
+rewrite-requires-clause-sound g c = (c.requires.given (c.if-not-is_full.ensures.0 refl)).sound
+
+pub returns-in_default-clause-fault : goal.returns-in_default-clause-fault
+returns-in_default-clause-fault g c = refl
+
+pub returns-in_default-clause-going : goal.returns-in_default-clause-going
+returns-in_default-clause-going g c = tt
+
+pub returns-in_default-clause-not_full : goal.returns-in_default-clause-not_full
+returns-in_default-clause-not_full g c = tt
+
+pub returns-clause-cause : goal.returns-clause-cause
+returns-clause-cause g c = tt
+
+pub returns-clause-fault : goal.returns-clause-fault
+returns-clause-fault g c = tt
+
+pub returns-clause-going : goal.returns-clause-going
+returns-clause-going g c =
+    ap (λ (i : JournalView). i.spent) c.in-Ok.ensures.rewrites.moves ∙ c.requires.going
+
+pub returns-clause-not_full : goal.returns-clause-not_full
+returns-clause-not_full g c =
+    let moved = sym c.in-Ok.ensures.rewrites.moves in
+    subst (λ (i : JournalView). i.count < slot_count i.layout i.geometry) moved
+    (c.requires.given (c.if-not-is_full.ensures.0 refl)).few

@@ -1,5 +1,7 @@
 use Rattle.std.proofs.Common.{◌≡◌, ℕ, List, ◌∙◌, sym, ap, subst}
-use Rattle.mot_base.specs.Geometry.{packet_room}
+use Rattle.std.proofs.lemmas.Result.{err_from_is_err_and}
+use Rattle.mot_base.specs.Geometry.{is_valid, packet_room}
+use Rattle.mot_base.proofs.Valid.{valid_is}
 use Rattle.mot_base.specs.PacketLength.{room_of}
 use Rattle.mot_base.specs.declared.geometry.Geometry.{Geometry}
 use Rattle.mot_carousel.specs.Stands.{AreBodiesOf, carousel_of}
@@ -52,3 +54,48 @@ returns-clause-opened g c =
     c.length_of_packets-length.ensures
     c.size_of_segments-size.ensures (opened bodies (is.bodies bodies are')) (is.exact bodies are'))
     c.new.ensures.turn c.new.ensures.opened
+
+pub returns-in_err-turn-clause-plays : goal.returns-in_err-turn-clause-plays
+returns-in_err-turn-clause-plays g c =
+    let p = err_from_is_err_and c.from_residual.result c.from_residual.ensures.1 in
+    rw p.1 tt
+
+pub returns-in_err-turn-clause-opened : goal.returns-in_err-turn-clause-opened
+returns-in_err-turn-clause-opened g c =
+    let p = err_from_is_err_and c.from_residual.result c.from_residual.ensures.1 in
+    rw p.1 tt
+
+pub returns-in_err-turn-clause-refused : goal.returns-in_err-turn-clause-refused
+returns-in_err-turn-clause-refused g c =
+    let p = err_from_is_err_and c.from_residual.result c.from_residual.ensures.1 in
+    rw (p.1, p.2) c.in_err-turn.ensures.refused
+
+pub returns-clause-refused : goal.returns-clause-refused
+returns-clause-refused g c = c.new.ensures.refused
+
+pub of-requires : goal.of-requires
+of-requires g c = tt
+
+pub new-requires : goal.new-requires
+new-requires g c = tt
+
+pub geometry-geometry-requires : goal.geometry-geometry-requires
+geometry-geometry-requires g c = λ κs in_lives a is. in_lives a is
+
+pub size_of_segments-size-requires : goal.size_of_segments-size-requires
+size_of_segments-size-requires g c =
+    valid_is c.geometry-geometry.result
+    (ap is_valid c.geometry-geometry.ensures.value ∙ c.geometry-geometry.ensures.valid)
+
+pub length_of_packets-length-requires : goal.length_of_packets-length-requires
+length_of_packets-length-requires g c =
+    valid_is c.geometry-geometry.result
+    (ap is_valid c.geometry-geometry.ensures.value ∙ c.geometry-geometry.ensures.valid)
+
+pub address_of_packets-address-requires : goal.address_of_packets-address-requires
+address_of_packets-address-requires g c =
+    valid_is c.geometry-geometry.result
+    (ap is_valid c.geometry-geometry.ensures.value ∙ c.geometry-geometry.ensures.valid)
+
+pub carousel-requires : goal.carousel-requires
+carousel-requires g c = λ κs in_lives a is. in_lives a is

@@ -1,4 +1,5 @@
-use Rattle.std.proofs.Common.{subst, sym}
+use Rattle.std.proofs.Common.{◌∙◌, ⊎_elim, inl, inr, ap, subst, sym}
+use Rattle.std.proofs.lemmas.Result.{err_from_is_err_and}
 use Rattle.disk_model.specs.Disk.{OnlySyncs}
 use Rattle.mot_repository.specs.Opening.{IsOpeningRefusal}
 use Rattle.mot_base.specs.Geometry.{packet_room}
@@ -8,6 +9,7 @@ use Rattle.mot_player.specs.Turn.{turn_of_carousel}
 use Rattle.mot_server.specs.Playing.{HasPlayedTurn, bytes_of_packets}
 use Rattle.mot_server.specs.Server.{place_in}
 use Rattle.mot_server.proofs.Openings.{opened_agrees, opened_holds, turn_refused, opened_room}
+use Rattle.mot_server.proofs.Openings.{opened_still}
 use Rattle.mot_server.proofs.Openings.{opened_beginning, opened_continuous, syncs_read}
 use Rattle.mot_server.proofs.Read.{holds_still}
 use Rattle.mot_server.proofs.restarting.restart.Goals as goal
@@ -91,3 +93,80 @@ returns-in-Err-clause-refused g c =
     (turn_refused old new (state c.args.disk) (state old.disk) (state new.disk) c.in-Err.refusal
     opens.going opens.only_syncs.keeps.later c.play_turn.ensures.only_reads.keeps.later
     c.in-Err.ensures.refused)
+
+pub returns-in_err-server-clause-only_syncs : goal.returns-in_err-server-clause-only_syncs
+returns-in_err-server-clause-only_syncs g c =
+    let p = err_from_is_err_and c.from_residual.result c.from_residual.ensures.1 in
+    rw (p.1, p.2) c.in_err-server.ensures.only_syncs
+
+pub returns-in_err-server-clause-refused : goal.returns-in_err-server-clause-refused
+returns-in_err-server-clause-refused g c =
+    let p = err_from_is_err_and c.from_residual.result c.from_residual.ensures.1 in
+    rw (p.1, p.2) c.in_err-server.ensures.refused
+
+pub returns-in_err-server-clause-calm : goal.returns-in_err-server-clause-calm
+returns-in_err-server-clause-calm g c =
+    let p = err_from_is_err_and c.from_residual.result c.from_residual.ensures.1 in
+    rw (p.1, p.2) c.in_err-server.ensures.calm
+
+pub returns-in_err-server-clause-opened : goal.returns-in_err-server-clause-opened
+returns-in_err-server-clause-opened g c =
+    let p = err_from_is_err_and c.from_residual.result c.from_residual.ensures.1 in
+    rw p.1 tt
+
+pub returns-in_err-server-clause-holds : goal.returns-in_err-server-clause-holds
+returns-in_err-server-clause-holds g c =
+    let p = err_from_is_err_and c.from_residual.result c.from_residual.ensures.1 in
+    rw p.1 (λ s image. tt)
+
+pub returns-in_err-server-clause-reads : goal.returns-in_err-server-clause-reads
+returns-in_err-server-clause-reads g c =
+    let p = err_from_is_err_and c.from_residual.result c.from_residual.ensures.1 in
+    rw p.1 (λ s image. tt)
+
+pub returns-in_err-server-clause-continuous : goal.returns-in_err-server-clause-continuous
+returns-in_err-server-clause-continuous g c =
+    let p = err_from_is_err_and c.from_residual.result c.from_residual.ensures.1 in
+    rw p.1 (λ s image. tt)
+
+pub returns-in_err-server-clause-turn : goal.returns-in_err-server-clause-turn
+returns-in_err-server-clause-turn g c =
+    let p = err_from_is_err_and c.from_residual.result c.from_residual.ensures.1 in
+    rw p.1 (λ s image. tt)
+
+pub returns-in-Ok-clause-opened : goal.returns-in-Ok-clause-opened
+returns-in-Ok-clause-opened g c =
+    λ honest.
+    let state = g.D.Disk.state in
+    let play = c.play_turn.ensures in
+    opened_still (state c.args.disk) (state c.in_ok-server.server.disk)
+    (state c.play_turn.new.self.disk) c.in_ok-server.server.view c.play_turn.new.self.view
+    (c.in_ok-server.ensures.opened (play.only_reads.keeps.was_honest honest))
+    (play.only_reads.unchanged honest) play.view
+
+pub returns-in-Ok-clause-refused : goal.returns-in-Ok-clause-refused
+returns-in-Ok-clause-refused g c = tt
+
+pub returns-in-Ok-clause-calm : goal.returns-in-Ok-clause-calm
+returns-in-Ok-clause-calm g c = c.in-Ok.ensures.calm ∙ c.in_ok-server.ensures.calm
+
+pub returns-in-Err-clause-opened : goal.returns-in-Err-clause-opened
+returns-in-Err-clause-opened g c = tt
+
+pub returns-in-Err-clause-holds : goal.returns-in-Err-clause-holds
+returns-in-Err-clause-holds g c = λ s image. tt
+
+pub returns-in-Err-clause-reads : goal.returns-in-Err-clause-reads
+returns-in-Err-clause-reads g c = λ s image. tt
+
+pub returns-in-Err-clause-continuous : goal.returns-in-Err-clause-continuous
+returns-in-Err-clause-continuous g c = λ s image. tt
+
+pub returns-in-Err-clause-turn : goal.returns-in-Err-clause-turn
+returns-in-Err-clause-turn g c = λ s image. tt
+
+pub returns-in-Err-clause-calm : goal.returns-in-Err-clause-calm
+returns-in-Err-clause-calm g c =
+    ⊎_elim (λ is. inl is)
+    (λ same. inr (ap (λ d. (g.D.Disk.state d).failures) c.into_disk.ensures ∙ same
+    ∙ c.in_ok-server.ensures.calm)) c.in-Err.ensures.calm

@@ -1,8 +1,10 @@
 use Rattle.std.proofs.Common.{◌≡◌, ℕ, ◌+◌, List, ◌++◌, [], ◌∷◌, ◌∙◌, Ok, inl, sym, ap, subst}
-use Rattle.std.proofs.Common.{length}
+use Rattle.std.proofs.Common.{length, ◌≤◌, Result, refl, arith}
+use Rattle.std.proofs.lemmas.Result.{err_from_is_err_and}
 use Rattle.disk_model.specs.Disk.{WritesWithin}
-use Rattle.disk_model.proofs.Laws.{weakens}
-use Rattle.mot_base.specs.Geometry.{area_start}
+use Rattle.disk_model.specs.Failures.{HasCause}
+use Rattle.disk_model.proofs.Laws.{weakens, keeps_all_on}
+use Rattle.mot_base.specs.Geometry.{area_start, length_of}
 use Rattle.mot_journal.specs.declared.record.Record.{Record}
 use Rattle.mot_journal.specs.Catalogue.{Catalogue, catalogue_of}
 use Rattle.mot_journal.specs.Gaps.{AreBeside, standing_of}
@@ -14,6 +16,20 @@ use Rattle.mot_repository.proofs.Committing.{holds_after}
 use Rattle.mot_repository.proofs.commit.entry.write_change.Given as given
 use Rattle.mot_repository.proofs.commit.entry.write_change.Goals as goal
 use Rattle.mot_repository.proofs.commit.entry.write_change.Goals.{After-write_body}
+
+at_most_four_more : (a b n : ℕ) → n ≤ a + b → n ≤ a + (b + 4)
+at_most_four_more a b n le = omega arith
+
+at_most_four_behind : (a b mid n : ℕ) → mid ≤ a + b → n ≤ mid + 4 → n ≤ a + (b + 4)
+at_most_four_behind a b mid n first then = omega arith
+
+four_behind : (a b mid n : ℕ) → mid ≡ a + b → n ≡ mid + 4 → n ≡ a + (b + 4)
+four_behind a b mid n first then = omega arith
+
+-- a call behind calm ones has a cause in all of them
+behind_calm : {T E : Type 0} {r : Result T E} (before mid now : ℕ) → mid ≡ before
+    → HasCause mid now r → HasCause before now r
+behind_calm {T} {E} {r} before mid now calm is = subst (λ n. HasCause n now r) calm is
 
 -- what the write of the body left
 body_left : (g : given.Over) (c : After-write_body g) (view : RepositoryView) (s : Standing)
@@ -93,3 +109,126 @@ returns-clause-ok g c = λ view s records before next from layout command done i
           agrees (subst (λ j. HoldsRecords j (records ++ r ∷ []) last) (sym is') found)
           (subst (λ j. OnlyReadArea j mid last) (sym is) area),
     )
+
+pub write_body-requires : goal.write_body-requires
+write_body-requires g c = record { within = c.requires.within }
+
+pub returns-in_err-write_body-clause-keeps : goal.returns-in_err-write_body-clause-keeps
+returns-in_err-write_body-clause-keeps g c = c.write_body.ensures.keeps
+
+pub returns-in_err-write_body-clause-cause : goal.returns-in_err-write_body-clause-cause
+returns-in_err-write_body-clause-cause g c =
+    let p = err_from_is_err_and c.from_residual.result c.from_residual.ensures.1 in
+    let is = c.in_err-write_body.ensures.cause in
+    rw p.1 (record { later = is.later; fits = is.fits; cause = is.cause; shown = is.shown })
+
+pub returns-in_err-write_body-clause-cost : goal.returns-in_err-write_body-clause-cost
+returns-in_err-write_body-clause-cost g c =
+    let p = err_from_is_err_and c.from_residual.result c.from_residual.ensures.1 in
+    rw p.1 (record {
+      at_most = at_most_four_more _ _ _ c.in_err-write_body.ensures.cost.at_most;
+      exact = tt;
+    })
+
+pub returns-in_err-write_body-clause-fault : goal.returns-in_err-write_body-clause-fault
+returns-in_err-write_body-clause-fault g c =
+    let p = err_from_is_err_and c.from_residual.result c.from_residual.ensures.1 in
+    rw (p.1, p.2) c.in_err-write_body.ensures.fault
+
+pub returns-in_err-write_body-clause-going : goal.returns-in_err-write_body-clause-going
+returns-in_err-write_body-clause-going g c =
+    let p = err_from_is_err_and c.from_residual.result c.from_residual.ensures.1 in
+    rw p.1 tt
+
+pub returns-in_err-write_body-clause-ok : goal.returns-in_err-write_body-clause-ok
+returns-in_err-write_body-clause-ok g c =
+    let p = err_from_is_err_and c.from_residual.result c.from_residual.ensures.1 in
+    rw p.1 (λ view s records before next from layout command done is at fold fold' beside holds
+    same step. tt)
+
+pub returns-in_err-write_body-clause-geometry : goal.returns-in_err-write_body-clause-geometry
+returns-in_err-write_body-clause-geometry g c = refl
+
+pub returns-in_err-write_body-clause-layout : goal.returns-in_err-write_body-clause-layout
+returns-in_err-write_body-clause-layout g c = refl
+
+pub append-requires-clause-not_full : goal.append-requires-clause-not_full
+append-requires-clause-not_full g c = c.requires.not_full
+
+pub append-requires-clause-going : goal.append-requires-clause-going
+append-requires-clause-going g c = c.requires.going
+
+pub append-requires-clause-sound : goal.append-requires-clause-sound
+append-requires-clause-sound g c = c.requires.sound
+
+pub append-requires-clause-long_enough : goal.append-requires-clause-long_enough
+append-requires-clause-long_enough g c = subst (λ n. length_of c.args.journal.now.geometry ≤ n)
+    (sym c.write_body.ensures.keeps.frame.len) c.requires.long_enough
+
+pub returns-in_default-clause-keeps : goal.returns-in_default-clause-keeps
+returns-in_default-clause-keeps g c =
+    let state = g.D.Disk.state in
+    keeps_all_on (state c.args.disk.now) (state c.write_body.new.disk) (state c.append.new.disk)
+    c.write_body.ensures.keeps c.append.ensures.keeps
+
+pub returns-in_default-clause-cause : goal.returns-in_default-clause-cause
+returns-in_default-clause-cause g c =
+    let is = behind_calm _ _ _ c.in_ok-write_body.ensures.calm c.in_default.ensures.cause in
+    record { later = is.later; fits = is.fits; cause = is.cause; shown = is.shown }
+
+pub returns-clause-keeps : goal.returns-clause-keeps
+returns-clause-keeps g c =
+    let state = g.D.Disk.state in
+    keeps_all_on (state c.args.disk.now) (state c.write_body.new.disk) (state c.append.new.disk)
+    c.write_body.ensures.keeps c.append.ensures.keeps
+
+pub returns-clause-cause : goal.returns-clause-cause
+returns-clause-cause g c =
+    let is = behind_calm _ _ _ c.in_ok-write_body.ensures.calm c.in-Ok.ensures.cause in
+    record { later = is.later; fits = is.fits; cause = is.cause; shown = is.shown }
+
+pub returns-in_default-clause-cost : goal.returns-in_default-clause-cost
+returns-in_default-clause-cost g c = record {
+  at_most = at_most_four_behind _ _ _ _ c.in_ok-write_body.ensures.cost.at_most
+      c.in_default.ensures.cost.at_most;
+  exact = tt;
+}
+
+pub returns-clause-cost : goal.returns-clause-cost
+returns-clause-cost g c = record {
+  at_most = at_most_four_behind _ _ _ _ c.in_ok-write_body.ensures.cost.at_most
+      c.in-Ok.ensures.cost.at_most;
+  exact = four_behind _ _ _ _ c.in_ok-write_body.ensures.cost.exact c.in-Ok.ensures.cost.exact;
+}
+
+pub returns-in_default-clause-fault : goal.returns-in_default-clause-fault
+returns-in_default-clause-fault g c = refl
+
+pub returns-in_default-clause-geometry : goal.returns-in_default-clause-geometry
+returns-in_default-clause-geometry g c =
+    ap (λ (j : JournalView). j.geometry) c.in_default.ensures.spent
+
+pub returns-in_default-clause-layout : goal.returns-in_default-clause-layout
+returns-in_default-clause-layout g c =
+    ap (λ (j : JournalView). j.layout) c.in_default.ensures.spent
+
+pub returns-in_default-clause-going : goal.returns-in_default-clause-going
+returns-in_default-clause-going g c = tt
+
+pub returns-in_default-clause-ok : goal.returns-in_default-clause-ok
+returns-in_default-clause-ok g c =
+    λ view s records before next from layout command done is at fold fold' beside holds same
+    step. tt
+
+pub returns-clause-fault : goal.returns-clause-fault
+returns-clause-fault g c = tt
+
+pub returns-clause-geometry : goal.returns-clause-geometry
+returns-clause-geometry g c = ap (λ (j : JournalView). j.geometry) c.in-Ok.ensures.added
+
+pub returns-clause-layout : goal.returns-clause-layout
+returns-clause-layout g c = ap (λ (j : JournalView). j.layout) c.in-Ok.ensures.added
+
+pub returns-clause-going : goal.returns-clause-going
+returns-clause-going g c =
+    ap (λ (j : JournalView). j.spent) c.in-Ok.ensures.added ∙ c.requires.going

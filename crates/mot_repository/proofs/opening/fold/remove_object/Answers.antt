@@ -1,4 +1,4 @@
-use Rattle.std.proofs.Common.{◌≡◌, ℕ, List, Some, refl, sym, ap, ◌∙◌}
+use Rattle.std.proofs.Common.{◌≡◌, ◌<◌, length, arith, ℕ, List, Some, refl, sym, ap, ◌∙◌}
 use Rattle.std.specs.Prelude.{remove, nat_eq, position}
 use Rattle.mot_carousel.specs.declared.object.Object.{Object}
 use Rattle.mot_repository.specs.Extents.{objects_in}
@@ -7,6 +7,7 @@ use Rattle.mot_repository.specs.Inner.Bounds.{AreWithin}
 use Rattle.mot_repository.specs.Inner.Fold.{HaveLengths}
 use Rattle.mot_repository.proofs.Bounds.{within_without}
 use Rattle.mot_repository.proofs.Listing.{remove_there, remove_nowhere, lengths_remove}
+use Rattle.mot_repository.proofs.Listing.{same_count}
 use Rattle.mot_repository.proofs.opening.fold.remove_object.Goals as goal
 
 same-lists : (os ps : List Object) (es fs : List (ℕ × ℕ)) → os ≡ ps → es ≡ fs
@@ -53,3 +54,48 @@ returns-clause-bounded c b h =
     same-bounds b c.remove.new.self.items (remove os c.in-Some.place) c.remove-4.new.self.items
     (remove es c.in-Some.place) c.remove.ensures.items c.remove-4.ensures.items
     (within_without b os es c.in-Some.place h)
+
+pub place_of_id-requires : goal.place_of_id-requires
+place_of_id-requires c = tt
+
+pub returns-in_default-clause-paired : goal.returns-in_default-clause-paired
+returns-in_default-clause-paired c = c.requires.paired
+
+pub returns-in_default-clause-listed : goal.returns-in_default-clause-listed
+returns-in_default-clause-listed c = c.requires.listed
+
+pub returns-in_default-clause-room : goal.returns-in_default-clause-room
+returns-in_default-clause-room c = refl
+
+pub returns-in_default-clause-room_of_extents : goal.returns-in_default-clause-room_of_extents
+returns-in_default-clause-room_of_extents c = refl
+
+pub returns-in_default-clause-bounded : goal.returns-in_default-clause-bounded
+returns-in_default-clause-bounded c = λ b h. h
+
+pub remove-requires : goal.remove-requires
+remove-requires c =
+    let within : c.in-Some.place < length c.deref.result.now = c.in-Some.ensures.within in
+    let len = c.deref.ensures.len in
+    omega (arith, within, len)
+
+pub remove-requires-2 : goal.remove-requires-2
+remove-requires-2 c =
+    let within : c.in-Some.place < length c.deref.result.now = c.in-Some.ensures.within in
+    let len = c.deref.ensures.len in
+    let whole = c.args.objects.now.ok.0 in
+    let beside = c.args.extents.now.ok.0 in
+    let count = same_count c.args.objects.now.items c.args.extents.now.items c.requires.paired in
+    omega (arith, within, len, whole, beside, count)
+
+pub returns-clause-listed : goal.returns-clause-listed
+returns-clause-listed c =
+    let fewer = c.remove.ensures.len in
+    let listed = c.requires.listed in
+    omega (arith, fewer, listed)
+
+pub returns-clause-room : goal.returns-clause-room
+returns-clause-room c = c.remove.ensures.capacity
+
+pub returns-clause-room_of_extents : goal.returns-clause-room_of_extents
+returns-clause-room_of_extents c = c.remove-4.ensures.capacity

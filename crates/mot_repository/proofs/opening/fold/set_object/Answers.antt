@@ -1,15 +1,15 @@
-use Rattle.std.proofs.Common.{◌≡◌, ◌<◌, ℕ, List, [], ◌∷◌, ◌++◌, length, set, Some, true, refl, sym}
-use Rattle.std.proofs.Common.{ap, ◌∙◌, arith, remove}
+use Rattle.std.proofs.Common.{◌≡◌, ◌<◌, ℕ, List, [], ◌∷◌, ◌++◌, length, set, Some, true, false}
+use Rattle.std.proofs.Common.{refl, sym, subst, ap, ◌∙◌, arith, remove}
 use Rattle.mot_carousel.specs.declared.object.Object.{Object}
 use Rattle.mot_carousel.specs.Stands.{index_of}
 use Rattle.mot_repository.specs.Extents.{objects_in}
 use Rattle.mot_repository.specs.Inner.Fold.{HaveLengths, are_consistent, if_consistent}
 use Rattle.mot_repository.specs.declared.opening.bounds.Bounds.{Bounds}
-use Rattle.mot_repository.specs.Inner.Bounds.{AreWithin}
-use Rattle.mot_repository.proofs.Apart.{consistent_but_set, done_where}
+use Rattle.mot_repository.specs.Inner.Bounds.{AreWithin, AreNamesFlagged}
+use Rattle.mot_repository.proofs.Apart.{consistent_but_set, consistent_but_last, done_where}
 use Rattle.mot_repository.proofs.Bounds.{within_but_set, within_but_last}
 use Rattle.mot_repository.proofs.Listing.{set_there, set_behind, set_nowhere, lengths_set}
-use Rattle.mot_repository.proofs.Listing.{same_count}
+use Rattle.mot_repository.proofs.Listing.{same_count, lengths_behind}
 use Rattle.mot_repository.proofs.opening.fold.set_object.Goals as goal
 
 same-objects : (os ps : List Object) (es fs : List (ℕ × ℕ)) → os ≡ ps → es ≡ fs
@@ -20,14 +20,21 @@ same-lengths : (os ps : List Object) (es fs : List (ℕ × ℕ)) → os ≡ ps �
     → HaveLengths os es
 same-lengths os ps es fs d e h = rw (d, e) h
 
-same-others : (os ps : List Object) (es fs : List (ℕ × ℕ)) (i : ℕ) → os ≡ ps → es ≡ fs
-    → are_consistent (objects_in (remove ps i) (remove fs i)) ≡ true
+same-others : (os ps : List Object) (es fs : List (ℕ × ℕ)) (i j : ℕ) → os ≡ ps → es ≡ fs
+    → i ≡ j → are_consistent (objects_in (remove ps j) (remove fs j)) ≡ true
     → are_consistent (objects_in (remove os i) (remove es i)) ≡ true
-same-others os ps es fs i d e h = rw (d, e) h
+same-others os ps es fs i j d e same h = rw (d, e, same) h
 
 same-bounds : (b : Bounds) (os ps : List Object) (es fs : List (ℕ × ℕ)) (i j : ℕ) → os ≡ ps
     → es ≡ fs → i ≡ j → AreWithin b (remove ps j) (remove fs j) → AreWithin b (remove os i) (remove es i)
 same-bounds b os ps es fs i j d e same h = rw (d, e, same) h
+
+same-within : (b : Bounds) (os ps : List Object) (es fs : List (ℕ × ℕ)) → os ≡ ps → es ≡ fs
+    → AreWithin b os es → AreWithin b ps fs
+same-within b os ps es fs d e h = rw (← d, ← e) h
+
+not_both : false ≡ true → ⊥
+not_both e = cc
 
 pub stands_apart-requires-clause-paired : goal.stands_apart-requires-clause-paired
 stands_apart-requires-clause-paired c =
@@ -48,8 +55,8 @@ stands_apart-requires-clause-others c =
     let within : i < length c.deref.result.now = c.in-Some.ensures.within in
     let count : length c.deref.result.now ≡ length os = ap length c.deref.ensures.value in
     same-others c.deref-in-Some.result.now (set os i c.args.object) c.deref-in-Some-2.result.now
-    (set es i (c.args.start, c.get.result)) i
-    c.deref-in-Some.ensures.value c.deref-in-Some-2.ensures.value
+    (set es i (c.args.start, c.get.result)) i i
+    c.deref-in-Some.ensures.value c.deref-in-Some-2.ensures.value refl
     (consistent_but_set os es i c.args.object (c.args.start, c.get.result) c.requires.paired
     (omega (arith, within, count)) c.requires.consistent)
 
@@ -133,3 +140,152 @@ stands_apart-requires-2-clause-bounded c =
     omega (arith, count, whole))
     (within_but_last c.args.bounds.now os es c.args.object e
     (same_count os es c.requires.paired) c.requires.bounded)
+
+pub get-requires : goal.get-requires
+get-requires c = tt
+
+pub place_of_name-requires : goal.place_of_name-requires
+place_of_name-requires c = subst (AreNamesFlagged c.args.bounds.now.names)
+    (sym c.deref.ensures.value) c.requires.bounded.names
+
+pub index_mut-requires : goal.index_mut-requires
+index_mut-requires c =
+    let within : c.in-Some.place < length c.deref.result.now = c.in-Some.ensures.within in
+    let len = c.deref.ensures.len in
+    omega (arith, within, len)
+
+pub index_mut-requires-in-Some : goal.index_mut-requires-in-Some
+index_mut-requires-in-Some c =
+    let within : c.in-Some.place < length c.deref.result.now = c.in-Some.ensures.within in
+    let len = c.deref.ensures.len in
+    let whole = c.args.objects.now.ok.0 in
+    let beside = c.args.extents.now.ok.0 in
+    let count = same_count c.args.objects.now.items c.args.extents.now.items c.requires.paired in
+    omega (arith, within, len, whole, beside, count)
+
+pub stands_apart-requires-clause-within : goal.stands_apart-requires-clause-within
+stands_apart-requires-clause-within c =
+    let within : c.in-Some.place < length c.deref.result.now = c.in-Some.ensures.within in
+    let len = c.deref.ensures.len in
+    let set_len = c.deref-in-Some.ensures.len in
+    omega (arith, within, len, set_len)
+
+pub returns-in-Some-clause-listed : goal.returns-in-Some-clause-listed
+returns-in-Some-clause-listed c = c.requires.listed
+
+pub returns-in-Some-clause-room : goal.returns-in-Some-clause-room
+returns-in-Some-clause-room c = refl
+
+pub returns-in-Some-clause-room_of_extents : goal.returns-in-Some-clause-room_of_extents
+returns-in-Some-clause-room_of_extents c = refl
+
+pub returns-in-Some-clause-bounded : goal.returns-in-Some-clause-bounded
+returns-in-Some-clause-bounded c = λ apart.
+    let os : List Object = c.args.objects.now.items in
+    let es : List (ℕ × ℕ) = c.args.extents.now.items in
+    let i : ℕ = c.in-Some.place in
+    same-within c.stands_apart.new.bounds c.deref-in-Some.result.now (set os i c.args.object)
+    c.deref-in-Some-2.result.now (set es i (c.args.start, c.get.result))
+    c.deref-in-Some.ensures.value c.deref-in-Some-2.ensures.value
+    (c.stands_apart.ensures.bounded apart)
+
+pub from-requires : goal.from-requires
+from-requires c = tt
+
+pub returns-then-place-from-clause-paired : goal.returns-then-place-from-clause-paired
+returns-then-place-from-clause-paired c = c.requires.paired
+
+pub returns-then-place-from-clause-listed : goal.returns-then-place-from-clause-listed
+returns-then-place-from-clause-listed c = c.requires.listed
+
+pub returns-then-place-from-clause-room : goal.returns-then-place-from-clause-room
+returns-then-place-from-clause-room c = refl
+
+pub returns-then-place-from-clause-room_of_extents :
+    goal.returns-then-place-from-clause-room_of_extents
+returns-then-place-from-clause-room_of_extents c = refl
+
+pub returns-then-place-from-clause-bounded : goal.returns-then-place-from-clause-bounded
+returns-then-place-from-clause-bounded c = λ is. absurd (not_both is)
+
+pub push_reserved-requires : goal.push_reserved-requires
+push_reserved-requires c =
+    let count = c.len-place.ensures in
+    let limit = c.from.ensures in
+    let below = c.if-place-from.false in
+    let room = c.requires.room in
+    omega (arith, count, limit, below, room)
+
+pub push_reserved-requires-2 : goal.push_reserved-requires-2
+push_reserved-requires-2 c =
+    let count = c.len-place.ensures in
+    let limit = c.from.ensures in
+    let below = c.if-place-from.false in
+    let room = c.requires.room_of_extents in
+    let whole = c.args.objects.now.ok.0 in
+    let beside = c.args.extents.now.ok.0 in
+    let same = same_count c.args.objects.now.items c.args.extents.now.items c.requires.paired in
+    omega (arith, count, limit, below, room, whole, beside, same)
+
+pub stands_apart-requires-2-clause-within : goal.stands_apart-requires-2-clause-within
+stands_apart-requires-2-clause-within c =
+    let count = c.len-place.ensures in
+    let more = c.push_reserved.ensures.len in
+    let len = c.deref-2.ensures.len in
+    omega (arith, count, more, len)
+
+pub stands_apart-requires-2-clause-paired : goal.stands_apart-requires-2-clause-paired
+stands_apart-requires-2-clause-paired c =
+    let os : List Object = c.args.objects.now.items in
+    let es : List (ℕ × ℕ) = c.args.extents.now.items in
+    same-lengths c.deref-2.result.now (os ++ c.args.object ∷ []) c.deref-3.result.now
+    (es ++ (c.args.start, c.args.object.length) ∷ [])
+    (c.deref-2.ensures.value ∙ c.push_reserved.ensures.items)
+    (c.deref-3.ensures.value ∙ c.push_reserved-2.ensures.items
+    ∙ ap (λ n. es ++ (c.args.start, n) ∷ []) c.get.ensures.value)
+    (lengths_behind os es c.args.object c.args.start c.requires.paired)
+
+pub stands_apart-requires-2-clause-others : goal.stands_apart-requires-2-clause-others
+stands_apart-requires-2-clause-others c =
+    let os : List Object = c.args.objects.now.items in
+    let es : List (ℕ × ℕ) = c.args.extents.now.items in
+    let e : ℕ × ℕ = (c.args.start, c.get.result) in
+    same-others c.deref-2.result.now (os ++ c.args.object ∷ []) c.deref-3.result.now (es ++ e ∷ [])
+    c.len-place.result (length os)
+    (c.deref-2.ensures.value ∙ c.push_reserved.ensures.items)
+    (c.deref-3.ensures.value ∙ c.push_reserved-2.ensures.items)
+    (let count = c.len-place.ensures in let whole = c.args.objects.now.ok.0 in
+    omega (arith, count, whole))
+    (consistent_but_last os es c.args.object e (same_count os es c.requires.paired)
+    c.requires.consistent)
+
+pub returns-clause-paired : goal.returns-clause-paired
+returns-clause-paired c =
+    let os : List Object = c.args.objects.now.items in
+    let es : List (ℕ × ℕ) = c.args.extents.now.items in
+    same-lengths c.push_reserved.new.self.items (os ++ c.args.object ∷ [])
+    c.push_reserved-2.new.self.items (es ++ (c.args.start, c.args.object.length) ∷ [])
+    c.push_reserved.ensures.items
+    (c.push_reserved-2.ensures.items ∙ ap (λ n. es ++ (c.args.start, n) ∷ []) c.get.ensures.value)
+    (lengths_behind os es c.args.object c.args.start c.requires.paired)
+
+pub returns-clause-listed : goal.returns-clause-listed
+returns-clause-listed c =
+    let count = c.len-place.ensures in
+    let limit = c.from.ensures in
+    let below = c.if-place-from.false in
+    let few = c.requires.few in
+    let more = c.push_reserved.ensures.len in
+    omega (arith, count, limit, below, few, more)
+
+pub returns-clause-room : goal.returns-clause-room
+returns-clause-room c = c.push_reserved.ensures.capacity
+
+pub returns-clause-room_of_extents : goal.returns-clause-room_of_extents
+returns-clause-room_of_extents c = c.push_reserved-2.ensures.capacity
+
+pub returns-clause-bounded : goal.returns-clause-bounded
+returns-clause-bounded c = λ apart.
+    same-within c.stands_apart-2.new.bounds c.deref-2.result.now c.push_reserved.new.self.items
+    c.deref-3.result.now c.push_reserved-2.new.self.items c.deref-2.ensures.value
+    c.deref-3.ensures.value (c.stands_apart-2.ensures.bounded apart)

@@ -12,6 +12,7 @@ use Rattle.mot_repository.specs.Inner.InOrder.{IsInOrder}
 use Rattle.mot_repository.specs.Whole.{IsWhole}
 use Rattle.mot_repository.specs.Prepared.{view_with}
 use Rattle.mot_repository.specs.Repository.{RepositoryView, IsOf}
+use Rattle.mot_repository.proofs.Answering.{calm_where_ok}
 use Rattle.mot_repository.proofs.Layouts.{migrates, whole_in_two}
 use Rattle.mot_repository.proofs.Moved.{here, folds, moments, held, rewrites}
 use Rattle.mot_repository.proofs.repository.Repository.migrate.Goals as goal
@@ -19,6 +20,11 @@ use Rattle.mot_repository.proofs.repository.Repository.migrate.Goals as goal
 -- a journal is of one layout
 not_both : Two ≡ One → ⊥
 not_both e = cc
+
+-- a journal of another layout than the first is of the second
+no_third : (layout : Layout) → (layout ≡ One → ⊥) → layout ≡ Two
+no_third One not = absurd (not refl)
+no_third Two not = refl
 
 -- a repository that is halted does not go on
 halted_goes : true ≡ false → ⊥
@@ -333,3 +339,144 @@ returns-clause-cost g c = rw (← c.self.view_is) (λ one. record {
   at_most = c.in-Ok.ensures.cost.at_most;
   exact = c.in-Ok.ensures.cost.exact;
 })
+
+pub returns-then-self-clause-going : goal.returns-then-self-clause-going
+returns-then-self-clause-going g c = tt
+
+pub returns-then-self-clause-halted : goal.returns-then-self-clause-halted
+returns-then-self-clause-halted g c = tt
+
+pub returns-then-self-clause-calm : goal.returns-then-self-clause-calm
+returns-then-self-clause-calm g c = tt
+
+pub returns-then-self-clause-rewritten : goal.returns-then-self-clause-rewritten
+returns-then-self-clause-rewritten g c = tt
+
+pub returns-then-self-clause-layout : goal.returns-then-self-clause-layout
+returns-then-self-clause-layout g c = tt
+
+pub returns-then-self-clause-geometry : goal.returns-then-self-clause-geometry
+returns-then-self-clause-geometry g c = refl
+
+pub returns-then-self-clause-carousel : goal.returns-then-self-clause-carousel
+returns-then-self-clause-carousel g c = refl
+
+pub returns-then-self-clause-extents : goal.returns-then-self-clause-extents
+returns-then-self-clause-extents g c = refl
+
+pub returns-then-self-clause-cost : goal.returns-then-self-clause-cost
+returns-then-self-clause-cost g c = λ one. record { at_most = no_less _ _; exact = tt }
+
+pub returns-then-self-clause-layouts : goal.returns-then-self-clause-layouts
+returns-then-self-clause-layouts g c = λ s holds. tt
+
+pub returns-then-self-clause-ok : goal.returns-then-self-clause-ok
+returns-then-self-clause-ok g c = λ s holds. tt
+
+pub layout-requires : goal.layout-requires
+layout-requires g c = tt
+
+pub returns-in_default-clause-geometry : goal.returns-in_default-clause-geometry
+returns-in_default-clause-geometry g c = refl
+
+pub returns-in_default-clause-carousel : goal.returns-in_default-clause-carousel
+returns-in_default-clause-carousel g c = refl
+
+pub returns-in_default-clause-extents : goal.returns-in_default-clause-extents
+returns-in_default-clause-extents g c = refl
+
+pub returns-in_default-clause-halted : goal.returns-in_default-clause-halted
+returns-in_default-clause-halted g c = refl
+
+pub returns-in_default-clause-calm : goal.returns-in_default-clause-calm
+returns-in_default-clause-calm g c = refl
+
+pub returns-in_default-clause-layout : goal.returns-in_default-clause-layout
+returns-in_default-clause-layout g c = rw (← c.self.view_is)
+    (no_third c.self.inside.journal.layout (λ one. c.in_default.not-One (c.layout.ensures ∙ one)))
+
+pub returns-in_default-clause-refused : goal.returns-in_default-clause-refused
+returns-in_default-clause-refused g c = tt
+
+pub returns-in_default-clause-untouched : goal.returns-in_default-clause-untouched
+returns-in_default-clause-untouched g c = tt
+
+pub returns-in_default-clause-layouts : goal.returns-in_default-clause-layouts
+returns-in_default-clause-layouts g c = λ s holds image left.
+    (_, (holds.journal.each image left).read, returns-in_default-clause-layout g c)
+
+pub records_of-requires : goal.records_of-requires
+records_of-requires g c = tt
+
+pub returns-in_err-given-clause-geometry : goal.returns-in_err-given-clause-geometry
+returns-in_err-given-clause-geometry g c = refl
+
+pub returns-in_err-given-clause-carousel : goal.returns-in_err-given-clause-carousel
+returns-in_err-given-clause-carousel g c = refl
+
+pub returns-in_err-given-clause-extents : goal.returns-in_err-given-clause-extents
+returns-in_err-given-clause-extents g c = refl
+
+pub returns-in_err-given-clause-going : goal.returns-in_err-given-clause-going
+returns-in_err-given-clause-going g c =
+    rw (same_error c.from_residual.result OutOfMemory c.from_residual.ensures.1) tt
+
+pub returns-in_err-given-clause-halted : goal.returns-in_err-given-clause-halted
+returns-in_err-given-clause-halted g c =
+    rw (same_error c.from_residual.result OutOfMemory c.from_residual.ensures.1) tt
+
+pub returns-in_err-given-clause-calm : goal.returns-in_err-given-clause-calm
+returns-in_err-given-clause-calm g c =
+    rw (same_error c.from_residual.result OutOfMemory c.from_residual.ensures.1) tt
+
+pub returns-in_err-given-clause-layout : goal.returns-in_err-given-clause-layout
+returns-in_err-given-clause-layout g c =
+    rw (same_error c.from_residual.result OutOfMemory c.from_residual.ensures.1) tt
+
+pub migrate-requires-clause-going : goal.migrate-requires-clause-going
+migrate-requires-clause-going g c = c.self.invariant.going c.if-self.false
+
+pub returns-in_default-migrate-clause-carousel : goal.returns-in_default-migrate-clause-carousel
+returns-in_default-migrate-clause-carousel g c = rw (← c.self.view_is) refl
+
+pub returns-in_default-migrate-clause-extents : goal.returns-in_default-migrate-clause-extents
+returns-in_default-migrate-clause-extents g c = rw (← c.self.view_is) refl
+
+pub returns-in_default-migrate-clause-going : goal.returns-in_default-migrate-clause-going
+returns-in_default-migrate-clause-going g c = tt
+
+pub returns-in_default-migrate-clause-halted : goal.returns-in_default-migrate-clause-halted
+returns-in_default-migrate-clause-halted g c = tt
+
+pub returns-in_default-migrate-clause-calm : goal.returns-in_default-migrate-clause-calm
+returns-in_default-migrate-clause-calm g c = tt
+
+pub returns-in_default-migrate-clause-rewritten : goal.returns-in_default-migrate-clause-rewritten
+returns-in_default-migrate-clause-rewritten g c = tt
+
+pub returns-in_default-migrate-clause-layout : goal.returns-in_default-migrate-clause-layout
+returns-in_default-migrate-clause-layout g c = tt
+
+pub returns-in_default-migrate-clause-layouts : goal.returns-in_default-migrate-clause-layouts
+returns-in_default-migrate-clause-layouts g c = λ s holds. tt
+
+pub returns-in_default-migrate-clause-ok : goal.returns-in_default-migrate-clause-ok
+returns-in_default-migrate-clause-ok g c = λ s holds. tt
+
+pub returns-clause-carousel : goal.returns-clause-carousel
+returns-clause-carousel g c = rw (← c.self.view_is) refl
+
+pub returns-clause-extents : goal.returns-clause-extents
+returns-clause-extents g c = rw (← c.self.view_is) refl
+
+pub returns-clause-halted : goal.returns-clause-halted
+returns-clause-halted g c = rw (← c.self.view_is) refl
+
+pub returns-clause-calm : goal.returns-clause-calm
+returns-clause-calm g c = rw (← c.self.view_is) (calm_where_ok _ c.in-Ok.ensures.cause)
+
+pub returns-clause-refused : goal.returns-clause-refused
+returns-clause-refused g c = tt
+
+pub returns-clause-untouched : goal.returns-clause-untouched
+returns-clause-untouched g c = tt

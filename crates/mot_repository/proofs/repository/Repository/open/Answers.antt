@@ -1,7 +1,14 @@
-use Rattle.std.proofs.Common.{◌≡◌, false, sym, subst, ◌∙◌}
+use Rattle.std.proofs.Common.{◌≡◌, ⊎_elim, inl, inr, false, refl, sym, ap, subst, ◌∙◌}
 use Rattle.std.specs.Prelude.{is_err}
+use Rattle.disk_model.specs.Disk.{OnlySyncs}
+use Rattle.mot_repository.specs.Inner.InOrder.{IsInOrder}
 use Rattle.mot_repository.specs.Opening.{IsOpened}
-use Rattle.mot_repository.proofs.OpenDisk.{is_opened, refused_later, where_ok}
+use Rattle.mot_repository.specs.Opening.IsOpeningRefusal.{device}
+use Rattle.mot_repository.specs.Prepared.{view_with}
+use Rattle.mot_repository.specs.Repository.{RepositoryView}
+use Rattle.mot_repository.proofs.Answering.{calm_where_ok}
+use Rattle.mot_repository.proofs.OpenDisk.{is_opened, refused_later, where_ok, syncs_on}
+use Rattle.mot_repository.proofs.OpenDisk.{three_calls, at_most_three, one_of_three}
 use Rattle.mot_repository.proofs.repository.Repository.open.Goals as goal
 
 pub returns-in-Ok-clause-opened : goal.returns-in-Ok-clause-opened
@@ -31,3 +38,78 @@ returns-in-Err-clause-refused g c =
     (c.sync.ensures.keeps.frame.was_honest
     (c.load_inventory.ensures.only_reads.keeps.was_honest honest))).bytes)
     c.in-Err.ensures.refused
+
+pub returns-then-is_err-clause-only_syncs : goal.returns-then-is_err-clause-only_syncs
+returns-then-is_err-clause-only_syncs g c = record {
+  keeps = c.sync.ensures.keeps.frame;
+  still = λ honest. c.sync.ensures.still (c.sync.ensures.keeps.frame.was_honest honest);
+}
+
+pub returns-then-is_err-clause-going : goal.returns-then-is_err-clause-going
+returns-then-is_err-clause-going g c = tt
+
+pub returns-then-is_err-clause-opened : goal.returns-then-is_err-clause-opened
+returns-then-is_err-clause-opened g c = tt
+
+pub returns-then-is_err-clause-refused : goal.returns-then-is_err-clause-refused
+returns-then-is_err-clause-refused g c =
+    device refl (c.sync.ensures.cause.cause (sym c.is_err.ensures.value ∙ c.if-is_err.true))
+
+pub returns-then-is_err-clause-calm : goal.returns-then-is_err-clause-calm
+returns-then-is_err-clause-calm g c = inl refl
+
+pub returns-then-is_err-clause-cost : goal.returns-then-is_err-clause-cost
+returns-then-is_err-clause-cost g c = one_of_three _ _ c.sync.ensures.called
+
+pub of-requires : goal.of-requires
+of-requires g c = subst (λ n. IsInOrder (view_with c.in-Ok.journal c.in-Ok.inventory.carousel
+    c.in-Ok.inventory.extents.items false) n)
+    (sym c.load_inventory.ensures.only_reads.keeps.len) c.in-Ok.ensures.in_order
+
+pub returns-in-Ok-clause-only_syncs : goal.returns-in-Ok-clause-only_syncs
+returns-in-Ok-clause-only_syncs g c =
+    let state = g.D.Disk.state in
+    subst (λ d. OnlySyncs (state c.args.disk) (state d)) (sym c.of.ensures.disk)
+    (syncs_on (state c.args.disk) (state c.sync.new.self) (state c.load_inventory.new.disk)
+    c.sync.ensures.keeps.frame c.sync.ensures.still c.load_inventory.ensures.only_reads)
+
+pub returns-in-Ok-clause-going : goal.returns-in-Ok-clause-going
+returns-in-Ok-clause-going g c = ap (λ (v : RepositoryView). v.halted) c.of.ensures.view
+
+pub returns-in-Ok-clause-refused : goal.returns-in-Ok-clause-refused
+returns-in-Ok-clause-refused g c = tt
+
+pub returns-in-Ok-clause-calm : goal.returns-in-Ok-clause-calm
+returns-in-Ok-clause-calm g c =
+    let state = g.D.Disk.state in
+    let ok : is_err c.sync.result ≡ false = sym c.is_err.ensures.value ∙ c.if-is_err.false in
+    ap (λ d. (state d).failures) c.of.ensures.disk ∙ c.in-Ok.ensures.calm
+    ∙ where_ok c.sync.result ok (calm_where_ok c.sync.result c.sync.ensures.cause)
+
+pub returns-in-Ok-clause-cost : goal.returns-in-Ok-clause-cost
+returns-in-Ok-clause-cost g c =
+    let state = g.D.Disk.state in
+    ap (λ d. (state d).calls) c.of.ensures.disk
+    ∙ three_calls _ _ _ c.sync.ensures.called c.in-Ok.ensures.cost.exact
+
+pub returns-in-Err-clause-only_syncs : goal.returns-in-Err-clause-only_syncs
+returns-in-Err-clause-only_syncs g c =
+    let state = g.D.Disk.state in
+    syncs_on (state c.args.disk) (state c.sync.new.self) (state c.load_inventory.new.disk)
+    c.sync.ensures.keeps.frame c.sync.ensures.still c.load_inventory.ensures.only_reads
+
+pub returns-in-Err-clause-going : goal.returns-in-Err-clause-going
+returns-in-Err-clause-going g c = tt
+
+pub returns-in-Err-clause-opened : goal.returns-in-Err-clause-opened
+returns-in-Err-clause-opened g c = tt
+
+pub returns-in-Err-clause-calm : goal.returns-in-Err-clause-calm
+returns-in-Err-clause-calm g c =
+    let ok : is_err c.sync.result ≡ false = sym c.is_err.ensures.value ∙ c.if-is_err.false in
+    let synced = where_ok c.sync.result ok (calm_where_ok c.sync.result c.sync.ensures.cause) in
+    ⊎_elim (λ is. inl is) (λ same. inr (same ∙ synced)) c.in-Err.ensures.calm
+
+pub returns-in-Err-clause-cost : goal.returns-in-Err-clause-cost
+returns-in-Err-clause-cost g c =
+    at_most_three _ _ _ c.sync.ensures.called c.in-Err.ensures.cost.at_most

@@ -1,15 +1,21 @@
-use Rattle.std.proofs.Common.{ℕ, Bool, inl, suc, List, [], ◌∷◌, ◌++◌, length, length-append, refl}
-use Rattle.std.proofs.Common.{sym, ap, ◌≡◌, ◌∙◌, subst, arith}
+use Rattle.std.proofs.Common.{ℕ, Bool, inl, inr, suc, List, [], ◌∷◌, ◌++◌, length, length-append}
+use Rattle.std.proofs.Common.{refl, sym, ap, ◌≡◌, ◌∙◌, subst, arith}
+use Rattle.std.proofs.lemmas.Result.{err_from_is_err_and}
 use Rattle.disk_model.proofs.Laws.{reads_none, reads_on}
+use Rattle.mot_base.proofs.Laws.{same_error}
+use Rattle.mot_base.specs.declared.refusal.Refusal.TheVariants.{OutOfMemory}
 use Rattle.mot_player.specs.AnyBodies.{IsStepOfSome, PlaysOn, PlaysToTheEnd}
 use Rattle.mot_player.specs.PlayerView as player
 use Rattle.mot_server.specs.Playing.{IsGoing}
 use Rattle.mot_server.specs.Playing.{HasPlayed, HasPlayedTurn, bytes_of_packets}
+use Rattle.mot_server.specs.Playing.IsTurnRefusal.{halted, no_memory}
 use Rattle.mot_server.specs.Server.{bodies_of, place_in}
 use Rattle.mot_server.proofs.Going.{HasPlayed-more, HasPlayedTurn-ended, IsGoing-more, IsGoing-none}
 use Rattle.mot_server.proofs.Going.{MatchResult-failed, OnErr-always, PlaysOn-more}
 use Rattle.mot_server.proofs.Going.{bytes_of_packets-more, plays_one_more}
+use Rattle.mot_server.proofs.Going.{HasPlayed-none}
 use Rattle.mot_server.proofs.Read.{holds_still}
+use Rattle.mot_server.proofs.ReadRefusals.{turn_of_read, fault_of_read}
 use Rattle.mot_server.proofs.Whole.{turn_reads}
 use Rattle.mot_journal.specs.Image.{Standing}
 use Rattle.mot_repository.specs.Repository.{Holds}
@@ -193,3 +199,149 @@ loop-packets-preserved g c =
           now.player)
           c.if-ends_turn.false c.in_ok-packet.ensures.of_some));
     }
+
+pub returns-then-halted-clause-only_reads : goal.returns-then-halted-clause-only_reads
+returns-then-halted-clause-only_reads g c = reads_none (g.D.Disk.state c.args.self.now.disk)
+
+pub returns-then-halted-clause-view : goal.returns-then-halted-clause-view
+returns-then-halted-clause-view g c = refl
+
+pub returns-then-halted-clause-turn : goal.returns-then-halted-clause-turn
+returns-then-halted-clause-turn g c = λ s holds honest. tt
+
+pub returns-then-halted-clause-reads : goal.returns-then-halted-clause-reads
+returns-then-halted-clause-reads g c = λ s holds honest begins. tt
+
+pub returns-then-halted-clause-stands : goal.returns-then-halted-clause-stands
+returns-then-halted-clause-stands g c =
+    λ s holds honest. (0, [], HasPlayed-none (place_in c.args.self.now s))
+
+pub returns-then-halted-clause-of_some : goal.returns-then-halted-clause-of_some
+returns-then-halted-clause-of_some g c = ([], inl refl)
+
+pub returns-then-halted-clause-going : goal.returns-then-halted-clause-going
+returns-then-halted-clause-going g c = tt
+
+pub returns-then-halted-clause-refused : goal.returns-then-halted-clause-refused
+returns-then-halted-clause-refused g c =
+    halted (sym c.halted.ensures.value ∙ c.if-halted.true) refl refl
+
+pub returns-then-halted-clause-calm : goal.returns-then-halted-clause-calm
+returns-then-halted-clause-calm g c = inr refl
+
+pub returns-then-halted-clause-cost : goal.returns-then-halted-clause-cost
+returns-then-halted-clause-cost g c = tt
+
+pub returns-in_err-packet-clause-only_reads : goal.returns-in_err-packet-clause-only_reads
+returns-in_err-packet-clause-only_reads g c =
+    let state = g.D.Disk.state in
+    reads_on (state c.args.self.now.disk) (state c.loop-packets.self.disk)
+    (state c.next_packet.new.self.disk) c.loop-packets.invariant.reads
+    c.next_packet.ensures.only_reads
+
+pub returns-in_err-packet-clause-view : goal.returns-in_err-packet-clause-view
+returns-in_err-packet-clause-view g c = c.next_packet.ensures.view ∙ c.loop-packets.invariant.view
+
+pub returns-in_err-push-clause-only_reads : goal.returns-in_err-push-clause-only_reads
+returns-in_err-push-clause-only_reads g c =
+    let state = g.D.Disk.state in
+    reads_on (state c.args.self.now.disk) (state c.loop-packets.self.disk)
+    (state c.next_packet.new.self.disk) c.loop-packets.invariant.reads
+    c.next_packet.ensures.only_reads
+
+pub returns-in_err-push-clause-view : goal.returns-in_err-push-clause-view
+returns-in_err-push-clause-view g c = c.next_packet.ensures.view ∙ c.loop-packets.invariant.view
+
+pub returns-then-ends_turn-clause-only_reads : goal.returns-then-ends_turn-clause-only_reads
+returns-then-ends_turn-clause-only_reads g c =
+    let state = g.D.Disk.state in
+    reads_on (state c.args.self.now.disk) (state c.loop-packets.self.disk)
+    (state c.next_packet.new.self.disk) c.loop-packets.invariant.reads
+    c.next_packet.ensures.only_reads
+
+pub returns-then-ends_turn-clause-view : goal.returns-then-ends_turn-clause-view
+returns-then-ends_turn-clause-view g c = c.next_packet.ensures.view ∙ c.loop-packets.invariant.view
+
+pub returns-in_err-packet-clause-turn : goal.returns-in_err-packet-clause-turn
+returns-in_err-packet-clause-turn g c =
+    let p = err_from_is_err_and c.from_residual.result c.from_residual.ensures.1 in
+    rw p.1 (λ s holds honest. tt)
+
+pub returns-in_err-packet-clause-reads : goal.returns-in_err-packet-clause-reads
+returns-in_err-packet-clause-reads g c =
+    let p = err_from_is_err_and c.from_residual.result c.from_residual.ensures.1 in
+    rw p.1 (λ s holds honest begins. tt)
+
+pub returns-in_err-packet-clause-going : goal.returns-in_err-packet-clause-going
+returns-in_err-packet-clause-going g c =
+    let p = err_from_is_err_and c.from_residual.result c.from_residual.ensures.1 in
+    rw p.1 tt
+
+pub returns-in_err-packet-clause-cost : goal.returns-in_err-packet-clause-cost
+returns-in_err-packet-clause-cost g c =
+    let p = err_from_is_err_and c.from_residual.result c.from_residual.ensures.1 in
+    rw p.1 tt
+
+pub returns-in_err-packet-clause-refused : goal.returns-in_err-packet-clause-refused
+returns-in_err-packet-clause-refused g c =
+    let p = err_from_is_err_and c.from_residual.result c.from_residual.ensures.1 in
+    rw (p.1, p.2) (turn_of_read c.args.self.now
+    c.loop-packets.self c.next_packet.new.self _ _ _ _
+    (sym c.halted.ensures.value ∙ c.if-halted.false) c.loop-packets.invariant.view
+    c.loop-packets.invariant.calm c.in_err-packet.ensures.refused)
+
+pub returns-in_err-packet-clause-calm : goal.returns-in_err-packet-clause-calm
+returns-in_err-packet-clause-calm g c =
+    let p = err_from_is_err_and c.from_residual.result c.from_residual.ensures.1 in
+    rw (p.1, p.2) (inl (fault_of_read c.args.self.now c.loop-packets.self c.next_packet.new.self
+    _ _ _ (sym c.halted.ensures.value ∙ c.if-halted.false) c.loop-packets.invariant.view
+    c.in_err-packet.ensures.refused))
+
+pub returns-in_err-push-clause-turn : goal.returns-in_err-push-clause-turn
+returns-in_err-push-clause-turn g c =
+    let is = same_error c.from_residual-in_err-push.result OutOfMemory
+    c.from_residual-in_err-push.ensures.1 in
+    rw is (λ s holds honest. tt)
+
+pub returns-in_err-push-clause-reads : goal.returns-in_err-push-clause-reads
+returns-in_err-push-clause-reads g c =
+    let is = same_error c.from_residual-in_err-push.result OutOfMemory
+    c.from_residual-in_err-push.ensures.1 in
+    rw is (λ s holds honest begins. tt)
+
+pub returns-in_err-push-clause-going : goal.returns-in_err-push-clause-going
+returns-in_err-push-clause-going g c =
+    let is = same_error c.from_residual-in_err-push.result OutOfMemory
+    c.from_residual-in_err-push.ensures.1 in
+    rw is tt
+
+pub returns-in_err-push-clause-cost : goal.returns-in_err-push-clause-cost
+returns-in_err-push-clause-cost g c =
+    let is = same_error c.from_residual-in_err-push.result OutOfMemory
+    c.from_residual-in_err-push.ensures.1 in
+    rw is tt
+
+pub returns-in_err-push-clause-refused : goal.returns-in_err-push-clause-refused
+returns-in_err-push-clause-refused g c =
+    let is = same_error c.from_residual-in_err-push.result OutOfMemory
+    c.from_residual-in_err-push.ensures.1 in
+    rw is (no_memory (sym c.halted.ensures.value ∙ c.if-halted.false) refl)
+
+pub returns-in_err-push-clause-calm : goal.returns-in_err-push-clause-calm
+returns-in_err-push-clause-calm g c =
+    let is = same_error c.from_residual-in_err-push.result OutOfMemory
+    c.from_residual-in_err-push.ensures.1 in
+    rw is (inr (c.in_ok-packet.ensures.no_fault ∙ c.loop-packets.invariant.calm))
+
+pub returns-then-ends_turn-clause-stands : goal.returns-then-ends_turn-clause-stands
+returns-then-ends_turn-clause-stands g c = λ s holds honest. tt
+
+pub returns-then-ends_turn-clause-going : goal.returns-then-ends_turn-clause-going
+returns-then-ends_turn-clause-going g c = sym c.halted.ensures.value ∙ c.if-halted.false
+
+pub returns-then-ends_turn-clause-refused : goal.returns-then-ends_turn-clause-refused
+returns-then-ends_turn-clause-refused g c = tt
+
+pub returns-then-ends_turn-clause-calm : goal.returns-then-ends_turn-clause-calm
+returns-then-ends_turn-clause-calm g c =
+    c.in_ok-packet.ensures.no_fault ∙ c.loop-packets.invariant.calm
