@@ -25,7 +25,7 @@ use mot_update::{NoUpdate, Update};
 use std::alloc::Global;
 use std::cell::RefCell;
 use std::fs::File;
-use std::io::{Read, Write};
+use std::io::Write;
 use std::rt::Files;
 
 /// A folder that a carousel is made equal to, and which of its files are objects.
@@ -82,29 +82,26 @@ pub fn play_and_answer<T: Files<File = File>, D: Disk, O: Outlet, L: Write + Dro
     ensures refused { IfErr result.result (λ r. StopsPlaying r Always
         (O.writes outlet.old) (O.writes outlet.new) (D.state disk) (D.state result.disk)) }
 {
-    let LineFolder { path, hand, every } = lines;
     let log = RefCell::new(log);
-    let spool = Spool::new(rt, alloc, path, SharedLog::new(&log));
-    let told = SharedLog::new(&log);
     match folder {
         Some(Followed { path, types }) => {
             let looks = Looks::new(rt, alloc, path, types, SharedLog::new(&log));
-            let lines = Lines::new(spool, hand, told, every, looks);
-            play_lines(alloc, disk, lines, outlet, turns)
+            play_lines(rt, alloc, disk, outlet, lines, &log, looks, turns)
         }
-        None => {
-            let lines = Lines::new(spool, hand, told, every, NoUpdate);
-            play_lines(alloc, disk, lines, outlet, turns)
-        }
+        None => play_lines(rt, alloc, disk, outlet, lines, &log, NoUpdate, turns),
     }
 }
 
-/// Opens the disk and plays it into the outlet, so many turns, and answers these lines.
-fn play_lines<D: Disk, R: Read + Drop, L: Write + Drop, U: Update + Drop, O: Outlet>(
+/// Opens the disk and plays it into the outlet, so many turns, with these updates, and answers the
+/// lines of the files in a folder. What is told of them is written to the log.
+fn play_lines<T: Files<File = File>, D: Disk, O: Outlet, L: Write + Drop, U: Update + Drop>(
+    rt: &T,
     alloc: Global,
     disk: D,
-    mut lines: Lines<R, L, U>,
     outlet: &mut O,
+    lines: LineFolder<'_>,
+    log: &RefCell<L>,
+    update: U,
     turns: u64,
 ) -> Ended<D, ()>
     ensures keeps { KeepsLength (D.state disk) (D.state result.disk) }
@@ -113,6 +110,9 @@ fn play_lines<D: Disk, R: Read + Drop, L: Write + Drop, U: Update + Drop, O: Out
     ensures refused { IfErr result.result (λ r. StopsPlaying r Always
         (O.writes outlet.old) (O.writes outlet.new) (D.state disk) (D.state result.disk)) }
 {
+    let LineFolder { path, hand, every } = lines;
+    let spool = Spool::new(rt, alloc, path, SharedLog::new(log));
+    let mut lines = Lines::new(spool, hand, SharedLog::new(log), every, update);
     play_with(alloc, disk, &mut lines, outlet, turns)
 }
 

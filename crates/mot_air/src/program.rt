@@ -4,13 +4,13 @@ ghost use Rattle.std.specs.Prelude.{IsTrue};
 ghost use Rattle.std.specs.Prelude.{List, None, Ok, Some, codes, option_map};
 ghost use Rattle.std.specs.Io.KnownBytes.{Keeps};
 ghost use Rattle.clap.specs.Words.{Text, found_of, kind_of, rows_of};
+ghost use Rattle.mot_air.specs.Inner.Told.{told_of};
 ghost use Rattle.mot_air.specs.Program.{Does, DoesInPart, IsBeginningRefusal, IsRefused, IsUntold};
 ghost use Rattle.mot_air.specs.Program.{IsUntouched, OnOpened, PlaysTo};
 ghost use Rattle.mot_air.specs.Program.{StopsPlayingTo, Succeeds, when_changed};
 ghost use Rattle.mot_air.specs.Syncing.{StopsSyncing, Syncs};
 ghost use Rattle.mot_air.specs.declared.playing.Followed.{Followed};
 ghost use Rattle.mot_air.specs.declared.used.AirDisk.{AirDisk};
-ghost use Rattle.mot_air.specs.declared.used.AirDisk.TheVariants.{Untouched};
 ghost use Rattle.mot_base.specs.declared.refusal.Refusal.{Refusal};
 ghost use Rattle.mot_base.specs.declared.refusal.Refusal.TheVariants.{DeviceFault, OutOfMemory};
 ghost use Rattle.mot_base.specs.declared.refusal.Refusal.TheVariants.{WriteFault};
@@ -25,12 +25,12 @@ ghost use Rattle.mot_words.specs.Asked.{AreWrong, AskBy};
 use crate::on_air::play_file;
 use crate::playing::{Followed, sync_disk};
 use crate::subject::{Subject, subject_of, tell, tell_folder};
-use crate::used::{AirDisk, AirExit, Finished};
+use crate::used::{AirExit, Finished};
 use clap::error::ErrorKind;
 use clap::{ArgMatches, Error};
 use disk_store::{FileDiskFrom, Start};
 use mot_base::Refusal;
-use mot_files::{file_types, line_folder};
+use mot_files::{Cause, file_types, line_folder};
 use mot_folder::FileTypes;
 use mot_reading::{export_disk, inspect_disk};
 use mot_words::{AirTask, PlayTask, air_matches, air_task};
@@ -94,14 +94,13 @@ pub fn run_air_on<S: AsStr, B: Start, W: Write, E: Write>(
     ensures usage { result.status ≡ 2 → AreWrong air_app (map S.text words.now)
         × IsUntouched result.disk × Keeps (W.contents writer.old) (W.contents writer.new) }
 {
-    let matches = match air_matches(alloc, words) {
-        Ok(matches) => matches,
-        Err(error) => return explain(writer, errors, &error, start),
-    };
-    let Some((name, rest)) = matches.subcommand() else {
-        return AirExit::unrefused(2, AirDisk::Untouched(start));
-    };
-    run_command(rt, alloc, name, rest, start, writer, errors)
+    match air_matches(alloc, words) {
+        Ok(matches) => match matches.subcommand() {
+            Some((name, rest)) => run_command(rt, alloc, name, rest, start, writer, errors),
+            None => AirExit::untouched((2, None), start),
+        },
+        Err(error) => AirExit::untouched(explain(writer, errors, &error), start),
+    }
 }
 
 /// Does what a command of this name asks for, with these words behind it.
@@ -124,79 +123,85 @@ fn run_command<B: Start, W: Write, E: Write>(
         → result.status ≡ 1 → IsRefused all result.refusal result.disk
         (W.contents writer.old) (W.contents writer.new) }
 {
-    let Some(task) = air_task(name, words) else {
-        let subject = subject_of(Refusal::BadNumber, words, None);
-        return refuse(
-            errors,
-            Refusal::BadNumber,
-            subject,
-            AirDisk::Untouched(start),
-        );
-    };
-    let Finished {
-        result,
-        disk,
-        cause,
-    } = execute(rt, alloc, task, start, writer, errors);
-    match result {
-        Ok(true) => AirExit::unrefused(0, disk),
-        Ok(false) => {
-            tell_folder(rt, errors, words);
-            AirExit::unrefused(1, disk)
+    match air_task(name, words) {
+        Some(task) => {
+            let Finished {
+                result,
+                disk,
+                cause,
+            } = execute(rt, alloc, task, start, writer, errors);
+            let (status, refusal) = tell_result(rt, errors, words, result, cause);
+            AirExit {
+                status,
+                refusal,
+                disk,
+            }
         }
-        Err(refusal) => refuse(errors, refusal, subject_of(refusal, words, cause), disk),
+        None => {
+            let subject = subject_of(Refusal::BadNumber, words, None);
+            AirExit::untouched(refuse(errors, Refusal::BadNumber, subject), start)
+        }
     }
 }
 
-/// Prints what is wrong with the words, or the help that they ask for.
-fn explain<B: Start, W: Write, E: Write>(
+/// Prints what went wrong, if anything did, and answers the exit status and the refusal.
+fn tell_result<E: Write>(
+    rt: &HostRuntime,
+    errors: &mut E,
+    words: &ArgMatches<'_>,
+    done: Result<bool, Refusal>,
+    cause: Option<Cause>,
+) -> (u8, Option<Refusal>)
+    ensures { result ≡ told_of done }
+{
+    match done {
+        Ok(true) => (0, None),
+        Ok(false) => {
+            tell_folder(rt, errors, words);
+            (1, None)
+        }
+        Err(refusal) => refuse(errors, refusal, subject_of(refusal, words, cause)),
+    }
+}
+
+/// Prints what is wrong with the words, or the help that they ask for, and answers the exit status
+/// and the refusal.
+fn explain<W: Write, E: Write>(
     writer: &mut W,
     errors: &mut E,
     error: &Error,
-    start: B,
-) -> AirExit<B>
-    ensures status { (result.status ≡ 0) ⊎ (result.status ≡ 1) ⊎ (result.status ≡ 2) }
-    ensures untouched { result.disk ≡ Untouched start }
-    ensures help { result.status ≡ 0 → kind_of error.now ≡ ErrorKind.DisplayHelp }
-    ensures usage { result.status ≡ 2 → (kind_of error.now ≢ ErrorKind.DisplayHelp)
+) -> (u8, Option<Refusal>)
+    ensures status { (result.0 ≡ 0) ⊎ (result.0 ≡ 1) ⊎ (result.0 ≡ 2) }
+    ensures help { result.0 ≡ 0 → kind_of error.now ≡ ErrorKind.DisplayHelp }
+    ensures usage { result.0 ≡ 2 → (kind_of error.now ≢ ErrorKind.DisplayHelp)
         × (kind_of error.now ≢ ErrorKind.OutOfMemory)
         × Keeps (W.contents writer.old) (W.contents writer.new) }
-    ensures refused { result.status ≡ 1
-        → ((result.refusal ≡ Some OutOfMemory)
+    ensures refused { result.0 ≡ 1
+        → ((result.1 ≡ Some OutOfMemory)
         × Keeps (W.contents writer.old) (W.contents writer.new))
-        ⊎ ((result.refusal ≡ Some WriteFault) × (kind_of error.now ≡ ErrorKind.DisplayHelp)) }
+        ⊎ ((result.1 ≡ Some WriteFault) × (kind_of error.now ≡ ErrorKind.DisplayHelp)) }
 {
     let kind = error.kind();
-    let disk = AirDisk::Untouched(start);
     if kind == ErrorKind::OutOfMemory {
-        return refuse(errors, Refusal::OutOfMemory, Subject::Nothing, disk);
+        return refuse(errors, Refusal::OutOfMemory, Subject::Nothing);
     }
     if kind != ErrorKind::DisplayHelp {
         let _ = write!(errors, "{error}");
-        return AirExit::unrefused(2, disk);
+        return (2, None);
     }
     if write!(writer, "{error}").is_err() || writer.flush().is_err() {
-        return refuse(errors, Refusal::WriteFault, Subject::Nothing, disk);
+        return refuse(errors, Refusal::WriteFault, Subject::Nothing);
     }
-    AirExit::unrefused(0, disk)
+    (0, None)
 }
 
-/// Ends a run by a refusal, and prints it, and on a second line what it is about.
-fn refuse<B: Start, E: Write>(
-    errors: &mut E,
-    refusal: Refusal,
-    subject: Subject<'_>,
-    disk: AirDisk<B>,
-) -> AirExit<B>
-    ensures { result ≡ record { status = 1; refusal = Some refusal; disk = disk } }
+/// Prints a refusal, and on a second line what it is about, and answers its status and it.
+fn refuse<E: Write>(errors: &mut E, refusal: Refusal, subject: Subject<'_>) -> (u8, Option<Refusal>)
+    ensures { result ≡ (1, Some refusal) }
 {
     let _ = writeln!(errors, "motcar: {refusal}");
     tell(errors, subject);
-    AirExit {
-        status: 1,
-        refusal: Some(refusal),
-        disk,
-    }
+    (1, Some(refusal))
 }
 
 /// Does a task.

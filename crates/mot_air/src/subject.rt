@@ -76,11 +76,17 @@ pub(crate) fn tell<E: Write>(errors: &mut E, subject: Subject<'_>) {
 
 /// Prints a file, and what came of it.
 fn tell_file<E: Write>(errors: &mut E, path: &str, cause: Cause) {
-    let _ = match cause {
-        Cause::Packets(_) if path == OUTPUT => writeln!(errors, "motcar: standard output: {cause}"),
-        Cause::NewFile(_) => writeln!(errors, "motcar: {path}{SUFFIX}: {cause}"),
-        _ => writeln!(errors, "motcar: {path}: {cause}"),
-    };
+    let (name, suffix) = shown(path, cause);
+    let _ = writeln!(errors, "motcar: {name}{suffix}: {cause}");
+}
+
+/// The name that a file is shown by, and what is added to it.
+fn shown(path: &str, cause: Cause) -> (&str, &'static str) {
+    match cause {
+        Cause::Packets(_) if path == OUTPUT => ("standard output", ""),
+        Cause::NewFile(_) => (path, SUFFIX),
+        _ => (path, ""),
+    }
 }
 
 /// Prints why the folder that these words name can't be listed, where it can't.

@@ -32,14 +32,16 @@ pub struct AirExit<S: Start> {
 }
 
 impl<S: Start> AirExit<S> {
-    /// The end of a run that no refusal ended.
-    pub(crate) fn unrefused(status: u8, disk: AirDisk<S>) -> Self
-        ensures { result ≡ record { status = status; refusal = None; disk = disk } }
+    /// The end of a run that opened no disk, by its exit status and its refusal.
+    pub(crate) fn untouched(told: (u8, Option<Refusal>), start: S) -> Self
+        ensures { result
+            ≡ record { status = told.0; refusal = told.1; disk = Untouched start } }
     {
+        let (status, refusal) = told;
         AirExit {
             status,
-            refusal: None,
-            disk,
+            refusal,
+            disk: AirDisk::Untouched(start),
         }
     }
 }

@@ -1,4 +1,5 @@
 pub mod Asked
+pub mod InTurn
 pub mod Laws
 pub mod Lines
 pub mod Rows

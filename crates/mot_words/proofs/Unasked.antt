@@ -2,10 +2,10 @@
 use Rattle.std.proofs.Common.{◌≡◌, ◌∙◌, ℕ, List, Option, Some, None, arith, ap, refl, sym}
 use Rattle.std.proofs.Common.{◌≢◌, slice_index}
 use Rattle.std.specs.Prelude.{IfNone, codes}
-use Rattle.clap.specs.Words.{Row, Text, first_of}
+use Rattle.clap.specs.Words.{Row, Text}
 use Rattle.mot_base.specs.declared.geometry.Geometry.{Geometry}
 use Rattle.mot_words.specs.Given.{IsGiven}
-use Rattle.mot_words.specs.Program.Options.{AreGiven, GiveDirectory, GiveGeometry, field_in}
+use Rattle.mot_words.specs.Program.Options.{AreGiven, GiveDirectory, GiveGeometry}
 use Rattle.mot_words.specs.Program.Options.{geometry_asked}
 use Rattle.mot_words.specs.Program.Task.{IsTask}
 use Rattle.mot_words.specs.declared.program.options.Options.{Options}

@@ -1,16 +1,63 @@
 //! What both command lines are made with.
-ghost use Rattle.std.specs.Prelude.{◌≡◌, [], false};
-ghost use Rattle.clap.specs.Words.{App, Rule, app_of, new_app, rule_of, with_rule, with_subcommand};
-ghost use Rattle.clap.specs.declared.builder.Command.TheViews.{out-Command};
-ghost use Rattle.mot_words.specs.Inner.Made.{IsMade};
-ghost use Rattle.mot_words.specs.Parts.{disk_app, motcar_top, number_rule, path_rule, word_rule};
+ghost use Rattle.std.specs.Prelude.{◌≡◌, false};
+ghost use Rattle.clap.specs.Words.{rule_of};
+ghost use Rattle.mot_words.specs.Inner.Made.{IsMade, line_app, motcar_app, rule_for, verb_app};
 
 use clap::{Arg, ArgAction, Command, value_parser};
 use std::alloc::{AllocError, Global};
 
+/// A command, as its row of a command line tells it.
+pub(crate) struct Verb {
+    /// Its name.
+    pub(crate) name: &'static str,
+    /// What the help says of it.
+    pub(crate) about: &'static str,
+    /// What is given behind it.
+    pub(crate) arguments: &'static [Argument],
+}
+
+/// An argument of a command.
+pub(crate) struct Argument {
+    /// Its name.
+    pub(crate) name: &'static str,
+    /// What it is.
+    pub(crate) kind: Kind,
+    /// What the help says of it.
+    pub(crate) help: &'static str,
+}
+
+/// What an argument is.
+pub(crate) enum Kind {
+    /// A word that has to be given.
+    Word,
+    /// An option that is a path, and what stands for it in the help.
+    Path(&'static str),
+    /// An option that is a number of 32 bits.
+    Number,
+}
+
+/// The disk of a command.
+pub(crate) const DISK: Argument = Argument {
+    name: "DISK",
+    kind: Kind::Word,
+    help: "The file of the disk, or a block device",
+};
+
+/// The command line with these commands.
+pub(crate) fn command_line<'a>(alloc: Global, verbs: &[Verb]) -> Result<Command<'a>, AllocError>
+    ensures { IsMade (line_app verbs.now) result }
+{
+    let mut command = top(alloc)?;
+    for verb in verbs {
+        let below = verb_of(alloc, verb)?;
+        command = command.subcommand(below)?;
+    }
+    Ok(command)
+}
+
 /// The program, with no command yet.
-pub(crate) fn top<'a>(alloc: Global) -> Result<Command<'a>, AllocError>
-    ensures { IsMade (record { top = motcar_top; subs = [] }) result }
+fn top<'a>(alloc: Global) -> Result<Command<'a>, AllocError>
+    ensures { IsMade motcar_app result }
 {
     let command = Command::new(alloc, "motcar").bin_name("motcar")?;
     Ok(
@@ -21,84 +68,31 @@ pub(crate) fn top<'a>(alloc: Global) -> Result<Command<'a>, AllocError>
     )
 }
 
-/// A command on the file of a disk.
-pub(crate) fn on_disk<'a>(
-    alloc: Global,
-    name: &'a str,
-    about: &'a str,
-) -> Result<Command<'a>, AllocError>
-    ensures { IsMade (disk_app name.entry.now) result }
+/// The command of a row.
+fn verb_of<'a>(alloc: Global, verb: &Verb) -> Result<Command<'a>, AllocError>
+    ensures { IsMade (verb_app verb.now) result }
 {
-    let disk = word(alloc, "DISK", "The file of the disk, or a block device");
-    with_arg(Ok(bare(alloc, name, about)), disk)
-}
-
-/// A command, where there was memory for it, with one more argument.
-pub(crate) fn with_arg<'a>(
-    command: Result<Command<'a>, AllocError>,
-    arg: Arg<'a>,
-) -> Result<Command<'a>, AllocError>
-    ensures { (app : App) (rule : Rule) → IsMade app command.entry → rule_of arg.entry ≡ rule
-        → arg.entry.global ≡ false → IsMade (with_rule app rule) result }
-{
-    match command {
-        Ok(command) => command.arg(arg),
-        Err(AllocError) => Err(AllocError),
+    let mut command = Command::new(alloc, verb.name).about(verb.about);
+    for argument in verb.arguments {
+        command = command.arg(arg_of(alloc, argument))?;
     }
+    Ok(command)
 }
 
-/// A command, where there was memory for both, with one more command below it.
-pub(crate) fn with_command<'a>(
-    command: Result<Command<'a>, AllocError>,
-    below: Result<Command<'a>, AllocError>,
-) -> Result<Command<'a>, AllocError>
-    ensures { (app sub : App) → IsMade app command.entry → IsMade sub below.entry
-        → IsMade (with_subcommand app sub.top) result }
+/// The argument in clap's words.
+fn arg_of<'a>(alloc: Global, argument: &Argument) -> Arg<'a>
+    ensures rule { rule_of result ≡ rule_for argument.now }
+    ensures local { result.global ≡ false }
 {
-    match command {
-        Ok(command) => match below {
-            Ok(below) => command.subcommand(below),
-            Err(AllocError) => Err(AllocError),
-        },
-        Err(AllocError) => Err(AllocError),
+    let arg = Arg::new(alloc, argument.name)
+        .help(argument.help)
+        .action(ArgAction::Set);
+    match argument.kind {
+        Kind::Word => arg.required(true),
+        Kind::Path(value) => arg.long(argument.name).value_name(value),
+        Kind::Number => arg
+            .long(argument.name)
+            .value_name("N")
+            .value_parser(value_parser!(u32)),
     }
-}
-
-/// A command that has only its name and what the help says of it.
-pub(crate) fn bare<'a>(alloc: Global, name: &'a str, about: &'a str) -> Command<'a>
-    ensures app { app_of result ≡ new_app name.entry.now }
-    ensures local { (out-Command result).has_globals ≡ false }
-{
-    Command::new(alloc, name).about(about)
-}
-
-/// A word that has to be given.
-pub(crate) fn word<'a>(alloc: Global, name: &'a str, help: &'a str) -> Arg<'a>
-    ensures rule { rule_of result ≡ word_rule name.entry.now }
-    ensures local { result.global ≡ false }
-{
-    Arg::new(alloc, name)
-        .help(help)
-        .action(ArgAction::Set)
-        .required(true)
-}
-
-/// An option that is a path.
-pub(crate) fn path<'a>(alloc: Global, name: &'a str, value: &'a str, help: &'a str) -> Arg<'a>
-    ensures rule { rule_of result ≡ path_rule name.entry.now }
-    ensures local { result.global ≡ false }
-{
-    Arg::new(alloc, name)
-        .long(name)
-        .value_name(value)
-        .help(help)
-        .action(ArgAction::Set)
-}
-
-/// An option that is a number of 32 bits.
-pub(crate) fn number<'a>(alloc: Global, name: &'a str, help: &'a str) -> Arg<'a>
-    ensures rule { rule_of result ≡ number_rule name.entry.now }
-    ensures local { result.global ≡ false }
-{
-    path(alloc, name, "N", help).value_parser(value_parser!(u32))
 }

@@ -23,11 +23,16 @@ fn main(rt: HostRuntime) -> ExitCode {
     }
 }
 
-/// Runs the program on its words and the real streams.
+/// Runs the program, with the numbers of its standard streams taken.
 fn run(rt: &HostRuntime) -> io::Result<u8> {
-    let Ok(_streams) = hold_streams(rt) else {
-        return Ok(refused(rt, Refusal::DeviceFault));
-    };
+    match hold_streams(rt) {
+        Ok(_streams) => run_on_streams(rt),
+        Err(_) => Ok(refused(rt, Refusal::DeviceFault)),
+    }
+}
+
+/// Runs the program on its words and the real streams.
+fn run_on_streams(rt: &HostRuntime) -> io::Result<u8> {
     let alloc = rt.alloc();
     let words: Vec<String> = env::args(rt)?.skip(1).collect(alloc)?;
     let mut writer = BufWriter::with_capacity(alloc, BUFFER, io::writer(rt))?;
@@ -66,11 +71,11 @@ fn show_version<W: Write>(rt: &HostRuntime, writer: &mut W) -> u8 {
 /// Takes the numbers of the standard streams that are closed, so that no file which is opened later
 /// gets one and is printed to. They are opened for reading alone: an input that is closed is empty,
 /// and what can't be printed is a fault.
-fn hold_streams(rt: &HostRuntime) -> io::Result<[File; 3]> {
+fn hold_streams(rt: &HostRuntime) -> io::Result<(File, File, File)> {
     let first = File::open(rt, "/dev/null")?;
     let second = File::open(rt, "/dev/null")?;
     let third = File::open(rt, "/dev/null")?;
-    Ok([first, second, third])
+    Ok((first, second, third))
 }
 
 /// Prints the refusal, and answers its status.

@@ -15,13 +15,15 @@ const NOTE: &str = "../share/motcar/VERSION";
 /// constant of the program could tell that, since it is known once the program was proved and
 /// built.
 pub(crate) fn print_version<W: Write>(rt: &HostRuntime, writer: &mut W) -> io::Result<()> {
-    if let Ok(note) = read_note(rt) {
-        if note.as_str().starts_with(VERSION) {
-            writer.write_all(note.as_str().as_bytes())?;
-            return writer.flush();
-        }
+    match read_note(rt) {
+        Ok(note) if note.as_str().starts_with(VERSION) => print(writer, note.as_str()),
+        _ => print(writer, VERSION),
     }
-    writer.write_all(VERSION.as_bytes())?;
+}
+
+/// Prints a text, and flushes the writer.
+fn print<W: Write>(writer: &mut W, text: &str) -> io::Result<()> {
+    writer.write_all(text.as_bytes())?;
     writer.flush()
 }
 

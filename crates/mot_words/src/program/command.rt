@@ -1,15 +1,11 @@
 //! The command line of what serves, makes, checks and migrates, in clap's words.
-ghost use Rattle.std.specs.Prelude.{◌≡◌, [], map, IfErr, IfOk};
-ghost use Rattle.clap.specs.Words.{App, HasKind, HasMatchesOf, app_of, fault_of, with_rule};
-ghost use Rattle.clap.specs.declared.builder.Command.TheViews.{out-Command};
-ghost use Rattle.mot_words.specs.Inner.Made.{IsMade};
-ghost use Rattle.mot_words.specs.Parts.{motcar_top, number_rule};
-ghost use Rattle.mot_words.specs.Program.Command.{format_app, memory_app, program_app};
-ghost use Rattle.mot_words.specs.Program.Command.{with_options};
+ghost use Rattle.std.specs.Prelude.{map, IfErr, IfOk};
+ghost use Rattle.clap.specs.Words.{HasKind, HasMatchesOf, fault_of};
+ghost use Rattle.mot_words.specs.Program.Command.{program_app};
 
-use crate::parts::{bare, number, on_disk, top, with_arg, with_command};
-use clap::{ArgMatches, Command, Error};
-use std::alloc::{AllocError, Global};
+use crate::parts::{Argument, DISK, Kind, Verb, command_line};
+use clap::{ArgMatches, Error};
+use std::alloc::Global;
 use std::convert::AsStr;
 
 /// What the top help says below the list of commands.
@@ -26,6 +22,73 @@ docs/OPERATING.md.
 Exit status: 0 where all was done that was asked for, 1 after a refusal, which standard error or
 the log of sync tells, 2 where a word is wrong.";
 
+/// The commands that serve, make, check and migrate.
+const VERBS: &[Verb] = &[
+    Verb {
+        name: "memory",
+        about: "Serve standard input to standard output from memory",
+        arguments: &[OBJECTS, DATA, SEGMENT, ADDRESS, PACKET],
+    },
+    Verb {
+        name: "format",
+        about: "Make a disk, and its file where there is none",
+        arguments: &[DISK, OBJECTS, DATA, SEGMENT, ADDRESS, PACKET, AFTER],
+    },
+    Verb {
+        name: "serve",
+        about: "Serve standard input to standard output from a disk",
+        arguments: &[DISK],
+    },
+    Verb {
+        name: "check",
+        about: "Print what a disk keeps, whether it is clean, and its layout",
+        arguments: &[DISK],
+    },
+    Verb {
+        name: "migrate",
+        about: "Rewrite a disk of layout 1 into layout 2",
+        arguments: &[DISK],
+    },
+];
+
+/// The numbers of a geometry.
+const OBJECTS: Argument = Argument {
+    name: "objects",
+    kind: Kind::Number,
+    help: "Objects at most, 1 to 250 [default: 16]",
+};
+
+const DATA: Argument = Argument {
+    name: "data",
+    kind: Kind::Number,
+    help: "Bytes for all bodies, 1 to 268435456 [default: 65536]",
+};
+
+const SEGMENT: Argument = Argument {
+    name: "segment",
+    kind: Kind::Number,
+    help: "Bytes of a segment, 64 to 8189 [default: 1024]",
+};
+
+const ADDRESS: Argument = Argument {
+    name: "address",
+    kind: Kind::Number,
+    help: "Address of the packets, 1 to 1023 [default: 1]",
+};
+
+const PACKET: Argument = Argument {
+    name: "packet",
+    kind: Kind::Number,
+    help: "Bytes of a packet: 24, 48, 72 or 96 [default: 96]",
+};
+
+/// Where the ids of a new disk begin.
+const AFTER: Argument = Argument {
+    name: "after",
+    kind: Kind::Number,
+    help: "Transport id behind which the ids begin, 0 to 65535 [default: 0]",
+};
+
 /// What the words after the program's own name match in the command line of what serves, makes,
 /// checks and migrates. The error is that a word is wrong, that help is asked for, or that memory
 /// is wanted.
@@ -33,115 +96,6 @@ pub fn program_matches<'a, S: AsStr>(alloc: Global, words: &'a [S]) -> Result<Ar
     ensures matches { IfOk result (HasMatchesOf program_app (map S.text words.now)) }
     ensures kinds { IfErr result (HasKind (fault_of program_app (map S.text words.now))) }
 {
-    command(alloc)?.try_get_matches_from(words)
-}
-
-/// The program's command line.
-fn command<'a>(alloc: Global) -> Result<Command<'a>, AllocError>
-    ensures { IfOk result (λ command. app_of command ≡ program_app) }
-{
-    let command = with_command(noted_top(alloc), memory(alloc));
-    let command = with_command(command, format(alloc));
-    let serve = on_disk(
-        alloc,
-        "serve",
-        "Serve standard input to standard output from a disk",
-    );
-    let command = with_command(command, serve);
-    let check = on_disk(
-        alloc,
-        "check",
-        "Print what a disk keeps, whether it is clean, and its layout",
-    );
-    let command = with_command(command, check);
-    let migrate = on_disk(alloc, "migrate", "Rewrite a disk of layout 1 into layout 2");
-    with_command(command, migrate)
-}
-
-/// The program, with no command yet, and with its notes.
-fn noted_top<'a>(alloc: Global) -> Result<Command<'a>, AllocError>
-    ensures { IsMade (record { top = motcar_top; subs = [] }) result }
-{
-    Ok(with_notes(top(alloc)?))
-}
-
-/// The command with the notes below its list of commands.
-fn with_notes<'a>(command: Command<'a>) -> Command<'a>
-    ensures app { app_of result ≡ app_of command.entry }
-    ensures local { (out-Command result).has_globals ≡ (out-Command command.entry).has_globals }
-{
-    command.after_help(NOTES)
-}
-
-/// The command `memory`.
-fn memory<'a>(alloc: Global) -> Result<Command<'a>, AllocError>
-    ensures { IsMade memory_app result }
-{
-    let about = "Serve standard input to standard output from memory";
-    add_options(alloc, Ok(bare(alloc, "memory", about)))
-}
-
-/// The command `format`.
-fn format<'a>(alloc: Global) -> Result<Command<'a>, AllocError>
-    ensures { IsMade format_app result }
-{
-    let about = "Make a disk, and its file where there is none";
-    with_option(
-        add_options(alloc, on_disk(alloc, "format", about)),
-        alloc,
-        "after",
-        "Transport id behind which the ids begin, 0 to 65535 [default: 0]",
-    )
-}
-
-/// The command, where there was memory for it, with the five options of a geometry.
-fn add_options<'a>(
-    alloc: Global,
-    command: Result<Command<'a>, AllocError>,
-) -> Result<Command<'a>, AllocError>
-    ensures { (app : App) → IsMade app command.entry → IsMade (with_options app) result }
-{
-    let command = with_option(
-        command,
-        alloc,
-        "objects",
-        "Objects at most, 1 to 250 [default: 16]",
-    );
-    let command = with_option(
-        command,
-        alloc,
-        "data",
-        "Bytes for all bodies, 1 to 268435456 [default: 65536]",
-    );
-    let command = with_option(
-        command,
-        alloc,
-        "segment",
-        "Bytes of a segment, 64 to 8189 [default: 1024]",
-    );
-    let command = with_option(
-        command,
-        alloc,
-        "address",
-        "Address of the packets, 1 to 1023 [default: 1]",
-    );
-    with_option(
-        command,
-        alloc,
-        "packet",
-        "Bytes of a packet: 24, 48, 72 or 96 [default: 96]",
-    )
-}
-
-/// A command, where there was memory for it, with one more option that is a whole number.
-fn with_option<'a>(
-    command: Result<Command<'a>, AllocError>,
-    alloc: Global,
-    name: &'a str,
-    help: &'a str,
-) -> Result<Command<'a>, AllocError>
-    ensures { (app : App) → IsMade app command.entry
-        → IsMade (with_rule app (number_rule name.entry.now)) result }
-{
-    with_arg(command, number(alloc, name, help))
+    let command = command_line(alloc, VERBS)?;
+    command.after_help(NOTES).try_get_matches_from(words)
 }

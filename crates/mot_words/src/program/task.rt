@@ -1,6 +1,7 @@
 //! What the words of the command line ask for.
-ghost use Rattle.std.specs.Prelude.{IfNone, IfSome};
+ghost use Rattle.std.specs.Prelude.{◌≢◌, IfNone, IfSome, codes};
 ghost use Rattle.clap.specs.Words.{found_of, rows_of};
+ghost use Rattle.mot_words.specs.Given.{NameWord};
 ghost use Rattle.mot_words.specs.Program.Task.{IsTask};
 ghost use Rattle.mot_words.specs.declared.program.task.Task.{Task};
 
@@ -39,14 +40,38 @@ pub fn program_task<'a>(name: &str, words: &ArgMatches<'a>) -> Option<Task<'a>>
 {
     match name {
         "memory" => Some(Task::Memory(geometry_of(words)?)),
-        "format" => Some(Task::Format {
-            path: word_of(words, "DISK")?,
-            geometry: geometry_of(words)?,
-            directory: directory_of(words)?,
-        }),
-        "serve" => Some(Task::Serve(word_of(words, "DISK")?)),
-        "check" => Some(Task::Check(word_of(words, "DISK")?)),
-        "migrate" => Some(Task::Migrate(word_of(words, "DISK")?)),
+        _ => disk_task(name, word_of(words, "DISK")?, words),
+    }
+}
+
+/// The task of a command on this disk.
+fn disk_task<'a>(name: &str, disk: &'a str, words: &ArgMatches<'a>) -> Option<Task<'a>>
+    ensures some { IfSome result (λ task.
+        NameWord (rows_of (found_of words.now)) (codes "DISK") disk.now
+        → IsTask name.now (rows_of (found_of words.now)) task) }
+    ensures none { IfNone result ((task : Task) → name.now ≢ codes "memory"
+        → IsTask name.now (rows_of (found_of words.now)) task → ⊥) }
+{
+    match name {
+        "format" => format_of(disk, words),
+        "serve" => Some(Task::Serve(disk)),
+        "check" => Some(Task::Check(disk)),
+        "migrate" => Some(Task::Migrate(disk)),
         _ => None,
     }
+}
+
+/// The task of the command `format` on this disk.
+fn format_of<'a>(path: &'a str, words: &ArgMatches<'a>) -> Option<Task<'a>>
+    ensures some { IfSome result (λ task.
+        NameWord (rows_of (found_of words.now)) (codes "DISK") path.now
+        → IsTask (codes "format") (rows_of (found_of words.now)) task) }
+    ensures none { IfNone result ((task : Task)
+        → IsTask (codes "format") (rows_of (found_of words.now)) task → ⊥) }
+{
+    Some(Task::Format {
+        path,
+        geometry: geometry_of(words)?,
+        directory: directory_of(words)?,
+    })
 }

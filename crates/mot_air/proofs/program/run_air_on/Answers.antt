@@ -2,7 +2,7 @@ use Rattle.std.proofs.Common.{◌≡◌, ◌∙◌, arith, inl, inr, map, subst,
 use Rattle.std.proofs.KnownBytes.{Keeps-refl}
 use Rattle.std.specs.Io.KnownBytes.{Keeps}
 use Rattle.clap.specs.Words.{found_of, rows_of}
-use Rattle.mot_air.specs.Program.{IsUntouched, no_help, no_memory}
+use Rattle.mot_air.specs.Program.{IsRefused, IsUntouched, Succeeds, no_help, no_memory}
 use Rattle.mot_words.proofs.Laws.{AreWrong-fault, AreWrong-none, AskBy-matched, AskForHelp-shown}
 use Rattle.mot_words.proofs.Laws.{air_simple}
 use Rattle.mot_words.specs.Air.Command.{air_app}
@@ -10,64 +10,77 @@ use Rattle.mot_words.specs.Air.Task.{IsAirTask}
 use Rattle.mot_words.specs.Asked.{AreWrong}
 use Rattle.mot_air.proofs.program.run_air_on.Goals as goal
 
-pub returns-in-Err-clause-done : goal.returns-in-Err-clause-done
-returns-in-Err-clause-done g c = λ z. inr (
-  AskForHelp-shown air_app (map g.S.AsStr.text c.args.words.now) c.in-Err.error
-      c.in-Err.ensures.kinds (c.explain.ensures.help z),
-  subst (λ (d : _). IsUntouched d) (sym c.explain.ensures.untouched) tt,
-)
+pub returns-clause-done : goal.returns-clause-done
+returns-clause-done g c =
+    let words = map g.S.AsStr.text c.args.words.now in
+    let old = g.W.Write.contents c.args.writer.now in
+    let new = g.W.Write.contents c.explain.new.writer in
+    subst (λ (e : _). e.status ≡ 0 → Succeeds words e.disk old new) (sym c.untouched-in-Err.ensures) (λ z. inr (
+      AskForHelp-shown air_app words c.in-Err.error c.in-Err.ensures.kinds
+          (c.explain.ensures.help z),
+      tt,
+    ))
 
-pub returns-in-Err-clause-refused : goal.returns-in-Err-clause-refused
-returns-in-Err-clause-refused g c = λ z.
-    let untouched = subst (λ (d : _). IsUntouched d) (sym c.explain.ensures.untouched) tt in
+pub returns-clause-refused : goal.returns-clause-refused
+returns-clause-refused g c =
+    let words = map g.S.AsStr.text c.args.words.now in
+    let old = g.W.Write.contents c.args.writer.now in
+    let new = g.W.Write.contents c.explain.new.writer in
+    subst (λ (e : _). e.status ≡ 1 → IsRefused words e.refusal e.disk old new)
+    (sym c.untouched-in-Err.ensures) (λ z.
     elim (c.explain.ensures.refused z) [
-      | inl why ↦ no_memory why.0 (record { untouched = untouched; silent = why.1 })
-      | inr why ↦ no_help (AskForHelp-shown air_app (map g.S.AsStr.text c.args.words.now)
-          c.in-Err.error c.in-Err.ensures.kinds why.1) why.0 untouched
-    ]
+      | inl why ↦ no_memory why.0 (record { untouched = tt; silent = why.1 })
+      | inr why ↦ no_help (AskForHelp-shown air_app words c.in-Err.error c.in-Err.ensures.kinds
+          why.1) why.0 tt
+    ])
 
-pub returns-in-Err-clause-usage : goal.returns-in-Err-clause-usage
-returns-in-Err-clause-usage g c = λ z. (
-  AreWrong-fault air_app (map g.S.AsStr.text c.args.words.now) c.in-Err.error
-      c.in-Err.ensures.kinds (c.explain.ensures.usage z).0 (c.explain.ensures.usage z).1,
-  subst (λ (d : _). IsUntouched d) (sym c.explain.ensures.untouched) tt,
-  (c.explain.ensures.usage z).2,
-)
+pub returns-clause-usage : goal.returns-clause-usage
+returns-clause-usage g c =
+    let words = map g.S.AsStr.text c.args.words.now in
+    let old = g.W.Write.contents c.args.writer.now in
+    let new = g.W.Write.contents c.explain.new.writer in
+    subst (λ (e : _). e.status ≡ 2 → AreWrong air_app words × IsUntouched e.disk × Keeps old new)
+    (sym c.untouched-in-Err.ensures) (λ z. (
+      AreWrong-fault air_app words c.in-Err.error c.in-Err.ensures.kinds
+          (c.explain.ensures.usage z).0 (c.explain.ensures.usage z).1,
+      tt,
+      (c.explain.ensures.usage z).2,
+    ))
 
-pub returns-in_default-clause-usage : goal.returns-in_default-clause-usage
-returns-in_default-clause-usage g c =
+pub returns-in-Ok-clause-usage : goal.returns-in-Ok-clause-usage
+returns-in-Ok-clause-usage g c =
     let words = map g.S.AsStr.text c.args.words.now in
     let old = g.W.Write.contents c.args.writer.now in
     subst (λ (e : _). e.status ≡ 2 → AreWrong air_app words × IsUntouched e.disk × Keeps old old)
-    (sym c.unrefused.ensures) (λ z. (
+    (sym c.untouched.ensures) (λ z. (
       AreWrong-none air_app words air_simple c.in-Ok.matches c.in-Ok.ensures.matches
-          c.in_default.ensures.rows,
+          c.in-None.ensures.rows,
       tt,
       Keeps-refl _,
     ))
 
-pub returns-clause-status : goal.returns-clause-status
-returns-clause-status g c = elim c.run_command.ensures.status [
+pub returns-in-Some-clause-status : goal.returns-in-Some-clause-status
+returns-in-Some-clause-status g c = elim c.run_command.ensures.status [
   | inl zero ↦ inl zero
   | inr one ↦ inr (inl one)
 ]
 
-pub returns-clause-done : goal.returns-clause-done
-returns-clause-done g c =
+pub returns-in-Some-clause-done : goal.returns-in-Some-clause-done
+returns-in-Some-clause-done g c =
     let words = map g.S.AsStr.text c.args.words.now in
     c.run_command.ensures.done words (AskBy-matched air_app words IsAirTask air_simple
     c.in-Ok.matches c.in-Some.name.now (rows_of (found_of c.in-Some.rest.now))
     c.in-Ok.ensures.matches c.in-Some.ensures.name c.in-Some.ensures.rows)
 
-pub returns-clause-refused : goal.returns-clause-refused
-returns-clause-refused g c =
+pub returns-in-Some-clause-refused : goal.returns-in-Some-clause-refused
+returns-in-Some-clause-refused g c =
     let words = map g.S.AsStr.text c.args.words.now in
     c.run_command.ensures.refused words (AskBy-matched air_app words IsAirTask air_simple
     c.in-Ok.matches c.in-Some.name.now (rows_of (found_of c.in-Some.rest.now))
     c.in-Ok.ensures.matches c.in-Some.ensures.name c.in-Some.ensures.rows)
 
-pub returns-clause-usage : goal.returns-clause-usage
-returns-clause-usage g c = λ two. elim c.run_command.ensures.status [
+pub returns-in-Some-clause-usage : goal.returns-in-Some-clause-usage
+returns-in-Some-clause-usage g c = λ two. elim c.run_command.ensures.status [
   | inl zero ↦ absurd (let e : 0 ≡ 2 = sym zero ∙ two in omega (arith, e))
   | inr one ↦ absurd (let e : 1 ≡ 2 = sym one ∙ two in omega (arith, e))
 ]

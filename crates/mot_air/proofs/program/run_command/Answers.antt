@@ -1,61 +1,80 @@
-use Rattle.std.proofs.Common.{◌≡◌, ◌⊎◌, ◌∙◌, ap, arith, Ok, Some, inl, inr, refl, subst, sym}
+use Rattle.std.proofs.Common.{◌≡◌, ◌⊎◌, ℕ, Bool, List, Option, Result, arith, true, false, Ok, Err}
+use Rattle.std.proofs.Common.{Some, None, ap, inl, inr, refl, subst, sym}
 use Rattle.std.proofs.KnownBytes.{Keeps-refl}
 use Rattle.std.specs.Prelude.{IfErr}
+use Rattle.clap.specs.Words.{Text}
+use Rattle.mot_air.specs.Inner.Told.{told_of}
 use Rattle.mot_air.specs.Program.{DoesInPart, IsBeginningRefusal, IsRefused, IsUntold}
 use Rattle.mot_air.specs.Program.{Succeeds, begun, no_task, unbegun}
+use Rattle.mot_air.specs.declared.used.AirDisk.{AirDisk}
+use Rattle.mot_base.specs.declared.refusal.Refusal.{Refusal}
+use Rattle.disk_store.specs.declared.file.start.Start.{Ghosts}
+use Rattle.mot_words.specs.Air.Command.{air_app}
+use Rattle.mot_words.specs.Air.Task.{IsAirTask}
+use Rattle.mot_words.specs.Asked.{AskFor}
+use Rattle.mot_words.specs.declared.air.task.AirTask.{AirTask}
 use Rattle.mot_air.proofs.program.run_command.Goals as goal
 
-pub returns-in_default-clause-refused : goal.returns-in_default-clause-refused
-returns-in_default-clause-refused g c = λ words asks.
-    let old = g.W.Write.contents c.args.writer.now in
-    subst (λ (e : _). e.status ≡ 1 → IsRefused words e.refusal e.disk old old)
-    (sym c.refuse.ensures) (λ z.
-    no_task refl (λ task asked. c.in_default.ensures.none task ((asks task).0 asked))
-    (record { untouched = tt; silent = Keeps-refl _ }))
+status_told : (r : Result Bool Refusal) → ((told_of r).0 ≡ 0) ⊎ ((told_of r).0 ≡ 1)
+status_told (Ok true) = inl refl
+status_told (Ok false) = inr refl
+status_told (Err r) = inr refl
 
-pub returns-in-Ok-true-clause-done : goal.returns-in-Ok-true-clause-done
-returns-in-Ok-true-clause-done g c = λ words asks.
+done_told : (r : Result Bool Refusal) → (told_of r).0 ≡ 0 → r ≡ Ok true
+done_told (Ok true) z = refl
+done_told (Ok false) z = absurd (omega arith)
+done_told (Err r) z = absurd (omega arith)
+
+refused_told : {S : Type 0} {start : Ghosts S} (words : List Text) (task : AirTask)
+    (used : AirDisk S start) (old new : Option (List ℕ)) (r : Result Bool Refusal)
+    → AskFor air_app IsAirTask words task
+    → (r ≡ Ok false → DoesInPart task None used old new)
+    → IfErr r (λ x. (IsBeginningRefusal task x × IsUntold used old new)
+    ⊎ DoesInPart task (Some x) used old new)
+    → (told_of r).0 ≡ 1 → IsRefused words (told_of r).1 used old new
+refused_told words task used old new (Ok true) asked told why z = absurd (omega arith)
+refused_told words task used old new (Ok false) asked told why z = begun task asked (told refl)
+refused_told words task used old new (Err x) asked told why z = elim why [
+  | inl early ↦ unbegun task x refl asked early.0 early.1
+  | inr part ↦ begun task asked part
+]
+
+pub returns-in-Some-clause-status : goal.returns-in-Some-clause-status
+returns-in-Some-clause-status g c =
+    subst (λ (t : ℕ × Option Refusal). (t.0 ≡ 0) ⊎ (t.0 ≡ 1)) (sym c.tell_result-status.ensures)
+    (status_told c.execute-result.result.result)
+
+pub returns-in-Some-clause-done : goal.returns-in-Some-clause-done
+returns-in-Some-clause-done g c = λ words asks.
     let old = g.W.Write.contents c.args.writer.now in
     let new = g.W.Write.contents c.execute-result.new.writer in
     let task = c.in-Some.task in
-    subst (λ (e : _). e.status ≡ 0 → Succeeds words e.disk old new) (sym c.unrefused.ensures)
+    let ended = c.execute-result.result in
+    subst (λ (t : ℕ × Option Refusal). t.0 ≡ 0 → Succeeds words ended.disk old new)
+    (sym c.tell_result-status.ensures)
     (λ z. inl (
       task,
       (asks task).1 c.in-Some.ensures.some,
-      c.execute-result.ensures.done
-          (c.in-Ok-true.is ∙ ap (λ b. Ok b) c.in-Ok-true.field-0-test),
+      c.execute-result.ensures.done (done_told ended.result z),
     ))
 
-pub returns-in-Ok-false-clause-done : goal.returns-in-Ok-false-clause-done
-returns-in-Ok-false-clause-done g c = λ words asks.
-    let old = g.W.Write.contents c.args.writer.now in
-    let new = g.W.Write.contents c.execute-result.new.writer in
-    subst (λ (e : _). e.status ≡ 0 → Succeeds words e.disk old new)
-    (sym c.unrefused-in-Ok-false.ensures)
-    (λ z. absurd (let e : 1 ≡ 0 = z in omega (arith, e)))
-
-pub returns-in-Ok-false-clause-refused : goal.returns-in-Ok-false-clause-refused
-returns-in-Ok-false-clause-refused g c = λ words asks.
+pub returns-in-Some-clause-refused : goal.returns-in-Some-clause-refused
+returns-in-Some-clause-refused g c = λ words asks.
     let old = g.W.Write.contents c.args.writer.now in
     let new = g.W.Write.contents c.execute-result.new.writer in
     let task = c.in-Some.task in
-    subst (λ (e : _). e.status ≡ 1 → IsRefused words e.refusal e.disk old new)
-    (sym c.unrefused-in-Ok-false.ensures)
-    (λ z. begun task ((asks task).1 c.in-Some.ensures.some) (c.execute-result.ensures.told
-    (c.in-Ok-false.is ∙ ap (λ b. Ok b) c.in-Ok-false.field-0-test)))
-
-pub returns-in-Err-clause-refused : goal.returns-in-Err-clause-refused
-returns-in-Err-clause-refused g c = λ words asks.
-    let old = g.W.Write.contents c.args.writer.now in
-    let new = g.W.Write.contents c.execute-result.new.writer in
-    let task = c.in-Some.task in
-    let used = c.execute-result.result.disk in
+    let ended = c.execute-result.result in
     let asked = (asks task).1 c.in-Some.ensures.some in
-    subst (λ (e : _). e.status ≡ 1 → IsRefused words e.refusal e.disk old new)
-    (sym c.refuse-in-Err.ensures) (λ z.
-    elim (subst (λ r. IfErr r (λ x. (IsBeginningRefusal task x × IsUntold used old new)
-    ⊎ DoesInPart task (Some x) used old new))
-    c.in-Err.is c.execute-result.ensures.refused) [
-      | inl why ↦ unbegun task c.in-Err.refusal refl asked why.0 why.1
-      | inr part ↦ begun task asked part
-    ])
+    subst (λ (t : ℕ × Option Refusal). t.0 ≡ 1 → IsRefused words t.1 ended.disk old new)
+    (sym c.tell_result-status.ensures)
+    (refused_told words task ended.disk old new ended.result asked c.execute-result.ensures.told
+    c.execute-result.ensures.refused)
+
+pub returns-in-None-clause-refused : goal.returns-in-None-clause-refused
+returns-in-None-clause-refused g c = λ words asks.
+    let old = g.W.Write.contents c.args.writer.now in
+    subst (λ (e : _). e.status ≡ 1 → IsRefused words e.refusal e.disk old old)
+    (sym c.untouched.ensures) (λ z.
+    no_task (ap (λ (t : ℕ × Option Refusal). t.1) c.refuse.ensures)
+    (λ task asked. c.in-None.ensures.none task ((asks task).0 asked))
+    (record { untouched = tt; silent = Keeps-refl _ }))

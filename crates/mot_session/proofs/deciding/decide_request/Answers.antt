@@ -1,5 +1,6 @@
 use Rattle.std.proofs.Common.{refl}
 use Rattle.std.specs.Prelude.{Ok}
+use Rattle.disk_model.proofs.Laws.{keeps_none, unchanged_none}
 use Rattle.mot_lines.specs.declared.line.Line.TheVariants as asks
 use Rattle.mot_session.specs.declared.deciding.Decision.TheVariants as decision
 use Rattle.mot_session.specs.State.{state_of}
@@ -103,3 +104,47 @@ returns-in-Turn-clause-anyhow g c = rw c.in-Turn.is (
     anyhow-shown c.args.server.now.view _ (Ok asks.Turn) decision.Turn c.show-in-Turn.result tt
     c.show-in-Turn.ensures.halted c.show-in-Turn.ensures.going
     (λ going. (refl, going, refl, refl)))
+
+pub returns-in-Command-clause-decides : goal.returns-in-Command-clause-decides
+returns-in-Command-clause-decides g c = rw c.in-Command.is c.decide_command.ensures.decides
+
+pub returns-in-Command-clause-halted : goal.returns-in-Command-clause-halted
+returns-in-Command-clause-halted g c = c.decide_command.ensures.halted
+
+pub returns-in-Command-clause-keeps : goal.returns-in-Command-clause-keeps
+returns-in-Command-clause-keeps g c = c.decide_command.ensures.keeps
+
+pub returns-in-Ok-clause-halted : goal.returns-in-Ok-clause-halted
+returns-in-Ok-clause-halted g c =
+    λ is. (refl, unchanged_none (g.D.Disk.state c.args.server.now.disk))
+
+pub returns-in-Ok-clause-keeps : goal.returns-in-Ok-clause-keeps
+returns-in-Ok-clause-keeps g c = keeps_none (g.D.Disk.state c.args.server.now.disk)
+
+pub returns-in-Err-clause-halted : goal.returns-in-Err-clause-halted
+returns-in-Err-clause-halted g c =
+    λ is. (refl, unchanged_none (g.D.Disk.state c.args.server.now.disk))
+
+pub returns-in-Err-clause-keeps : goal.returns-in-Err-clause-keeps
+returns-in-Err-clause-keeps g c = keeps_none (g.D.Disk.state c.args.server.now.disk)
+
+pub returns-in-List-clause-halted : goal.returns-in-List-clause-halted
+returns-in-List-clause-halted g c =
+    λ is. (refl, unchanged_none (g.D.Disk.state c.args.server.now.disk))
+
+pub returns-in-List-clause-keeps : goal.returns-in-List-clause-keeps
+returns-in-List-clause-keeps g c = keeps_none (g.D.Disk.state c.args.server.now.disk)
+
+pub returns-in-Next-clause-halted : goal.returns-in-Next-clause-halted
+returns-in-Next-clause-halted g c =
+    λ is. (refl, unchanged_none (g.D.Disk.state c.args.server.now.disk))
+
+pub returns-in-Next-clause-keeps : goal.returns-in-Next-clause-keeps
+returns-in-Next-clause-keeps g c = keeps_none (g.D.Disk.state c.args.server.now.disk)
+
+pub returns-in-Turn-clause-halted : goal.returns-in-Turn-clause-halted
+returns-in-Turn-clause-halted g c =
+    λ is. (refl, unchanged_none (g.D.Disk.state c.args.server.now.disk))
+
+pub returns-in-Turn-clause-keeps : goal.returns-in-Turn-clause-keeps
+returns-in-Turn-clause-keeps g c = keeps_none (g.D.Disk.state c.args.server.now.disk)

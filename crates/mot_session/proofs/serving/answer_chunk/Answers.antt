@@ -1,5 +1,5 @@
-use Rattle.std.proofs.Common.{◌≡◌, List, ℕ, ◌+◌, ◌≤◌, [], ◌∷◌, ◌++◌, refl, sym, ap, ◌∙◌, arith}
-use Rattle.std.proofs.Common.{append_assoc, length, length-append}
+use Rattle.std.proofs.Common.{◌≡◌, List, ℕ, ◌+◌, ◌<◌, ◌≤◌, [], ◌∷◌, ◌++◌, refl, sym, ap, ◌∙◌, arith}
+use Rattle.std.proofs.Common.{Fits, append_assoc, length, length-append, w64, ◌^◌}
 use Rattle.std.proofs.lemmas.Result.{err_from_is_err_and}
 use Rattle.mot_session.proofs.Requests.{goes_on-more, goes_on-none}
 use Rattle.mot_session.proofs.Taken.{Taken, taken_none, taken_within, taken_line}
@@ -10,6 +10,12 @@ use Rattle.mot_session.proofs.serving.answer_chunk.Goals.{After-as_slice, After-
 
 no_more : (n left bound : ℕ) → n + left ≤ bound → n ≤ bound
 no_more n left bound le = omega arith
+
+shorter : (rest line next : List ℕ) → rest ≡ line ++ 10 ∷ next → length next < length rest
+shorter rest line next parts = omega (arith, ap length parts, length-append line (10 ∷ next))
+
+fits : (n next rest most : ℕ) → next < rest → n + rest ≤ most → most < 2 ^ 64 → Fits w64 (n + 1)
+fits n next rest most shorter bound below = omega arith
 
 pub loop-line-init : goal.loop-line-init
 loop-line-init g c = record {
@@ -64,6 +70,18 @@ loop-line-preserved g c =
         taken_line (taken g here) c.as_slice.ensures.asks g.met.D.Disk.sound one c.clear.ensures,
       );
     }
+
+pub loop-line-smaller : goal.loop-line-smaller
+loop-line-smaller g c =
+    shorter c.loop-line.rest.now c.in-Some.line.now c.in-Some.next.now c.in-Some.ensures.parts
+
+pub overflow_add-lines : goal.overflow_add-lines
+overflow_add-lines g c =
+    let rest = c.loop-line.rest.now in
+    let next = c.in-Some.next.now in
+    fits c.loop-line.lines (length next) (length rest) (c.args.lines.now + length c.args.chunk.now)
+    (shorter rest c.in-Some.line.now next c.in-Some.ensures.parts) c.loop-line.invariant.bound
+    c.requires
 
 pub returns-in_err-serve_line-clause-err : goal.returns-in_err-serve_line-clause-err
 returns-in_err-serve_line-clause-err g c =
@@ -124,7 +142,14 @@ returns-in_err-serve_line-clause-goes g c =
 
 pub returns-clause-bound : goal.returns-clause-bound
 returns-clause-bound g c =
-    let bound = c.loop-line.invariant.bound in no_more c.loop-line.lines _ _ bound
+    no_more c.loop-line.lines (length c.loop-line.rest.now)
+    (c.args.lines.now + length c.args.chunk.now) c.loop-line.invariant.bound
 
 pub returns-clause-goes : goal.returns-clause-goes
 returns-clause-goes g c = c.loop-line.invariant.goes
+
+pub returns-clause-err : goal.returns-clause-err
+returns-clause-err g c = tt
+
+pub returns-clause-some : goal.returns-clause-some
+returns-clause-some g c = tt

@@ -160,3 +160,24 @@ returns-clause-anyhow g c = λ going.
       next c.args.count so_far.0 refl going c.loop.invariant.reads.view (so_far.1 ∙ all) refl,
       so_far.2,
     )
+
+pub returns-in_err-write_next_packet-clause-reads : goal.returns-in_err-write_next_packet-clause-reads
+returns-in_err-write_next_packet-clause-reads g c =
+    let state = g.D.Disk.state in
+    let first = c.args.server.now in
+    let mid = c.loop.server in
+    let new = c.write_next_packet.new.server in
+    reads-more first mid new (state first.disk) (state mid.disk) (state new.disk)
+    c.loop.invariant.reads c.in_err-write_next_packet.ensures.reads
+
+pub returns-in_default-clause-reads : goal.returns-in_default-clause-reads
+returns-in_default-clause-reads g c =
+    let state = g.D.Disk.state in
+    let first = c.args.server.now in
+    let mid = c.loop.server in
+    let new = c.write_next_packet.new.server in
+    reads-more first mid new (state first.disk) (state mid.disk) (state new.disk)
+    c.loop.invariant.reads c.in_ok-write_next_packet.ensures.reads
+
+pub returns-clause-reads : goal.returns-clause-reads
+returns-clause-reads g c = c.loop.invariant.reads

@@ -46,3 +46,13 @@ returns-in_ok-write_whole-in-Ok-clause-anyhow g c = λ going.
     shows c.next_into.new.packet.items c.in-Ok.ends_turn c.in-Ok.ensures.no_fault
     refl (rw (c.as_slice.ensures.value, c.set_packet_text.ensures) at
     c.in_ok-write_whole-in-Ok.ensures)
+
+pub returns-in_err-write_whole-in-Ok-clause-reads :
+    goal.returns-in_err-write_whole-in-Ok-clause-reads
+returns-in_err-write_whole-in-Ok-clause-reads g c =
+    let run = c.in-Ok.ensures in record { view = run.view; disk = run.only_reads }
+
+pub returns-in_ok-write_whole-in-Ok-clause-reads :
+    goal.returns-in_ok-write_whole-in-Ok-clause-reads
+returns-in_ok-write_whole-in-Ok-clause-reads g c =
+    let run = c.in-Ok.ensures in record { view = run.view; disk = run.only_reads }

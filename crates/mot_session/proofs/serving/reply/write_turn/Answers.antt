@@ -125,3 +125,34 @@ returns-then-ends_turn-clause-anyhow g c = λ going.
     let one = c.in_ok-ends_turn.ensures in
     anyhow.turn-ended (one.reads.view ∙ so_far.reads.view) going (so_far.shown going)
     (one.anyhow (going_there g from going)) (c.in-Some.is ∙ ap (λ e. Some e) c.if-ends_turn.true)
+
+pub returns-in_err-ends_turn-clause-reads : goal.returns-in_err-ends_turn-clause-reads
+returns-in_err-ends_turn-clause-reads g c =
+    let state = g.D.Disk.state in
+    let first = c.args.server.now in
+    let mid = c.loop-ends_turn.server in
+    let new = c.write_next_packet.new.server in
+    reads-more first mid new (state first.disk) (state mid.disk) (state new.disk)
+    c.loop-ends_turn.invariant.reads c.in_err-ends_turn.ensures.reads
+
+pub returns-in_default-clause-reads : goal.returns-in_default-clause-reads
+returns-in_default-clause-reads g c =
+    let state = g.D.Disk.state in
+    let first = c.args.server.now in
+    let mid = c.loop-ends_turn.server in
+    let new = c.write_next_packet.new.server in
+    reads-more first mid new (state first.disk) (state mid.disk) (state new.disk)
+    c.loop-ends_turn.invariant.reads c.in_ok-ends_turn.ensures.reads
+
+pub returns-then-ends_turn-clause-reads : goal.returns-then-ends_turn-clause-reads
+returns-then-ends_turn-clause-reads g c =
+    let state = g.D.Disk.state in
+    let first = c.args.server.now in
+    let mid = c.loop-ends_turn.server in
+    let new = c.write_next_packet.new.server in
+    reads-more first mid new (state first.disk) (state mid.disk) (state new.disk)
+    c.loop-ends_turn.invariant.reads c.in_ok-ends_turn.ensures.reads
+
+pub loop-ends_turn-smaller : goal.loop-ends_turn-smaller
+loop-ends_turn-smaller g c =
+    c.in_ok-ends_turn.ensures.nearer (c.in-Some.is ∙ ap (λ e. Some e) c.if-ends_turn.false)

@@ -10,13 +10,13 @@ pub returns-clause-matches : goal.returns-clause-matches
 returns-clause-matches g c =
     let words = map g.S.AsStr.text c.args.words.now in
     IfOk-weaker c.try_get_matches_from.result _ _
-    (λ m h. subst (λ (a : App). HasMatchesOf a words m) c.in_ok-command.ensures h)
+    (λ m h. subst (λ (a : App). HasMatchesOf a words m) c.in_ok-command_line.ensures.0 h)
     c.try_get_matches_from.ensures.matches
 
 pub returns-clause-kinds : goal.returns-clause-kinds
 returns-clause-kinds g c =
     let words = map g.S.AsStr.text c.args.words.now in
-    let app = c.in_ok-command.ensures in
+    let app = c.in_ok-command_line.ensures.0 in
     fault_kind _ c.try_get_matches_from.result
     (subst (λ (a : App). FailsBy (fault_of a words) c.try_get_matches_from.result) app
     (c.try_get_matches_from.ensures.kinds (ap is_simple_and_free app ∙ air_free)))
