@@ -3,15 +3,15 @@ use Rattle.std.proofs.Common.{◌≡◌, ◌∙◌, ◌⊎◌, inl, ℕ, List, O
 use Rattle.std.proofs.Common.{Err, sym, subst}
 use Rattle.std.proofs.KnownBytes.{Keeps-refl}
 use Rattle.std.specs.Prelude.{IfErr, IfOk, OnOk}
-use Rattle.disk_store.specs.Calls.{opening_calls}
 use Rattle.disk_model.specs.Disk.{IsNew, State}
+use Rattle.disk_store.specs.Calls.{opening_calls}
 use Rattle.disk_store.specs.File.{calls_on, file_state}
 use Rattle.disk_store.specs.declared.file.FileDiskFrom.{FileDiskFrom}
 use Rattle.disk_store.specs.declared.file.start.Start.{Ghosts}
 use Rattle.mot_air.specs.Program.{IsUntold, IsUntouched, SinceOpened}
 use Rattle.mot_air.specs.declared.used.AirDisk.{AirDisk}
 use Rattle.mot_air.specs.declared.used.AirDisk.TheVariants.{Untouched}
-use Rattle.mot_base.specs.declared.refusal.Refusal.{Refusal}
+use Rattle.mot_numbers.specs.declared.refusal.Refusal.{Refusal}
 
 -- what holds since a file was opened is told of the disk that is handed out
 pub since_opened : {S : Type 0} {start : Ghosts S} (first disk : FileDiskFrom S start)

@@ -6,11 +6,11 @@ use Rattle.disk_model.specs.Failures.{Rises}
 use Rattle.disk_model.proofs.Laws.{begins, joins, stays}
 use Rattle.mot_air.specs.Opening.{IsBreak, Leaves}
 use Rattle.mot_air.specs.Opening as opening
-use Rattle.mot_base.specs.declared.refusal.Refusal.{Refusal}
-use Rattle.mot_carousel.specs.declared.command.Command.{Command}
 use Rattle.mot_feed.specs.Feeding.{IsFeedFault}
 use Rattle.mot_feed.specs.Sending as sending
 use Rattle.mot_journal.specs.Image.{Standing}
+use Rattle.mot_numbers.specs.declared.refusal.Refusal.{Refusal}
+use Rattle.mot_objects.specs.declared.command.Command.{Command}
 use Rattle.mot_reading.proofs.Laws.{AllAre}
 use Rattle.mot_repository.specs.Repository.{RepositoryView}
 use Rattle.mot_server.specs.RunEnds.{RunLeaves}

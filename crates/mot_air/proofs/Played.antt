@@ -8,14 +8,13 @@ use Rattle.mot_air.specs.Playing.{HasAired, Plays, PlaysBy, StopsBy, StopsPlayin
 use Rattle.mot_air.specs.Playing.{stopped, when_followed}
 use Rattle.mot_air.specs.Program.{when_changed}
 use Rattle.mot_air.proofs.Opened.{breaks_off, opened_leaves}
-use Rattle.mot_base.specs.Geometry.{packet_room}
-use Rattle.mot_base.specs.declared.geometry.Geometry.{Geometry}
-use Rattle.mot_base.specs.declared.refusal.Refusal.{Refusal}
 use Rattle.mot_feed.specs.Feeding.{AreOf, AreTimely, CallsPart, Event, FedPacketsAreContinuous}
 use Rattle.mot_feed.specs.Feeding.{Feeds, FeedsPart, Happen, HasFed, IsFeedFault}
-use Rattle.mot_update.specs.Between.{When}
-use Rattle.mot_base.specs.Geometry.{is_valid}
 use Rattle.mot_journal.specs.Image.{Standing}
+use Rattle.mot_numbers.specs.Geometry.{packet_room}
+use Rattle.mot_numbers.specs.declared.geometry.Geometry.{Geometry}
+use Rattle.mot_numbers.specs.declared.refusal.Refusal.{Refusal}
+use Rattle.mot_numbers.specs.Geometry.{is_valid}
 use Rattle.mot_player.specs.Place.{Place}
 use Rattle.mot_player.specs.Turn.{turn_of_carousel}
 use Rattle.mot_reading.proofs.Laws.{AllAre, all_hold}
@@ -23,6 +22,7 @@ use Rattle.mot_reading.specs.Opening.{OfStanding, first_place}
 use Rattle.mot_repository.specs.Opening.{IsOpened}
 use Rattle.mot_repository.specs.Repository.{Agrees, Holds}
 use Rattle.mot_server.specs.Server.{ServerView, place_in}
+use Rattle.mot_update.specs.Between.{When}
 use Rattle.mot_update.specs.Faults.{StaysCalm}
 
 some_room : (g : Geometry) → is_valid g ≡ true → 0 < packet_room g

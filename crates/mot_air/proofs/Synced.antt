@@ -12,18 +12,18 @@ use Rattle.mot_air.specs.Syncing.{SyncsAndTells}
 use Rattle.mot_air.specs.Syncing.{broken, untold, stopped}
 use Rattle.mot_air.specs.Syncing as synced
 use Rattle.mot_air.proofs.Opened.{breaks_off, opened_leaves}
-use Rattle.mot_base.specs.declared.geometry.Geometry.{Geometry}
-use Rattle.mot_base.specs.declared.geometry.TheConstants.{MAX_OBJECTS}
-use Rattle.mot_base.specs.declared.refusal.Refusal.{Refusal}
-use Rattle.mot_base.specs.declared.refusal.Refusal.TheVariants.{OutOfMemory, WriteFault}
-use Rattle.mot_carousel.specs.Carousel.{IsSound, carousel_after}
-use Rattle.mot_carousel.specs.declared.command.Command.{Command}
 use Rattle.mot_feed.specs.Feeding.{IsFeedFault}
 use Rattle.mot_folder.specs.Log.{LogEntry, ReportTells}
 use Rattle.mot_folder.specs.Looked.{HasLookedAtFolder, listed, unlisted}
 use Rattle.mot_folder.specs.declared.report.Report.{Report}
-use Rattle.mot_base.specs.Geometry.{is_valid}
 use Rattle.mot_journal.specs.Image.{Standing}
+use Rattle.mot_numbers.specs.declared.geometry.Geometry.{Geometry}
+use Rattle.mot_numbers.specs.declared.geometry.TheConstants.{MAX_OBJECTS}
+use Rattle.mot_numbers.specs.declared.refusal.Refusal.{Refusal}
+use Rattle.mot_numbers.specs.declared.refusal.Refusal.TheVariants.{OutOfMemory, WriteFault}
+use Rattle.mot_numbers.specs.Geometry.{is_valid}
+use Rattle.mot_objects.specs.Carousel.{IsSound, carousel_after}
+use Rattle.mot_objects.specs.declared.command.Command.{Command}
 use Rattle.mot_reading.proofs.Laws.{AllAre, all_hold}
 use Rattle.mot_repository.proofs.Laws.{standings-are_sound}
 use Rattle.mot_repository.specs.Opening.{IsOpened}

@@ -1,14 +1,14 @@
 -- What playing a disk writes, and what it leaves of the disk.
 use Rattle.std.specs.Prelude.{◌≡◌, ◌⊎◌, ℕ, Bool, true, List, [], length, Option, Some, None}
 use Rattle.disk_model.specs.Disk.{State}
-use Rattle.mot_base.specs.declared.refusal.Refusal.{Refusal}
-use Rattle.mot_carousel.specs.Carousel.{Carousel}
-use Rattle.mot_carousel.specs.declared.command.Command.{Command}
 use Rattle.mot_air.specs.Opening.{IsBreak, Leaves}
 use Rattle.mot_feed.specs.Feeding.{AreOf, AreTimely, CallsPart, Event, Happen}
 use Rattle.mot_feed.specs.Feeding.{commands_among, has_ended, moments_of, turns_in}
 use Rattle.mot_feed.specs.Writing.{GrowsPart}
 use Rattle.mot_journal.specs.Image.{Standing}
+use Rattle.mot_numbers.specs.declared.refusal.Refusal.{Refusal}
+use Rattle.mot_objects.specs.Carousel.{Carousel}
+use Rattle.mot_objects.specs.declared.command.Command.{Command}
 use Rattle.mot_packets.specs.Outlet.{Grows}
 use Rattle.mot_player.specs.Continuity.{IsContinuous}
 use Rattle.mot_player.specs.Place.{Place}

@@ -2,27 +2,27 @@
 use Rattle.std.specs.Prelude.{ℕ, ◌≡◌, ◌⊎◌, true, false, List, length, Option, Some, None}
 use Rattle.std.specs.Io.KnownBytes.{Keeps}
 use Rattle.clap.specs.Words.{Text}
-use Rattle.disk_store.specs.Calls.{opening_calls}
 use Rattle.disk_model.specs.Disk.{IsNew, State}
+use Rattle.disk_store.specs.Calls.{opening_calls}
 use Rattle.disk_store.specs.File.{calls_on, file_state}
 use Rattle.disk_store.specs.declared.file.FileDiskFrom.{FileDiskFrom}
 use Rattle.disk_store.specs.declared.file.start.Start.{Ghosts}
 use Rattle.mot_air.specs.Playing.{Plays, StopsPlaying, when_followed}
 use Rattle.mot_air.specs.Syncing.{StopsSyncing, Syncs}
-use Rattle.mot_files.specs.declared.packets.Target.{Target}
-use Rattle.mot_files.specs.declared.packets.Target.TheVariants.{File, Output, Stream}
 use Rattle.mot_air.specs.declared.used.AirDisk.{AirDisk}
 use Rattle.mot_air.specs.declared.used.AirDisk.TheVariants.{Opened, Untouched}
-use Rattle.mot_base.specs.declared.refusal.Refusal.{Refusal}
-use Rattle.mot_base.specs.declared.refusal.Refusal.TheVariants.{BadNumber, DeviceFault}
-use Rattle.mot_base.specs.declared.refusal.Refusal.TheVariants.{OutOfMemory, ReadFault}
-use Rattle.mot_base.specs.declared.refusal.Refusal.TheVariants.{WriteFault}
-use Rattle.mot_update.specs.Between.{Always, When}
+use Rattle.mot_files.specs.declared.packets.Target.{Target}
+use Rattle.mot_files.specs.declared.packets.Target.TheVariants.{File, Output, Stream}
 use Rattle.mot_files.specs.Lines.{IsUnlined}
 use Rattle.mot_files.specs.Packets.{IsTarget}
 use Rattle.mot_files.specs.Types.{IsUntyped}
+use Rattle.mot_numbers.specs.declared.refusal.Refusal.{Refusal}
+use Rattle.mot_numbers.specs.declared.refusal.Refusal.TheVariants.{BadNumber, DeviceFault}
+use Rattle.mot_numbers.specs.declared.refusal.Refusal.TheVariants.{OutOfMemory, ReadFault}
+use Rattle.mot_numbers.specs.declared.refusal.Refusal.TheVariants.{WriteFault}
 use Rattle.mot_reading.specs.Exporting.{Exports, StopsExporting}
 use Rattle.mot_reading.specs.Inspecting.{Inspects, StopsInspecting}
+use Rattle.mot_update.specs.Between.{Always, When}
 use Rattle.mot_words.specs.Air.Command.{air_app}
 use Rattle.mot_words.specs.Air.Task.{IsAirTask}
 use Rattle.mot_words.specs.Asked.{AskFor, AskForHelp}

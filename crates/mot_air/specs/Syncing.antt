@@ -5,11 +5,12 @@ use Rattle.std.specs.Io.KnownBytes.{Appends}
 use Rattle.std.specs.List.{flat_map}
 use Rattle.disk_model.specs.Disk.{State}
 use Rattle.mot_air.specs.Opening.{IsBreak, Leaves}
-use Rattle.mot_base.specs.declared.refusal.Refusal.{Refusal}
-use Rattle.mot_base.specs.declared.refusal.Refusal.TheVariants.{OutOfMemory, ReadFault, WriteFault}
-use Rattle.mot_carousel.specs.declared.command.Command.{Command}
 use Rattle.mot_folder.specs.Log.{LogEntry, entry, log_entry_of, log_line, of_look}
 use Rattle.mot_journal.specs.Image.{Standing}
+use Rattle.mot_numbers.specs.declared.refusal.Refusal.{Refusal}
+use Rattle.mot_numbers.specs.declared.refusal.Refusal.TheVariants.{OutOfMemory, ReadFault}
+use Rattle.mot_numbers.specs.declared.refusal.Refusal.TheVariants.{WriteFault}
+use Rattle.mot_objects.specs.declared.command.Command.{Command}
 use Rattle.mot_reading.specs.Opening.{IsUnopened, OfStanding}
 use Rattle.mot_repository.specs.Repository.{IsOf}
 use Rattle.mot_server.specs.declared.running.Attempt.TheVariants.{Refused}

@@ -3,18 +3,18 @@ ghost use Rattle.std.specs.Prelude.{◌≡◌, ◌≢◌, ◌⊎◌, None, Ok, t
 ghost use Rattle.mot_air.specs.Playing.{Plays, StopsPlaying};
 ghost use Rattle.mot_air.specs.Program.{FailsPlaying, IsUntold, PlaysTo, StopsPlayingTo, turns_of};
 ghost use Rattle.mot_air.specs.Program.{when_changed};
-ghost use Rattle.mot_base.specs.declared.refusal.Refusal.TheVariants.{DeviceFault, WriteFault};
 ghost use Rattle.mot_files.specs.Packets.{target_of};
+ghost use Rattle.mot_numbers.specs.declared.refusal.Refusal.TheVariants.{DeviceFault, WriteFault};
 
 use crate::Ended;
 use crate::playing::{Followed, play_and_answer, play_disk};
 use crate::used::Finished;
 use disk_model::Disk;
 use disk_store::{FileDiskFrom, Start};
-use mot_base::Refusal;
 use mot_files::{
     Cause, LineFolder, NewFile, OpenPackets, PacketWriter, PacketsFault, Target, open_packets,
 };
+use mot_numbers::Refusal;
 use std::alloc::Global;
 use std::io::Write;
 

@@ -2,8 +2,8 @@
 //! none. It is printed, and nothing is decided by it.
 use clap::ArgMatches;
 use disk_store::OpenFault;
-use mot_base::Refusal;
 use mot_files::{Cause, OUTPUT, SUFFIX};
+use mot_numbers::Refusal;
 use std::fmt::{self, Display, Formatter};
 use std::io::Write;
 use std::rt::Files;

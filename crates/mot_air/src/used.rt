@@ -1,13 +1,13 @@
 //! The disk that a command worked on, and how a command ended.
 ghost use Rattle.std.specs.Prelude.{◌≡◌, true, Ok, Err, None, Some, IfErr, OnOk};
 ghost use Rattle.mot_air.specs.declared.used.AirDisk.TheVariants.{Opened, Untouched};
-ghost use Rattle.mot_base.specs.declared.refusal.Refusal.TheVariants.{DeviceFault, WriteFault};
 ghost use Rattle.mot_files.specs.declared.fault.Cause.TheVariants.{Disk};
+ghost use Rattle.mot_numbers.specs.declared.refusal.Refusal.TheVariants.{DeviceFault, WriteFault};
 
 use crate::Ended;
 use disk_store::{FileDiskFrom, Start, Unopened};
-use mot_base::Refusal;
 use mot_files::{Cause, Unbegun};
+use mot_numbers::Refusal;
 
 /// The disk that a command worked on. The value of `S` is used up where a file is opened, so that
 /// whoever still has it has opened none.

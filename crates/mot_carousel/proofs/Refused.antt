@@ -1,13 +1,13 @@
 -- Which refusals the rules have.
 use Rattle.std.proofs.Common.{◌≡◌, ℕ, Bool, true, false, List, Option, Some, None, Ok, Err, subst}
 use Rattle.std.specs.Prelude.{if◌then◌else◌}
-use Rattle.mot_base.specs.declared.refusal.Refusal.{Refusal}
-use Rattle.mot_base.specs.declared.refusal.Refusal.TheVariants.{NameTaken, NoSuchName}
-use Rattle.mot_base.specs.declared.refusal.Refusal.TheVariants.{TooManyObjects}
-use Rattle.mot_carousel.specs.declared.command.Command.{Command}
-use Rattle.mot_carousel.specs.declared.command.Command.TheVariants.{Put, Replace, Withdraw, Period}
-use Rattle.mot_carousel.specs.declared.command.Done.{Done}
-use Rattle.mot_carousel.specs.Carousel.{Object, Carousel, change, change_if_named, free_object_id}
+use Rattle.mot_numbers.specs.declared.refusal.Refusal.{Refusal}
+use Rattle.mot_numbers.specs.declared.refusal.Refusal.TheVariants.{NameTaken, NoSuchName}
+use Rattle.mot_numbers.specs.declared.refusal.Refusal.TheVariants.{TooManyObjects}
+use Rattle.mot_objects.specs.declared.command.Command.{Command}
+use Rattle.mot_objects.specs.declared.command.Command.TheVariants.{Put, Replace, Withdraw, Period}
+use Rattle.mot_objects.specs.declared.command.Done.{Done}
+use Rattle.mot_objects.specs.Carousel.{Object, Carousel, change, change_if_named, free_object_id}
 
 put-refused : (P : Refusal → Type 0) → P NameTaken → P TooManyObjects → (taken full : Bool)
     (x : Carousel × Done) (refusal : Refusal)

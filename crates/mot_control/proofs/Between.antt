@@ -1,16 +1,16 @@
 -- Updates one after the other.
 use Rattle.std.proofs.Common.{Bool, true, List, [], ◌++◌, Option, None, refl, sym}
 use Rattle.disk_model.specs.Disk.{State, IsHonestDisk}
-use Rattle.mot_base.specs.declared.refusal.Refusal.{Refusal}
-use Rattle.mot_carousel.specs.declared.command.Command.{Command}
+use Rattle.disk_model.proofs.Laws.{unchanged_none}
 use Rattle.mot_control.proofs.Requests.{never}
-use Rattle.mot_update.specs.Between.{IsUpdating}
 use Rattle.mot_journal.specs.Image.{Standing}
+use Rattle.mot_numbers.specs.declared.refusal.Refusal.{Refusal}
+use Rattle.mot_objects.specs.declared.command.Command.{Command}
 use Rattle.mot_repository.specs.Repository.{Holds}
 use Rattle.mot_server.specs.Server.{ServerView}
+use Rattle.mot_update.specs.Between.{IsUpdating}
 use Rattle.mot_update.specs.HasRun.{HasRun}
 use Rattle.mot_update.proofs.Laws.{has_read, join}
-use Rattle.disk_model.proofs.Laws.{unchanged_none}
 
 module _ {D : Type 0} (state : D → State) where
   -- commands that may come

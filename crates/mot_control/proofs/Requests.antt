@@ -3,15 +3,17 @@ use Rattle.std.proofs.Common.{◌≡◌, inl, inr, ℕ, Bool, true, false, List,
 use Rattle.std.proofs.Common.{◌∷◌, None, Result, Ok, Err, refl, sym, ap, subst, ◌∙◌}
 use Rattle.std.specs.Prelude.{if◌then◌else◌}
 use Rattle.disk_model.specs.Disk.{State, IsHonestDisk}
-use Rattle.mot_base.specs.declared.refusal.Refusal.{Refusal}
-use Rattle.mot_base.specs.declared.refusal.Refusal.TheVariants.{OutOfMemory}
-use Rattle.mot_carousel.specs.declared.command.Command.{Command}
+use Rattle.disk_model.proofs.Laws.{unchanged_none}
 use Rattle.mot_control.specs.Answering.{asked_here, is_want_of_memory, run_of}
 use Rattle.mot_control.specs.Inner.Request.{HasAnswered, TellsThere, done_of}
+use Rattle.mot_control.proofs.Commands.{out_of_memory_is_told}
 use Rattle.mot_lines.specs.Line.{IsParsed, NeedsMemory}
 use Rattle.mot_lines.specs.Text.{refusal_line}
 use Rattle.mot_lines.specs.declared.line.Line.{Line}
 use Rattle.mot_lines.specs.declared.line.Line.TheVariants as asks
+use Rattle.mot_numbers.specs.declared.refusal.Refusal.{Refusal}
+use Rattle.mot_numbers.specs.declared.refusal.Refusal.TheVariants.{OutOfMemory}
+use Rattle.mot_objects.specs.declared.command.Command.{Command}
 use Rattle.mot_repository.specs.Repository.{RepositoryView}
 use Rattle.mot_server.specs.Runs.{accepted_commands}
 use Rattle.mot_server.specs.Server.{ServerView}
@@ -21,10 +23,8 @@ use Rattle.mot_session.specs.OnAnyDisk as anyhow
 use Rattle.mot_session.specs.Session.{NeedsCarousel}
 use Rattle.mot_session.specs.Stored.{command_in}
 use Rattle.mot_session.proofs.Laws.{answers-parsed}
-use Rattle.mot_control.proofs.Commands.{out_of_memory_is_told}
 use Rattle.mot_update.specs.HasRun.{HasRun}
 use Rattle.mot_update.proofs.Laws.{has_read}
-use Rattle.disk_model.proofs.Laws.{unchanged_none}
 
 -- false is not true
 pub never : false ≡ true → ⊥

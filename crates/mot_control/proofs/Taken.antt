@@ -9,7 +9,7 @@ use Rattle.std.proofs.lemmas.Grind.{flat_map-append}
 use Rattle.std.proofs.lemmas.List.{map-append}
 use Rattle.std.proofs.lemmas.List.Concat.{flat_map-cons}
 use Rattle.disk_model.specs.Disk.{State, IsHonestDisk}
-use Rattle.mot_base.specs.declared.refusal.Refusal.{Refusal}
+use Rattle.disk_model.proofs.Laws.{unchanged_none}
 use Rattle.mot_control.specs.Answering.{AnswersMore, AreReplies, TakesMore, asked_here}
 use Rattle.mot_control.specs.Answering.{commands_run, run_in}
 use Rattle.mot_control.specs.Inner.Request.{HasAnswered, done_of}
@@ -19,6 +19,7 @@ use Rattle.mot_lines.specs.Lines.{rest_of, whole_lines}
 use Rattle.mot_lines.proofs.Laws.{whole_lines-end, whole_lines-front}
 use Rattle.mot_lines.specs.declared.line.Line.{Line}
 use Rattle.mot_lines.specs.declared.line.Line.TheVariants as asks
+use Rattle.mot_numbers.specs.declared.refusal.Refusal.{Refusal}
 use Rattle.mot_server.proofs.Laws.{accepted-join}
 use Rattle.mot_server.specs.Runs.{accepted_commands}
 use Rattle.mot_server.specs.Server.{ServerView}
@@ -27,7 +28,6 @@ use Rattle.mot_session.specs.OnAnyDisk.{AnswersAnyhow}
 use Rattle.mot_session.specs.Stored.{command_in}
 use Rattle.mot_update.specs.HasRun.{HasRun}
 use Rattle.mot_update.proofs.Laws.{has_read, join}
-use Rattle.disk_model.proofs.Laws.{unchanged_none}
 
 -- ---- bytes
 

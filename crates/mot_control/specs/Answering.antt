@@ -4,10 +4,6 @@ use Rattle.std.specs.Prelude.{length, map, Option, None, Result, Ok}
 use Rattle.std.specs.List.{flat_map}
 use Rattle.std.specs.Io.KnownBytes.{Appends, Consumes}
 use Rattle.disk_model.specs.Disk.{State}
-use Rattle.mot_base.specs.declared.refusal.Refusal.{Refusal}
-use Rattle.mot_base.specs.declared.refusal.Refusal.TheVariants.{OutOfMemory}
-use Rattle.mot_carousel.specs.declared.command.Command as command
-use Rattle.mot_update.specs.Between.{IsUpdating}
 use Rattle.mot_journal.specs.Image.{Standing}
 use Rattle.mot_lines.specs.Hand.{bytes_in_hand}
 use Rattle.mot_lines.specs.Line.{line_of}
@@ -15,6 +11,9 @@ use Rattle.mot_lines.specs.Lines.{rest_of, whole_lines}
 use Rattle.mot_lines.specs.Text.{refusal_line}
 use Rattle.mot_lines.specs.declared.line.Line.{Line}
 use Rattle.mot_lines.specs.declared.line.Line.TheVariants.{Command}
+use Rattle.mot_numbers.specs.declared.refusal.Refusal.{Refusal}
+use Rattle.mot_numbers.specs.declared.refusal.Refusal.TheVariants.{OutOfMemory}
+use Rattle.mot_objects.specs.declared.command.Command as command
 use Rattle.mot_repository.specs.Repository.{Holds}
 use Rattle.mot_server.specs.Runs.{accepted_commands}
 use Rattle.mot_server.specs.Server.{ServerView}
@@ -22,6 +21,7 @@ use Rattle.mot_session.specs.Life.{Told, commands_done}
 use Rattle.mot_session.specs.OnAnyDisk.{AnswersAnyhow, read_only}
 use Rattle.mot_session.specs.Stored.{command_in}
 use Rattle.mot_session.specs.declared.serving.TheConstants.{READ_SIZE}
+use Rattle.mot_update.specs.Between.{IsUpdating}
 use Rattle.mot_update.specs.HasRun.{HasRun}
 
 -- what a request asks for here: a line that asks for packets is none, for these are the feed's

@@ -16,9 +16,9 @@ ghost use Rattle.mot_update.specs.Faults.{TellsFaults};
 
 use crate::Log;
 use disk_model::Disk;
-use mot_base::Refusal;
-use mot_carousel::Command;
 use mot_lines::{Hand, Line, TextLine, cut_at_line_end, done_text, parse_line, refusal_text};
+use mot_numbers::Refusal;
+use mot_objects::Command;
 use mot_server::{Attempt, Server};
 use mot_session::READ_SIZE;
 use std::alloc::Global;

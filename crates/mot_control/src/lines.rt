@@ -13,8 +13,8 @@ ghost use Rattle.mot_update.specs.Faults.{TellsFaults};
 
 use crate::{Log, answer_there};
 use disk_model::Disk;
-use mot_base::Refusal;
 use mot_lines::Hand;
+use mot_numbers::Refusal;
 use mot_server::Server;
 use mot_update::Update;
 use std::alloc::Global;

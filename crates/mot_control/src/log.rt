@@ -4,8 +4,8 @@ ghost use Rattle.mot_control.specs.Inner.Request.{TellsThere};
 ghost use Rattle.mot_session.specs.OnAnyDisk.{AnswersAnyhow, read_only};
 
 use disk_model::Disk;
-use mot_base::Refusal;
 use mot_lines::Line;
+use mot_numbers::Refusal;
 use mot_server::Server;
 use mot_session::answer_reading;
 use std::alloc::Global;

@@ -6,9 +6,6 @@ use Rattle.std.proofs.lemmas.List.{append-nil, length-map, map-append, take_more
 use Rattle.std.proofs.lemmas.List.Elements.{All-push, All-same}
 use Rattle.std.proofs.lemmas.List.Sums.{sum_by-append, sum_by-cons, sum_by-take-le, sum_by_more}
 use Rattle.std.specs.Prelude.{sum_by}
-use Rattle.mot_carousel.specs.declared.object.Object.{Object}
-use Rattle.mot_carousel.specs.declared.carousel.Carousel.{Carousel}
-use Rattle.mot_carousel.specs.Stands.{object_of, objects_of, carousel_of, AreBodiesOf}
 use Rattle.mot_directory.specs.Header.{HeaderFields}
 use Rattle.mot_directory.specs.Directory.{Entry, DirectoryFields, IsEntry, IsDirectory}
 use Rattle.mot_directory.specs.Directory.{bytes_of_directory, bytes_of_entry}
@@ -17,6 +14,9 @@ use Rattle.mot_directory.specs.Entries.{parameters_with, header_of, entry_of, di
 use Rattle.mot_directory.specs.Inner.Beside.{header_beside, entry_beside, directory_beside}
 use Rattle.mot_directory.specs.Sizes.{directory_size, entry_size}
 use Rattle.mot_directory.proofs.Fits.{length-bytes_of_entry, length-extension}
+use Rattle.mot_objects.specs.declared.object.Object.{Object}
+use Rattle.mot_objects.specs.declared.carousel.Carousel.{Carousel}
+use Rattle.mot_objects.specs.Stands.{object_of, objects_of, carousel_of, AreBodiesOf}
 
 header_of_size : Object → ℕ → HeaderFields
 header_of_size o n =

@@ -7,8 +7,6 @@ use Rattle.std.proofs.lemmas.List.{length-map}
 use Rattle.std.proofs.lemmas.List.Elements.{All-cons, All-nil, All-head, All-tail, All-map}
 use Rattle.std.proofs.lemmas.List.Elements.{All-weaker}
 use Rattle.std.specs.Prelude.{if◌then◌else◌, nat_le}
-use Rattle.mot_carousel.specs.Carousel.{Object, Carousel}
-use Rattle.mot_carousel.specs.Content.{ContentNumbers}
 use Rattle.mot_directory.specs.Parameter.{OneByte, Short, Long, IsParameter, bytes_of_parameter}
 use Rattle.mot_directory.specs.Header.{IsHeader, bytes_of_header, bytes_of_extension}
 use Rattle.mot_directory.specs.Directory.{Entry, IsEntry, IsDirectory, bytes_of_entry}
@@ -17,6 +15,8 @@ use Rattle.mot_directory.specs.Entries.{text_parameter, parameters_with, entry_o
 use Rattle.mot_directory.specs.Entries.{IsShortMime, IsWithinLimits, HasDirectory}
 use Rattle.mot_directory.specs.Sizes.{text_size, mime_size}
 use Rattle.mot_directory.proofs.ReadBack.{read_directory-bytes_of_directory}
+use Rattle.mot_objects.specs.Carousel.{Object, Carousel}
+use Rattle.mot_objects.specs.Content.{ContentNumbers}
 
 length-by_form : (id : ℕ) (text : List ℕ) (b : Bool) →
     length (bytes_of_parameter (if b then Short id text else Long id text))

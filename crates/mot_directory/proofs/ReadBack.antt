@@ -6,8 +6,6 @@ use Rattle.std.proofs.Math.Seq.{take-append_seam, drop-append_seam}
 use Rattle.std.proofs.lemmas.Bool.{lt-ltb, le-leb, le-ltb}
 use Rattle.std.proofs.lemmas.List.Elements.{All-head, All-tail}
 use Rattle.std.specs.Int.{w16, to_be_bytes}
-use Rattle.mot_base.specs.Fields.{number_in}
-use Rattle.mot_carousel.specs.Content.{ContentNumbers}
 use Rattle.mot_directory.specs.Parameter.{Parameter, NoData, OneByte, FourBytes, Short, Long}
 use Rattle.mot_directory.specs.Parameter.{IsParameter, bytes_of_parameter, read_parameter}
 use Rattle.mot_directory.specs.Parameter.{parameter_with, parameters_within, read_parameters}
@@ -18,6 +16,8 @@ use Rattle.mot_directory.specs.Directory.{Entry, IsEntry, DirectoryFields, IsDir
 use Rattle.mot_directory.specs.Directory.{bytes_of_entry, bytes_of_entries, entries_in}
 use Rattle.mot_directory.specs.Directory.{bytes_of_directory_header, directory_header_of}
 use Rattle.mot_directory.specs.Directory.{directory_with, bytes_of_directory, read_directory}
+use Rattle.mot_numbers.specs.Fields.{number_in}
+use Rattle.mot_objects.specs.Content.{ContentNumbers}
 
 cons_eq : {x y : ℕ} {xs ys : List ℕ} → x ≡ y → xs ≡ ys → x ∷ xs ≡ y ∷ ys
 cons_eq p q = cc

@@ -1,13 +1,13 @@
 -- The definitions, computed on the worked rows.
 use Rattle.std.proofs.Common.{◌≡◌, ℕ, List, [], ◌∷◌, ◌++◌, Some, None, refl}
 use Rattle.std.specs.Prelude.{codes}
-use Rattle.mot_carousel.specs.Carousel.{Object, Carousel, new_carousel}
 use Rattle.mot_directory.specs.Parameter.{read_parameters}
 use Rattle.mot_directory.specs.Header.{read_header, bytes_of_header}
 use Rattle.mot_directory.specs.Directory.{read_directory, bytes_of_directory}
 use Rattle.mot_directory.specs.Entries.{header_of, directory_of}
 use Rattle.mot_directory.specs.declared.header.TheConstants.{MAX_HEADER}
 use Rattle.mot_directory.specs.declared.directory.TheConstants.{MAX_DIRECTORY}
+use Rattle.mot_objects.specs.Carousel.{Object, Carousel, new_carousel}
 
 abbrev picture : Object
 picture = record {

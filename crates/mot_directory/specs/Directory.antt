@@ -2,10 +2,10 @@
 use Rattle.std.specs.Prelude.{ℕ, zero, suc, ◌+◌, ◌^◌, ◌<◌, ◌&&◌, ◌==◌, nat_le, if◌then◌else◌, List}
 use Rattle.std.specs.Prelude.{[], ◌∷◌, ◌++◌, length, drop, take, flat_map, All, Option, Some, None}
 use Rattle.std.specs.Int.{w16, w32, to_be_bytes, bytes_high_first}
-use Rattle.mot_base.specs.Reading.{◌>>=◌}
-use Rattle.mot_base.specs.Fields.{number_in, fields}
 use Rattle.mot_directory.specs.Header.{HeaderFields, header_size_in, read_header, bytes_of_header}
 use Rattle.mot_directory.specs.Header.{IsHeader}
+use Rattle.mot_numbers.specs.Reading.{◌>>=◌}
+use Rattle.mot_numbers.specs.Fields.{number_in, fields}
 
 -- an object in the directory: its transport id and its header
 pub record Entry : Type 0 where

@@ -2,18 +2,18 @@
 use Rattle.std.specs.Prelude.{ℕ, ◌≤◌, ◌&&◌, ◌==◌, nat_lt, nat_le, if◌then◌else◌, List, [], ◌∷◌}
 use Rattle.std.specs.Prelude.{◌++◌, length, drop, map, All, Option, Some, None, option_to_list}
 use Rattle.std.specs.Prelude.{slice_index}
-use Rattle.mot_base.specs.Reading.{◌>>=◌}
-use Rattle.mot_base.specs.declared.geometry.TheConstants.{MAX_OBJECTS}
-use Rattle.mot_base.specs.declared.numbers.TheConstants.{MAX_SEGMENT}
-use Rattle.mot_carousel.specs.Carousel.{Object, Carousel}
-use Rattle.mot_carousel.specs.declared.body.TheConstants.{MAX_BODY}
-use Rattle.mot_carousel.specs.declared.content.TheConstants.{MAX_SUBTYPE, MAX_TYPE}
-use Rattle.mot_carousel.specs.declared.mime.TheConstants.{MAX_MIME}
-use Rattle.mot_carousel.specs.declared.name.TheConstants.{MAX_NAME}
-use Rattle.mot_carousel.specs.declared.period.TheConstants.{MAX_PERIOD}
 use Rattle.mot_directory.specs.Parameter.{Parameter, OneByte, Short, Long}
 use Rattle.mot_directory.specs.Header.{HeaderFields}
 use Rattle.mot_directory.specs.Directory.{Entry, DirectoryFields}
+use Rattle.mot_numbers.specs.Reading.{◌>>=◌}
+use Rattle.mot_numbers.specs.declared.geometry.TheConstants.{MAX_OBJECTS}
+use Rattle.mot_numbers.specs.declared.numbers.TheConstants.{MAX_SEGMENT}
+use Rattle.mot_objects.specs.Carousel.{Object, Carousel}
+use Rattle.mot_objects.specs.declared.body.TheConstants.{MAX_BODY}
+use Rattle.mot_objects.specs.declared.content.TheConstants.{MAX_SUBTYPE, MAX_TYPE}
+use Rattle.mot_objects.specs.declared.mime.TheConstants.{MAX_MIME}
+use Rattle.mot_objects.specs.declared.name.TheConstants.{MAX_NAME}
+use Rattle.mot_objects.specs.declared.period.TheConstants.{MAX_PERIOD}
 
 -- up to 127 bytes have a length of 7 bits, more have one of 15
 abbrev pub text_parameter : ℕ → List ℕ → Parameter

@@ -4,7 +4,7 @@ use Rattle.std.specs.Prelude.{◌≡◌, ℕ, zero, suc, ◌+◌, ◌-◌, ◌*�
 use Rattle.std.specs.Prelude.{nat_le, if◌then◌else◌, List, [], ◌∷◌, ◌++◌, length, drop, take}
 use Rattle.std.specs.Prelude.{Option, Some, None}
 use Rattle.std.specs.Int.{w16, to_be_bytes}
-use Rattle.mot_base.specs.Reading.{◌>>=◌}
+use Rattle.mot_numbers.specs.Reading.{◌>>=◌}
 
 -- a parameter by its form: an id (ParamId) with no data, with one byte or four, or with data behind
 -- a length of 7 bits or of 15

@@ -1,8 +1,8 @@
 -- How many bytes headers and the directory have.
 use Rattle.std.specs.Prelude.{ℕ, ◌+◌, nat_le, if◌then◌else◌, List, length, sum_by, Option, Some}
 use Rattle.std.specs.Prelude.{None}
-use Rattle.mot_carousel.specs.declared.object.Object.{Object}
-use Rattle.mot_carousel.specs.declared.carousel.Carousel.{Carousel}
+use Rattle.mot_objects.specs.declared.object.Object.{Object}
+use Rattle.mot_objects.specs.declared.carousel.Carousel.{Carousel}
 
 -- a parameter with a text of so many bytes
 abbrev pub text_size : ℕ → ℕ

@@ -2,10 +2,6 @@
 ghost use Rattle.std.specs.Prelude.{◌≡◌, ℕ, ◌+◌, ◌^◌, ◌<◌, ◌≤◌, List, ◌++◌, length, map, vec_len};
 ghost use Rattle.std.specs.Prelude.{vec_capacity, All, Some, IfOk, IfErr, OnOk};
 ghost use Rattle.std.specs.Int.{to_be_bytes, bytes_high_first, w32};
-ghost use Rattle.mot_base.specs.Bytes.{AreBytes};
-ghost use Rattle.mot_base.specs.declared.refusal.Refusal.TheVariants.{OutOfMemory};
-ghost use Rattle.mot_carousel.specs.Carousel as whole;
-ghost use Rattle.mot_carousel.specs.Stands.{AreBodiesOf, carousel_of};
 ghost use Rattle.mot_directory.specs.Directory.{DirectoryFields, IsDirectory, IsEntry};
 ghost use Rattle.mot_directory.specs.Directory.{bytes_of_directory, bytes_of_entry};
 ghost use Rattle.mot_directory.specs.Directory.{bytes_of_directory_header, read_directory};
@@ -13,11 +9,16 @@ ghost use Rattle.mot_directory.specs.Entries.{HasDirectory, description_in, dire
 ghost use Rattle.mot_directory.specs.Entries.{entries_of, parameters_with};
 ghost use Rattle.mot_directory.specs.Inner.Beside.{entry_beside};
 ghost use Rattle.mot_directory.specs.Sizes.{directory_size, entry_size};
+ghost use Rattle.mot_numbers.specs.Bytes.{AreBytes};
+ghost use Rattle.mot_numbers.specs.declared.refusal.Refusal.TheVariants.{OutOfMemory};
+ghost use Rattle.mot_objects.specs.Carousel as whole;
+ghost use Rattle.mot_objects.specs.Stands.{AreBodiesOf, carousel_of};
 
 use crate::header::{append_header, header_size};
 use byteorder::{BigEndian, ByteOrder};
-use mot_base::{MAX_SEGMENT, Refusal, SegmentSize, append, append_number};
-use mot_carousel::{Carousel, MAX_PERIOD, Object};
+use mot_base::{append, append_number};
+use mot_numbers::{MAX_SEGMENT, Refusal, SegmentSize};
+use mot_objects::{Carousel, MAX_PERIOD, Object};
 use std::alloc::Global;
 
 /// The most bytes of a directory: its header, and 250 entries of a transport id and the longest

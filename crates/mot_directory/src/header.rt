@@ -2,10 +2,6 @@
 ghost use Rattle.std.specs.Prelude.{◌≡◌, ℕ, ◌+◌, ◌^◌, ◌<◌, ◌≤◌, List, ◌∷◌, ◌++◌, length, take, map};
 ghost use Rattle.std.specs.Prelude.{flat_map, vec_len, vec_capacity, option_to_list, All, Some};
 ghost use Rattle.std.specs.Prelude.{IfOk, IfErr, OnOk};
-ghost use Rattle.mot_base.specs.Bytes.{AreBytes};
-ghost use Rattle.mot_base.specs.declared.refusal.Refusal.TheVariants.{OutOfMemory};
-ghost use Rattle.mot_carousel.specs.Carousel as whole;
-ghost use Rattle.mot_carousel.specs.Stands.{object_of};
 ghost use Rattle.mot_directory.specs.Entries.{IsShortMime, description_in, header_of};
 ghost use Rattle.mot_directory.specs.Entries.{parameters_with, text_parameter};
 ghost use Rattle.mot_directory.specs.Header.{HeaderFields, IsHeader, bytes_of_header};
@@ -13,10 +9,15 @@ ghost use Rattle.mot_directory.specs.Header.{bytes_of_core, header_size_in, read
 ghost use Rattle.mot_directory.specs.Parameter.{bytes_of_parameter};
 ghost use Rattle.mot_directory.specs.Inner.Beside.{header_beside};
 ghost use Rattle.mot_directory.specs.Sizes.{header_size, mime_size, text_size};
+ghost use Rattle.mot_numbers.specs.Bytes.{AreBytes};
+ghost use Rattle.mot_numbers.specs.declared.refusal.Refusal.TheVariants.{OutOfMemory};
+ghost use Rattle.mot_objects.specs.Carousel as whole;
+ghost use Rattle.mot_objects.specs.Stands.{object_of};
 
 use byteorder::{BigEndian, ByteOrder};
-use mot_base::{Refusal, append, append_number};
-use mot_carousel::{MAX_BODY, MAX_NAME, MAX_SUBTYPE, MAX_TYPE, Mime, Name, Object};
+use mot_base::{append, append_number};
+use mot_numbers::Refusal;
+use mot_objects::{MAX_BODY, MAX_NAME, MAX_SUBTYPE, MAX_TYPE, Mime, Name, Object};
 use std::alloc::Global;
 
 /// ContentName's id (EN 301 234).

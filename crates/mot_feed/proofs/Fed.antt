@@ -6,21 +6,10 @@ use Rattle.std.proofs.Common.{◌∙◌, subst, arith, length-append, append-nil
 use Rattle.std.proofs.lemmas.List.{map-append}
 use Rattle.std.specs.Prelude.{◌⊎◌, ◌≢◌, if◌then◌else◌}
 use Rattle.disk_model.specs.Disk.{State, IsHonestDisk, IsUnchanged}
-use Rattle.mot_base.specs.Reading.{◌>>=◌}
-use Rattle.mot_base.proofs.Laws.{read_each-append}
-use Rattle.mot_base.specs.declared.geometry.Geometry.{Geometry}
-use Rattle.mot_base.specs.declared.refusal.Refusal.{Refusal}
-use Rattle.mot_base.specs.declared.refusal.Refusal.TheVariants.{WriteFault}
-use Rattle.mot_carousel.specs.Carousel.{Carousel, carousel_after, carousel_if_accepted, change}
-use Rattle.mot_carousel.specs.declared.command.Command.{Command}
 use Rattle.mot_feed.specs.Feeding.{AreOf, AreTimely, Event, FedPacketsAreContinuous}
 use Rattle.mot_feed.specs.Feeding.{Feeds, FeedsPart, Happen, HasFed}
-use Rattle.mot_packets.specs.Outlet.{Grows}
-use Rattle.mot_update.specs.Between.{IsUpdating, When}
 use Rattle.mot_feed.specs.Feeding.{commands_among, are_uncut, has_ended, moments_of}
-use Rattle.mot_update.specs.Between.{may_change}
 use Rattle.mot_feed.specs.Feeding.{sents_in, turns_in, unmade, unwritten}
-use Rattle.mot_update.specs.Between.{Always, BetweenTurns, Never}
 use Rattle.mot_feed.specs.Feeding.Event.{Accepted, Played}
 use Rattle.mot_feed.specs.Sending.{SendsPacket}
 use Rattle.mot_feed.specs.Sending as one
@@ -29,6 +18,14 @@ use Rattle.mot_feed.specs.Writing as part
 use Rattle.mot_feed.proofs.Grown.{grows_nil, grows_trans, grows_kept, part_after}
 use Rattle.mot_feed.proofs.Sent.{not_fine, same_refusal}
 use Rattle.mot_journal.specs.Image.{Standing}
+use Rattle.mot_numbers.specs.Reading.{◌>>=◌}
+use Rattle.mot_numbers.proofs.Laws.{read_each-append}
+use Rattle.mot_numbers.specs.declared.geometry.Geometry.{Geometry}
+use Rattle.mot_numbers.specs.declared.refusal.Refusal.{Refusal}
+use Rattle.mot_numbers.specs.declared.refusal.Refusal.TheVariants.{WriteFault}
+use Rattle.mot_objects.specs.Carousel.{Carousel, carousel_after, carousel_if_accepted, change}
+use Rattle.mot_objects.specs.declared.command.Command.{Command}
+use Rattle.mot_packets.specs.Outlet.{Grows}
 use Rattle.mot_packets.specs.Packet.{PacketFields, read_packet}
 use Rattle.mot_packets.specs.Written.{bytes_of_packet}
 use Rattle.mot_player.proofs.Laws.{steps-are-continuous}
@@ -41,6 +38,9 @@ use Rattle.mot_server.specs.RunEnds.{place_behind}
 use Rattle.mot_server.specs.Runs.{accepted_commands}
 use Rattle.mot_server.specs.Server.{ServerView, place_in}
 use Rattle.mot_server.proofs.Laws.{accepted-join, reads_leave, runs_join}
+use Rattle.mot_update.specs.Between.{IsUpdating, When}
+use Rattle.mot_update.specs.Between.{may_change}
+use Rattle.mot_update.specs.Between.{Always, BetweenTurns, Never}
 use Rattle.mot_update.specs.HasRun.{HasRun}
 
 -- ---- events in a row

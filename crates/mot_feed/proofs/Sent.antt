@@ -3,23 +3,23 @@ use Rattle.std.proofs.Common.{◌≡◌, ◌∙◌, ℕ, suc, ◌+◌, ◌<◌, 
 use Rattle.std.proofs.Common.{Option, Some, Result, Ok, Err, take, refl, sym, ap, subst, arith}
 use Rattle.std.proofs.Common.{add-one}
 use Rattle.std.specs.Prelude.{◌≢◌, IsFalse, IsTrue}
-use Rattle.mot_journal.specs.Image.{Standing}
-use Rattle.mot_packets.specs.Outlet.{Grows}
-use Rattle.mot_player.specs.PlayerView as player
-use Rattle.mot_repository.specs.Repository.{RepositoryView}
-use Rattle.mot_server.specs.Server.{ServerView, bodies_of, place_in}
 use Rattle.disk_model.specs.Disk.{State}
 use Rattle.disk_model.specs.Failures.{Rises}
-use Rattle.mot_base.specs.declared.refusal.Refusal.{Refusal}
-use Rattle.mot_base.specs.declared.refusal.Refusal.TheVariants.{DeviceFault, Halted, OutOfMemory}
-use Rattle.mot_base.specs.declared.refusal.Refusal.TheVariants.{WriteFault}
 use Rattle.mot_feed.specs.Sending.{IsSendFault, SendsPackets, SendsPacket, SendsPart}
 use Rattle.mot_feed.specs.Sending as one
 use Rattle.mot_feed.specs.Writing.{GrowsPart}
 use Rattle.mot_feed.specs.Writing as part
 use Rattle.mot_feed.proofs.Grown.{grows_nil, grows_trans, grows_kept}
+use Rattle.mot_journal.specs.Image.{Standing}
+use Rattle.mot_numbers.specs.declared.refusal.Refusal.{Refusal}
+use Rattle.mot_numbers.specs.declared.refusal.Refusal.TheVariants.{DeviceFault, Halted, OutOfMemory}
+use Rattle.mot_numbers.specs.declared.refusal.Refusal.TheVariants.{WriteFault}
+use Rattle.mot_packets.specs.Outlet.{Grows}
 use Rattle.mot_packets.specs.Packet.{PacketFields, read_packet}
+use Rattle.mot_player.specs.PlayerView as player
 use Rattle.mot_player.specs.Place.{Place}
+use Rattle.mot_repository.specs.Repository.{RepositoryView}
+use Rattle.mot_server.specs.Server.{ServerView, bodies_of, place_in}
 use Rattle.mot_server.specs.Playing.{HasPlayed, IsReadRefusal}
 use Rattle.mot_server.specs.Playing as reading
 use Rattle.mot_server.proofs.Laws.{played_none, played_more}

@@ -3,13 +3,13 @@ use Rattle.std.specs.Prelude.{ℕ, ◌≡◌, ◌≢◌, ◌⊎◌, ◌+◌, ◌
 use Rattle.std.specs.Prelude.{if◌then◌else◌, List, [], ◌∷◌, ◌++◌, length, Option, Some, None}
 use Rattle.std.specs.Prelude.{⊤}
 use Rattle.disk_model.specs.Disk.{State}
-use Rattle.mot_base.specs.declared.refusal.Refusal.{Refusal}
-use Rattle.mot_base.specs.declared.refusal.Refusal.TheVariants.{WriteFault}
-use Rattle.mot_carousel.specs.Carousel.{Carousel, carousel_if_accepted, change}
-use Rattle.mot_carousel.specs.declared.command.Command.{Command}
 use Rattle.mot_feed.specs.Sending.{IsSendFault}
 use Rattle.mot_feed.specs.Writing.{GrowsPart}
 use Rattle.mot_journal.specs.Image.{Standing}
+use Rattle.mot_numbers.specs.declared.refusal.Refusal.{Refusal}
+use Rattle.mot_numbers.specs.declared.refusal.Refusal.TheVariants.{WriteFault}
+use Rattle.mot_objects.specs.Carousel.{Carousel, carousel_if_accepted, change}
+use Rattle.mot_objects.specs.declared.command.Command.{Command}
 use Rattle.mot_packets.specs.Outlet.{Grows}
 use Rattle.mot_player.specs.Continuity.{IsContinuous}
 use Rattle.mot_player.specs.Laws.{AreSent}

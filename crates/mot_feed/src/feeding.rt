@@ -9,7 +9,7 @@ ghost use Rattle.mot_update.specs.Faults.{StaysCalm};
 use crate::Outlet;
 use crate::sending::send_one;
 use disk_model::Disk;
-use mot_base::Refusal;
+use mot_numbers::Refusal;
 use mot_server::Server;
 use mot_update::Update;
 use std::alloc::Global;

@@ -8,7 +8,7 @@ ghost use Rattle.mot_server.specs.Server.{place_in};
 
 use crate::Outlet;
 use disk_model::Disk;
-use mot_base::Refusal;
+use mot_numbers::Refusal;
 use mot_packets::Packet;
 use mot_server::Server;
 

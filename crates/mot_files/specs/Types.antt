@@ -1,7 +1,7 @@
 -- The suffixes of files that are objects.
 use Rattle.std.specs.Prelude.{◌≡◌, ◌⊎◌, Option, Some, None}
-use Rattle.mot_base.specs.declared.refusal.Refusal.{Refusal}
-use Rattle.mot_base.specs.declared.refusal.Refusal.TheVariants.{OutOfMemory, ReadFault}
+use Rattle.mot_numbers.specs.declared.refusal.Refusal.{Refusal}
+use Rattle.mot_numbers.specs.declared.refusal.Refusal.TheVariants.{OutOfMemory, ReadFault}
 use Rattle.mot_suffixes.specs.Types.{IsTypesRefusal}
 
 -- why there is no table of suffixes: there is no memory for it; or the file that adds some, where

@@ -1,9 +1,9 @@
 //! Why a task could not be done, where more is known than its refusal says.
 ghost use Rattle.std.specs.Prelude.{◌≡◌};
-ghost use Rattle.mot_base.specs.declared.refusal.Refusal.TheVariants.{OutOfMemory, ReadFault};
+ghost use Rattle.mot_numbers.specs.declared.refusal.Refusal.TheVariants.{OutOfMemory, ReadFault};
 
 use disk_store::OpenFault;
-use mot_base::Refusal;
+use mot_numbers::Refusal;
 use std::alloc::AllocError;
 use std::fmt::{self, Display, Formatter};
 use std::io;

@@ -2,7 +2,7 @@
 //! contract tells.
 ghost use Rattle.std.specs.Prelude.{◌≡◌, false};
 
-use mot_base::Refusal;
+use mot_numbers::Refusal;
 use std::alloc::Global;
 use std::fs::{File, OpenOptions};
 use std::io::{self, Read, Write};

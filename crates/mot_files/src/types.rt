@@ -3,7 +3,7 @@ ghost use Rattle.std.specs.Prelude.{◌≡◌, IfErr};
 ghost use Rattle.mot_files.specs.Types.{IsUntyped};
 
 use crate::fault::{Cause, TypesFault, Unbegun};
-use mot_base::Refusal;
+use mot_numbers::Refusal;
 use mot_suffixes::FileTypes;
 use std::alloc::{AllocError, Global};
 use std::fs::OpenOptions;

@@ -2,10 +2,10 @@
 use Rattle.std.proofs.Common.{◌≡◌, [], ◌∷◌, Some, None, true, false, refl}
 use Rattle.std.specs.Prelude.{codes}
 use Rattle.std.specs.Fmt.{digits}
-use Rattle.mot_base.specs.declared.refusal.Refusal.TheVariants.{EmptyBody, NoRoom}
-use Rattle.mot_base.specs.declared.refusal.Refusal.TheVariants.{ReadFault}
 use Rattle.mot_folder.specs.Log.{entry, log_entry_of, log_line, of_look}
 use Rattle.mot_folder.specs.Looked.{is_due}
+use Rattle.mot_numbers.specs.declared.refusal.Refusal.TheVariants.{EmptyBody, NoRoom}
+use Rattle.mot_numbers.specs.declared.refusal.Refusal.TheVariants.{ReadFault}
 use Rattle.mot_server.specs.declared.running.Attempt.TheVariants.{Accepted, Refused}
 use Rattle.mot_update.specs.Told.{Put, Replaced, Withdrew}
 

@@ -8,8 +8,8 @@ ghost use Rattle.mot_update.specs.Told.{TellsMore, answers_of};
 
 use crate::listing::{FileNames, joined};
 use crate::report::Report;
-use mot_base::Refusal;
-use mot_carousel::{Body, MAX_BODY, Name};
+use mot_numbers::Refusal;
+use mot_objects::{Body, MAX_BODY, Name};
 use mot_server::Attempt;
 use mot_suffixes::{FileType, FileTypes};
 use mot_update::{Settled, Source, Wanted};

@@ -1,14 +1,14 @@
 //! The files of a folder that are objects.
 ghost use Rattle.std.specs.Prelude.{◌≡◌, ◌∷◌, ◌++◌, [], true, if◌then◌else◌, IfOk, OnErr, OnOk};
-ghost use Rattle.mot_carousel.specs.Carousel.{are_names_distinct};
 ghost use Rattle.mot_folder.specs.Log.{TellsAnswers};
+ghost use Rattle.mot_objects.specs.Carousel.{are_names_distinct};
 ghost use Rattle.mot_suffixes.specs.Types.{AreShown};
 ghost use Rattle.mot_update.specs.Told.{TellsMore};
 ghost use Rattle.mot_update.specs.Updating.{is_known};
 
 use crate::report::Report;
-use mot_base::Refusal;
-use mot_carousel::Name;
+use mot_numbers::Refusal;
+use mot_objects::Name;
 use mot_suffixes::FileTypes;
 use std::alloc::{AllocError, Global};
 use std::fs::File;

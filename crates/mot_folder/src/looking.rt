@@ -13,7 +13,7 @@ use crate::folder::Folder;
 use crate::listing::list;
 use crate::report::Report;
 use disk_model::Disk;
-use mot_base::Refusal;
+use mot_numbers::Refusal;
 use mot_server::Server;
 use mot_suffixes::FileTypes;
 use mot_update::{Update, look};

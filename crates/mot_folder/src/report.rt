@@ -4,9 +4,9 @@ ghost use Rattle.mot_folder.specs.Log.{ReportTells, TellsOne, entry, told_byte};
 ghost use Rattle.mot_server.specs.declared.running.Attempt.TheVariants.{Accepted, Refused};
 ghost use Rattle.mot_update.specs.Told.{was_accepted};
 
-use mot_base::Refusal;
-use mot_carousel::Done;
 use mot_lines::{done_text, refusal_text};
+use mot_numbers::Refusal;
+use mot_objects::Done;
 use mot_server::Attempt;
 use std::alloc::{AllocError, Global};
 

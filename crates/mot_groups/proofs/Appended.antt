@@ -5,9 +5,9 @@ use Rattle.std.proofs.Math.Seq.{drop-append_seam}
 use Rattle.std.proofs.lemmas.Grind.{numeral_or}
 use Rattle.std.proofs.lemmas.List.{take_all}
 use Rattle.std.specs.Int.RustNames.{bit_or}
-use Rattle.mot_base.specs.GroupKind.{kind_number}
-use Rattle.mot_base.specs.declared.group_kind.GroupKind.{GroupKind}
-use Rattle.mot_base.specs.declared.group_kind.GroupKind.TheVariants.{Body, Directory}
+use Rattle.mot_numbers.specs.GroupKind.{kind_number}
+use Rattle.mot_numbers.specs.declared.group_kind.GroupKind.{GroupKind}
+use Rattle.mot_numbers.specs.declared.group_kind.GroupKind.TheVariants.{Body, Directory}
 
 -- the number of a group's type fits in four bits
 pub kind_number_fits : (kind : GroupKind) → kind_number kind < 16

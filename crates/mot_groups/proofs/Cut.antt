@@ -8,12 +8,12 @@ use Rattle.std.proofs.lemmas.List.{append-nil, take-append-drop, take_all}
 use Rattle.std.proofs.lemmas.List.Elements.{All-cons, All-nil}
 use Rattle.std.specs.Int.{div_ceil}
 use Rattle.std.specs.Prelude.{◌==◌}
-use Rattle.mot_base.specs.Reading.{is_empty}
-use Rattle.mot_base.proofs.Laws.{PiecesRoundedUp, pieces_rounded_up}
 use Rattle.mot_groups.specs.Group.{Segment}
 use Rattle.mot_groups.specs.Entity.{first_pieces, pieces, all_but_last, IsCut, joined_bytes}
 use Rattle.mot_groups.specs.Entity.{numbered_segments, segments_of, own_segments, first_size}
 use Rattle.mot_groups.specs.Entity.{entity_of}
+use Rattle.mot_numbers.specs.Reading.{is_empty}
+use Rattle.mot_numbers.proofs.Laws.{PiecesRoundedUp, pieces_rounded_up}
 
 -- so many first pieces of bytes are so many
 pub length-first_pieces : (n size : ℕ) (bytes : List ℕ) → length (first_pieces n size bytes) ≡ n

@@ -10,15 +10,16 @@ use Rattle.std.proofs.Math.Nat.{mod-eq_of_lt}
 use Rattle.std.proofs.lemmas.Option.{cond_some}
 use Rattle.std.specs.Prelude.{◌==◌}
 use Rattle.std.specs.Int.{w16, to_be_bytes, from_bool}
-use Rattle.mot_base.specs.Bytes.{IsByte, AreBytes}
 use Rattle.mot_base.specs.Checksum.{crc_of, without_crc, ends_in_crc}
-use Rattle.mot_base.specs.Fields.{number_in, fields}
-use Rattle.mot_base.specs.Reading.{is_empty}
-use Rattle.mot_base.proofs.Laws.{append-without_crc, fields-injective, length-some, number_in-fits}
-use Rattle.mot_base.proofs.Laws.{number_in-injective}
+use Rattle.mot_base.proofs.Laws.{append-without_crc}
 use Rattle.mot_groups.specs.Group.{GroupFields, IsGroup, group_with, header_widths, read_group}
 use Rattle.mot_groups.specs.Group.{bytes_of_group, group_of}
 use Rattle.mot_groups.proofs.ReadBack.{AreBytes-bytes_of_group, read_group-bytes_of_group}
+use Rattle.mot_numbers.specs.Bytes.{IsByte, AreBytes}
+use Rattle.mot_numbers.specs.Fields.{number_in, fields}
+use Rattle.mot_numbers.specs.Reading.{is_empty}
+use Rattle.mot_numbers.proofs.Laws.{fields-injective, length-some, number_in-fits}
+use Rattle.mot_numbers.proofs.Laws.{number_in-injective}
 
 -- the header's fields, as a group has them
 abbrev header_of : GroupFields → List ℕ

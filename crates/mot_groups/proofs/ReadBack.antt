@@ -4,15 +4,16 @@ use Rattle.std.proofs.Common.{false, refl, length, drop, arith, ap, ◌∙◌, e
 use Rattle.std.proofs.lemmas.Bool.{lt-ltb, le-leb}
 use Rattle.std.specs.Prelude.{◌==◌, if◌then◌else◌}
 use Rattle.std.specs.Int.{w16, to_be_bytes}
-use Rattle.mot_base.specs.Bytes.{AreBytes}
 use Rattle.mot_base.specs.Checksum.{crc_of, without_crc, ends_in_crc}
-use Rattle.mot_base.specs.Fields.{number_in, fields}
-use Rattle.mot_base.specs.Reading.{is_empty}
-use Rattle.mot_base.proofs.Laws.{AreBytes-append, AreBytes-cons, AreBytes-to_be_bytes, cons_eq}
-use Rattle.mot_base.proofs.Laws.{is_empty-some, without_crc-append, ends_in_crc-append}
+use Rattle.mot_base.proofs.Laws.{without_crc-append, ends_in_crc-append}
 use Rattle.mot_groups.specs.Group.{Segment, GroupFields, IsGroup, group_with, header_widths}
 use Rattle.mot_groups.specs.Group.{read_group, bytes_of_group, group_of, content_of}
 use Rattle.mot_groups.specs.Group.{segment_content}
+use Rattle.mot_numbers.specs.Bytes.{AreBytes}
+use Rattle.mot_numbers.specs.Fields.{number_in, fields}
+use Rattle.mot_numbers.specs.Reading.{is_empty}
+use Rattle.mot_numbers.proofs.Laws.{AreBytes-append, AreBytes-cons, AreBytes-to_be_bytes, cons_eq}
+use Rattle.mot_numbers.proofs.Laws.{is_empty-some}
 
 -- word stands for the last flag and the segment number
 header_fields : (kind index last number word tid size : ℕ) → word ≡ 32768 * last + number

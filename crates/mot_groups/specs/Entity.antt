@@ -3,8 +3,8 @@ use Rattle.std.specs.Prelude.{◌≡◌, ℕ, zero, suc, ◌+◌, ◌<◌, ◌�
 use Rattle.std.specs.Prelude.{if◌then◌else◌, List, [], ◌∷◌, ◌++◌, length, drop, take, filter, All}
 use Rattle.std.specs.Prelude.{flat_map, Option, Some, None}
 use Rattle.std.specs.Int.{div_ceil}
-use Rattle.mot_base.specs.Reading.{◌>>=◌, is_empty}
 use Rattle.mot_groups.specs.Group.{Segment}
+use Rattle.mot_numbers.specs.Reading.{◌>>=◌, is_empty}
 
 abbrev pub first_pieces : ℕ → ℕ → List ℕ → List (List ℕ)
 first_pieces zero size bytes = []

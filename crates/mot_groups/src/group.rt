@@ -2,13 +2,14 @@
 ghost use Rattle.std.specs.Prelude.{◌≡◌, ℕ, ◌+◌, ◌^◌, ◌<◌, ◌≤◌, List, ◌++◌, length, vec_len};
 ghost use Rattle.std.specs.Prelude.{vec_capacity, Some};
 ghost use Rattle.std.specs.Int.{div_ceil};
-ghost use Rattle.mot_base.specs.GroupKind.{kind_number};
 ghost use Rattle.mot_groups.specs.Entity.{IsCut, pieces};
 ghost use Rattle.mot_groups.specs.Group.{bytes_of_group, content_head, group_of, read_group};
 ghost use Rattle.mot_groups.specs.Laws.{EntitiesReadBack, GroupsHaveTheirContent, GroupsReadBack};
 ghost use Rattle.mot_groups.specs.Laws.{OnlyOwnBytesRead};
+ghost use Rattle.mot_numbers.specs.GroupKind.{kind_number};
 
-use mot_base::{GroupKind, MAX_SEGMENT, SegmentSize, TransportId, append, append_number, crc16};
+use mot_base::{append, append_number, crc16};
+use mot_numbers::{GroupKind, MAX_SEGMENT, SegmentSize, TransportId};
 
 /// A group's first four bits: no extension field, but a checksum, a segment and a user access
 /// field.

@@ -1,8 +1,8 @@
 //! The bytes of a segment.
 ghost use Rattle.std.specs.Prelude.{◌≡◌, ℕ, ◌≤◌, ◌<◌, List, length};
-ghost use Rattle.mot_base.specs.declared.numbers.TheConstants.{MAX_SEGMENT};
+ghost use Rattle.mot_numbers.specs.declared.numbers.TheConstants.{MAX_SEGMENT};
 
-use mot_base::{MAX_SEGMENT, Refusal};
+use mot_numbers::{MAX_SEGMENT, Refusal};
 use std::marker::Model;
 
 /// The bytes of one segment, 1 to 8,189 (EN 301 234).

@@ -8,7 +8,6 @@ use Rattle.std.proofs.lemmas.Bool.Decides.{nat_tests}
 use Rattle.std.proofs.lemmas.List.{length-drop}
 use Rattle.disk_model.specs.Disk.{State, AgreeOutside, IsHonestDisk, Torn, Throughout}
 use Rattle.disk_model.proofs.Laws.{agree_more, weakens}
-use Rattle.mot_base.specs.Geometry.{length_of}
 use Rattle.mot_journal.specs.declared.record.Record.{Record}
 use Rattle.mot_journal.specs.Slot.{is_open, read_slot, slot_size, slot_count, bytes_of_slot}
 use Rattle.mot_journal.specs.Inner.Steps.{IsBehindGate, IsWritten, IsGated}
@@ -20,6 +19,7 @@ use Rattle.mot_journal.proofs.NextSlot.{slot_longer_than_gate, slot_within}
 use Rattle.mot_journal.proofs.Parts.{HasParts, has_parts, parts_have}
 use Rattle.mot_journal.proofs.SlotWrite.{slot_rebuilt}
 use Rattle.mot_journal.proofs.Slots.{shut_is}
+use Rattle.mot_numbers.specs.Geometry.{length_of}
 
 closed_byte : (slot : List ℕ) → is_open slot ≡ false → slice_index slot 0 ≡ 0xA5 → ⊥
 closed_byte slot is e = grind (arith, nat_tests)

@@ -6,12 +6,8 @@ use Rattle.std.specs.Prelude.{if◌then◌else◌, ◌==◌, nat_lt, slice_index
 use Rattle.std.specs.Option.{option_map_or}
 use Rattle.std.proofs.lemmas.List.{drop-drop, length-take, length-drop}
 use Rattle.std.proofs.lemmas.Bool.{lt-ltb, false_from_ne_true}
-use Rattle.mot_base.specs.Reading.{◌>>=◌}
+use Rattle.mot_numbers.specs.Reading.{◌>>=◌}
 use Rattle.std.proofs.lemmas.Bool.Decides.{nat_tests}
-use Rattle.mot_carousel.specs.Name.{IsName}
-use Rattle.mot_carousel.proofs.Laws.{name_true, name_is, mime_true, mime_is}
-use Rattle.mot_carousel.specs.Mime.{IsMime}
-use Rattle.mot_base.specs.declared.geometry.Geometry.{Geometry}
 use Rattle.mot_journal.specs.declared.layout.Layout.{Layout}
 use Rattle.mot_journal.specs.declared.layout.Layout.TheVariants.{One, Two}
 use Rattle.mot_journal.specs.declared.record.Record.{Record}
@@ -20,10 +16,14 @@ use Rattle.mot_journal.specs.declared.record.Action.TheVariants.{Nothing, Remove
 use Rattle.mot_journal.specs.Geometry.{columns}
 use Rattle.mot_journal.specs.Slot.{short_text_in, read_slot, is_sound, is_sound_action, kind_base}
 use Rattle.mot_journal.specs.Slot.{slot_columns, record_in, action_in, longest_name}
-use Rattle.mot_carousel.specs.Mime.{is_mime}
-use Rattle.mot_carousel.specs.Name.{is_name}
 use Rattle.mot_journal.specs.Inner.Reading.{number_at, content_at, if_sound, set_in_slot}
 use Rattle.mot_journal.specs.Inner.Reading.{action_in_slot, sound_action_of, name_from, mime_from}
+use Rattle.mot_numbers.specs.declared.geometry.Geometry.{Geometry}
+use Rattle.mot_objects.specs.Name.{IsName}
+use Rattle.mot_objects.proofs.Laws.{name_true, name_is, mime_true, mime_is}
+use Rattle.mot_objects.specs.Mime.{IsMime}
+use Rattle.mot_objects.specs.Mime.{is_mime}
+use Rattle.mot_objects.specs.Name.{is_name}
 
 -- an action that is there
 abbrev pub act-of : Action → Option Action

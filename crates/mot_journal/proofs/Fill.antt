@@ -4,8 +4,6 @@ use Rattle.std.proofs.Common.{ap, arith, below_more}
 use Rattle.std.specs.Prelude.{slice_get}
 use Rattle.disk_model.specs.Disk.{State, AgreeOutside, IsHonestDisk, WritesWithin, Torn}
 use Rattle.disk_model.proofs.Laws.{agree_refl, agree_trans, agree_more, begins, goes_on, at_end}
-use Rattle.mot_base.specs.declared.geometry.Geometry.{Geometry}
-use Rattle.mot_base.specs.Geometry.{half_start, half_size, area_start}
 use Rattle.mot_journal.specs.declared.layout.Layout.{Layout}
 use Rattle.mot_journal.specs.declared.layout.Layout.TheVariants.{One, Two}
 use Rattle.mot_journal.specs.declared.record.Record.{Record}
@@ -13,6 +11,8 @@ use Rattle.mot_journal.specs.Slot.{slot_size, slot_count}
 use Rattle.mot_journal.specs.Inner.Steps.{ChangesWithin, HasSlots, slot_from, IsReadable}
 use Rattle.mot_journal.proofs.Laws.{part}
 use Rattle.mot_journal.proofs.NextSlot.{slot_fits, half_ends}
+use Rattle.mot_numbers.specs.declared.geometry.Geometry.{Geometry}
+use Rattle.mot_numbers.specs.Geometry.{half_start, half_size, area_start}
 
 module _ (start len : ℕ) (old : State) where
   -- a disk that is left as it is changes within any range at most

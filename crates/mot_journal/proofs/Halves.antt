@@ -11,17 +11,12 @@ use Rattle.std.proofs.lemmas.List.{get_or-replicate, get_or_append_left, get_or-
 use Rattle.std.proofs.lemmas.List.{get_or-take, get_or-drop}
 use Rattle.std.proofs.lemmas.Option.{slice_get_cases}
 use Rattle.disk_model.specs.Disk.{AgreeOutside}
-use Rattle.mot_base.specs.Fields.{number_in}
-use Rattle.mot_base.specs.declared.geometry.Geometry.{Geometry}
-use Rattle.mot_base.specs.declared.refusal.Refusal.{Refusal}
-use Rattle.mot_base.specs.Geometry.{half_size, half_start, area_start, length_of}
 use Rattle.mot_journal.specs.declared.layout.Layout.{Layout}
 use Rattle.mot_journal.specs.declared.layout.Layout.TheVariants.{One, Two}
 use Rattle.mot_journal.specs.declared.record.Record.{Record}
 use Rattle.mot_journal.specs.declared.record.Action.{Action}
 use Rattle.mot_journal.specs.declared.record.Action.TheVariants.{Nothing, Set, Remove}
 use Rattle.mot_journal.specs.Geometry.{geometry_of, selected_half, has_magic, magic}
-use Rattle.mot_base.specs.Geometry.{is_valid, is_within}
 use Rattle.mot_journal.specs.Slot.{is_open, layout_of, read_slot, slot_size, slot_count}
 use Rattle.mot_journal.specs.Slot.{bytes_of_slot, kind_base, action_kind}
 use Rattle.mot_journal.specs.Catalogue.{catalogue_of, or_damaged, result_then}
@@ -38,6 +33,11 @@ use Rattle.mot_journal.proofs.Parts.{half_at, HasParts}
 use Rattle.mot_journal.proofs.Records.{written_open}
 use Rattle.mot_journal.proofs.Slots.{slots, slot_of_place, length-slots_in}
 use Rattle.mot_journal.proofs.Written.{written_gate}
+use Rattle.mot_numbers.specs.Fields.{number_in}
+use Rattle.mot_numbers.specs.declared.geometry.Geometry.{Geometry}
+use Rattle.mot_numbers.specs.declared.refusal.Refusal.{Refusal}
+use Rattle.mot_numbers.specs.Geometry.{half_size, half_start, area_start, length_of}
+use Rattle.mot_numbers.specs.Geometry.{is_valid, is_within}
 
 -- with any selector the geometry is the same
 pub geometry_beside_selector : (a b : List ℕ) → AgreeOutside 8 1 a b → geometry_of b ≡ geometry_of a

@@ -4,14 +4,14 @@ use Rattle.std.proofs.Common.{take, drop, Option, Some, None, refl, sym, ◌∙�
 use Rattle.std.specs.Prelude.{if◌then◌else◌, nat_le, ◌&&◌, bytes_eq}
 use Rattle.std.proofs.lemmas.Bool.{leb-true, false_from_ne_true}
 use Rattle.std.proofs.lemmas.List.{length-drop, length-append, drop-append-le, take-append-le}
-use Rattle.mot_base.specs.Fields.{number_in}
-use Rattle.mot_base.specs.Reading.{◌>>=◌}
-use Rattle.mot_base.specs.declared.geometry.Geometry.{Geometry}
-use Rattle.mot_base.specs.Geometry.{length_of}
 use Rattle.mot_journal.specs.Geometry.{geometry_of, geometry_in, has_magic, magic}
-use Rattle.mot_base.specs.Geometry.{is_valid}
 use Rattle.mot_journal.specs.Inner.Reading.{number_at}
 use Rattle.mot_journal.proofs.Decoded.{columns_from}
+use Rattle.mot_numbers.specs.Fields.{number_in}
+use Rattle.mot_numbers.specs.Reading.{◌>>=◌}
+use Rattle.mot_numbers.specs.declared.geometry.Geometry.{Geometry}
+use Rattle.mot_numbers.specs.Geometry.{length_of}
+use Rattle.mot_numbers.specs.Geometry.{is_valid}
 
 number_front : (head rest : List ℕ) (at w : ℕ) → at + w ≤ length head
     → number_at at w (head ++ rest) ≡ number_at at w head

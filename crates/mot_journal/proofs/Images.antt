@@ -4,12 +4,12 @@ use Rattle.std.proofs.Common.{◌≡◌, ℕ, List, [], ◌∷◌, ◌++◌, Opt
 use Rattle.std.proofs.Common.{true, false, replicate, refl}
 use Rattle.std.specs.Str.{is_utf8, chars}
 use lib.Utf8.{encode}
-use Rattle.mot_base.specs.declared.refusal.Refusal.TheVariants.{NotFormatted, Damaged}
-use Rattle.mot_carousel.specs.Carousel.{Object}
 use Rattle.mot_journal.specs.Geometry.{geometry_of}
 use Rattle.mot_journal.specs.Slot.{read_slot}
 use Rattle.mot_journal.specs.Catalogue.{fold_from}
 use Rattle.mot_journal.specs.Image.{Standing, records_of, stands_for, has_clean_gates}
+use Rattle.mot_numbers.specs.declared.refusal.Refusal.TheVariants.{NotFormatted, Damaged}
+use Rattle.mot_objects.specs.Carousel.{Object}
 
 abbrev object : List ℕ → ℕ → ℕ → Option (List ℕ) → ℕ → ℕ → List ℕ → Object
 object name type subtype mime version tid body = record {

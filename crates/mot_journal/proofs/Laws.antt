@@ -7,24 +7,24 @@ use Rattle.std.specs.Prelude.{slice_index, ◌==◌, ◌&&◌, nat_le, bytes_eq,
 use Rattle.std.proofs.lemmas.List.{ext_get_or, length-take, length-drop, get_or-take, get_or-drop}
 use Rattle.std.proofs.lemmas.List.{drop-drop}
 use Rattle.disk_model.specs.Disk.{AgreeOutside}
-use Rattle.mot_base.specs.Fields.{number_in}
-use Rattle.mot_base.specs.Reading.{◌>>=◌}
-use Rattle.mot_base.specs.declared.geometry.Geometry.{Geometry}
-use Rattle.mot_base.specs.Geometry.{half_size, half_start, area_start, length_of}
 use Rattle.mot_journal.specs.Geometry.{columns, geometry_in, geometry_of, magic, selected_half}
-use Rattle.mot_base.specs.Geometry.{is_valid}
 use Rattle.mot_journal.specs.Catalogue.{result_then, Placed, Catalogue, catalogue_of, body_in_area}
 use Rattle.mot_journal.specs.Catalogue.{carousel_in, extents_of}
 use Rattle.mot_journal.specs.Image.{half_of, journal_in_half, or_not_formatted, records_of}
 use Rattle.mot_journal.specs.Image.{slots_of, has_clean_gates, are_gates_clean, DiskRecords}
 use Rattle.mot_journal.specs.Image.{Standing, area_of, stands_for, IsClean}
-use Rattle.mot_base.specs.declared.refusal.Refusal.{Refusal}
-use Rattle.mot_carousel.specs.Stands.{object_of}
-use Rattle.mot_carousel.specs.Carousel as whole
 use Rattle.mot_journal.specs.declared.layout.Layout.{Layout}
 use Rattle.mot_journal.specs.declared.record.Record.{Record}
 use Rattle.mot_journal.specs.Slot.{layout_of}
 use Rattle.mot_journal.specs.Gaps.{IsBeside, AreBeside, standing_of}
+use Rattle.mot_numbers.specs.Fields.{number_in}
+use Rattle.mot_numbers.specs.Reading.{◌>>=◌}
+use Rattle.mot_numbers.specs.declared.geometry.Geometry.{Geometry}
+use Rattle.mot_numbers.specs.Geometry.{half_size, half_start, area_start, length_of}
+use Rattle.mot_numbers.specs.Geometry.{is_valid}
+use Rattle.mot_numbers.specs.declared.refusal.Refusal.{Refusal}
+use Rattle.mot_objects.specs.Stands.{object_of}
+use Rattle.mot_objects.specs.Carousel as whole
 
 abbrev total : List ℕ → ℕ
 total [] = 0

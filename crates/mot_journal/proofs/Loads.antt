@@ -8,12 +8,7 @@ use Rattle.std.proofs.lemmas.Bool.{leb-true}
 use Rattle.std.proofs.lemmas.List.{length-drop, length-append, length-replicate, get_or-take}
 use Rattle.std.proofs.Math.Seq.{take-append_seam}
 use Rattle.disk_model.specs.Disk.{State}
-use Rattle.mot_base.specs.declared.refusal.Refusal.{Refusal}
-use Rattle.mot_base.specs.declared.refusal.Refusal.TheVariants.{NotFormatted}
-use Rattle.mot_base.specs.declared.geometry.Geometry.{Geometry}
-use Rattle.mot_base.specs.Geometry.{length_of, half_size, half_start}
 use Rattle.mot_journal.specs.Geometry.{geometry_of, selected_half}
-use Rattle.mot_base.specs.Geometry.{is_valid}
 use Rattle.mot_journal.specs.Catalogue.{result_then}
 use Rattle.mot_journal.specs.Image.{records_of, half_of, journal_in_half}
 use Rattle.mot_journal.specs.Image.{or_not_formatted}
@@ -22,6 +17,11 @@ use Rattle.mot_journal.specs.Inner.Loading.IsHalfRefusal.{no_memory as half_memo
 use Rattle.mot_journal.specs.Inner.Loading.IsHalfRefusal.{damaged as half_damaged}
 use Rattle.mot_journal.specs.Journal.{IsLoadRefusal}
 use Rattle.mot_journal.specs.Journal.IsLoadRefusal.{no_memory, damaged}
+use Rattle.mot_numbers.specs.declared.refusal.Refusal.{Refusal}
+use Rattle.mot_numbers.specs.declared.refusal.Refusal.TheVariants.{NotFormatted}
+use Rattle.mot_numbers.specs.declared.geometry.Geometry.{Geometry}
+use Rattle.mot_numbers.specs.Geometry.{length_of, half_size, half_start}
+use Rattle.mot_numbers.specs.Geometry.{is_valid}
 use Rattle.std.proofs.lemmas.Bool.Decides.{nat_tests}
 use Rattle.mot_journal.proofs.Heads.{geometry_if, has_geometry_if}
 

@@ -5,8 +5,6 @@ use Rattle.std.specs.Prelude.{bytes_eq}
 use Rattle.std.proofs.lemmas.Bool.{cases_Bool, and_from, lt-ltb}
 use Rattle.disk_model.specs.Disk.{State, AgreeOutside, IsHonestDisk, WritesWithin, Torn, Throughout}
 use Rattle.disk_model.proofs.Laws.{agree_trans, agree_more, at_end, joins, weakens}
-use Rattle.mot_base.specs.declared.geometry.Geometry.{Geometry}
-use Rattle.mot_base.specs.Geometry.{IsValid, length_of, half_size, half_start, area_start}
 use Rattle.mot_journal.specs.declared.layout.Layout.TheVariants.{Two}
 use Rattle.mot_journal.specs.Geometry.{has_magic, magic}
 use Rattle.mot_journal.specs.Slot.{slot_count, slot_size, AreSound}
@@ -17,6 +15,8 @@ use Rattle.mot_journal.proofs.Laws.{part}
 use Rattle.mot_journal.proofs.Fill.{unchanged, one_more, slot_ends, range_whole}
 use Rattle.mot_journal.proofs.NewDisk.{is_new}
 use Rattle.mot_journal.proofs.NextSlot.{drop_behind}
+use Rattle.mot_numbers.specs.declared.geometry.Geometry.{Geometry}
+use Rattle.mot_numbers.specs.Geometry.{IsValid, length_of, half_size, half_start, area_start}
 
 -- a run more within the range
 within_joins : (start n : ℕ) (old mid new : State) (at m : ℕ) → IsHonestDisk mid

@@ -7,12 +7,8 @@ use Rattle.std.proofs.lemmas.Bool.Decides.{nat_tests}
 use Rattle.std.proofs.lemmas.List.{get_or-take, get_or-drop, drop-drop, replicate-append-replicate}
 use Rattle.std.proofs.Math.Nat.{suc-mul}
 use Rattle.std.proofs.Math.Seq.{take-add}
-use Rattle.mot_base.specs.Fields.{number_in}
-use Rattle.mot_base.specs.declared.geometry.Geometry.{Geometry}
-use Rattle.mot_base.specs.Geometry.{IsValid, length_of, half_size, half_start, area_start}
 use Rattle.mot_journal.specs.declared.layout.Layout.TheVariants.{Two}
 use Rattle.mot_journal.specs.Geometry.{geometry_of, has_magic}
-use Rattle.mot_base.specs.Geometry.{is_valid}
 use Rattle.mot_journal.specs.Image.{IsSecondHalfEmpty}
 use Rattle.mot_journal.specs.Slot.{slot_count, slot_size}
 use Rattle.mot_journal.specs.Catalogue.{Catalogue, new_catalogue, catalogue_of, fold_from}
@@ -25,8 +21,12 @@ use Rattle.mot_journal.proofs.Halves.{filled_layout, filled_half, filled_reads}
 use Rattle.mot_journal.proofs.Heads.{geometry_if, geometry_by_places, all_three, same-geometry}
 use Rattle.mot_journal.proofs.NextSlot.{part_of_half}
 use Rattle.mot_journal.proofs.Parts.{HasParts, parts_have}
-use Rattle.mot_base.proofs.Laws.{is_valid_of}
 use Rattle.mot_journal.proofs.Written.{number_2, number_4}
+use Rattle.mot_numbers.specs.Fields.{number_in}
+use Rattle.mot_numbers.specs.declared.geometry.Geometry.{Geometry}
+use Rattle.mot_numbers.specs.Geometry.{IsValid, length_of, half_size, half_start, area_start}
+use Rattle.mot_numbers.specs.Geometry.{is_valid}
+use Rattle.mot_numbers.proofs.Laws.{is_valid_of}
 
 -- the journal of a new disk
 abbrev pub new_view : Geometry → JournalView

@@ -9,15 +9,12 @@ use Rattle.std.proofs.lemmas.List.{ext_get_or, length-take, length-drop, get_or-
 use Rattle.std.proofs.lemmas.List.{length-set, set_split, get_or-set_other}
 use Rattle.std.proofs.lemmas.Grind.{get_or-set_at}
 use Rattle.disk_model.specs.Disk.{AgreeOutside}
-use Rattle.mot_base.specs.declared.geometry.Geometry.{Geometry}
-use Rattle.mot_base.specs.Geometry.{half_size, half_start, area_start}
 use Rattle.mot_journal.specs.declared.layout.Layout.{Layout}
 use Rattle.mot_journal.specs.declared.layout.Layout.TheVariants.{One, Two}
 use Rattle.mot_journal.specs.declared.record.Record.{Record}
 use Rattle.mot_journal.specs.declared.record.Action.{Action}
 use Rattle.mot_journal.specs.declared.record.Action.TheVariants.{Nothing, Set, Remove}
 use Rattle.mot_journal.specs.Geometry.{geometry_of, selected_half}
-use Rattle.mot_base.specs.Geometry.{is_within}
 use Rattle.mot_journal.specs.Slot.{is_open, layout_of, read_slot, slot_size, slot_count}
 use Rattle.mot_journal.specs.Slot.{bytes_of_slot, kind_base, action_kind}
 use Rattle.mot_journal.specs.Catalogue.{catalogue_of}
@@ -31,6 +28,9 @@ use Rattle.mot_journal.proofs.Parts.{half_at, slots_at, HasParts}
 use Rattle.mot_journal.proofs.Records.{are_open_more, records_more}
 use Rattle.mot_journal.proofs.Slots.{slot_of_place, length-slots_in}
 use Rattle.mot_journal.proofs.Written.{written_is_open}
+use Rattle.mot_numbers.specs.declared.geometry.Geometry.{Geometry}
+use Rattle.mot_numbers.specs.Geometry.{half_size, half_start, area_start}
+use Rattle.mot_numbers.specs.Geometry.{is_within}
 
 -- behind the range two images are the same
 pub drop_behind : (at n : ℕ) (a b : List ℕ) → AgreeOutside at n a b → (s : ℕ) → at + n ≤ s

@@ -8,12 +8,12 @@ use Rattle.std.specs.List.{list_all}
 use Rattle.std.proofs.lemmas.Bool.{cases_Bool}
 use Rattle.std.proofs.Math.Seq.{drop-append_seam, drop-cons}
 use Rattle.std.proofs.lemmas.List.Sums.{take_while-cons}
-use Rattle.mot_base.specs.declared.refusal.Refusal.{Refusal}
 use Rattle.mot_journal.specs.declared.record.Record.{Record}
 use Rattle.mot_journal.specs.Slot.{is_open}
 use Rattle.mot_journal.specs.Catalogue.{or_damaged, result_then}
 use Rattle.mot_journal.specs.Image.{records_in, are_gates_clean}
 use Rattle.mot_journal.proofs.Records.{AreOpen, StartsShut, open_then_shut}
+use Rattle.mot_numbers.specs.declared.refusal.Refusal.{Refusal}
 
 -- the gate of each slot is closed
 abbrev pub AreShut : List (List ℕ) → Type 0

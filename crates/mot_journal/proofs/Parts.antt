@@ -2,9 +2,6 @@
 use Rattle.std.proofs.Common.{◌≡◌, ℕ, true, List, take, drop, Option, Some, Result, Ok, Err, refl}
 use Rattle.std.proofs.Common.{sym, ◌∙◌, ap, subst}
 use Rattle.std.specs.Prelude.{take_while, IsOk}
-use Rattle.mot_base.specs.declared.refusal.Refusal.{Refusal}
-use Rattle.mot_base.specs.declared.geometry.Geometry.{Geometry}
-use Rattle.mot_base.specs.Geometry.{half_size, half_start}
 use Rattle.mot_journal.specs.declared.layout.Layout.{Layout}
 use Rattle.mot_journal.specs.declared.record.Record.{Record}
 use Rattle.mot_journal.specs.Geometry.{geometry_of, selected_half}
@@ -16,6 +13,9 @@ use Rattle.mot_journal.specs.Image.{records_of, stands_for, area_of}
 use Rattle.mot_journal.specs.Journal.{JournalView, with_records, HasRecords}
 use Rattle.mot_journal.proofs.Slots.{slots}
 use Rattle.mot_journal.proofs.Laws.{geometry_read, stands_by_parts}
+use Rattle.mot_numbers.specs.declared.refusal.Refusal.{Refusal}
+use Rattle.mot_numbers.specs.declared.geometry.Geometry.{Geometry}
+use Rattle.mot_numbers.specs.Geometry.{half_size, half_start}
 
 -- a half of an image
 abbrev pub half_at : Geometry → ℕ → List ℕ → List ℕ

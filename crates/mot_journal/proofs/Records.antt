@@ -4,14 +4,14 @@ use Rattle.std.proofs.Common.{Option, Some, None, Result, Ok, Err, refl, ◌∙�
 use Rattle.std.proofs.Common.{append-nil}
 use Rattle.std.specs.Prelude.{if◌then◌else◌, take_while}
 use Rattle.std.proofs.lemmas.List.Sums.{take_while-cons}
-use Rattle.mot_base.specs.declared.refusal.Refusal.{Refusal}
-use Rattle.mot_base.specs.declared.refusal.Refusal.TheVariants.{Damaged}
 use Rattle.mot_journal.specs.declared.layout.Layout.{Layout}
 use Rattle.mot_journal.specs.declared.record.Record.{Record}
 use Rattle.mot_journal.specs.Slot.{bytes_of_slot, is_open}
 use Rattle.mot_journal.specs.Catalogue.{or_damaged, result_then}
 use Rattle.mot_journal.specs.Image.{records_in}
 use Rattle.mot_journal.proofs.Written.{written_is_open}
+use Rattle.mot_numbers.specs.declared.refusal.Refusal.{Refusal}
+use Rattle.mot_numbers.specs.declared.refusal.Refusal.TheVariants.{Damaged}
 
 abbrev ok : List Record → Result (List Record) Refusal
 ok records = Ok records

@@ -4,18 +4,18 @@ use Rattle.std.proofs.Common.{replicate, refl}
 use Rattle.std.specs.Prelude.{codes}
 use Rattle.std.specs.Str.{is_utf8, chars}
 use lib.Utf8.{encode}
-use Rattle.mot_base.specs.declared.refusal.Refusal.TheVariants.{NotFormatted}
-use Rattle.mot_carousel.specs.Carousel.{new_carousel}
-use Rattle.mot_base.specs.declared.geometry.Geometry.{Geometry}
 use Rattle.mot_journal.specs.declared.layout.Layout.TheVariants.{One, Two}
 use Rattle.mot_journal.specs.declared.record.Record.{Record}
 use Rattle.mot_journal.specs.declared.record.Action.TheVariants.{Nothing, Set}
-use Rattle.mot_base.specs.Geometry.{length_of}
 use Rattle.mot_journal.specs.Geometry.{geometry_of}
 use Rattle.mot_journal.specs.Inner.Format.{head_bytes}
 use Rattle.mot_journal.specs.Slot.{bytes_of_slot, read_slot}
 use Rattle.mot_journal.specs.Catalogue.{fold_from}
 use Rattle.mot_journal.specs.Image.{records_of, stands_for}
+use Rattle.mot_numbers.specs.declared.refusal.Refusal.TheVariants.{NotFormatted}
+use Rattle.mot_numbers.specs.declared.geometry.Geometry.{Geometry}
+use Rattle.mot_numbers.specs.Geometry.{length_of}
+use Rattle.mot_objects.specs.Carousel.{new_carousel}
 
 -- 16 objects, 65,536 bytes for bodies, segments of 1,024 bytes, address 1, packets of 96 bytes
 abbrev usual : Geometry

@@ -11,9 +11,6 @@ use Rattle.std.proofs.lemmas.List.{drop_all, drop-drop, drop-take, take-take}
 use Rattle.std.proofs.lemmas.List.Sums.{take_while-cons}
 use Rattle.std.proofs.lemmas.Grind.{div_ceil_times}
 use Rattle.std.proofs.lemmas.Nat.{div-mul-add}
-use Rattle.mot_base.specs.Reading.{◌>>=◌}
-use Rattle.mot_base.specs.declared.geometry.Geometry.{Geometry}
-use Rattle.mot_base.specs.Geometry.{half_size, half_start}
 use Rattle.mot_journal.specs.declared.layout.Layout.{Layout}
 use Rattle.mot_journal.specs.declared.layout.Layout.TheVariants.{One, Two}
 use Rattle.mot_journal.specs.Slot.{is_open, slot_size, slot_count}
@@ -22,6 +19,9 @@ use Rattle.mot_journal.specs.Inner.Scan.{scan}
 use Rattle.mot_journal.proofs.Fill.{range_whole}
 use Rattle.mot_journal.proofs.NextSlot.{part_of_half, gate_at, slot_longer_than_gate}
 use Rattle.mot_journal.proofs.Slots.{slot_of_place, length-slots_in, times-suc}
+use Rattle.mot_numbers.specs.Reading.{◌>>=◌}
+use Rattle.mot_numbers.specs.declared.geometry.Geometry.{Geometry}
+use Rattle.mot_numbers.specs.Geometry.{half_size, half_start}
 
 -- what the gates give where one is open behind a closed one
 abbrev pub none : Option Bool

@@ -7,18 +7,18 @@ use Rattle.std.proofs.Math.Seq.{take-length}
 use Rattle.std.proofs.lemmas.List.{drop-drop, length-drop, length-take}
 use Rattle.std.proofs.lemmas.Bool.{cases_Bool, le-leb, lt-ltb, leb-true}
 use Rattle.std.proofs.lemmas.Bool.{ltb-true, false_from_ne_true}
-use Rattle.mot_carousel.specs.Content.{ContentNumbers}
-use Rattle.mot_base.specs.declared.geometry.Geometry.{Geometry}
 use Rattle.mot_journal.specs.declared.layout.Layout.{Layout}
 use Rattle.mot_journal.specs.declared.layout.Layout.TheVariants.{One, Two}
 use Rattle.mot_journal.specs.declared.record.Action.{Action}
 use Rattle.mot_journal.specs.declared.record.Action.TheVariants.{Set}
 use Rattle.mot_journal.specs.Slot.{short_text_in, is_sound_action, longest_name, slot_size}
-use Rattle.mot_carousel.specs.Mime.{is_mime}
-use Rattle.mot_carousel.specs.Name.{is_name}
 use Rattle.mot_journal.specs.Inner.Reading.{number_at, content_at, if_sound, set_in_slot, name_from}
 use Rattle.mot_journal.specs.Inner.Reading.{mime_from}
 use Rattle.mot_journal.proofs.Decoded.{both, parts, text, act-of, kept, and-false}
+use Rattle.mot_numbers.specs.declared.geometry.Geometry.{Geometry}
+use Rattle.mot_objects.specs.Content.{ContentNumbers}
+use Rattle.mot_objects.specs.Mime.{is_mime}
+use Rattle.mot_objects.specs.Name.{is_name}
 
 -- what follows a name of n bytes
 pub rest_is : (xs : List ℕ) (at n : ℕ)

@@ -9,10 +9,6 @@ use Rattle.std.proofs.Math.Seq.{drop-cons, take-length}
 use Rattle.std.proofs.lemmas.Bool.{cases_Bool}
 use Rattle.std.proofs.lemmas.List.{take_more, drop-drop, length-take-le}
 use Rattle.std.proofs.lemmas.List.Sums.{take_while-cons}
-use Rattle.mot_base.specs.declared.refusal.Refusal.{Refusal}
-use Rattle.mot_base.specs.declared.refusal.Refusal.TheVariants.{Damaged}
-use Rattle.mot_base.specs.Reading.{◌>>=◌}
-use Rattle.mot_base.specs.declared.geometry.Geometry.{Geometry}
 use Rattle.mot_journal.specs.declared.layout.Layout.{Layout}
 use Rattle.mot_journal.specs.declared.record.Record.{Record}
 use Rattle.mot_journal.specs.Slot.{read_slot, is_sound, is_open, layout_of, slot_size, slot_count}
@@ -23,6 +19,10 @@ use Rattle.mot_journal.specs.Image.{DiskRecords, records_in, slots_in, journal_i
 use Rattle.mot_journal.specs.Inner.Loading.{HalfHas}
 use Rattle.mot_journal.proofs.Records.{AreOpen, open_front, open_then_shut, are_open_more}
 use Rattle.mot_journal.proofs.Records.{records_more, records_fault}
+use Rattle.mot_numbers.specs.declared.refusal.Refusal.{Refusal}
+use Rattle.mot_numbers.specs.declared.refusal.Refusal.TheVariants.{Damaged}
+use Rattle.mot_numbers.specs.Reading.{◌>>=◌}
+use Rattle.mot_numbers.specs.declared.geometry.Geometry.{Geometry}
 
 -- one slot more behind i slots of a size
 pub times-suc : (i size : ℕ) → size + i * size ≡ suc i * size

@@ -3,7 +3,6 @@ use Rattle.std.proofs.Common.{◌≡◌, ◌⊎◌, inl, inr, ⊎_elim, ℕ, ◌
 use Rattle.std.proofs.Common.{get_or, sym, ◌∙◌, ap, arith}
 use Rattle.disk_model.specs.Disk.{State, AgreeOutside, IsHonestDisk, Torn, Throughout}
 use Rattle.disk_model.proofs.Laws.{weakens, joins, at_end}
-use Rattle.mot_base.specs.Geometry.{half_start, half_size}
 use Rattle.mot_journal.specs.declared.layout.Layout.{Layout}
 use Rattle.mot_journal.specs.declared.record.Record.{Record}
 use Rattle.mot_journal.specs.Slot.{slot_count}
@@ -15,6 +14,7 @@ use Rattle.mot_journal.proofs.Halves.{other_torn, either_half, new_half}
 use Rattle.mot_journal.proofs.Halves.{area_beside_selector, selected_is}
 use Rattle.mot_journal.proofs.Publishing.{first_of_one}
 use Rattle.mot_journal.proofs.Parts.{HasParts, has_parts, parts_have}
+use Rattle.mot_numbers.specs.Geometry.{half_start, half_size}
 
 -- what a rewrite found of the journal and of the other half that it filled
 pub record Found (j : JournalView) (layout : Layout) (records given : List Record)

@@ -8,9 +8,6 @@ use Rattle.std.proofs.lemmas.List.{length-append, length-replicate}
 use Rattle.std.specs.Option.{option_map_or}
 use Rattle.std.proofs.Math.Seq.{take-append_seam, drop-append_seam}
 use Rattle.std.proofs.lemmas.Bool.Decides.{nat_tests}
-use Rattle.mot_base.specs.Fields.{number_in}
-use Rattle.mot_carousel.specs.Content.{ContentNumbers}
-use Rattle.mot_base.specs.declared.geometry.Geometry.{Geometry}
 use Rattle.mot_journal.specs.declared.layout.Layout.{Layout}
 use Rattle.mot_journal.specs.declared.layout.Layout.TheVariants.{One, Two}
 use Rattle.mot_journal.specs.declared.record.Record.{Record}
@@ -19,8 +16,11 @@ use Rattle.mot_journal.specs.declared.record.Action.TheVariants.{Nothing, Set, R
 use Rattle.mot_journal.specs.Slot.{action_bytes, action_kind, read_slot, bytes_of_slot, is_sound}
 use Rattle.mot_journal.specs.Slot.{is_sound_action, longest_name, short_text_in, mime_bytes}
 use Rattle.mot_journal.specs.Slot.{is_open, slot_size, kind_base}
-use Rattle.mot_carousel.specs.Mime.{is_mime}
 use Rattle.mot_journal.specs.Inner.Fitting.{FitsAction, FitsSlot}
+use Rattle.mot_numbers.specs.Fields.{number_in}
+use Rattle.mot_numbers.specs.declared.geometry.Geometry.{Geometry}
+use Rattle.mot_objects.specs.Content.{ContentNumbers}
+use Rattle.mot_objects.specs.Mime.{is_mime}
 
 -- columns of one to four bytes
 number_1 : (n : ℕ) → n < 256 → number_in (n ∷ []) ≡ n

@@ -1,8 +1,8 @@
 -- Bodies beside a range of the data area.
 use Rattle.std.specs.Prelude.{ℕ, ◌+◌, ◌≤◌, ◌⊎◌, List, [], ◌∷◌}
-use Rattle.mot_base.specs.declared.geometry.Geometry.{Geometry}
 use Rattle.mot_journal.specs.Catalogue.{Placed, Catalogue, carousel_in, extents_of}
 use Rattle.mot_journal.specs.Image.{Standing, area_of}
+use Rattle.mot_numbers.specs.declared.geometry.Geometry.{Geometry}
 
 -- the body lies in the data area, and before the range or after it
 pub record IsBeside (g : Geometry) (from n : ℕ) (p : Placed) : Type 0 where

@@ -2,11 +2,11 @@
 use Rattle.std.specs.Prelude.{ℕ, Bool, ◌&&◌, ◌==◌, nat_le, if◌then◌else◌, List, []}
 use Rattle.std.specs.Prelude.{◌∷◌, length, take, drop, slice_index, Option, Some}
 use Rattle.std.specs.Prelude.{None, bytes_eq, codes}
-use Rattle.mot_base.specs.Fields.{number_in}
-use Rattle.mot_base.specs.Reading.{◌>>=◌}
-use Rattle.mot_base.specs.Geometry.{length_of}
-use Rattle.mot_base.specs.declared.geometry.Geometry.{Geometry}
-use Rattle.mot_base.specs.Geometry.{is_valid}
+use Rattle.mot_numbers.specs.Fields.{number_in}
+use Rattle.mot_numbers.specs.Reading.{◌>>=◌}
+use Rattle.mot_numbers.specs.Geometry.{length_of}
+use Rattle.mot_numbers.specs.declared.geometry.Geometry.{Geometry}
+use Rattle.mot_numbers.specs.Geometry.{is_valid}
 
 -- the bytes cut into columns of these widths, each read as a number; what follows the last is left
 abbrev pub columns : List ℕ → List ℕ → List ℕ

@@ -4,18 +4,18 @@ use Rattle.std.specs.Prelude.{take, drop, slice_range, replicate, take_while, Op
 use Rattle.std.specs.Prelude.{Result, Ok, Err, IsTrue, IsOk}
 use Rattle.std.specs.List.{list_all}
 use Rattle.std.specs.Int.{div_ceil}
-use Rattle.mot_base.specs.declared.refusal.Refusal.{Refusal}
-use Rattle.mot_base.specs.declared.refusal.Refusal.TheVariants.{NotFormatted}
-use Rattle.mot_carousel.specs.Carousel.{Carousel}
-use Rattle.mot_base.specs.declared.geometry.Geometry.{Geometry}
 use Rattle.mot_journal.specs.declared.layout.Layout.{Layout}
 use Rattle.mot_journal.specs.declared.layout.Layout.TheVariants.{Two}
 use Rattle.mot_journal.specs.declared.record.Record.{Record}
-use Rattle.mot_base.specs.Geometry.{half_start, half_size, area_start}
 use Rattle.mot_journal.specs.Geometry.{geometry_of, selected_half}
 use Rattle.mot_journal.specs.Slot.{slot_size, slot_count, is_open, layout_of, read_slot}
 use Rattle.mot_journal.specs.Catalogue.{catalogue_of, carousel_in, extents_of, or_damaged}
 use Rattle.mot_journal.specs.Catalogue.{result_then}
+use Rattle.mot_numbers.specs.declared.refusal.Refusal.{Refusal}
+use Rattle.mot_numbers.specs.declared.refusal.Refusal.TheVariants.{NotFormatted}
+use Rattle.mot_numbers.specs.declared.geometry.Geometry.{Geometry}
+use Rattle.mot_numbers.specs.Geometry.{half_start, half_size, area_start}
+use Rattle.mot_objects.specs.Carousel.{Carousel}
 
 -- the records of a disk, and where they stand
 pub record DiskRecords : Type 0 where

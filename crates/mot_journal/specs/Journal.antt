@@ -3,11 +3,6 @@ use Rattle.std.specs.Prelude.{◌≡◌, ◌⊎◌, ℕ, ◌-◌, Bool, false, L
 use Rattle.std.specs.Prelude.{Some, Result, Ok, Err, OnOk, IsOk, IsFalse}
 use Rattle.disk_model.specs.Disk.{State, Throughout}
 use Rattle.disk_model.specs.Failures.{Rises}
-use Rattle.mot_base.specs.declared.refusal.Refusal.{Refusal}
-use Rattle.mot_base.specs.declared.refusal.Refusal.TheVariants.{OutOfMemory, DeviceFault}
-use Rattle.mot_base.specs.declared.refusal.Refusal.TheVariants.{NotFormatted, Damaged}
-use Rattle.mot_carousel.specs.Carousel.{new_carousel}
-use Rattle.mot_base.specs.declared.geometry.Geometry.{Geometry}
 use Rattle.mot_journal.specs.declared.layout.Layout.{Layout}
 use Rattle.mot_journal.specs.declared.record.Record.{Record}
 use Rattle.mot_journal.specs.Geometry.{has_magic, geometry_of, selected_half}
@@ -15,6 +10,11 @@ use Rattle.mot_journal.specs.Slot.{layout_of}
 use Rattle.mot_journal.specs.Catalogue.{catalogue_of}
 use Rattle.mot_journal.specs.Image.{DiskRecords, Standing, records_of, stands_for, half_of, area_of}
 use Rattle.mot_journal.specs.Image.{IsClean, IsInLayoutTwo, IsSecondHalfEmpty}
+use Rattle.mot_numbers.specs.declared.refusal.Refusal.{Refusal}
+use Rattle.mot_numbers.specs.declared.refusal.Refusal.TheVariants.{OutOfMemory, DeviceFault}
+use Rattle.mot_numbers.specs.declared.refusal.Refusal.TheVariants.{NotFormatted, Damaged}
+use Rattle.mot_numbers.specs.declared.geometry.Geometry.{Geometry}
+use Rattle.mot_objects.specs.Carousel.{new_carousel}
 
 pub record JournalView : Type 0 where
   pub geometry : Geometry

@@ -4,23 +4,23 @@ use Rattle.std.specs.Prelude.{nat_le, if◌then◌else◌, List, [], ◌∷◌, 
 use Rattle.std.specs.Prelude.{replicate, slice_index, Option, Some, None}
 use Rattle.std.specs.Int.{w16, w32, to_be_bytes, bytes_high_first}
 use Rattle.std.specs.Option.{option_map_or}
-use Rattle.mot_base.specs.Reading.{◌>>=◌}
-use Rattle.mot_carousel.specs.Content.{ContentNumbers}
-use Rattle.mot_carousel.specs.declared.body.TheConstants.{MAX_BODY}
-use Rattle.mot_carousel.specs.declared.content.TheConstants.{MAX_SUBTYPE, MAX_TYPE}
-use Rattle.mot_carousel.specs.declared.name.TheConstants.{MAX_NAME}
-use Rattle.mot_base.specs.declared.geometry.Geometry.{Geometry}
 use Rattle.mot_journal.specs.declared.layout.Layout.{Layout}
 use Rattle.mot_journal.specs.declared.layout.Layout.TheVariants.{One, Two}
 use Rattle.mot_journal.specs.declared.record.Record.{Record}
 use Rattle.mot_journal.specs.declared.record.Action.{Action}
 use Rattle.mot_journal.specs.declared.record.Action.TheVariants.{Nothing, Set, Remove}
 use Rattle.mot_journal.specs.Geometry.{columns}
-use Rattle.mot_base.specs.Geometry.{is_within}
+use Rattle.mot_numbers.specs.Reading.{◌>>=◌}
+use Rattle.mot_numbers.specs.declared.geometry.Geometry.{Geometry}
+use Rattle.mot_numbers.specs.Geometry.{is_within}
+use Rattle.mot_objects.specs.Content.{ContentNumbers}
+use Rattle.mot_objects.specs.declared.body.TheConstants.{MAX_BODY}
+use Rattle.mot_objects.specs.declared.content.TheConstants.{MAX_SUBTYPE, MAX_TYPE}
+use Rattle.mot_objects.specs.declared.name.TheConstants.{MAX_NAME}
 use Rattle.std.specs.Prelude.{◌≡◌}
 use Rattle.std.specs.Prelude.{All}
-use Rattle.mot_carousel.specs.Name.{is_name}
-use Rattle.mot_carousel.specs.Mime.{is_mime}
+use Rattle.mot_objects.specs.Name.{is_name}
+use Rattle.mot_objects.specs.Mime.{is_mime}
 
 abbrev pub slot_size : Layout → ℕ
 slot_size One = 256

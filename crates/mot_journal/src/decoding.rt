@@ -1,15 +1,15 @@
 //! The record of a slot, as it is read.
 ghost use Rattle.std.specs.Prelude.{◌≡◌, ◌+◌, ◌-◌, ◌^◌, ◌<◌, ◌≤◌, length, drop, Some, IfOk};
-ghost use Rattle.mot_carousel.specs.declared.mime.TheConstants.{MAX_MIME};
 ghost use Rattle.mot_journal.specs.Slot.{slot_size, read_slot, longest_name};
 ghost use Rattle.mot_journal.specs.Inner.Reading.{number_at, sound_action_of, if_sound};
 ghost use Rattle.mot_journal.specs.Inner.Reading.{set_in_slot};
 ghost use Rattle.mot_journal.specs.Inner.Reading.{name_from, mime_from};
+ghost use Rattle.mot_objects.specs.declared.mime.TheConstants.{MAX_MIME};
 
 use crate::{Action, Geometry, Layout, Record};
 use byteorder::{BigEndian, ByteOrder};
-use mot_base::TransportId;
-use mot_carousel::{BodyLength, Content, MAX_MIME, Mime, Name, Period};
+use mot_numbers::TransportId;
+use mot_objects::{BodyLength, Content, MAX_MIME, Mime, Name, Period};
 use std::alloc::{AllocError, Global};
 
 /// The record of an open slot; none where a field has a fault.

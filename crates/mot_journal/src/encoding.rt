@@ -4,19 +4,19 @@ ghost use Rattle.std.specs.Prelude.{slice_get};
 ghost use Rattle.std.specs.Int.{bytes_high_first};
 ghost use Rattle.std.specs.Prelude.{Some};
 ghost use Rattle.arrayvec.specs.ArrayVec.{array_vec_len};
-ghost use Rattle.mot_base.specs.declared.geometry.Geometry.{Geometry as Sizes};
 ghost use Rattle.mot_journal.specs.Slot.{slot_size, bytes_of_slot, read_slot, is_sound};
 ghost use Rattle.mot_journal.specs.Slot.{action_kind};
 ghost use Rattle.mot_journal.specs.Slot.{action_bytes, mime_bytes};
 ghost use Rattle.mot_journal.specs.Inner.Fitting.{FitsAction};
 ghost use Rattle.mot_journal.specs.Inner.Steps.{slot_from, IsReadable};
 ghost use Rattle.mot_journal.specs.Slot.{AreSound};
+ghost use Rattle.mot_numbers.specs.declared.geometry.Geometry.{Geometry as Sizes};
 
 use crate::{Action, Layout, Record};
 use arrayvec::ArrayVec;
 use byteorder::{BigEndian, ByteOrder};
 use mot_base::{array_append, array_append_number};
-use mot_carousel::Mime;
+use mot_objects::Mime;
 
 /// The value of an open gate; any other is closed.
 pub const OPEN: u8 = 0xA5;

@@ -6,10 +6,6 @@ ghost use Rattle.arrayvec.specs.ArrayVec.{array_vec_len};
 ghost use Rattle.disk_model.specs.Disk.{Keeps, KeepsLength, IsUnchanged, IsStill, OnlySyncs};
 ghost use Rattle.disk_model.specs.Failures.{HasCause, Rises};
 ghost use Rattle.disk_model.specs.Disk.{Throughout, Costs, IsFirm};
-ghost use Rattle.mot_base.specs.Geometry.{IsValid, area_start, length_of};
-ghost use Rattle.mot_base.specs.declared.refusal.Refusal.TheVariants.{DeviceFault, BadGeometry};
-ghost use Rattle.mot_base.specs.declared.refusal.Refusal.TheVariants.{DiskTooSmall};
-ghost use Rattle.mot_base.specs.declared.refusal.Refusal.TheVariants.{AlreadyFormatted};
 ghost use Rattle.mot_journal.specs.declared.layout.Layout.TheVariants.{Two};
 ghost use Rattle.mot_journal.specs.Geometry.{has_magic};
 ghost use Rattle.mot_journal.specs.Slot.{slot_count};
@@ -18,13 +14,18 @@ ghost use Rattle.mot_journal.specs.Journal.{NoneOrFrom, NoneOrNew, new_standing}
 ghost use Rattle.mot_journal.specs.Journal.{standing_from};
 ghost use Rattle.mot_journal.specs.Inner.Steps.{ChangesWithin, HasCauseOf};
 ghost use Rattle.mot_journal.specs.Inner.Format.{HasAllButMagic, IsNewDisk, behind_magic};
+ghost use Rattle.mot_numbers.specs.Geometry.{IsValid, area_start, length_of};
+ghost use Rattle.mot_numbers.specs.declared.refusal.Refusal.TheVariants.{DeviceFault, BadGeometry};
+ghost use Rattle.mot_numbers.specs.declared.refusal.Refusal.TheVariants.{DiskTooSmall};
+ghost use Rattle.mot_numbers.specs.declared.refusal.Refusal.TheVariants.{AlreadyFormatted};
 
 use crate::writing::{fill_half, publish};
 use crate::{Action, Geometry, Layout, Record};
 use arrayvec::ArrayVec;
 use disk_model::{Disk, DiskFault};
-use mot_base::{Refusal, TransportId, array_append, array_append_number};
-use mot_carousel::Period;
+use mot_base::{array_append, array_append_number};
+use mot_numbers::{Refusal, TransportId};
+use mot_objects::Period;
 
 /// What a formatted disk begins with.
 pub const MAGIC: [u8; 8] = *b"MOTCAR01";

@@ -5,9 +5,7 @@ ghost use Rattle.std.specs.Prelude.{◌↔◌, IfOk, IfErr, IsErr, IsTrue, IsFal
 ghost use Rattle.disk_model.specs.Disk.{Keeps, Costs, OnlyReads};
 ghost use Rattle.disk_model.specs.Failures.{HasCause, Rises};
 ghost use Rattle.disk_model.specs.Disk.{Throughout};
-ghost use Rattle.mot_base.specs.Geometry.{length_of};
 ghost use Rattle.mot_journal.specs.Geometry.{geometry_of};
-ghost use Rattle.mot_base.specs.Geometry.{is_valid};
 ghost use Rattle.mot_journal.specs.Slot.{is_sound, slot_count, slot_size};
 ghost use Rattle.mot_journal.specs.Image.{records_of, has_clean_gates, gate_reads};
 ghost use Rattle.mot_journal.specs.Journal.{JournalView, with_records, IsLoadRefusal};
@@ -15,9 +13,11 @@ ghost use Rattle.mot_journal.specs.Inner.Places.{start_of_slot};
 ghost use Rattle.mot_journal.specs.Journal.{HoldsRecords, FoldOf, WithoutOrWith, OnlyReadArea};
 ghost use Rattle.mot_journal.specs.Journal.{StandsWhere, RewritesTo};
 ghost use Rattle.mot_journal.specs.Slot.{AreSound};
-ghost use Rattle.mot_base.specs.declared.refusal.Refusal.TheVariants.{DeviceFault};
 ghost use Rattle.mot_journal.specs.declared.layout.Layout.TheVariants.{One, Two};
 ghost use Rattle.mot_journal.specs.declared.record.Record.{Record};
+ghost use Rattle.mot_numbers.specs.Geometry.{length_of};
+ghost use Rattle.mot_numbers.specs.Geometry.{is_valid};
+ghost use Rattle.mot_numbers.specs.declared.refusal.Refusal.TheVariants.{DeviceFault};
 
 use crate::encoding::slot_bytes;
 use crate::gates::are_gates_clean;
@@ -26,7 +26,7 @@ use crate::places::{HEAD_SIZE, half_size, half_start};
 use crate::writing::{fill_half, place_of_slot, publish, write_slot};
 use crate::{Geometry, Layout, Record};
 use disk_model::{Disk, DiskFault};
-use mot_base::Refusal;
+use mot_numbers::Refusal;
 use std::alloc::Global;
 use std::marker::Model;
 

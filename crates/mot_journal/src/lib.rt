@@ -18,6 +18,6 @@ pub use encoding::slot_bytes;
 pub use formatting::{format, format_from};
 pub use journal::{Journal, Loaded, load};
 pub use layout::Layout;
-pub use mot_base::Geometry;
+pub use mot_numbers::Geometry;
 pub use places::area_start;
 pub use record::{Action, Record};

@@ -1,18 +1,18 @@
 //! The records of a half, as they are read.
 ghost use Rattle.std.specs.Prelude.{◌≡◌, ◌<◌, ◌≤◌, ◌+◌, ◌*◌, ◌++◌, ℕ, List, length, take, drop};
 ghost use Rattle.std.specs.Prelude.{true, IfOk, IfErr, All};
-ghost use Rattle.mot_base.specs.Geometry.{half_size};
-ghost use Rattle.mot_base.specs.declared.geometry.TheConstants.{MAX_OBJECTS};
-ghost use Rattle.mot_base.specs.Geometry.{is_valid as valid};
 ghost use Rattle.mot_journal.specs.Geometry.{geometry_of};
 ghost use Rattle.mot_journal.specs.Slot.{is_sound, slot_size, slot_count, layout_of};
 ghost use Rattle.mot_journal.specs.Inner.Loading.{HalfHas, IsHalfRefusal};
+ghost use Rattle.mot_numbers.specs.Geometry.{half_size};
+ghost use Rattle.mot_numbers.specs.declared.geometry.TheConstants.{MAX_OBJECTS};
+ghost use Rattle.mot_numbers.specs.Geometry.{is_valid as valid};
 
 use crate::decoding::{number, read_record};
 use crate::encoding::OPEN;
 use crate::formatting::MAGIC;
 use crate::{Geometry, Layout, Record};
-use mot_base::Refusal;
+use mot_numbers::Refusal;
 use std::alloc::Global;
 
 /// The geometry that the first 64 bytes of a disk of this length tell.

@@ -1,6 +1,6 @@
 //! Where the parts of a disk lie: its head, two halves, and the data area.
 ghost use Rattle.std.specs.Prelude.{◌≡◌, ◌^◌, ◌<◌, ◌≤◌};
-ghost use Rattle.mot_base.specs.Geometry as Sizes;
+ghost use Rattle.mot_numbers.specs.Geometry as Sizes;
 
 use crate::Geometry;
 

@@ -19,29 +19,29 @@ use Rattle.std.specs.List.{AllByRecursion, flat_map, list_all}
 use Rattle.std.specs.Prelude.{◌&&◌, ◌==◌, ⊤, All, MatchOption, bytes_eq, codes, nat_eq, nat_lt, not}
 use Rattle.hex.proofs.HexLemmas.{decode_of-encode_lower, decode_of-ok, length-encode_with}
 use Rattle.hex.specs.Hex.{IsBytes, decode_of, encode_lower, is_hex_digit, lower_digits}
-use Rattle.mot_base.specs.declared.refusal.Refusal.{Refusal}
-use Rattle.mot_carousel.specs.Carousel.{Object}
-use Rattle.mot_carousel.specs.Content.{ContentNumbers}
-use Rattle.mot_carousel.specs.Mime.{IsMime}
-use Rattle.mot_carousel.specs.Name.{IsName}
-use Rattle.mot_carousel.specs.Rebuilding.{put_again, set_period_again}
-use Rattle.mot_carousel.specs.Rules.{KeepsRules}
-use Rattle.mot_carousel.specs.declared.command.Command as command
-use Rattle.mot_carousel.specs.declared.command.Command.TheVariants.{Period}
+use Rattle.mot_groups.specs.Entity.{all_but_last}
 use Rattle.mot_lines.specs.declared.line.Line.{Line}
 use Rattle.mot_lines.specs.declared.line.Line.TheVariants.{Command}
 use Rattle.mot_lines.specs.Export.{ExportsAskForTheirCommands, front_words, period_line, put_line}
 use Rattle.mot_lines.specs.Fields.{body_in, content_in, mime_in, name_in}
 use Rattle.mot_lines.specs.Line.{description_of, line_of, period_of, put_of, request_of}
-use Rattle.mot_groups.specs.Entity.{all_but_last}
 use Rattle.mot_lines.specs.Lines.{HasNoLineEnd, last_of, lines_of, pieces_between, rest_of}
 use Rattle.mot_lines.specs.Lines.{unless_empty, whole_lines}
 use Rattle.mot_lines.specs.Listing.{mime_word}
 use Rattle.mot_lines.specs.Words.{decimal_value, number_of_word, words_of}
-use Rattle.mot_carousel.proofs.Laws.{mime_true, name_true}
 use Rattle.mot_lines.proofs.Input.{some_piece}
 use Rattle.mot_lines.proofs.Numbers.{number_of_digits}
 use Rattle.mot_lines.proofs.Requests.{line_of-short, request_of-period, request_of-put}
+use Rattle.mot_numbers.specs.declared.refusal.Refusal.{Refusal}
+use Rattle.mot_objects.specs.Carousel.{Object}
+use Rattle.mot_objects.specs.Content.{ContentNumbers}
+use Rattle.mot_objects.specs.Mime.{IsMime}
+use Rattle.mot_objects.specs.Name.{IsName}
+use Rattle.mot_objects.specs.Rebuilding.{put_again, set_period_again}
+use Rattle.mot_objects.specs.Rules.{KeepsRules}
+use Rattle.mot_objects.specs.declared.command.Command as command
+use Rattle.mot_objects.specs.declared.command.Command.TheVariants.{Period}
+use Rattle.mot_objects.proofs.Laws.{mime_true, name_true}
 
 -- ---- words: all bytes are above the space
 

@@ -1,9 +1,6 @@
 -- What crates above may cite: the lines of an input that grows, what is kept of a line in hand,
 -- why a line is refused, what a list shows, and what the lines ask for that rebuild a carousel.
 use Rattle.std.proofs.Common.{◌≡◌, ℕ, List, [], ◌∷◌, ◌++◌, Err}
-use Rattle.mot_base.specs.declared.refusal.Refusal.TheVariants.{DeviceFault}
-use Rattle.mot_carousel.specs.declared.carousel.Carousel.{Carousel}
-use Rattle.mot_carousel.specs.Stands.{carousel_of, AreBodiesOf}
 use Rattle.mot_lines.specs.Hand.{bytes_in_hand}
 use Rattle.mot_lines.specs.Lines.{HasNoLineEnd}
 use Rattle.mot_lines.specs.Listing.{listing_text_beside}
@@ -16,6 +13,9 @@ use Rattle.mot_lines.proofs.Faults as faults
 use Rattle.mot_lines.proofs.Input as input
 use Rattle.mot_lines.proofs.Listed as listed
 use Rattle.mot_lines.proofs.Requests as requests
+use Rattle.mot_numbers.specs.declared.refusal.Refusal.TheVariants.{DeviceFault}
+use Rattle.mot_objects.specs.declared.carousel.Carousel.{Carousel}
+use Rattle.mot_objects.specs.Stands.{carousel_of, AreBodiesOf}
 
 -- an input of no bytes has no lines, and no line has begun
 pub whole_lines-none : whole_lines [] ≡ []

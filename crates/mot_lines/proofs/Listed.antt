@@ -2,11 +2,11 @@
 use Rattle.std.proofs.Common.{◌≡◌, ℕ, List, [], ◌∷◌, ◌++◌, length, map}
 use Rattle.std.proofs.Common.{refl, ap, ◌∙◌}
 use Rattle.std.specs.List.{flat_map}
-use Rattle.mot_carousel.specs.declared.carousel.Carousel.{Carousel}
-use Rattle.mot_carousel.specs.declared.object.Object.{Object}
-use Rattle.mot_carousel.specs.Stands.{objects_of, carousel_of, AreBodiesOf}
 use Rattle.mot_lines.specs.Listing.{numbers_line, object_words, object_line, listing_text}
 use Rattle.mot_lines.specs.Listing.{object_line_beside, listing_text_beside}
+use Rattle.mot_objects.specs.declared.carousel.Carousel.{Carousel}
+use Rattle.mot_objects.specs.declared.object.Object.{Object}
+use Rattle.mot_objects.specs.Stands.{objects_of, carousel_of, AreBodiesOf}
 
 -- of bodies of the lengths that the objects give
 beside-counted : (objects : List Object) (bodies : List (List ℕ))

@@ -7,14 +7,14 @@ use Rattle.std.proofs.lemmas.List.{length-take, take_all}
 use Rattle.mot_lines.specs.declared.line.TheConstants.{MAX_LINE}
 use Rattle.mot_lines.specs.Hand.{bytes_in_hand}
 use Rattle.hex.specs.Hex.{decode_of}
-use Rattle.mot_base.specs.declared.group_kind.GroupKind.{GroupKind}
-use Rattle.mot_base.specs.declared.refusal.Refusal.{Refusal}
-use Rattle.mot_base.specs.declared.refusal.Refusal.TheVariants.{BadLine}
 use Rattle.mot_lines.specs.declared.line.Line.TheVariants.{Raw}
 use Rattle.mot_lines.specs.Fields.{kind_in, tid_in, segment_in}
 use Rattle.mot_lines.specs.Words.{number_of_word, words_of}
 use Rattle.mot_lines.specs.Line.{raw_of, put_of, replace_of, withdraw_of, period_of, list_of}
 use Rattle.mot_lines.specs.Line.{next_of, turn_of, request_of, line_of}
+use Rattle.mot_numbers.specs.declared.group_kind.GroupKind.{GroupKind}
+use Rattle.mot_numbers.specs.declared.refusal.Refusal.{Refusal}
+use Rattle.mot_numbers.specs.declared.refusal.Refusal.TheVariants.{BadLine}
 
 module _ (words : List (List ℕ)) (kind tid hex : List ℕ)
     (three : words ≡ kind ∷ tid ∷ hex ∷ []) where

@@ -3,9 +3,6 @@ use Rattle.std.proofs.Common.{◌≡◌, [], ◌∷◌, None, Ok, Err, refl}
 use Rattle.std.specs.Prelude.{codes}
 use Rattle.std.specs.Fmt.{digits}
 use Rattle.hex.proofs.OnLiterals.{hex_on_literals}
-use Rattle.mot_base.specs.declared.group_kind.GroupKind.TheVariants.{Body}
-use Rattle.mot_base.specs.declared.refusal.Refusal.TheVariants.{BadLine, BadType, BadNumber}
-use Rattle.mot_base.specs.declared.refusal.Refusal.TheVariants.{BadBody, EmptyBody}
 use Rattle.mot_lines.specs.declared.line.Line.TheVariants.{Raw}
 use Rattle.mot_lines.specs.declared.line.Line.TheVariants as asks
 use Rattle.mot_lines.specs.declared.line.TheConstants.{MAX_LINE, MAX_PACKETS}
@@ -15,6 +12,9 @@ use Rattle.mot_lines.specs.Line.{raw_of, request_of, line_of}
 use Rattle.mot_lines.specs.Lines.{whole_lines, rest_of, lines_of}
 use Rattle.mot_lines.specs.Text.{refusal_line}
 use Rattle.mot_lines.specs.Words.{number_of_word}
+use Rattle.mot_numbers.specs.declared.group_kind.GroupKind.TheVariants.{Body}
+use Rattle.mot_numbers.specs.declared.refusal.Refusal.TheVariants.{BadLine, BadType, BadNumber}
+use Rattle.mot_numbers.specs.declared.refusal.Refusal.TheVariants.{BadBody, EmptyBody}
 
 hello_line : line_of (codes "raw 4 2 68656c6c6f") ≡ Ok (Raw Body 2 (codes "hello"))
 unfolding line_of request_of raw_of number_of_word hex_on_literals

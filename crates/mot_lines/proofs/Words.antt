@@ -4,10 +4,10 @@ use Rattle.std.proofs.Common.{Option, None, Some, refl, sym, ap, ◌∙◌, subs
 use Rattle.std.specs.Prelude.{nat_eq, is_some}
 use Rattle.std.specs.Borrow.{Bor}
 use Rattle.std.specs.List.{onto_first}
-use Rattle.mot_base.specs.declared.refusal.Refusal.TheVariants.{BadLine}
 use Rattle.mot_lines.specs.Inner.Words.{words_after}
 use Rattle.mot_lines.specs.Words.{words_of}
 use Rattle.mot_lines.specs.Line.{raw_of, list_of, turn_of, description_of}
+use Rattle.mot_numbers.specs.declared.refusal.Refusal.TheVariants.{BadLine}
 
 -- there is a word in every list of bytes
 some_cond : (b : Bool) (x : ℕ) (ps : List (List ℕ))

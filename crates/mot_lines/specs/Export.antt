@@ -4,16 +4,16 @@ use Rattle.std.specs.Prelude.{codes}
 use Rattle.std.specs.Fmt.{decimal}
 use Rattle.std.specs.List.{flat_map}
 use Rattle.hex.specs.Hex.{encode_lower}
-use Rattle.mot_carousel.specs.Carousel.{Carousel, Object}
-use Rattle.mot_carousel.specs.Content.{ContentNumbers}
-use Rattle.mot_carousel.specs.Rebuilding.{rebuilding}
-use Rattle.mot_carousel.specs.Rules.{AllKeepRules}
-use Rattle.mot_carousel.specs.declared.command.Command as command
 use Rattle.mot_lines.specs.Line.{line_of}
 use Rattle.mot_lines.specs.Lines.{lines_of}
 use Rattle.mot_lines.specs.Listing.{mime_word}
 use Rattle.mot_lines.specs.Text.{field}
 use Rattle.mot_lines.specs.declared.line.Line.TheVariants.{Command}
+use Rattle.mot_objects.specs.Carousel.{Carousel, Object}
+use Rattle.mot_objects.specs.Content.{ContentNumbers}
+use Rattle.mot_objects.specs.Rebuilding.{rebuilding}
+use Rattle.mot_objects.specs.Rules.{AllKeepRules}
+use Rattle.mot_objects.specs.declared.command.Command as command
 
 -- the first word of a `put` line, and its name
 abbrev pub name_words : List ℕ → List ℕ

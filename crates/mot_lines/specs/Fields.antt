@@ -2,22 +2,22 @@
 use Rattle.std.specs.Prelude.{ℕ, ◌&&◌, ◌==◌, nat_lt, nat_le, if◌then◌else◌, List, length}
 use Rattle.std.specs.Prelude.{Option, Some, None, Result, Ok, Err, codes, bytes_eq}
 use Rattle.hex.specs.declared.error.FromHexError.{FromHexError}
-use Rattle.mot_base.specs.Reading.{is_empty}
-use Rattle.mot_base.specs.declared.group_kind.GroupKind.{GroupKind}
-use Rattle.mot_base.specs.declared.group_kind.GroupKind.TheVariants.{Body, Directory}
-use Rattle.mot_base.specs.declared.refusal.Refusal.{Refusal}
-use Rattle.mot_base.specs.declared.refusal.Refusal.TheVariants.{BadName, BadType, BadMime}
-use Rattle.mot_base.specs.declared.refusal.Refusal.TheVariants.{BadNumber, BadBody, EmptyBody}
-use Rattle.mot_base.specs.declared.refusal.Refusal.TheVariants.{BodyTooLong}
-use Rattle.mot_carousel.specs.Content.{ContentNumbers}
-use Rattle.mot_carousel.specs.declared.body.TheConstants.{MAX_BODY}
-use Rattle.mot_carousel.specs.declared.content.TheConstants.{MAX_TYPE, MAX_SUBTYPE}
-use Rattle.mot_carousel.specs.declared.period.TheConstants.{MAX_PERIOD}
 use Rattle.mot_groups.specs.SegmentBytes.{segment_of_bytes}
 use Rattle.mot_lines.specs.declared.line.TheConstants.{MAX_PACKETS}
-use Rattle.mot_carousel.specs.Name.{is_name}
-use Rattle.mot_carousel.specs.Mime.{is_mime}
-use Rattle.mot_carousel.specs.declared.name.TheConstants.{MAX_NAME}
+use Rattle.mot_numbers.specs.Reading.{is_empty}
+use Rattle.mot_numbers.specs.declared.group_kind.GroupKind.{GroupKind}
+use Rattle.mot_numbers.specs.declared.group_kind.GroupKind.TheVariants.{Body, Directory}
+use Rattle.mot_numbers.specs.declared.refusal.Refusal.{Refusal}
+use Rattle.mot_numbers.specs.declared.refusal.Refusal.TheVariants.{BadName, BadType, BadMime}
+use Rattle.mot_numbers.specs.declared.refusal.Refusal.TheVariants.{BadNumber, BadBody, EmptyBody}
+use Rattle.mot_numbers.specs.declared.refusal.Refusal.TheVariants.{BodyTooLong}
+use Rattle.mot_objects.specs.Content.{ContentNumbers}
+use Rattle.mot_objects.specs.declared.body.TheConstants.{MAX_BODY}
+use Rattle.mot_objects.specs.declared.content.TheConstants.{MAX_TYPE, MAX_SUBTYPE}
+use Rattle.mot_objects.specs.declared.period.TheConstants.{MAX_PERIOD}
+use Rattle.mot_objects.specs.Name.{is_name}
+use Rattle.mot_objects.specs.Mime.{is_mime}
+use Rattle.mot_objects.specs.declared.name.TheConstants.{MAX_NAME}
 
 -- TYPE of a `raw` line: 4 is a body, 6 a directory
 abbrev pub kind_in : Option ℕ → Result GroupKind Refusal

@@ -2,9 +2,6 @@
 use Rattle.std.specs.Prelude.{⊤, ℕ, ◌≡◌, ◌⊎◌, nat_le, if◌then◌else◌, List, [], ◌∷◌, length, Result}
 use Rattle.std.specs.Prelude.{Ok, Err, codes, bytes_eq}
 use Rattle.hex.specs.Hex.{decode_of}
-use Rattle.mot_base.specs.declared.refusal.Refusal.{Refusal}
-use Rattle.mot_base.specs.declared.refusal.Refusal.TheVariants.{OutOfMemory, BadLine}
-use Rattle.mot_carousel.specs.declared.command.Command.TheVariants.{Put, Replace, Withdraw, Period}
 use Rattle.mot_lines.specs.Fields.{kind_in, tid_in, segment_in, name_in, content_in, mime_in}
 use Rattle.mot_lines.specs.Fields.{body_in, period_in, count_in}
 use Rattle.mot_lines.specs.Words.{words_of, number_of_word}
@@ -13,6 +10,9 @@ use Rattle.mot_lines.specs.declared.line.description.Description.{Description}
 use Rattle.mot_lines.specs.declared.line.Line.{Line}
 use Rattle.mot_lines.specs.declared.line.Line.TheVariants.{Raw, Command}
 use Rattle.mot_lines.specs.declared.line.Line.TheVariants as asks
+use Rattle.mot_numbers.specs.declared.refusal.Refusal.{Refusal}
+use Rattle.mot_numbers.specs.declared.refusal.Refusal.TheVariants.{OutOfMemory, BadLine}
+use Rattle.mot_objects.specs.declared.command.Command.TheVariants.{Put, Replace, Withdraw, Period}
 
 infixl 10 ◌>>=◌
 -- what f makes of the value, or the refusal

@@ -2,11 +2,11 @@
 use Rattle.std.specs.Prelude.{ℕ, List, [], ◌∷◌, ◌++◌, length, Option, Some, None, codes}
 use Rattle.std.specs.List.{flat_map}
 use Rattle.std.specs.Fmt.{decimal}
-use Rattle.mot_carousel.specs.Carousel.{Object, Carousel}
-use Rattle.mot_carousel.specs.Content.{ContentNumbers}
 use Rattle.mot_lines.specs.Text.{field}
-use Rattle.mot_carousel.specs.declared.carousel.Carousel as kept
-use Rattle.mot_carousel.specs.declared.object.Object as one
+use Rattle.mot_objects.specs.Carousel.{Object, Carousel}
+use Rattle.mot_objects.specs.Content.{ContentNumbers}
+use Rattle.mot_objects.specs.declared.carousel.Carousel as kept
+use Rattle.mot_objects.specs.declared.object.Object as one
 
 -- a carousel's numbers, and how many objects it has
 abbrev pub numbers_line : ℕ → ℕ → ℕ → ℕ → List ℕ

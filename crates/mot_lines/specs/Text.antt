@@ -4,9 +4,9 @@ use Rattle.std.specs.Prelude.{Some, None}
 use Rattle.std.specs.Prelude.{codes}
 use Rattle.std.specs.Fmt.{decimal}
 use Rattle.hex.specs.Hex.{encode_lower}
-use Rattle.mot_base.specs.declared.refusal.Refusal.{Refusal}
-use Rattle.mot_base.specs.Refusal.{number_of, name_of}
-use Rattle.mot_carousel.specs.declared.command.Done.{Done}
+use Rattle.mot_numbers.specs.declared.refusal.Refusal.{Refusal}
+use Rattle.mot_numbers.specs.Refusal.{number_of, name_of}
+use Rattle.mot_objects.specs.declared.command.Done.{Done}
 
 -- a number, and the space after it
 abbrev pub field : ℕ → List ℕ

@@ -11,8 +11,9 @@ ghost use Rattle.mot_lines.specs.Text.{refusal_line};
 
 use arrayvec::ArrayVec;
 use itoa::Buffer;
-use mot_base::{Refusal, TransportId, array_append};
-use mot_carousel::{Carousel, Done, Mime, Object, Period};
+use mot_base::array_append;
+use mot_numbers::{Refusal, TransportId};
+use mot_objects::{Carousel, Done, Mime, Object, Period};
 use mot_packets::{MAX_PACKET, Packet};
 
 /// Room for a line of a reply.

@@ -7,10 +7,10 @@ use Rattle.std.proofs.lemmas.List.{append-nil, take-append-drop, take_all}
 use Rattle.std.proofs.lemmas.Option.{none-some, same_Some}
 use Rattle.std.specs.Int.{div_ceil}
 use Rattle.std.specs.Prelude.{◌==◌, if◌then◌else◌}
-use Rattle.mot_base.specs.Reading.{is_empty, read_each}
-use Rattle.mot_base.proofs.Laws.{PiecesRoundedUp, pieces_rounded_up, is_empty-some}
-use Rattle.mot_base.proofs.Laws.{length-read_each}
-use Rattle.mot_base.proofs.Laws.{read_each-append, >>=-some}
+use Rattle.mot_numbers.specs.Reading.{is_empty, read_each}
+use Rattle.mot_numbers.proofs.Laws.{PiecesRoundedUp, pieces_rounded_up, is_empty-some}
+use Rattle.mot_numbers.proofs.Laws.{length-read_each}
+use Rattle.mot_numbers.proofs.Laws.{read_each-append, >>=-some}
 use Rattle.mot_packets.specs.Cut.{piece_at, pieces_from, pieces_of}
 use Rattle.mot_packets.specs.Gather.{may_follow, groups_after, have_address, have_one_address}
 use Rattle.mot_packets.specs.Gather.{gather_front, gather}

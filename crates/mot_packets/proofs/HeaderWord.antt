@@ -2,11 +2,11 @@
 use Rattle.std.proofs.Common.{◌≡◌, ℕ, zero, suc, ◌+◌, ◌*◌, ◌/◌, ◌%◌, ◌<◌, Bool, true, false, []}
 use Rattle.std.proofs.Common.{◌∷◌, refl, arith, inl, inr}
 use Rattle.std.specs.Int.{from_bool}
-use Rattle.mot_base.specs.Fields.{number_in, fields}
-use Rattle.mot_base.specs.PacketLength.{IsLength, room_of, code_of}
-use Rattle.mot_base.specs.declared.packet_length.PacketLength.{PacketLength}
-use Rattle.mot_base.specs.declared.packet_length.PacketLength.TheVariants.{P24, P48, P72, P96}
-use Rattle.mot_base.proofs.Laws.{cons_eq}
+use Rattle.mot_numbers.specs.Fields.{number_in, fields}
+use Rattle.mot_numbers.specs.PacketLength.{IsLength, room_of, code_of}
+use Rattle.mot_numbers.specs.declared.packet_length.PacketLength.{PacketLength}
+use Rattle.mot_numbers.specs.declared.packet_length.PacketLength.TheVariants.{P24, P48, P72, P96}
+use Rattle.mot_numbers.proofs.Laws.{cons_eq}
 use Rattle.mot_packets.specs.Written.{header_word, code_of_room}
 
 pub from_bool_fits : (b : Bool) → from_bool b < 2

@@ -5,10 +5,10 @@ use Rattle.std.proofs.Common.{arith, length-take}
 use Rattle.std.proofs.lemmas.Bool.{leb-true}
 use Rattle.std.specs.Int.{div_ceil}
 use Rattle.std.specs.Prelude.{nat_le, if◌then◌else◌}
-use Rattle.mot_base.specs.PacketLength.{IsLength, room_of, shortest_room}
-use Rattle.mot_base.specs.Reading.{read_each}
-use Rattle.mot_base.specs.declared.packet_length.PacketLength.{PacketLength}
-use Rattle.mot_base.specs.declared.packet_length.PacketLength.TheVariants.{P24, P48, P72, P96}
+use Rattle.mot_numbers.specs.PacketLength.{IsLength, room_of, shortest_room}
+use Rattle.mot_numbers.specs.Reading.{read_each}
+use Rattle.mot_numbers.specs.declared.packet_length.PacketLength.{PacketLength}
+use Rattle.mot_numbers.specs.declared.packet_length.PacketLength.TheVariants.{P24, P48, P72, P96}
 use Rattle.mot_packets.specs.Cut.{piece_at, pieces_from, pieces_of}
 use Rattle.mot_packets.specs.Packet.{read_packet}
 use Rattle.mot_packets.specs.Written.{IsPacket, bytes_of_packet, packets_of_group}

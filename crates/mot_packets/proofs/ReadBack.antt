@@ -9,10 +9,10 @@ use Rattle.std.proofs.lemmas.List.Elements.{All-replicate}
 use Rattle.std.specs.Prelude.{◌==◌}
 use Rattle.std.specs.List.{list_all}
 use Rattle.std.specs.Int.{w16, to_be_bytes, from_bool}
-use Rattle.mot_base.specs.Bytes.{IsByte, AreBytes}
 use Rattle.mot_base.specs.Checksum.{crc_of, without_crc, ends_in_crc}
-use Rattle.mot_base.proofs.Laws.{AreBytes-append, AreBytes-cons, AreBytes-to_be_bytes}
 use Rattle.mot_base.proofs.Laws.{without_crc-append, ends_in_crc-append}
+use Rattle.mot_numbers.specs.Bytes.{IsByte, AreBytes}
+use Rattle.mot_numbers.proofs.Laws.{AreBytes-append, AreBytes-cons, AreBytes-to_be_bytes}
 use Rattle.mot_packets.specs.Packet.{PacketFields, packet_with, read_packet}
 use Rattle.mot_packets.specs.Written.{IsPacket, header_word, code_of_room, covered_bytes}
 use Rattle.mot_packets.specs.Written.{bytes_of_packet}

@@ -2,7 +2,7 @@
 use Rattle.std.specs.Prelude.{ℕ, zero, suc, ◌+◌, ◌%◌, ◌==◌, nat_le, if◌then◌else◌, List, [], ◌∷◌}
 use Rattle.std.specs.Prelude.{length, drop, take}
 use Rattle.std.specs.Int.{div_ceil}
-use Rattle.mot_base.specs.PacketLength.{shortest_room}
+use Rattle.mot_numbers.specs.PacketLength.{shortest_room}
 use Rattle.mot_packets.specs.Packet.{PacketFields}
 
 -- The packet that carries a group's bytes from a place on, as many as fit: the group's last in the

@@ -3,7 +3,7 @@
 use Rattle.std.specs.Prelude.{ℕ, Bool, true, not, ◌&&◌, ◌||◌, ◌==◌, if◌then◌else◌, List, [], ◌∷◌}
 use Rattle.std.specs.Prelude.{◌++◌, length, Option, Some, None}
 use Rattle.std.specs.List.{list_all}
-use Rattle.mot_base.specs.Reading.{◌>>=◌, is_empty, read_each}
+use Rattle.mot_numbers.specs.Reading.{◌>>=◌, is_empty, read_each}
 use Rattle.mot_packets.specs.Packet.{PacketFields, read_packet}
 
 -- A packet is a group's first exactly where no group is begun. None is empty, and each but a

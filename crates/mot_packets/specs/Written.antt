@@ -3,7 +3,7 @@ use Rattle.std.specs.Prelude.{ℕ, ◌+◌, ◌-◌, ◌*◌, ◌/◌, ◌<◌, 
 use Rattle.std.specs.Prelude.{replicate}
 use Rattle.std.specs.Int.{w16, to_be_bytes, from_bool}
 use Rattle.mot_base.specs.Checksum.{crc_of}
-use Rattle.mot_base.specs.PacketLength.{IsLength}
+use Rattle.mot_numbers.specs.PacketLength.{IsLength}
 use Rattle.mot_packets.specs.Cut.{pieces_of}
 use Rattle.mot_packets.specs.Packet.{PacketFields}
 

@@ -1,9 +1,9 @@
 //! The header of a packet.
 ghost use Rattle.std.specs.Prelude.{◌≡◌, ◌<◌, ◌≤◌};
-ghost use Rattle.mot_base.specs.PacketLength.{code_of};
+ghost use Rattle.mot_numbers.specs.PacketLength.{code_of};
 ghost use Rattle.mot_packets.specs.Written.{header_word};
 
-use mot_base::{Address, PacketLength};
+use mot_numbers::{Address, PacketLength};
 
 /// A packet's header but for the useful data length (EN 300 401, clause 5.3.2).
 #[derive(Clone, Copy)]
@@ -17,7 +17,7 @@ pub struct Header {
 }
 
 impl Header {
-    ghost use Rattle.mot_base.specs.declared.numbers.TheConstants.{MAX_ADDRESS};
+    ghost use Rattle.mot_numbers.specs.declared.numbers.TheConstants.{MAX_ADDRESS};
 
     /// Its 16 bits as a number.
     pub fn word(self) -> u16

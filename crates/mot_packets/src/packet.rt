@@ -3,9 +3,9 @@ ghost use Rattle.std.specs.Prelude.{◌≡◌, ℕ, ◌+◌, ◌<◌, ◌≤◌,
 ghost use Rattle.std.specs.Prelude.{Some, true};
 ghost use Rattle.std.specs.Int.{div_ceil};
 ghost use Rattle.arrayvec.specs.ArrayVec.{array_vec_len};
-ghost use Rattle.mot_base.specs.Bytes.{AreBytes};
-ghost use Rattle.mot_base.specs.PacketLength.{bytes_of, room_of};
-ghost use Rattle.mot_base.specs.Reading.{read_each};
+ghost use Rattle.mot_numbers.specs.Bytes.{AreBytes};
+ghost use Rattle.mot_numbers.specs.PacketLength.{bytes_of, room_of};
+ghost use Rattle.mot_numbers.specs.Reading.{read_each};
 ghost use Rattle.mot_packets.specs.Cut.{piece_at, pieces_of};
 ghost use Rattle.mot_packets.specs.Inner.Header.{fields_of};
 ghost use Rattle.mot_packets.specs.Gather.{gather, have_address};
@@ -14,7 +14,8 @@ ghost use Rattle.mot_packets.specs.Written.{IsPacket, bytes_of_packet, packets_o
 
 use crate::header::Header;
 use arrayvec::ArrayVec;
-use mot_base::{Address, MAX_ADDRESS, PacketLength, array_append, array_append_number, crc16};
+use mot_base::{array_append, array_append_number, crc16};
+use mot_numbers::{Address, MAX_ADDRESS, PacketLength};
 
 /// The bytes of the longest packet.
 pub const MAX_PACKET: usize = 96;

@@ -3,13 +3,13 @@ use Rattle.std.proofs.Common.{◌≡◌, length, ℕ, ◌<◌, List, Bool, true,
 use Rattle.std.proofs.Common.{sym, ap, ◌∙◌, subst, eq-eqb}
 use Rattle.std.proofs.lemmas.Bool.{eqb-false, ne_eqb}
 use Rattle.std.specs.Prelude.{◌==◌, if◌then◌else◌, IfSome, ◌++◌}
-use Rattle.mot_base.specs.PacketLength.{room_of}
-use Rattle.mot_base.specs.Reading.{is_empty}
-use Rattle.mot_base.specs.declared.packet_length.PacketLength.{PacketLength}
-use Rattle.mot_base.specs.declared.packet_length.PacketLength.TheVariants.{P24, P48, P72, P96}
+use Rattle.mot_groups.specs.Group.{GroupFields, bytes_of_group}
+use Rattle.mot_numbers.specs.PacketLength.{room_of}
+use Rattle.mot_numbers.specs.Reading.{is_empty}
+use Rattle.mot_numbers.specs.declared.packet_length.PacketLength.{PacketLength}
+use Rattle.mot_numbers.specs.declared.packet_length.PacketLength.TheVariants.{P24, P48, P72, P96}
 use Rattle.mot_packets.specs.Packet.{read_packet}
 use Rattle.mot_packets.specs.Written.{bytes_of_packet}
-use Rattle.mot_groups.specs.Group.{GroupFields, bytes_of_group}
 use Rattle.mot_player.specs.declared.state.State.{State}
 use Rattle.mot_player.specs.declared.groups.LastGroup.{LastGroup}
 use Rattle.mot_player.specs.LastGroup.{kept_last}

@@ -6,14 +6,15 @@ use Rattle.std.proofs.lemmas.Bool.{and_parts, eqb-true, ne_eqb}
 use Rattle.std.proofs.lemmas.Option.{none-some, same_Some}
 use Rattle.std.specs.Prelude.{◌==◌, if◌then◌else◌, slice_index}
 use Rattle.std.specs.List.{list_all, AllByRecursion}
-use Rattle.mot_base.specs.Reading.{◌>>=◌, read_each, is_empty}
-use Rattle.mot_packets.specs.Cut.{piece_at}
-use Rattle.mot_packets.specs.Gather.{groups_after, have_one_address, gather_front}
-use Rattle.mot_packets.specs.Packet.{PacketFields, read_packet}
 use Rattle.mot_groups.proofs.Laws.{content_of-bytes_of_group}
 use Rattle.mot_groups.specs.Entity.{numbered_segments, pieces, segments_of}
 use Rattle.mot_groups.specs.Group.{Segment, GroupFields, content_of, segment_content}
 use Rattle.mot_groups.specs.Group.{bytes_of_group}
+use Rattle.mot_numbers.specs.Reading.{◌>>=◌, read_each, is_empty}
+use Rattle.mot_packets.specs.Cut.{piece_at}
+use Rattle.mot_packets.specs.Gather.{groups_after, have_one_address, gather_front}
+use Rattle.mot_packets.specs.Packet.{PacketFields, read_packet}
+use Rattle.mot_packets.proofs.Laws.{groups_after-last_piece, groups_after-piece, more_left}
 use Rattle.mot_player.specs.Continuity.{kind_of, group_index, contents, changes, index_after}
 use Rattle.mot_player.specs.Continuity.{indexes_after, packet_index, packet_indexes_from}
 use Rattle.mot_player.specs.Laws.{StepsAreContinuous}
@@ -21,7 +22,6 @@ use Rattle.mot_player.specs.Place.{Last, UnderWay, Place, Sent, Step, Request, N
 use Rattle.mot_player.specs.Place.{group_for, with_begun, packet_sent, first_sent, to_send}
 use Rattle.mot_player.specs.Place.{next_sent, request, change_turn, sent_by, opened_place}
 use Rattle.mot_player.specs.Turn.{Turn, segments_of_turn, segments_of_bodies}
-use Rattle.mot_packets.proofs.Laws.{groups_after-last_piece, groups_after-piece, more_left}
 use Rattle.mot_player.proofs.Indexes.{IsLast, IsLast-next, contents-append, kind_of-group}
 use Rattle.mot_player.proofs.Indexes.{group_index-group, some_bytes-group}
 use Rattle.mot_player.proofs.Requests.{>>=-some, FirstRequest, first_request, no_steps, packets_of}

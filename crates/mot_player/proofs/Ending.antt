@@ -6,8 +6,8 @@ use Rattle.std.proofs.lemmas.Option.{none-some, same_Some}
 use Rattle.std.specs.Prelude.{if◌then◌else◌, IfSome, ◌&&◌}
 use Rattle.std.specs.Int.{w16, to_be_bytes}
 use Rattle.mot_base.specs.Checksum.{crc_of}
-use Rattle.mot_base.specs.Reading.{is_empty}
 use Rattle.mot_groups.specs.Group.{GroupFields, Segment, bytes_of_group, segment_content}
+use Rattle.mot_numbers.specs.Reading.{is_empty}
 use Rattle.mot_player.specs.Laws.{TurnsEnd, bytes_due, bytes_due_with, group_bytes_of}
 use Rattle.mot_player.specs.Place.{Place, Sent, UnderWay, first_sent, group_for, next_sent}
 use Rattle.mot_player.specs.Place.{packet_sent, request, to_send, with_begun}

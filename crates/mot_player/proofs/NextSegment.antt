@@ -9,9 +9,9 @@ use Rattle.std.proofs.lemmas.List.{drop-drop, take_all, drop_all}
 use Rattle.std.specs.Prelude.{◌==◌, if◌then◌else◌, flat_map, slice_index}
 use Rattle.std.specs.Int.{div_ceil}
 use Rattle.std.specs.List.{AllByRecursion}
-use Rattle.mot_base.specs.Reading.{is_empty}
 use Rattle.mot_groups.specs.Entity.{first_pieces, numbered_segments}
 use Rattle.mot_groups.specs.Group.{Segment}
+use Rattle.mot_numbers.specs.Reading.{is_empty}
 use Rattle.mot_player.specs.Bodies.{body_at}
 use Rattle.mot_player.specs.Inner.Next.{due_from}
 use Rattle.mot_player.specs.PlayerView.{AreBodiesFor, BodyPlan, Entity, TurnPlan, entities_of}

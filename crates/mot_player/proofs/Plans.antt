@@ -4,8 +4,8 @@ use Rattle.std.proofs.Common.{length, map, drop, arith, All, get_or}
 use Rattle.std.proofs.lemmas.List.Elements.{All-cons, All-nil}
 use Rattle.std.specs.Prelude.{slice_index}
 use Rattle.std.specs.List.{AllByRecursion}
-use Rattle.mot_carousel.specs.declared.object.Object.{Object}
-use Rattle.mot_carousel.specs.Stands.{objects_of}
+use Rattle.mot_objects.specs.declared.object.Object.{Object}
+use Rattle.mot_objects.specs.Stands.{objects_of}
 use Rattle.mot_player.specs.declared.planned_body.PlannedBody.{PlannedBody}
 use Rattle.mot_player.specs.PlayerView.{AreBodiesFor, BodyPlan, TurnPlan, turn_with, with_bodies}
 use Rattle.mot_player.specs.Inner.Entities.{IsPlannable}

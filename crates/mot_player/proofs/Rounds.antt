@@ -11,13 +11,13 @@ use Rattle.std.proofs.lemmas.Option.{none-some, same_Some, some_pair_parts}
 use Rattle.std.specs.Prelude.{◌&&◌, ◌==◌, if◌then◌else◌}
 use Rattle.std.specs.Int.{div_ceil}
 use Rattle.std.specs.List.{AllByRecursion, list_all}
-use Rattle.mot_base.proofs.Laws.{length-read_each, read_each-append}
-use Rattle.mot_base.specs.Reading.{◌>>=◌, is_empty, read_each}
+use Rattle.mot_groups.specs.Group.{GroupFields, Segment, bytes_of_group, segment_content}
+use Rattle.mot_numbers.proofs.Laws.{length-read_each, read_each-append}
+use Rattle.mot_numbers.specs.Reading.{◌>>=◌, is_empty, read_each}
 use Rattle.mot_packets.specs.Cut.{piece_at}
 use Rattle.mot_packets.specs.Gather.{gather_front, groups_after, may_follow}
 use Rattle.mot_packets.specs.Packet.{PacketFields, read_packet}
 use Rattle.mot_packets.proofs.Laws.{groups_after-last_piece, groups_after-piece, more_left}
-use Rattle.mot_groups.specs.Group.{GroupFields, Segment, bytes_of_group, segment_content}
 use Rattle.mot_player.specs.Continuity.{IsContinuous, contents, group_index, indexes_after}
 use Rattle.mot_player.specs.Continuity.{packet_index, packet_indexes_from}
 use Rattle.mot_player.specs.Place.{Place, Sent, Step, Request, first_sent, group_for, next_sent}

@@ -4,15 +4,15 @@ use Rattle.std.proofs.Common.{take, replicate}
 use Rattle.std.specs.Prelude.{Option, Some, None, if◌then◌else◌}
 use Rattle.mot_base.specs.Checksum.{crc_of, bits_of, bits_of_bytes, number_of_bits, added_to_front}
 use Rattle.mot_base.specs.Checksum.{remainder}
-use Rattle.mot_base.specs.Reading.{read_each}
-use Rattle.mot_packets.specs.Gather.{gather, groups_after, gather_front}
-use Rattle.mot_packets.specs.Packet.{PacketFields, read_packet}
-use Rattle.mot_groups.specs.Entity.{entity_of}
-use Rattle.mot_groups.specs.Group.{Segment, bytes_of_group, read_group}
-use Rattle.mot_carousel.specs.Carousel.{Carousel, new_carousel}
 use Rattle.mot_directory.specs.Directory.{read_directory}
 use Rattle.mot_directory.specs.Header.{read_header}
 use Rattle.mot_directory.specs.Parameter.{read_parameters}
+use Rattle.mot_groups.specs.Entity.{entity_of}
+use Rattle.mot_groups.specs.Group.{Segment, bytes_of_group, read_group}
+use Rattle.mot_numbers.specs.Reading.{read_each}
+use Rattle.mot_objects.specs.Carousel.{Carousel, new_carousel}
+use Rattle.mot_packets.specs.Gather.{gather, groups_after, gather_front}
+use Rattle.mot_packets.specs.Packet.{PacketFields, read_packet}
 use Rattle.mot_player.specs.Continuity.{IsContinuous, group_index, indexes_after}
 use Rattle.mot_player.specs.Place.{Place, Sent, Step, Request, NewTurn, opened_place, request}
 use Rattle.mot_player.specs.Place.{change_turn, sent_by}

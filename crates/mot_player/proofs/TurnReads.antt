@@ -8,15 +8,15 @@ use Rattle.std.proofs.lemmas.List.Elements.{filter-append, All-head, All-tail}
 use Rattle.std.specs.Prelude.{Some, ◌==◌, ◌&&◌, ◌||◌, nat_eq, flat_map, All}
 use Rattle.std.specs.List.{list_all, AllByRecursion}
 use Rattle.std.specs.Cmp.{nat_eq_equiv}
-use Rattle.mot_base.specs.Reading.{read_each}
-use Rattle.mot_groups.specs.Entity.{IsCut, all_but_last, entity_of, numbered_segments, own_segments}
-use Rattle.mot_groups.specs.Entity.{pieces, segments_of}
-use Rattle.mot_groups.specs.Group.{Segment}
-use Rattle.mot_carousel.specs.Carousel.{Object, Carousel, IsSound}
-use Rattle.mot_carousel.specs.Ids.{contains, is_distinct}
 use Rattle.mot_directory.specs.Directory.{Entry, read_directory}
 use Rattle.mot_directory.proofs.Laws.{description_in-parameters_with}
 use Rattle.mot_directory.specs.Entries.{entry_of}
+use Rattle.mot_groups.specs.Entity.{IsCut, all_but_last, entity_of, numbered_segments, own_segments}
+use Rattle.mot_groups.specs.Entity.{pieces, segments_of}
+use Rattle.mot_groups.specs.Group.{Segment}
+use Rattle.mot_numbers.specs.Reading.{read_each}
+use Rattle.mot_objects.specs.Carousel.{Object, Carousel, IsSound}
+use Rattle.mot_objects.specs.Ids.{contains, is_distinct}
 use Rattle.mot_player.specs.Reading.{object_in, belongs, directory_in, read_segments}
 use Rattle.mot_player.specs.Turn.{Turn, IsTurnOf, IsPlayable, IsSendable, bodies_with_ids}
 use Rattle.mot_player.specs.Turn.{segments_of_bodies, segments_of_turn}

@@ -10,22 +10,22 @@ use Rattle.std.proofs.lemmas.Option.{none-some, same_Some}
 use Rattle.std.specs.Prelude.{◌==◌, if◌then◌else◌, bytes_eq, IfSome}
 use Rattle.std.specs.Int.{div_ceil}
 use Rattle.std.specs.List.{list_all, AllByRecursion}
-use Rattle.mot_base.specs.Reading.{is_empty, read_each}
-use Rattle.mot_packets.specs.Cut.{piece_at}
-use Rattle.mot_packets.specs.Gather.{groups_after, gather_front, gather}
-use Rattle.mot_packets.specs.Packet.{PacketFields, read_packet}
 use Rattle.mot_groups.specs.Entity.{first_pieces, numbered_segments, pieces, segments_of}
 use Rattle.mot_groups.specs.Group.{Segment, GroupFields, IsGroup, read_group, bytes_of_group}
 use Rattle.mot_groups.specs.Group.{segment_content}
-use Rattle.mot_carousel.specs.Carousel.{Object, Carousel, IsSound}
+use Rattle.mot_groups.proofs.Laws.{IsCut-pieces, entity_of-own, read_group-bytes_of_group}
+use Rattle.mot_numbers.specs.Reading.{is_empty, read_each}
+use Rattle.mot_objects.specs.Carousel.{Object, Carousel, IsSound}
+use Rattle.mot_packets.specs.Cut.{piece_at}
+use Rattle.mot_packets.specs.Gather.{groups_after, gather_front, gather}
+use Rattle.mot_packets.specs.Packet.{PacketFields, read_packet}
+use Rattle.mot_packets.proofs.Laws.{groups_after-last_piece, groups_after-piece, more_left}
 use Rattle.mot_player.specs.Laws.{AreSent, IsAtTurnsBeginning, IsPlace, TurnsReadAsTheirCarousels}
 use Rattle.mot_player.specs.Place.{Last, Place, Sent, Request, next_index, group_for, with_begun}
 use Rattle.mot_player.specs.Place.{packet_sent, first_sent, to_send, next_sent, request, sent_by}
 use Rattle.mot_player.specs.Reading.{ReadsAs, read_turn}
 use Rattle.mot_player.specs.Turn.{Turn, IsTurnOf, IsPlayable, IsSendable, bodies_with_ids}
 use Rattle.mot_player.specs.Turn.{segments_of_turn, segments_of_bodies}
-use Rattle.mot_packets.proofs.Laws.{groups_after-last_piece, groups_after-piece, more_left}
-use Rattle.mot_groups.proofs.Laws.{IsCut-pieces, entity_of-own, read_group-bytes_of_group}
 use Rattle.mot_player.proofs.Indexes.{some_bytes-group}
 use Rattle.mot_player.proofs.Requests.{FirstRequest, first_request, no_steps, packets_of}
 use Rattle.mot_player.proofs.Requests.{place_behind}

@@ -1,9 +1,9 @@
 -- The bodies that a player reads.
 use Rattle.std.specs.Prelude.{◌≡◌, ℕ, List, [], length, map, slice_index_or}
 use Rattle.std.specs.Prelude.{Result, OnOk, OnErr, IfErr}
-use Rattle.mot_base.specs.declared.refusal.Refusal.{Refusal}
-use Rattle.mot_base.specs.declared.refusal.Refusal.TheVariants.{DeviceFault}
 use Rattle.disk_model.specs.Failures.{Rises}
+use Rattle.mot_numbers.specs.declared.refusal.Refusal.{Refusal}
+use Rattle.mot_numbers.specs.declared.refusal.Refusal.TheVariants.{DeviceFault}
 
 -- the body at a place; no bytes past the last
 abbrev pub body_at : List (List ℕ) → ℕ → List ℕ

@@ -1,10 +1,10 @@
 -- The continuity indexes of packets (EN 300 401, clause 5.3.2) and of groups (own rule).
 use Rattle.std.specs.Prelude.{◌≡◌, ℕ, ◌+◌, ◌/◌, ◌%◌, ◌==◌, if◌then◌else◌, List, [], ◌∷◌, ◌++◌, map}
 use Rattle.std.specs.Prelude.{filter, slice_index, Option, Some, bytes_eq}
-use Rattle.mot_base.specs.Reading.{◌>>=◌, read_each}
+use Rattle.mot_groups.specs.Group.{content_of}
+use Rattle.mot_numbers.specs.Reading.{◌>>=◌, read_each}
 use Rattle.mot_packets.specs.Gather.{gather_front}
 use Rattle.mot_packets.specs.Packet.{read_packet}
-use Rattle.mot_groups.specs.Group.{content_of}
 
 -- the index in a packet's header
 abbrev pub packet_index : List ℕ → Option ℕ

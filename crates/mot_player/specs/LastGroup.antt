@@ -1,6 +1,6 @@
 -- What the program keeps of the group of a type that was begun last.
 use Rattle.std.specs.Prelude.{if◌then◌else◌, ◌++◌, Option, Some, None}
-use Rattle.mot_base.specs.Reading.{is_empty}
+use Rattle.mot_numbers.specs.Reading.{is_empty}
 use Rattle.mot_player.specs.declared.groups.LastGroup.{LastGroup}
 use Rattle.mot_player.specs.Place.{Last}
 

@@ -3,12 +3,12 @@ use Rattle.std.specs.Prelude.{◌≡◌, ◌⊎◌, ℕ, ◌+◌, ◌-◌, lengt
 use Rattle.std.specs.Prelude.{List, [], ◌∷◌, ◌++◌, map}
 use Rattle.std.specs.Prelude.{replicate}
 use Rattle.std.specs.Prelude.{Some, None, IfSome}
-use Rattle.mot_base.specs.Reading.{read_each}
-use Rattle.mot_base.specs.declared.numbers.TheConstants.{MAX_SEGMENT}
+use Rattle.mot_groups.specs.Group.{Segment}
+use Rattle.mot_numbers.specs.Reading.{read_each}
+use Rattle.mot_numbers.specs.declared.numbers.TheConstants.{MAX_SEGMENT}
+use Rattle.mot_objects.specs.Carousel.{Carousel, IsSound}
 use Rattle.mot_packets.specs.Packet.{read_packet}
 use Rattle.mot_packets.specs.Written.{bytes_of_packet}
-use Rattle.mot_carousel.specs.Carousel.{Carousel, IsSound}
-use Rattle.mot_groups.specs.Group.{Segment}
 use Rattle.mot_player.specs.Continuity.{IsContinuous}
 use Rattle.mot_player.specs.Place.{Last, UnderWay, to_send, Place, Sent, Step, Request, NewTurn}
 use Rattle.mot_player.specs.Place.{change_turn}

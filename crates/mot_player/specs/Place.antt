@@ -2,10 +2,10 @@
 -- turn make of that.
 use Rattle.std.specs.Prelude.{ℕ, ◌+◌, ◌%◌, Bool, ◌&&◌, ◌==◌, if◌then◌else◌, List, [], ◌∷◌, Option}
 use Rattle.std.specs.Prelude.{Some, None, bytes_eq}
-use Rattle.mot_base.specs.Reading.{◌>>=◌, is_empty}
+use Rattle.mot_groups.specs.Group.{Segment, GroupFields, segment_content, bytes_of_group}
+use Rattle.mot_numbers.specs.Reading.{◌>>=◌, is_empty}
 use Rattle.mot_packets.specs.Cut.{piece_at}
 use Rattle.mot_packets.specs.Packet.{PacketFields}
-use Rattle.mot_groups.specs.Group.{Segment, GroupFields, segment_content, bytes_of_group}
 use Rattle.mot_player.specs.Turn.{Turn, segments_of_turn}
 
 -- a group's continuity index and content

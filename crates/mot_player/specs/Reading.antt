@@ -2,14 +2,14 @@
 use Rattle.std.specs.Prelude.{◌≡◌, ℕ, Bool, ◌&&◌, ◌||◌, ◌==◌, nat_le, if◌then◌else◌, List, [], ◌∷◌}
 use Rattle.std.specs.Prelude.{length, map, Option, Some, None}
 use Rattle.std.specs.List.{list_all}
-use Rattle.mot_base.specs.Reading.{◌>>=◌, read_each}
-use Rattle.mot_packets.specs.Gather.{gather}
-use Rattle.mot_groups.specs.Entity.{entity_of}
-use Rattle.mot_groups.specs.Group.{Segment, GroupFields, read_group}
-use Rattle.mot_carousel.specs.Carousel.{Object, Carousel}
-use Rattle.mot_carousel.specs.Ids.{contains, is_distinct}
 use Rattle.mot_directory.specs.Directory.{Entry, read_directory}
 use Rattle.mot_directory.specs.Entries.{description_in}
+use Rattle.mot_groups.specs.Entity.{entity_of}
+use Rattle.mot_groups.specs.Group.{Segment, GroupFields, read_group}
+use Rattle.mot_numbers.specs.Reading.{◌>>=◌, read_each}
+use Rattle.mot_objects.specs.Carousel.{Object, Carousel}
+use Rattle.mot_objects.specs.Ids.{contains, is_distinct}
+use Rattle.mot_packets.specs.Gather.{gather}
 
 -- what a whole turn says of its carousel
 pub record TurnFields : Type 0 where

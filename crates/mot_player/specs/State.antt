@@ -1,6 +1,6 @@
 -- What the state of a player stands for.
 use Rattle.std.specs.Prelude.{◌==◌, if◌then◌else◌, Some, None}
-use Rattle.mot_base.specs.PacketLength.{room_of}
+use Rattle.mot_numbers.specs.PacketLength.{room_of}
 use Rattle.mot_player.specs.declared.state.State.{State}
 use Rattle.mot_player.specs.LastGroup.{kept_last}
 use Rattle.mot_player.specs.PlayerView.{PlayerView}

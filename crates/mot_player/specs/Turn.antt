@@ -1,11 +1,11 @@
 -- One playing of a carousel, from its directory to its last body.
 use Rattle.std.specs.Prelude.{◌≡◌, ℕ, ◌*◌, ◌^◌, ◌<◌, ◌≤◌, List, ◌++◌, length, map, flat_map, All}
 use Rattle.std.specs.Prelude.{Some}
-use Rattle.mot_groups.specs.Entity.{segments_of}
-use Rattle.mot_groups.specs.Group.{Segment}
-use Rattle.mot_carousel.specs.Carousel.{Object, Carousel}
 use Rattle.mot_directory.specs.Directory.{bytes_of_directory, read_directory}
 use Rattle.mot_directory.specs.Entries.{directory_of}
+use Rattle.mot_groups.specs.Entity.{segments_of}
+use Rattle.mot_groups.specs.Group.{Segment}
+use Rattle.mot_objects.specs.Carousel.{Object, Carousel}
 
 -- the directory's transport id and bytes, and each body behind its transport id
 pub record Turn : Type 0 where

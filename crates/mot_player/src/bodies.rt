@@ -1,12 +1,12 @@
 //! Where a player has its bodies from.
 ghost use Rattle.std.specs.Prelude.{◌≡◌, ◌+◌, ◌<◌, ◌≤◌, List, ℕ, length, map, refl, slice_range};
 ghost use Rattle.std.specs.Prelude.{OnOk, IfErr};
-ghost use Rattle.mot_base.specs.declared.refusal.Refusal.TheVariants.{DeviceFault};
-ghost use Rattle.mot_player.specs.Bodies.{body_at};
 ghost use Rattle.disk_model.specs.Failures.{HasCause};
+ghost use Rattle.mot_numbers.specs.declared.refusal.Refusal.TheVariants.{DeviceFault};
+ghost use Rattle.mot_player.specs.Bodies.{body_at};
 
-use mot_base::Refusal;
-use mot_carousel::Body;
+use mot_numbers::Refusal;
+use mot_objects::Body;
 
 /// The bodies of a carousel, in the order of its objects, wherever they are kept.
 ///

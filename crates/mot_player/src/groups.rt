@@ -1,8 +1,8 @@
 //! The last data group of each type, and beginning one behind it.
 ghost use Rattle.std.specs.Prelude.{◌≡◌, ◌<◌, ◌≤◌, length, vec_len, vec_capacity};
 
-use mot_base::{GroupKind, TransportId};
 use mot_groups::{content_front, write_group};
+use mot_numbers::{GroupKind, TransportId};
 use std::alloc::{AllocError, Global};
 
 /// The group of a type that was begun last: its continuity index, its segment, and what stands in
@@ -18,8 +18,8 @@ pub(crate) struct LastGroup {
 
 impl LastGroup {
     ghost use Rattle.std.specs.Prelude.{◌+◌, ◌^◌, [], ◌++◌, Some, None, IfOk};
-    ghost use Rattle.mot_base.specs.GroupKind.{kind_number};
-    ghost use Rattle.mot_base.specs.declared.numbers.TheConstants.{MAX_SEGMENT};
+    ghost use Rattle.mot_numbers.specs.GroupKind.{kind_number};
+    ghost use Rattle.mot_numbers.specs.declared.numbers.TheConstants.{MAX_SEGMENT};
     ghost use Rattle.mot_groups.specs.Group.{GroupFields, IsGroup, content_of, bytes_of_group};
     ghost use Rattle.mot_groups.specs.Group.{group_of};
     ghost use Rattle.mot_groups.specs.Group.{read_group, segment_content};

@@ -1,13 +1,13 @@
 //! Which part of a turn comes next.
 ghost use Rattle.std.specs.Prelude.{◌≡◌, ℕ, ◌+◌, ◌*◌, ◌^◌, ◌<◌, ◌≤◌, ◌==◌, List, length};
 ghost use Rattle.std.specs.Prelude.{if◌then◌else◌};
-ghost use Rattle.mot_base.specs.declared.numbers.TheConstants.{MAX_SEGMENT};
+ghost use Rattle.mot_numbers.specs.declared.numbers.TheConstants.{MAX_SEGMENT};
 ghost use Rattle.mot_player.specs.Inner.Next.{IsNext};
 ghost use Rattle.mot_player.specs.Inner.Entities.{IsPlannable, IsWithinTurn, entity_length};
 
 use crate::Turn;
-use mot_base::SegmentSize;
 use mot_groups::segment_count;
+use mot_numbers::SegmentSize;
 
 /// A segment of an entity of a turn, and which comes behind it.
 #[derive(Clone, Copy)]

@@ -1,8 +1,8 @@
 //! The player of a carousel.
 ghost use Rattle.std.specs.Prelude.{◌≡◌, ◌<◌, ℕ, List, false, Some, None, IfOk};
 ghost use Rattle.std.specs.Prelude.{IfErr, OnOk, OnErr};
-ghost use Rattle.mot_base.specs.PacketLength.{room_of};
-ghost use Rattle.mot_base.specs.declared.refusal.Refusal.TheVariants.{OutOfMemory};
+ghost use Rattle.mot_numbers.specs.PacketLength.{room_of};
+ghost use Rattle.mot_numbers.specs.declared.refusal.Refusal.TheVariants.{OutOfMemory};
 ghost use Rattle.mot_packets.specs.Packet.{read_packet};
 ghost use Rattle.mot_player.specs.Bodies.{ReadsBodies};
 ghost use Rattle.mot_player.specs.PlayerView.{AreBodiesFor, place_of, turn_with};
@@ -16,7 +16,7 @@ ghost use Rattle.mot_player.specs.Rounds.{RoundsAreContinuous};
 use crate::groups::LastGroup;
 use crate::state::State;
 use crate::{Bodies, Played, Turn};
-use mot_base::{Address, PacketLength, Refusal, SegmentSize};
+use mot_numbers::{Address, PacketLength, Refusal, SegmentSize};
 use mot_packets::Packet;
 use std::alloc::Global;
 use std::marker::Model;

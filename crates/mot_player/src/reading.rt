@@ -6,7 +6,7 @@ ghost use Rattle.mot_player.specs.PlayerView.{AreBodiesFor};
 ghost use Rattle.mot_player.specs.Inner.Entities.{entity_bytes, entity_length};
 
 use crate::{Bodies, Turn};
-use mot_base::Refusal;
+use mot_numbers::Refusal;
 
 /// Reads bytes of an entity of a turn, from a place in it on, into the front of the buffer. The
 /// only refusal is `DeviceFault`.

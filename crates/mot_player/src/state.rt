@@ -6,7 +6,7 @@ use crate::groups::LastGroup;
 use crate::part::{Part, part_at};
 use crate::reading::read_front;
 use crate::{Bodies, Turn};
-use mot_base::{Address, GroupKind, PacketLength, Refusal, SegmentSize};
+use mot_numbers::{Address, GroupKind, PacketLength, Refusal, SegmentSize};
 use mot_packets::{Packet, cut_packet_into};
 
 /// What comes next of a turn, and the group under way.

@@ -1,15 +1,15 @@
 //! What a turn plays.
 ghost use Rattle.std.specs.Prelude.{◌≡◌, ℕ, ◌+◌, ◌<◌, ◌≤◌, List, length, map, vec_len, IfOk, IfErr};
-ghost use Rattle.mot_base.specs.declared.refusal.Refusal.TheVariants.{OutOfMemory};
-ghost use Rattle.mot_carousel.specs.declared.body.TheConstants.{MAX_BODY};
-ghost use Rattle.mot_carousel.specs.Stands.{AreBodiesOf, carousel_of};
-ghost use Rattle.mot_carousel.specs.declared.object.Object.{Object};
+ghost use Rattle.mot_numbers.specs.declared.refusal.Refusal.TheVariants.{OutOfMemory};
+ghost use Rattle.mot_objects.specs.declared.body.TheConstants.{MAX_BODY};
+ghost use Rattle.mot_objects.specs.Stands.{AreBodiesOf, carousel_of};
+ghost use Rattle.mot_objects.specs.declared.object.Object.{Object};
 ghost use Rattle.mot_player.specs.declared.planned_body.PlannedBody.{PlannedBody};
 
 use crate::planned_body::PlannedBody;
-use mot_base::{Refusal, SegmentSize, TransportId};
-use mot_carousel::{Carousel, Object};
 use mot_directory::directory_bytes;
+use mot_numbers::{Refusal, SegmentSize, TransportId};
+use mot_objects::{Carousel, Object};
 use std::alloc::{AllocError, Global};
 use std::marker::Model;
 

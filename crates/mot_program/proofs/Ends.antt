@@ -7,9 +7,9 @@ use Rattle.std.proofs.Math.Nat.{eq-or-lt_of_le}
 use Rattle.std.specs.Prelude.{IfErr, OnErr}
 use Rattle.disk_model.specs.Disk.{Elapses, IsStill, IsUnchanged, Nothing, State}
 use Rattle.disk_model.specs.Failures.{Rises}
-use Rattle.mot_base.specs.declared.refusal.Refusal.{Refusal}
-use Rattle.mot_base.specs.declared.refusal.Refusal.TheVariants.{DeviceFault, OutOfMemory}
-use Rattle.mot_base.specs.declared.refusal.Refusal.TheVariants.{ReadFault, WriteFault}
+use Rattle.mot_numbers.specs.declared.refusal.Refusal.{Refusal}
+use Rattle.mot_numbers.specs.declared.refusal.Refusal.TheVariants.{DeviceFault, OutOfMemory}
+use Rattle.mot_numbers.specs.declared.refusal.Refusal.TheVariants.{ReadFault, WriteFault}
 use Rattle.mot_session.specs.Served.{EndsServing}
 
 -- what holds anyhow holds on an error

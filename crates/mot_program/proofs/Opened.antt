@@ -4,10 +4,10 @@ use Rattle.std.specs.Prelude.{IsFalse}
 use Rattle.disk_model.specs.Disk.{State, IsHonestDisk, IsStill, Keeps, KeepsLength, OnlySyncs}
 use Rattle.disk_model.specs.Disk.{Throughout}
 use Rattle.disk_model.proofs.Laws.{only_bytes, begins, joins, stays}
-use Rattle.mot_base.specs.Geometry.{packet_room}
-use Rattle.mot_base.specs.declared.refusal.Refusal.{Refusal}
 use Rattle.mot_journal.specs.Image.{Standing, stands_for}
 use Rattle.mot_journal.specs.Journal.{HasRecords}
+use Rattle.mot_numbers.specs.Geometry.{packet_room}
+use Rattle.mot_numbers.specs.declared.refusal.Refusal.{Refusal}
 use Rattle.mot_player.specs.Place.{opened_place}
 use Rattle.mot_player.specs.Turn.{turn_of_carousel}
 use Rattle.mot_program.specs.Report.{IsUnderMigration}

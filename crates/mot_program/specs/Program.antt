@@ -2,17 +2,17 @@
 use Rattle.std.specs.Prelude.{ℕ, ◌≡◌, ◌⊎◌, List, Option}
 use Rattle.std.specs.Io.KnownBytes.{Keeps}
 use Rattle.clap.specs.Words.{Text}
-use Rattle.disk_store.specs.Ram.{ram_state}
 use Rattle.disk_model.specs.Disk.{State}
+use Rattle.disk_store.specs.Ram.{ram_state}
 use Rattle.disk_store.specs.declared.file.start.Start.{Ghosts}
 use Rattle.disk_store.specs.declared.file.FileDiskFrom.{FileDiskFrom}
 use Rattle.disk_store.specs.declared.memory.ram.RamDisk.{RamDisk}
-use Rattle.mot_base.specs.Geometry.{IsValid, length_of}
-use Rattle.mot_base.specs.declared.geometry.Geometry.{Geometry}
-use Rattle.mot_base.specs.declared.refusal.Refusal.{Refusal}
-use Rattle.mot_base.specs.declared.refusal.Refusal.TheVariants.{BadGeometry, DeviceFault}
-use Rattle.mot_base.specs.declared.refusal.Refusal.TheVariants.{OutOfMemory, WriteFault}
 use Rattle.mot_journal.specs.Journal.{new_standing}
+use Rattle.mot_numbers.specs.Geometry.{IsValid, length_of}
+use Rattle.mot_numbers.specs.declared.geometry.Geometry.{Geometry}
+use Rattle.mot_numbers.specs.declared.refusal.Refusal.{Refusal}
+use Rattle.mot_numbers.specs.declared.refusal.Refusal.TheVariants.{BadGeometry, DeviceFault}
+use Rattle.mot_numbers.specs.declared.refusal.Refusal.TheVariants.{OutOfMemory, WriteFault}
 use Rattle.mot_program.specs.declared.ended.UsedDisk.{UsedDisk}
 use Rattle.mot_program.specs.declared.ended.UsedDisk.TheVariants.{InMemory, OfFile, Untouched}
 use Rattle.mot_program.specs.Files.{SinceMade, SinceOpened}

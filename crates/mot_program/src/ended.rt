@@ -5,7 +5,7 @@ ghost use Rattle.mot_program.specs.declared.ended.UsedDisk.TheVariants.{OfFile, 
 use crate::begun::{Beginning, BegunFile};
 use disk_model::Disk;
 use disk_store::{FileDiskFrom, OpenFault, RamDisk, Start, Unopened};
-use mot_base::Refusal;
+use mot_numbers::Refusal;
 use mot_server::Refused;
 
 /// The disk that a task worked on. The value of `S` is used up where a file is opened or made, so

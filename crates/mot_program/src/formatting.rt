@@ -2,8 +2,8 @@
 ghost use Rattle.std.specs.Prelude.{◌≡◌, OnOk, IfErr, ◌⊎◌};
 ghost use Rattle.std.specs.Io.KnownBytes.{Appends};
 ghost use Rattle.disk_model.specs.Disk.{KeepsLength};
-ghost use Rattle.mot_base.specs.Geometry.{IsValid};
-ghost use Rattle.mot_base.specs.declared.refusal.Refusal.TheVariants.{WriteFault};
+ghost use Rattle.mot_numbers.specs.Geometry.{IsValid};
+ghost use Rattle.mot_numbers.specs.declared.refusal.Refusal.TheVariants.{WriteFault};
 ghost use Rattle.mot_program.specs.Program.{IsMakingRefusal, IsUntold, OnOpenedOrMade};
 ghost use Rattle.mot_program.specs.Report.{Formats, StopsFormatting, formatted_line};
 
@@ -11,8 +11,8 @@ use crate::ended::{Ended, Finished};
 use crate::file::{make_file, open_file};
 use disk_model::Disk;
 use disk_store::{Start, Unopened, take_away};
-use mot_base::{Geometry, Refusal, TransportId};
 use mot_journal::format_from;
+use mot_numbers::{Geometry, Refusal, TransportId};
 use std::io::Write;
 
 /// Makes a disk of the file at the path, which is made where it can't be opened, and taken away

@@ -1,7 +1,7 @@
 //! What `migrate` does.
 ghost use Rattle.std.specs.Prelude.{◌≡◌, OnOk, IfErr, ◌⊎◌};
 ghost use Rattle.disk_model.specs.Disk.{KeepsLength};
-ghost use Rattle.mot_base.specs.declared.refusal.Refusal.TheVariants.{DeviceFault};
+ghost use Rattle.mot_numbers.specs.declared.refusal.Refusal.TheVariants.{DeviceFault};
 ghost use Rattle.mot_program.specs.Program.{IsUntold, OnOpened};
 ghost use Rattle.mot_program.specs.Report.{Migrates, StopsMigrating, migrated_line};
 

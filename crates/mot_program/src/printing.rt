@@ -2,7 +2,7 @@
 ghost use Rattle.std.specs.Prelude.{◌≡◌, ◌≢◌, ◌⊎◌, OnOk, IfErr, Some};
 ghost use Rattle.std.specs.Io.KnownBytes.{Appends, Keeps};
 ghost use Rattle.clap.specs.Words.{kind_of};
-ghost use Rattle.mot_base.specs.declared.refusal.Refusal.TheVariants.{OutOfMemory, WriteFault};
+ghost use Rattle.mot_numbers.specs.declared.refusal.Refusal.TheVariants.{OutOfMemory, WriteFault};
 ghost use Rattle.mot_program.specs.declared.ended.UsedDisk.TheVariants.{Untouched};
 
 use crate::ended::{Exit, UsedDisk};
@@ -10,7 +10,7 @@ use crate::subject::{Subject, tell};
 use clap::Error;
 use clap::error::ErrorKind;
 use disk_store::Start;
-use mot_base::Refusal;
+use mot_numbers::Refusal;
 use std::io::Write;
 
 /// Writes all of the bytes.

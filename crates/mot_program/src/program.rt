@@ -2,7 +2,7 @@
 ghost use Rattle.std.specs.Prelude.{◌≡◌, ◌⊎◌, List, map, IfErr, OnOk, Some};
 ghost use Rattle.std.specs.Io.KnownBytes.{Keeps};
 ghost use Rattle.clap.specs.Words.{Text, found_of, rows_of};
-ghost use Rattle.mot_base.specs.declared.refusal.Refusal.{Refusal};
+ghost use Rattle.mot_numbers.specs.declared.refusal.Refusal.{Refusal};
 ghost use Rattle.mot_program.specs.Program.{Does, DoesInPart, IsBeginningRefusal, IsUntold};
 ghost use Rattle.mot_program.specs.Program.{IsRefused, IsUntouched, Succeeds};
 ghost use Rattle.mot_program.specs.declared.ended.UsedDisk.{UsedDisk};
@@ -20,7 +20,7 @@ use crate::serving::{serve_file, serve_memory};
 use crate::subject::{Subject, subject_of};
 use clap::ArgMatches;
 use disk_store::Start;
-use mot_base::Refusal;
+use mot_numbers::Refusal;
 use mot_words::{program_matches, program_task};
 use std::alloc::Global;
 use std::convert::AsStr;

@@ -2,7 +2,7 @@
 ghost use Rattle.std.specs.Prelude.{◌≡◌, ◌⊎◌, OnOk, IfErr};
 ghost use Rattle.std.specs.Io.KnownBytes.{Keeps};
 ghost use Rattle.disk_model.specs.Disk.{KeepsLength};
-ghost use Rattle.mot_base.specs.declared.refusal.Refusal.TheVariants.{DeviceFault};
+ghost use Rattle.mot_numbers.specs.declared.refusal.Refusal.TheVariants.{DeviceFault};
 ghost use Rattle.mot_program.specs.Program.{IsMemoryRefusal, IsUntold, OnMemory, OnOpened};
 ghost use Rattle.mot_program.specs.Program.{SinceNew};
 ghost use Rattle.mot_program.specs.Serving.{ServesInput, StopsServing};
@@ -11,8 +11,8 @@ use crate::ended::{Ended, Finished, UsedDisk};
 use crate::file::open_file;
 use disk_model::Disk;
 use disk_store::{RamDisk, Start};
-use mot_base::{Geometry, Refusal};
 use mot_journal::format;
+use mot_numbers::{Geometry, Refusal};
 use mot_server::Server;
 use mot_session::{MAX_READS, serve};
 use std::alloc::Global;

@@ -2,7 +2,7 @@
 //! is out of its range. It is printed, and nothing is decided by it.
 use clap::ArgMatches;
 use disk_store::OpenFault;
-use mot_base::Refusal;
+use mot_numbers::Refusal;
 use std::io::Write;
 
 /// What a refusal is about.

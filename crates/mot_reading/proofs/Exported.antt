@@ -2,21 +2,21 @@
 use Rattle.std.proofs.Common.{◌≡◌, ◌<◌, ◌≤◌, ℕ, List, length, Option, Result, Ok, Err, inl, inr}
 use Rattle.std.specs.Prelude.{All, IfErr, IsFalse, OnOk}
 use Rattle.disk_model.specs.Disk.{IsHonestDisk, IsStill, State, OnlyReads, OnlySyncs}
-use Rattle.mot_base.specs.declared.refusal.Refusal.{Refusal}
-use Rattle.mot_carousel.specs.Carousel.{Carousel}
-use Rattle.mot_carousel.specs.Rebuilding.{rebuilding}
 use Rattle.mot_journal.specs.Image.{Standing, stands_for}
 use Rattle.mot_lines.proofs.Laws.{export_text-asks}
 use Rattle.mot_lines.specs.Export.{export_text}
+use Rattle.mot_numbers.specs.declared.refusal.Refusal.{Refusal}
+use Rattle.mot_objects.specs.Carousel.{Carousel}
+use Rattle.mot_objects.specs.Rebuilding.{rebuilding}
 use Rattle.mot_reading.specs.Exporting.{Exports, RebuildsByLines, StopsExporting, unprinted, unread}
 use Rattle.mot_reading.specs.Inner.Printing.{IsPrintingFault}
 use Rattle.mot_reading.proofs.Opened.{all_hold, rises_later}
 use Rattle.mot_repository.proofs.Laws.{rules_kept, standings-are_sound}
 use Rattle.mot_repository.specs.Opening.{IsOpened}
 use Rattle.mot_repository.specs.Repository.{Holds, IsOf}
-use Rattle.mot_session.specs.Output.{Writes}
 use Rattle.mot_server.specs.Server.{ServerView}
 use Rattle.mot_server.proofs.Laws.{still_unchanged}
+use Rattle.mot_session.specs.Output.{Writes}
 use Rattle.mot_update.proofs.Laws.{exports_are_taken}
 use Rattle.mot_update.specs.Export.{IsEmpty}
 

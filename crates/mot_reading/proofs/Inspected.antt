@@ -6,14 +6,14 @@ use Rattle.std.specs.Prelude.{IfErr, IsFalse, OnOk}
 use Rattle.std.specs.List.{fold, sum_by}
 use Rattle.std.specs.Io.KnownBytes.{Appends}
 use Rattle.disk_model.specs.Disk.{IsHonestDisk, IsStill, State, OnlyReads, OnlySyncs}
-use Rattle.mot_base.specs.declared.geometry.Geometry.{Geometry}
-use Rattle.mot_base.specs.declared.refusal.Refusal.{Refusal}
-use Rattle.mot_carousel.specs.Carousel.{Object}
-use Rattle.mot_carousel.specs.Carousel as whole
-use Rattle.mot_carousel.specs.declared.object.Object as beside
-use Rattle.mot_carousel.specs.Stands.{objects_of}
 use Rattle.mot_journal.specs.Image.{Standing}
 use Rattle.mot_journal.specs.Journal.{with_records}
+use Rattle.mot_numbers.specs.declared.geometry.Geometry.{Geometry}
+use Rattle.mot_numbers.specs.declared.refusal.Refusal.{Refusal}
+use Rattle.mot_objects.specs.Carousel.{Object}
+use Rattle.mot_objects.specs.Carousel as whole
+use Rattle.mot_objects.specs.declared.object.Object as beside
+use Rattle.mot_objects.specs.Stands.{objects_of}
 use Rattle.mot_player.specs.Place.{Place}
 use Rattle.mot_reading.specs.Inspecting.{Inspects, StopsInspecting, bytes_of_all, bytes_of_bodies}
 use Rattle.mot_reading.specs.Inspecting.{inspection_text, rates_text, sizes_text, turn_text}

@@ -12,14 +12,14 @@ use Rattle.std.proofs.Math.Seq.{take-add}
 use Rattle.std.proofs.lemmas.List.{take_all}
 use Rattle.std.proofs.lemmas.List.Concat.{flat_map-append}
 use Rattle.hex.specs.Hex.{encode_lower, encode_with, lower_digits}
-use Rattle.mot_base.specs.declared.refusal.Refusal.{Refusal}
-use Rattle.mot_carousel.specs.declared.object.Object as beside
-use Rattle.mot_carousel.specs.Carousel.{Object}
-use Rattle.mot_carousel.specs.Carousel as whole
-use Rattle.mot_carousel.specs.declared.carousel.Carousel.{Carousel}
 use Rattle.mot_journal.specs.Image.{Standing}
 use Rattle.mot_lines.specs.Export.{front_words, put_line}
-use Rattle.mot_carousel.specs.Stands.{object_of, objects_of}
+use Rattle.mot_numbers.specs.declared.refusal.Refusal.{Refusal}
+use Rattle.mot_objects.specs.declared.object.Object as beside
+use Rattle.mot_objects.specs.Carousel.{Object}
+use Rattle.mot_objects.specs.Carousel as whole
+use Rattle.mot_objects.specs.declared.carousel.Carousel.{Carousel}
+use Rattle.mot_objects.specs.Stands.{object_of, objects_of}
 use Rattle.mot_repository.specs.Repository.{Agrees, RepositoryView, object_body}
 use Rattle.mot_session.proofs.Laws.{Writes-after, WritesFront-after, WritesFront-all}
 use Rattle.mot_session.proofs.Laws.{WritesFront-before}

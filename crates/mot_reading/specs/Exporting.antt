@@ -3,11 +3,11 @@ use Rattle.std.specs.Prelude.{◌≡◌, ℕ, ◌≤◌, List, length, Option}
 use Rattle.std.specs.Io.KnownBytes.{Appends, Keeps}
 use Rattle.disk_model.specs.Disk.{State, IsStill}
 use Rattle.disk_model.specs.Failures.{Rises}
-use Rattle.mot_base.specs.declared.refusal.Refusal.{Refusal}
-use Rattle.mot_base.specs.declared.refusal.Refusal.TheVariants.{DeviceFault, WriteFault}
-use Rattle.mot_carousel.specs.Carousel.{Carousel}
-use Rattle.mot_carousel.specs.declared.command.Command.{Command}
 use Rattle.mot_lines.specs.Export.{AsksForJust, export_text}
+use Rattle.mot_numbers.specs.declared.refusal.Refusal.{Refusal}
+use Rattle.mot_numbers.specs.declared.refusal.Refusal.TheVariants.{DeviceFault, WriteFault}
+use Rattle.mot_objects.specs.Carousel.{Carousel}
+use Rattle.mot_objects.specs.declared.command.Command.{Command}
 use Rattle.mot_reading.specs.Opening.{IsUnopened, OfStanding}
 use Rattle.mot_session.specs.Served.{WritesFront}
 use Rattle.mot_update.specs.Export.{IsEmpty, Rebuilds}

@@ -6,13 +6,14 @@ use Rattle.std.specs.List.{sum_by}
 use Rattle.std.specs.Io.KnownBytes.{Appends, Keeps}
 use Rattle.disk_model.specs.Disk.{State, IsStill}
 use Rattle.disk_model.specs.Failures.{Rises}
-use Rattle.mot_base.specs.declared.geometry.Geometry.{Geometry}
-use Rattle.mot_base.specs.declared.refusal.Refusal.{Refusal}
-use Rattle.mot_base.specs.declared.refusal.Refusal.TheVariants.{BadNumber, DeviceFault, WriteFault}
-use Rattle.mot_carousel.specs.Carousel.{Object}
 use Rattle.mot_journal.specs.Image.{DiskRecords, Standing, records_of}
 use Rattle.mot_journal.specs.Slot.{slot_count}
 use Rattle.mot_journal.specs.declared.layout.Layout.{Layout}
+use Rattle.mot_numbers.specs.declared.geometry.Geometry.{Geometry}
+use Rattle.mot_numbers.specs.declared.refusal.Refusal.{Refusal}
+use Rattle.mot_numbers.specs.declared.refusal.Refusal.TheVariants.{BadNumber, DeviceFault}
+use Rattle.mot_numbers.specs.declared.refusal.Refusal.TheVariants.{WriteFault}
+use Rattle.mot_objects.specs.Carousel.{Object}
 use Rattle.mot_player.specs.Place.{Place}
 use Rattle.mot_reading.specs.Opening.{IsUnopened, OfStanding, first_place}
 use Rattle.mot_repository.specs.Gap.{IsLongestGap}

@@ -3,10 +3,10 @@ ghost use Rattle.std.specs.Prelude.{◌≡◌, ◌≤◌, ◌<◌, Some, length,
 ghost use Rattle.std.specs.Prelude.{slice_get};
 ghost use Rattle.disk_model.specs.Disk.{KeepsLength, OnlyReads};
 ghost use Rattle.hex.specs.Hex.{encode_lower};
-ghost use Rattle.mot_base.specs.declared.refusal.Refusal.TheVariants.{WriteFault};
-ghost use Rattle.mot_carousel.specs.Carousel as whole;
 ghost use Rattle.mot_journal.specs.Image.{Standing};
 ghost use Rattle.mot_lines.specs.Export.{export_text, put_line};
+ghost use Rattle.mot_numbers.specs.declared.refusal.Refusal.TheVariants.{WriteFault};
+ghost use Rattle.mot_objects.specs.Carousel as whole;
 ghost use Rattle.mot_reading.specs.Exporting.{Exports, StopsExporting};
 ghost use Rattle.mot_reading.specs.Inner.Printing.{IsPrintingFault};
 ghost use Rattle.mot_repository.specs.Repository.{Holds, object_body};
@@ -14,8 +14,8 @@ ghost use Rattle.mot_session.specs.Output.{Writes};
 
 use crate::Ended;
 use disk_model::Disk;
-use mot_base::Refusal;
 use mot_lines::{period_text, put_text};
+use mot_numbers::Refusal;
 use mot_server::Server;
 use mot_session::write_whole;
 use std::alloc::Global;

@@ -3,9 +3,9 @@ ghost use Rattle.std.specs.Prelude.{◌≡◌, ◌≤◌, ◌<◌, ◌^◌, ℕ,
 ghost use Rattle.std.specs.List.{sum_by};
 ghost use Rattle.std.specs.Io.KnownBytes.{Appends};
 ghost use Rattle.disk_model.specs.Disk.{KeepsLength, OnlyReads};
-ghost use Rattle.mot_base.specs.declared.refusal.Refusal.TheVariants.{WriteFault};
-ghost use Rattle.mot_carousel.specs.declared.object.Object.{Object};
 ghost use Rattle.mot_journal.specs.Image.{Standing};
+ghost use Rattle.mot_numbers.specs.declared.refusal.Refusal.TheVariants.{WriteFault};
+ghost use Rattle.mot_objects.specs.declared.object.Object.{Object};
 ghost use Rattle.mot_reading.specs.Inspecting.{Inspects, StopsInspecting, data_text, number_line};
 ghost use Rattle.mot_reading.specs.Inspecting.{rates_text, seconds_line, shares_line, sizes_text};
 ghost use Rattle.mot_reading.specs.Inspecting.{turn_text, use_text};
@@ -17,9 +17,9 @@ ghost use Rattle.mot_server.specs.Server.{place_in};
 
 use crate::Ended;
 use disk_model::Disk;
-use mot_base::{Geometry, Refusal};
-use mot_carousel::Object;
 use mot_journal::Layout;
+use mot_numbers::{Geometry, Refusal};
+use mot_objects::Object;
 use mot_player::Played;
 use mot_server::Server;
 use std::alloc::Global;

@@ -8,13 +8,13 @@ use Rattle.std.proofs.Math.Bool.{or_comm, and-true}
 use Rattle.std.proofs.lemmas.Bool.{and_parts, and_from, or_parts, or_from, not-true, not_from_false}
 use Rattle.std.proofs.lemmas.Bool.Decides.{nat_tests}
 use Rattle.std.proofs.lemmas.List.{take_rest, get_or_default}
-use Rattle.mot_carousel.specs.declared.object.Object.{Object}
-use Rattle.mot_carousel.specs.Ids.{contains, is_distinct}
-use Rattle.mot_repository.specs.Gap.{is_free, is_beside}
-use Rattle.mot_base.specs.Reading.{◌>>=◌}
 use Rattle.mot_journal.specs.declared.record.Record.{Record}
 use Rattle.mot_journal.specs.Catalogue.{Placed, Catalogue, objects_after, placed_without}
 use Rattle.mot_journal.specs.Catalogue.{are_all_apart, is_consistent, catalogue_after}
+use Rattle.mot_numbers.specs.Reading.{◌>>=◌}
+use Rattle.mot_objects.specs.declared.object.Object.{Object}
+use Rattle.mot_objects.specs.Ids.{contains, is_distinct}
+use Rattle.mot_repository.specs.Gap.{is_free, is_beside}
 use Rattle.mot_repository.specs.Extents.{objects_in}
 use Rattle.mot_repository.specs.Inner.Fold.{HaveLengths, are_extents_apart, are_consistent}
 use Rattle.mot_repository.specs.Inner.Fold.{if_consistent, if_done}

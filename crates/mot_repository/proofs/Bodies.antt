@@ -7,20 +7,20 @@ use Rattle.std.proofs.lemmas.Bool.{and_parts, leb-true}
 use Rattle.std.specs.Prelude.{nat_le}
 use Rattle.std.specs.List.{AllByRecursion}
 use Rattle.disk_model.specs.Disk.{State, IsHonestDisk}
-use Rattle.mot_base.specs.declared.geometry.Geometry.{Geometry}
-use Rattle.mot_base.specs.declared.refusal.Refusal.{Refusal}
-use Rattle.mot_base.specs.Geometry.{area_start}
-use Rattle.mot_carousel.specs.declared.carousel.Carousel.{Carousel}
-use Rattle.mot_carousel.specs.declared.object.Object.{Object}
-use Rattle.mot_carousel.specs.Carousel as whole
-use Rattle.mot_carousel.specs.Stands.{object_of}
 use Rattle.mot_journal.specs.declared.layout.Layout.{Layout}
-use Rattle.mot_base.specs.Geometry.{is_valid, is_within, is_packet_length}
 use Rattle.mot_journal.specs.Catalogue.{Placed, body_in_area}
 use Rattle.mot_journal.specs.Gaps.{standing_of}
 use Rattle.mot_journal.specs.Image.{Standing, area_of}
 use Rattle.mot_journal.specs.Journal.{with_records}
 use Rattle.mot_journal.proofs.Laws.{stands_by_parts}
+use Rattle.mot_numbers.specs.declared.geometry.Geometry.{Geometry}
+use Rattle.mot_numbers.specs.declared.refusal.Refusal.{Refusal}
+use Rattle.mot_numbers.specs.Geometry.{area_start}
+use Rattle.mot_numbers.specs.Geometry.{is_valid, is_within, is_packet_length}
+use Rattle.mot_objects.specs.declared.carousel.Carousel.{Carousel}
+use Rattle.mot_objects.specs.declared.object.Object.{Object}
+use Rattle.mot_objects.specs.Carousel as whole
+use Rattle.mot_objects.specs.Stands.{object_of}
 use Rattle.mot_repository.specs.Extents.{objects_in, catalogue_with, ArePaired}
 use Rattle.mot_repository.specs.OnDisk.{extent_at, body_on}
 use Rattle.mot_repository.specs.Repository.{RepositoryView, object_body, Holds}

@@ -10,9 +10,9 @@ use Rattle.std.proofs.lemmas.List.Elements.{All-nil, All-cons, All-head, All-tai
 use Rattle.std.proofs.lemmas.List.Elements.{All-weaker}
 use Rattle.std.proofs.lemmas.List.Folds.{list_any_none}
 use Rattle.std.proofs.lemmas.Slice.Eq.{bytes_eq-Decides}
-use Rattle.mot_carousel.specs.declared.object.Object.{Object}
-use Rattle.mot_carousel.specs.Ids.{is_distinct}
-use Rattle.mot_carousel.specs.Stands.{index_of}
+use Rattle.mot_objects.specs.declared.object.Object.{Object}
+use Rattle.mot_objects.specs.Ids.{is_distinct}
+use Rattle.mot_objects.specs.Stands.{index_of}
 use Rattle.mot_repository.specs.declared.opening.bounds.Bounds.{Bounds}
 use Rattle.mot_repository.specs.Gap.{is_free, is_beside}
 use Rattle.mot_repository.specs.Inner.Bounds.{AreEndsWithin, AreIdsWithin, AreNamesFlagged}

@@ -3,10 +3,8 @@ use Rattle.std.proofs.Common.{◌≡◌, ◌⊎◌, inl, inr, ⊎_elim, ℕ, ◌
 use Rattle.std.proofs.Common.{refl, sym, ◌∙◌, ap, subst, arith}
 use Rattle.disk_model.specs.Disk.{State, Keeps, WritesWithin, Torn, Throughout, IsHonestDisk}
 use Rattle.disk_model.proofs.Laws.{begins, goes_on, joins, weakens, at_end}
-use Rattle.mot_base.specs.declared.geometry.Geometry.{Geometry}
 use Rattle.mot_journal.specs.declared.layout.Layout.{Layout}
 use Rattle.mot_journal.specs.declared.record.Record.{Record}
-use Rattle.mot_base.specs.Geometry.{area_start}
 use Rattle.mot_journal.specs.Catalogue.{Catalogue, catalogue_of, carousel_in, extents_of}
 use Rattle.mot_journal.specs.Image.{Standing, area_of}
 use Rattle.mot_journal.specs.Journal.{JournalView, with_records, HasRecords, HoldsRecords}
@@ -15,9 +13,11 @@ use Rattle.mot_journal.specs.Journal.{WithoutOrWith, OldOrGiven, OnlyReadArea, i
 use Rattle.mot_journal.proofs.Laws.{records_stay}
 use Rattle.mot_journal.specs.Gaps.{AreBeside, standing_of}
 use Rattle.mot_journal.proofs.Laws.{stands_by_parts, standing_stays, clean_stays, geometry_read}
+use Rattle.mot_numbers.specs.declared.geometry.Geometry.{Geometry}
+use Rattle.mot_numbers.specs.Geometry.{area_start}
 use Rattle.std.specs.Prelude.{IsFalse, IsOk}
-use Rattle.mot_carousel.specs.declared.command.Command.{Command}
-use Rattle.mot_carousel.specs.declared.command.Done.{Done}
+use Rattle.mot_objects.specs.declared.command.Command.{Command}
+use Rattle.mot_objects.specs.declared.command.Done.{Done}
 use Rattle.mot_repository.specs.Outcome.{after_command}
 use Rattle.mot_repository.specs.Repository.{RepositoryView, Agrees, IsOf, IsBeforeOrAfter, Holds}
 

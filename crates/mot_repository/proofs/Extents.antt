@@ -8,14 +8,14 @@ use Rattle.std.proofs.lemmas.Slice.Eq.{bytes_eq-Decides}
 use Rattle.std.specs.List.{position_from, position_or_len}
 use Rattle.std.specs.Option.{option_map_or}
 use Rattle.std.specs.Prelude.{bytes_eq, not, nat_lt, position, remove}
-use Rattle.mot_carousel.specs.Stands.{index_of}
-use Rattle.mot_carousel.specs.declared.object.Object.{Object}
 use Rattle.mot_journal.specs.declared.record.Record.{Record}
 use Rattle.mot_journal.specs.declared.record.Action.{Action}
 use Rattle.mot_journal.specs.declared.record.Action.TheVariants.{Set}
 use Rattle.mot_journal.specs.Catalogue.{Placed, Catalogue}
-use Rattle.mot_carousel.specs.declared.command.Command.{Command}
-use Rattle.mot_carousel.specs.declared.command.Command.TheVariants.{Put, Replace, Withdraw, Period}
+use Rattle.mot_objects.specs.Stands.{index_of}
+use Rattle.mot_objects.specs.declared.object.Object.{Object}
+use Rattle.mot_objects.specs.declared.command.Command.{Command}
+use Rattle.mot_objects.specs.declared.command.Command.TheVariants.{Put, Replace, Withdraw, Period}
 use Rattle.mot_repository.specs.Extents.{objects_in}
 use Rattle.mot_repository.specs.Inner.Following.{extent_of, extents_with, extents_without}
 use Rattle.mot_repository.specs.Inner.Following.{placed_extents_after}

@@ -1,10 +1,10 @@
 -- Records and what they fold to, computed on worked rows.
 use Rattle.std.proofs.Common.{◌≡◌, ℕ, [], ◌∷◌, None, Ok, Err, refl}
-use Rattle.mot_base.specs.declared.refusal.Refusal.TheVariants.{Damaged}
 use Rattle.mot_journal.specs.declared.record.Record.{Record}
 use Rattle.mot_journal.specs.declared.record.Action.{Action}
 use Rattle.mot_journal.specs.declared.record.Action.TheVariants.{Nothing, Set, Remove}
 use Rattle.mot_journal.specs.Catalogue.{Placed, catalogue_of, fold_from}
+use Rattle.mot_numbers.specs.declared.refusal.Refusal.TheVariants.{Damaged}
 
 -- a record after which the directory has this id
 abbrev with_directory : ℕ → Action → Record

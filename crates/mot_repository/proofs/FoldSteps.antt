@@ -2,10 +2,10 @@
 use Rattle.std.proofs.Common.{◌≡◌, ℕ, suc, ◌+◌, ◌<◌, List, ◌∷◌, length, get_or, drop, Some, None}
 use Rattle.std.proofs.Common.{Ok, Err, sym, ap, ◌∙◌, arith, add-one, drop-cons}
 use Rattle.std.proofs.lemmas.List.{drop_all}
-use Rattle.mot_base.specs.declared.refusal.Refusal.TheVariants.{Damaged}
 use Rattle.mot_journal.specs.declared.record.Record.{Record}
 use Rattle.mot_journal.specs.Catalogue.{Catalogue, catalogue_after, fold_from, or_damaged}
 use Rattle.mot_journal.specs.Catalogue.{result_then}
+use Rattle.mot_numbers.specs.declared.refusal.Refusal.TheVariants.{Damaged}
 
 -- the record of this number
 pub record IsNext (records : List Record) (number : ℕ) (r : Record) : Type 0 where

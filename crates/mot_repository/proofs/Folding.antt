@@ -8,8 +8,6 @@ use Rattle.std.proofs.lemmas.List.Folds.{list_any-append}
 use Rattle.std.proofs.lemmas.Slice.Eq.{bytes_eq-Decides}
 use Rattle.std.specs.Prelude.{nat_le, nat_lt, bytes_eq, option_map}
 use Rattle.std.specs.List.{list_any, list_all, AllByRecursion}
-use Rattle.mot_base.specs.Reading.{◌>>=◌}
-use Rattle.mot_carousel.specs.Carousel.{are_names_distinct}
 use Rattle.mot_journal.specs.declared.record.Record.{Record}
 use Rattle.mot_journal.specs.declared.record.Action.{Action}
 use Rattle.mot_journal.specs.declared.record.Action.TheVariants.{Nothing, Set, Remove}
@@ -17,6 +15,8 @@ use Rattle.mot_journal.specs.Catalogue.{Placed, Catalogue, new_catalogue, put_in
 use Rattle.mot_journal.specs.Catalogue.{placed_without, in_place_or_appended, objects_after}
 use Rattle.mot_journal.specs.Catalogue.{are_apart, are_all_apart, is_consistent, catalogue_after}
 use Rattle.mot_journal.specs.Catalogue.{or_damaged, result_then, fold_from, catalogue_of}
+use Rattle.mot_numbers.specs.Reading.{◌>>=◌}
+use Rattle.mot_objects.specs.Carousel.{are_names_distinct}
 use Rattle.mot_repository.specs.Whole.{placed_names, IsGood}
 
 -- ---- one object in the place of another of its name

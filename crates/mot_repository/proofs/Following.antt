@@ -8,18 +8,6 @@ use Rattle.std.proofs.lemmas.List.{map-append, length-map}
 use Rattle.std.proofs.lemmas.Slice.Eq.{bytes_eq-Decides}
 use Rattle.std.specs.Prelude.{nat_eq, nat_le, bytes_eq, option_map}
 use Rattle.std.specs.List.{list_any, list_all}
-use Rattle.mot_base.specs.declared.refusal.Refusal.TheVariants.{NameTaken, TooManyObjects}
-use Rattle.mot_carousel.specs.declared.command.Command.{Command}
-use Rattle.mot_carousel.specs.declared.command.Command.TheVariants.{Put, Replace, Withdraw, Period}
-use Rattle.mot_carousel.specs.declared.command.Done.{Done}
-use Rattle.mot_carousel.specs.Content.{ContentNumbers}
-use Rattle.mot_carousel.specs.Carousel.{Object, Carousel, change, change_to, change_if_named}
-use Rattle.mot_carousel.specs.Carousel.{has_name, objects_with as whole_objects_with}
-use Rattle.mot_carousel.specs.Carousel.{objects_without as whole_objects_without, renewed_object}
-use Rattle.mot_carousel.specs.Carousel.{used_ids, free_object_id, IsSound}
-use Rattle.mot_carousel.specs.Ids.{contains, is_distinct}
-use Rattle.mot_carousel.specs.Stands.{object_of}
-use Rattle.mot_carousel.proofs.Laws as sound
 use Rattle.mot_journal.specs.declared.record.Record.{Record}
 use Rattle.mot_journal.specs.declared.record.Action.{Action}
 use Rattle.mot_journal.specs.declared.record.Action.TheVariants.{Nothing}
@@ -27,6 +15,18 @@ use Rattle.mot_journal.specs.Catalogue.{Placed, Catalogue, put_in_place, placed_
 use Rattle.mot_journal.specs.Catalogue.{in_place_or_appended, objects_after, are_all_apart}
 use Rattle.mot_journal.specs.Catalogue.{is_consistent, catalogue_after, body_in_area, carousel_in}
 use Rattle.mot_journal.specs.Catalogue.{extents_of}
+use Rattle.mot_numbers.specs.declared.refusal.Refusal.TheVariants.{NameTaken, TooManyObjects}
+use Rattle.mot_objects.specs.declared.command.Command.{Command}
+use Rattle.mot_objects.specs.declared.command.Command.TheVariants.{Put, Replace, Withdraw, Period}
+use Rattle.mot_objects.specs.declared.command.Done.{Done}
+use Rattle.mot_objects.specs.Content.{ContentNumbers}
+use Rattle.mot_objects.specs.Carousel.{Object, Carousel, change, change_to, change_if_named}
+use Rattle.mot_objects.specs.Carousel.{has_name, objects_with as whole_objects_with}
+use Rattle.mot_objects.specs.Carousel.{objects_without as whole_objects_without, renewed_object}
+use Rattle.mot_objects.specs.Carousel.{used_ids, free_object_id, IsSound}
+use Rattle.mot_objects.specs.Ids.{contains, is_distinct}
+use Rattle.mot_objects.specs.Stands.{object_of}
+use Rattle.mot_objects.proofs.Laws as sound
 use Rattle.mot_repository.specs.Gap.{is_beside}
 use Rattle.mot_repository.specs.Inner.Following.{extent_of, extents_with, extents_without}
 use Rattle.mot_repository.specs.Inner.Following.{placed_extents_after, object_named, set_action}

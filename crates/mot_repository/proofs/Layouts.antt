@@ -7,14 +7,14 @@ use Rattle.std.specs.Prelude.{All, nat_le, nat_lt, not, ◌==◌}
 use Rattle.std.specs.List.{AllByRecursion, list_all}
 use Rattle.std.specs.Option.{option_map_or}
 use Rattle.std.specs.Str.{is_utf8}
-use Rattle.mot_base.specs.declared.geometry.Geometry.{Geometry}
 use Rattle.mot_journal.specs.declared.layout.Layout.TheVariants.{One, Two}
 use Rattle.mot_journal.specs.declared.record.Record.{Record}
-use Rattle.mot_base.specs.Geometry.{is_within}
 use Rattle.mot_journal.specs.Slot.{is_sound, slot_count}
-use Rattle.mot_carousel.specs.Mime.{is_mime}
-use Rattle.mot_carousel.specs.Name.{is_name}
 use Rattle.mot_journal.specs.Catalogue.{Placed, Catalogue}
+use Rattle.mot_numbers.specs.declared.geometry.Geometry.{Geometry}
+use Rattle.mot_numbers.specs.Geometry.{is_within}
+use Rattle.mot_objects.specs.Mime.{is_mime}
+use Rattle.mot_objects.specs.Name.{is_name}
 use Rattle.mot_repository.specs.Laws.{records_of_catalogue}
 use Rattle.mot_repository.specs.Whole.{IsSoundPlaced, IsWhole}
 use Rattle.mot_repository.proofs.Soundness.{is_rewriting}

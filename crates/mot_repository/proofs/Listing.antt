@@ -8,11 +8,11 @@ use Rattle.std.proofs.lemmas.Bool.{lt-ltb, le-ltb}
 use Rattle.std.proofs.lemmas.Iterator.Adapters.{position_from-zero}
 use Rattle.std.proofs.lemmas.List.{map_push}
 use Rattle.std.proofs.lemmas.List.Elements.{All-head, All-tail}
-use Rattle.mot_carousel.specs.declared.object.Object.{Object}
-use Rattle.mot_carousel.specs.Ids.{contains}
-use Rattle.mot_carousel.specs.Stands.{index_of}
 use Rattle.mot_journal.specs.Catalogue.{Placed, put_in_place, placed_without, are_apart}
 use Rattle.mot_journal.specs.Catalogue.{are_all_apart}
+use Rattle.mot_objects.specs.declared.object.Object.{Object}
+use Rattle.mot_objects.specs.Ids.{contains}
+use Rattle.mot_objects.specs.Stands.{index_of}
 use Rattle.mot_repository.specs.Extents.{objects_in}
 use Rattle.mot_repository.specs.Gap.{is_free, is_beside}
 use Rattle.mot_repository.specs.Inner.Fold.{HaveLengths, are_extents_apart, objects_set}

@@ -8,16 +8,10 @@ use Rattle.disk_model.specs.Disk.{State, IsStill, IsUnchanged, IsFirm, IsHonestD
 use Rattle.disk_model.specs.Disk.{KeepsLength, OnlyReads, OnlySyncs}
 use Rattle.disk_model.proofs.Laws.{keeps_on}
 use Rattle.disk_model.specs.Failures.{Rises, HasCause}
-use Rattle.mot_base.specs.Geometry.{length_of}
-use Rattle.mot_base.specs.declared.geometry.Geometry.{Geometry}
-use Rattle.mot_base.specs.declared.refusal.Refusal.{Refusal}
-use Rattle.mot_carousel.specs.declared.carousel.Carousel.{Carousel}
-use Rattle.mot_carousel.specs.declared.object.Object.{Object}
 use Rattle.mot_journal.specs.declared.layout.Layout.{Layout}
 use Rattle.mot_journal.specs.declared.record.Record.{Record}
 use Rattle.mot_journal.specs.declared.record.Action.{Action}
 use Rattle.mot_journal.specs.declared.record.Action.TheVariants.{Nothing, Set, Remove}
-use Rattle.mot_base.specs.Geometry.{is_valid}
 use Rattle.mot_journal.specs.Slot.{is_sound}
 use Rattle.mot_journal.specs.Catalogue.{Placed, catalogue_of, carousel_in, extents_of, result_then}
 use Rattle.mot_journal.specs.Image.{DiskRecords, records_of, stands_for, area_of}
@@ -25,6 +19,12 @@ use Rattle.mot_journal.specs.Journal.{JournalView, with_records, IsLoadRefusal}
 use Rattle.mot_journal.specs.Journal.IsLoadRefusal.{not_formatted as no_format}
 use Rattle.mot_journal.specs.Journal.IsLoadRefusal.{damaged as no_record, no_memory as no_room}
 use Rattle.mot_journal.specs.Journal.IsLoadRefusal.{device as fault}
+use Rattle.mot_numbers.specs.Geometry.{length_of}
+use Rattle.mot_numbers.specs.declared.geometry.Geometry.{Geometry}
+use Rattle.mot_numbers.specs.declared.refusal.Refusal.{Refusal}
+use Rattle.mot_numbers.specs.Geometry.{is_valid}
+use Rattle.mot_objects.specs.declared.carousel.Carousel.{Carousel}
+use Rattle.mot_objects.specs.declared.object.Object.{Object}
 use Rattle.mot_repository.specs.Extents.{ArePaired, catalogue_with, objects_in}
 use Rattle.mot_repository.specs.Inner.Fold.{HaveLengths, IsFoldRefusal, HasShortId, HasShortIds}
 use Rattle.mot_repository.specs.Inner.InOrder.{IsInOrder}

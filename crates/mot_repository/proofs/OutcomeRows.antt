@@ -1,14 +1,14 @@
 -- What commands come to, computed on worked rows.
 use Rattle.std.proofs.Common.{◌≡◌, ℕ, List, [], ◌∷◌, replicate, Some, None, Ok, Err, refl}
-use Rattle.mot_base.specs.declared.geometry.Geometry.{Geometry}
-use Rattle.mot_base.specs.declared.refusal.Refusal.TheVariants.{BadName, NameTaken, NoSuchName}
-use Rattle.mot_base.specs.declared.refusal.Refusal.TheVariants.{TooManyObjects, NoRoom}
-use Rattle.mot_carousel.specs.declared.command.Command.TheVariants.{Put, Replace, Withdraw, Period}
-use Rattle.mot_carousel.specs.Content.{ContentNumbers}
-use Rattle.mot_carousel.specs.Carousel.{Object, Carousel, change}
-use Rattle.mot_carousel.specs.Ids.{next_free_id}
 use Rattle.mot_journal.specs.declared.layout.Layout.TheVariants.{One, Two}
 use Rattle.mot_journal.specs.Image.{Standing}
+use Rattle.mot_numbers.specs.declared.geometry.Geometry.{Geometry}
+use Rattle.mot_numbers.specs.declared.refusal.Refusal.TheVariants.{BadName, NameTaken, NoSuchName}
+use Rattle.mot_numbers.specs.declared.refusal.Refusal.TheVariants.{TooManyObjects, NoRoom}
+use Rattle.mot_objects.specs.declared.command.Command.TheVariants.{Put, Replace, Withdraw, Period}
+use Rattle.mot_objects.specs.Content.{ContentNumbers}
+use Rattle.mot_objects.specs.Carousel.{Object, Carousel, change}
+use Rattle.mot_objects.specs.Ids.{next_free_id}
 use Rattle.mot_repository.specs.Gap.{least_gap}
 use Rattle.mot_repository.specs.Outcome.{after_command}
 

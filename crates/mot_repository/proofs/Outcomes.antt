@@ -4,21 +4,21 @@ use Rattle.std.proofs.Common.{replicate, Option, Some, None, Result, Ok, Err, re
 use Rattle.std.proofs.Common.{subst}
 use Rattle.std.proofs.lemmas.List.{length-replicate}
 use Rattle.std.specs.Prelude.{if◌then◌else◌}
-use Rattle.mot_base.specs.declared.geometry.Geometry.{Geometry}
-use Rattle.mot_base.specs.declared.refusal.Refusal.{Refusal}
-use Rattle.mot_base.specs.declared.refusal.Refusal.TheVariants.{BadName, NameTaken, NoSuchName}
-use Rattle.mot_base.specs.declared.refusal.Refusal.TheVariants.{TooManyObjects, NoRoom}
-use Rattle.mot_carousel.specs.declared.carousel.Carousel as kept
-use Rattle.mot_carousel.specs.declared.command.Command.{Command}
-use Rattle.mot_carousel.specs.declared.command.Done.{Done}
-use Rattle.mot_carousel.specs.declared.object.Object as declared
-use Rattle.mot_carousel.specs.Carousel.{Object, Carousel, change}
-use Rattle.mot_carousel.specs.Stands.{objects_of, carousel_of, bodies_after, AreBodiesOf}
 use Rattle.mot_carousel.proofs.Laws.{refused_by_rules}
 use Rattle.mot_journal.specs.declared.layout.Layout.{Layout}
 use Rattle.mot_journal.specs.declared.record.Record.{Record}
 use Rattle.mot_journal.specs.Catalogue.{result_then}
 use Rattle.mot_journal.specs.Image.{Standing}
+use Rattle.mot_numbers.specs.declared.geometry.Geometry.{Geometry}
+use Rattle.mot_numbers.specs.declared.refusal.Refusal.{Refusal}
+use Rattle.mot_numbers.specs.declared.refusal.Refusal.TheVariants.{BadName, NameTaken, NoSuchName}
+use Rattle.mot_numbers.specs.declared.refusal.Refusal.TheVariants.{TooManyObjects, NoRoom}
+use Rattle.mot_objects.specs.declared.carousel.Carousel as kept
+use Rattle.mot_objects.specs.declared.command.Command.{Command}
+use Rattle.mot_objects.specs.declared.command.Done.{Done}
+use Rattle.mot_objects.specs.declared.object.Object as declared
+use Rattle.mot_objects.specs.Carousel.{Object, Carousel, change}
+use Rattle.mot_objects.specs.Stands.{objects_of, carousel_of, bodies_after, AreBodiesOf}
 use Rattle.mot_repository.specs.Extents.{names_kept}
 use Rattle.mot_repository.specs.Outcome.{has_long_name, start_of, or_no_room, extents_after}
 use Rattle.mot_repository.specs.Outcome.{after_command}

@@ -1,7 +1,5 @@
 -- A journal stands where an image has its records.
 use Rattle.std.proofs.Common.{◌≡◌, ℕ, List, Result, Ok, Err, ap, subst}
-use Rattle.mot_base.specs.declared.geometry.Geometry.{Geometry}
-use Rattle.mot_base.specs.declared.refusal.Refusal.{Refusal}
 use Rattle.mot_journal.specs.declared.layout.Layout.{Layout}
 use Rattle.mot_journal.specs.declared.record.Record.{Record}
 use Rattle.mot_journal.specs.Catalogue.{result_then}
@@ -11,6 +9,8 @@ use Rattle.mot_journal.specs.Image.{or_not_formatted}
 use Rattle.mot_journal.specs.Journal.{JournalView, with_records, StandsWhere}
 use Rattle.mot_journal.specs.Slot.{layout_of}
 use Rattle.mot_journal.proofs.Laws.{geometry_read}
+use Rattle.mot_numbers.specs.declared.geometry.Geometry.{Geometry}
+use Rattle.mot_numbers.specs.declared.refusal.Refusal.{Refusal}
 
 abbrev found : DiskRecords → Result DiskRecords Refusal
 found j = Ok j

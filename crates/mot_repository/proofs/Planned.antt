@@ -8,29 +8,29 @@ use Rattle.std.proofs.lemmas.List.Elements.{All-nil, All-cons}
 use Rattle.std.specs.Prelude.{All, IsFalse, MatchOption}
 use Rattle.std.specs.List.{AllByRecursion}
 use Rattle.std.specs.Option.{option_map_or}
-use Rattle.mot_base.specs.Geometry.{area_start}
-use Rattle.mot_base.specs.declared.geometry.Geometry.{Geometry}
-use Rattle.mot_base.specs.declared.refusal.Refusal.{Refusal}
-use Rattle.mot_base.specs.declared.refusal.Refusal.TheVariants.{BadName, NoRoom, OutOfMemory}
-use Rattle.mot_carousel.specs.Carousel.{change}
-use Rattle.mot_carousel.specs.Carousel as whole
-use Rattle.mot_carousel.specs.Mime.{IsMime}
-use Rattle.mot_carousel.proofs.Laws.{name_true, mime_true}
-use Rattle.mot_carousel.specs.Stands.{object_of, objects_of, carousel_of, bodies_after, IsPlan}
-use Rattle.mot_carousel.specs.declared.carousel.Carousel.{Carousel}
-use Rattle.mot_carousel.specs.declared.command.Command.{Command}
-use Rattle.mot_carousel.specs.declared.command.Command.TheVariants.{Put, Replace, Withdraw, Period}
-use Rattle.mot_carousel.specs.declared.command.Done.{Done}
-use Rattle.mot_carousel.specs.declared.object.Object.{Object}
 use Rattle.mot_journal.specs.Catalogue.{Placed, Catalogue, body_in_area, carousel_in}
-use Rattle.mot_base.specs.Geometry.{is_valid}
 use Rattle.mot_journal.specs.Slot.{is_sound, is_sound_action, longest_name, slot_count}
-use Rattle.mot_carousel.specs.Mime.{is_mime}
 use Rattle.mot_journal.specs.declared.layout.Layout.{Layout}
 use Rattle.mot_journal.specs.declared.layout.Layout.TheVariants.{One, Two}
 use Rattle.mot_journal.specs.declared.record.Action.{Action}
 use Rattle.mot_journal.specs.declared.record.Action.TheVariants.{Nothing, Set, Remove}
 use Rattle.mot_journal.specs.declared.record.Record.{Record}
+use Rattle.mot_numbers.specs.Geometry.{area_start}
+use Rattle.mot_numbers.specs.declared.geometry.Geometry.{Geometry}
+use Rattle.mot_numbers.specs.declared.refusal.Refusal.{Refusal}
+use Rattle.mot_numbers.specs.declared.refusal.Refusal.TheVariants.{BadName, NoRoom, OutOfMemory}
+use Rattle.mot_numbers.specs.Geometry.{is_valid}
+use Rattle.mot_objects.specs.Carousel.{change}
+use Rattle.mot_objects.specs.Carousel as whole
+use Rattle.mot_objects.specs.Mime.{IsMime}
+use Rattle.mot_objects.proofs.Laws.{name_true, mime_true}
+use Rattle.mot_objects.specs.Stands.{object_of, objects_of, carousel_of, bodies_after, IsPlan}
+use Rattle.mot_objects.specs.declared.carousel.Carousel.{Carousel}
+use Rattle.mot_objects.specs.declared.command.Command.{Command}
+use Rattle.mot_objects.specs.declared.command.Command.TheVariants.{Put, Replace, Withdraw, Period}
+use Rattle.mot_objects.specs.declared.command.Done.{Done}
+use Rattle.mot_objects.specs.declared.object.Object.{Object}
+use Rattle.mot_objects.specs.Mime.{is_mime}
 use Rattle.mot_repository.specs.Answers.{IsRefusal}
 use Rattle.mot_repository.specs.Extents.{objects_in, catalogue_in, catalogue_with, names_kept}
 use Rattle.mot_repository.specs.Extents.{ArePaired}

@@ -5,22 +5,22 @@ use Rattle.std.proofs.Common.{refl, subst, arith}
 use Rattle.std.specs.Prelude.{All, nat_le, take_while}
 use Rattle.std.specs.List.{AllByRecursion, prefix_len}
 use Rattle.std.proofs.lemmas.Bool.{and_parts, leb-true}
-use Rattle.mot_base.specs.Fields.{number_in}
-use Rattle.mot_base.specs.Reading.{◌>>=◌}
-use Rattle.mot_base.specs.declared.refusal.Refusal.{Refusal}
-use Rattle.mot_carousel.specs.Content.{ContentNumbers}
-use Rattle.mot_base.specs.declared.geometry.Geometry.{Geometry}
 use Rattle.mot_journal.specs.declared.layout.Layout.{Layout}
 use Rattle.mot_journal.specs.declared.record.Record.{Record}
 use Rattle.mot_journal.specs.declared.record.Action.{Action}
 use Rattle.mot_journal.specs.declared.record.Action.TheVariants.{Nothing, Set, Remove}
-use Rattle.mot_base.specs.Geometry.{length_of, half_start, half_size}
 use Rattle.mot_journal.specs.Geometry.{columns, geometry_in, geometry_of, has_magic, selected_half}
-use Rattle.mot_base.specs.Geometry.{is_valid}
 use Rattle.mot_journal.specs.Slot.{slot_size, slot_count, is_open, is_sound, read_slot, layout_of}
 use Rattle.mot_journal.specs.Catalogue.{or_damaged, result_then}
 use Rattle.mot_journal.specs.Image.{DiskRecords, records_of, records_in, slots_in, slots_of}
 use Rattle.mot_journal.specs.Image.{half_of, journal_in_half, or_not_formatted}
+use Rattle.mot_numbers.specs.Fields.{number_in}
+use Rattle.mot_numbers.specs.Reading.{◌>>=◌}
+use Rattle.mot_numbers.specs.declared.refusal.Refusal.{Refusal}
+use Rattle.mot_numbers.specs.declared.geometry.Geometry.{Geometry}
+use Rattle.mot_numbers.specs.Geometry.{length_of, half_start, half_size}
+use Rattle.mot_numbers.specs.Geometry.{is_valid}
+use Rattle.mot_objects.specs.Content.{ContentNumbers}
 
 -- each of the numbers is a byte
 abbrev pub AreBytes : List ℕ → Type 0

@@ -6,15 +6,15 @@ use Rattle.std.proofs.lemmas.Bool.{and_parts, and_from, or_parts, or_from, not-t
 use Rattle.std.proofs.lemmas.Bool.{lt-ltb}
 use Rattle.std.specs.Prelude.{nat_eq, bytes_eq, option_map}
 use Rattle.std.specs.List.{list_any, list_all}
-use Rattle.mot_base.specs.declared.refusal.Refusal.{Refusal}
-use Rattle.mot_carousel.specs.Carousel.{are_names_distinct}
-use Rattle.mot_carousel.specs.Ids.{contains, is_distinct}
 use Rattle.mot_journal.specs.declared.record.Record.{Record}
 use Rattle.mot_journal.specs.declared.record.Action.TheVariants.{Nothing, Set}
 use Rattle.mot_journal.specs.Catalogue.{Placed, Catalogue, new_catalogue, put_in_place}
 use Rattle.mot_journal.specs.Catalogue.{in_place_or_appended, objects_after, are_apart}
 use Rattle.mot_journal.specs.Catalogue.{are_all_apart, is_consistent, catalogue_after, or_damaged}
 use Rattle.mot_journal.specs.Catalogue.{result_then, fold_from, catalogue_of}
+use Rattle.mot_numbers.specs.declared.refusal.Refusal.{Refusal}
+use Rattle.mot_objects.specs.Carousel.{are_names_distinct}
+use Rattle.mot_objects.specs.Ids.{contains, is_distinct}
 use Rattle.mot_repository.specs.Laws.{records_of_objects, records_of_catalogue}
 use Rattle.mot_repository.specs.Inner.Following.{RewritingKeepsTheCatalogue}
 use Rattle.mot_repository.specs.Whole.{placed_names, IsGood}

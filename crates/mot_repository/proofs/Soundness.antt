@@ -13,27 +13,27 @@ use Rattle.std.specs.Prelude.{⊤, ◌==◌, MatchOption, bytes_eq, codes, nat_l
 use Rattle.std.specs.List.{AllByRecursion, list_all}
 use Rattle.std.specs.Str.{is_utf8}
 use Rattle.std.specs.Option.{option_map_or}
-use Rattle.mot_base.specs.declared.refusal.Refusal.{Refusal}
-use Rattle.mot_carousel.specs.Carousel.{Object, are_names_distinct, IsSound}
-use Rattle.mot_carousel.specs.Ids.{is_distinct}
-use Rattle.mot_carousel.specs.Mime.{IsMime}
-use Rattle.mot_carousel.specs.Name.{IsName}
-use Rattle.mot_carousel.specs.Stands.{object_of}
-use Rattle.mot_base.specs.declared.geometry.Geometry.{Geometry}
 use Rattle.mot_journal.specs.declared.layout.Layout.{Layout}
 use Rattle.mot_journal.specs.declared.layout.Layout.TheVariants.{One, Two}
 use Rattle.mot_journal.specs.declared.record.Record.{Record}
 use Rattle.mot_journal.specs.declared.record.Action.{Action}
 use Rattle.mot_journal.specs.declared.record.Action.TheVariants.{Nothing, Set, Remove}
-use Rattle.mot_base.specs.Geometry.{is_valid, is_within, is_packet_length}
 use Rattle.mot_journal.specs.Slot.{is_sound, is_sound_action, longest_name}
-use Rattle.mot_carousel.specs.Mime.{is_mime}
-use Rattle.mot_carousel.specs.Name.{is_name}
 use Rattle.mot_journal.specs.Catalogue.{Placed, Catalogue, new_catalogue, catalogue_of}
 use Rattle.mot_journal.specs.Catalogue.{catalogue_after, are_all_apart, body_in_area, carousel_in}
 use Rattle.mot_journal.specs.Catalogue.{result_then}
 use Rattle.mot_journal.specs.Gaps.{AreBeside, standing_of}
 use Rattle.mot_journal.specs.Image.{DiskRecords, Standing, records_of, stands_for, area_of}
+use Rattle.mot_numbers.specs.declared.refusal.Refusal.{Refusal}
+use Rattle.mot_numbers.specs.declared.geometry.Geometry.{Geometry}
+use Rattle.mot_numbers.specs.Geometry.{is_valid, is_within, is_packet_length}
+use Rattle.mot_objects.specs.Carousel.{Object, are_names_distinct, IsSound}
+use Rattle.mot_objects.specs.Ids.{is_distinct}
+use Rattle.mot_objects.specs.Mime.{IsMime}
+use Rattle.mot_objects.specs.Name.{IsName}
+use Rattle.mot_objects.specs.Stands.{object_of}
+use Rattle.mot_objects.specs.Mime.{is_mime}
+use Rattle.mot_objects.specs.Name.{is_name}
 use Rattle.mot_repository.specs.Gap.{is_beside}
 use Rattle.mot_repository.specs.Laws.{records_of_objects, records_of_catalogue}
 use Rattle.mot_repository.specs.Inner.Following.{StandingsAreSound}

@@ -1,8 +1,8 @@
 -- How many calls of the disk a command makes.
 use Rattle.std.specs.Prelude.{ℕ, ◌+◌, nat_le, if◌then◌else◌, List, [], ◌∷◌}
-use Rattle.mot_carousel.specs.declared.command.Command.{Command}
 use Rattle.mot_journal.specs.Journal.{JournalView}
 use Rattle.mot_journal.specs.Slot.{slot_count}
+use Rattle.mot_objects.specs.declared.command.Command.{Command}
 use Rattle.mot_repository.specs.Outcome.{body_of}
 
 -- where the half is full, the slots of the other one, a sync, the selector, and a sync

@@ -1,8 +1,8 @@
 -- Where the bodies lie.
 use Rattle.std.specs.Prelude.{◌≡◌, ℕ, List, map, [], ◌∷◌}
-use Rattle.mot_carousel.specs.declared.carousel.Carousel.{Carousel}
-use Rattle.mot_carousel.specs.declared.object.Object.{Object}
 use Rattle.mot_journal.specs.Catalogue.{Placed, Catalogue}
+use Rattle.mot_objects.specs.declared.carousel.Carousel.{Carousel}
+use Rattle.mot_objects.specs.declared.object.Object.{Object}
 use Rattle.mot_repository.specs.Repository.{RepositoryView}
 
 -- the objects that are kept, each where its extent says

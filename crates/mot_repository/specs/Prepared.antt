@@ -1,22 +1,22 @@
 -- What a change that is prepared for a command is, and what it writes.
 use Rattle.std.specs.Prelude.{◌≡◌, ◌<◌, ◌≤◌, All, Bool, true, false, ℕ, ◌+◌, List, [], ◌∷◌, length}
 use Rattle.std.specs.Prelude.{Option, Some, None, Ok, bytes_eq, if◌then◌else◌}
-use Rattle.mot_carousel.specs.declared.carousel.Carousel.{Carousel}
-use Rattle.mot_carousel.specs.declared.object.Object.{Object}
-use Rattle.mot_carousel.specs.declared.command.Command.{Command}
-use Rattle.mot_carousel.specs.declared.command.Command.TheVariants.{Put, Replace, Withdraw, Period}
-use Rattle.mot_carousel.specs.declared.command.Done.{Done}
-use Rattle.mot_carousel.specs.Carousel.{change}
-use Rattle.mot_carousel.specs.Stands.{carousel_of, bodies_after, AreBodiesOf}
 use Rattle.mot_journal.specs.declared.record.Record.{Record}
 use Rattle.mot_journal.specs.declared.record.Action.{Action}
 use Rattle.mot_journal.specs.declared.record.Action.TheVariants.{Nothing, Set, Remove}
-use Rattle.mot_base.specs.Geometry.{area_start}
 use Rattle.mot_journal.specs.Slot.{is_sound, slot_count}
+use Rattle.mot_journal.specs.Journal.{JournalView}
+use Rattle.mot_numbers.specs.Geometry.{area_start}
+use Rattle.mot_objects.specs.declared.carousel.Carousel.{Carousel}
+use Rattle.mot_objects.specs.declared.object.Object.{Object}
+use Rattle.mot_objects.specs.declared.command.Command.{Command}
+use Rattle.mot_objects.specs.declared.command.Command.TheVariants.{Put, Replace, Withdraw, Period}
+use Rattle.mot_objects.specs.declared.command.Done.{Done}
+use Rattle.mot_objects.specs.Carousel.{change}
+use Rattle.mot_objects.specs.Stands.{carousel_of, bodies_after, AreBodiesOf}
 use Rattle.mot_repository.specs.Extents.{catalogue_in, names_kept}
 use Rattle.mot_repository.specs.Laws.{records_of_catalogue}
 use Rattle.mot_repository.specs.Outcome.{body_of, extents_after, has_long_name, start_of}
-use Rattle.mot_journal.specs.Journal.{JournalView}
 use Rattle.mot_repository.specs.Repository.{RepositoryView}
 
 -- the first object of this name

@@ -1,8 +1,8 @@
 -- What a repository has ready for a command that was accepted.
 use Rattle.std.specs.Prelude.{◌≡◌, ◌+◌, ◌≤◌, true, length}
-use Rattle.mot_base.specs.Geometry.{length_of}
-use Rattle.mot_carousel.specs.declared.command.Command.{Command}
 use Rattle.mot_journal.specs.Slot.{is_sound}
+use Rattle.mot_numbers.specs.Geometry.{length_of}
+use Rattle.mot_objects.specs.declared.command.Command.{Command}
 use Rattle.mot_repository.specs.declared.prepared.Prepared.{Prepared}
 use Rattle.mot_repository.specs.Extents.{catalogue_with}
 use Rattle.mot_repository.specs.Whole.{IsWhole}

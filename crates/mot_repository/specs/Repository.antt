@@ -1,15 +1,15 @@
 -- A repository, its disk, and what both stand for.
 use Rattle.std.specs.Prelude.{◌≡◌, ◌⊎◌, ℕ, zero, suc, Bool, List, [], ◌∷◌, Ok, IsFalse}
 use Rattle.disk_model.specs.Disk.{State}
-use Rattle.mot_carousel.specs.declared.carousel.Carousel.{Carousel}
-use Rattle.mot_carousel.specs.declared.command.Command.{Command}
-use Rattle.mot_carousel.specs.declared.command.Done.{Done}
-use Rattle.mot_carousel.specs.Carousel.{Object}
-use Rattle.mot_carousel.specs.Stands.{carousel_of, AreBodiesOf}
 use Rattle.mot_journal.specs.declared.layout.Layout.{Layout}
 use Rattle.mot_journal.specs.declared.record.Record.{Record}
 use Rattle.mot_journal.specs.Journal.{JournalView, HoldsRecords}
 use Rattle.mot_journal.specs.Image.{Standing, stands_for, IsClean}
+use Rattle.mot_objects.specs.declared.carousel.Carousel.{Carousel}
+use Rattle.mot_objects.specs.declared.command.Command.{Command}
+use Rattle.mot_objects.specs.declared.command.Done.{Done}
+use Rattle.mot_objects.specs.Carousel.{Object}
+use Rattle.mot_objects.specs.Stands.{carousel_of, AreBodiesOf}
 use Rattle.mot_repository.specs.Outcome.{after_command}
 
 -- what a repository keeps in memory

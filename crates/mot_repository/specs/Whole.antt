@@ -1,13 +1,13 @@
 -- What records without faults make.
 use Rattle.std.specs.Prelude.{◌≡◌, ℕ, ◌≤◌, true, List, length, map}
 use Rattle.std.specs.List.{AllByRecursion}
-use Rattle.mot_base.specs.declared.geometry.Geometry.{Geometry}
-use Rattle.mot_carousel.specs.Carousel.{are_names_distinct}
 use Rattle.mot_journal.specs.declared.layout.Layout.{Layout}
 use Rattle.mot_journal.specs.declared.record.Action.{Action}
 use Rattle.mot_journal.specs.declared.record.Action.TheVariants.{Set}
 use Rattle.mot_journal.specs.Slot.{is_sound_action}
 use Rattle.mot_journal.specs.Catalogue.{Placed, Catalogue, is_consistent}
+use Rattle.mot_numbers.specs.declared.geometry.Geometry.{Geometry}
+use Rattle.mot_objects.specs.Carousel.{are_names_distinct}
 
 abbrev pub placed_names : List Placed → List (List ℕ)
 placed_names objects = map (λ (p : Placed). p.object.name) objects

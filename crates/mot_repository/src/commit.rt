@@ -3,14 +3,14 @@ ghost use Rattle.std.specs.Prelude.{◌≡◌, ◌+◌, ◌≤◌, ◌<◌, ℕ,
 ghost use Rattle.std.specs.Prelude.{All, IfErr, IsFalse};
 ghost use Rattle.disk_model.specs.Disk.{Keeps, Costs, Throughout};
 ghost use Rattle.disk_model.specs.Failures.{HasCause};
-ghost use Rattle.mot_base.specs.declared.refusal.Refusal.TheVariants.{DeviceFault};
-ghost use Rattle.mot_base.specs.Geometry.{area_start, length_of};
-ghost use Rattle.mot_carousel.specs.declared.carousel.Carousel.{Carousel};
-ghost use Rattle.mot_carousel.specs.declared.command.Command.{Command};
-ghost use Rattle.mot_carousel.specs.declared.command.Done.{Done};
 ghost use Rattle.mot_journal.specs.Slot.{is_sound, slot_count};
 ghost use Rattle.mot_journal.specs.Catalogue.{Catalogue, catalogue_of};
 ghost use Rattle.mot_journal.specs.Image.{Standing};
+ghost use Rattle.mot_numbers.specs.declared.refusal.Refusal.TheVariants.{DeviceFault};
+ghost use Rattle.mot_numbers.specs.Geometry.{area_start, length_of};
+ghost use Rattle.mot_objects.specs.declared.carousel.Carousel.{Carousel};
+ghost use Rattle.mot_objects.specs.declared.command.Command.{Command};
+ghost use Rattle.mot_objects.specs.declared.command.Done.{Done};
 ghost use Rattle.mot_repository.specs.Cost.{calls_for, calls_for_room};
 ghost use Rattle.mot_repository.specs.Inner.Following.{RecordsFollowCommands};
 ghost use Rattle.mot_repository.specs.Inner.Following.{RewritingKeepsTheCatalogue};
@@ -26,8 +26,8 @@ mod entry;
 
 use disk_model::Disk;
 use entry::write_change;
-use mot_base::Refusal;
 use mot_journal::{Journal, Record};
+use mot_numbers::Refusal;
 
 /// Where the half is full, writes the given records into the other one, and selects it.
 fn make_room<D: Disk>(journal: &mut Journal, disk: &mut D, given: &[Record]) -> Result<(), Refusal>

@@ -1,7 +1,7 @@
 //! The carousel that is kept in memory, and where its bodies lie.
 ghost use Rattle.mot_repository.specs.Extents.{ArePaired};
 
-use mot_carousel::Carousel;
+use mot_objects::Carousel;
 
 /// A carousel without its bodies, and where in the data area these lie.
 #[derive(Drop)]

@@ -1,7 +1,7 @@
 //! A disk opened: its records folded into a carousel, whose bodies stay where they lie.
 ghost use Rattle.std.specs.Prelude.{◌≡◌, ◌≤◌, ◌+◌, ◌⊎◌, false, IfOk, IfErr, IsFalse, MatchResult};
 ghost use Rattle.disk_model.specs.Disk.{Costs, OnlyReads, OnlySyncs};
-ghost use Rattle.mot_base.specs.declared.refusal.Refusal.TheVariants.{DeviceFault};
+ghost use Rattle.mot_numbers.specs.declared.refusal.Refusal.TheVariants.{DeviceFault};
 ghost use Rattle.mot_repository.specs.Inner.InOrder.{IsInOrder};
 ghost use Rattle.mot_repository.specs.Inner.Loaded.{IsLoaded};
 ghost use Rattle.mot_repository.specs.Opening.{IsOpened, IsOpeningRefusal};
@@ -14,8 +14,8 @@ use crate::Repository;
 use crate::inventory::Inventory;
 use disk_model::Disk;
 use fold::inventory_of;
-use mot_base::Refusal;
 use mot_journal::{Journal, load};
+use mot_numbers::Refusal;
 use std::alloc::Global;
 
 /// Why a disk was not opened, and the disk.

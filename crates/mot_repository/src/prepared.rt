@@ -1,7 +1,7 @@
 //! A command for which all memory was taken, and nothing was written.
 ghost use Rattle.std.specs.Prelude.{◌≡◌, ◌≤◌, ◌+◌, true, IsTrue, IsFalse, IfOk, IfErr};
-ghost use Rattle.mot_base.specs.Geometry as Sizes;
-ghost use Rattle.mot_base.specs.Geometry.{is_valid};
+ghost use Rattle.mot_numbers.specs.Geometry as Sizes;
+ghost use Rattle.mot_numbers.specs.Geometry.{is_valid};
 ghost use Rattle.mot_repository.specs.Answers.{IsRefusal};
 ghost use Rattle.mot_repository.specs.Extents.{catalogue_with};
 ghost use Rattle.mot_repository.specs.Whole.{IsWhole};
@@ -16,9 +16,10 @@ mod placing;
 
 use crate::inventory::Inventory;
 use crate::records::{record_of_change, records_of};
-use mot_base::{Geometry, Refusal};
-use mot_carousel::{Carousel, Command, Done, plan};
+use mot_carousel::plan;
 use mot_journal::{Layout, Record, area_start};
+use mot_numbers::{Geometry, Refusal};
+use mot_objects::{Carousel, Command, Done};
 use placing::{body_start, extents_after};
 use std::alloc::{AllocError, Global};
 

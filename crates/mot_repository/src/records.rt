@@ -7,8 +7,8 @@ ghost use Rattle.mot_repository.specs.Laws.{records_of_catalogue};
 ghost use Rattle.mot_repository.specs.Prepared.{kept_action, kept_record};
 
 use crate::inventory::Inventory;
-use mot_carousel::{BodyLength, Carousel, Command, Object};
 use mot_journal::{Action, Record};
+use mot_objects::{BodyLength, Carousel, Command, Object};
 use std::alloc::{AllocError, Global};
 
 /// The records that a full half is rewritten to: one that sets each object, or one of kind nothing

@@ -8,9 +8,9 @@ use crate::inventory::Inventory;
 use crate::prepared::{Prepared, prepare_change};
 use crate::records::records_of;
 use disk_model::Disk;
-use mot_base::Refusal;
-use mot_carousel::{Carousel, Command, Done};
 use mot_journal::{Geometry, Journal, Layout, area_start};
+use mot_numbers::Refusal;
+use mot_objects::{Carousel, Command, Done};
 use std::alloc::Global;
 use std::marker::Model;
 
@@ -46,11 +46,11 @@ impl<D: Disk> Repository<D> {
     ghost use Rattle.disk_model.specs.Disk.{Keeps, KeepsLength, Costs, IsUnchanged, OnlyReads};
     ghost use Rattle.disk_model.specs.Failures.{HasCause};
     ghost use Rattle.disk_model.specs.Disk.{Throughout};
-    ghost use Rattle.mot_base.specs.declared.refusal.Refusal.TheVariants.{DeviceFault};
-    ghost use Rattle.mot_base.specs.Geometry.{area_start};
-    ghost use Rattle.mot_carousel.specs.declared.command.Command.{Command};
+    ghost use Rattle.mot_numbers.specs.declared.refusal.Refusal.TheVariants.{DeviceFault};
+    ghost use Rattle.mot_numbers.specs.Geometry.{area_start};
+    ghost use Rattle.mot_objects.specs.declared.command.Command.{Command};
     ghost use Rattle.mot_journal.specs.declared.layout.Layout.TheVariants.{One, Two};
-    ghost use Rattle.mot_base.specs.Geometry.{is_valid};
+    ghost use Rattle.mot_numbers.specs.Geometry.{is_valid};
     ghost use Rattle.mot_journal.specs.Image.{Standing, stands_for, IsClean, IsInLayoutTwo};
     ghost use Rattle.mot_journal.specs.Image.{gate_reads};
     ghost use Rattle.mot_journal.specs.Journal.{StandsWhere};

@@ -4,8 +4,8 @@ use Rattle.std.proofs.Common.{replicate, refl, sym, ap, ◌∙◌, arith, slice_
 use Rattle.std.proofs.Common.{length-append, length-drop, drop, ◌-◌, ◌≤◌}
 use Rattle.std.proofs.lemmas.List.{get_or-map, length-replicate}
 use Rattle.std.proofs.Math.Seq.{take-append_seam}
-use Rattle.mot_base.specs.Geometry.{area_start}
-use Rattle.mot_base.specs.declared.geometry.Geometry.{Geometry}
+use Rattle.mot_numbers.specs.Geometry.{area_start}
+use Rattle.mot_numbers.specs.declared.geometry.Geometry.{Geometry}
 use Rattle.mot_player.specs.Bodies.{body_at}
 use Rattle.mot_repository.specs.OnDisk.{extent_at, body_on}
 use Rattle.mot_server.specs.Inner.Bodies.{filled_up, bytes_in, bodies_on}

@@ -6,8 +6,8 @@ use Rattle.std.proofs.lemmas.Bool.{false≢true}
 use Rattle.std.proofs.lemmas.List.{map-append}
 use Rattle.std.specs.Prelude.{◌⊎◌, Result, Ok, Err, OnErr, IsErr, MatchResult}
 use Rattle.arrayvec.specs.ArrayVec.{ArrayVec}
-use Rattle.mot_base.specs.Reading.{read_each}
-use Rattle.mot_base.proofs.Laws.{read_each-append}
+use Rattle.mot_numbers.specs.Reading.{read_each}
+use Rattle.mot_numbers.proofs.Laws.{read_each-append}
 use Rattle.mot_packets.specs.Packet.{PacketFields, read_packet}
 use Rattle.mot_packets.specs.Written.{bytes_of_packet}
 use Rattle.mot_player.specs.AnyBodies.{IsStepOfSome, PlaysOn, PlaysToTheEnd}

@@ -3,15 +3,15 @@ use Rattle.std.proofs.Common.{◌≡◌, ℕ, Bool, false, List, [], ◌∷◌, 
 use Rattle.std.proofs.Common.{Option, Some, None, sym, subst}
 use Rattle.std.specs.Prelude.{◌&&◌, nat_le, if◌then◌else◌}
 use Rattle.disk_model.specs.Disk.{State}
-use Rattle.mot_base.specs.declared.geometry.Geometry.{Geometry}
-use Rattle.mot_base.specs.Reading.{◌>>=◌}
-use Rattle.mot_base.specs.Geometry.{length_of}
-use Rattle.mot_carousel.specs.declared.command.Command.{Command}
 use Rattle.mot_journal.specs.Geometry.{columns, geometry_in, geometry_of, has_magic}
-use Rattle.mot_base.specs.Geometry.{is_valid}
 use Rattle.mot_journal.specs.Image.{Standing}
 use Rattle.mot_journal.specs.Journal.{new_standing, with_records}
 use Rattle.mot_journal.proofs.Laws.{geometry_read}
+use Rattle.mot_numbers.specs.declared.geometry.Geometry.{Geometry}
+use Rattle.mot_numbers.specs.Reading.{◌>>=◌}
+use Rattle.mot_numbers.specs.Geometry.{length_of}
+use Rattle.mot_numbers.specs.Geometry.{is_valid}
+use Rattle.mot_objects.specs.declared.command.Command.{Command}
 use Rattle.mot_repository.specs.Repository.{RepositoryView}
 use Rattle.mot_repository.specs.Opening.{IsOpened}
 use Rattle.mot_server.specs.History.{IsHistory, HistoriesAreCommands, new, one_more}

@@ -5,16 +5,16 @@ use Rattle.std.proofs.lemmas.List.{append-nil}
 use Rattle.std.specs.Prelude.{if◌then◌else◌}
 use Rattle.disk_model.specs.Disk.{State, Throughout, IsHonestDisk, IsUnchanged}
 use Rattle.disk_model.proofs.Laws.{stays, joins, weakens}
-use Rattle.mot_base.specs.declared.refusal.Refusal.{Refusal}
-use Rattle.mot_carousel.specs.declared.command.Command.{Command}
 use Rattle.mot_journal.specs.declared.layout.Layout.{Layout}
 use Rattle.mot_journal.specs.Image.{Standing}
+use Rattle.mot_numbers.specs.declared.refusal.Refusal.{Refusal}
+use Rattle.mot_objects.specs.declared.command.Command.{Command}
 use Rattle.mot_repository.specs.Repository.{RepositoryView, Holds}
 use Rattle.mot_server.specs.Marks.{AreMarks}
 use Rattle.mot_server.specs.RunEnds.{RunLeaves}
 use Rattle.mot_server.specs.Runs.{accepted_commands, commands_in_flight, IsAfter, StandsAfterSome}
 use Rattle.std.specs.Option.{option_map_or}
-use Rattle.mot_base.specs.Refusal.{is_device_fault}
+use Rattle.mot_numbers.specs.Refusal.{is_device_fault}
 use Rattle.mot_server.proofs.Read.{holds_still}
 use Rattle.mot_server.proofs.Runs.{begins, rests, after_both, more, less_sure}
 

@@ -15,7 +15,7 @@ pub use Rattle.mot_server.proofs.Openings.{opened_holds}
 -- a device fault leaves the carousel in memory as it was
 pub use Rattle.mot_server.proofs.Runs.{still_agrees}
 -- a geometry that is valid
-pub use Rattle.mot_base.proofs.Laws.{valid_is}
+pub use Rattle.mot_numbers.proofs.Laws.{valid_is}
 -- a halted server refuses, and nothing changes
 pub use Rattle.mot_server.proofs.Answered.{not_halted}
 -- runs one after the other, and calls that only read

@@ -1,11 +1,11 @@
 -- What was left of a disk that was formatted here, opened and played.
 use Rattle.std.proofs.Common.{◌≡◌, ⊎_elim, ℕ, false, List, [], Result, subst}
 use Rattle.std.specs.Prelude.{IfOk}
-use Rattle.mot_base.specs.declared.geometry.Geometry.{Geometry}
-use Rattle.mot_carousel.specs.declared.command.Command.{Command}
 use Rattle.mot_journal.specs.Geometry.{has_magic}
 use Rattle.mot_journal.specs.Image.{Standing}
 use Rattle.mot_journal.specs.Journal.{NoneOrNew, new_standing}
+use Rattle.mot_numbers.specs.declared.geometry.Geometry.{Geometry}
+use Rattle.mot_objects.specs.declared.command.Command.{Command}
 use Rattle.mot_player.specs.Reading.{ReadsAs}
 use Rattle.mot_repository.specs.Repository.{IsOf}
 use Rattle.mot_server.specs.Life.{PlaysAfter}

@@ -8,15 +8,15 @@ use Rattle.std.specs.Prelude.{IsFalse, ◌&&◌, nat_le, if◌then◌else◌}
 use Rattle.disk_model.specs.Disk.{State, Elapses, IsHonestDisk, IsStill, IsUnchanged, Nothing}
 use Rattle.disk_model.specs.Disk.{OnlyReads, OnlySyncs}
 use Rattle.disk_model.proofs.Laws.{keeps_on, only_bytes}
-use Rattle.mot_base.specs.declared.geometry.Geometry.{Geometry}
-use Rattle.mot_base.specs.declared.refusal.Refusal.{Refusal}
-use Rattle.mot_base.specs.Geometry.{packet_room, length_of}
-use Rattle.mot_base.specs.Reading.{◌>>=◌}
 use Rattle.mot_journal.specs.Geometry.{columns, geometry_in, geometry_of, has_magic}
-use Rattle.mot_base.specs.Geometry.{is_valid}
 use Rattle.mot_journal.specs.Image.{Standing, stands_for}
 use Rattle.mot_journal.specs.Journal.{HasRecords, with_records}
 use Rattle.mot_journal.proofs.Laws.{geometry_read}
+use Rattle.mot_numbers.specs.declared.geometry.Geometry.{Geometry}
+use Rattle.mot_numbers.specs.declared.refusal.Refusal.{Refusal}
+use Rattle.mot_numbers.specs.Geometry.{packet_room, length_of}
+use Rattle.mot_numbers.specs.Reading.{◌>>=◌}
+use Rattle.mot_numbers.specs.Geometry.{is_valid}
 use Rattle.mot_player.specs.Continuity.{IsContinuous}
 use Rattle.mot_player.specs.Laws.{IsAtTurnsBeginning, StepsAreContinuous}
 use Rattle.mot_player.specs.Place.{Place, Request, opened_place}

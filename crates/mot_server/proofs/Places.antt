@@ -1,15 +1,15 @@
 -- What a run makes of the player's place.
 use Rattle.std.proofs.Common.{◌≡◌, ℕ, Bool, List, [], ◌∷◌, ◌++◌, Some, Ok, refl, sym, ◌∙◌, ap}
 use Rattle.std.proofs.Common.{subst}
-use Rattle.mot_base.specs.declared.geometry.Geometry.{Geometry}
-use Rattle.mot_carousel.specs.declared.command.Command.{Command}
-use Rattle.mot_carousel.specs.declared.command.Done.{Done}
-use Rattle.mot_repository.specs.Outcome.{after_command}
-use Rattle.mot_carousel.specs.Carousel.{Carousel}
 use Rattle.mot_journal.specs.Image.{Standing}
+use Rattle.mot_numbers.specs.declared.geometry.Geometry.{Geometry}
+use Rattle.mot_objects.specs.declared.command.Command.{Command}
+use Rattle.mot_objects.specs.declared.command.Done.{Done}
+use Rattle.mot_objects.specs.Carousel.{Carousel}
 use Rattle.mot_player.specs.Place.{Place, change_turn}
 use Rattle.mot_player.specs.PlayerView as player
 use Rattle.mot_player.specs.Turn.{Turn, turn_of_carousel}
+use Rattle.mot_repository.specs.Outcome.{after_command}
 use Rattle.mot_server.specs.RunEnds.{place_behind}
 use Rattle.mot_server.specs.Runs.{accepted_commands, IsAfter}
 use Rattle.mot_server.proofs.Runs.{after_none, after_one}

@@ -5,10 +5,10 @@ use Rattle.std.proofs.Math.Nat.{eq-or-lt_of_le}
 use Rattle.std.proofs.lemmas.List.{ext_get_or, get_or-map}
 use Rattle.disk_model.specs.Disk.{State, IsHonestDisk, IsUnchanged}
 use Rattle.disk_model.specs.Failures.{Rises}
-use Rattle.mot_base.specs.declared.geometry.Geometry.{Geometry}
-use Rattle.mot_carousel.specs.Carousel as whole
-use Rattle.mot_carousel.specs.Stands.{AreBodiesOf}
 use Rattle.mot_journal.specs.Image.{Standing}
+use Rattle.mot_numbers.specs.declared.geometry.Geometry.{Geometry}
+use Rattle.mot_objects.specs.Carousel as whole
+use Rattle.mot_objects.specs.Stands.{AreBodiesOf}
 use Rattle.mot_repository.specs.Extents.{ArePaired}
 use Rattle.mot_repository.specs.OnDisk.{extent_at, body_on}
 use Rattle.mot_repository.specs.Repository.{RepositoryView, Agrees, Holds, object_body}

@@ -7,18 +7,18 @@ use Rattle.std.proofs.Math.Seq.{take-append-add}
 use Rattle.std.specs.Prelude.{slice_get}
 use Rattle.disk_model.specs.Disk.{State, Throughout, Keeps, IsHonestDisk, IsUnchanged}
 use Rattle.disk_model.proofs.Laws.{begins as begins_moments, stays, joins, weakens, at_end}
-use Rattle.mot_base.specs.Reading.{◌>>=◌}
-use Rattle.mot_base.specs.declared.refusal.Refusal.{Refusal}
-use Rattle.mot_base.specs.declared.refusal.Refusal.TheVariants.{DeviceFault}
-use Rattle.mot_carousel.specs.declared.command.Command.{Command}
-use Rattle.mot_carousel.specs.declared.command.Done.{Done}
-use Rattle.mot_carousel.specs.Carousel.{Carousel, change, carousel_after, carousel_if_accepted}
 use Rattle.mot_carousel.proofs.Laws.{goes_on}
-use Rattle.mot_base.specs.declared.geometry.Geometry.{Geometry}
 use Rattle.mot_journal.specs.declared.layout.Layout.{Layout}
 use Rattle.mot_journal.specs.Image.{Standing}
-use Rattle.mot_carousel.specs.declared.carousel.Carousel as kept
-use Rattle.mot_carousel.specs.Stands.{carousel_of, AreBodiesOf}
+use Rattle.mot_numbers.specs.Reading.{◌>>=◌}
+use Rattle.mot_numbers.specs.declared.refusal.Refusal.{Refusal}
+use Rattle.mot_numbers.specs.declared.refusal.Refusal.TheVariants.{DeviceFault}
+use Rattle.mot_numbers.specs.declared.geometry.Geometry.{Geometry}
+use Rattle.mot_objects.specs.declared.command.Command.{Command}
+use Rattle.mot_objects.specs.declared.command.Done.{Done}
+use Rattle.mot_objects.specs.Carousel.{Carousel, change, carousel_after, carousel_if_accepted}
+use Rattle.mot_objects.specs.declared.carousel.Carousel as kept
+use Rattle.mot_objects.specs.Stands.{carousel_of, AreBodiesOf}
 use Rattle.mot_repository.specs.Answers.{IsHalted}
 use Rattle.mot_repository.specs.Outcome.{after_command}
 use Rattle.mot_repository.specs.Repository.{RepositoryView, IsOf, Agrees, Holds, IsBeforeOrAfter}

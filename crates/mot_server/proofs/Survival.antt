@@ -3,9 +3,9 @@ use Rattle.std.proofs.Common.{◌≡◌, inl, inr, List, [], ◌++◌, append_as
 use Rattle.std.proofs.Common.{Err, sym, ◌∙◌, subst}
 use Rattle.std.specs.Prelude.{IfOk, IfErr, OnOk}
 use Rattle.disk_model.specs.Disk.{State}
-use Rattle.mot_base.specs.declared.refusal.Refusal.{Refusal}
-use Rattle.mot_carousel.specs.declared.command.Command.{Command}
 use Rattle.mot_journal.specs.Image.{Standing, stands_for}
+use Rattle.mot_numbers.specs.declared.refusal.Refusal.{Refusal}
+use Rattle.mot_objects.specs.declared.command.Command.{Command}
 use Rattle.mot_repository.specs.Repository.{IsOf}
 use Rattle.mot_repository.specs.Opening.{IsOpeningRefusal, IsPassing, not_formatted, damaged}
 use Rattle.mot_repository.specs.Opening.{no_memory, device}

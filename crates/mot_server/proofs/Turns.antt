@@ -1,13 +1,13 @@
 -- A server's player plays what its repository keeps.
 use Rattle.std.proofs.Common.{◌≡◌, ℕ, List, [], ◌∷◌, length, map, refl, sym, ap, ◌∙◌, subst}
 use Rattle.std.specs.Prelude.{Result, Ok, Err, IfOk}
-use Rattle.mot_base.specs.Geometry.{packet_room}
-use Rattle.mot_base.specs.declared.geometry.Geometry.{Geometry}
-use Rattle.mot_carousel.specs.Carousel as whole
-use Rattle.mot_carousel.specs.Stands.{AreBodiesOf, carousel_of, objects_of}
-use Rattle.mot_carousel.specs.declared.carousel.Carousel.{Carousel}
-use Rattle.mot_carousel.specs.declared.object.Object.{Object}
 use Rattle.mot_journal.specs.Image as journal
+use Rattle.mot_numbers.specs.Geometry.{packet_room}
+use Rattle.mot_numbers.specs.declared.geometry.Geometry.{Geometry}
+use Rattle.mot_objects.specs.Carousel as whole
+use Rattle.mot_objects.specs.Stands.{AreBodiesOf, carousel_of, objects_of}
+use Rattle.mot_objects.specs.declared.carousel.Carousel.{Carousel}
+use Rattle.mot_objects.specs.declared.object.Object.{Object}
 use Rattle.mot_player.specs.Place.{change_turn, opened_place}
 use Rattle.mot_player.specs.PlayerView.{AreBodiesFor, PlayerView, TurnPlan, place_of, turn_with}
 use Rattle.mot_player.specs.Turn.{IsTurnOf, Turn, turn_of_carousel}

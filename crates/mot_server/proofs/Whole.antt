@@ -1,9 +1,9 @@
 -- A whole turn that was played reads as the carousel that the disk stands for.
 use Rattle.std.proofs.Common.{◌≡◌, ℕ, List, sym, ap, ◌∙◌, subst}
 use Rattle.disk_model.specs.Disk.{State, IsHonestDisk}
-use Rattle.mot_base.specs.declared.geometry.Geometry.{Geometry}
-use Rattle.mot_carousel.specs.Carousel as whole
 use Rattle.mot_journal.specs.Image as journal
+use Rattle.mot_numbers.specs.declared.geometry.Geometry.{Geometry}
+use Rattle.mot_objects.specs.Carousel as whole
 use Rattle.mot_player.specs.Laws.{IsAtTurnsBeginning, IsPlace}
 use Rattle.mot_player.specs.Place.{Place}
 use Rattle.mot_player.specs.Reading.{ReadsAs}

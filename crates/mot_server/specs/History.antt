@@ -1,9 +1,9 @@
 -- A disk from its formatting on: runs of commands in a row, each on what the last one left.
 use Rattle.std.specs.Prelude.{List, [], ◌++◌, take}
-use Rattle.mot_base.specs.declared.geometry.Geometry.{Geometry}
-use Rattle.mot_carousel.specs.declared.command.Command.{Command}
 use Rattle.mot_journal.specs.Image.{Standing}
 use Rattle.mot_journal.specs.Journal.{new_standing}
+use Rattle.mot_numbers.specs.declared.geometry.Geometry.{Geometry}
+use Rattle.mot_objects.specs.declared.command.Command.{Command}
 use Rattle.mot_server.specs.Runs.{IsAfter, IsAfterSome}
 
 -- These commands are done on a disk of this geometry, and this is what it stands for.

@@ -1,14 +1,14 @@
 -- What becomes of a disk from its formatting on, in the words of commands and of a receiver alone.
 use Rattle.std.specs.Prelude.{◌≡◌, ◌≤◌, ◌<◌, ℕ, List, ◌++◌, length, take, true, false, Some}
 use Rattle.disk_model.specs.Disk.{State}
-use Rattle.mot_base.specs.Geometry.{IsValid, length_of}
-use Rattle.mot_base.specs.declared.geometry.Geometry.{Geometry}
-use Rattle.mot_base.specs.declared.refusal.Refusal.{Refusal}
-use Rattle.mot_base.specs.declared.refusal.Refusal.TheVariants.{BadGeometry, DiskTooSmall}
-use Rattle.mot_base.specs.declared.refusal.Refusal.TheVariants.{AlreadyFormatted}
-use Rattle.mot_carousel.specs.declared.command.Command.{Command}
-use Rattle.mot_carousel.specs.Carousel.{Carousel, carousel_after, new_carousel}
 use Rattle.mot_journal.specs.Geometry.{has_magic}
+use Rattle.mot_numbers.specs.Geometry.{IsValid, length_of}
+use Rattle.mot_numbers.specs.declared.geometry.Geometry.{Geometry}
+use Rattle.mot_numbers.specs.declared.refusal.Refusal.{Refusal}
+use Rattle.mot_numbers.specs.declared.refusal.Refusal.TheVariants.{BadGeometry, DiskTooSmall}
+use Rattle.mot_numbers.specs.declared.refusal.Refusal.TheVariants.{AlreadyFormatted}
+use Rattle.mot_objects.specs.declared.command.Command.{Command}
+use Rattle.mot_objects.specs.Carousel.{Carousel, carousel_after, new_carousel}
 use Rattle.mot_player.specs.Reading.{ReadsAs}
 use Rattle.mot_repository.specs.Opening.{IsPassing}
 

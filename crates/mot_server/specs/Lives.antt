@@ -2,10 +2,10 @@
 -- so on.
 use Rattle.std.specs.Prelude.{ℕ, ◌≤◌, List, [], ◌++◌, length, take}
 use Rattle.disk_model.specs.Disk.{State}
-use Rattle.mot_base.specs.declared.geometry.Geometry.{Geometry}
-use Rattle.mot_carousel.specs.declared.command.Command.{Command}
 use Rattle.mot_journal.specs.Image.{Standing}
 use Rattle.mot_journal.specs.Journal.{new_standing}
+use Rattle.mot_numbers.specs.declared.geometry.Geometry.{Geometry}
+use Rattle.mot_objects.specs.declared.command.Command.{Command}
 use Rattle.mot_repository.specs.Repository.{Holds}
 use Rattle.mot_server.specs.Life.{PlaysAfter}
 use Rattle.mot_server.specs.Runs.{IsAfter}

@@ -3,8 +3,8 @@ use Rattle.std.specs.Prelude.{ℕ, ◌≡◌, ◌+◌, true, false, List, [], �
 use Rattle.std.specs.Prelude.{replicate, IsTrue, IsFalse}
 use Rattle.arrayvec.specs.ArrayVec.{ArrayVec}
 use Rattle.disk_model.specs.Failures.{Rises}
-use Rattle.mot_base.specs.declared.refusal.Refusal.{Refusal}
-use Rattle.mot_base.specs.declared.refusal.Refusal.TheVariants.{OutOfMemory, DeviceFault, Halted}
+use Rattle.mot_numbers.specs.declared.refusal.Refusal.{Refusal}
+use Rattle.mot_numbers.specs.declared.refusal.Refusal.TheVariants.{OutOfMemory, DeviceFault, Halted}
 use Rattle.mot_player.specs.Place.{Place, Sent}
 use Rattle.mot_player.specs.Sending.{HasSent, packets_sent}
 use Rattle.mot_server.specs.Server.{ServerView}

@@ -1,8 +1,8 @@
 -- What a run of commands comes to.
 use Rattle.std.specs.Prelude.{◌≡◌, List, length, vec_len, IfSome, IfNone}
 use Rattle.disk_model.specs.Disk.{State, Keeps}
-use Rattle.mot_carousel.specs.declared.command.Command.{Command}
 use Rattle.mot_journal.specs.Image.{Standing}
+use Rattle.mot_objects.specs.declared.command.Command.{Command}
 use Rattle.mot_repository.specs.Repository.{RepositoryView, Holds}
 use Rattle.mot_server.specs.declared.running.RunEnd.{RunEnd}
 use Rattle.mot_server.specs.RunAnswers.{RunAnswers}

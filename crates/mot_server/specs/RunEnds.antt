@@ -3,17 +3,17 @@ use Rattle.std.specs.Prelude.{◌≡◌, ℕ, Bool, true, false, List, [], ◌�
 use Rattle.std.specs.Prelude.{IsFalse}
 use Rattle.disk_model.specs.Disk.{State, Throughout}
 use Rattle.disk_model.specs.Failures.{Rises}
-use Rattle.mot_base.specs.declared.refusal.Refusal.{Refusal}
-use Rattle.mot_base.specs.declared.refusal.Refusal.TheVariants.{OutOfMemory, DeviceFault, Halted}
-use Rattle.mot_carousel.specs.declared.command.Command.{Command}
 use Rattle.mot_journal.specs.Image.{Standing}
+use Rattle.mot_numbers.specs.declared.refusal.Refusal.{Refusal}
+use Rattle.mot_numbers.specs.declared.refusal.Refusal.TheVariants.{OutOfMemory, DeviceFault, Halted}
+use Rattle.mot_objects.specs.declared.command.Command.{Command}
 use Rattle.mot_player.specs.Place.{Place, change_turn}
 use Rattle.mot_player.specs.Turn.{turn_of_carousel}
 use Rattle.mot_repository.specs.Repository.{RepositoryView, Agrees, Holds}
 use Rattle.mot_server.specs.Marks.{AreMarks}
 use Rattle.mot_server.specs.Runs.{accepted_commands, commands_in_flight}
 use Rattle.std.specs.Option.{option_map_or}
-use Rattle.mot_base.specs.Refusal.{is_device_fault}
+use Rattle.mot_numbers.specs.Refusal.{is_device_fault}
 use Rattle.mot_server.specs.Runs.{IsAfter, StandsAfterSome}
 
 -- the refusals that end a run; every other one marks its command false

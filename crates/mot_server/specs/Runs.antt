@@ -2,13 +2,13 @@
 -- what a carousel is after commands.
 use Rattle.std.specs.Prelude.{◌≡◌, ℕ, ◌≤◌, Bool, true, false, List, [], ◌∷◌, ◌++◌, length}
 use Rattle.std.specs.Prelude.{take, drop, Option, Some, if◌then◌else◌}
-use Rattle.mot_base.specs.declared.refusal.Refusal.{Refusal}
-use Rattle.mot_carousel.specs.declared.command.Command.{Command}
-use Rattle.mot_carousel.specs.Carousel.{carousel_after}
 use Rattle.mot_journal.specs.Image.{Standing}
+use Rattle.mot_numbers.specs.declared.refusal.Refusal.{Refusal}
+use Rattle.mot_objects.specs.declared.command.Command.{Command}
+use Rattle.mot_objects.specs.Carousel.{carousel_after}
 use Rattle.mot_repository.specs.Repository.{IsOf}
 use Rattle.std.specs.Option.{option_map_or}
-use Rattle.mot_base.specs.Refusal.{is_device_fault}
+use Rattle.mot_numbers.specs.Refusal.{is_device_fault}
 
 -- the commands that were marked true
 abbrev pub accepted_commands : List Command → List Bool → List Command

@@ -1,7 +1,7 @@
 -- What contracts see of a server.
 use Rattle.std.specs.Prelude.{ℕ, List, map}
-use Rattle.mot_carousel.specs.Carousel.{Carousel, Object}
 use Rattle.mot_journal.specs.Image as journal
+use Rattle.mot_objects.specs.Carousel.{Carousel, Object}
 use Rattle.mot_player.specs.Place.{Place}
 use Rattle.mot_player.specs.PlayerView.{PlayerView, place_of}
 use Rattle.mot_repository.specs.Repository.{RepositoryView}

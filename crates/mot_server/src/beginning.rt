@@ -3,24 +3,24 @@ ghost use Rattle.std.specs.Prelude.{◌≡◌, ◌⊎◌, ◌↔◌, ◌<◌, �
 ghost use Rattle.std.specs.Prelude.{IfErr, OnOk, IsErrOf};
 ghost use Rattle.disk_model.specs.Disk.{KeepsLength, IsUnchanged, IsStill, Throughout};
 ghost use Rattle.disk_model.specs.Failures.{Rises};
-ghost use Rattle.mot_base.specs.Geometry.{IsValid, length_of};
-ghost use Rattle.mot_base.specs.declared.refusal.Refusal.TheVariants.{DeviceFault, BadGeometry};
-ghost use Rattle.mot_base.specs.declared.refusal.Refusal.TheVariants.{DiskTooSmall};
-ghost use Rattle.mot_base.specs.declared.refusal.Refusal.TheVariants.{AlreadyFormatted};
 ghost use Rattle.mot_journal.specs.Geometry.{has_magic};
 ghost use Rattle.mot_journal.specs.Image.{stands_for, IsClean};
 ghost use Rattle.mot_journal.specs.Journal.{NoneOrNew, new_standing};
+ghost use Rattle.mot_numbers.specs.Geometry.{IsValid, length_of};
+ghost use Rattle.mot_numbers.specs.declared.refusal.Refusal.TheVariants.{DeviceFault, BadGeometry};
+ghost use Rattle.mot_numbers.specs.declared.refusal.Refusal.TheVariants.{DiskTooSmall};
+ghost use Rattle.mot_numbers.specs.declared.refusal.Refusal.TheVariants.{AlreadyFormatted};
+ghost use Rattle.mot_objects.specs.Carousel.{new_carousel};
 ghost use Rattle.mot_player.specs.Reading.{ReadsAs};
 ghost use Rattle.mot_repository.specs.Opening.{IsPassing};
 ghost use Rattle.mot_repository.specs.Repository.{Holds};
-ghost use Rattle.mot_carousel.specs.Carousel.{new_carousel};
 ghost use Rattle.mot_server.specs.History.{HistoriesAreCommands};
 ghost use Rattle.mot_server.specs.Playing.{bytes_of_packets};
 
 use crate::{Refused, Restarted, restart};
 use disk_model::Disk;
-use mot_base::Refusal;
 use mot_journal::{Geometry, format};
+use mot_numbers::Refusal;
 use std::alloc::Global;
 
 /// What formatting came to, and what was opened of the disk that a crash left of it.

@@ -3,7 +3,7 @@ ghost use Rattle.mot_server.specs.Inner.Bodies.{bodies_on, HasRead};
 ghost use Rattle.mot_server.specs.Inner.Unread.{unread};
 
 use disk_model::Disk;
-use mot_base::Refusal;
+use mot_numbers::Refusal;
 use mot_player::Bodies;
 use mot_repository::Repository;
 

@@ -1,7 +1,7 @@
 //! The headline: what a crash leaves of a run of commands, opened and played.
 ghost use Rattle.std.specs.Prelude.{◌++◌, ℕ, List, take, IfOk, IfErr};
-ghost use Rattle.mot_base.specs.declared.geometry.Geometry.{Geometry};
 ghost use Rattle.mot_journal.specs.Image.{Standing};
+ghost use Rattle.mot_numbers.specs.declared.geometry.Geometry.{Geometry};
 ghost use Rattle.mot_player.specs.Reading.{ReadsAs};
 ghost use Rattle.mot_repository.specs.Opening.{IsPassing};
 ghost use Rattle.mot_repository.specs.Repository.{IsOf, Holds};
@@ -13,7 +13,7 @@ ghost use Rattle.mot_server.specs.Runs.{IsAfter, IsAfterSome};
 
 use crate::{Refused, Restarted, RunEnd, Server, restart};
 use disk_model::Disk;
-use mot_carousel::Command;
+use mot_objects::Command;
 use std::alloc::Global;
 
 /// What a run came to, and what was opened of the disk that a crash left of it.

@@ -2,10 +2,10 @@
 //! left, opened and played. Nothing here is told in the words of the disk's format or of memory.
 ghost use Rattle.std.specs.Prelude.{◌≡◌, ◌++◌, [], false, IfOk, IfErr};
 ghost use Rattle.disk_model.specs.Disk.{KeepsLength, Throughout};
-ghost use Rattle.mot_carousel.specs.Carousel.{new_carousel};
 ghost use Rattle.mot_journal.specs.Geometry.{has_magic};
 ghost use Rattle.mot_journal.specs.Image.{Standing};
 ghost use Rattle.mot_journal.specs.Journal.{NoneOrNew, new_standing};
+ghost use Rattle.mot_objects.specs.Carousel.{new_carousel};
 ghost use Rattle.mot_player.specs.Reading.{ReadsAs};
 ghost use Rattle.mot_repository.specs.Opening.{IsOpeningRefusal, IsPassing};
 ghost use Rattle.mot_repository.specs.Repository.{IsOf, Holds};
@@ -16,8 +16,8 @@ ghost use Rattle.mot_server.specs.Runs.{accepted_commands, commands_in_flight};
 
 use crate::{Refused, Restarted, RunEnd, Server, restart};
 use disk_model::Disk;
-use mot_carousel::Command;
 use mot_journal::{Geometry, format};
+use mot_objects::Command;
 use mot_packets::Packet;
 use std::alloc::Global;
 

@@ -1,15 +1,15 @@
 //! The player of what a repository keeps.
 ghost use Rattle.std.specs.Prelude.{◌≡◌, List, ℕ, IfOk, IfErr};
-ghost use Rattle.mot_base.specs.Geometry.{packet_room};
-ghost use Rattle.mot_base.specs.declared.refusal.Refusal.TheVariants.{OutOfMemory};
-ghost use Rattle.mot_carousel.specs.Stands.{AreBodiesOf, carousel_of};
+ghost use Rattle.mot_numbers.specs.Geometry.{packet_room};
+ghost use Rattle.mot_numbers.specs.declared.refusal.Refusal.TheVariants.{OutOfMemory};
+ghost use Rattle.mot_objects.specs.Stands.{AreBodiesOf, carousel_of};
 ghost use Rattle.mot_player.specs.Place.{opened_place};
 ghost use Rattle.mot_player.specs.PlayerView.{place_of};
 ghost use Rattle.mot_player.specs.Turn.{turn_of_carousel};
 ghost use Rattle.mot_server.specs.Inner.Plays.{PlaysCarousel};
 
 use disk_model::Disk;
-use mot_base::Refusal;
+use mot_numbers::Refusal;
 use mot_player::{Player, Turn};
 use mot_repository::Repository;
 use std::alloc::Global;

@@ -1,9 +1,9 @@
 //! A disk opened, and its first turn played.
 ghost use Rattle.std.specs.Prelude.{◌≡◌, ◌⊎◌, Ok, IfOk, IfErr, MatchResult};
 ghost use Rattle.disk_model.specs.Disk.{OnlySyncs};
-ghost use Rattle.mot_base.specs.declared.refusal.Refusal.TheVariants.{DeviceFault};
-ghost use Rattle.mot_base.specs.Geometry.{packet_room};
 ghost use Rattle.mot_journal.specs.Image.{Standing};
+ghost use Rattle.mot_numbers.specs.declared.refusal.Refusal.TheVariants.{DeviceFault};
+ghost use Rattle.mot_numbers.specs.Geometry.{packet_room};
 ghost use Rattle.mot_player.specs.Continuity.{IsContinuous};
 ghost use Rattle.mot_player.specs.Place.{opened_place};
 ghost use Rattle.mot_player.specs.Reading.{ReadsAs};

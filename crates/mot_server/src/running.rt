@@ -1,13 +1,13 @@
 //! Commands in a row, up to the first that can't be answered.
 ghost use Rattle.std.specs.Prelude.{◌≡◌, ◌<◌, [], ◌∷◌, length, vec_len, Some};
 ghost use Rattle.std.specs.Prelude.{◌⊎◌, IfErr, IsTrue, MatchResult, OnOk};
-ghost use Rattle.mot_base.specs.declared.refusal.Refusal.TheVariants.{DeviceFault, Halted};
+ghost use Rattle.mot_numbers.specs.declared.refusal.Refusal.TheVariants.{DeviceFault, Halted};
 ghost use Rattle.mot_server.specs.RunEnds.{is_run_ending};
 
 use crate::Server;
 use disk_model::Disk;
-use mot_base::Refusal;
-use mot_carousel::{Command, Done};
+use mot_numbers::Refusal;
+use mot_objects::{Command, Done};
 use std::alloc::Global;
 
 /// What a run of commands came to.

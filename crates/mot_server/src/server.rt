@@ -4,9 +4,9 @@ ghost use Rattle.std.specs.Prelude.{◌+◌, ◌⊎◌, length, slice_range, vec
 ghost use Rattle.std.specs.Prelude.{IsFalse, MatchResult};
 ghost use Rattle.disk_model.specs.Disk.{Keeps, Costs, OnlyReads, OnlySyncs};
 ghost use Rattle.disk_model.specs.Disk.{Throughout};
-ghost use Rattle.mot_base.specs.declared.refusal.Refusal.TheVariants.{DeviceFault};
-ghost use Rattle.mot_base.specs.Geometry.{packet_room};
 ghost use Rattle.mot_journal.specs.Image as journal;
+ghost use Rattle.mot_numbers.specs.declared.refusal.Refusal.TheVariants.{DeviceFault};
+ghost use Rattle.mot_numbers.specs.Geometry.{packet_room};
 ghost use Rattle.mot_player.specs.Place.{change_turn, opened_place};
 ghost use Rattle.mot_player.specs.Turn.{turn_of_carousel};
 ghost use Rattle.mot_repository.specs.OnDisk.{extent_at};
@@ -18,9 +18,9 @@ use crate::bodies::DiskBodies;
 use crate::comparing::is_body;
 use crate::playing::player_of;
 use disk_model::Disk;
-use mot_base::{Geometry, Refusal, SegmentSize};
-use mot_carousel::{Carousel, Command, Done};
 use mot_journal::Layout;
+use mot_numbers::{Geometry, Refusal, SegmentSize};
+use mot_objects::{Carousel, Command, Done};
 use mot_packets::Packet;
 use mot_player::{Played, Player, Turn};
 use mot_repository::{Refused, Repository};
@@ -53,7 +53,7 @@ impl<D: Disk> Model for Server<D> {
 }
 
 impl<D: Disk> Server<D> {
-    ghost use Rattle.mot_base.specs.Geometry.{is_valid};
+    ghost use Rattle.mot_numbers.specs.Geometry.{is_valid};
     ghost use Rattle.mot_journal.specs.Image.{stands_for, IsClean, gate_reads};
     ghost use Rattle.mot_journal.specs.Journal.{StandsWhere};
     ghost use Rattle.mot_journal.specs.declared.layout.Layout.TheVariants.{One, Two};

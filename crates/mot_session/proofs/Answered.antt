@@ -5,17 +5,17 @@ use Rattle.std.specs.Prelude.{IsTrue, IsFalse, if◌then◌else◌}
 use Rattle.disk_model.proofs.Laws.{unchanged_on}
 use Rattle.disk_model.specs.Disk.{State, IsHonestDisk, IsUnchanged, Throughout}
 use Rattle.disk_model.proofs.Laws.{begins, stays, weakens}
-use Rattle.mot_base.specs.declared.group_kind.GroupKind.{GroupKind}
-use Rattle.mot_base.specs.declared.refusal.Refusal.{Refusal}
-use Rattle.mot_base.specs.declared.refusal.Refusal.TheVariants.{OutOfMemory, DeviceFault, Halted}
-use Rattle.mot_carousel.specs.declared.command.Command.{Command}
-use Rattle.mot_carousel.specs.declared.command.Done.{Done}
 use Rattle.mot_groups.specs.Group.{bytes_of_group}
 use Rattle.mot_journal.specs.declared.layout.Layout.{Layout}
 use Rattle.mot_journal.specs.Image.{Standing}
 use Rattle.mot_lines.specs.declared.line.Line.{Line}
 use Rattle.mot_lines.specs.declared.line.Line.TheVariants as asks
 use Rattle.mot_lines.specs.Line.{IsParsed, NeedsMemory, line_of}
+use Rattle.mot_numbers.specs.declared.group_kind.GroupKind.{GroupKind}
+use Rattle.mot_numbers.specs.declared.refusal.Refusal.{Refusal}
+use Rattle.mot_numbers.specs.declared.refusal.Refusal.TheVariants.{OutOfMemory, DeviceFault, Halted}
+use Rattle.mot_objects.specs.declared.command.Command.{Command}
+use Rattle.mot_objects.specs.declared.command.Done.{Done}
 use Rattle.mot_player.specs.Place.{change_turn}
 use Rattle.mot_player.specs.PlayerView as player
 use Rattle.mot_player.specs.Turn.{turn_of_carousel}

@@ -9,14 +9,14 @@ use Rattle.std.proofs.lemmas.List.{map-append, replicate_more}
 use Rattle.std.proofs.lemmas.List.Concat.{flat_map-append}
 use Rattle.disk_model.specs.Disk.{State}
 use Rattle.disk_model.specs.Failures.{Rises}
-use Rattle.mot_base.specs.declared.refusal.Refusal.{Refusal}
-use Rattle.mot_base.specs.declared.refusal.Refusal.TheVariants.{OutOfMemory, DeviceFault, Halted}
-use Rattle.mot_carousel.specs.declared.command.Command.{Command}
-use Rattle.mot_carousel.specs.declared.command.Done.{Done}
 use Rattle.mot_lines.specs.declared.line.Line.{Line}
 use Rattle.mot_lines.specs.declared.line.Line.TheVariants as asks
 use Rattle.mot_lines.specs.Line.{IsParsed, NeedsMemory}
 use Rattle.mot_lines.specs.Text.{done_line, played_line, refusal_line}
+use Rattle.mot_numbers.specs.declared.refusal.Refusal.{Refusal}
+use Rattle.mot_numbers.specs.declared.refusal.Refusal.TheVariants.{OutOfMemory, DeviceFault, Halted}
+use Rattle.mot_objects.specs.declared.command.Command.{Command}
+use Rattle.mot_objects.specs.declared.command.Done.{Done}
 use Rattle.mot_repository.specs.Answers.{IsAnswered, accepted, refused, failed}
 use Rattle.mot_repository.specs.Repository.{RepositoryView}
 use Rattle.mot_session.specs.declared.deciding.Decision.{Decision}

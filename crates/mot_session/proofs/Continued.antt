@@ -3,16 +3,16 @@ use Rattle.std.proofs.Common.{◌≡◌, ℕ, ◌+◌, ◌-◌, ◌<◌, List, [
 use Rattle.std.proofs.Common.{refl, sym, ap}
 use Rattle.std.proofs.Common.{◌∙◌, subst, inl, inr, arith, map}
 use Rattle.std.proofs.lemmas.List.{map-append}
-use Rattle.mot_base.proofs.Laws.{read_each-append}
-use Rattle.mot_base.specs.PacketLength.{IsLength}
-use Rattle.mot_base.specs.Geometry.{IsValid, packet_room}
-use Rattle.mot_base.specs.declared.refusal.Refusal.{Refusal}
-use Rattle.mot_base.specs.declared.refusal.Refusal.TheVariants.{DeviceFault}
-use Rattle.mot_carousel.specs.Carousel.{Carousel}
-use Rattle.mot_carousel.specs.declared.command.Command.{Command}
 use Rattle.mot_lines.specs.Line.{line_of}
 use Rattle.mot_lines.specs.declared.line.Line.{Line}
 use Rattle.mot_lines.specs.declared.line.Line.TheVariants as asks
+use Rattle.mot_numbers.proofs.Laws.{read_each-append}
+use Rattle.mot_numbers.specs.PacketLength.{IsLength}
+use Rattle.mot_numbers.specs.Geometry.{IsValid, packet_room}
+use Rattle.mot_numbers.specs.declared.refusal.Refusal.{Refusal}
+use Rattle.mot_numbers.specs.declared.refusal.Refusal.TheVariants.{DeviceFault}
+use Rattle.mot_objects.specs.Carousel.{Carousel}
+use Rattle.mot_objects.specs.declared.command.Command.{Command}
 use Rattle.mot_packets.specs.Packet.{PacketFields, read_packet}
 use Rattle.mot_player.specs.Continuity.{IsContinuous}
 use Rattle.mot_player.specs.Laws.{AreSent}

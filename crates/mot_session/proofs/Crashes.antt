@@ -6,9 +6,9 @@ use Rattle.std.proofs.lemmas.List.Concat.{flat_map-append}
 use Rattle.std.specs.Prelude.{IsTrue, IsFalse}
 use Rattle.disk_model.specs.Disk.{State, IsHonestDisk}
 use Rattle.disk_model.proofs.Laws.{at_end}
-use Rattle.mot_carousel.specs.declared.command.Command.{Command}
 use Rattle.mot_journal.specs.Image.{Standing}
 use Rattle.mot_lines.specs.Line.{line_of}
+use Rattle.mot_objects.specs.declared.command.Command.{Command}
 use Rattle.mot_repository.specs.Repository.{IsOf}
 use Rattle.mot_server.specs.Runs.{IsAfter, StandsAfterSome}
 use Rattle.mot_server.proofs.Laws.{after_none, after_one, after_both, more, less_sure, none_of}

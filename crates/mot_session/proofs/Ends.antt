@@ -1,7 +1,8 @@
 -- What ended serving.
 use Rattle.std.proofs.Common.{◌≡◌, ℕ, Some, None, ap}
-use Rattle.mot_base.specs.declared.refusal.Refusal.{Refusal}
-use Rattle.mot_base.specs.declared.refusal.Refusal.TheVariants.{OutOfMemory, ReadFault, WriteFault}
+use Rattle.mot_numbers.specs.declared.refusal.Refusal.{Refusal}
+use Rattle.mot_numbers.specs.declared.refusal.Refusal.TheVariants.{OutOfMemory, ReadFault}
+use Rattle.mot_numbers.specs.declared.refusal.Refusal.TheVariants.{WriteFault}
 use Rattle.mot_session.specs.declared.serving.ServeEnd.{ServeEnd}
 
 -- the lines of an end by a fault

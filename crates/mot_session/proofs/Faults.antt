@@ -4,21 +4,21 @@ use Rattle.std.proofs.Common.{◌∷◌}
 use Rattle.std.proofs.Common.{Result, Ok, Err, refl, sym, ap, ◌∙◌, subst, arith}
 use Rattle.std.specs.Prelude.{if◌then◌else◌}
 use Rattle.disk_model.specs.Failures.{Rises, most_failures}
-use Rattle.mot_base.specs.declared.refusal.Refusal.{Refusal}
-use Rattle.mot_base.specs.declared.refusal.Refusal.TheVariants as refusal
-use Rattle.mot_carousel.specs.declared.command.Command.{Command}
 use Rattle.mot_lines.specs.Line.{line_of}
 use Rattle.mot_lines.specs.declared.line.Line.{Line}
 use Rattle.mot_lines.specs.declared.line.Line.TheVariants as asks
 use Rattle.mot_lines.proofs.Laws.{line_of-no_fault}
+use Rattle.mot_numbers.specs.declared.refusal.Refusal.{Refusal}
+use Rattle.mot_numbers.specs.declared.refusal.Refusal.TheVariants as refusal
+use Rattle.mot_numbers.specs.Refusal.{is_device_fault}
+use Rattle.mot_objects.specs.declared.command.Command.{Command}
+use Rattle.mot_server.proofs.Laws.{rises_on}
 use Rattle.mot_session.specs.Laws.{FaultsAreTheDisks, faults_in, has_fault}
 use Rattle.mot_session.specs.Session.{Reply, refused, listing, played, accepted}
 use Rattle.mot_session.specs.Session.{IsCommandAnswer, accepts, refuses, fails, IsNextAnswer}
 use Rattle.mot_session.specs.Session.{IsTurnAnswer, all, cut}
 use Rattle.mot_session.specs.Session.{IsAnswer, Answers, decided, halted, no_memory, Session}
 use Rattle.mot_session.specs.State.{ServerState}
-use Rattle.mot_base.specs.Refusal.{is_device_fault}
-use Rattle.mot_server.proofs.Laws.{rises_on}
 use Rattle.mot_session.proofs.Crashes.{session-later}
 use Rattle.mot_session.proofs.Outcomes.{later-answers, refused-fine}
 

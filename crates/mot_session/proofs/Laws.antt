@@ -8,16 +8,16 @@ pub use Rattle.mot_session.proofs.Fronts.{WritesFront-after, WritesFront-all, Wr
 pub use Rattle.mot_session.proofs.Fronts.{Writes-after, Writes-kept}
 use Rattle.std.proofs.Common.{◌≡◌, ℕ, ◌-◌, ◌<◌, ◌≤◌, List, [], ◌∷◌, length, Some, sym}
 use Rattle.std.proofs.Common.{ap, subst, inl, inr, arith}
-use Rattle.mot_base.specs.Geometry.{packet_room}
-use Rattle.mot_base.specs.GroupKind.{kind_number}
-use Rattle.mot_base.specs.PacketLength.{IsLength, room_of}
-use Rattle.mot_base.specs.declared.group_kind.GroupKind.{GroupKind}
-use Rattle.mot_base.specs.declared.group_kind.GroupKind.TheVariants.{Body, Directory}
-use Rattle.mot_base.specs.declared.numbers.TheConstants.{MAX_SEGMENT}
-use Rattle.mot_base.specs.declared.packet_length.PacketLength.{PacketLength}
-use Rattle.mot_base.specs.declared.packet_length.PacketLength.TheVariants.{P24, P48, P72, P96}
 use Rattle.mot_groups.specs.Group.{GroupFields, IsGroup, bytes_of_group}
 use Rattle.mot_groups.proofs.Laws.{read_group-bytes_of_group}
+use Rattle.mot_numbers.specs.Geometry.{packet_room}
+use Rattle.mot_numbers.specs.GroupKind.{kind_number}
+use Rattle.mot_numbers.specs.PacketLength.{IsLength, room_of}
+use Rattle.mot_numbers.specs.declared.group_kind.GroupKind.{GroupKind}
+use Rattle.mot_numbers.specs.declared.group_kind.GroupKind.TheVariants.{Body, Directory}
+use Rattle.mot_numbers.specs.declared.numbers.TheConstants.{MAX_SEGMENT}
+use Rattle.mot_numbers.specs.declared.packet_length.PacketLength.{PacketLength}
+use Rattle.mot_numbers.specs.declared.packet_length.PacketLength.TheVariants.{P24, P48, P72, P96}
 use Rattle.mot_packets.specs.Gather.{gather}
 use Rattle.mot_packets.specs.Written.{packets_of_group}
 use Rattle.mot_packets.proofs.Laws.{read_each-packets_of_group, gather-of_pieces}

@@ -10,10 +10,6 @@ use Rattle.std.specs.Io.KnownBytes.{Appends, Keeps}
 use Rattle.std.specs.List.{flat_map}
 use Rattle.std.specs.Prelude.{IsTrue, IsFalse, IfOk, if◌then◌else◌}
 use Rattle.disk_model.specs.Disk.{State, IsHonestDisk, IsUnchanged, Throughout}
-use Rattle.mot_base.specs.declared.geometry.Geometry.{Geometry}
-use Rattle.mot_base.specs.declared.refusal.Refusal.{Refusal}
-use Rattle.mot_base.specs.declared.refusal.Refusal.TheVariants.{OutOfMemory, ReadFault, WriteFault}
-use Rattle.mot_carousel.specs.declared.command.Command as command
 use Rattle.mot_journal.specs.Geometry.{has_magic}
 use Rattle.mot_journal.specs.Image.{Standing}
 use Rattle.mot_journal.specs.Journal.{NoneOrNew, new_standing}
@@ -21,16 +17,21 @@ use Rattle.mot_lines.specs.declared.line.Line.{Line}
 use Rattle.mot_lines.specs.declared.line.Line.TheVariants as asks
 use Rattle.mot_lines.specs.Line.{line_of}
 use Rattle.mot_lines.specs.Lines.{lines_of, whole_lines, rest_of, unless_empty}
+use Rattle.mot_numbers.specs.declared.geometry.Geometry.{Geometry}
+use Rattle.mot_numbers.specs.declared.refusal.Refusal.{Refusal}
+use Rattle.mot_numbers.specs.declared.refusal.Refusal.TheVariants.{OutOfMemory, ReadFault}
+use Rattle.mot_numbers.specs.declared.refusal.Refusal.TheVariants.{WriteFault}
+use Rattle.mot_objects.specs.declared.command.Command as command
 use Rattle.mot_player.specs.Reading.{ReadsAs}
 use Rattle.mot_repository.specs.Repository.{IsOf, Holds}
 use Rattle.mot_server.specs.Life.{PlaysAfter}
 use Rattle.mot_server.specs.Runs.{IsAfter, StandsAfterSome}
 use Rattle.mot_server.specs.Server.{ServerView}
 use Rattle.mot_server.proofs.Laws.{more, none_of, not_halted, plays_after, plays_new}
+use Rattle.mot_server.specs.Lives.{LivesOn}
 use Rattle.mot_session.specs.Life.{IsKeptFrom, Told, commands_done, commands_failing, done_in}
 use Rattle.mot_session.specs.Life.{failing_in, Tells}
 use Rattle.mot_session.specs.LineByLine.{BreaksOff, ServesEach, ServesOne, ServesSome}
-use Rattle.mot_server.specs.Lives.{LivesOn}
 use Rattle.mot_session.specs.Served.{EndsServing, TakesInput}
 use Rattle.mot_session.specs.Session.{Exchange, Reply, text_of}
 use Rattle.mot_session.specs.Session.{accepted, refused, listing, packets, played, cut_short}

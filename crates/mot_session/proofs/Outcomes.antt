@@ -3,15 +3,16 @@ use Rattle.std.proofs.Common.{◌≡◌, Bool, true, false, List, [], ◌∷◌,
 use Rattle.std.proofs.Common.{◌∙◌}
 use Rattle.std.proofs.Common.{ℕ, arith}
 use Rattle.std.specs.Prelude.{IsTrue, IsFalse, if◌then◌else◌}
-use Rattle.mot_base.specs.declared.refusal.Refusal.{Refusal}
-use Rattle.mot_base.specs.declared.refusal.Refusal.TheVariants.{OutOfMemory}
-use Rattle.mot_base.specs.declared.refusal.Refusal.TheVariants.{Halted}
-use Rattle.mot_carousel.specs.declared.command.Command as command
-use Rattle.mot_carousel.specs.declared.command.Done.{Done}
 use Rattle.mot_journal.specs.declared.layout.Layout.{Layout}
 use Rattle.mot_journal.specs.Image.{Standing}
 use Rattle.mot_lines.specs.declared.line.Line.{Line}
 use Rattle.mot_lines.specs.declared.line.Line.TheVariants as asks
+use Rattle.mot_numbers.specs.declared.refusal.Refusal.{Refusal}
+use Rattle.mot_numbers.specs.declared.refusal.Refusal.TheVariants.{OutOfMemory}
+use Rattle.mot_numbers.specs.declared.refusal.Refusal.TheVariants.{Halted}
+use Rattle.mot_numbers.specs.Refusal.{is_device_fault}
+use Rattle.mot_objects.specs.declared.command.Command as command
+use Rattle.mot_objects.specs.declared.command.Done.{Done}
 use Rattle.mot_repository.specs.Outcome.{after_command}
 use Rattle.mot_repository.proofs.Laws.{refused_so}
 use Rattle.mot_session.specs.Session.{Reply, refused, listing, packets, played, cut_short}
@@ -22,7 +23,6 @@ use Rattle.mot_session.specs.Session.{Answers, decided, halted, no_memory}
 use Rattle.mot_session.specs.Session as session
 use Rattle.mot_session.specs.State.{ServerState, IsLater}
 use Rattle.mot_session.specs.Stored.{command_in, is_accepting, is_failing}
-use Rattle.mot_base.specs.Refusal.{is_device_fault}
 
 -- nothing is done; a command is done; or the disk fails, and the server is halted
 pub data Outcome (before after : ServerState) (done failed : List command.Command) : Type 0 where

@@ -3,8 +3,8 @@ use Rattle.std.proofs.Common.{◌≡◌, [], ◌∷◌, refl}
 use Rattle.std.specs.Prelude.{codes}
 use Rattle.mot_base.specs.Checksum.{crc_of, bits_of, bits_of_bytes, number_of_bits, added_to_front}
 use Rattle.mot_base.specs.Checksum.{remainder}
-use Rattle.mot_base.specs.declared.group_kind.GroupKind.TheVariants.{Body}
 use Rattle.mot_groups.specs.Group.{bytes_of_group}
+use Rattle.mot_numbers.specs.declared.group_kind.GroupKind.TheVariants.{Body}
 use Rattle.mot_session.specs.declared.serving.TheConstants.{READ_SIZE, MAX_READS}
 use Rattle.mot_session.specs.Raw.{raw_group}
 

@@ -7,6 +7,7 @@ use Rattle.std.proofs.KnownBytes.{Appends-trans, Appends-nil}
 use Rattle.std.proofs.lemmas.List.Concat.{flat_map-append}
 use Rattle.std.specs.Prelude.{IsTrue}
 use Rattle.disk_model.specs.Disk.{State, IsHonestDisk, IsUnchanged}
+use Rattle.mot_journal.specs.Image.{Standing}
 use Rattle.mot_lines.specs.Hand.{bytes_in_hand}
 use Rattle.mot_lines.specs.Lines.{HasNoLineEnd}
 use Rattle.mot_lines.specs.Line.{line_of}
@@ -14,9 +15,8 @@ use Rattle.mot_lines.specs.Lines.{whole_lines, rest_of}
 use Rattle.mot_lines.proofs.Laws.{whole_lines-none, rest_of-none, whole_lines-end, rest_of-end}
 use Rattle.mot_lines.proofs.Laws.{whole_lines-within, rest_of-within}
 use Rattle.mot_server.specs.Server.{ServerView}
-use Rattle.mot_journal.specs.Image.{Standing}
-use Rattle.mot_session.specs.Inner.InHand.{InHand}
 use Rattle.mot_server.proofs.Laws.{after_none}
+use Rattle.mot_session.specs.Inner.InHand.{InHand}
 use Rattle.mot_session.specs.Inner.Writes.{Crosses}
 use Rattle.mot_session.specs.Served.{Served, ServedLine, Stopped, StoppedLine}
 use Rattle.mot_session.specs.Session.{Reply, Answers, Exchange, Session, text_of, texts_of}

@@ -3,19 +3,19 @@ use Rattle.std.proofs.Common.{◌≡◌, ◌⊎◌, inl, inr, Bool, true, false,
 use Rattle.std.proofs.Common.{refl, sym, ap, ◌∙◌}
 use Rattle.std.specs.Prelude.{if◌then◌else◌}
 use Rattle.std.specs.Fmt.{digits}
-use Rattle.mot_base.specs.declared.refusal.Refusal.{Refusal}
-use Rattle.mot_base.specs.declared.refusal.Refusal.TheVariants as why
-use Rattle.mot_carousel.specs.declared.command.Command as command
-use Rattle.mot_carousel.specs.declared.command.Done.{Done}
 use Rattle.mot_lines.specs.declared.line.Line.{Line}
 use Rattle.mot_lines.specs.declared.line.Line.TheVariants as asks
+use Rattle.mot_numbers.specs.declared.refusal.Refusal.{Refusal}
+use Rattle.mot_numbers.specs.declared.refusal.Refusal.TheVariants as why
+use Rattle.mot_numbers.specs.Refusal.{is_device_fault}
+use Rattle.mot_objects.specs.declared.command.Command as command
+use Rattle.mot_objects.specs.declared.command.Done.{Done}
 use Rattle.mot_session.specs.Life.{is_done, is_fault}
 use Rattle.mot_session.specs.Session.{Answers, decided, halted, no_memory, IsAnswer}
 use Rattle.mot_session.specs.Session.{IsCommandAnswer}
 use Rattle.mot_session.specs.Session.{Reply, accepted, refused, accepts, refuses, fails, text_of}
 use Rattle.mot_session.specs.State.{ServerState}
 use Rattle.mot_session.specs.Stored.{command_in, is_accepting, is_failing}
-use Rattle.mot_base.specs.Refusal.{is_device_fault}
 
 done_of_accepted : (d : Done) → is_done (text_of (accepted d)) ≡ true
 unfolding text_of

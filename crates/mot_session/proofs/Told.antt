@@ -5,9 +5,9 @@ use Rattle.std.proofs.Math.Seq.{take-append-add}
 use Rattle.std.specs.Prelude.{IsFalse, OnOk, OnErr}
 use Rattle.disk_model.specs.Disk.{State, IsHonestDisk}
 use Rattle.disk_model.proofs.Laws.{at_end, weakens}
-use Rattle.mot_carousel.specs.declared.command.Command.{Command}
 use Rattle.mot_journal.specs.Image.{Standing}
 use Rattle.mot_lines.specs.Line.{line_of}
+use Rattle.mot_objects.specs.declared.command.Command.{Command}
 use Rattle.mot_repository.specs.Repository.{IsOf}
 use Rattle.mot_server.specs.Runs.{IsAfter, StandsAfterSome}
 use Rattle.mot_server.specs.Server.{ServerView}

@@ -9,13 +9,13 @@ use Rattle.std.specs.Io.KnownBytes.{Appends, Keeps}
 use Rattle.std.proofs.KnownBytes.{Appends-trans, Appends-kept}
 use Rattle.std.proofs.lemmas.List.{replicate_more}
 use Rattle.std.proofs.lemmas.List.Concat.{flat_map-append}
-use Rattle.mot_base.proofs.Laws.{read_each-append}
-use Rattle.mot_base.specs.declared.refusal.Refusal.{Refusal}
-use Rattle.mot_base.specs.declared.refusal.Refusal.TheVariants.{DeviceFault}
 use Rattle.mot_groups.specs.Entity.{all_but_last}
 use Rattle.mot_lines.specs.declared.line.Line.{Line}
 use Rattle.mot_lines.specs.declared.line.Line.TheVariants as asks
 use Rattle.mot_lines.specs.Text.{refusal_line}
+use Rattle.mot_numbers.proofs.Laws.{read_each-append}
+use Rattle.mot_numbers.specs.declared.refusal.Refusal.{Refusal}
+use Rattle.mot_numbers.specs.declared.refusal.Refusal.TheVariants.{DeviceFault}
 use Rattle.mot_packets.specs.Packet.{read_packet}
 use Rattle.mot_packets.specs.Written.{bytes_of_packet}
 use Rattle.mot_player.specs.Place.{Place, Sent, Step, Request, sent_by}

@@ -2,13 +2,14 @@
 use Rattle.std.specs.Prelude.{ℕ, ◌≡◌, ◌+◌, ◌⊎◌, ◌<◌, ◌≤◌, Bool, true, false, List, [], ◌∷◌, ◌++◌}
 use Rattle.std.specs.Prelude.{length, if◌then◌else◌, Some, Result}
 use Rattle.disk_model.specs.Failures.{most_failures}
-use Rattle.mot_base.specs.Geometry.{IsValid}
-use Rattle.mot_base.specs.declared.geometry.Geometry.{Geometry}
-use Rattle.mot_base.specs.declared.group_kind.GroupKind.{GroupKind}
-use Rattle.mot_base.specs.declared.numbers.TheConstants.{MAX_SEGMENT}
-use Rattle.mot_base.specs.declared.refusal.Refusal.{Refusal}
 use Rattle.mot_groups.specs.Group.{read_group}
 use Rattle.mot_lines.specs.declared.line.Line.{Line}
+use Rattle.mot_numbers.specs.Geometry.{IsValid}
+use Rattle.mot_numbers.specs.declared.geometry.Geometry.{Geometry}
+use Rattle.mot_numbers.specs.declared.group_kind.GroupKind.{GroupKind}
+use Rattle.mot_numbers.specs.declared.numbers.TheConstants.{MAX_SEGMENT}
+use Rattle.mot_numbers.specs.declared.refusal.Refusal.{Refusal}
+use Rattle.mot_numbers.specs.Refusal.{is_device_fault}
 use Rattle.mot_packets.specs.Gather.{gather}
 use Rattle.mot_player.specs.Continuity.{IsContinuous}
 use Rattle.mot_session.specs.Raw.{raw_group, raw_packets}
@@ -16,7 +17,6 @@ use Rattle.mot_session.specs.Served.{Begins}
 use Rattle.mot_session.specs.Session.{Exchange, Reply, Session, cut_short}
 use Rattle.mot_session.specs.Session.{packets_in, packets_played, refused}
 use Rattle.mot_session.specs.State.{HasJustOpened, ServerState}
-use Rattle.mot_base.specs.Refusal.{is_device_fault}
 
 -- a receiver gathers one group from the packets of a raw reply, and reads in it the segment that
 -- was asked for

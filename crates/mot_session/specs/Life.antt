@@ -5,12 +5,12 @@ use Rattle.std.specs.Prelude.{Option}
 use Rattle.std.specs.Prelude.{None, Some, bytes_eq, codes, if◌then◌else◌}
 use Rattle.std.specs.List.{flat_map}
 use Rattle.std.specs.Io.KnownBytes.{Appends}
-use Rattle.mot_base.specs.declared.refusal.Refusal.{Refusal}
-use Rattle.mot_base.specs.declared.refusal.Refusal.TheVariants.{DeviceFault, WriteFault}
-use Rattle.mot_carousel.specs.declared.command.Command.{Command}
 use Rattle.mot_lines.specs.Line.{line_of}
 use Rattle.mot_lines.specs.Lines.{lines_of}
 use Rattle.mot_lines.specs.Text.{refusal_line}
+use Rattle.mot_numbers.specs.declared.refusal.Refusal.{Refusal}
+use Rattle.mot_numbers.specs.declared.refusal.Refusal.TheVariants.{DeviceFault, WriteFault}
+use Rattle.mot_objects.specs.declared.command.Command.{Command}
 use Rattle.mot_session.specs.Stored.{command_in}
 
 -- a line, and the whole text that was written as its reply

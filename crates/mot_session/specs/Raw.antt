@@ -1,10 +1,10 @@
 -- The packets of a raw request.
 use Rattle.std.specs.Prelude.{ℕ, true, List}
-use Rattle.mot_base.specs.Geometry.{packet_room}
-use Rattle.mot_base.specs.GroupKind.{kind_number}
-use Rattle.mot_base.specs.declared.geometry.Geometry.{Geometry}
-use Rattle.mot_base.specs.declared.group_kind.GroupKind.{GroupKind}
 use Rattle.mot_groups.specs.Group.{GroupFields, bytes_of_group}
+use Rattle.mot_numbers.specs.Geometry.{packet_room}
+use Rattle.mot_numbers.specs.GroupKind.{kind_number}
+use Rattle.mot_numbers.specs.declared.geometry.Geometry.{Geometry}
+use Rattle.mot_numbers.specs.declared.group_kind.GroupKind.{GroupKind}
 use Rattle.mot_packets.specs.Written.{packets_of_group}
 
 -- the group of a raw request: its one segment is number 0 and the last, and its continuity index is

@@ -2,17 +2,17 @@
 use Rattle.std.specs.Prelude.{ℕ, ◌≡◌, ◌<◌, ⊤, List, [], ◌∷◌, ◌++◌, Result, Ok, Err, IsTrue, IsFalse}
 use Rattle.std.specs.List.{flat_map}
 use Rattle.disk_model.specs.Failures.{Rises}
-use Rattle.mot_base.specs.declared.refusal.Refusal.{Refusal}
-use Rattle.mot_base.specs.declared.refusal.Refusal.TheVariants.{OutOfMemory, DeviceFault, Halted}
-use Rattle.mot_carousel.specs.declared.command.Command as command
-use Rattle.mot_carousel.specs.declared.command.Done.{Done}
-use Rattle.mot_carousel.specs.Carousel.{Carousel}
 use Rattle.mot_lines.specs.declared.line.Line.{Line}
 use Rattle.mot_lines.specs.declared.line.Line.TheVariants.{Command, Raw, Next, Turn}
 use Rattle.mot_lines.specs.declared.line.Line.TheVariants as asks
 use Rattle.mot_lines.specs.Line.{NeedsMemory, line_of}
 use Rattle.mot_lines.specs.Listing.{listing_text}
 use Rattle.mot_lines.specs.Text.{done_line, packet_line, refusal_line}
+use Rattle.mot_numbers.specs.declared.refusal.Refusal.{Refusal}
+use Rattle.mot_numbers.specs.declared.refusal.Refusal.TheVariants.{OutOfMemory, DeviceFault, Halted}
+use Rattle.mot_objects.specs.declared.command.Command as command
+use Rattle.mot_objects.specs.declared.command.Done.{Done}
+use Rattle.mot_objects.specs.Carousel.{Carousel}
 use Rattle.mot_player.specs.Place.{Sent, change_turn}
 use Rattle.mot_player.specs.Sending.{packets_sent}
 use Rattle.mot_player.specs.Turn.{turn_of_carousel}

@@ -1,9 +1,9 @@
 -- What a server on a disk stands for.
 use Rattle.std.specs.Prelude.{◌≡◌, ℕ, ◌≤◌, Bool, IsFalse}
 use Rattle.disk_model.specs.Disk as disk
-use Rattle.mot_base.specs.Geometry.{packet_room}
 use Rattle.mot_journal.specs.declared.layout.Layout.{Layout}
 use Rattle.mot_journal.specs.Image.{Standing}
+use Rattle.mot_numbers.specs.Geometry.{packet_room}
 use Rattle.mot_player.specs.Place.{Place, opened_place}
 use Rattle.mot_player.specs.Turn.{turn_of_carousel}
 use Rattle.mot_repository.specs.Repository.{RepositoryView, Agrees, Holds}

@@ -3,16 +3,16 @@ use Rattle.std.specs.Prelude.{ℕ, ◌≡◌, ◌≤◌, Bool, true, false, List
 use Rattle.std.specs.Prelude.{IsFalse, if◌then◌else◌}
 use Rattle.std.specs.List.{flat_map}
 use Rattle.disk_model.specs.Disk.{State, Throughout}
-use Rattle.mot_base.specs.declared.refusal.Refusal.{Refusal}
-use Rattle.mot_carousel.specs.declared.command.Command as command
 use Rattle.mot_journal.specs.Image.{Standing}
 use Rattle.mot_lines.specs.declared.line.Line.{Line}
 use Rattle.mot_lines.specs.declared.line.Line.TheVariants.{Command}
 use Rattle.mot_lines.specs.Line.{line_of}
+use Rattle.mot_numbers.specs.declared.refusal.Refusal.{Refusal}
+use Rattle.mot_numbers.specs.Refusal.{is_device_fault}
+use Rattle.mot_objects.specs.declared.command.Command as command
 use Rattle.mot_server.specs.Runs.{IsAfter, StandsAfterSome}
 use Rattle.mot_session.specs.Session.{Exchange, Reply, accepted, refused}
 use Rattle.mot_session.specs.State.{ServerState}
-use Rattle.mot_base.specs.Refusal.{is_device_fault}
 
 -- the command that a request is
 abbrev pub command_in : Result Line Refusal → List command.Command

@@ -12,9 +12,9 @@ mod group;
 
 use disk_model::Disk;
 pub(crate) use group::group_of;
-use mot_base::Refusal;
-use mot_carousel::{Command, Done};
 use mot_lines::Line;
+use mot_numbers::Refusal;
+use mot_objects::{Command, Done};
 use mot_server::Server;
 use std::alloc::{AllocError, Global};
 

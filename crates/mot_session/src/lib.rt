@@ -6,8 +6,8 @@ mod life;
 mod serving;
 
 pub use life::{ServedLife, ServedOn, format_serve_and_restart, serve_and_restart};
-pub use mot_base::Geometry;
 pub use mot_lines::{Description, Line, SegmentBytes, parse_line};
+pub use mot_numbers::Geometry;
 pub use serving::{
     MAX_READS, READ_SIZE, ServeEnd, WriteFault, answer_reading, serve, serve_line, write_listing,
     write_whole,

@@ -2,8 +2,8 @@
 //! of that left, opened and played. Input bytes, output bytes and packets are all that is told.
 ghost use Rattle.std.specs.Prelude.{◌≤◌, ◌++◌, ℕ, List, [], IfOk, IfErr};
 ghost use Rattle.disk_model.specs.Disk.{KeepsLength};
-ghost use Rattle.mot_base.specs.declared.geometry.Geometry.{Geometry};
-ghost use Rattle.mot_carousel.specs.declared.command.Command.{Command};
+ghost use Rattle.mot_numbers.specs.declared.geometry.Geometry.{Geometry};
+ghost use Rattle.mot_objects.specs.declared.command.Command.{Command};
 ghost use Rattle.mot_repository.specs.Opening.{IsPassing};
 ghost use Rattle.mot_server.specs.Life.{IsBlank, IsFormatRefusal, PlaysAfter};
 ghost use Rattle.mot_server.specs.Lives.{HasDone, LivesOn};

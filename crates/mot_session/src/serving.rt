@@ -2,14 +2,14 @@
 ghost use Rattle.std.specs.Prelude.{◌≡◌, ℕ, ◌+◌, ◌-◌, ◌^◌, ◌≤◌, ◌<◌, ◌⊎◌, Option, List, ◌++◌};
 ghost use Rattle.std.specs.Prelude.{length, OnOk, OnErr, None, Some};
 ghost use Rattle.std.specs.Io.KnownBytes.{Keeps, IsAtEnd};
-ghost use Rattle.mot_base.specs.declared.refusal.Refusal.TheVariants.{OutOfMemory, ReadFault};
 ghost use Rattle.mot_lines.specs.Lines.{whole_lines, lines_of};
+ghost use Rattle.mot_numbers.specs.declared.refusal.Refusal.TheVariants.{OutOfMemory, ReadFault};
+ghost use Rattle.mot_server.specs.Server.{ServerView};
 ghost use Rattle.mot_session.specs.Inner.InHand.{InHand};
 ghost use Rattle.mot_session.specs.LineByLine.{BreaksOff, GoesOn};
 ghost use Rattle.mot_session.specs.LineByLine.{ServesEach, ServesOne, ServesSome};
 ghost use Rattle.mot_session.specs.Laws.{SessionLaws};
 ghost use Rattle.mot_session.specs.Served.{TakesInput, Served, Stopped, EndsServing};
-ghost use Rattle.mot_server.specs.Server.{ServerView};
 ghost use Rattle.mot_session.specs.State.{Leads, ServerState};
 
 mod listing;
@@ -19,8 +19,8 @@ mod reply;
 
 use disk_model::Disk;
 pub use listing::write_listing;
-use mot_base::Refusal;
 use mot_lines::{Hand, cut_at_line_end, parse_line};
+use mot_numbers::Refusal;
 use mot_server::Server;
 pub use output::{WriteFault, write_whole};
 pub use reading::answer_reading;

@@ -1,8 +1,8 @@
 -- The definitions, computed on worked rows.
 use Rattle.std.proofs.Common.{◌≡◌, ◌++◌, [], ◌∷◌, Some, None, refl}
 use Rattle.std.specs.Prelude.{codes}
-use Rattle.mot_base.specs.declared.refusal.Refusal.TheVariants.{BadLine}
 use Rattle.mot_lines.specs.Words.{number_of_word}
+use Rattle.mot_numbers.specs.declared.refusal.Refusal.TheVariants.{BadLine}
 use Rattle.mot_suffixes.specs.Types.{known_types, refusal_in, suffix_of, suffix_type, type_of_name}
 use Rattle.mot_suffixes.specs.Types.{type_of_words, types_in}
 

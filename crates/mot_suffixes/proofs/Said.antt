@@ -3,14 +3,14 @@ use Rattle.std.proofs.Common.{◌≡◌, ◌≢◌, ◌∙◌, inl, inr, ℕ, tr
 use Rattle.std.proofs.Common.{Result, Ok, Err, ap, length, refl, sym}
 use Rattle.std.proofs.lemmas.Bool.{false_from_ne_true}
 use Rattle.std.specs.Prelude.{◌↔◌, IfErr, IfOk, IsOk, is_ok}
-use Rattle.mot_base.specs.declared.refusal.Refusal.{Refusal}
-use Rattle.mot_base.specs.declared.refusal.Refusal.TheVariants.{BadLine, BadMime}
-use Rattle.mot_carousel.proofs.Laws.{mime_is, mime_true}
-use Rattle.mot_carousel.specs.Content.{ContentNumbers}
-use Rattle.mot_carousel.specs.Mime.{IsMime, is_mime}
 use Rattle.mot_lines.specs.Fields.{content_in}
 use Rattle.mot_lines.specs.Line.{◌>>=◌}
 use Rattle.mot_lines.specs.Words.{number_of_word}
+use Rattle.mot_numbers.specs.declared.refusal.Refusal.{Refusal}
+use Rattle.mot_numbers.specs.declared.refusal.Refusal.TheVariants.{BadLine, BadMime}
+use Rattle.mot_objects.proofs.Laws.{mime_is, mime_true}
+use Rattle.mot_objects.specs.Content.{ContentNumbers}
+use Rattle.mot_objects.specs.Mime.{IsMime, is_mime}
 use Rattle.mot_suffixes.specs.Inner.Types.{MayRefuse}
 use Rattle.mot_suffixes.specs.Types.{SuffixType, suffix_in}
 use Rattle.mot_suffixes.specs.Types.{type_mime_in, type_of_words}

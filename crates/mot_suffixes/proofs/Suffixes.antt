@@ -5,8 +5,8 @@ use Rattle.std.proofs.Common.{refl}
 use Rattle.std.proofs.Common.{filter, not, sym, ◌==◌}
 use Rattle.std.proofs.lemmas.List.Elements.{filter-append}
 use Rattle.std.proofs.lemmas.List.Splits.{slice_split_at, slice_split_none}
-use Rattle.mot_base.specs.declared.refusal.Refusal.{Refusal}
 use Rattle.mot_lines.specs.Lines.{HasNoLineEnd, pieces_between}
+use Rattle.mot_numbers.specs.declared.refusal.Refusal.{Refusal}
 use Rattle.mot_suffixes.specs.Inner.Types.{AddsLine, StopsAtLine, saying}
 use Rattle.mot_suffixes.specs.Types.{AddsUpTo, SuffixType, refusal_before, refusal_in}
 use Rattle.mot_suffixes.specs.Types.{refusal_of_lines, says_nothing, saying_lines, type_before}

@@ -1,18 +1,19 @@
 //! What a file's suffix says of it.
 ghost use Rattle.std.specs.Prelude.{◌≡◌, ◌++◌, ◌⊎◌, [], true, List, Some, None, Ok};
 ghost use Rattle.std.specs.Prelude.{IfErr, IfNone, IfOk, IfSome, IsNone};
-ghost use Rattle.mot_base.specs.declared.refusal.Refusal.TheVariants.{BadMime, BadName};
-ghost use Rattle.mot_base.specs.declared.refusal.Refusal.TheVariants.{OutOfMemory};
+ghost use Rattle.mot_numbers.specs.declared.refusal.Refusal.TheVariants.{BadMime, BadName};
+ghost use Rattle.mot_numbers.specs.declared.refusal.Refusal.TheVariants.{OutOfMemory};
 ghost use Rattle.mot_suffixes.specs.Inner.Types.{AddsLine, MayRefuse, StopsAtLine};
 ghost use Rattle.mot_suffixes.specs.Types.{AddsUpTo, IsTypesRefusal, SuffixType, is_hidden};
 ghost use Rattle.mot_suffixes.specs.Types.{known_types, last_of_suffix, refusal_in, says_nothing};
 ghost use Rattle.mot_suffixes.specs.Types.{suffix_in};
-ghost use Rattle.mot_suffixes.specs.Types.{suffix_of, type_in, type_mime_in, type_of_name, types_in};
+ghost use Rattle.mot_suffixes.specs.Types.{suffix_of, type_in, type_mime_in, type_of_name};
+ghost use Rattle.mot_suffixes.specs.Types.{types_in};
 
 use memchr::memrchr;
-use mot_base::Refusal;
-use mot_carousel::{Content, Mime};
 use mot_lines::{cut_at_line_end, four_words, parse_content};
+use mot_numbers::Refusal;
+use mot_objects::{Content, Mime};
 use std::alloc::{AllocError, Global};
 use std::marker::Model;
 

@@ -2,8 +2,8 @@
 use Rattle.std.proofs.Common.{◌≡◌, ℕ, Bool, List, [], ◌∷◌, ◌++◌, length, Ok, refl, sym, subst}
 use Rattle.std.proofs.Common.{arith}
 use Rattle.std.proofs.Common.{append_assoc, append-nil}
-use Rattle.mot_carousel.specs.declared.command.Command.{Command}
-use Rattle.mot_carousel.specs.declared.command.Command.TheVariants as command
+use Rattle.mot_objects.specs.declared.command.Command.{Command}
+use Rattle.mot_objects.specs.declared.command.Command.TheVariants as command
 use Rattle.mot_server.specs.Attempts as attempts
 use Rattle.mot_server.specs.declared.running.Attempt.{Attempt}
 use Rattle.mot_server.specs.declared.running.Attempt.TheVariants.{Accepted, Refused}

@@ -3,8 +3,8 @@ use Rattle.std.proofs.Common.{◌≡◌, ◌∙◌, ◌⊎◌, inl, inr, Result,
 use Rattle.std.specs.Prelude.{IfErr, MatchResult, OnOk, IsTrue, IsFalse}
 use Rattle.disk_model.specs.Disk.{State}
 use Rattle.disk_model.specs.Failures.{Rises}
-use Rattle.mot_base.specs.declared.refusal.Refusal.{Refusal}
-use Rattle.mot_base.specs.declared.refusal.Refusal.TheVariants.{DeviceFault, Halted, OutOfMemory}
+use Rattle.mot_numbers.specs.declared.refusal.Refusal.{Refusal}
+use Rattle.mot_numbers.specs.declared.refusal.Refusal.TheVariants.{DeviceFault, Halted, OutOfMemory}
 use Rattle.mot_server.specs.Playing.{IsReadRefusal}
 use Rattle.mot_server.specs.Playing as reading
 use Rattle.mot_server.specs.RunEnds.{IsRunFault}

@@ -14,22 +14,22 @@ use Rattle.std.proofs.lemmas.Grind.{flat_map-append}
 use Rattle.std.proofs.lemmas.List.{map-append}
 use Rattle.std.proofs.lemmas.List.Concat.{flat_map-cons}
 use Rattle.disk_model.specs.Disk.{State, IsHonestDisk, IsUnchanged}
-use Rattle.mot_base.specs.declared.refusal.Refusal.{Refusal}
-use Rattle.mot_carousel.specs.Carousel.{Carousel, are_names_distinct, carousel_after}
-use Rattle.mot_carousel.specs.Stands.{object_of, objects_of}
-use Rattle.mot_carousel.specs.declared.command.Command.{Command}
-use Rattle.mot_carousel.specs.declared.command.Command.TheVariants.{Withdraw}
-use Rattle.mot_carousel.specs.declared.object.Object.{Object}
 use Rattle.mot_journal.specs.Image.{Standing}
+use Rattle.mot_numbers.specs.declared.refusal.Refusal.{Refusal}
+use Rattle.mot_objects.specs.Carousel.{Carousel, are_names_distinct, carousel_after}
+use Rattle.mot_objects.specs.Stands.{object_of, objects_of}
+use Rattle.mot_objects.specs.declared.command.Command.{Command}
+use Rattle.mot_objects.specs.declared.command.Command.TheVariants.{Withdraw}
+use Rattle.mot_objects.specs.declared.object.Object.{Object}
 use Rattle.mot_repository.specs.Repository.{RepositoryView, Agrees, Holds}
 use Rattle.mot_server.specs.Runs.{accepted_commands}
 use Rattle.mot_server.specs.Server.{ServerView}
-use Rattle.mot_update.specs.declared.wanted.Wanted.{Wanted}
-use Rattle.mot_update.specs.HasRun.{HasRun}
-use Rattle.mot_update.specs.Laws.{names_of}
 use Rattle.mot_server.specs.Attempts as attempts
 use Rattle.mot_server.specs.declared.running.Attempt.{Attempt}
 use Rattle.mot_server.specs.declared.running.Attempt.TheVariants.{Accepted, Refused}
+use Rattle.mot_update.specs.declared.wanted.Wanted.{Wanted}
+use Rattle.mot_update.specs.HasRun.{HasRun}
+use Rattle.mot_update.specs.Laws.{names_of}
 use Rattle.mot_update.specs.HasRun.{marks_of_settling}
 use Rattle.mot_update.specs.Looking.{AreAccepted, Gives, HasLooked, HasSettled, RunsThrough}
 use Rattle.mot_update.specs.Looking.{unknown_names, was_settled, withdraw_all}

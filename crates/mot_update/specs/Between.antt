@@ -1,9 +1,9 @@
 -- What changes a carousel between its packets: when it may, and what is known of its calls.
 use Rattle.std.specs.Prelude.{◌≡◌, Bool, true, false, List, [], Option}
 use Rattle.disk_model.specs.Disk.{State}
-use Rattle.mot_base.specs.declared.refusal.Refusal.{Refusal}
-use Rattle.mot_carousel.specs.declared.command.Command.{Command}
 use Rattle.mot_journal.specs.Image.{Standing}
+use Rattle.mot_numbers.specs.declared.refusal.Refusal.{Refusal}
+use Rattle.mot_objects.specs.declared.command.Command.{Command}
 use Rattle.mot_server.specs.Server.{ServerView}
 use Rattle.mot_update.specs.HasRun.{HasRun}
 

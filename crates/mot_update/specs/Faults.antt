@@ -2,8 +2,8 @@
 use Rattle.std.specs.Prelude.{◌≡◌, Result, MatchResult, IsTrue, IsFalse}
 use Rattle.disk_model.specs.Disk.{State}
 use Rattle.disk_model.specs.Failures.{Rises}
-use Rattle.mot_base.specs.declared.refusal.Refusal.{Refusal}
-use Rattle.mot_base.specs.declared.refusal.Refusal.TheVariants.{OutOfMemory, DeviceFault, Halted}
+use Rattle.mot_numbers.specs.declared.refusal.Refusal.{Refusal}
+use Rattle.mot_numbers.specs.declared.refusal.Refusal.TheVariants.{OutOfMemory, DeviceFault, Halted}
 use Rattle.mot_server.specs.Server.{ServerView}
 
 -- the disk did not fail, and the server is halted where it was

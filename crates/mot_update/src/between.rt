@@ -9,7 +9,7 @@ ghost use Rattle.mot_update.specs.Between.{IsUpdating, Never, When, may_change};
 ghost use Rattle.mot_update.specs.Faults.{TellsFaults};
 
 use disk_model::Disk;
-use mot_base::Refusal;
+use mot_numbers::Refusal;
 use mot_server::Server;
 use std::alloc::Global;
 

@@ -1,20 +1,20 @@
 //! A look at a source: what it gives, made of a server's carousel.
 ghost use Rattle.std.specs.Prelude.{◌≡◌, [], true, IfErr, IfOk};
 ghost use Rattle.disk_model.specs.Disk.{KeepsLength};
-ghost use Rattle.mot_base.specs.declared.refusal.Refusal.TheVariants.{OutOfMemory};
-ghost use Rattle.mot_carousel.specs.Carousel.{are_names_distinct};
 ghost use Rattle.mot_journal.specs.Image.{Standing};
+ghost use Rattle.mot_numbers.specs.declared.refusal.Refusal.TheVariants.{OutOfMemory};
+ghost use Rattle.mot_objects.specs.Carousel.{are_names_distinct};
 ghost use Rattle.mot_repository.specs.Repository.{Holds};
-ghost use Rattle.mot_update.specs.Faults.{TellsFaults};
 ghost use Rattle.mot_server.specs.Attempts.{fault_of};
+ghost use Rattle.mot_update.specs.Faults.{TellsFaults};
 ghost use Rattle.mot_update.specs.Looking.{Gives, HasLooked, HasSettled, RunsThrough};
 ghost use Rattle.mot_update.specs.Looking.{unknown_names, withdraw_all};
 ghost use Rattle.mot_update.specs.Told.{TellsMore};
 
 use crate::{Source, settle, withdraw};
 use disk_model::Disk;
-use mot_base::Refusal;
-use mot_carousel::{Carousel, Name};
+use mot_numbers::Refusal;
+use mot_objects::{Carousel, Name};
 use mot_server::Server;
 use std::alloc::Global;
 

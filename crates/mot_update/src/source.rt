@@ -7,7 +7,7 @@ ghost use Rattle.mot_update.specs.Updating.{is_known};
 ghost use Rattle.mot_update.specs.declared.wanted.Wanted.{Wanted};
 
 use crate::{Settled, Wanted};
-use mot_carousel::Name;
+use mot_objects::Name;
 use mot_server::Attempt;
 use std::alloc::Global;
 

@@ -1,6 +1,6 @@
 -- The definitions, computed on worked rows.
 use Rattle.std.proofs.Common.{◌≡◌, Some, None, refl}
-use Rattle.mot_base.specs.Geometry.{IsDefault}
+use Rattle.mot_numbers.specs.Geometry.{IsDefault}
 use Rattle.mot_words.specs.Program.Options.{default_geometry, geometry_asked}
 use Rattle.mot_words.specs.declared.program.options.Options.{Options}
 

@@ -3,7 +3,7 @@ use Rattle.std.proofs.Common.{◌≡◌, ◌∙◌, ℕ, List, Option, Some, Non
 use Rattle.std.proofs.Common.{◌≢◌, slice_index}
 use Rattle.std.specs.Prelude.{IfNone, codes}
 use Rattle.clap.specs.Words.{Row, Text}
-use Rattle.mot_base.specs.declared.geometry.Geometry.{Geometry}
+use Rattle.mot_numbers.specs.declared.geometry.Geometry.{Geometry}
 use Rattle.mot_words.specs.Given.{IsGiven}
 use Rattle.mot_words.specs.Program.Options.{AreGiven, GiveDirectory, GiveGeometry}
 use Rattle.mot_words.specs.Program.Options.{geometry_asked}

@@ -5,7 +5,7 @@ mod version;
 
 use disk_store::Unknown;
 use mot_air::{is_air, run_air};
-use mot_base::Refusal;
+use mot_numbers::Refusal;
 use mot_program::run_program;
 use std::fs::File;
 use std::io::{BufWriter, ErrorKind, Write};

@@ -1,6 +1,6 @@
 -- What a task's result is told as.
 use Rattle.std.specs.Prelude.{ℕ, Bool, true, false, Option, Some, None, Result, Ok, Err}
-use Rattle.mot_base.specs.declared.refusal.Refusal.{Refusal}
+use Rattle.mot_numbers.specs.declared.refusal.Refusal.{Refusal}
 
 -- the exit status, and the refusal
 abbrev pub told_of : Result Bool Refusal → ℕ × Option Refusal

@@ -1,8 +1,8 @@
 -- The ids that a carousel uses, and the one that its next object takes.
 use Rattle.std.specs.Prelude.{ℕ, List, ◌∷◌, map}
-use Rattle.mot_carousel.specs.declared.object.Object.{Object}
-use Rattle.mot_carousel.specs.declared.carousel.Carousel.{Carousel}
-use Rattle.mot_carousel.specs.Ids.{next_free_id}
+use Rattle.mot_objects.specs.declared.object.Object.{Object}
+use Rattle.mot_objects.specs.declared.carousel.Carousel.{Carousel}
+use Rattle.mot_objects.specs.Ids.{next_free_id}
 
 -- the ids of the carousel and of its objects, and those that a put or a replace takes
 abbrev pub used_ids_of : Carousel → List ℕ

@@ -3,13 +3,13 @@ use Rattle.std.specs.Prelude.{◌≡◌, ℕ, Bool, true, if◌then◌else◌, L
 use Rattle.std.specs.Prelude.{None, Result, Ok, Err}
 use Rattle.std.specs.Io.KnownBytes.{Appends}
 use Rattle.disk_model.specs.Disk.{State}
-use Rattle.mot_base.specs.declared.refusal.Refusal.{Refusal}
-use Rattle.mot_base.specs.declared.refusal.Refusal.TheVariants.{OutOfMemory}
-use Rattle.mot_carousel.specs.declared.command.Command as command
 use Rattle.mot_control.specs.Answering.{run_of}
 use Rattle.mot_journal.specs.Image.{Standing}
 use Rattle.mot_lines.specs.Text.{done_line, refusal_line}
 use Rattle.mot_lines.specs.declared.line.Line.{Line}
+use Rattle.mot_numbers.specs.declared.refusal.Refusal.{Refusal}
+use Rattle.mot_numbers.specs.declared.refusal.Refusal.TheVariants.{OutOfMemory}
+use Rattle.mot_objects.specs.declared.command.Command as command
 use Rattle.mot_repository.specs.Repository.{Holds}
 use Rattle.mot_server.specs.Runs.{accepted_commands}
 use Rattle.mot_server.specs.Server.{ServerView}

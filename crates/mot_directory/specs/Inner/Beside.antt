@@ -1,10 +1,10 @@
 -- Headers and the directory of a carousel whose bodies stand beside it.
 use Rattle.std.specs.Prelude.{ℕ, map}
-use Rattle.mot_carousel.specs.declared.object.Object.{Object}
-use Rattle.mot_carousel.specs.declared.carousel.Carousel.{Carousel}
 use Rattle.mot_directory.specs.Entries.{parameters_with}
 use Rattle.mot_directory.specs.Header.{HeaderFields}
 use Rattle.mot_directory.specs.Directory.{Entry, DirectoryFields}
+use Rattle.mot_objects.specs.declared.object.Object.{Object}
+use Rattle.mot_objects.specs.declared.carousel.Carousel.{Carousel}
 
 -- an object's header, which takes of the body its length alone
 abbrev pub header_beside : Object → HeaderFields

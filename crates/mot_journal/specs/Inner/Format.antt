@@ -1,6 +1,5 @@
 -- What stands on a disk that is being made.
 use Rattle.std.specs.Prelude.{◌≡◌, ℕ, List, [], ◌∷◌, take, drop, Ok}
-use Rattle.mot_base.specs.declared.geometry.Geometry.{Geometry}
 use Rattle.mot_journal.specs.declared.layout.Layout.TheVariants.{Two}
 use Rattle.mot_journal.specs.declared.record.Record.{Record}
 use Rattle.mot_journal.specs.declared.record.Action.TheVariants.{Nothing}
@@ -8,6 +7,7 @@ use Rattle.mot_journal.specs.Slot.{slot_count}
 use Rattle.mot_journal.specs.Image.{stands_for, IsClean, IsInLayoutTwo, IsSecondHalfEmpty}
 use Rattle.mot_journal.specs.Journal.{standing_from}
 use Rattle.mot_journal.specs.Inner.Steps.{HasSlots}
+use Rattle.mot_numbers.specs.declared.geometry.Geometry.{Geometry}
 use Rattle.std.specs.Prelude.{◌++◌, replicate}
 use Rattle.std.specs.Int.{w16, w32, to_be_bytes}
 use Rattle.mot_journal.specs.Geometry.{magic}

@@ -1,8 +1,8 @@
 -- Where a slot lies.
 use Rattle.std.specs.Prelude.{ℕ, ◌+◌, ◌*◌}
-use Rattle.mot_base.specs.Geometry.{half_start}
 use Rattle.mot_journal.specs.Slot.{slot_size}
 use Rattle.mot_journal.specs.Journal.{JournalView}
+use Rattle.mot_numbers.specs.Geometry.{half_start}
 
 -- where a slot of the journal's half lies
 abbrev pub start_of_slot : JournalView → ℕ → ℕ

@@ -2,16 +2,16 @@
 use Rattle.std.specs.Prelude.{ℕ, ◌-◌, true, if◌then◌else◌, List, take, drop, Option}
 use Rattle.std.specs.Prelude.{Some, None}
 use Rattle.std.specs.Option.{option_map_or}
-use Rattle.mot_base.specs.Fields.{number_in}
-use Rattle.mot_base.specs.Reading.{◌>>=◌}
-use Rattle.mot_carousel.specs.Content.{ContentNumbers}
-use Rattle.mot_base.specs.declared.geometry.Geometry.{Geometry}
 use Rattle.mot_journal.specs.declared.layout.Layout.{Layout}
 use Rattle.mot_journal.specs.declared.record.Action.{Action}
 use Rattle.mot_journal.specs.declared.record.Action.TheVariants.{Set}
 use Rattle.mot_journal.specs.Slot.{kind_base, action_in, short_text_in, is_sound_action}
-use Rattle.mot_carousel.specs.Mime.{is_mime}
-use Rattle.mot_carousel.specs.Name.{is_name}
+use Rattle.mot_numbers.specs.Fields.{number_in}
+use Rattle.mot_numbers.specs.Reading.{◌>>=◌}
+use Rattle.mot_numbers.specs.declared.geometry.Geometry.{Geometry}
+use Rattle.mot_objects.specs.Content.{ContentNumbers}
+use Rattle.mot_objects.specs.Mime.{is_mime}
+use Rattle.mot_objects.specs.Name.{is_name}
 
 -- the number in so many bytes from a place on
 abbrev pub number_at : ℕ → ℕ → List ℕ → ℕ

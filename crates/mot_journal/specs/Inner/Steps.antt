@@ -4,12 +4,12 @@ use Rattle.std.specs.Prelude.{replicate, slice_range, slice_get, Option, Some, N
 use Rattle.std.specs.Prelude.{Result, IsErr}
 use Rattle.disk_model.specs.Disk.{State, AgreeOutside, Torn, Throughout}
 use Rattle.disk_model.specs.Failures.{Rises, most_failures}
-use Rattle.mot_base.specs.declared.geometry.Geometry.{Geometry}
-use Rattle.mot_base.specs.Geometry.{half_start, half_size}
 use Rattle.mot_journal.specs.declared.layout.Layout.{Layout}
 use Rattle.mot_journal.specs.declared.record.Record.{Record}
 use Rattle.mot_journal.specs.Image.{slots_in}
 use Rattle.mot_journal.specs.Slot.{slot_size, slot_count, bytes_of_slot, read_slot}
+use Rattle.mot_numbers.specs.declared.geometry.Geometry.{Geometry}
+use Rattle.mot_numbers.specs.Geometry.{half_start, half_size}
 
 -- these bytes with this slot in them, but for its first byte, which may be any
 pub record IsBehindGate (at : ℕ) (slot bytes image : List ℕ) : Type 0 where

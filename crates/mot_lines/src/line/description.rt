@@ -6,8 +6,8 @@ ghost use Rattle.mot_lines.specs.Inner.Words.{words_after};
 
 use super::fields::{parse_body, parse_content, parse_mime, parse_name};
 use super::words::five_words;
-use mot_base::Refusal;
-use mot_carousel::{Body, Content, Mime, Name};
+use mot_numbers::Refusal;
+use mot_objects::{Body, Content, Mime, Name};
 use std::alloc::Global;
 
 /// An object, as a put or a replace describes it.

@@ -1,10 +1,10 @@
 //! Bytes from pairs of hex digits.
 ghost use Rattle.std.specs.Prelude.{◌≡◌, ◌⊎◌, ◌*◌, Ok, IsErr, IfErr, IfOk, true, false, length};
 ghost use Rattle.hex.specs.Hex.{decode_of};
-ghost use Rattle.mot_base.specs.declared.refusal.Refusal.TheVariants.{BadBody, OutOfMemory};
 ghost use Rattle.mot_lines.specs.Inner.Digits.{digit_worth};
+ghost use Rattle.mot_numbers.specs.declared.refusal.Refusal.TheVariants.{BadBody, OutOfMemory};
 
-use mot_base::Refusal;
+use mot_numbers::Refusal;
 use std::alloc::Global;
 
 /// What each character is worth as a hex digit, in either case; `NO_DIGIT` where it is none.

@@ -10,8 +10,8 @@ use super::MAX_PACKETS;
 use super::digits::decode;
 use super::words::{is_word, parse_number};
 use crate::SegmentBytes;
-use mot_base::{GroupKind, Refusal, TransportId};
-use mot_carousel::{Body, Content, Mime, Name, Period};
+use mot_numbers::{GroupKind, Refusal, TransportId};
+use mot_objects::{Body, Content, Mime, Name, Period};
 use std::alloc::Global;
 
 /// TYPE, or `BadType`.

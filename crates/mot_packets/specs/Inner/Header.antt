@@ -1,6 +1,6 @@
 -- A header with useful data, as a packet's fields.
 use Rattle.std.specs.Prelude.{ℕ, List}
-use Rattle.mot_base.specs.PacketLength.{room_of}
+use Rattle.mot_numbers.specs.PacketLength.{room_of}
 use Rattle.mot_packets.specs.Packet.{PacketFields}
 use Rattle.mot_packets.specs.declared.header.Header.{Header}
 

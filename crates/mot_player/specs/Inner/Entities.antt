@@ -2,9 +2,9 @@
 use Rattle.std.specs.Prelude.{◌≡◌, ◌⊎◌, ℕ, ◌+◌, ◌*◌, ◌<◌, ◌≤◌, ◌==◌, if◌then◌else◌, List}
 use Rattle.std.specs.Prelude.{length, map, ◌-◌, slice_index}
 use Rattle.std.specs.List.{AllByRecursion}
-use Rattle.mot_base.specs.declared.geometry.TheConstants.{MAX_OBJECTS}
-use Rattle.mot_carousel.specs.declared.body.TheConstants.{MAX_BODY}
 use Rattle.mot_directory.specs.declared.directory.TheConstants.{MAX_DIRECTORY}
+use Rattle.mot_numbers.specs.declared.geometry.TheConstants.{MAX_OBJECTS}
+use Rattle.mot_objects.specs.declared.body.TheConstants.{MAX_BODY}
 use Rattle.mot_player.specs.Bodies.{body_at}
 use Rattle.mot_player.specs.PlayerView.{BodyPlan, TurnPlan}
 

@@ -1,7 +1,7 @@
 -- The segment that comes next of a turn.
 use Rattle.std.specs.Prelude.{◌≡◌, ℕ, ◌==◌, if◌then◌else◌, List, ◌∷◌, take, drop}
-use Rattle.mot_base.specs.Reading.{is_empty}
 use Rattle.mot_groups.specs.Group.{Segment}
+use Rattle.mot_numbers.specs.Reading.{is_empty}
 use Rattle.mot_player.specs.declared.part.Part.{Part}
 use Rattle.mot_player.specs.PlayerView.{AreBodiesFor, TurnPlan, entities_of}
 use Rattle.mot_player.specs.Inner.Entities.{entity_bytes, entity_tid}

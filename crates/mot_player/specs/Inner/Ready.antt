@@ -1,8 +1,8 @@
 -- What the state of a player stands for, and what holds of it between requests.
 use Rattle.std.specs.Prelude.{◌≡◌, ℕ, ◌+◌, ◌<◌, ◌≤◌, List, ◌∷◌}
 use Rattle.std.specs.Prelude.{length, vec_len, vec_capacity}
-use Rattle.mot_base.specs.declared.numbers.TheConstants.{MAX_SEGMENT}
 use Rattle.mot_groups.specs.Group.{Segment, bytes_of_group}
+use Rattle.mot_numbers.specs.declared.numbers.TheConstants.{MAX_SEGMENT}
 use Rattle.mot_player.specs.declared.state.State.{State}
 use Rattle.mot_player.specs.Place.{Place, group_for, to_send, with_begun}
 use Rattle.mot_player.specs.PlayerView.{place_of}

@@ -1,7 +1,7 @@
 -- What is known of all objects of a fold at once.
 use Rattle.std.specs.Prelude.{◌≡◌, ◌≤◌, ◌+◌, ◌%◌, ℕ, Bool, true, false, List, All, slice_index_or}
 use Rattle.mot_base.specs.Checksum.{crc_of}
-use Rattle.mot_carousel.specs.declared.object.Object.{Object}
+use Rattle.mot_objects.specs.declared.object.Object.{Object}
 use Rattle.mot_repository.specs.declared.opening.bounds.Bounds.{Bounds}
 
 -- the place of a name's flag

@@ -2,17 +2,17 @@
 use Rattle.std.specs.Prelude.{◌≡◌, ℕ, ◌+◌, ◌<◌, ◌≤◌, All, true, List, [], ◌∷◌, ◌++◌, length, map}
 use Rattle.std.specs.Prelude.{slice_range, bytes_eq, Option, Some, None, Ok, if◌then◌else◌}
 use Rattle.std.specs.List.{AllByRecursion}
-use Rattle.mot_base.specs.declared.geometry.TheConstants.{MAX_OBJECTS}
-use Rattle.mot_carousel.specs.declared.command.Command.{Command}
-use Rattle.mot_carousel.specs.declared.command.Command.TheVariants.{Put, Replace, Withdraw, Period}
-use Rattle.mot_carousel.specs.declared.command.Done.{Done}
-use Rattle.mot_carousel.specs.Carousel.{Object, Carousel, change, has_name, IsSound}
 use Rattle.mot_journal.specs.declared.record.Record.{Record}
 use Rattle.mot_journal.specs.declared.record.Action.{Action}
 use Rattle.mot_journal.specs.declared.record.Action.TheVariants.{Nothing, Set, Remove}
 use Rattle.mot_journal.specs.Catalogue.{Placed, Catalogue, catalogue_of, catalogue_after}
 use Rattle.mot_journal.specs.Catalogue.{carousel_in, extents_of, is_consistent}
 use Rattle.mot_journal.specs.Image.{Standing, stands_for}
+use Rattle.mot_numbers.specs.declared.geometry.TheConstants.{MAX_OBJECTS}
+use Rattle.mot_objects.specs.declared.command.Command.{Command}
+use Rattle.mot_objects.specs.declared.command.Command.TheVariants.{Put, Replace, Withdraw, Period}
+use Rattle.mot_objects.specs.declared.command.Done.{Done}
+use Rattle.mot_objects.specs.Carousel.{Object, Carousel, change, has_name, IsSound}
 use Rattle.mot_repository.specs.Gap.{is_free}
 use Rattle.mot_repository.specs.Laws.{records_of_catalogue}
 

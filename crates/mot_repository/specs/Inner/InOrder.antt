@@ -1,7 +1,7 @@
 -- What holds of every repository, whatever its disk does.
 use Rattle.std.specs.Prelude.{◌≡◌, ◌≤◌, ℕ, true, IsFalse}
-use Rattle.mot_base.specs.Geometry.{length_of}
-use Rattle.mot_base.specs.Geometry.{is_valid}
+use Rattle.mot_numbers.specs.Geometry.{length_of}
+use Rattle.mot_numbers.specs.Geometry.{is_valid}
 use Rattle.mot_repository.specs.Extents.{ArePaired, catalogue_in}
 use Rattle.mot_repository.specs.Whole.{IsWhole}
 use Rattle.mot_repository.specs.Repository.{RepositoryView}

@@ -8,10 +8,10 @@ use Rattle.disk_model.specs.Disk.{State}
 use Rattle.mot_journal.specs.declared.record.Record.{Record}
 use Rattle.mot_journal.specs.Image.{Standing}
 use Rattle.mot_journal.specs.Journal.{JournalView}
+use Rattle.mot_journal.specs.declared.layout.Layout.{Layout}
+use Rattle.mot_numbers.specs.declared.geometry.Geometry.{Geometry}
 use Rattle.mot_repository.specs.Prepared.{IsFull}
 use Rattle.mot_repository.specs.Repository.{Agrees, Holds}
-use Rattle.mot_base.specs.declared.geometry.Geometry.{Geometry}
-use Rattle.mot_journal.specs.declared.layout.Layout.{Layout}
 use Rattle.mot_repository.specs.declared.inventory.Inventory.{Inventory}
 
 -- what is kept in memory is this catalogue

@@ -1,11 +1,11 @@
 -- What is worked out for a command, in memory alone.
 use Rattle.std.specs.Prelude.{ℕ, ◌≤◌, List, Option, MatchOption}
-use Rattle.mot_carousel.specs.Content.{ContentNumbers}
-use Rattle.mot_carousel.specs.Name.{IsName}
-use Rattle.mot_carousel.specs.Mime.{IsMime}
 use Rattle.mot_journal.specs.declared.record.Record.{Record}
 use Rattle.mot_journal.specs.declared.record.Action.{Action}
 use Rattle.mot_journal.specs.declared.record.Action.TheVariants.{Nothing, Set, Remove}
+use Rattle.mot_objects.specs.Content.{ContentNumbers}
+use Rattle.mot_objects.specs.Name.{IsName}
+use Rattle.mot_objects.specs.Mime.{IsMime}
 
 abbrev pub IsId : ℕ → Type 0
 IsId id = (1 ≤ id) × (id ≤ 65535)

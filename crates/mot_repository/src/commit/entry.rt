@@ -3,10 +3,6 @@ ghost use Rattle.std.specs.Prelude.{◌≡◌, ◌+◌, ◌≤◌, ◌<◌, ◌+
 ghost use Rattle.std.specs.Prelude.{slice_range, Ok, OnOk, OnErr, IfErr, IsFalse};
 ghost use Rattle.disk_model.specs.Disk.{Keeps, Costs, Throughout, WritesWithin};
 ghost use Rattle.disk_model.specs.Failures.{HasCause};
-ghost use Rattle.mot_base.specs.declared.refusal.Refusal.TheVariants.{DeviceFault};
-ghost use Rattle.mot_base.specs.Geometry.{area_start, length_of};
-ghost use Rattle.mot_carousel.specs.declared.command.Command.{Command};
-ghost use Rattle.mot_carousel.specs.declared.command.Done.{Done};
 ghost use Rattle.mot_journal.specs.declared.layout.Layout.{Layout};
 ghost use Rattle.mot_journal.specs.declared.record.Record.{Record};
 ghost use Rattle.mot_journal.specs.Slot.{is_sound, slot_count};
@@ -14,14 +10,18 @@ ghost use Rattle.mot_journal.specs.Catalogue.{Catalogue, catalogue_of};
 ghost use Rattle.mot_journal.specs.Image.{Standing};
 ghost use Rattle.mot_journal.specs.Journal.{HasRecords};
 ghost use Rattle.mot_journal.specs.Gaps.{AreBeside, standing_of};
+ghost use Rattle.mot_numbers.specs.declared.refusal.Refusal.TheVariants.{DeviceFault};
+ghost use Rattle.mot_numbers.specs.Geometry.{area_start, length_of};
+ghost use Rattle.mot_objects.specs.declared.command.Command.{Command};
+ghost use Rattle.mot_objects.specs.declared.command.Done.{Done};
 ghost use Rattle.mot_repository.specs.Cost.{calls_for_body};
 ghost use Rattle.mot_repository.specs.Outcome.{after_command};
 ghost use Rattle.mot_repository.specs.Repository.{RepositoryView, Agrees, IsOf, Holds};
 ghost use Rattle.mot_repository.specs.Repository.{IsBeforeOrAfter};
 
 use disk_model::Disk;
-use mot_base::Refusal;
 use mot_journal::{Journal, Record};
+use mot_numbers::Refusal;
 
 /// Writes a body here. What brings no body makes no call of the disk.
 fn write_body<D: Disk>(disk: &mut D, at: u64, body: &[u8]) -> Result<(), Refusal>

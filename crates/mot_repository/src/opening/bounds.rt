@@ -4,7 +4,7 @@ ghost use Rattle.mot_repository.specs.Inner.Bounds.{IsFlagged, flag_of, is_flagg
 ghost use Rattle.mot_repository.specs.declared.opening.bounds.TheConstants.{NAME_FLAGS};
 
 use mot_base::crc16;
-use mot_carousel::{Name, Object};
+use mot_objects::{Name, Object};
 
 /// So many flags that the names of a whole carousel mostly have one each.
 const NAME_FLAGS: usize = 4096;

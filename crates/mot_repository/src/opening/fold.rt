@@ -1,14 +1,14 @@
 //! The records of a journal, folded into the carousel that is kept in memory.
-ghost use Rattle.mot_base.specs.declared.geometry.TheConstants.{MAX_OBJECTS};
+ghost use Rattle.mot_numbers.specs.declared.geometry.TheConstants.{MAX_OBJECTS};
 ghost use Rattle.std.specs.Prelude.{◌≡◌, ◌≤◌, ◌<◌, ◌∷◌, map, length, vec_len, vec_capacity};
 ghost use Rattle.std.specs.Prelude.{All, Ok, Some, None, IfOk, IfErr, IfSome, MatchOption};
 ghost use Rattle.std.specs.Prelude.{true, nat_eq, position, remove, [], IsTrue};
 ghost use Rattle.std.specs.List.{list_any};
-ghost use Rattle.mot_carousel.specs.Ids.{is_distinct};
-ghost use Rattle.mot_carousel.specs.Stands.{index_of};
-ghost use Rattle.mot_carousel.specs.declared.object.Object.{Object};
 ghost use Rattle.mot_journal.specs.Catalogue.{new_catalogue, catalogue_after, catalogue_of};
 ghost use Rattle.mot_journal.specs.Catalogue.{objects_after, placed_without, is_consistent};
+ghost use Rattle.mot_objects.specs.Ids.{is_distinct};
+ghost use Rattle.mot_objects.specs.Stands.{index_of};
+ghost use Rattle.mot_objects.specs.declared.object.Object.{Object};
 ghost use Rattle.mot_repository.specs.Extents.{catalogue_with, objects_in};
 ghost use Rattle.mot_repository.specs.Inner.Bounds.{AreEndsWithin, AreIdsWithin, AreNamesFlagged};
 ghost use Rattle.mot_repository.specs.Inner.Bounds.{AreWithin};
@@ -20,9 +20,9 @@ ghost use Rattle.mot_repository.specs.declared.opening.bounds.Bounds.{Bounds};
 use super::bounds::Bounds;
 use crate::gap::is_clear;
 use crate::inventory::Inventory;
-use mot_base::{Geometry, Refusal, TransportId};
-use mot_carousel::{Carousel, Name, Object, Period};
 use mot_journal::{Action, Record};
+use mot_numbers::{Geometry, Refusal, TransportId};
+use mot_objects::{Carousel, Name, Object, Period};
 use std::alloc::{AllocError, Global};
 
 /// The carousel that these records of a disk of this geometry stand for; `Damaged` with the number

@@ -5,7 +5,7 @@ ghost use Rattle.mot_repository.specs.Outcome.{extents_after, start_of};
 
 use crate::gap::first_fit_sorted;
 use crate::inventory::Inventory;
-use mot_carousel::Command;
+use mot_objects::Command;
 use std::alloc::{AllocError, Global};
 
 /// Where in the data area the body of a command goes, 0 where it brings none; `None` where no gap

@@ -1,8 +1,8 @@
 -- The bodies of a repository, as its disk gives them.
 use Rattle.std.specs.Prelude.{◌≡◌, ℕ, ◌+◌, ◌≤◌, List, ◌++◌, map, take, replicate, slice_range}
 use Rattle.disk_model.specs.Disk.{State, KeepsLength, IsUnchanged}
-use Rattle.mot_base.specs.Geometry.{area_start}
-use Rattle.mot_base.specs.declared.geometry.Geometry.{Geometry}
+use Rattle.mot_numbers.specs.Geometry.{area_start}
+use Rattle.mot_numbers.specs.declared.geometry.Geometry.{Geometry}
 use Rattle.mot_repository.specs.Repository.{RepositoryView}
 
 -- so many bytes: those that there are, and zeros behind them

@@ -1,7 +1,7 @@
 -- What holds of a server's player between its calls.
 use Rattle.std.specs.Prelude.{ℕ, ◌≡◌, List}
-use Rattle.mot_carousel.specs.Stands.{AreBodiesOf, carousel_of}
-use Rattle.mot_carousel.specs.declared.carousel.Carousel.{Carousel}
+use Rattle.mot_objects.specs.Stands.{AreBodiesOf, carousel_of}
+use Rattle.mot_objects.specs.declared.carousel.Carousel.{Carousel}
 use Rattle.mot_player.specs.PlayerView.{AreBodiesFor, PlayerView, turn_with}
 use Rattle.mot_player.specs.Turn.{IsTurnOf, turn_of_carousel}
 

@@ -1,9 +1,10 @@
 -- What the server decides, before it is written.
 use Rattle.std.specs.Prelude.{◌≡◌, List, [], Result, Ok, IsFalse, if◌then◌else◌, Bool, true, false}
-use Rattle.mot_base.specs.declared.refusal.Refusal.{Refusal}
-use Rattle.mot_carousel.specs.declared.command.Command as command
 use Rattle.mot_lines.specs.declared.line.Line.{Line}
 use Rattle.mot_lines.specs.declared.line.Line.TheVariants as asks
+use Rattle.mot_numbers.specs.declared.refusal.Refusal.{Refusal}
+use Rattle.mot_numbers.specs.Refusal.{is_device_fault}
+use Rattle.mot_objects.specs.declared.command.Command as command
 use Rattle.mot_session.specs.declared.deciding.Decision.{Decision}
 use Rattle.mot_session.specs.declared.deciding.Decision.TheVariants.{Refused, Accepted, Listing}
 use Rattle.mot_session.specs.declared.deciding.Decision.TheVariants.{Packets, Next, Turn}
@@ -11,7 +12,6 @@ use Rattle.mot_session.specs.Raw.{packets_at}
 use Rattle.mot_session.specs.Session.{refused, accepted, listing, packets, Answers}
 use Rattle.mot_session.specs.State.{ServerState}
 use Rattle.mot_session.specs.Stored.{command_in}
-use Rattle.mot_base.specs.Refusal.{is_device_fault}
 
 -- a decision answers the request, with the reply that it stands for on the server then; or it is to
 -- play packets, and nothing was done yet

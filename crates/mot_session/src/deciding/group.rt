@@ -3,9 +3,9 @@ ghost use Rattle.std.specs.Prelude.{◌≡◌, IfOk};
 ghost use Rattle.mot_groups.specs.Group.{bytes_of_group};
 ghost use Rattle.mot_session.specs.Raw.{raw_group};
 
-use mot_base::{GroupKind, TransportId};
 use mot_groups::write_group;
 use mot_lines::SegmentBytes;
+use mot_numbers::{GroupKind, TransportId};
 use std::alloc::{AllocError, Global};
 
 /// The data group of one segment (EN 300 401, clause 5.3.3; EN 301 234).

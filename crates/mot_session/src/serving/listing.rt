@@ -4,8 +4,8 @@ ghost use Rattle.mot_lines.specs.Listing.{object_line_beside, listing_text_besid
 ghost use Rattle.mot_session.specs.Output.{Writes};
 
 use super::output::{WriteFault, write_whole};
-use mot_carousel::{Carousel, Object};
 use mot_lines::{carousel_text, object_text};
+use mot_objects::{Carousel, Object};
 use std::io::Write;
 
 /// Writes the carousel's line, and then one for each object; after a fault some first bytes of them

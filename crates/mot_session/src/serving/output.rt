@@ -2,7 +2,7 @@
 ghost use Rattle.std.specs.Prelude.{◌≡◌};
 ghost use Rattle.mot_session.specs.Output.{Writes};
 
-use mot_base::Refusal;
+use mot_numbers::Refusal;
 use std::io::Write;
 
 /// A write or a flush failed.
@@ -10,7 +10,7 @@ use std::io::Write;
 pub struct WriteFault;
 
 impl From<WriteFault> for Refusal {
-    ghost use Rattle.mot_base.specs.declared.refusal.Refusal.TheVariants.{WriteFault};
+    ghost use Rattle.mot_numbers.specs.declared.refusal.Refusal.TheVariants.{WriteFault};
 
     ghost from_gives = { λ _ refusal. refusal ≡ WriteFault };
 

@@ -1,9 +1,9 @@
 //! Answering on a server that is only read.
 ghost use Rattle.std.specs.Prelude.{◌≡◌, ℕ, List, Ok, OnOk};
 ghost use Rattle.std.specs.Io.KnownBytes.{Appends};
-ghost use Rattle.mot_base.specs.Geometry.{IsValid};
 ghost use Rattle.mot_lines.specs.Text.{refusal_line};
 ghost use Rattle.mot_lines.specs.declared.line.Line.TheVariants as asks;
+ghost use Rattle.mot_numbers.specs.Geometry.{IsValid};
 ghost use Rattle.mot_repository.specs.Repository.{RepositoryView};
 ghost use Rattle.mot_session.specs.Output.{Writes};
 ghost use Rattle.mot_session.specs.OnAnyDisk.{AnswersAnyhow, read_only};
@@ -14,8 +14,8 @@ use super::output::{WriteFault, write_whole};
 use super::reply::write_packets;
 use crate::deciding::group_of;
 use disk_model::Disk;
-use mot_base::{Geometry, GroupKind, Refusal, TransportId};
 use mot_lines::{Line, SegmentBytes, refusal_text};
+use mot_numbers::{Geometry, GroupKind, Refusal, TransportId};
 use mot_server::Server;
 use std::alloc::{AllocError, Global};
 use std::io::Write;

@@ -1,8 +1,8 @@
 -- What helps to tell of suffixes.
 use Rattle.std.specs.Prelude.{◌≡◌, ◌⊎◌, ℕ, List, [], ◌∷◌, ◌++◌, filter, not, Some, None, Result}
 use Rattle.std.specs.Prelude.{Err}
-use Rattle.mot_base.specs.declared.refusal.Refusal.{Refusal}
-use Rattle.mot_base.specs.declared.refusal.Refusal.TheVariants.{OutOfMemory}
+use Rattle.mot_numbers.specs.declared.refusal.Refusal.{Refusal}
+use Rattle.mot_numbers.specs.declared.refusal.Refusal.TheVariants.{OutOfMemory}
 use Rattle.mot_suffixes.specs.Types.{SuffixType, refusal_of_lines, says_nothing, types_of_lines}
 
 -- the refusal of this answer, or a growth of memory was refused

@@ -2,9 +2,9 @@
 use Rattle.std.specs.Prelude.{ℕ, ◌≡◌, nat_le, if◌then◌else◌, List, Option, Some, None, codes}
 use Rattle.std.specs.Prelude.{unwrap_or}
 use Rattle.clap.specs.Words.{Row, first_of}
-use Rattle.mot_base.specs.Reading.{◌>>=◌}
-use Rattle.mot_carousel.specs.Ids.{id_after}
-use Rattle.mot_base.specs.declared.geometry.Geometry.{Geometry}
+use Rattle.mot_numbers.specs.Reading.{◌>>=◌}
+use Rattle.mot_numbers.specs.declared.geometry.Geometry.{Geometry}
+use Rattle.mot_objects.specs.Ids.{id_after}
 use Rattle.mot_words.specs.Given.{IsGiven}
 use Rattle.mot_words.specs.declared.program.options.Options.{Options}
 

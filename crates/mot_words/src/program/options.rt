@@ -1,13 +1,13 @@
 //! The numbers of the command line.
 ghost use Rattle.std.specs.Prelude.{ℕ, ◌≡◌, IfNone, IfSome};
 ghost use Rattle.clap.specs.Words.{found_of, rows_of};
-ghost use Rattle.mot_base.specs.declared.geometry.Geometry.{Geometry};
+ghost use Rattle.mot_numbers.specs.declared.geometry.Geometry.{Geometry};
 ghost use Rattle.mot_words.specs.Program.Options.{AreGiven, GiveDirectory, GiveGeometry, field_in};
 ghost use Rattle.mot_words.specs.declared.program.options.Options.{Options};
 
 use crate::given::number_of;
 use clap::ArgMatches;
-use mot_base::{Geometry, TransportId};
+use mot_numbers::{Geometry, TransportId};
 
 /// The numbers that the words of the command line give.
 #[derive(Clone, Copy, Debug, PartialEq, Eq)]

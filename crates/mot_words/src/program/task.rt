@@ -8,7 +8,7 @@ ghost use Rattle.mot_words.specs.declared.program.task.Task.{Task};
 use super::options::{directory_of, geometry_of};
 use crate::given::word_of;
 use clap::ArgMatches;
-use mot_base::{Geometry, TransportId};
+use mot_numbers::{Geometry, TransportId};
 
 /// What the program is to do.
 #[derive(Clone, Copy)]

@@ -1,10 +1,10 @@
 use Rattle.std.proofs.Common.{inl, inr, refl, subst}
 use Rattle.std.specs.Io.KnownBytes.{Appends}
 use Rattle.mot_air.specs.Inner.Looked.{broken, told, untold}
-use Rattle.mot_feed.specs.Sending.{unwritten}
-use Rattle.mot_update.specs.Faults.{no_memory}
-use Rattle.mot_base.proofs.Laws.{same_error}
 use Rattle.mot_air.proofs.playing.look_and_tell.Goals as goal
+use Rattle.mot_feed.specs.Sending.{unwritten}
+use Rattle.mot_numbers.proofs.Laws.{same_error}
+use Rattle.mot_update.specs.Faults.{no_memory}
 
 pub returns-in_err-looked-clause-looked : goal.returns-in_err-looked-clause-looked
 returns-in_err-looked-clause-looked g c = λ s holds honest.

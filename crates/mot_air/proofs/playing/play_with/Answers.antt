@@ -2,10 +2,10 @@ use Rattle.std.proofs.Common.{inl, sym, subst}
 use Rattle.std.specs.Prelude.{IfErr, OnOk}
 use Rattle.mot_air.specs.Playing.{Plays, PlaysBy, StopsBy, StopsPlaying, unopened}
 use Rattle.mot_air.proofs.Played.{plays, plays_by, stops, stops_by}
-use Rattle.mot_feed.proofs.Laws.{grows_nil}
 use Rattle.mot_air.proofs.playing.play_with.Given as given
 use Rattle.mot_air.proofs.playing.play_with.Goals as goal
 use Rattle.mot_air.proofs.playing.play_with.Goals.{After-feed-result}
+use Rattle.mot_feed.proofs.Laws.{grows_nil}
 use Rattle.mot_reading.proofs.Laws.{unopened_is}
 
 pub returns-in-Err-clause-refused : goal.returns-in-Err-clause-refused

@@ -2,8 +2,8 @@ use Rattle.std.proofs.Common.{sym, subst}
 use Rattle.std.specs.Prelude.{IfErr, IfOk}
 use Rattle.mot_air.specs.Syncing.{StopsSyncing, Syncs, unopened}
 use Rattle.mot_air.proofs.Synced.{stops, syncs}
-use Rattle.mot_reading.proofs.Laws.{unopened_is}
 use Rattle.mot_air.proofs.playing.sync_disk.Goals as goal
+use Rattle.mot_reading.proofs.Laws.{unopened_is}
 
 pub returns-in-Err-clause-refused : goal.returns-in-Err-clause-refused
 returns-in-Err-clause-refused g c =

@@ -3,9 +3,9 @@ use Rattle.std.specs.Prelude.{IfErr}
 use Rattle.std.proofs.lemmas.Result.{on_ok_weaker}
 use Rattle.mot_air.proofs.Begun.{IfErr-one, done-is, refused-is, since_opened}
 use Rattle.mot_air.specs.Program.{IsUntold, OnOpened}
-use Rattle.mot_base.specs.declared.refusal.Refusal.TheVariants.{DeviceFault}
-use Rattle.mot_reading.specs.Inspecting.{Inspects, StopsInspecting}
 use Rattle.mot_air.proofs.program.inspect_file.Goals as goal
+use Rattle.mot_numbers.specs.declared.refusal.Refusal.TheVariants.{DeviceFault}
+use Rattle.mot_reading.specs.Inspecting.{Inspects, StopsInspecting}
 
 pub returns-in-Ok-clause-done : goal.returns-in-Ok-clause-done
 returns-in-Ok-clause-done g c = λ is.

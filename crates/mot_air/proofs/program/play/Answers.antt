@@ -1,14 +1,14 @@
 use Rattle.std.proofs.Common.{◌≡◌, ◌⊎◌, inl, inr, subst}
 use Rattle.std.specs.Prelude.{IfErr}
 use Rattle.mot_air.specs.Program.{IsUntold, PlaysTo, StopsPlayingTo}
-use Rattle.mot_files.specs.Lines.{IsUnlined}
-use Rattle.mot_files.specs.Types.{IsUntyped}
 use Rattle.mot_air.specs.Program.{when_changed}
 use Rattle.mot_air.specs.declared.playing.Followed.{Followed}
 use Rattle.mot_air.proofs.Begun.{IfErr-one, refused_untouched}
 use Rattle.mot_air.proofs.Played.{same_changed}
-use Rattle.mot_base.specs.declared.refusal.Refusal.TheVariants.{DeviceFault, WriteFault}
 use Rattle.mot_air.proofs.program.play.Goals as goal
+use Rattle.mot_files.specs.Lines.{IsUnlined}
+use Rattle.mot_files.specs.Types.{IsUntyped}
+use Rattle.mot_numbers.specs.declared.refusal.Refusal.TheVariants.{DeviceFault, WriteFault}
 
 pub returns-in-Err-clause-refused : goal.returns-in-Err-clause-refused
 returns-in-Err-clause-refused g c =

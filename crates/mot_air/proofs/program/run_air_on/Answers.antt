@@ -3,12 +3,12 @@ use Rattle.std.proofs.KnownBytes.{Keeps-refl}
 use Rattle.std.specs.Io.KnownBytes.{Keeps}
 use Rattle.clap.specs.Words.{found_of, rows_of}
 use Rattle.mot_air.specs.Program.{IsRefused, IsUntouched, Succeeds, no_help, no_memory}
+use Rattle.mot_air.proofs.program.run_air_on.Goals as goal
 use Rattle.mot_words.proofs.Laws.{AreWrong-fault, AreWrong-none, AskBy-matched, AskForHelp-shown}
 use Rattle.mot_words.proofs.Laws.{air_simple}
 use Rattle.mot_words.specs.Air.Command.{air_app}
 use Rattle.mot_words.specs.Air.Task.{IsAirTask}
 use Rattle.mot_words.specs.Asked.{AreWrong}
-use Rattle.mot_air.proofs.program.run_air_on.Goals as goal
 
 pub returns-clause-done : goal.returns-clause-done
 returns-clause-done g c =

@@ -3,17 +3,17 @@ use Rattle.std.proofs.Common.{Some, None, ap, inl, inr, refl, subst, sym}
 use Rattle.std.proofs.KnownBytes.{Keeps-refl}
 use Rattle.std.specs.Prelude.{IfErr}
 use Rattle.clap.specs.Words.{Text}
+use Rattle.disk_store.specs.declared.file.start.Start.{Ghosts}
 use Rattle.mot_air.specs.Inner.Told.{told_of}
 use Rattle.mot_air.specs.Program.{DoesInPart, IsBeginningRefusal, IsRefused, IsUntold}
 use Rattle.mot_air.specs.Program.{Succeeds, begun, no_task, unbegun}
 use Rattle.mot_air.specs.declared.used.AirDisk.{AirDisk}
-use Rattle.mot_base.specs.declared.refusal.Refusal.{Refusal}
-use Rattle.disk_store.specs.declared.file.start.Start.{Ghosts}
+use Rattle.mot_air.proofs.program.run_command.Goals as goal
+use Rattle.mot_numbers.specs.declared.refusal.Refusal.{Refusal}
 use Rattle.mot_words.specs.Air.Command.{air_app}
 use Rattle.mot_words.specs.Air.Task.{IsAirTask}
 use Rattle.mot_words.specs.Asked.{AskFor}
 use Rattle.mot_words.specs.declared.air.task.AirTask.{AirTask}
-use Rattle.mot_air.proofs.program.run_command.Goals as goal
 
 status_told : (r : Result Bool Refusal) → ((told_of r).0 ≡ 0) ⊎ ((told_of r).0 ≡ 1)
 status_told (Ok true) = inl refl

@@ -3,8 +3,8 @@ use Rattle.std.specs.Prelude.{IfErr, IfOk}
 use Rattle.mot_air.proofs.Begun.{IfErr-one, IfOk-one, since_opened}
 use Rattle.mot_air.specs.Program.{IsUntold, OnOpened}
 use Rattle.mot_air.specs.Syncing.{StopsSyncing, Syncs}
-use Rattle.mot_base.specs.declared.refusal.Refusal.TheVariants.{DeviceFault}
 use Rattle.mot_air.proofs.program.sync_file.Goals as goal
+use Rattle.mot_numbers.specs.declared.refusal.Refusal.TheVariants.{DeviceFault}
 
 pub returns-in-Ok-clause-done : goal.returns-in-Ok-clause-done
 returns-in-Ok-clause-done g c =

@@ -1,10 +1,10 @@
 use Rattle.std.proofs.Common.{◌≡◌, ◌<◌, ◌≤◌, ◌∷◌, ◌++◌, [], ℕ, suc, length, map, take, get_or}
 use Rattle.std.proofs.Common.{ap, sym, ◌∙◌, arith}
 use Rattle.std.proofs.lemmas.List.{map_more, length-map, take_all}
-use Rattle.mot_carousel.specs.declared.object.Object.{Object}
 use Rattle.mot_carousel.specs.Inner.Using.{used_ids_of}
 use Rattle.mot_carousel.proofs.planning.used_ids.Goals as goal
 use Rattle.mot_carousel.proofs.planning.used_ids.Goals.{After-loop-object}
+use Rattle.mot_objects.specs.declared.object.Object.{Object}
 
 abbrev id_of : Object → ℕ
 id_of o = o.tid

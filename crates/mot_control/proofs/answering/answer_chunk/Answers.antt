@@ -1,15 +1,15 @@
 use Rattle.std.proofs.Common.{◌≡◌, ◌∙◌, ℕ, List, [], ◌∷◌, ◌++◌, Some, None, refl, sym, ap}
 use Rattle.std.proofs.Common.{append_assoc, append-nil}
-use Rattle.mot_lines.specs.Hand.{bytes_in_hand}
-use Rattle.mot_lines.specs.Lines.{rest_of, whole_lines}
-use Rattle.mot_lines.proofs.Laws.{rest_of-end, rest_of-within, whole_lines-end, whole_lines-within}
 use Rattle.disk_model.proofs.Laws.{keeps_none, keeps_on}
-use Rattle.mot_update.proofs.Laws.{calm_here, calm_on, not_none}
 use Rattle.mot_control.proofs.Taken.{joined, line_taken, lines_at_end, more_none, more_one}
 use Rattle.mot_control.proofs.Taken.{more_rest}
 use Rattle.mot_control.proofs.Between.{updating_none, updating_on}
-use Rattle.mot_base.proofs.Laws.{same_error}
 use Rattle.mot_control.proofs.answering.answer_chunk.Goals as goal
+use Rattle.mot_lines.specs.Hand.{bytes_in_hand}
+use Rattle.mot_lines.specs.Lines.{rest_of, whole_lines}
+use Rattle.mot_lines.proofs.Laws.{rest_of-end, rest_of-within, whole_lines-end, whole_lines-within}
+use Rattle.mot_numbers.proofs.Laws.{same_error}
+use Rattle.mot_update.proofs.Laws.{calm_here, calm_on, not_none}
 
 pub loop-line-init : goal.loop-line-init
 loop-line-init g c =

@@ -2,10 +2,10 @@ use Rattle.std.proofs.Common.{Ok, subst, sym}
 use Rattle.mot_control.specs.Answering.{run_of}
 use Rattle.mot_control.specs.Inner.Request.{reply_of}
 use Rattle.mot_control.proofs.Commands.{ran, replied}
+use Rattle.mot_control.proofs.answering.answer_command.Goals as goal
 use Rattle.mot_lines.specs.declared.line.Line.TheVariants as asks
 use Rattle.mot_update.proofs.Laws.{answered_one, attempted}
 use Rattle.mot_update.specs.HasRun.{HasRun}
-use Rattle.mot_control.proofs.answering.answer_command.Goals as goal
 
 pub returns-clause-answered : goal.returns-clause-answered
 returns-clause-answered g c =

@@ -1,8 +1,6 @@
 use Rattle.std.proofs.Common.{◌≡◌, ℕ, ◌+◌, ◌<◌, ◌≤◌, List, [], ◌∷◌, ◌++◌, length, map, take, get_or}
 use Rattle.std.proofs.Common.{sym, ap, ◌∙◌, arith, append_assoc, vec_len, All, Some}
 use Rattle.std.proofs.lemmas.List.{take_all}
-use Rattle.mot_carousel.specs.declared.object.Object.{Object}
-use Rattle.mot_carousel.specs.declared.carousel.Carousel.{Carousel}
 use Rattle.mot_directory.specs.Directory.{DirectoryFields, IsDirectory, IsEntry, bytes_of_directory}
 use Rattle.mot_directory.specs.Directory.{bytes_of_entry, bytes_of_directory_header}
 use Rattle.mot_directory.specs.Directory.{bytes_of_entries, read_directory}
@@ -15,6 +13,8 @@ use Rattle.mot_directory.proofs.Described.{description_in-parameters_with}
 use Rattle.mot_directory.proofs.Fits.{read_directory-directory_of}
 use Rattle.mot_directory.proofs.ReadBack.{read_directory-bytes_of_directory}
 use Rattle.mot_directory.proofs.directory.directory_bytes.Goals as goal
+use Rattle.mot_objects.specs.declared.object.Object.{Object}
+use Rattle.mot_objects.specs.declared.carousel.Carousel.{Carousel}
 
 pub returns-in_err-out-clause-reads_back : goal.returns-in_err-out-clause-reads_back
 returns-in_err-out-clause-reads_back c = read_directory-bytes_of_directory

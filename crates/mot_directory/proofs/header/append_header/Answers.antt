@@ -1,7 +1,7 @@
-use Rattle.mot_carousel.specs.declared.object.Object.{Object}
 use Rattle.mot_directory.proofs.Appended.{header-appended}
 use Rattle.mot_directory.proofs.Fits.{IsHeader-header}
 use Rattle.mot_directory.proofs.header.append_header.Goals as goal
+use Rattle.mot_objects.specs.declared.object.Object.{Object}
 
 pub returns-clause-items : goal.returns-clause-items
 returns-clause-items c =

@@ -1,6 +1,6 @@
 use Rattle.std.proofs.Common.{◌≡◌, ◌+◌, length, slice_range, sym, ◌∙◌, ap}
-use Rattle.disk_store.specs.File.{file_state}
 use Rattle.disk_model.proofs.Laws.{only_bytes}
+use Rattle.disk_store.specs.File.{file_state}
 use Rattle.mot_disk_tests.proofs.store.read_after_crash.Goals as goal
 
 pub returns : goal.returns

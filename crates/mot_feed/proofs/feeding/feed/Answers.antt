@@ -1,17 +1,17 @@
 use Rattle.std.proofs.Common.{◌≡◌, ◌+◌, ◌∷◌, [], refl, arith, inl, inr}
 use Rattle.std.specs.Prelude.{if◌then◌else◌}
-use Rattle.mot_base.proofs.Laws.{same_error}
 use Rattle.disk_model.proofs.Laws.{keeps_none, keeps_on, unchanged_none}
 use Rattle.mot_feed.proofs.Fed.{SoFar, continuous, fed_all, fed_none, rest_else, rest_then}
 use Rattle.mot_feed.proofs.Fed.{send_fault, sent_on, update_fault, updated}
 use Rattle.mot_feed.proofs.Sent.{not_of_writing, send_fault_behind, sent_calm}
-use Rattle.mot_journal.specs.Image.{Standing}
-use Rattle.mot_repository.specs.Repository.{Holds}
-use Rattle.mot_update.proofs.Laws.{calm_here, calm_on, fault_on}
 use Rattle.mot_feed.proofs.feeding.feed.Given as given
 use Rattle.mot_feed.proofs.feeding.feed.Goals as goal
 use Rattle.mot_feed.proofs.feeding.feed.Goals.{else-between_turns, then-between_turns}
 use Rattle.mot_feed.proofs.feeding.feed.Goals.{After-send_one}
+use Rattle.mot_journal.specs.Image.{Standing}
+use Rattle.mot_numbers.proofs.Laws.{same_error}
+use Rattle.mot_repository.specs.Repository.{Holds}
+use Rattle.mot_update.proofs.Laws.{calm_here, calm_on, fault_on}
 
 pub loop-init : goal.loop-init
 loop-init g c =

@@ -1,12 +1,12 @@
 use Rattle.std.proofs.Common.{◌≡◌, ◌∙◌, refl, subst, arith}
 use Rattle.disk_model.proofs.Laws.{reads_none, reads_on}
-use Rattle.mot_server.proofs.Laws.{holds_still}
 use Rattle.mot_feed.specs.Sending.{SendsPackets}
-use Rattle.mot_server.specs.Server.{place_in}
 use Rattle.mot_feed.proofs.Sent.{send_fault_on, sends_more, sends_none}
 use Rattle.mot_feed.proofs.Sent.{sends_part}
-use Rattle.mot_base.proofs.Laws.{same_error}
 use Rattle.mot_feed.proofs.sending.send_packets.Goals as goal
+use Rattle.mot_numbers.proofs.Laws.{same_error}
+use Rattle.mot_server.proofs.Laws.{holds_still}
+use Rattle.mot_server.specs.Server.{place_in}
 
 pub loop-init : goal.loop-init
 loop-init g c =

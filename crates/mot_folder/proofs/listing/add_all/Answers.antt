@@ -1,8 +1,8 @@
 use Rattle.std.proofs.Common.{[]}
 use Rattle.mot_folder.specs.Log.{TellsAnswers}
 use Rattle.mot_folder.proofs.Log.{tells_same}
-use Rattle.mot_update.proofs.Laws.{tells_on}
 use Rattle.mot_folder.proofs.listing.add_all.Goals as goal
+use Rattle.mot_update.proofs.Laws.{tells_on}
 
 pub loop-end-init : goal.loop-end-init
 loop-end-init g c = record { told = tells_same c.args.report.now; shown = λ shown. shown }

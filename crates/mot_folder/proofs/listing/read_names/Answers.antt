@@ -1,7 +1,7 @@
 use Rattle.std.proofs.Common.{[]}
 use Rattle.mot_folder.specs.Log.{TellsAnswers}
-use Rattle.mot_update.proofs.Laws.{tells_on}
 use Rattle.mot_folder.proofs.listing.read_names.Goals as goal
+use Rattle.mot_update.proofs.Laws.{tells_on}
 
 pub returns-in_err-add_all-clause-told : goal.returns-in_err-add_all-clause-told
 returns-in_err-add_all-clause-told g c =

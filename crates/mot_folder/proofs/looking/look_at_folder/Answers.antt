@@ -1,18 +1,18 @@
 use Rattle.std.proofs.Common.{◌∙◌, ◌++◌, ℕ, None, [], ◌∷◌, ap, codes, not, refl, subst, sym}
 use Rattle.std.proofs.lemmas.List.Elements.{filter-append}
-use Rattle.mot_base.specs.declared.refusal.Refusal.TheVariants.{ReadFault}
+use Rattle.disk_model.proofs.Laws.{unchanged_none}
 use Rattle.mot_folder.specs.Log.{TellsAnswers, entry, is_of_look}
 use Rattle.mot_folder.specs.declared.report.Report.{Report}
 use Rattle.mot_folder.specs.Looked.{listed, unlisted}
 use Rattle.mot_folder.specs.declared.listing.FileNames.{FileNames}
 use Rattle.mot_folder.proofs.Log.{tells_none}
+use Rattle.mot_folder.proofs.looking.look_at_folder.Goals as goal
+use Rattle.mot_numbers.specs.declared.refusal.Refusal.TheVariants.{ReadFault}
 use Rattle.mot_server.specs.declared.running.Attempt.TheVariants.{Refused}
 use Rattle.mot_server.specs.Attempts.{fault_of}
 use Rattle.mot_suffixes.specs.Types.{AreShown}
 use Rattle.mot_update.specs.Looking.{HasLooked}
 use Rattle.mot_update.proofs.Laws.{has_read}
-use Rattle.disk_model.proofs.Laws.{unchanged_none}
-use Rattle.mot_folder.proofs.looking.look_at_folder.Goals as goal
 
 pub returns-in_default-clause-looked : goal.returns-in_default-clause-looked
 returns-in_default-clause-looked g c = λ s holds honest.

@@ -1,12 +1,12 @@
 use Rattle.std.proofs.Common.{◌≡◌, ◌+◌, ◌*◌, ℕ, List, ◌∷◌, ◌++◌, length, refl, append_assoc, arith}
 use Rattle.std.specs.Int.{to_be_bytes, w16}
 use Rattle.mot_base.specs.Checksum.{crc_of}
-use Rattle.mot_base.specs.GroupKind.{kind_number}
 use Rattle.mot_groups.specs.Group.{bytes_of_group, content_head, group_of, segment_content}
 use Rattle.mot_groups.proofs.Appended.{header-appended, kind_number_fits, rest_of-append}
 use Rattle.mot_groups.proofs.ReadBack.{read_group-bytes_of_group}
 use Rattle.mot_groups.proofs.Only.{read_group-only}
 use Rattle.mot_groups.proofs.group.write_group.Goals as goal
+use Rattle.mot_numbers.specs.GroupKind.{kind_number}
 
 pub returns-clause-written : goal.returns-clause-written
 unfolding bytes_of_group

@@ -4,11 +4,11 @@ use Rattle.std.specs.Prelude.{slice_get}
 use Rattle.std.proofs.lemmas.Bool.{ltb-true, ltb-false}
 use Rattle.std.proofs.lemmas.List.{length-replicate}
 use Rattle.std.proofs.lemmas.Option.{slice_get_read, slice_get_past}
-use Rattle.mot_base.specs.declared.geometry.Geometry.{Geometry}
 use Rattle.mot_journal.specs.Slot.{slot_size, read_slot, is_sound, AreSound}
 use Rattle.mot_journal.specs.Inner.Steps.{slot_from, IsReadable}
 use Rattle.mot_journal.proofs.encoding.slot_or_zeros.Goals as goal
 use Rattle.mot_journal.proofs.encoding.slot_or_zeros.Goals.{After-slot_bytes, After-fill}
+use Rattle.mot_numbers.specs.declared.geometry.Geometry.{Geometry}
 
 -- the record that was found
 found : (c : After-slot_bytes) → slice_get c.args.given.now c.args.number ≡ Some c.in-Some.entry.now

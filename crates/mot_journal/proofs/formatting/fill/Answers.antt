@@ -1,13 +1,13 @@
 use Rattle.std.proofs.Common.{◌≡◌, ◌∙◌, ◌+◌, ◌*◌, ◌≤◌, ℕ, refl, sym, subst, arith}
 use Rattle.std.proofs.lemmas.Result.{IfOk-from_err, on_ok_weaker}
 use Rattle.disk_model.proofs.Laws.{keeps_all_on}
-use Rattle.mot_base.specs.Geometry.{length_of}
 use Rattle.mot_journal.proofs.Calls.{as_run, calm, calm_of, fails_of, caused_of}
 use Rattle.mot_journal.proofs.Making.{Found, head_filled, first_sound, first_filled}
 use Rattle.mot_journal.proofs.Making.{all_filled, is_made}
 use Rattle.mot_journal.proofs.formatting.fill.Given as given
 use Rattle.mot_journal.proofs.formatting.fill.Goals as goal
 use Rattle.mot_journal.proofs.formatting.fill.Goals.{After-fill_half}
+use Rattle.mot_numbers.specs.Geometry.{length_of}
 
 -- the calls of the write of the head, and of the halves of n + 2 slots
 one : (old w n : ℕ) → w ≡ old + 1 → w ≤ old + (2 * (n + 2) + 1)

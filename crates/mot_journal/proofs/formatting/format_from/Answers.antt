@@ -5,11 +5,6 @@ use Rattle.std.specs.Prelude.{Result}
 use Rattle.disk_model.specs.Disk.{State, IsHonestDisk, IsStill, Throughout}
 use Rattle.disk_model.specs.Failures.{Rises}
 use Rattle.disk_model.proofs.Laws.{unchanged_none, keeps_none, keeps_on, begins, stays, joins}
-use Rattle.mot_base.specs.declared.geometry.Geometry.{Geometry}
-use Rattle.mot_base.specs.declared.refusal.Refusal.{Refusal}
-use Rattle.mot_base.specs.declared.refusal.Refusal.TheVariants.{DeviceFault, BadGeometry}
-use Rattle.mot_base.specs.declared.refusal.Refusal.TheVariants.{DiskTooSmall, AlreadyFormatted}
-use Rattle.mot_base.specs.Geometry.{IsValid}
 use Rattle.mot_journal.specs.Geometry.{has_magic}
 use Rattle.mot_journal.specs.Journal.{NoneOrFrom}
 use Rattle.mot_journal.proofs.Calls.{calm}
@@ -17,6 +12,11 @@ use Rattle.mot_journal.proofs.Decoded.{wrong-ok}
 use Rattle.mot_journal.proofs.formatting.format_from.Given as given
 use Rattle.mot_journal.proofs.formatting.format_from.Goals as goal
 use Rattle.mot_journal.proofs.formatting.format_from.Goals.{Then-not-is_valid, Else-not-is_valid}
+use Rattle.mot_numbers.specs.declared.geometry.Geometry.{Geometry}
+use Rattle.mot_numbers.specs.declared.refusal.Refusal.{Refusal}
+use Rattle.mot_numbers.specs.declared.refusal.Refusal.TheVariants.{DeviceFault, BadGeometry}
+use Rattle.mot_numbers.specs.declared.refusal.Refusal.TheVariants.{DiskTooSmall, AlreadyFormatted}
+use Rattle.mot_numbers.specs.Geometry.{IsValid}
 
 abbrev Told : Type 0
 Told = Result (Unit {0}) Refusal

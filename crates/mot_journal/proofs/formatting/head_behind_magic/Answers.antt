@@ -1,8 +1,8 @@
 use Rattle.std.proofs.Common.{◌≡◌, List, ℕ, [], ◌++◌, length, replicate, refl, ap}
 use Rattle.std.specs.Int.{w16, w32, to_be_bytes}
-use Rattle.mot_base.specs.declared.geometry.Geometry.{Geometry}
 use Rattle.mot_journal.specs.Inner.Format.{behind_magic}
 use Rattle.mot_journal.proofs.formatting.head_behind_magic.Goals as goal
+use Rattle.mot_numbers.specs.declared.geometry.Geometry.{Geometry}
 
 -- the bytes between the magic and the halves, piece by piece
 pieces : (g : Geometry) (x0 x1 x2 x3 x4 x5 x6 x7 d : List ℕ)

@@ -1,12 +1,12 @@
 use Rattle.std.proofs.Common.{◌≡◌, ℕ, ◌+◌, ◌*◌, ◌≤◌, arith}
 use Rattle.std.proofs.lemmas.Result.{IfOk-from_err, on_ok_weaker}
 use Rattle.disk_model.proofs.Laws.{keeps_all_on}
-use Rattle.mot_base.specs.Geometry.{length_of}
 use Rattle.mot_journal.specs.declared.layout.Layout.TheVariants.{Two}
 use Rattle.mot_journal.specs.Slot.{slot_count}
 use Rattle.mot_journal.proofs.Calls.{calm_of, fails_run, caused, costs_on}
 use Rattle.mot_journal.proofs.Making.{filling, publishing, published}
 use Rattle.mot_journal.proofs.formatting.make.Goals as goal
+use Rattle.mot_numbers.specs.Geometry.{length_of}
 
 -- the calls of the first run, and of both
 part_of : (old mid n : ℕ) → mid ≤ old + (2 * n + 1) → mid ≤ old + (2 * n + 4)

@@ -8,7 +8,6 @@ use Rattle.std.specs.Prelude.{slice_index, if◌then◌else◌, ◌==◌}
 use Rattle.std.proofs.Math.Nat.{mul-le-mul_left, mul_comm}
 use Rattle.disk_model.proofs.Laws.{reads_none, reads_on, reads_once}
 use Rattle.disk_model.specs.Disk.{OnlyReads}
-use Rattle.mot_base.specs.Geometry.{is_valid, length_of, half_size, half_start}
 use Rattle.mot_journal.specs.Geometry.{geometry_of}
 use Rattle.mot_journal.specs.Image.{records_of, journal_in_half}
 use Rattle.mot_journal.specs.Journal.IsLoadRefusal.{not_formatted, no_memory, device}
@@ -20,6 +19,7 @@ use Rattle.mot_journal.proofs.journal.load.Given as given
 use Rattle.mot_journal.proofs.journal.load.Goals as goal
 use Rattle.mot_journal.proofs.journal.load.Goals.{In-Some, After-read-2, After-deref-2}
 use Rattle.mot_journal.proofs.journal.load.Goals.{then-head-eq1, else-head-eq1}
+use Rattle.mot_numbers.specs.Geometry.{is_valid, length_of, half_size, half_start}
 
 not_both : false ≡ true → ⊥
 not_both e = cc

@@ -2,13 +2,13 @@ use Rattle.std.proofs.Common.{◌≡◌, true, false, take, sym, ◌∙◌, arit
 use Rattle.std.specs.Prelude.{bytes_eq, nat_le}
 use Rattle.std.proofs.lemmas.Bool.{false_from_ne_true, le-leb, leb-true}
 use Rattle.std.proofs.lemmas.Slice.Eq.{bytes_eq-Decides}
-use Rattle.mot_base.specs.declared.geometry.Geometry.{Geometry}
-use Rattle.mot_base.specs.Geometry.{length_of}
 use Rattle.mot_journal.specs.Geometry.{magic}
-use Rattle.mot_base.specs.Geometry.{is_valid}
 use Rattle.mot_journal.proofs.Heads.{geometry_from, all_three, first_false, second_false}
 use Rattle.mot_journal.proofs.Heads.{third_false}
 use Rattle.mot_journal.proofs.loading.geometry_of_head.Goals as goal
+use Rattle.mot_numbers.specs.declared.geometry.Geometry.{Geometry}
+use Rattle.mot_numbers.specs.Geometry.{length_of}
+use Rattle.mot_numbers.specs.Geometry.{is_valid}
 
 pub returns-then-ne : goal.returns-then-ne
 returns-then-ne c = λ rest long.

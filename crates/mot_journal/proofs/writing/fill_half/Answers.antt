@@ -3,11 +3,11 @@ use Rattle.std.proofs.Common.{sym, ◌∙◌, ap, subst, arith}
 use Rattle.std.proofs.lemmas.Result.{IfOk-from_err}
 use Rattle.disk_model.specs.Disk.{WritesWithin}
 use Rattle.disk_model.proofs.Laws.{keeps_all_on}
-use Rattle.mot_base.specs.Geometry.{half_start, half_size}
 use Rattle.mot_journal.specs.Slot.{slot_size}
 use Rattle.mot_journal.proofs.Calls.{as_run, calm, calm_run, fails_of}
 use Rattle.mot_journal.proofs.Fill.{one_more, slot_more, slot_ends, range_whole}
 use Rattle.mot_journal.proofs.writing.fill_half.Goals as goal
+use Rattle.mot_numbers.specs.Geometry.{half_start, half_size}
 
 -- one call more than so many, of fewer than the whole
 within : (old mid new i n : ℕ) → i < n → mid ≡ old + i → new ≡ mid + 1 → new ≤ old + n
@@ -108,7 +108,7 @@ pub returns-in_err-write-clause-cost : goal.returns-in_err-write-clause-cost
 returns-in_err-write-clause-cost g c = record {
   at_most = within _ _ _ _ _
       (subst (λ n. c.loop-number.number < n) c.slot_count-number-end.ensures
-          c.loop-number-test.true)
+      c.loop-number-test.true)
       c.loop-number.invariant.cost c.write.ensures.called;
   exact = IfOk-from_err c.from_residual.result _ c.from_residual.ensures.0;
 }

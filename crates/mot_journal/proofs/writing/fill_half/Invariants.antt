@@ -1,8 +1,8 @@
 use Rattle.std.proofs.Common.{◌≡◌, ◌+◌}
 use Rattle.disk_model.specs.Disk.{Keeps}
-use Rattle.mot_base.specs.Geometry.{half_start, half_size}
 use Rattle.mot_journal.specs.Inner.Steps.{HasSlots, ChangesWithin}
 use Rattle.mot_journal.proofs.writing.fill_half.Given as goal
+use Rattle.mot_numbers.specs.Geometry.{half_start, half_size}
 
 abbrev pub invariant-loop-number : goal.invariant-loop-number
 invariant-loop-number g l =

@@ -1,7 +1,7 @@
 use Rattle.std.proofs.Common.{ap, ◌∙◌, sym, arith}
 use Rattle.std.specs.Int.{div_ceil}
-use Rattle.mot_base.specs.PacketLength.{room_of}
-use Rattle.mot_base.proofs.Laws.{code_of-fits, room_of-code}
+use Rattle.mot_numbers.specs.PacketLength.{room_of}
+use Rattle.mot_numbers.proofs.Laws.{code_of-fits, room_of-code}
 use Rattle.mot_packets.proofs.Gathering.{gather-goes_on, gather-of_pieces, length-of_pieces}
 use Rattle.mot_packets.proofs.OfGroup.{read_each-packets_of_group}
 use Rattle.mot_packets.proofs.packet.packet_count.Goals as goal

@@ -1,7 +1,7 @@
 use Rattle.std.proofs.Common.{◌≡◌, ◌+◌, ◌<◌, ◌∷◌, ◌++◌, [], ℕ, List, length, map, take, get_or}
 use Rattle.std.proofs.Common.{ap, sym, ◌∙◌, arith}
 use Rattle.std.proofs.lemmas.List.{map_more, map_push, take_all}
-use Rattle.mot_carousel.specs.declared.object.Object.{Object}
+use Rattle.mot_objects.specs.declared.object.Object.{Object}
 use Rattle.mot_player.specs.declared.planned_body.PlannedBody.{PlannedBody}
 use Rattle.mot_player.proofs.turn.planned_bodies.Goals as goal
 

@@ -8,14 +8,14 @@ use Rattle.mot_journal.specs.Image.{stands_for, IsClean}
 use Rattle.mot_journal.specs.Journal.{StandsWhere, with_records}
 use Rattle.mot_lines.specs.Listing.{listing_text}
 use Rattle.mot_lines.proofs.Laws.{listing_text-beside}
-use Rattle.mot_repository.specs.Opening.IsOpeningRefusal.{device}
-use Rattle.mot_repository.proofs.Laws.{stands_where}
 use Rattle.mot_program.specs.Report.{StopsChecking, clean_line, layout_line}
 use Rattle.mot_program.specs.Report.IsUnreported.{unprinted, unread}
 use Rattle.mot_program.proofs.Ends.{IfErr-one, calm_refused, rises_later}
 use Rattle.mot_program.proofs.Ends.{still_unchanged}
 use Rattle.mot_program.proofs.checking.check_disk.Given as given
 use Rattle.mot_program.proofs.checking.check_disk.Goals as goal
+use Rattle.mot_repository.specs.Opening.IsOpeningRefusal.{device}
+use Rattle.mot_repository.proofs.Laws.{stands_where}
 
 pub returns-in-Err-clause-refused : goal.returns-in-Err-clause-refused
 returns-in-Err-clause-refused g c =

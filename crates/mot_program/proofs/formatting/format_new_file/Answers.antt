@@ -1,7 +1,7 @@
 use Rattle.std.proofs.Common.{◌⊎◌, ◌∙◌, IfErr, OnOk, inl, inr, refl, subst, sym}
 use Rattle.std.proofs.KnownBytes.{Keeps-refl}
 use Rattle.std.proofs.lemmas.Result.{on_ok_weaker}
-use Rattle.mot_base.specs.Geometry.{length_of}
+use Rattle.mot_numbers.specs.Geometry.{length_of}
 use Rattle.mot_program.specs.Program.{IsMakingRefusal, IsUntold, OnOpenedOrMade}
 use Rattle.mot_program.specs.Report.{Formats, StopsFormatting}
 use Rattle.mot_program.proofs.Ends.{IfErr-one}

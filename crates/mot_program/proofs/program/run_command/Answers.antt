@@ -1,8 +1,8 @@
 use Rattle.std.proofs.Common.{◌≡◌, ◌⊎◌, IfErr, OnOk, Some, inl, inr, refl, subst, sym}
 use Rattle.std.proofs.KnownBytes.{Keeps-refl}
 use Rattle.std.specs.Io.KnownBytes.{Keeps}
-use Rattle.mot_base.specs.declared.refusal.Refusal.{Refusal}
-use Rattle.mot_base.specs.declared.refusal.Refusal.TheVariants.{BadGeometry}
+use Rattle.mot_numbers.specs.declared.refusal.Refusal.{Refusal}
+use Rattle.mot_numbers.specs.declared.refusal.Refusal.TheVariants.{BadGeometry}
 use Rattle.mot_program.specs.Program.{Does, DoesInPart, IsBeginningRefusal, IsRefused, IsUntold}
 use Rattle.mot_program.specs.Program.{Succeeds}
 use Rattle.mot_program.specs.Program.IsRefused.{begun, no_task, unbegun}

@@ -2,15 +2,15 @@ use Rattle.std.proofs.Common.{◌≡◌, ◌∙◌, arith, inl, inr, map, refl, 
 use Rattle.std.proofs.KnownBytes.{Keeps-refl}
 use Rattle.std.specs.Io.KnownBytes.{Keeps}
 use Rattle.clap.specs.Words.{found_of, rows_of}
-use Rattle.mot_base.specs.declared.refusal.Refusal.TheVariants.{OutOfMemory, WriteFault}
+use Rattle.mot_numbers.specs.declared.refusal.Refusal.TheVariants.{OutOfMemory, WriteFault}
 use Rattle.mot_program.specs.Program.{IsUntouched}
 use Rattle.mot_program.specs.Program.IsRefused.{no_help, no_memory}
+use Rattle.mot_program.proofs.program.run_on.Goals as goal
 use Rattle.mot_words.proofs.Laws.{AreWrong-fault, AreWrong-none, AskBy-matched, AskForHelp-shown}
 use Rattle.mot_words.proofs.Laws.{program_simple}
 use Rattle.mot_words.specs.Asked.{AreWrong}
 use Rattle.mot_words.specs.Program.Command.{program_app}
 use Rattle.mot_words.specs.Program.Task.{IsTask}
-use Rattle.mot_program.proofs.program.run_on.Goals as goal
 
 pub returns-in-Err-clause-done : goal.returns-in-Err-clause-done
 returns-in-Err-clause-done g c = λ z. inr (

@@ -2,7 +2,7 @@ use Rattle.std.proofs.Common.{◌≡◌, ◌⊎◌, IfErr, OnOk, inl, inr, refl,
 use Rattle.std.specs.Io.KnownBytes.{Keeps}
 use Rattle.std.proofs.KnownBytes.{Keeps-refl}
 use Rattle.std.proofs.lemmas.Result.{on_ok_weaker}
-use Rattle.mot_base.specs.declared.refusal.Refusal.TheVariants.{DeviceFault}
+use Rattle.mot_numbers.specs.declared.refusal.Refusal.TheVariants.{DeviceFault}
 use Rattle.mot_program.specs.Program.{IsUntold, OnOpened}
 use Rattle.mot_program.specs.Serving.{ServesInput, StopsServing}
 use Rattle.mot_program.proofs.Ends.{IfErr-one}

@@ -5,11 +5,11 @@ use Rattle.std.proofs.KnownBytes.{Appends-nil, Appends-trans}
 use Rattle.std.proofs.lemmas.List.{take_all}
 use Rattle.hex.specs.Hex.{encode_lower}
 use Rattle.std.proofs.lemmas.Result.{err_from_is_err_and}
-use Rattle.mot_reading.proofs.Printed.{digits-more, digits-none, front-digits, front-piece}
-use Rattle.mot_repository.specs.Repository.{object_body}
 use Rattle.disk_model.proofs.Laws.{reads_none, reads_on}
-use Rattle.mot_server.proofs.Laws.{holds_still}
+use Rattle.mot_reading.proofs.Printed.{digits-more, digits-none, front-digits, front-piece}
 use Rattle.mot_reading.proofs.exporting.write_body.Goals as goal
+use Rattle.mot_repository.specs.Repository.{object_body}
+use Rattle.mot_server.proofs.Laws.{holds_still}
 
 pub loop-from-init : goal.loop-from-init
 loop-from-init g c =

@@ -4,16 +4,16 @@ use Rattle.std.specs.Io.KnownBytes.{Appends}
 use Rattle.std.specs.List.{flat_map}
 use Rattle.std.proofs.KnownBytes.{Appends-kept, Appends-nil, Appends-trans}
 use Rattle.std.proofs.lemmas.Result.{err_from_is_err_and}
-use Rattle.mot_lines.specs.Export.{export_text, period_line, put_line}
-use Rattle.mot_carousel.specs.Carousel as whole
-use Rattle.mot_carousel.specs.declared.carousel.Carousel.{Carousel}
-use Rattle.mot_reading.proofs.Printed.{all_objects, front-lines, lines-more, some_object}
-use Rattle.mot_repository.specs.Repository.{RepositoryView}
 use Rattle.disk_model.proofs.Laws.{reads_none, reads_on}
+use Rattle.mot_lines.specs.Export.{export_text, period_line, put_line}
+use Rattle.mot_objects.specs.Carousel as whole
+use Rattle.mot_objects.specs.declared.carousel.Carousel.{Carousel}
+use Rattle.mot_reading.proofs.Printed.{all_objects, front-lines, lines-more, some_object}
+use Rattle.mot_reading.proofs.exporting.write_export.Goals as goal
+use Rattle.mot_repository.specs.Repository.{RepositoryView}
 use Rattle.mot_server.proofs.Laws.{holds_still}
 use Rattle.mot_session.proofs.Laws.{WritesFront-after, WritesFront-all}
 use Rattle.mot_session.specs.Served.{WritesFront}
-use Rattle.mot_reading.proofs.exporting.write_export.Goals as goal
 
 pub loop-place-init : goal.loop-place-init
 loop-place-init g c =

@@ -1,9 +1,9 @@
 use Rattle.std.proofs.Common.{◌<◌, subst}
 use Rattle.std.proofs.lemmas.Result.{err_from_is_err_and}
-use Rattle.mot_carousel.specs.Stands.{object_of}
+use Rattle.mot_objects.specs.Stands.{object_of}
 use Rattle.mot_reading.proofs.Printed.{ends-line, kept_at, object_is, stops-in_body, stops-in_words}
-use Rattle.mot_repository.specs.Repository.{object_body}
 use Rattle.mot_reading.proofs.exporting.write_object.Goals as goal
+use Rattle.mot_repository.specs.Repository.{object_body}
 
 pub returns-in_err-write_bytes-clause-written : goal.returns-in_err-write_bytes-clause-written
 returns-in_err-write_bytes-clause-written g c = λ s o holds honest at.

@@ -1,9 +1,9 @@
 use Rattle.std.proofs.Common.{◌∙◌, [], ◌∷◌, ◌++◌, length-append, refl, arith}
-use Rattle.mot_reading.proofs.Inspected.{bytes_more}
-use Rattle.mot_server.proofs.Laws.{HasPlayedTurn-ended, IsGoing-more, IsGoing-none, holds_still}
 use Rattle.disk_model.proofs.Laws.{reads_none, reads_on}
-use Rattle.mot_server.specs.Server.{place_in}
+use Rattle.mot_reading.proofs.Inspected.{bytes_more}
 use Rattle.mot_reading.proofs.inspecting.count_turn.Goals as goal
+use Rattle.mot_server.proofs.Laws.{HasPlayedTurn-ended, IsGoing-more, IsGoing-none, holds_still}
+use Rattle.mot_server.specs.Server.{place_in}
 
 pub loop-others-init : goal.loop-others-init
 loop-others-init g c =

@@ -1,6 +1,6 @@
 use Rattle.std.proofs.Common.{◌≡◌, ◌≤◌, ◌*◌, take}
 use Rattle.std.specs.List.{sum_by}
-use Rattle.mot_carousel.specs.declared.object.Object.{Object}
+use Rattle.mot_objects.specs.declared.object.Object.{Object}
 use Rattle.mot_reading.proofs.inspecting.used_bytes.Given as goal
 
 -- the lengths so far

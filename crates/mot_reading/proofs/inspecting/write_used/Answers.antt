@@ -3,7 +3,7 @@ use Rattle.std.proofs.KnownBytes.{Appends-trans}
 use Rattle.std.specs.List.{sum_by}
 use Rattle.std.specs.Io.KnownBytes.{Appends}
 use Rattle.std.proofs.lemmas.Result.{on_ok_weaker}
-use Rattle.mot_carousel.specs.declared.object.Object.{Object}
+use Rattle.mot_objects.specs.declared.object.Object.{Object}
 use Rattle.mot_reading.specs.Inspecting.{data_text, shares_line}
 use Rattle.mot_reading.proofs.inspecting.write_used.Goals as goal
 

@@ -1,9 +1,9 @@
 use Rattle.std.proofs.Common.{◌≡◌, ◌∙◌, ◌+◌, inl, refl, sym, ap, subst, List, ℕ, length}
 use Rattle.std.proofs.Common.{slice_range}
 use Rattle.disk_model.proofs.Laws.{weakens, joins}
-use Rattle.mot_base.specs.Geometry.{area_start}
 use Rattle.mot_journal.specs.Gaps.{AreBeside}
 use Rattle.mot_journal.specs.Journal.{JournalView}
+use Rattle.mot_numbers.specs.Geometry.{area_start}
 use Rattle.mot_repository.specs.Prepared.{IsFull}
 use Rattle.mot_repository.specs.Repository.{RepositoryView, IsOf, IsBeforeOrAfter}
 use Rattle.mot_repository.proofs.Following as following

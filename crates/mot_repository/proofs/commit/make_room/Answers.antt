@@ -2,11 +2,11 @@ use Rattle.std.proofs.Common.{◌≡◌, ◌∙◌, ◌+◌, ◌≤◌, ◌<◌,
 use Rattle.std.proofs.Common.{subst, arith}
 use Rattle.std.proofs.lemmas.Bool.{cases_lt, le-leb, false_from_ne_true, leb-true}
 use Rattle.std.specs.Prelude.{if◌then◌else◌, nat_le}
+use Rattle.disk_model.proofs.Laws.{begins, keeps_none}
 use Rattle.mot_journal.specs.Slot.{slot_count}
+use Rattle.mot_journal.specs.Journal.{JournalView, HoldsRecords}
 use Rattle.mot_repository.specs.Cost.{calls_for_room}
 use Rattle.mot_repository.proofs.Answering.{calm_where_ok, no_less}
-use Rattle.disk_model.proofs.Laws.{begins, keeps_none}
-use Rattle.mot_journal.specs.Journal.{JournalView, HoldsRecords}
 use Rattle.mot_repository.specs.Repository.{IsOf}
 use Rattle.mot_repository.proofs.Moved.{here, folds, moments, held}
 use Rattle.mot_repository.proofs.commit.make_room.Goals as goal

@@ -7,10 +7,10 @@ use Rattle.std.specs.Prelude.{bytes_eq, slice_range}
 use Rattle.std.proofs.Common.{length-take}
 use Rattle.disk_model.proofs.Laws.{reads_none, reads_on, reads_once}
 use Rattle.disk_model.specs.Failures.{Rises}
-use Rattle.mot_base.proofs.Laws.{same_error}
+use Rattle.mot_numbers.proofs.Laws.{same_error}
 use Rattle.std.proofs.lemmas.Result.{IfOk-from_err}
-use Rattle.mot_server.proofs.Going.{OnErr-always}
 use Rattle.mot_repository.specs.Repository.{object_body}
+use Rattle.mot_server.proofs.Going.{OnErr-always}
 use Rattle.mot_server.proofs.Answered.{not_halted}
 use Rattle.mot_server.proofs.Read.{body_length, holds_still, no_failure}
 use Rattle.mot_server.proofs.comparing.is_body.Goals as goal

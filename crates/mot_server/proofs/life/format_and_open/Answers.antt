@@ -2,19 +2,19 @@ use Rattle.std.proofs.Common.{◌≡◌, ◌⊎◌, ◌<◌, true, inl, inr, Err
 use Rattle.std.proofs.lemmas.Result.{IfOk-from_err}
 use Rattle.disk_model.specs.Disk.{State}
 use Rattle.disk_model.specs.Failures.{Rises}
-use Rattle.mot_base.proofs.Laws.{same_error}
-use Rattle.mot_base.specs.Geometry.{IsValid, length_of}
-use Rattle.mot_base.specs.declared.geometry.Geometry.{Geometry}
-use Rattle.mot_base.specs.declared.refusal.Refusal.{Refusal}
-use Rattle.mot_base.specs.declared.refusal.Refusal.TheVariants.{BadGeometry, DiskTooSmall}
-use Rattle.mot_base.specs.declared.refusal.Refusal.TheVariants.{AlreadyFormatted, DeviceFault}
-use Rattle.mot_base.specs.declared.refusal.Refusal.TheVariants.{OutOfMemory}
+use Rattle.disk_model.proofs.Laws.{keeps_on, stays}
 use Rattle.mot_journal.specs.Geometry.{has_magic}
+use Rattle.mot_journal.specs.Journal.{NoneOrNew, new_standing}
+use Rattle.mot_numbers.proofs.Laws.{same_error}
+use Rattle.mot_numbers.specs.Geometry.{IsValid, length_of}
+use Rattle.mot_numbers.specs.declared.geometry.Geometry.{Geometry}
+use Rattle.mot_numbers.specs.declared.refusal.Refusal.{Refusal}
+use Rattle.mot_numbers.specs.declared.refusal.Refusal.TheVariants.{BadGeometry, DiskTooSmall}
+use Rattle.mot_numbers.specs.declared.refusal.Refusal.TheVariants.{AlreadyFormatted, DeviceFault}
+use Rattle.mot_numbers.specs.declared.refusal.Refusal.TheVariants.{OutOfMemory}
 use Rattle.mot_repository.specs.Opening.{IsPassing}
 use Rattle.mot_server.specs.Life.{IsFormatRefusal}
 use Rattle.mot_server.proofs.Survival.{passing}
-use Rattle.disk_model.proofs.Laws.{keeps_on, stays}
-use Rattle.mot_journal.specs.Journal.{NoneOrNew, new_standing}
 use Rattle.mot_server.proofs.Openings.{opened_holds}
 use Rattle.mot_server.proofs.Runs.{after_none}
 use Rattle.mot_server.proofs.life.format_and_open.Goals as goal

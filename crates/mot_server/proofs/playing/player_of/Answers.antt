@@ -1,11 +1,11 @@
 use Rattle.std.proofs.Common.{◌≡◌, ℕ, List, ◌∙◌, sym, ap, subst}
 use Rattle.std.proofs.lemmas.Result.{err_from_is_err_and}
-use Rattle.mot_base.specs.Geometry.{is_valid, packet_room}
-use Rattle.mot_base.proofs.Valid.{valid_is}
-use Rattle.mot_base.specs.PacketLength.{room_of}
-use Rattle.mot_base.specs.declared.geometry.Geometry.{Geometry}
-use Rattle.mot_carousel.specs.Stands.{AreBodiesOf, carousel_of}
-use Rattle.mot_carousel.specs.declared.carousel.Carousel.{Carousel}
+use Rattle.mot_numbers.specs.Geometry.{is_valid, packet_room}
+use Rattle.mot_numbers.proofs.Laws.{valid_is}
+use Rattle.mot_numbers.specs.PacketLength.{room_of}
+use Rattle.mot_numbers.specs.declared.geometry.Geometry.{Geometry}
+use Rattle.mot_objects.specs.Stands.{AreBodiesOf, carousel_of}
+use Rattle.mot_objects.specs.declared.carousel.Carousel.{Carousel}
 use Rattle.mot_player.specs.Place.{opened_place}
 use Rattle.mot_player.specs.PlayerView.{AreBodiesFor, PlayerView, place_of, turn_with}
 use Rattle.mot_player.specs.Turn.{turn_of_carousel}

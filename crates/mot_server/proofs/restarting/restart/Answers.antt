@@ -1,11 +1,11 @@
 use Rattle.std.proofs.Common.{◌∙◌, ⊎_elim, inl, inr, ap, subst, sym}
 use Rattle.std.proofs.lemmas.Result.{err_from_is_err_and}
 use Rattle.disk_model.specs.Disk.{OnlySyncs}
-use Rattle.mot_repository.specs.Opening.{IsOpeningRefusal}
-use Rattle.mot_base.specs.Geometry.{packet_room}
+use Rattle.mot_numbers.specs.Geometry.{packet_room}
 use Rattle.mot_player.specs.Place.{Place}
 use Rattle.mot_player.proofs.Laws.{steps-are-continuous}
 use Rattle.mot_player.specs.Turn.{turn_of_carousel}
+use Rattle.mot_repository.specs.Opening.{IsOpeningRefusal}
 use Rattle.mot_server.specs.Playing.{HasPlayedTurn, bytes_of_packets}
 use Rattle.mot_server.specs.Server.{place_in}
 use Rattle.mot_server.proofs.Openings.{opened_agrees, opened_holds, turn_refused, opened_room}

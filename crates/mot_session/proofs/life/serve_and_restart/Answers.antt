@@ -2,8 +2,8 @@ use Rattle.std.proofs.Common.{◌++◌}
 use Rattle.mot_journal.specs.Journal.{new_standing}
 use Rattle.mot_server.specs.Playing.{bytes_of_packets}
 use Rattle.mot_server.proofs.Laws.{if_err, passing}
-use Rattle.mot_session.specs.Life.{commands_done}
 use Rattle.mot_server.specs.Lives.{LivesOn}
+use Rattle.mot_session.specs.Life.{commands_done}
 use Rattle.mot_session.specs.Stored.{HoldsSince}
 use Rattle.mot_session.proofs.Lives.{kept_first, kept_so, lives_on, served_so, some_of}
 use Rattle.mot_session.proofs.life.serve_and_restart.Goals as goal

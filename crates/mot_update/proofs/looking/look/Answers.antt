@@ -1,5 +1,7 @@
 use Rattle.std.proofs.Common.{◌∙◌, ℕ, List, refl, sym, ap, subst}
-use Rattle.mot_carousel.specs.declared.carousel.Carousel.{Carousel}
+use Rattle.disk_model.proofs.Laws.{keeps_none, keeps_on, unchanged_none}
+use Rattle.mot_numbers.proofs.Laws.{same_error}
+use Rattle.mot_objects.specs.declared.carousel.Carousel.{Carousel}
 use Rattle.mot_server.specs.Attempts.{fault_of}
 use Rattle.mot_update.specs.Looking.{HasSettled, withdraw_all, unknown_names}
 use Rattle.mot_update.specs.Told.{TellsMore}
@@ -8,8 +10,6 @@ use Rattle.mot_update.proofs.Answers.{tells_nil, tells_trans}
 use Rattle.mot_update.proofs.Faults.{tells_on}
 use Rattle.mot_update.proofs.Looks.{err_of, gives_nil, look_cut, look_on, withdrawals-are}
 use Rattle.mot_update.proofs.Looks.{withdrew_cut, withdrew_none}
-use Rattle.disk_model.proofs.Laws.{keeps_none, keeps_on, unchanged_none}
-use Rattle.mot_base.proofs.Laws.{same_error}
 use Rattle.mot_update.proofs.looking.look.Goals as goal
 
 pub returns-in_err-names-clause-looked : goal.returns-in_err-names-clause-looked

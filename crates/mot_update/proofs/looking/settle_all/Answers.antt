@@ -3,14 +3,14 @@ use Rattle.std.proofs.Common.{subst, arith}
 use Rattle.std.proofs.lemmas.Option.{slice_get_within}
 use Rattle.std.specs.Prelude.{slice_get}
 use Rattle.disk_model.proofs.Laws.{keeps_none, keeps_on}
+use Rattle.disk_model.proofs.Laws.{unchanged_none}
+use Rattle.mot_numbers.proofs.Laws.{same_error}
 use Rattle.mot_update.specs.HasRun.{marks_of_settling}
 use Rattle.mot_update.specs.Told.{AreAnswers, TellsMore, answers_of}
 use Rattle.mot_update.proofs.Answers.{answers-settled, tells_kept, tells_nil, tells_on, tells_trans}
 use Rattle.mot_update.proofs.Faults.{calm_here, calm_on, fault_on}
 use Rattle.mot_update.proofs.Looks.{accepted_settled, gives_nil, settled_all, settled_fault}
 use Rattle.mot_update.proofs.Looks.{settled_more, settled_none}
-use Rattle.disk_model.proofs.Laws.{unchanged_none}
-use Rattle.mot_base.proofs.Laws.{same_error}
 use Rattle.mot_update.proofs.looking.settle_all.Goals as goal
 
 -- of as many names, fewer are left

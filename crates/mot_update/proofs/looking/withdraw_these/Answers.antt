@@ -1,8 +1,10 @@
 use Rattle.std.proofs.Common.{◌∙◌, [], ◌∷◌, Ok, None, Some, refl, subst}
-use Rattle.mot_base.specs.declared.refusal.Refusal.TheVariants.{OutOfMemory}
-use Rattle.mot_carousel.specs.declared.command.Command.TheVariants.{Withdraw}
-use Rattle.mot_server.specs.Attempts.{marks_of}
 use Rattle.disk_model.proofs.Laws.{keeps_none, keeps_on}
+use Rattle.disk_model.proofs.Laws.{unchanged_none}
+use Rattle.mot_numbers.specs.declared.refusal.Refusal.TheVariants.{OutOfMemory}
+use Rattle.mot_numbers.proofs.Laws.{same_error}
+use Rattle.mot_objects.specs.declared.command.Command.TheVariants.{Withdraw}
+use Rattle.mot_server.specs.Attempts.{marks_of}
 use Rattle.mot_update.specs.Faults.{no_memory}
 use Rattle.mot_update.specs.HasRun.{HasRun}
 use Rattle.mot_update.proofs.Faults.{calm_here, calm_on, fault_on}
@@ -11,8 +13,6 @@ use Rattle.mot_update.proofs.Answers.{tells_nil, tells_trans}
 use Rattle.mot_update.proofs.Looks.{err_of, gives_kept, gives_nil, withdrew_all}
 use Rattle.mot_update.proofs.Looks.{withdrew_cut}
 use Rattle.mot_update.proofs.Looks.{withdrew_fault, withdrew_next, withdrew_none}
-use Rattle.disk_model.proofs.Laws.{unchanged_none}
-use Rattle.mot_base.proofs.Laws.{same_error}
 use Rattle.mot_update.proofs.looking.withdraw_these.Goals as goal
 
 pub loop-name-init : goal.loop-name-init

@@ -1,10 +1,10 @@
 use Rattle.std.proofs.Common.{Some, None}
 use Rattle.std.proofs.KnownBytes.{Keeps-refl}
-use Rattle.mot_server.specs.Attempts.{fault_of}
 use Rattle.mot_control.proofs.Between.{updating_any, updating_on}
 use Rattle.mot_control.proofs.Taken.{takes_none}
-use Rattle.mot_base.proofs.Laws.{same_error}
 use Rattle.mot_control.proofs.lines.LinesUpdate.update.Goals as goal
+use Rattle.mot_numbers.proofs.Laws.{same_error}
+use Rattle.mot_server.specs.Attempts.{fault_of}
 
 pub returns-in_err-update-clause-run : goal.returns-in_err-update-clause-run
 returns-in_err-update-clause-run g c =

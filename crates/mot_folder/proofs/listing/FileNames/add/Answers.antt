@@ -1,8 +1,8 @@
 use Rattle.std.proofs.Common.{◌≡◌, ◌++◌, ◌∷◌, ℕ, List, [], Bool, true, false, cond, sym, subst}
-use Rattle.mot_carousel.specs.Carousel.{are_names_distinct}
+use Rattle.mot_folder.proofs.listing.FileNames.add.Goals as goal
+use Rattle.mot_objects.specs.Carousel.{are_names_distinct}
 use Rattle.mot_update.specs.Updating.{is_known}
 use Rattle.mot_update.proofs.Laws.{names-push}
-use Rattle.mot_folder.proofs.listing.FileNames.add.Goals as goal
 
 perhaps_one : (names new : List (List ℕ)) (n : List ℕ) (pushed : Bool)
     → are_names_distinct names ≡ true → is_known names n ≡ false

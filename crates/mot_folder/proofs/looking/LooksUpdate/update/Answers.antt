@@ -1,16 +1,16 @@
 use Rattle.std.proofs.Common.{◌≡◌, ℕ, Bool, true, false, List, Option, None, [], refl, sym, subst}
 use Rattle.std.proofs.Common.{◌∙◌}
 use Rattle.disk_model.specs.Disk.{State}
-use Rattle.mot_base.specs.declared.refusal.Refusal.{Refusal}
-use Rattle.mot_update.specs.Between.{IsUpdating}
-use Rattle.mot_server.specs.Attempts.{fault_of}
+use Rattle.disk_model.proofs.Laws.{unchanged_none}
 use Rattle.mot_folder.specs.declared.report.Report.{Report}
 use Rattle.mot_folder.specs.Looked.{HasLookedAtFolder, is_due, listed, unlisted}
-use Rattle.mot_journal.specs.Image.{Standing}
-use Rattle.mot_server.specs.Server.{ServerView}
-use Rattle.mot_update.proofs.Laws.{has_read}
-use Rattle.disk_model.proofs.Laws.{unchanged_none}
 use Rattle.mot_folder.proofs.looking.LooksUpdate.update.Goals as goal
+use Rattle.mot_journal.specs.Image.{Standing}
+use Rattle.mot_numbers.specs.declared.refusal.Refusal.{Refusal}
+use Rattle.mot_server.specs.Attempts.{fault_of}
+use Rattle.mot_server.specs.Server.{ServerView}
+use Rattle.mot_update.specs.Between.{IsUpdating}
+use Rattle.mot_update.proofs.Laws.{has_read}
 
 -- a look runs commands
 updating_by : {D : Type 0} (old new : ServerView D) (start now : State) (s : Standing)

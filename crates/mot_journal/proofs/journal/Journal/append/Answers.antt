@@ -1,12 +1,12 @@
 use Rattle.std.proofs.lemmas.Result.{IfOk-from_err, MatchResult-from_err}
 use Rattle.mot_journal.proofs.Calls.{fails, succeeds}
 use Rattle.std.proofs.Common.{ℕ, ◌+◌, ◌<◌}
-use Rattle.mot_base.specs.Geometry.{area_start, length_of}
-use Rattle.mot_base.specs.declared.geometry.Geometry.{Geometry}
 use Rattle.mot_journal.specs.declared.layout.Layout.{Layout}
 use Rattle.mot_journal.specs.declared.layout.Layout.TheVariants.{One, Two}
 use Rattle.mot_journal.specs.Inner.Places.{start_of_slot}
 use Rattle.mot_journal.proofs.Fill.{slot_ends}
+use Rattle.mot_numbers.specs.Geometry.{area_start, length_of}
+use Rattle.mot_numbers.specs.declared.geometry.Geometry.{Geometry}
 use Rattle.std.proofs.Common.{◌≡◌, ◌≤◌, true, List, ◌++◌, [], ◌∷◌, length, Some, Ok, refl, sym}
 use Rattle.std.proofs.Common.{◌∙◌, ap, subst, arith, length-append}
 use Rattle.disk_model.specs.Disk.{Throughout}

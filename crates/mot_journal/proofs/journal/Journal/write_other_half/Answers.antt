@@ -1,9 +1,8 @@
 use Rattle.std.proofs.Common.{◌≡◌, ℕ, ◌+◌, ◌≤◌, List, length, refl, sym, ap, subst, arith, rules}
 use Rattle.std.proofs.lemmas.Result.{IfOk-from_err, MatchResult-from_err}
 use Rattle.disk_model.proofs.Laws.{keeps_all_on}
-use Rattle.mot_base.specs.Geometry.{length_of}
-use Rattle.mot_journal.proofs.Calls.{calm_of, fails, fails_run, succeeds}
 use Rattle.disk_model.specs.Disk.{Throughout}
+use Rattle.mot_journal.proofs.Calls.{calm_of, fails, fails_run, succeeds}
 use Rattle.mot_journal.specs.declared.record.Record.{Record}
 use Rattle.mot_journal.specs.Slot.{slot_count, AreSound}
 use Rattle.mot_journal.specs.Journal.{JournalView, HoldsRecords, FoldOf, OldOrGiven, HasReadArea}
@@ -11,6 +10,7 @@ use Rattle.mot_journal.proofs.Turning.{Found, filling, selecting, given_alone}
 use Rattle.mot_journal.proofs.journal.Journal.write_other_half.Given as given
 use Rattle.mot_journal.proofs.journal.Journal.write_other_half.Goals as goal
 use Rattle.mot_journal.proofs.journal.Journal.write_other_half.Goals.{After-fill_half}
+use Rattle.mot_numbers.specs.Geometry.{length_of}
 
 -- the calls of the half, and the three of the selector
 part_of : (old mid n m : ℕ) → n ≡ m → mid ≤ old + n → mid ≤ old + (m + 3)

@@ -1,7 +1,7 @@
 use Rattle.std.proofs.Common.{◌≡◌, ◌∙◌, ◌<◌, ℕ, List, Some, false, ap, arith, refl}
 use Rattle.std.proofs.Common.{sym, subst, Bool, Result, Ok}
-use Rattle.mot_base.specs.declared.refusal.Refusal.{Refusal}
-use Rattle.mot_base.proofs.Laws.{same_error}
+use Rattle.mot_numbers.specs.declared.refusal.Refusal.{Refusal}
+use Rattle.mot_numbers.proofs.Laws.{same_error}
 use Rattle.mot_packets.specs.Packet.{read_packet}
 use Rattle.mot_packets.specs.Written.{bytes_of_packet}
 use Rattle.mot_player.specs.AnyBodies.{IsStepOfSome}

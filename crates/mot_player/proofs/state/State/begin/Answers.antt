@@ -1,6 +1,6 @@
 use Rattle.std.proofs.Common.{◌≡◌, ℕ, List, length, length-take-le, take, drop, sym, ap, ◌∙◌, arith}
 use Rattle.std.proofs.Common.{refl}
-use Rattle.mot_base.proofs.Laws.{same_error}
+use Rattle.mot_numbers.proofs.Laws.{same_error}
 use Rattle.mot_player.specs.PlayerView.{TurnPlan}
 use Rattle.mot_player.specs.Inner.Entities.{entity_bytes}
 use Rattle.mot_player.proofs.SomeBodies.{some_bodies}

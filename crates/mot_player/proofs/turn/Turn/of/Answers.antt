@@ -1,8 +1,8 @@
 use Rattle.std.proofs.Common.{rules, ℕ, List, ap, ◌∙◌, sym, refl, map, arith}
-use Rattle.mot_carousel.specs.declared.object.Object.{Object}
-use Rattle.mot_carousel.specs.Stands.{carousel_of}
 use Rattle.mot_directory.specs.Directory.{bytes_of_directory}
 use Rattle.mot_directory.specs.Entries.{directory_of}
+use Rattle.mot_objects.specs.declared.object.Object.{Object}
+use Rattle.mot_objects.specs.Stands.{carousel_of}
 use Rattle.mot_player.specs.PlayerView.{with_bodies}
 use Rattle.mot_player.specs.Turn.{Turn}
 use Rattle.mot_player.specs.declared.planned_body.PlannedBody.{PlannedBody}

@@ -4,12 +4,12 @@ use Rattle.std.proofs.lemmas.Result.{err_from_is_err_and}
 use Rattle.disk_model.specs.Disk.{WritesWithin}
 use Rattle.disk_model.specs.Failures.{HasCause}
 use Rattle.disk_model.proofs.Laws.{weakens, keeps_all_on}
-use Rattle.mot_base.specs.Geometry.{area_start, length_of}
 use Rattle.mot_journal.specs.declared.record.Record.{Record}
 use Rattle.mot_journal.specs.Catalogue.{Catalogue, catalogue_of}
 use Rattle.mot_journal.specs.Gaps.{AreBeside, standing_of}
 use Rattle.mot_journal.specs.Image.{Standing}
 use Rattle.mot_journal.specs.Journal.{JournalView, HoldsRecords, OnlyReadArea}
+use Rattle.mot_numbers.specs.Geometry.{area_start, length_of}
 use Rattle.mot_repository.specs.Repository.{RepositoryView, IsOf, IsBeforeOrAfter, Holds}
 use Rattle.mot_repository.proofs.Committing.{WroteBody, is_read, wrote_body, is_ready, any_moment}
 use Rattle.mot_repository.proofs.Committing.{holds_after}

@@ -1,7 +1,7 @@
 use Rattle.std.proofs.Common.{◌≡◌, ℕ, Option, List, [], ◌∷◌, ◌++◌, length, set, sym, ap, ◌∙◌}
 use Rattle.std.specs.Option.{option_map_or}
 use Rattle.std.specs.Prelude.{remove}
-use Rattle.mot_carousel.specs.declared.object.Object.{Object}
+use Rattle.mot_objects.specs.declared.object.Object.{Object}
 use Rattle.mot_repository.proofs.Extents.{place-names}
 use Rattle.mot_repository.proofs.prepared.placing.extents_after.Goals as goal
 use Rattle.mot_repository.proofs.prepared.placing.extents_after.Goals.{in-Put+in_ok-push-in-Put}

@@ -1,15 +1,15 @@
 use Rattle.std.proofs.Common.{◌≡◌, ◌∙◌, ◌+◌, ◌≤◌, ℕ, Bool, List, true, false, refl, sym, subst, ap}
 use Rattle.std.specs.Prelude.{IsFalse}
-use Rattle.mot_base.specs.Geometry.{is_valid, length_of}
-use Rattle.mot_base.specs.declared.geometry.Geometry.{Geometry}
-use Rattle.mot_carousel.specs.declared.carousel.Carousel.{Carousel}
+use Rattle.disk_model.proofs.Laws.{at_end}
 use Rattle.mot_journal.specs.Journal.{JournalView}
 use Rattle.mot_journal.specs.declared.layout.Layout.{Layout}
+use Rattle.mot_numbers.specs.Geometry.{is_valid, length_of}
+use Rattle.mot_numbers.specs.declared.geometry.Geometry.{Geometry}
+use Rattle.mot_objects.specs.declared.carousel.Carousel.{Carousel}
 use Rattle.mot_repository.specs.Cost.{calls_for}
 use Rattle.mot_repository.specs.Extents.{ArePaired, catalogue_with}
 use Rattle.mot_repository.specs.Whole.{IsWhole}
 use Rattle.mot_repository.specs.Inner.InOrder.{IsInOrder}
-use Rattle.disk_model.proofs.Laws.{at_end}
 use Rattle.mot_repository.specs.Prepared.{IsPreparedFor, view_with}
 use Rattle.mot_repository.specs.Repository.{RepositoryView, IsBeforeOrAfter}
 use Rattle.mot_repository.proofs.Outcomes.{prepared_is_accepted}

@@ -1,10 +1,10 @@
 use Rattle.std.proofs.Common.{refl, inl, inr}
 use Rattle.disk_model.proofs.Laws.{begins, keeps_none}
+use Rattle.mot_numbers.proofs.Laws.{same_error}
 use Rattle.mot_repository.specs.Answers.{refused}
 use Rattle.mot_repository.specs.Repository.{IsBeforeOrAfter}
 use Rattle.mot_repository.proofs.Answering.{at_once, calm_where_ok, committed, fault_alone, no_less}
 use Rattle.mot_repository.proofs.Answering.{untouched}
-use Rattle.mot_base.proofs.Laws.{same_error}
 use Rattle.mot_repository.proofs.repository.Repository.execute.Goals as goal
 
 pub returns-in_err-prepared-clause-answered : goal.returns-in_err-prepared-clause-answered

@@ -1,11 +1,11 @@
 use Rattle.std.proofs.Common.{◌≡◌, ◌∙◌, refl, sym, ap, subst, arith, inl, inr}
 use Rattle.std.proofs.Common.{true, false, ℕ, ◌+◌, ◌≤◌}
 use Rattle.disk_model.proofs.Laws.{at_end, begins, keeps_none, unchanged_none}
-use Rattle.mot_base.proofs.Laws.{same_error}
-use Rattle.mot_base.specs.declared.refusal.Refusal.TheVariants.{OutOfMemory}
 use Rattle.mot_journal.specs.declared.layout.Layout.{Layout}
 use Rattle.mot_journal.specs.declared.layout.Layout.TheVariants.{One, Two}
 use Rattle.mot_journal.specs.Journal.{JournalView}
+use Rattle.mot_numbers.proofs.Laws.{same_error}
+use Rattle.mot_numbers.specs.declared.refusal.Refusal.TheVariants.{OutOfMemory}
 use Rattle.mot_repository.specs.Answers.{halted, no_memory, failed}
 use Rattle.mot_repository.specs.Extents.{catalogue_with}
 use Rattle.mot_repository.specs.Inner.InOrder.{IsInOrder}

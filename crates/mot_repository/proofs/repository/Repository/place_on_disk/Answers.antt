@@ -1,6 +1,6 @@
 use Rattle.std.proofs.Common.{◌≡◌, ◌∙◌, ℕ, ◌+◌, ◌≤◌, ◌<◌, length, ap, arith}
 use Rattle.std.proofs.lemmas.List.{get_or_default}
-use Rattle.mot_base.specs.Geometry.{area_start}
+use Rattle.mot_numbers.specs.Geometry.{area_start}
 use Rattle.mot_repository.specs.OnDisk.{extent_at}
 use Rattle.mot_repository.proofs.Bodies.{extent_within, small_area}
 use Rattle.mot_repository.proofs.repository.Repository.place_on_disk.Goals as goal

@@ -1,6 +1,6 @@
 use Rattle.std.proofs.Common.{◌≡◌, ◌∙◌, ◌+◌, ◌≤◌, ℕ, length, refl, sym, ap, arith}
 use Rattle.std.proofs.Common.{slice_range}
-use Rattle.mot_base.specs.Geometry.{area_start}
+use Rattle.mot_numbers.specs.Geometry.{area_start}
 use Rattle.mot_repository.specs.OnDisk.{extent_at, body_on}
 use Rattle.mot_repository.proofs.Bodies.{part_of_part, body_held}
 use Rattle.mot_repository.proofs.repository.Repository.read_body.Goals as goal

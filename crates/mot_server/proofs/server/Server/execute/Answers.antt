@@ -1,15 +1,15 @@
 use Rattle.std.proofs.Common.{◌≡◌, ℕ, ◌+◌, ◌≤◌, Err, inl, inr, refl, sym, ap, ◌∙◌, arith}
 use Rattle.std.proofs.lemmas.Result.{IfOk-from_err, MatchResult-from_err}
 use Rattle.disk_model.proofs.Laws.{begins, keeps_none}
-use Rattle.mot_repository.specs.Repository.{IsBeforeOrAfter}
-use Rattle.mot_server.proofs.Going.{OnErr-always}
-use Rattle.mot_base.specs.declared.geometry.Geometry.{Geometry}
+use Rattle.disk_model.proofs.Laws.{unchanged_none}
+use Rattle.mot_numbers.specs.declared.geometry.Geometry.{Geometry}
+use Rattle.mot_numbers.proofs.Laws.{same_error}
 use Rattle.mot_player.specs.Place.{change_turn}
 use Rattle.mot_player.specs.PlayerView.{PlayerView, TurnPlan, place_of, turn_with}
+use Rattle.mot_repository.specs.Repository.{IsBeforeOrAfter}
 use Rattle.mot_repository.specs.Answers.{IsRefusal, accepted, refused, failed}
-use Rattle.disk_model.proofs.Laws.{unchanged_none}
+use Rattle.mot_server.proofs.Going.{OnErr-always}
 use Rattle.mot_server.proofs.Turns.{place_after, plays_of, plays_same}
-use Rattle.mot_base.proofs.Laws.{same_error}
 use Rattle.mot_server.proofs.server.Server.execute.Goals as goal
 
 no_less : (a n : ℕ) → a ≤ a + n

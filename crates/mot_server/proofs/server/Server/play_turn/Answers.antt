@@ -2,10 +2,12 @@ use Rattle.std.proofs.Common.{ℕ, Bool, inl, inr, suc, List, [], ◌∷◌, ◌
 use Rattle.std.proofs.Common.{refl, sym, ap, ◌≡◌, ◌∙◌, subst, arith}
 use Rattle.std.proofs.lemmas.Result.{err_from_is_err_and}
 use Rattle.disk_model.proofs.Laws.{reads_none, reads_on}
-use Rattle.mot_base.proofs.Laws.{same_error}
-use Rattle.mot_base.specs.declared.refusal.Refusal.TheVariants.{OutOfMemory}
+use Rattle.mot_journal.specs.Image.{Standing}
+use Rattle.mot_numbers.proofs.Laws.{same_error}
+use Rattle.mot_numbers.specs.declared.refusal.Refusal.TheVariants.{OutOfMemory}
 use Rattle.mot_player.specs.AnyBodies.{IsStepOfSome, PlaysOn, PlaysToTheEnd}
 use Rattle.mot_player.specs.PlayerView as player
+use Rattle.mot_repository.specs.Repository.{Holds}
 use Rattle.mot_server.specs.Playing.{IsGoing}
 use Rattle.mot_server.specs.Playing.{HasPlayed, HasPlayedTurn, bytes_of_packets}
 use Rattle.mot_server.specs.Playing.IsTurnRefusal.{halted, no_memory}
@@ -17,8 +19,6 @@ use Rattle.mot_server.proofs.Going.{HasPlayed-none}
 use Rattle.mot_server.proofs.Read.{holds_still}
 use Rattle.mot_server.proofs.ReadRefusals.{turn_of_read, fault_of_read}
 use Rattle.mot_server.proofs.Whole.{turn_reads}
-use Rattle.mot_journal.specs.Image.{Standing}
-use Rattle.mot_repository.specs.Repository.{Holds}
 use Rattle.mot_server.proofs.server.Server.play_turn.Given as given
 use Rattle.mot_server.proofs.server.Server.play_turn.Goals as goal
 use Rattle.mot_server.proofs.server.Server.play_turn.Goals.{After-next_packet, In_ok-push}

@@ -3,7 +3,8 @@ use Rattle.std.proofs.Common.{[], Some, None, Ok, Err}
 use Rattle.std.specs.Prelude.{slice_get, vec_capacity}
 use Rattle.std.specs.Global.{Vec}
 use Rattle.std.proofs.lemmas.Option.{slice_get_read}
-use Rattle.mot_base.specs.declared.refusal.Refusal.TheVariants.{OutOfMemory}
+use Rattle.disk_model.proofs.Laws.{keeps_all_on}
+use Rattle.mot_numbers.specs.declared.refusal.Refusal.TheVariants.{OutOfMemory}
 use Rattle.mot_server.specs.RunEnds.{RunLeaves}
 use Rattle.mot_server.specs.RunEnds.{place_behind}
 use Rattle.mot_server.specs.Runs.{accepted_commands, IsAfter}
@@ -11,7 +12,6 @@ use Rattle.mot_server.specs.Server.{place_in}
 use Rattle.mot_server.proofs.Places.{none_done, stays_there, turns_there}
 use Rattle.mot_server.proofs.Runs.{Reached, begins, rests, one_longer, marks_after, accepted-true}
 use Rattle.mot_server.proofs.Runs.{accepted-false}
-use Rattle.disk_model.proofs.Laws.{keeps_all_on}
 use Rattle.mot_server.specs.RunAnswers.{AreAnswered}
 use Rattle.mot_server.proofs.RunAnswered.{answered_true, answered_false, answered_end}
 use Rattle.mot_server.proofs.RunAnswered.{answered_halted, answered_no_memory, answered_whole}

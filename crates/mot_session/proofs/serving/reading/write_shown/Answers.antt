@@ -1,5 +1,5 @@
 use Rattle.std.proofs.Common.{refl, sym}
-use Rattle.mot_base.specs.declared.refusal.Refusal.TheVariants.{BadLine}
+use Rattle.mot_numbers.specs.declared.refusal.Refusal.TheVariants.{BadLine}
 use Rattle.mot_session.specs.OnAnyDisk.{no_request}
 use Rattle.mot_session.proofs.serving.reading.write_shown.Goals as goal
 

@@ -3,13 +3,13 @@ use Rattle.std.specs.List.{flat_map}
 use Rattle.std.specs.Io.KnownBytes.{Appends}
 use Rattle.std.proofs.KnownBytes.{Appends-trans}
 use Rattle.std.proofs.lemmas.List.{take_all}
-use Rattle.mot_base.specs.Geometry.{packet_room}
+use Rattle.mot_numbers.specs.Geometry.{packet_room}
 use Rattle.std.proofs.lemmas.Result.{err_from_is_err_and}
 use Rattle.mot_lines.specs.Text.{packet_line}
+use Rattle.mot_packets.proofs.Laws.{length-packets_of_group}
 use Rattle.mot_session.specs.Raw.{packets_at}
 use Rattle.mot_session.specs.Served.{WritesFront}
 use Rattle.mot_session.proofs.Fronts.{WritesFront-after, WritesFront-before}
-use Rattle.mot_packets.proofs.Laws.{length-packets_of_group}
 use Rattle.mot_session.proofs.Joined.{lines-parts}
 use Rattle.mot_session.proofs.Packets.{packets-more}
 use Rattle.mot_session.proofs.serving.reply.write_packets.Goals as goal

@@ -1,10 +1,12 @@
 use Rattle.std.proofs.Common.{◌≡◌, Ok, false, refl, sym, ap, ◌∙◌, subst}
-use Rattle.mot_base.specs.declared.geometry.Geometry.{Geometry}
 use Rattle.mot_lines.specs.Listing.{listing_text_beside}
 use Rattle.mot_lines.specs.Listing.{listing_text}
 use Rattle.mot_lines.specs.Text.{packet_line}
+use Rattle.mot_numbers.specs.declared.geometry.Geometry.{Geometry}
 use Rattle.std.specs.List.{flat_map}
 use Rattle.mot_lines.proofs.Laws.{listing_text-beside}
+use Rattle.mot_lines.specs.declared.line.Line.TheVariants as asks
+use Rattle.mot_repository.specs.Repository.{RepositoryView}
 use Rattle.mot_session.specs.Output.{Writes}
 use Rattle.mot_session.specs.Raw.{packets_at}
 use Rattle.mot_session.specs.Session.{accepted, listing, packets, refused, text_of}
@@ -12,8 +14,6 @@ use Rattle.mot_session.specs.Inner.Writes.{AnswersRequest}
 use Rattle.mot_session.specs.State.{ServerState, state_of}
 use Rattle.mot_session.proofs.Requests.{reads-none}
 use Rattle.mot_session.proofs.Written.{AnswersRequest-written}
-use Rattle.mot_lines.specs.declared.line.Line.TheVariants as asks
-use Rattle.mot_repository.specs.Repository.{RepositoryView}
 use Rattle.mot_session.proofs.Anyhow.{anyhow-played, anyhow-written}
 use Rattle.mot_session.proofs.serving.reply.write_reply.Goals as goal
 

@@ -1,6 +1,6 @@
 use Rattle.std.proofs.Common.{None, [], refl}
-use Rattle.mot_update.proofs.Laws.{has_read}
 use Rattle.disk_model.proofs.Laws.{unchanged_none}
+use Rattle.mot_update.proofs.Laws.{has_read}
 use Rattle.mot_update.proofs.between.NoUpdateUpdate.update.Goals as goal
 
 pub returns-clause-run : goal.returns-clause-run

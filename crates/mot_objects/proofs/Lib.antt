@@ -1,0 +1,5 @@
+pub mod Laws
+pub mod NextFree
+pub mod Rows
+pub mod Sound
+pub mod Texts
