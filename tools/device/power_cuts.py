@@ -157,6 +157,11 @@ def reached(choices, writes):
             "last": writes[place:]}[how]
 
 
+def torn(choices, writes, place):
+    """All of the writes, but of those at this place only some first sectors."""
+    return [(offset, data[: SECTOR * choices.randint(1, 7)] if offset == place else data) for offset, data in writes]
+
+
 def moments(life, count, choices):
     """Positions of the log at which the power is cut: a third just before and behind flushes and replies, the others
     rather where many writes wait for a flush."""
@@ -173,8 +178,8 @@ def moments(life, count, choices):
     return sorted(some + choices.choices(places, weights, k=count - len(some)))
 
 
-def judged(room, life, program, count, seed, notes):
-    """The faults of so many images of a life."""
+def judged(room, life, program, count, seed, notes, tears):
+    """The faults of so many images of a life; where a superblock is torn on purpose, it is its first copy."""
     choices, faults, at = random.Random(7_919 * seed + 1), [], life.begin
     folder = pathlib.Path(room, "cut")
     folder.mkdir(exist_ok=True)
@@ -185,7 +190,10 @@ def judged(room, life, program, count, seed, notes):
         base.write((offset, data) for kind, offset, data in life.log[at:last] if kind == "W")
         at = last
         image = base.copy(pathlib.Path(room, "image"))
-        image.write(reached(choices, [(offset, data) for kind, offset, data in life.log[last:moment] if kind == "W"]))
+        waiting = [(offset, data) for kind, offset, data in life.log[last:moment] if kind == "W"]
+        first = life.system.superblocks[:1]
+        is_due = tears and any((offset,) == first for offset, _ in waiting)
+        image.write(torn(choices, waiting, *first) if is_due else reached(choices, waiting))
         image.close()
         notes["images"] += 1
         wrong = wrong_in(life, program, image.path, folder, moment, choices, notes)
@@ -195,29 +203,29 @@ def judged(room, life, program, count, seed, notes):
     return faults
 
 
-def is_superblock_torn(life, image, moment):
-    """Whether the file system keeps no copy of its superblock in this image as it ever wrote it: then it is lost by itself,
-    whatever its files are."""
+def whole_superblocks(life, image, moment):
+    """Of each copy of the file system's superblock in this image, whether it is one that was ever written."""
     with open(image, "rb") as file:
         for place in life.system.superblocks:
             file.seek(place)
             kept = file.read(systems.SUPERBLOCK)
-            if any(kind == "W" and (at, data) == (place, kept) for kind, at, data in life.log[:moment]):
-                return False
-    return bool(life.system.superblocks)
+            yield any(kind == "W" and (at, data) == (place, kept) for kind, at, data in life.log[:moment])
 
 
 def wrong_in(life, program, image, folder, moment, choices, notes):
     told = sum(it <= moment for it in life.told)
     given = told + (told < len(life.sent) and life.sent[told] <= moment)
+    whole = list(whole_superblocks(life, image, moment))
     with judge.opened(life.system, image, folder, notes) as disk:
         if disk is None:
-            if is_superblock_torn(life, image, moment):
+            if whole and not any(whole):
                 notes["no superblock whole"] += 1
                 return None
             return f"{judge.LOST}: the file system can't be mounted"
         if moment < life.formatted:
             return wrong_before(program, disk, notes)
+        if whole and not whole[0]:
+            return wrong_set_back(program, disk, life.kept[: given + 1], notes)
         if not os.path.exists(disk):
             return f"{judge.LOST}: there is no file"
         found = judge.look(program, disk)
@@ -244,6 +252,16 @@ def wrong_before(program, disk, notes):
     return None
 
 
+def wrong_set_back(program, disk, kept, notes):
+    """The device tore the first copy of the superblock, which a sync of a file writes alone. By the second one the file
+    system, as it was mended, is that of an earlier moment, and so is the disk in it."""
+    notes["first superblock torn"] += 1
+    if not os.path.exists(disk):
+        return None
+    found = judge.look(program, disk)
+    return None if found.refusal.endswith("17 NotFormatted") else judge.difference(found, kept)
+
+
 def wrong_after_one_more(program, disk):
     session = program.serve(disk)
     reply, listing = session.ask(b"period 77"), session.listing()
@@ -253,11 +271,11 @@ def wrong_after_one_more(program, disk):
     return None if is_well else f"STUCK: {reply} to a command, then {found}"
 
 
-def campaign(room, system, program, seed, lives, images, commands):
+def campaign(room, system, program, seed, lives, images, commands, tears):
     """The faults, and notes of what was seen."""
     notes, faults = collections.Counter(), []
     for number in range(lives):
         life = recorded(room, system, program, seed + number, commands)
         notes["commands"] += len(life.told)
-        faults += judged(room, life, program, images, seed + number, notes)
+        faults += judged(room, life, program, images, seed + number, notes, tears)
     return faults, notes

@@ -2,3 +2,4 @@
 pub mod Log
 pub mod MemorySound
 pub mod Noting
+pub mod RamSound

@@ -5,7 +5,6 @@ ghost use Rattle.disk_store.specs.Calls.{content_after};
 
 mod calls;
 mod fault;
-mod history;
 mod opening;
 mod start;
 mod system;

@@ -28,6 +28,8 @@ pub enum PacketsFault {
 pub enum TypesFault {
     /// The system refused a call, for this reason.
     System(io::Error),
+    /// It has more than 65,536 bytes.
+    Long,
     /// A line is none.
     Line,
 }
@@ -126,6 +128,7 @@ impl Display for TypesFault {
     fn fmt<W: fmt::Write>(&self, f: &mut Formatter<W>) -> fmt::Result {
         match self {
             TypesFault::System(error) => OpenFault::System(*error).fmt(f),
+            TypesFault::Long => f.pad("longer than 65,536 bytes"),
             TypesFault::Line => f.pad("a line is no SUFFIX TYPE SUBTYPE MIME"),
         }
     }
@@ -138,6 +141,16 @@ impl Display for LinesFault {
             LinesFault::NoFolder => f.pad("no folder"),
             LinesFault::HasObjects => f.pad("the folder of the objects"),
         }
+    }
+}
+
+impl From<io::Error> for TypesFault {
+    ghost use Rattle.mot_files.specs.declared.fault.TypesFault.TheVariants.{System};
+
+    ghost from_gives = { λ error fault. fault ≡ System error };
+
+    fn from(error: io::Error) -> TypesFault {
+        TypesFault::System(error)
     }
 }
 

@@ -1,19 +1,21 @@
 //! Which files of a folder are objects: the known suffixes, and those that a file adds.
-ghost use Rattle.std.specs.Prelude.{◌≡◌, IfErr};
-ghost use Rattle.mot_files.specs.Types.{IsUntyped};
+ghost use Rattle.std.specs.Prelude.{◌≡◌, ◌≤◌, IfErr, IfOk, length};
+ghost use Rattle.mot_files.specs.Types.{IsTyped, IsUntyped};
 
 use crate::fault::{Cause, TypesFault, Unbegun};
 use mot_numbers::Refusal;
 use mot_suffixes::FileTypes;
 use std::alloc::{AllocError, Global};
 use std::fs::OpenOptions;
-use std::io::{self, Read};
+use std::io::Read;
 
 /// The most bytes of a file that adds suffixes.
 const MOST: u64 = 65_536;
 
-/// The known suffixes, and those that the file at the path adds, where one is given.
+/// The known suffixes, and those that the file at the path adds, where one is given: `ReadFault`
+/// where it can't be read or has more than 65,536 bytes, and the refusals of its lines.
 pub fn file_types(rt: &HostRuntime, alloc: Global, path: Option<&str>) -> Result<FileTypes, Unbegun>
+    ensures typed { IfOk result (IsTyped path.entry) }
     ensures refused { IfErr result (λ unbegun. IsUntyped path.entry unbegun.refusal) }
 {
     let mut types = match FileTypes::new(alloc) {
@@ -25,7 +27,7 @@ pub fn file_types(rt: &HostRuntime, alloc: Global, path: Option<&str>) -> Result
     };
     let text = match read_text(rt, alloc, path) {
         Ok(text) => text,
-        Err(error) => return Err(Unbegun::unread(Cause::Types(TypesFault::System(error)))),
+        Err(fault) => return Err(Unbegun::unread(Cause::Types(fault))),
     };
     match types.add(alloc, &text) {
         Ok(()) => Ok(types),
@@ -44,9 +46,14 @@ fn wrong(refusal: Refusal) -> Unbegun
 }
 
 /// The bytes of the file.
-fn read_text(rt: &HostRuntime, alloc: Global, path: &str) -> io::Result<Vec<u8>> {
+fn read_text(rt: &HostRuntime, alloc: Global, path: &str) -> Result<Vec<u8>, TypesFault>
+    ensures { IfOk result (λ text. length text.items ≤ 65536) }
+{
     let file = OpenOptions::new().read(true).open(rt, path)?;
     let mut text = Vec::new(alloc);
-    file.take(MOST).read_to_end(&mut text)?;
+    file.take(MOST + 1).read_to_end(&mut text)?;
+    if text.len() as u64 > MOST {
+        return Err(TypesFault::Long);
+    }
     Ok(text)
 }

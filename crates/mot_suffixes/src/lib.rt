@@ -1,4 +1,5 @@
-//! Which files are objects, and what they are, by the suffixes of their names (TS 101 756, table 17).
+//! Which files are objects, and what they are, by the suffixes of their names (TS 101 756, table
+//! 17).
 #![tactic(auto)]
 
 mod types;

@@ -6,7 +6,7 @@ ghost use Rattle.disk_store.specs.Calls.{Locked, Opened, Made, Gave, FailedRead,
 ghost use Rattle.disk_store.specs.Calls.{FailedWrite, Synced, FailedSync, Dropped, Named};
 
 use super::OpenFault;
-use super::history::History;
+use crate::history::History;
 use sqlite_std_file::OpenError;
 use std::fs::{self, File, TryLockError};
 use std::io;

@@ -72,7 +72,7 @@ impl Cells {
 }
 
 /// Writes these bytes from a position on.
-fn overwrite(bytes: &mut Vec<u8>, at: usize, new: &[u8])
+pub(super) fn overwrite(bytes: &mut Vec<u8>, at: usize, new: &[u8])
     requires { at + length new.now ≤ length bytes.old.items }
     ensures bytes { bytes.new.items ≡ after_overwrite at new.now bytes.old.items }
     ensures len { length bytes.new.items ≡ length bytes.old.items }

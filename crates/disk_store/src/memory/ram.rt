@@ -1,22 +1,25 @@
-//! A disk in memory to work on, none of whose calls is made to fail.
-ghost use Rattle.std.specs.Prelude.{◌≡◌, ◌+◌, ◌<◌, ◌≤◌, length, replicate, slice_range, IfSome};
-ghost use Rattle.std.specs.Prelude.{IsOk};
-ghost use Rattle.std.specs.Prelude.{OnErr};
+//! A disk in memory to work on, whose calls never fail.
+ghost use Rattle.std.specs.Prelude.{◌≡◌, ◌+◌, ◌<◌, ◌≤◌, [], All, length, replicate, slice_range};
+ghost use Rattle.std.specs.Prelude.{IfSome, IsOk, OnOk};
 ghost use Rattle.disk_model.specs.Disk.{IsNew};
-ghost use Rattle.disk_model.specs.Failures.{most_failures};
-ghost use Rattle.disk_store.specs.Faults.{no_plan};
-ghost use Rattle.disk_store.specs.Memory.{fault_plan};
+ghost use Rattle.disk_store.specs.Calls.{content_after};
 
-use super::MemoryDisk;
+use super::cells::overwrite;
+use crate::call_count::CallCount;
+use crate::history::History;
 use crate::{Disk, DiskFault};
 use std::alloc::Global;
 
-/// A disk in memory whose calls can fail for want of memory alone, up to the greatest count of
-/// failures: which of its calls are to fail can't be planned.
+/// A disk in memory that takes no more of it than its bytes, and whose calls never fail. What a
+/// crash would leave of it only clauses know.
 #[derive(Drop)]
 pub struct RamDisk {
-    disk: MemoryDisk,
-    ghost unplanned: { fault_plan disk ≡ no_plan },
+    bytes: Vec<u8>,
+    history: History,
+    calls: CallCount,
+    ghost is_noted: { (content_after [] history.calls).bytes ≡ bytes.items },
+    ghost loose_len: { length (content_after [] history.calls).loose ≡ length bytes.items },
+    ghost are_bytes: { All (λ b. b < 256) bytes.items },
 }
 
 impl RamDisk {
@@ -26,8 +29,16 @@ impl RamDisk {
     pub fn new(alloc: Global, len: u64) -> Option<RamDisk>
         ensures new { IfSome result (λ disk. IsNew (replicate len 0) (ram_state disk)) }
     {
-        let disk = MemoryDisk::new(alloc, len)?;
-        Some(RamDisk { disk })
+        let bytes = vec![in alloc; 0; len as usize].ok()?;
+        // Clauses alone read what is noted, here and below.
+        let mut history = History::new();
+        let _ = history.made(len, Ok(()));
+        let _ = history.synced(Ok(()));
+        Some(RamDisk {
+            bytes,
+            history,
+            calls: CallCount::new(),
+        })
     }
 }
 
@@ -36,15 +47,14 @@ impl Disk for RamDisk {
     ghost use Rattle.disk_model.specs.Failures.{HasCause};
     ghost use Rattle.disk_model.specs.Disk.{IsMarked};
     ghost use Rattle.disk_store.specs.Ram.{ram_state};
-    ghost use Rattle.disk_store.specs.Inner.MemorySound.{memory_sound};
-    ghost use Rattle.std.specs.Prelude.{OnOk};
+    ghost use Rattle.disk_store.specs.Inner.RamSound.{ram_sound};
 
     ghost state = { ram_state };
 
-    ghost sound = { λ ram honest. memory_sound ram.disk };
+    ghost sound = { λ disk honest. ram_sound disk };
 
     fn len(&self) -> u64 {
-        self.disk.len()
+        self.bytes.len() as u64
     }
 
     fn read(&mut self, at: u64, out: &mut [u8]) -> Result<(), DiskFault>
@@ -57,18 +67,44 @@ impl Disk for RamDisk {
         ensures unchanged { IsUnchanged (ram_state self.old) (ram_state self.new) }
         ensures bytes { OnOk result
             (out.new ≡ slice_range (ram_state self.old).bytes at (at + length out.old)) }
-
-        // It takes no memory, so it fails at the greatest count alone.
-        ensures succeeds { (ram_state self.old).failures < most_failures → IsOk result }
+        ensures succeeds { IsOk result }
     {
-        self.disk.read(at, out)
+        self.calls.raise();
+        let at = at as usize;
+        out.copy_from_slice(&self.bytes[at..at + out.len()]);
+        Ok(())
     }
 
-    fn write(&mut self, at: u64, bytes: &[u8]) -> Result<(), DiskFault> {
-        self.disk.write(at, bytes)
+    fn write(&mut self, at: u64, bytes: &[u8]) -> Result<(), DiskFault>
+        requires { at + length bytes.now ≤ (ram_state self.old).len }
+        ensures keeps { Keeps (ram_state self.old) (ram_state self.new) }
+        ensures cause { HasCause (ram_state self.old).failures
+            (ram_state self.new).failures result }
+        ensures called { (ram_state self.new).calls ≡ (ram_state self.old).calls + 1 }
+        ensures range { WritesWithin at (length bytes.now)
+            (ram_state self.old) (ram_state self.new) }
+        ensures bytes { OnOk result
+            (slice_range (ram_state self.new).bytes at (at + length bytes.now) ≡ bytes.now) }
+        ensures marked { OnOk result (IsMarked at (length bytes.now) (ram_state self.new)) }
+        ensures succeeds { IsOk result }
+    {
+        self.calls.raise();
+        overwrite(&mut self.bytes, at as usize, bytes);
+        let _ = self.history.wrote(at, bytes, Ok(()));
+        Ok(())
     }
 
-    fn sync(&mut self) -> Result<(), DiskFault> {
-        self.disk.sync()
+    fn sync(&mut self) -> Result<(), DiskFault>
+        ensures keeps { Keeps (ram_state self.old) (ram_state self.new) }
+        ensures cause { HasCause (ram_state self.old).failures
+            (ram_state self.new).failures result }
+        ensures called { (ram_state self.new).calls ≡ (ram_state self.old).calls + 1 }
+        ensures still { IsStill (ram_state self.old) (ram_state self.new) }
+        ensures firm { OnOk result (IsFirm (ram_state self.new)) }
+        ensures succeeds { IsOk result }
+    {
+        self.calls.raise();
+        let _ = self.history.synced(Ok(()));
+        Ok(())
     }
 }

@@ -27,13 +27,13 @@ use denote.Triple.Spec.{Meets, triple_of}
 use denote.Triple.Table.{entered}
 use denote.Triple.Walked.{says, Stays, stay_ref, walk_of, AllGo, Goes-ref, Walks, ends_at, walked}
 use denote.Triple.Walked.{walk_Meets}
-use Rattle.disk_store.specs.declared.file.history.History.{History}
+use Rattle.disk_store.specs.declared.history.History.{History}
 use Rattle.disk_store.specs.Inner.Noting.{call_of}
-use Rattle.disk_store.specs.contracts.file.history.History as T
-use Rattle.disk_store.specs.contracts.file.history.History.note.Key.{name as #it}
-use Rattle.disk_store.specs.contracts.file.history.History.note as it
-use Rattle.disk_store.proofs.file.history.History.note.Statement as stated
-use Rattle.disk_store.proofs.file.history.History.note.Code as code
+use Rattle.disk_store.specs.contracts.history.History as T
+use Rattle.disk_store.specs.contracts.history.History.note.Key.{name as #it}
+use Rattle.disk_store.specs.contracts.history.History.note as it
+use Rattle.disk_store.proofs.history.History.note.Statement as stated
+use Rattle.disk_store.proofs.history.History.note.Code as code
 use denote.Ref.{Bor}
 use denote.Builtin.{u8, u64}
 use denote.Exit.{yes}

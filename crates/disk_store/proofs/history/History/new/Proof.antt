@@ -21,12 +21,12 @@ use denote.Triple.Entry.{on_entry}
 use denote.Triple.Spec.{Meets, triple_of}
 use denote.Triple.Table.{entered}
 use denote.Triple.Walked.{says, ends_at, walked, walk_Meets}
-use Rattle.disk_store.specs.declared.file.history.History.{History}
-use Rattle.disk_store.specs.contracts.file.history.History as T
-use Rattle.disk_store.specs.contracts.file.history.History.new.Key.{name as #it}
-use Rattle.disk_store.specs.contracts.file.history.History.new as it
-use Rattle.disk_store.proofs.file.history.History.new.Statement as stated
-use Rattle.disk_store.proofs.file.history.History.new.Code as code
+use Rattle.disk_store.specs.declared.history.History.{History}
+use Rattle.disk_store.specs.contracts.history.History as T
+use Rattle.disk_store.specs.contracts.history.History.new.Key.{name as #it}
+use Rattle.disk_store.specs.contracts.history.History.new as it
+use Rattle.disk_store.proofs.history.History.new.Statement as stated
+use Rattle.disk_store.proofs.history.History.new.Code as code
 
 abbrev v : Val
 v = vstruct (vcons (vstruct vnil) vnil)

@@ -1,7 +1,7 @@
-//! The calls on a file with their answers, as a list that only clauses read. It takes no memory.
+//! The calls on a disk with their answers, as a list that only clauses read. It takes no memory.
 //! Each method is given the answer of a call, notes the call with it, and hands it on: so no call
-//! is noted that the system did not answer.
-ghost use Rattle.std.specs.Prelude.{◌≡◌, ℕ, List, [], ◌∷◌, ◌++◌, IfOk, OnOk, OnErr};
+//! on a file is noted that the system did not answer.
+ghost use Rattle.std.specs.Prelude.{◌≡◌, List, [], ◌∷◌, ◌++◌, IfOk, OnOk, OnErr};
 ghost use Rattle.std.specs.Borrow.{ftrue};
 ghost use Rattle.disk_store.specs.Calls.{Call, Locked, Opened, Made, Gave, FailedRead};
 ghost use Rattle.disk_store.specs.Inner.Noting.{call_of};
