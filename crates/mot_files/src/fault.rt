@@ -30,8 +30,8 @@ pub enum TypesFault {
     System(io::Error),
     /// It has more than 65,536 bytes.
     Long,
-    /// A line is none.
-    Line,
+    /// The line of this number, from 1 on, is none.
+    Line(usize),
 }
 
 /// What is wrong with the folder that lines come from.
@@ -129,7 +129,9 @@ impl Display for TypesFault {
         match self {
             TypesFault::System(error) => OpenFault::System(*error).fmt(f),
             TypesFault::Long => f.pad("longer than 65,536 bytes"),
-            TypesFault::Line => f.pad("a line is no SUFFIX TYPE SUBTYPE MIME"),
+            TypesFault::Line(number) => {
+                write!(f, "line {number} is no SUFFIX TYPE SUBTYPE MIME")
+            }
         }
     }
 }

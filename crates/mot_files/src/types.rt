@@ -4,7 +4,7 @@ ghost use Rattle.mot_files.specs.Types.{IsTyped, IsUntyped};
 
 use crate::fault::{Cause, TypesFault, Unbegun};
 use mot_numbers::Refusal;
-use mot_suffixes::FileTypes;
+use mot_suffixes::{FileTypes, RefusedLine};
 use std::alloc::{AllocError, Global};
 use std::fs::OpenOptions;
 use std::io::Read;
@@ -31,17 +31,20 @@ pub fn file_types(rt: &HostRuntime, alloc: Global, path: Option<&str>) -> Result
     };
     match types.add(alloc, &text) {
         Ok(()) => Ok(types),
-        Err(refusal) => Err(wrong(refusal)),
+        Err(at) => Err(wrong(at)),
     }
 }
 
-/// A line of the file is none.
-fn wrong(refusal: Refusal) -> Unbegun
-    ensures { result.refusal ≡ refusal }
+/// A line of the file is none, or there was no memory for what it says.
+fn wrong(at: RefusedLine) -> Unbegun
+    ensures { result.refusal ≡ at.refusal }
 {
-    Unbegun {
-        refusal,
-        cause: Some(Cause::Types(TypesFault::Line)),
+    match at.refusal {
+        Refusal::OutOfMemory => Unbegun::no_memory(),
+        refusal => Unbegun {
+            refusal,
+            cause: Some(Cause::Types(TypesFault::Line(at.number))),
+        },
     }
 }
 

@@ -1,17 +1,15 @@
 -- What the lines of a text say of suffixes, one after the other.
-use Rattle.std.proofs.Common.{◌≡◌, ◌∙◌, inl, inr, ◌++◌, ℕ, Bool, true, false, cond, List, [], ◌∷◌}
-use Rattle.std.proofs.Common.{Option, Some, None, Result, Ok, Err, append-nil, append_assoc, ap}
-use Rattle.std.proofs.Common.{refl}
-use Rattle.std.proofs.Common.{filter, not, sym, ◌==◌}
+use Rattle.std.proofs.Common.{◌≡◌, ◌∙◌, ◌++◌, ◌+◌, ◌≤◌, ◌==◌, ℕ, List, [], ◌∷◌}
+use Rattle.std.proofs.Common.{Option, None, Result, Ok, Err, append-nil, append_assoc, ap}
+use Rattle.std.proofs.Common.{arith, length, not, refl, sym, length-append}
 use Rattle.std.proofs.lemmas.List.Elements.{filter-append}
 use Rattle.std.proofs.lemmas.List.Splits.{slice_split_at, slice_split_none}
 use Rattle.mot_lines.specs.Lines.{HasNoLineEnd, pieces_between}
 use Rattle.mot_numbers.specs.declared.refusal.Refusal.{Refusal}
-use Rattle.mot_suffixes.specs.Inner.Types.{AddsLine, StopsAtLine, saying}
-use Rattle.mot_suffixes.specs.Types.{AddsUpTo, SuffixType, refusal_before, refusal_in}
-use Rattle.mot_suffixes.specs.Types.{refusal_of_lines, says_nothing, saying_lines, type_before}
-use Rattle.mot_suffixes.specs.Types.{type_in}
-use Rattle.mot_suffixes.specs.Types.{types_in, types_of_lines}
+use Rattle.mot_suffixes.specs.Inner.Types.{AddsLine, RefusesLine}
+use Rattle.mot_suffixes.specs.Types.{StopsAtLine, SuffixType, refusal_before, refusal_in}
+use Rattle.mot_suffixes.specs.Types.{refusal_of_lines, says_nothing, that_say, type_before}
+use Rattle.mot_suffixes.specs.Types.{type_in, types_in, types_of_lines}
 
 -- ---- lines that are right, and others behind them
 
@@ -44,119 +42,91 @@ types-right (line ∷ lines) others e =
     right-types (type_in line) (refusal_of_lines lines) (types_of_lines (lines ++ others))
     (types_of_lines lines) (types_of_lines others) e (types-right lines others)
 
--- ---- a line that is refused, and others behind it
-
-wrong-refusal : (said : Result SuffixType Refusal) (later : Option Refusal) (refusal : Refusal)
-    → refusal_before said None ≡ Some refusal → refusal_before said later ≡ Some refusal
-wrong-refusal (Ok type) later refusal e = absurd (cc)
-wrong-refusal (Err other) later refusal e = e
-
-wrong-types : (said : Result SuffixType Refusal) (later : List SuffixType) (refusal : Refusal)
-    → refusal_before said None ≡ Some refusal → type_before said later ≡ []
-wrong-types (Ok type) later refusal e = absurd (cc)
-wrong-types (Err other) later refusal e = refl
-
--- lines that begin with one that is refused are refused as it is
-refusal-wrong : (says : Bool) (line : List ℕ) (others : List (List ℕ)) (refusal : Refusal)
-    → refusal_of_lines (cond says (line ∷ []) []) ≡ Some refusal
-    → refusal_of_lines (cond says (line ∷ []) [] ++ others) ≡ Some refusal
-refusal-wrong true line others refusal e =
-    wrong-refusal (type_in line) (refusal_of_lines others) refusal e
-refusal-wrong false line others refusal e = absurd (cc)
-
--- and say nothing
-types-wrong : (says : Bool) (line : List ℕ) (others : List (List ℕ)) (refusal : Refusal)
-    → refusal_of_lines (cond says (line ∷ []) []) ≡ Some refusal
-    → types_of_lines (cond says (line ∷ []) [] ++ others) ≡ []
-types-wrong true line others refusal e =
-    wrong-types (type_in line) (types_of_lines others) refusal e
-types-wrong false line others refusal e = absurd (cc)
-
 -- ---- the lines of a text
 
--- the text up to the rest was gone over: what its lines say was added, and none was refused
-pub record IsGoneOver (start now : List SuffixType) (text rest : List ℕ) : Type 0 where
-  pub lines : List (List ℕ)
-  pub split : saying_lines text ≡ lines ++ saying_lines rest
-  pub right : refusal_of_lines lines ≡ None
-  pub added : now ≡ start ++ types_of_lines lines
+-- the text up to the rest, and so to the line of this number, was gone over: what its lines say was
+-- added, and none was refused
+pub record IsGoneOver (start now : List SuffixType) (text rest : List ℕ) (number : ℕ)
+    : Type 0 where
+  pub before : List (List ℕ)
+  pub split : pieces_between text ≡ before ++ pieces_between rest
+  pub counted : number ≡ length before + 1
+  pub short : length before + length rest ≤ length text
+  pub right : refusal_of_lines (that_say before) ≡ None
+  pub added : now ≡ start ++ types_of_lines (that_say before)
 
 -- a line, and what follows its end
-pub saying-line : (line others : List ℕ) → HasNoLineEnd line
-    → saying_lines (line ++ 10 ∷ others) ≡ saying line ++ saying_lines others
-saying-line line others none =
-    ap (filter (λ l. not (says_nothing l)))
-    (slice_split_at (λ b. b == 10) line 10 others none refl)
-    ∙ filter-append (λ l. not (says_nothing l)) (line ∷ []) (pieces_between others)
+pub pieces-line : (rest line others : List ℕ) → rest ≡ line ++ 10 ∷ others → HasNoLineEnd line
+    → pieces_between rest ≡ line ∷ pieces_between others
+pieces-line rest line others parts none =
+    ap pieces_between parts ∙ slice_split_at (λ b. b == 10) line 10 others none refl
 
 -- the last line
-pub saying-last : (line : List ℕ) → HasNoLineEnd line → saying_lines line ≡ saying line ++ []
-saying-last line none = ap (filter (λ l. not (says_nothing l)))
-    (slice_split_none (λ b. b == 10) line none)
-    ∙ sym (append-nil (saying line))
+pub pieces-last : (line : List ℕ) → HasNoLineEnd line → pieces_between line ≡ line ∷ []
+pieces-last line none = slice_split_none (λ b. b == 10) line none
 
-module _ (start now : List SuffixType) (text rest line : List ℕ) (others : List (List ℕ))
-    (over : IsGoneOver start now text rest) (is : saying_lines rest ≡ saying line ++ others) where
-  whole : saying_lines text ≡ (over.lines ++ saying line) ++ others
-  whole = over.split ∙ ap (λ l. over.lines ++ l) is
-      ∙ sym (append_assoc over.lines (saying line) others)
+module _ (start now : List SuffixType) (text rest line : List ℕ) (number : ℕ)
+    (behind : List (List ℕ)) (over : IsGoneOver start now text rest number)
+    (is : pieces_between rest ≡ line ∷ behind) where
+  split : pieces_between text ≡ over.before ++ line ∷ behind
+  split = over.split ∙ ap (λ l. over.before ++ l) is
+
+  whole : pieces_between text ≡ (over.before ++ line ∷ []) ++ behind
+  whole = split ∙ sym (append_assoc over.before (line ∷ []) behind)
+
+  said : that_say (over.before ++ line ∷ []) ≡ that_say over.before ++ that_say (line ∷ [])
+  said = filter-append (λ l. not (says_nothing l)) over.before (line ∷ [])
 
   module _ (new : List SuffixType) (one : AddsLine now new line) where
-    right : refusal_of_lines (over.lines ++ saying line) ≡ None
-    right = refusal-right over.lines (saying line) over.right ∙ one.right
+    right : refusal_of_lines (that_say (over.before ++ line ∷ [])) ≡ None
+    right = ap refusal_of_lines said
+        ∙ refusal-right (that_say over.before) (that_say (line ∷ [])) over.right ∙ one.right
 
-    added : new ≡ start ++ types_of_lines (over.lines ++ saying line)
-    added = one.added ∙ ap (λ l. l ++ types_of_lines (saying line)) over.added
-        ∙ append_assoc start (types_of_lines over.lines) (types_of_lines (saying line))
-        ∙ ap (λ l. start ++ l) (sym (types-right over.lines (saying line) over.right))
+    added : new ≡ start ++ types_of_lines (that_say (over.before ++ line ∷ []))
+    added = one.added ∙ ap (λ l. l ++ types_of_lines (that_say (line ∷ []))) over.added
+        ∙ append_assoc start (types_of_lines (that_say over.before))
+        (types_of_lines (that_say (line ∷ [])))
+        ∙ ap (λ l. start ++ l)
+        (sym (types-right (that_say over.before) (that_say (line ∷ [])) over.right))
+        ∙ ap (λ l. start ++ types_of_lines l) (sym said)
 
     -- one line more was gone over
-    pub gone_over-line : (after : List ℕ) → others ≡ saying_lines after
-        → IsGoneOver start new text after
-    gone_over-line after are = record {
-      lines = over.lines ++ saying line;
-      split = whole ∙ ap (λ l. (over.lines ++ saying line) ++ l) are;
-      right = right;
-      added = added;
-    }
+    pub gone_over-line : (others : List ℕ) → behind ≡ pieces_between others
+        → rest ≡ line ++ 10 ∷ others → IsGoneOver start new text others (number + 1)
+    gone_over-line others are parts =
+        let longer = length-append over.before (line ∷ []) in
+        let rest_length = ap length parts ∙ length-append line (10 ∷ others) in
+        record {
+          before = over.before ++ line ∷ [];
+          split = whole ∙ ap (λ l. (over.before ++ line ∷ []) ++ l) are;
+          counted = omega (arith, longer, over.counted);
+          short = omega (arith, longer, rest_length, over.short);
+          right = right;
+          added = added;
+        }
 
     -- no line follows
-    pub gone_over-right : others ≡ [] → refusal_in text ≡ None
-    gone_over-right none = ap refusal_of_lines
-        (whole ∙ ap (λ l. (over.lines ++ saying line) ++ l) none
-        ∙ append-nil (over.lines ++ saying line))
-        ∙ right
+    all : behind ≡ [] → pieces_between text ≡ over.before ++ line ∷ []
+    all none = whole ∙ ap (λ l. (over.before ++ line ∷ []) ++ l) none
+        ∙ append-nil (over.before ++ line ∷ [])
 
-    pub gone_over-added : others ≡ [] → new ≡ start ++ types_in text
-    gone_over-added none = added ∙ ap (λ l. start ++ types_of_lines l)
-        (sym (whole ∙ ap (λ l. (over.lines ++ saying line) ++ l) none
-        ∙ append-nil (over.lines ++ saying line)))
+    pub gone_over-right : behind ≡ [] → refusal_in text ≡ None
+    gone_over-right none = ap (λ l. refusal_of_lines (that_say l)) (all none) ∙ right
 
-  to_line : saying_lines text ≡ over.lines ++ (saying line ++ others)
-  to_line = over.split ∙ ap (λ l. over.lines ++ l) is
-
-  said : types_in text ≡ types_of_lines over.lines ++ types_of_lines (saying line ++ others)
-  said = ap types_of_lines to_line ∙ types-right over.lines (saying line ++ others) over.right
+    pub gone_over-added : behind ≡ [] → new ≡ start ++ types_in text
+    gone_over-added none =
+        added ∙ ap (λ l. start ++ types_of_lines (that_say l)) (sym (all none))
 
   -- the line is not added
-  pub gone_over-stops : (new : List SuffixType) (refusal : Refusal)
-      → StopsAtLine now new line refusal → AddsUpTo start new text refusal
-  gone_over-stops new refusal stops = elim stops.why [
-    | inl e ↦ inl (
-      ap refusal_of_lines to_line ∙ refusal-right over.lines (saying line ++ others) over.right
-          ∙ refusal-wrong (not (says_nothing line)) line others refusal e,
-      stops.same ∙ over.added ∙ ap (λ l. start ++ l) (sym (said
-          ∙ ap (λ l. types_of_lines over.lines ++ l)
-          (types-wrong (not (says_nothing line)) line others refusal e)
-          ∙ append-nil (types_of_lines over.lines))),
-    )
-    | inr none ↦ inr (
-      none,
-      record {
-        front = types_of_lines over.lines;
-        others = types_of_lines (saying line ++ others);
-        split = said;
-        added = stops.same ∙ over.added;
-      },
-    )
-  ]
+  pub gone_over-stops : (new : List SuffixType) (at : ℕ) (refusal : Refusal) → at ≡ number
+      → RefusesLine now new line refusal → StopsAtLine start new text at refusal
+  gone_over-stops new at refusal is_number stops = record {
+    before = over.before;
+    line = line;
+    behind = behind;
+    split = split;
+    counted = is_number ∙ over.counted;
+    right = over.right;
+    added = stops.same ∙ over.added;
+    why = stops.why;
+  }

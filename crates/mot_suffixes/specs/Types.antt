@@ -1,6 +1,6 @@
 -- Which files of a folder are objects, and what they are.
-use Rattle.std.specs.Prelude.{◌≡◌, ◌==◌, ◌⊎◌, ◌||◌, ℕ, Bool, true, false, not, if◌then◌else◌}
-use Rattle.std.specs.Prelude.{List, [], ◌∷◌, ◌++◌, filter, codes}
+use Rattle.std.specs.Prelude.{◌≡◌, ◌==◌, ◌⊎◌, ◌||◌, ◌+◌, ℕ, Bool, true, false, not, if◌then◌else◌}
+use Rattle.std.specs.Prelude.{List, [], ◌∷◌, ◌++◌, codes, filter, length}
 use Rattle.std.specs.Prelude.{Option, Some, None, Result, Ok, Err}
 use Rattle.std.specs.List.{AllByRecursion, list_any}
 use Rattle.std.specs.Option.{option_or}
@@ -71,9 +71,13 @@ abbrev pub says_nothing : List ℕ → Bool
 says_nothing [] = true
 says_nothing (byte ∷ others) = byte == 35
 
+-- those of these lines that say something
+abbrev pub that_say : List (List ℕ) → List (List ℕ)
+that_say lines = filter (λ line. not (says_nothing line)) lines
+
 -- the lines of a text that say something
 abbrev pub saying_lines : List ℕ → List (List ℕ)
-saying_lines text = filter (λ line. not (says_nothing line)) (pieces_between text)
+saying_lines text = that_say (pieces_between text)
 
 abbrev pub type_before : Result SuffixType Refusal → List SuffixType → List SuffixType
 type_before (Ok type) others = type ∷ others
@@ -99,19 +103,18 @@ refusal_of_lines (line ∷ lines) = refusal_before (type_in line) (refusal_of_li
 abbrev pub refusal_in : List ℕ → Option Refusal
 refusal_in text = refusal_of_lines (saying_lines text)
 
--- what a beginning of the text's lines says was added
-pub record AddsFront (old now : List SuffixType) (text : List ℕ) : Type 0 where
-  pub front : List SuffixType
-  pub others : List SuffixType
-  pub split : types_in text ≡ front ++ others
-  pub added : now ≡ old ++ front
-
--- What the lines before the one that is refused say was added; or memory was wanting, and what a
--- beginning of the lines says was.
-abbrev pub AddsUpTo : List SuffixType → List SuffixType → List ℕ → Refusal → Type 0
-AddsUpTo old new text refusal =
-    ((refusal_in text ≡ Some refusal) × (new ≡ old ++ types_in text))
-    ⊎ ((refusal ≡ OutOfMemory) × AddsFront old new text)
+-- Adding stopped at the line of a text that has this number, from 1 on: it is the first that is
+-- refused, or memory was wanting at it, and what the lines before it say was added.
+pub record StopsAtLine (old now : List SuffixType) (text : List ℕ) (number : ℕ) (refusal : Refusal)
+    : Type 0 where
+  pub before : List (List ℕ)
+  pub line : List ℕ
+  pub behind : List (List ℕ)
+  pub split : pieces_between text ≡ before ++ line ∷ behind
+  pub counted : number ≡ length before + 1
+  pub right : refusal_of_lines (that_say before) ≡ None
+  pub added : now ≡ old ++ types_of_lines (that_say before)
+  pub why : (refusal_of_lines (that_say (line ∷ [])) ≡ Some refusal) ⊎ (refusal ≡ OutOfMemory)
 
 -- the name begins with a dot
 abbrev pub is_hidden : List ℕ → Bool

@@ -4,4 +4,4 @@
 
 mod types;
 
-pub use types::{FileType, FileTypes};
+pub use types::{FileType, FileTypes, RefusedLine};

@@ -3,8 +3,8 @@ ghost use Rattle.std.specs.Prelude.{◌≡◌, ◌++◌, ◌⊎◌, [], true, Li
 ghost use Rattle.std.specs.Prelude.{IfErr, IfNone, IfOk, IfSome, IsNone};
 ghost use Rattle.mot_numbers.specs.declared.refusal.Refusal.TheVariants.{BadMime, BadName};
 ghost use Rattle.mot_numbers.specs.declared.refusal.Refusal.TheVariants.{OutOfMemory};
-ghost use Rattle.mot_suffixes.specs.Inner.Types.{AddsLine, MayRefuse, StopsAtLine};
-ghost use Rattle.mot_suffixes.specs.Types.{AddsUpTo, IsTypesRefusal, SuffixType, is_hidden};
+ghost use Rattle.mot_suffixes.specs.Inner.Types.{AddsLine, MayRefuse, RefusesLine};
+ghost use Rattle.mot_suffixes.specs.Types.{IsTypesRefusal, StopsAtLine, SuffixType, is_hidden};
 ghost use Rattle.mot_suffixes.specs.Types.{known_types, last_of_suffix, refusal_in, says_nothing};
 ghost use Rattle.mot_suffixes.specs.Types.{suffix_in};
 ghost use Rattle.mot_suffixes.specs.Types.{suffix_of, type_in, type_mime_in, type_of_name};
@@ -51,6 +51,15 @@ impl Model for FileType {
     } };
 }
 
+/// The line of a text at which adding its types stopped.
+#[derive(Clone, Copy)]
+pub struct RefusedLine {
+    /// Which one it is, from 1 on.
+    pub number: usize,
+    /// What its words are refused with; or `OutOfMemory`.
+    pub refusal: Refusal,
+}
+
 /// The suffixes of the files that are objects.
 #[derive(Drop)]
 pub struct FileTypes {
@@ -80,25 +89,41 @@ impl FileTypes {
 
     /// Adds those of the lines of a text, each `SUFFIX TYPE SUBTYPE MIME` with single spaces, where
     /// an empty line and one that begins with `#` say nothing. Of two lines of one suffix the later
-    /// one counts. The refusals are those of a line's words, of which the lines before stay.
-    pub fn add(&mut self, alloc: Global, text: &[u8]) -> Result<(), Refusal>
+    /// one counts. A line is refused as its words are, and what those before it say stays.
+    pub fn add(&mut self, alloc: Global, text: &[u8]) -> Result<(), RefusedLine>
         ensures right { IfOk result (λ _. refusal_in text.now ≡ None) }
         ensures added { IfOk result (λ _. self.new ≡ self.old ++ types_in text.now) }
-        ensures stays { IfErr result (AddsUpTo self.old self.new text.now) }
-        ensures refused { IfErr result IsTypesRefusal }
+        ensures stays { IfErr result (λ at. StopsAtLine self.old self.new text.now
+            at.number at.refusal) }
+        ensures refused { IfErr result (λ at. IsTypesRefusal at.refusal) }
     {
         let mut rest = text;
+        let mut number = 1;
         while let Some((line, others)) = cut_at_line_end(rest) {
-            self.add_line(alloc, line)?;
+            self.add_numbered(alloc, number, line)?;
             rest = others;
+            number += 1;
         }
-        self.add_line(alloc, rest)
+        self.add_numbered(alloc, number, rest)
+    }
+
+    /// Adds what the line of this number says, if it says something.
+    fn add_numbered(&mut self, alloc: Global, number: usize, line: &[u8]) -> Result<(), RefusedLine>
+        ensures added { IfOk result (λ _. AddsLine self.old self.new line.now) }
+        ensures stays { IfErr result (λ at. (at.number ≡ number)
+            × RefusesLine self.old self.new line.now at.refusal) }
+        ensures refused { IfErr result (λ at. IsTypesRefusal at.refusal) }
+    {
+        match self.add_line(alloc, line) {
+            Ok(()) => Ok(()),
+            Err(refusal) => Err(RefusedLine { number, refusal }),
+        }
     }
 
     /// Adds what a line says, if it says something.
     fn add_line(&mut self, alloc: Global, line: &[u8]) -> Result<(), Refusal>
         ensures added { IfOk result (λ _. AddsLine self.old self.new line.now) }
-        ensures stays { IfErr result (StopsAtLine self.old self.new line.now) }
+        ensures stays { IfErr result (RefusesLine self.old self.new line.now) }
         ensures refused { IfErr result IsTypesRefusal }
     {
         if is_silent(line) {

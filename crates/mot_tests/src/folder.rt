@@ -23,11 +23,20 @@ fn are_so(types: &FileTypes, name: &[u8], told: Told) -> bool {
     }
 }
 
-/// The same behind lines that add suffixes.
-fn are_so_behind(alloc: Global, lines: &[u8], name: &[u8], told: Told) -> Result<bool, Refusal> {
-    let mut types = FileTypes::new(alloc)?;
-    types.add(alloc, lines)?;
-    Ok(are_so(&types, name, told))
+/// The same behind lines that add suffixes; or the number of the line that is refused, and why.
+fn are_so_behind(
+    alloc: Global,
+    lines: &[u8],
+    name: &[u8],
+    told: Told,
+) -> Result<bool, (usize, Refusal)> {
+    let Ok(mut types) = FileTypes::new(alloc) else {
+        return Err((0, Refusal::OutOfMemory));
+    };
+    match types.add(alloc, lines) {
+        Ok(()) => Ok(are_so(&types, name, told)),
+        Err(at) => Err((at.number, at.refusal)),
+    }
 }
 
 const FIRST: [(&[u8], Told); 17] = [
@@ -73,18 +82,19 @@ fn suffixes_are_added(rt: HostRuntime) {
 
 #[test]
 fn wrong_suffixes_are_refused(rt: HostRuntime) {
-    let wrong: [(&[u8], Refusal); 7] = [
-        (b"svg 2 0", Refusal::BadLine),
-        (b"svg 2 0 a/b more", Refusal::BadLine),
-        (b" 2 0 a/b", Refusal::BadName),
-        (b"a.b 2 0 a/b", Refusal::BadName),
-        (b"svg 64 0 a/b", Refusal::BadType),
-        (b"svg 2 512 a/b", Refusal::BadType),
-        (b"svg 2 0 -", Refusal::BadMime),
+    let wrong: [(&[u8], usize, Refusal); 8] = [
+        (b"svg 2 0", 1, Refusal::BadLine),
+        (b"svg 2 0 a/b more", 1, Refusal::BadLine),
+        (b" 2 0 a/b", 1, Refusal::BadName),
+        (b"a.b 2 0 a/b", 1, Refusal::BadName),
+        (b"svg 64 0 a/b", 1, Refusal::BadType),
+        (b"svg 2 512 a/b", 1, Refusal::BadType),
+        (b"svg 2 0 -", 1, Refusal::BadMime),
+        (b"#\n\nsvg 2 0 -\nsvg", 3, Refusal::BadMime),
     ];
-    for (line, refusal) in wrong {
-        let added = are_so_behind(rt.alloc(), line, b"", None);
-        expect(&rt, added, Err(refusal));
+    for (lines, number, refusal) in wrong {
+        let added = are_so_behind(rt.alloc(), lines, b"", None);
+        expect(&rt, added, Err((number, refusal)));
     }
 }
 
