@@ -3,14 +3,18 @@
 ghost use Rattle.std.specs.Prelude.{◌≡◌, ◌<◌, length, All};
 ghost use Rattle.disk_store.specs.Calls.{content_after};
 
+mod begun;
 mod calls;
 mod fault;
+mod files;
 mod opening;
 mod start;
 mod system;
 
 use crate::call_count::CallCount;
+pub use begun::{Beginning, BegunFile, WasMade, WasThere, make_file, open_file};
 pub use fault::OpenFault;
+pub use files::{DiskFiles, SystemFiles};
 pub use opening::Unopened;
 pub use start::{Start, Unknown};
 use std::marker::PhantomData;

@@ -1,31 +1,13 @@
--- What holds since a file was opened is told of the disk that is handed out.
-use Rattle.std.proofs.Common.{◌≡◌, ◌∙◌, ◌⊎◌, inl, ℕ, List, Option, Bool, true, length, Result, Ok}
+-- What is told of a result that came of another one.
+use Rattle.std.proofs.Common.{◌≡◌, ◌∙◌, ◌⊎◌, inl, ℕ, List, Option, Bool, true, Result, Ok}
 use Rattle.std.proofs.Common.{Err, sym, subst}
 use Rattle.std.proofs.KnownBytes.{Keeps-refl}
 use Rattle.std.specs.Prelude.{IfErr, IfOk, OnOk}
-use Rattle.disk_model.specs.Disk.{IsNew, State}
-use Rattle.disk_store.specs.Calls.{opening_calls}
-use Rattle.disk_store.specs.File.{calls_on, file_state}
-use Rattle.disk_store.specs.declared.file.FileDiskFrom.{FileDiskFrom}
 use Rattle.disk_store.specs.declared.file.start.Start.{Ghosts}
-use Rattle.mot_air.specs.Program.{IsUntold, IsUntouched, SinceOpened}
+use Rattle.mot_air.specs.Program.{IsUntold, IsUntouched}
 use Rattle.mot_air.specs.declared.used.AirDisk.{AirDisk}
 use Rattle.mot_air.specs.declared.used.AirDisk.TheVariants.{Untouched}
 use Rattle.mot_numbers.specs.declared.refusal.Refusal.{Refusal}
-
--- what holds since a file was opened is told of the disk that is handed out
-pub since_opened : {S : Type 0} {start : Ghosts S} (first disk : FileDiskFrom S start)
-    (P : State → State → Type 0) → calls_on first ≡ opening_calls (file_state first).len
-    → IsNew (file_state first).bytes (file_state first)
-    → ((file_state first).len ≡ length start.bytes → (file_state first).bytes ≡ start.bytes)
-    → P (file_state first) (file_state disk) → SinceOpened P disk
-since_opened first disk P order new first_bytes since = record {
-  first = first;
-  order = order;
-  new = new;
-  first_bytes = first_bytes;
-  since = since;
-}
 
 -- what follows from a fact of an Ok result
 pub IfOk-one : {T E : Type 0} {P Q : T → Type 0} (r : Result T E) → ((x : T) → P x → Q x)

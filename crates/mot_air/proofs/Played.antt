@@ -65,12 +65,14 @@ module _ {D : Type 0} (state : D → State) (disk : D) (server new : ServerView 
       s.carousel p events last.carousel (place_in new last)) (at_start s holds.agrees)
       fed.happened in
       record {
-        last = last.carousel;
+        last = last;
         place = place_in new last;
         happened = happened;
         commands = fed.commands;
         marks = fed.marks;
         accepted = fed.accepted;
+        after = fed.leaves.after;
+        stands = λ fine. (fed.leaves.going fine).each;
         leaves = opened_leaves (state disk) (state server.disk) (state new.disk) server.view
             new.view s fed.commands fed.marks fault (sound disk (opens.keeps.was_honest was)) all
             (opens.still was) fed.leaves;

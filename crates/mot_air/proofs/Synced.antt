@@ -13,7 +13,7 @@ use Rattle.mot_air.specs.Syncing.{broken, untold, stopped}
 use Rattle.mot_air.specs.Syncing as synced
 use Rattle.mot_air.proofs.Opened.{breaks_off, opened_leaves}
 use Rattle.mot_feed.specs.Feeding.{IsFeedFault}
-use Rattle.mot_folder.specs.Log.{LogEntry, ReportTells}
+use Rattle.mot_folder.specs.Log.{AreEither, LogEntry, ReportTells}
 use Rattle.mot_folder.specs.Looked.{HasLookedAtFolder, listed, unlisted}
 use Rattle.mot_folder.specs.declared.report.Report.{Report}
 use Rattle.mot_journal.specs.Image.{Standing}
@@ -33,6 +33,7 @@ use Rattle.mot_server.specs.Runs.{accepted_commands}
 use Rattle.mot_server.specs.Server.{ServerView}
 use Rattle.mot_update.proofs.Laws.{made}
 use Rattle.mot_update.specs.Faults.{StaysCalm}
+use Rattle.mot_update.specs.Laws.{names_of}
 use Rattle.mot_update.specs.Looking.{AreAccepted, HasLooked}
 use Rattle.mot_update.specs.Updating.{updating}
 
@@ -115,7 +116,7 @@ module _ {D : Type 0} (state : D → State) (disk : D) (server new : ServerView 
             (sound disk (opens.keeps.was_honest was)) all (opens.still was) run.leaves) are,
         told,
       )
-  has_synced s path report fault honest all (listed names shown looked tells) =
+  has_synced s path report fault honest all (listed names shown looked seen whole tells) =
       let was = keeps.was_honest honest in (
         tells.entries,
         synced.listed names looked.wanted shown (record {
@@ -131,7 +132,13 @@ module _ {D : Type 0} (state : D → State) (disk : D) (server new : ServerView 
               looked.runs.run.leaves;
           answers = looked.runs.answers;
           answered = looked.runs.told;
-        }) (equal (not report.any_refused) fault looked) tells.are,
+        }) (equal (not report.any_refused) fault looked) tells.are (λ none. record {
+          before = tells.before;
+          missed = tells.missed;
+          read = tells.read;
+          either = subst (λ (l : List (List ℕ)). AreEither l (names_of looked.wanted) tells.missed)
+              (whole none) tells.either;
+        }),
         tells.told,
       )
     where

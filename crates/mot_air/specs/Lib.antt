@@ -1,4 +1,5 @@
 pub mod Inner
+pub mod Lives
 pub mod Opening
 pub mod Playing
 pub mod Program

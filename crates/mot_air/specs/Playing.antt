@@ -1,19 +1,21 @@
 -- What playing a disk writes, and what it leaves of the disk.
-use Rattle.std.specs.Prelude.{◌≡◌, ◌⊎◌, ℕ, Bool, true, List, [], length, Option, Some, None}
+use Rattle.std.specs.Prelude.{◌≡◌, ◌⊎◌, ℕ, Bool, true, false, List, [], length, Option, Some, None}
+use Rattle.std.specs.Option.{option_map_or}
 use Rattle.disk_model.specs.Disk.{State}
 use Rattle.mot_air.specs.Opening.{IsBreak, Leaves}
 use Rattle.mot_feed.specs.Feeding.{AreOf, AreTimely, CallsPart, Event, Happen}
 use Rattle.mot_feed.specs.Feeding.{commands_among, has_ended, moments_of, turns_in}
 use Rattle.mot_feed.specs.Writing.{GrowsPart}
 use Rattle.mot_journal.specs.Image.{Standing}
+use Rattle.mot_numbers.specs.Refusal.{is_device_fault}
 use Rattle.mot_numbers.specs.declared.refusal.Refusal.{Refusal}
-use Rattle.mot_objects.specs.Carousel.{Carousel}
 use Rattle.mot_objects.specs.declared.command.Command.{Command}
 use Rattle.mot_packets.specs.Outlet.{Grows}
 use Rattle.mot_player.specs.Continuity.{IsContinuous}
 use Rattle.mot_player.specs.Place.{Place}
 use Rattle.mot_reading.specs.Opening.{IsUnopened, OfStanding, first_place}
-use Rattle.mot_server.specs.Runs.{accepted_commands}
+use Rattle.mot_repository.specs.Repository.{IsOf}
+use Rattle.mot_server.specs.Runs.{IsAfter, accepted_commands}
 use Rattle.mot_update.specs.Between.{BetweenTurns, Never, When}
 
 -- when a folder, where there is one, may change the carousel that is played
@@ -25,13 +27,17 @@ when_followed (Some folder) = BetweenTurns
 -- of the disk, and their packets are these, with their continuity indexes.
 pub record HasAired (s : Standing) (when : When) (fault : Option Refusal) (events : List Event)
     (packets : List (List ℕ)) (start now : State) : Type 0 where
-  pub last : Carousel
+  pub last : Standing
   pub place : Place
   pub happened : Happen s.geometry.objects s.geometry.segment_size s.carousel (first_place s)
-      events last place
+      events last.carousel place
   pub commands : List Command
   pub marks : List Bool
   pub accepted : commands_among events ≡ accepted_commands commands marks
+  -- where the disk did not fail it stands for what they make of it
+  pub after : IsAfter s (accepted_commands commands marks) last
+  pub stands : option_map_or is_device_fault fault false ≡ false
+      → (image : List ℕ) → now.MayLeave image → IsOf last image
   pub leaves : Leaves s commands marks fault start now
   pub are : AreOf events packets
   pub continuous : IsContinuous packets

@@ -1,11 +1,9 @@
 -- What the commands on air do.
-use Rattle.std.specs.Prelude.{ℕ, ◌≡◌, ◌⊎◌, true, false, List, length, Option, Some, None}
+use Rattle.std.specs.Prelude.{ℕ, ◌≡◌, ◌⊎◌, true, false, List, [], ◌∷◌, Option, Some, None}
 use Rattle.std.specs.Io.KnownBytes.{Keeps}
 use Rattle.clap.specs.Words.{Text}
-use Rattle.disk_model.specs.Disk.{IsNew, State}
-use Rattle.disk_store.specs.Calls.{opening_calls}
-use Rattle.disk_store.specs.File.{calls_on, file_state}
-use Rattle.disk_store.specs.declared.file.FileDiskFrom.{FileDiskFrom}
+use Rattle.disk_model.specs.Disk.{State}
+use Rattle.disk_store.specs.Beginning.{SinceOpened}
 use Rattle.disk_store.specs.declared.file.start.Start.{Ghosts}
 use Rattle.mot_air.specs.Playing.{Plays, StopsPlaying, when_followed}
 use Rattle.mot_air.specs.Syncing.{StopsSyncing, Syncs}
@@ -43,45 +41,44 @@ when_changed None folder = when_followed folder
 when_changed (Some lines) folder = Always
 
 -- why a disk was not played as it should be, in the turns that are asked for: playing stopped; or
--- all was played, and the file did not take its place
+-- all was played, and the file did not take its place. What was begun with, and
+-- what each write took, are told: a list that begins with the path that was opened.
 pub data FailsPlaying (target : Target) (when : When) (turns : Option ℕ) (refusal : Refusal)
-    (start now : State) : Type 0 where
-  stopped : StopsPlaying refusal when None None start now
-      → FailsPlaying target when turns refusal start now
+    (begun taken : List (List ℕ)) (start now : State) : Type 0 where
+  stopped : StopsPlaying refusal when (Some begun) (Some taken) start now
+      → FailsPlaying target when turns refusal begun taken start now
   unplaced : target ≡ File → refusal ≡ WriteFault
-      → Plays when (turns_of target turns) None None start now
-      → FailsPlaying target when turns refusal start now
+      → Plays when (turns_of target turns) (Some begun) (Some taken) start now
+      → FailsPlaying target when turns refusal begun taken start now
 
 -- The file held the bytes of `start` as it was opened. These are words of contracts alone: what
 -- holds for each `start` holds for what the file really held.
 module _ {S : Type 0} {start : Ghosts S} where
-  -- a file was opened, and this holds between what its disk was then and what it is
-  pub record SinceOpened (P : State → State → Type 0) (disk : FileDiskFrom S start) : Type 0 where
-    pub first : FileDiskFrom S start
-    pub order : calls_on first ≡ opening_calls (file_state first).len
-    pub new : IsNew (file_state first).bytes (file_state first)
-    pub first_bytes : (file_state first).len ≡ length start.bytes
-        → (file_state first).bytes ≡ start.bytes
-    pub since : P (file_state first) (file_state disk)
-
   -- no file of a disk was opened
   abbrev pub IsUntouched : AirDisk S start → Type 0
   IsUntouched (Untouched value) = Unit {0}
-  IsUntouched (Opened disk) = ⊥
+  IsUntouched (Opened disk taken) = ⊥
 
+  -- a file was opened, and this holds between what its disk was then and what it is
   abbrev pub OnOpened : (State → State → Type 0) → AirDisk S start → Type 0
   OnOpened P (Untouched value) = ⊥
-  OnOpened P (Opened disk) = SinceOpened P disk
+  OnOpened P (Opened disk taken) = SinceOpened P disk
+
+  -- the same with the path by which what takes packets was opened, and what each write took
+  abbrev pub OnPlayed : (List (List ℕ) → State → State → Type 0) → AirDisk S start → Type 0
+  OnPlayed P (Untouched value) = ⊥
+  OnPlayed P (Opened disk taken) = SinceOpened (P taken.notes.all) disk
 
   -- the disk was played into what this path names; or was not as it should be
   abbrev pub PlaysTo : Text → When → Option ℕ → AirDisk S start → Type 0
   PlaysTo path when turns used =
       (target : Target) × IsTarget path target
-      × OnOpened (Plays when (turns_of target turns) None None) used
+      × OnPlayed (λ taken. Plays when (turns_of target turns) (Some (path ∷ [])) (Some taken)) used
 
   abbrev pub StopsPlayingTo : Text → When → Option ℕ → Refusal → AirDisk S start → Type 0
   StopsPlayingTo path when turns r used =
-      (target : Target) × IsTarget path target × OnOpened (FailsPlaying target when turns r) used
+      (target : Target) × IsTarget path target
+      × OnPlayed (λ taken. FailsPlaying target when turns r (path ∷ []) taken) used
 
   -- In these the writer's known bytes were old and are new. Of what a pipe, a device or a file
   -- takes no contract tells.

@@ -5,7 +5,8 @@ use Rattle.std.specs.Io.KnownBytes.{Appends}
 use Rattle.std.specs.List.{flat_map}
 use Rattle.disk_model.specs.Disk.{State}
 use Rattle.mot_air.specs.Opening.{IsBreak, Leaves}
-use Rattle.mot_folder.specs.Log.{LogEntry, entry, log_entry_of, log_line, of_look}
+use Rattle.mot_folder.specs.Log.{AreEither, LogEntry, entry, log_entry_of, log_line, names_read}
+use Rattle.mot_folder.specs.Log.{of_look}
 use Rattle.mot_journal.specs.Image.{Standing}
 use Rattle.mot_numbers.specs.declared.refusal.Refusal.{Refusal}
 use Rattle.mot_numbers.specs.declared.refusal.Refusal.TheVariants.{OutOfMemory, ReadFault}
@@ -45,6 +46,15 @@ pub record IsEqual (s : Standing) (names : List (List ℕ)) (wanted : List Wante
   pub updated : IsUpdated s.carousel names wanted last.carousel
   pub stands : (image : List ℕ) → now.MayLeave image → IsOf last image
 
+-- Of these names each is that of an object that was read, or of a file that is told as one that
+-- could not be taken; before that only files were told that have no name of an object.
+pub record EachIsTold (names : List (List ℕ)) (wanted : List Wanted) (entries : List LogEntry) :
+    Type 0 where
+  pub before : List (List ℕ)
+  pub missed : List (List ℕ)
+  pub read : names_read entries ≡ before ++ missed
+  pub either : AreEither names (names_of wanted) missed
+
 -- What a look at the folder of this path made of a disk that stood for s; whether all of it is
 -- right, what broke it off, and what was told of it besides the files that could not be taken.
 pub data HasSynced (all : Bool) (fault : Option Refusal) (path : List ℕ) (entries : List LogEntry)
@@ -58,6 +68,7 @@ pub data HasSynced (all : Bool) (fault : Option Refusal) (path : List ℕ) (entr
       → (updated : HasUpdated s names wanted fault start now)
       → (all ≡ true → fault ≡ None → IsEqual s names wanted now)
       → of_look entries ≡ map log_entry_of updated.answers
+      → (fault ≡ None → EachIsTold names wanted entries)
       → HasSynced all fault path entries start now s
 
 -- a look came to its end, and a line for each thing that is told of it was written to the log

@@ -2,12 +2,14 @@
 //! folder; and those that write it as lines, and tell its sizes.
 #![tactic(auto)]
 
+mod lives;
 mod on_air;
 mod playing;
 mod program;
 mod subject;
 mod used;
 
+pub use lives::{keep_done, open_done};
 pub use mot_files::{LineFolder, Target};
 pub use mot_reading::Ended;
 pub use mot_words::{AirTask as Task, PlayTask};

@@ -1,18 +1,20 @@
 //! Playing the disk of a file into what a path names.
-ghost use Rattle.std.specs.Prelude.{◌≡◌, ◌≢◌, ◌⊎◌, None, Ok, true, false, IfErr, OnOk};
+ghost use Rattle.std.specs.Prelude.{◌≡◌, ◌≢◌, ◌⊎◌, [], ◌∷◌, Some, Ok, true, false, IfErr, OnOk};
+ghost use Rattle.disk_model.specs.Disk.{KeepsLength};
 ghost use Rattle.mot_air.specs.Playing.{Plays, StopsPlaying};
 ghost use Rattle.mot_air.specs.Program.{FailsPlaying, IsUntold, PlaysTo, StopsPlayingTo, turns_of};
 ghost use Rattle.mot_air.specs.Program.{when_changed};
-ghost use Rattle.mot_files.specs.Packets.{target_of};
+ghost use Rattle.mot_files.specs.Packets.{begun_of, target_of};
 ghost use Rattle.mot_numbers.specs.declared.refusal.Refusal.TheVariants.{DeviceFault, WriteFault};
 
 use crate::Ended;
 use crate::playing::{Followed, play_and_answer, play_disk};
 use crate::used::Finished;
 use disk_model::Disk;
-use disk_store::{FileDiskFrom, Start};
+use disk_store::{Start, open_file};
 use mot_files::{
-    Cause, LineFolder, NewFile, OpenPackets, PacketWriter, PacketsFault, Target, open_packets,
+    Cause, LineFolder, NewFile, OpenPackets, PacketWriter, PacketsFault, Taken, Target,
+    open_packets,
 };
 use mot_numbers::Refusal;
 use std::alloc::Global;
@@ -26,6 +28,8 @@ const FILE_TURNS: u64 = 16;
 #[derive(Drop)]
 struct Played<D: Disk> {
     ended: Ended<D, ()>,
+    /// What each write of packets took.
+    taken: Taken,
     cause: Option<Cause>,
 }
 
@@ -54,17 +58,21 @@ pub(crate) fn play_file<B: Start, W: Write, E: Write>(
         Ok(opened) => opened,
         Err(cause) => return Finished::unwritable(cause, start),
     };
-    let disk = match FileDiskFrom::open_from(rt, path, start) {
+    let disk = match open_file(rt, path, start) {
         Ok(disk) => disk,
         Err(unopened) => {
             opened.give_up(rt);
             return Finished::unopened(unopened);
         }
     };
-    let Played { ended, cause } = play_into(
+    let Played {
+        ended,
+        taken,
+        cause,
+    } = play_into(
         rt, alloc, disk, opened, folder, lines, turns, writer, errors,
     );
-    Finished::done(ended, cause)
+    Finished::done(ended, taken, cause)
 }
 
 /// Plays the disk into what was opened.
@@ -79,21 +87,23 @@ fn play_into<D: Disk, W: Write, E: Write>(
     writer: &mut W,
     errors: &mut E,
 ) -> Played<D>
+    ensures keeps { KeepsLength (D.state disk) (D.state result.ended.disk) }
     ensures done { OnOk result.ended.result (Plays (when_changed lines.entry folder.entry)
-        (turns_of (target_of opened.entry) turns) None None
+        (turns_of (target_of opened.entry) turns) (Some (begun_of opened.entry))
+        (Some result.taken.notes.all)
         (D.state disk) (D.state result.ended.disk)) }
     ensures refused { IfErr result.ended.result (λ r. FailsPlaying (target_of opened.entry)
         (when_changed lines.entry folder.entry) turns r
-        (D.state disk) (D.state result.ended.disk)) }
+        (begun_of opened.entry) result.taken.notes.all (D.state disk) (D.state result.ended.disk)) }
 {
     match opened {
-        OpenPackets::Standard => {
+        OpenPackets::Standard(outlet) => {
             let turns = turns_of(Target::Output, turns);
-            play_writer(rt, alloc, disk, writer, folder, lines, errors, turns)
+            play_writer(rt, alloc, disk, outlet, folder, lines, errors, turns)
         }
-        OpenPackets::Through(file) => {
+        OpenPackets::Through(outlet) => {
             let turns = turns_of(Target::Stream, turns);
-            play_writer(rt, alloc, disk, file, folder, lines, writer, turns)
+            play_writer(rt, alloc, disk, outlet, folder, lines, writer, turns)
         }
         OpenPackets::Beside(new) => {
             let turns = turns_of(Target::File, turns);
@@ -107,19 +117,22 @@ fn play_writer<D: Disk, P: Write + Drop, L: Write>(
     rt: &HostRuntime,
     alloc: Global,
     disk: D,
-    packets: P,
+    outlet: PacketWriter<P>,
     folder: Option<Followed<'_>>,
     lines: Option<LineFolder<'_>>,
     log: &mut L,
     turns: u64,
 ) -> Played<D>
+    ensures keeps { KeepsLength (D.state disk) (D.state result.ended.disk) }
     ensures done { OnOk result.ended.result (Plays (when_changed lines.entry folder.entry) turns
-        None None (D.state disk) (D.state result.ended.disk)) }
+        (Some outlet.taken.notes.all) (Some result.taken.notes.all) (D.state disk)
+        (D.state result.ended.disk)) }
     ensures refused { IfErr result.ended.result (λ r. StopsPlaying r
-        (when_changed lines.entry folder.entry) None None
+        (when_changed lines.entry folder.entry) (Some outlet.taken.notes.all)
+        (Some result.taken.notes.all)
         (D.state disk) (D.state result.ended.disk)) }
 {
-    let mut outlet = PacketWriter::new(packets);
+    let mut outlet = outlet;
     let ended = match lines {
         Some(lines) => play_and_answer(rt, alloc, disk, &mut outlet, folder, lines, log, turns),
         None => play_disk(rt, alloc, disk, &mut outlet, folder, log, turns),
@@ -128,7 +141,11 @@ fn play_writer<D: Disk, P: Write + Drop, L: Write>(
         Some(fault) => Some(Cause::Packets(fault)),
         None => None,
     };
-    Played { ended, cause }
+    Played {
+        ended,
+        taken: outlet.taken,
+        cause,
+    }
 }
 
 /// Plays the disk, so many turns, into a new file, which then takes its place. Where that fails it
@@ -143,17 +160,23 @@ fn play_new_file<D: Disk, L: Write>(
     log: &mut L,
     turns: u64,
 ) -> Played<D>
+    ensures keeps { KeepsLength (D.state disk) (D.state result.ended.disk) }
     ensures done { OnOk result.ended.result (Plays (when_changed lines.entry folder.entry) turns
-        None None (D.state disk) (D.state result.ended.disk)) }
+        (Some (new.entry.path.now ∷ [])) (Some result.taken.notes.all) (D.state disk)
+        (D.state result.ended.disk)) }
     ensures refused { IfErr result.ended.result (λ r. StopsPlaying r
-        (when_changed lines.entry folder.entry) None None
+        (when_changed lines.entry folder.entry) (Some (new.entry.path.now ∷ []))
+        (Some result.taken.notes.all)
         (D.state disk) (D.state result.ended.disk)
-        ⊎ ((r ≡ WriteFault) × Plays (when_changed lines.entry folder.entry) turns None None
+        ⊎ ((r ≡ WriteFault) × Plays (when_changed lines.entry folder.entry) turns
+        (Some (new.entry.path.now ∷ [])) (Some result.taken.notes.all)
         (D.state disk) (D.state result.ended.disk))) }
 {
-    let Played { ended, cause } = play_writer(
-        rt, alloc, disk, &new.file, folder, lines, log, turns,
-    );
+    let Played {
+        ended,
+        taken,
+        cause,
+    } = play_writer(rt, alloc, disk, new.writer(), folder, lines, log, turns);
     let Ended { disk, result } = ended;
     if let Err(refusal) = result {
         new.take_away(rt);
@@ -162,6 +185,7 @@ fn play_new_file<D: Disk, L: Write>(
                 disk,
                 result: Err(refusal),
             },
+            taken,
             cause: of_new_file(cause),
         };
     }
@@ -171,6 +195,7 @@ fn play_new_file<D: Disk, L: Write>(
                 disk,
                 result: Ok(()),
             },
+            taken,
             cause: None,
         },
         Err(error) => {
@@ -180,6 +205,7 @@ fn play_new_file<D: Disk, L: Write>(
                     disk,
                     result: Err(Refusal::WriteFault),
                 },
+                taken,
                 cause: Some(Cause::NewFile(PacketsFault::System(error))),
             }
         }

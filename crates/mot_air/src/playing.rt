@@ -1,13 +1,17 @@
 //! Playing a disk, and making its carousel equal to a folder.
-ghost use Rattle.std.specs.Prelude.{◌≡◌, IfErr, IfOk, OnOk};
+ghost use Rattle.std.specs.Prelude.{◌≡◌, ◌⊎◌, ℕ, IfErr, IfOk, List, OnOk};
 ghost use Rattle.std.specs.Io.KnownBytes.{Appends};
 ghost use Rattle.disk_model.specs.Disk.{KeepsLength};
+ghost use Rattle.mot_air.specs.Lives.{KeepsDone, PlaysOn, StopsOn};
 ghost use Rattle.mot_air.specs.Playing.{Plays, PlaysBy, StopsBy, StopsPlaying, when_followed};
 ghost use Rattle.mot_air.specs.Syncing.{StopsSyncing, Syncs};
 ghost use Rattle.mot_air.specs.Inner.Looked.{LooksAndTells};
 ghost use Rattle.mot_feed.specs.Feeding.{IsFeedFault};
 ghost use Rattle.mot_journal.specs.Image.{Standing};
+ghost use Rattle.mot_numbers.specs.declared.geometry.Geometry.{Geometry};
 ghost use Rattle.mot_numbers.specs.declared.refusal.Refusal.TheVariants.{WriteFault};
+ghost use Rattle.mot_objects.specs.declared.command.Command.{Command};
+ghost use Rattle.mot_reading.specs.Opening.{IsUnopened};
 ghost use Rattle.mot_repository.specs.Repository.{Holds};
 ghost use Rattle.mot_update.specs.Between.{Always};
 ghost use Rattle.mot_update.specs.Faults.{StaysCalm};
@@ -138,6 +142,17 @@ pub fn play_with<D: Disk, U: Update, O: Outlet>(
     ensures called_before { IfErr result.result (λ r. StopsBy r U.when
         (O.writes outlet.old) (O.writes outlet.new) (U.moments update.old) (U.moments update.new)
         (D.state disk) (D.state result.disk)) }
+
+    // Where commands were done in the lives before, it goes on from them.
+    ensures lives { (g : Geometry) (first : ℕ) (done : List Command)
+        → KeepsDone g first done (D.state disk)
+        → (D.state result.disk).IsHonest → OnOk result.result (PlaysOn g first done U.when turns
+        (O.writes outlet.old) (O.writes outlet.new) (D.state disk) (D.state result.disk)) }
+    ensures lives_stopped { (g : Geometry) (first : ℕ) (done : List Command)
+        → KeepsDone g first done (D.state disk)
+        → (D.state result.disk).IsHonest → IfErr result.result (λ r.
+        IsUnopened r (D.state disk) (D.state result.disk) ⊎ StopsOn g first done r U.when
+        (O.writes outlet.old) (O.writes outlet.new) (D.state disk) (D.state result.disk)) }
 {
     let mut server = match Server::open(alloc, disk) {
         Ok(server) => server,

@@ -28,8 +28,8 @@ use crate::subject::{Subject, subject_of, tell, tell_folder};
 use crate::used::{AirExit, Finished};
 use clap::error::ErrorKind;
 use clap::{ArgMatches, Error};
-use disk_store::{FileDiskFrom, Start};
-use mot_files::{Cause, file_types, line_folder};
+use disk_store::{Start, open_file};
+use mot_files::{Cause, Taken, file_types, line_folder};
 use mot_folder::FileTypes;
 use mot_numbers::Refusal;
 use mot_reading::{export_disk, inspect_disk};
@@ -319,8 +319,11 @@ fn sync_file<B: Start, W: Write>(
         × IsUntold result.disk (W.contents log.old) (W.contents log.new))
         ⊎ OnOpened (StopsSyncing r folder.now) result.disk) }
 {
-    match FileDiskFrom::open_from(rt, path, start) {
-        Ok(disk) => Finished::of_file(sync_disk(rt, alloc, disk, folder, types, log)),
+    match open_file(rt, path, start) {
+        Ok(disk) => {
+            let ended = sync_disk(rt, alloc, disk, folder, types, log);
+            Finished::of_file(ended, Taken::nothing())
+        }
         Err(unopened) => Finished::unopened(unopened),
     }
 }
@@ -338,10 +341,11 @@ fn export_file<B: Start, W: Write>(
     ensures told { result.result ≢ Ok false }
     ensures refused { IfErr result.result (λ r. ((r ≡ DeviceFault)
         × IsUntold result.disk (W.contents writer.old) (W.contents writer.new))
-        ⊎ OnOpened (StopsExporting r (W.contents writer.old) (W.contents writer.new)) result.disk) }
+        ⊎ OnOpened (StopsExporting r (W.contents writer.old) (W.contents writer.new))
+        result.disk) }
 {
-    match FileDiskFrom::open_from(rt, path, start) {
-        Ok(disk) => Finished::done(export_disk(alloc, disk, writer), None),
+    match open_file(rt, path, start) {
+        Ok(disk) => Finished::done(export_disk(alloc, disk, writer), Taken::nothing(), None),
         Err(unopened) => Finished::unopened(unopened),
     }
 }
@@ -359,10 +363,11 @@ fn inspect_file<B: Start, W: Write>(
     ensures told { result.result ≢ Ok false }
     ensures refused { IfErr result.result (λ r. ((r ≡ DeviceFault)
         × IsUntold result.disk (W.contents writer.old) (W.contents writer.new))
-        ⊎ OnOpened (StopsInspecting r (W.contents writer.old) (W.contents writer.new)) result.disk) }
+        ⊎ OnOpened (StopsInspecting r (W.contents writer.old) (W.contents writer.new))
+        result.disk) }
 {
-    match FileDiskFrom::open_from(rt, path, start) {
-        Ok(disk) => Finished::done(inspect_disk(alloc, disk, writer), None),
+    match open_file(rt, path, start) {
+        Ok(disk) => Finished::done(inspect_disk(alloc, disk, writer), Taken::nothing(), None),
         Err(unopened) => Finished::unopened(unopened),
     }
 }

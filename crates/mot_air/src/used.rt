@@ -5,8 +5,8 @@ ghost use Rattle.mot_files.specs.declared.fault.Cause.TheVariants.{Disk};
 ghost use Rattle.mot_numbers.specs.declared.refusal.Refusal.TheVariants.{DeviceFault, WriteFault};
 
 use crate::Ended;
-use disk_store::{FileDiskFrom, Start, Unopened};
-use mot_files::{Cause, Unbegun};
+use disk_store::{BegunFile, FileDiskFrom, Start, Unopened, WasThere};
+use mot_files::{Cause, Taken, Unbegun};
 use mot_numbers::Refusal;
 
 /// The disk that a command worked on. The value of `S` is used up where a file is opened, so that
@@ -15,8 +15,8 @@ use mot_numbers::Refusal;
 pub enum AirDisk<S: Start> {
     /// No disk was opened.
     Untouched(S),
-    /// The disk of the file that was opened.
-    Opened(FileDiskFrom<S>),
+    /// The disk of the file that was opened, and what each write of packets took.
+    Opened(FileDiskFrom<S>, Taken),
 }
 
 /// How a run ended.
@@ -99,9 +99,13 @@ impl<S: Start> Finished<S> {
         }
     }
 
-    /// Done, or refused, on the disk of a file that was opened.
-    pub(crate) fn done(ended: Ended<FileDiskFrom<S>, ()>, cause: Option<Cause>) -> Self
-        ensures disk { result.disk ≡ Opened ended.disk }
+    /// Done, or refused, on the disk of a file that was opened, with these packets written.
+    pub(crate) fn done(
+        ended: Ended<BegunFile<S, WasThere>, ()>,
+        taken: Taken,
+        cause: Option<Cause>,
+    ) -> Self
+        ensures disk { result.disk ≡ Opened ended.disk.disk taken }
         ensures done { OnOk ended.result (result.result ≡ Ok true) }
         ensures refused { IfErr ended.result (λ r. result.result ≡ Err r) }
     {
@@ -111,22 +115,22 @@ impl<S: Start> Finished<S> {
         };
         Finished {
             result,
-            disk: AirDisk::Opened(ended.disk),
+            disk: AirDisk::Opened(ended.disk.disk, taken),
             cause,
         }
     }
 
-    /// On the disk of a file that was opened.
-    pub(crate) fn of_file(ended: Ended<FileDiskFrom<S>, bool>) -> Self
+    /// On the disk of a file that was opened, with these packets written.
+    pub(crate) fn of_file(ended: Ended<BegunFile<S, WasThere>, bool>, taken: Taken) -> Self
         ensures { result ≡ record {
           result = ended.result;
-          disk = Opened ended.disk;
+          disk = Opened ended.disk.disk taken;
           cause = None;
         } }
     {
         Finished {
             result: ended.result,
-            disk: AirDisk::Opened(ended.disk),
+            disk: AirDisk::Opened(ended.disk.disk, taken),
             cause: None,
         }
     }

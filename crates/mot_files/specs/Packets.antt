@@ -1,5 +1,5 @@
 -- What packets go to.
-use Rattle.std.specs.Prelude.{ℕ, ◌≡◌, ◌↔◌, List, codes}
+use Rattle.std.specs.Prelude.{ℕ, ◌≡◌, ◌↔◌, List, [], ◌∷◌, codes}
 use Rattle.mot_files.specs.declared.packets.OpenPackets.{OpenPackets}
 use Rattle.mot_files.specs.declared.packets.OpenPackets.TheVariants.{Beside, Standard, Through}
 use Rattle.mot_files.specs.declared.packets.Target.{Target}
@@ -11,6 +11,12 @@ IsTarget path target = (path ≡ codes "-") ↔ (target ≡ Output)
 
 -- what was opened to take packets
 abbrev pub target_of : OpenPackets → Target
-target_of Standard = Output
-target_of (Through file) = Stream
+target_of (Standard writer) = Output
+target_of (Through writer) = Stream
 target_of (Beside new) = File
+
+-- what is noted of it before packets are written: the path that it was opened by
+abbrev pub begun_of : OpenPackets → List (List ℕ)
+begun_of (Standard writer) = writer.taken.notes.all
+begun_of (Through writer) = writer.taken.notes.all
+begun_of (Beside new) = new.path.now ∷ []

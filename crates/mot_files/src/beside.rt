@@ -1,6 +1,9 @@
 //! A file that is written beside the one whose place it takes once it is whole. Of what these calls
 //! do to files no contract tells.
+ghost use Rattle.std.specs.Prelude.{◌≡◌, ◌∷◌, [], IfOk};
+
 use crate::fault::PacketsFault;
+use crate::packets::PacketWriter;
 use std::fs::{self, File, OpenOptions, TryLockError};
 use std::io;
 use std::os::unix::fs::MetadataExt;
@@ -13,8 +16,7 @@ pub const SUFFIX: &str = ".new";
 /// A new file of `PATH.new`, which no other program of ours writes.
 #[derive(Drop)]
 pub struct NewFile<'a> {
-    /// The new file, open.
-    pub file: File,
+    file: File,
     path: &'a str,
     beside: String,
 }
@@ -22,7 +24,9 @@ pub struct NewFile<'a> {
 impl<'a> NewFile<'a> {
     /// Makes the file, or empties the one that a run left which was killed. A link is not followed,
     /// and the disk is left as it is.
-    pub fn begin(rt: &HostRuntime, path: &'a str, disk: &str) -> Result<NewFile<'a>, PacketsFault> {
+    pub fn begin(rt: &HostRuntime, path: &'a str, disk: &str) -> Result<NewFile<'a>, PacketsFault>
+        ensures { IfOk result (λ new. new.path.now ≡ path.now) }
+    {
         let beside = format!(in rt.alloc(); "{path}{SUFFIX}")?;
         let file = OpenOptions::new()
             .read(true)
@@ -32,6 +36,13 @@ impl<'a> NewFile<'a> {
         hold(rt, &file, beside.as_str(), disk)?;
         file.set_len(0)?;
         Ok(NewFile { file, path, beside })
+    }
+
+    /// What writes packets to it.
+    pub fn writer(&self) -> PacketWriter<&File>
+        ensures { result.taken.notes.all ≡ self.now.path.now ∷ [] }
+    {
+        PacketWriter::of(&self.file, self.path)
     }
 
     /// Makes the file last, and then its name: at each moment the name is that of the old file, or

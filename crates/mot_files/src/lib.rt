@@ -8,6 +8,7 @@ mod lines;
 mod log;
 mod packets;
 mod spool;
+mod taken;
 mod types;
 
 pub use beside::{NewFile, SUFFIX};
@@ -16,4 +17,5 @@ pub use lines::{LineFolder, line_folder};
 pub use log::SharedLog;
 pub use packets::{OUTPUT, OpenPackets, PacketWriter, Target, open_packets};
 pub use spool::Spool;
+pub use taken::Taken;
 pub use types::file_types;

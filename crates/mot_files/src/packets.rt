@@ -1,18 +1,20 @@
 //! What the packets of `play` go to.
-ghost use Rattle.std.specs.Prelude.{◌≡◌, ◌≤◌, ◌∷◌, ℕ, List, [], None, IfOk, MatchResult, length};
+ghost use Rattle.std.specs.Prelude.{◌≡◌, ◌≤◌, ◌∷◌, ℕ, List, [], None, Some, IfOk, MatchResult};
+ghost use Rattle.std.specs.Prelude.{length};
 ghost use Rattle.std.specs.Prelude.{take};
 ghost use Rattle.std.specs.Io.{WritesAtMost};
 ghost use Rattle.std.specs.Io.KnownBytes.{Appends};
-ghost use Rattle.mot_files.specs.Packets.{IsTarget, target_of};
+ghost use Rattle.mot_files.specs.Packets.{IsTarget, begun_of, target_of};
 ghost use Rattle.mot_packets.specs.Outlet.{Grows};
 
 use crate::beside::{NewFile, is_file_at};
 use crate::fault::{Cause, PacketsFault};
+use crate::taken::Taken;
 use mot_packets::Outlet;
 use std::fs::{File, OpenOptions};
 use std::io::{self, ErrorKind, Write};
 use std::os::unix::fs::MetadataExt;
-use std::rt::Files;
+use std::rt::{Files, Stdout};
 
 /// The word that names standard output.
 pub const OUTPUT: &str = "-";
@@ -32,9 +34,9 @@ pub enum Target {
 #[derive(Drop)]
 pub enum OpenPackets<'a> {
     /// Standard output, which is open.
-    Standard,
+    Standard(PacketWriter<Stdout>),
     /// A named pipe or a device.
-    Through(File),
+    Through(PacketWriter<File>),
     /// A new file beside the one whose place it takes.
     Beside(NewFile<'a>),
 }
@@ -56,10 +58,11 @@ pub fn open_packets<'a>(
     path: &'a str,
     disk: &str,
 ) -> Result<OpenPackets<'a>, Cause>
-    ensures { IfOk result (λ opened. IsTarget path.now (target_of opened)) }
+    ensures target { IfOk result (λ opened. IsTarget path.now (target_of opened)) }
+    ensures begun { IfOk result (λ opened. begun_of opened ≡ path.now ∷ []) }
 {
     if path == OUTPUT {
-        return Ok(OpenPackets::Standard);
+        return Ok(OpenPackets::Standard(PacketWriter::of(rt.stdout(), path)));
     }
     if is_stream(rt, path, disk)? {
         return Ok(OpenPackets::Through(open_stream(rt, path)?));
@@ -71,9 +74,11 @@ pub fn open_packets<'a>(
 }
 
 /// Opens a pipe or a device for reading and writing.
-fn open_stream(rt: &HostRuntime, path: &str) -> Result<File, PacketsFault> {
+fn open_stream(rt: &HostRuntime, path: &str) -> Result<PacketWriter<File>, PacketsFault>
+    ensures { IfOk result (λ writer. writer.taken.notes.all ≡ path.now ∷ []) }
+{
     let file = OpenOptions::new().read(true).write(true).open(rt, path)?;
-    Ok(file)
+    Ok(PacketWriter::of(file, path))
 }
 
 /// Whether something is there that is no regular file. The disk itself is refused.
@@ -94,41 +99,50 @@ fn is_stream(rt: &HostRuntime, path: &str, disk: &str) -> Result<bool, PacketsFa
     }
 }
 
-/// A writer of packets, each in one write that is handed on at once. It keeps why one was not
-/// written.
+/// A writer of packets, each in one write that is handed on at once. Only `open_packets` makes one
+/// (and `NewFile::writer`), of what it opened by the path that is noted first. It keeps why one was
+/// not written. What each write took is noted, and nothing else writes to the writer: no contract
+/// can say so of a pipe or a file, and a reader of this impl has to see it.
 #[derive(Drop)]
 pub struct PacketWriter<W: Write + Drop> {
-    /// What takes the packets.
-    pub writer: W,
+    writer: W,
     /// Why the last packet was not taken.
     pub fault: Option<PacketsFault>,
+    /// By which path it was opened, and what each write took.
+    pub taken: Taken,
 }
 
 impl<W: Write + Drop> PacketWriter<W> {
-    /// Nothing was written.
-    pub fn new(writer: W) -> PacketWriter<W>
+    /// What was opened by this path, to which nothing was written.
+    pub(crate) fn of(writer: W, path: &str) -> PacketWriter<W>
         ensures writer { result.writer ≡ writer }
         ensures fault { result.fault ≡ None }
+        ensures taken { result.taken.notes.all ≡ path.now ∷ [] }
     {
         PacketWriter {
             writer,
             fault: None,
+            taken: Taken::of(path),
         }
     }
 }
 
 impl<W: Write + Drop> Outlet for PacketWriter<W> {
+    ghost writes = { λ outlet. Some outlet.taken.notes.all };
+
     fn write_once(&mut self, bytes: &[u8]) -> io::Result<usize>
         ensures bound { IfOk result (λ count. count ≤ length bytes.now) }
         ensures one { MatchResult result
-            (λ count. Grows None None (take count bytes.now ∷ []))
-            (λ _. Grows {A = List ℕ} None None ([] ∷ [])) }
+            (λ count. Grows (Some self.old.taken.notes.all) (Some self.new.taken.notes.all)
+            (take count bytes.now ∷ []))
+            (λ _. Grows (Some self.old.taken.notes.all) (Some self.new.taken.notes.all) ([] ∷ [])) }
 
         // The writer took what is told, and nothing else.
         ensures written { IfOk result (λ count. Appends (W.contents self.old.writer)
             (W.contents self.new.writer) (take count bytes.now)) }
     {
-        let written = write_on(&mut self.writer, bytes);
+        let answer = write_on(&mut self.writer, bytes);
+        let written = self.taken.wrote(bytes, answer);
         match written {
             Ok(count) => {
                 if count < bytes.len() {

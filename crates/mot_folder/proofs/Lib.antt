@@ -1,3 +1,4 @@
+pub mod Either
 pub mod Log
 pub mod Rows
 pub mod Shown

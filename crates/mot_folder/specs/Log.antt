@@ -6,7 +6,9 @@ use Rattle.mot_folder.specs.declared.report.Report.{Report}
 use Rattle.mot_lines.specs.Text.{done_line, refusal_line}
 use Rattle.mot_server.specs.declared.running.Attempt.{Attempt}
 use Rattle.mot_server.specs.declared.running.Attempt.TheVariants.{Accepted, Refused}
+use Rattle.mot_update.specs.Laws.{names_of}
 use Rattle.mot_update.specs.Told.{Answer, Put, Replaced, Withdrew}
+use Rattle.mot_update.specs.declared.wanted.Wanted.{Wanted}
 
 -- one thing that is told: what was done to which name, and what came of it
 pub record LogEntry : Type 0 where
@@ -52,6 +54,32 @@ ReportTells report entries =
 abbrev pub TellsOne : Report → Report → LogEntry → Type 0
 TellsOne old new e = (entries : List LogEntry) → ReportTells old entries
     → ReportTells new (entries ++ e ∷ [])
+
+-- the names of the files that were not taken, as they are told
+abbrev pub names_read : List LogEntry → List (List ℕ)
+names_read entries = map (λ (e : LogEntry). e.name) (filter (λ e. not (is_of_look e)) entries)
+
+-- these names, in order: each further one is that of the next object that was given, or of the next
+-- that was missed
+pub data AreEither : List (List ℕ) → List (List ℕ) → List (List ℕ) → Type 0 where
+  none : AreEither [] [] []
+  one_given : (names given missed : List (List ℕ)) (name : List ℕ)
+      → AreEither names given missed → AreEither (names ++ name ∷ []) (given ++ name ∷ []) missed
+  one_missed : (names given missed : List (List ℕ)) (name : List ℕ)
+      → AreEither names given missed → AreEither (names ++ name ∷ []) given (missed ++ name ∷ [])
+
+-- It tells these answers, and beside them only files that were not taken. Of these names each is
+-- that of an object that was given, or of one of these files.
+pub record TellsOf (report : Report) (names : List (List ℕ)) (answers : List Answer)
+    (given : List Wanted) : Type 0 where
+  pub entries : List LogEntry
+  pub told : ReportTells report entries
+  pub are : of_look entries ≡ map log_entry_of answers
+  -- what was told before the first of the names was gone over
+  pub before : List (List ℕ)
+  pub missed : List (List ℕ)
+  pub read : names_read entries ≡ before ++ missed
+  pub either : AreEither names (names_of given) missed
 
 -- it tells these answers, and beside them only files that were not taken
 pub record TellsAnswers (report : Report) (answers : List Answer) : Type 0 where

@@ -2,7 +2,7 @@
 use Rattle.std.specs.Prelude.{ℕ, ◌≡◌, ◌&&◌, nat_le, Bool, true, not, List, [], ◌∷◌, Option, None}
 use Rattle.std.specs.Prelude.{codes}
 use Rattle.disk_model.specs.Disk.{State}
-use Rattle.mot_folder.specs.Log.{LogEntry, ReportTells, TellsAnswers, entry, of_look}
+use Rattle.mot_folder.specs.Log.{LogEntry, ReportTells, TellsOf, entry, of_look}
 use Rattle.mot_folder.specs.declared.report.Report.{Report}
 use Rattle.mot_journal.specs.Image.{Standing}
 use Rattle.mot_numbers.specs.declared.refusal.Refusal.{Refusal}
@@ -23,9 +23,12 @@ pub data HasLookedAtFolder {D : Type 0} (old new : ServerView D) (start now : St
       → (entries : List LogEntry) → ReportTells report entries
       → of_look entries ≡ entry (codes "look") path (Refused ReadFault) ∷ []
       → HasLookedAtFolder old new start now s path report fault
+  -- each name that was gone over is that of an object that was given, or of a file that is told:
+  -- all of them where no fault came
   listed : (names : List (List ℕ)) → AreShown names
       → (looked : HasLooked old new start now s names 0 None None (not report.any_refused) fault)
-      → TellsAnswers report looked.runs.answers
+      → (seen : List (List ℕ)) → (fault ≡ None → seen ≡ names)
+      → TellsOf report seen looked.runs.answers looked.wanted
       → HasLookedAtFolder old new start now s path report fault
 
 -- whether a look is due: between turns, where this packet was the last that was to come before it

@@ -1,10 +1,12 @@
 //! A folder of files, as a source of wanted objects.
-ghost use Rattle.std.specs.Prelude.{◌≡◌, ◌<◌, ◌≤◌, ◌-◌, [], Some, true, false, not, IfOk, length};
+ghost use Rattle.std.specs.Prelude.{◌≡◌, ◌<◌, ◌≤◌, ◌-◌, ℕ, List, [], Some, true, false, not, IfOk};
+ghost use Rattle.std.specs.Prelude.{codes, length, take};
 ghost use Rattle.std.specs.Prelude.{slice_get, vec_len};
 ghost use Rattle.mot_folder.specs.Inner.Names.{name_or_none};
-ghost use Rattle.mot_folder.specs.Log.{TellsAnswers};
+ghost use Rattle.mot_folder.specs.Log.{TellsOf, TellsOne, entry};
+ghost use Rattle.mot_server.specs.declared.running.Attempt.TheVariants.{Refused};
 ghost use Rattle.mot_update.specs.Looking.{was_settled};
-ghost use Rattle.mot_update.specs.Told.{TellsMore, answers_of};
+ghost use Rattle.mot_update.specs.Told.{TellsBoth, answers_of};
 
 use crate::listing::{FileNames, joined};
 use crate::report::Report;
@@ -84,7 +86,8 @@ impl<'a, T: Files<File = File>> Source for Folder<'a, T> {
 
     ghost is_fine = { λ folder. not folder.report.any_refused };
 
-    ghost was_told = { λ folder. TellsAnswers folder.report };
+    ghost was_told = { λ folder.
+        TellsOf folder.report (take folder.place folder.names.names.items) };
 
     ghost last = { λ folder. name_or_none (slice_get folder.names.names.items (folder.place - 1)) };
 
@@ -116,7 +119,8 @@ impl<'a, T: Files<File = File>> Source for Folder<'a, T> {
 /// Tells that the file of the name at this place could not be taken.
 fn tell_refused(report: &mut Report, names: &FileNames, place: usize, refusal: Refusal)
     ensures any { report.new.any_refused ≡ true }
-    ensures told { TellsMore (TellsAnswers report.old) (TellsAnswers report.new) [] }
+    ensures told { TellsOne report.old report.new (entry (codes "read")
+        (name_or_none (slice_get names.now.names.items place)) (Refused refusal)) }
 {
     report.refused("read", name_at(names, place), refusal);
 }
@@ -135,8 +139,9 @@ fn name_at(names: &FileNames, place: usize) -> &[u8]
 fn tell_settled(report: &mut Report, names: &FileNames, place: usize, settled: Settled)
     ensures fine { report.new.any_refused ≡ false
         → (report.old.any_refused ≡ false) × (was_settled settled ≡ true) }
-    ensures told { TellsMore (TellsAnswers report.old) (TellsAnswers report.new)
-        (answers_of (name_or_none (slice_get names.now.names.items (place - 1))) settled) }
+    ensures told { (names_before : List (List ℕ))
+        → TellsBoth (TellsOf report.old names_before) (TellsOf report.new names_before)
+        (answers_of (name_or_none (slice_get names.now.names.items (place - 1))) settled) [] }
 {
     let name = name_at(names, place.saturating_sub(1));
     match settled {

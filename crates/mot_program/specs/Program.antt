@@ -1,5 +1,5 @@
 -- What the program does.
-use Rattle.std.specs.Prelude.{ℕ, ◌≡◌, ◌⊎◌, List, Option}
+use Rattle.std.specs.Prelude.{ℕ, ◌≡◌, ◌⊎◌, List, [], ◌∷◌, ◌++◌, Option}
 use Rattle.std.specs.Io.KnownBytes.{Keeps}
 use Rattle.clap.specs.Words.{Text}
 use Rattle.disk_model.specs.Disk.{State}
@@ -15,7 +15,7 @@ use Rattle.mot_numbers.specs.declared.refusal.Refusal.TheVariants.{BadGeometry, 
 use Rattle.mot_numbers.specs.declared.refusal.Refusal.TheVariants.{OutOfMemory, WriteFault}
 use Rattle.mot_program.specs.declared.ended.UsedDisk.{UsedDisk}
 use Rattle.mot_program.specs.declared.ended.UsedDisk.TheVariants.{InMemory, OfFile, Untouched}
-use Rattle.mot_program.specs.Files.{SinceMade, SinceOpened}
+use Rattle.disk_store.specs.Beginning.{SinceMade, SinceOpened}
 use Rattle.mot_program.specs.Report.{Checks, Formats, Migrates, StopsChecking, StopsFormatting}
 use Rattle.mot_program.specs.Report.{StopsMigrating}
 use Rattle.mot_program.specs.Serving.{ServesInput, StopsServing}
@@ -70,6 +70,23 @@ module _ {S : Type 0} {start : Ghosts S} where
   OnOpenedOrMade g P = OnFile (λ disk.
       IsValid g × (SinceOpened P disk ⊎ SinceMade (length_of g) P disk))
 
+  -- In these the paths of the files that were opened or made as disks were before and are after.
+
+  -- where the disk of a file is handed out it is that of this path, and no other file was opened or
+  -- made; where none is, none was
+  abbrev pub Opens : Text → UsedDisk S start → (before after : List Text) → Type 0
+  Opens path (Untouched value) before after = after ≡ before
+  Opens path (InMemory disk value) before after = after ≡ before
+  Opens path (OfFile disk) before after = after ≡ before ++ path ∷ []
+
+  -- the same of the path that the task names
+  abbrev pub OpensFor : Task → UsedDisk S start → (before after : List Text) → Type 0
+  OpensFor (Memory g) used before after = after ≡ before
+  OpensFor (Format path g directory) used before after = Opens path.now used before after
+  OpensFor (Serve path) used before after = Opens path.now used before after
+  OpensFor (Check path) used before after = Opens path.now used before after
+  OpensFor (Migrate path) used before after = Opens path.now used before after
+
   -- In these what the reader had left was unread and is left, and the writer's known bytes were old
   -- and are new.
 
@@ -100,6 +117,20 @@ module _ {S : Type 0} {start : Ghosts S} where
     pub untouched : IsUntouched used
     pub silent : Keeps old new
 
+-- In these the paths of the files that were taken away were before and are after.
+
+-- a file was taken away, or none
+abbrev pub MayTakeAway : Text → (before after : List Text) → Type 0
+MayTakeAway path before after = (after ≡ before) ⊎ (after ≡ before ++ path ∷ [])
+
+-- only a file is taken away that was made and not formatted
+abbrev pub TakesAwayFor : Task → (before after : List Text) → Type 0
+TakesAwayFor (Memory g) before after = after ≡ before
+TakesAwayFor (Format path g directory) before after = MayTakeAway path.now before after
+TakesAwayFor (Serve path) before after = after ≡ before
+TakesAwayFor (Check path) before after = after ≡ before
+TakesAwayFor (Migrate path) before after = after ≡ before
+
 -- why no disk is made of a file: it can't be opened or made, or the geometry is out of its ranges
 abbrev pub IsMakingRefusal : Geometry → Refusal → Type 0
 IsMakingRefusal g r = (r ≡ DeviceFault) ⊎ ((r ≡ BadGeometry) × (IsValid g → ⊥))
@@ -123,6 +154,16 @@ module _ {S : Type 0} {start : Ghosts S} (words : List Text) where
   Succeeds used unread left old new =
       ((task : Task) × AskFor program_app IsTask words task × Does task used unread left old new)
       ⊎ (AskForHelp program_app words × IsUntouched used × Keeps unread left)
+
+  -- Which files were used: none, or the one that the task of the words names. The paths of those
+  -- that were opened or made as disks were before and are after, and of those that were taken away
+  -- they were gone and are left.
+  pub data UsesFiles (used : UsedDisk S start) (before after gone left : List Text) :
+      Type 0 where
+    none : IsUntouched used → after ≡ before → left ≡ gone → UsesFiles used before after gone left
+    asked : (task : Task) → AskFor program_app IsTask words task
+        → OpensFor task used before after → TakesAwayFor task gone left
+        → UsesFiles used before after gone left
 
   -- why it was refused
   pub data IsRefused (refusal : Refusal) (used : UsedDisk S start)

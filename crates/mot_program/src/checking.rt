@@ -8,14 +8,13 @@ ghost use Rattle.mot_journal.specs.Image.{Standing, stands_for, IsClean};
 ghost use Rattle.mot_journal.specs.Journal.{StandsWhere};
 ghost use Rattle.mot_lines.specs.Listing.{listing_text_beside};
 ghost use Rattle.mot_numbers.specs.declared.refusal.Refusal.TheVariants.{DeviceFault, WriteFault};
-ghost use Rattle.mot_program.specs.Program.{IsUntold, OnOpened};
+ghost use Rattle.mot_program.specs.Program.{IsUntold, OnOpened, Opens};
 ghost use Rattle.mot_program.specs.Report.{Checks, StopsChecking, clean_line, layout_line};
 
 use crate::ended::{Ended, Finished};
-use crate::file::open_file;
 use crate::printing::{write_bytes, write_last};
 use disk_model::Disk;
-use disk_store::Start;
+use disk_store::{DiskFiles, Start};
 use mot_journal::Layout;
 use mot_numbers::Refusal;
 use mot_repository::Repository;
@@ -24,8 +23,8 @@ use std::alloc::Global;
 use std::io::Write;
 
 /// Prints what the disk of the file at the path keeps, whether it is clean, and its layout.
-pub(crate) fn check_file<S: Start, W: Write>(
-    rt: &HostRuntime,
+pub(crate) fn check_file<F: DiskFiles, S: Start, W: Write>(
+    files: &mut F,
     alloc: Global,
     path: &str,
     start: S,
@@ -36,8 +35,10 @@ pub(crate) fn check_file<S: Start, W: Write>(
     ensures refused { IfErr result.result (λ r. ((r ≡ DeviceFault)
         × IsUntold result.disk (W.contents writer.old) (W.contents writer.new))
         ⊎ OnOpened (StopsChecking r (W.contents writer.old) (W.contents writer.new)) result.disk) }
+    ensures opens { Opens path.now result.disk (F.opened files.old) (F.opened files.new) }
+    ensures stays { F.taken_away files.new ≡ F.taken_away files.old }
 {
-    match open_file(rt, path, start) {
+    match files.open_disk(path, start) {
         Ok(disk) => Finished::of_file(check_disk(alloc, disk, writer)),
         Err(unopened) => Finished::unopened(unopened),
     }

@@ -2,9 +2,8 @@
 ghost use Rattle.std.specs.Prelude.{◌≡◌, Err, IfErr, None, OnOk, Some};
 ghost use Rattle.mot_program.specs.declared.ended.UsedDisk.TheVariants.{OfFile, Untouched};
 
-use crate::begun::{Beginning, BegunFile};
 use disk_model::Disk;
-use disk_store::{FileDiskFrom, OpenFault, RamDisk, Start, Unopened};
+use disk_store::{Beginning, BegunFile, FileDiskFrom, OpenFault, RamDisk, Start, Unopened};
 use mot_numbers::Refusal;
 use mot_server::Refused;
 

@@ -4,21 +4,21 @@ ghost use Rattle.std.specs.Io.KnownBytes.{Appends};
 ghost use Rattle.disk_model.specs.Disk.{KeepsLength};
 ghost use Rattle.mot_numbers.specs.Geometry.{IsValid};
 ghost use Rattle.mot_numbers.specs.declared.refusal.Refusal.TheVariants.{WriteFault};
-ghost use Rattle.mot_program.specs.Program.{IsMakingRefusal, IsUntold, OnOpenedOrMade};
+ghost use Rattle.mot_program.specs.Program.{IsMakingRefusal, IsUntold, MayTakeAway};
+ghost use Rattle.mot_program.specs.Program.{OnOpenedOrMade, Opens};
 ghost use Rattle.mot_program.specs.Report.{Formats, StopsFormatting, formatted_line};
 
 use crate::ended::{Ended, Finished};
-use crate::file::{make_file, open_file};
 use disk_model::Disk;
-use disk_store::{Start, Unopened, take_away};
+use disk_store::{DiskFiles, Start, Unopened};
 use mot_journal::format_from;
 use mot_numbers::{Geometry, Refusal, TransportId};
 use std::io::Write;
 
 /// Makes a disk of the file at the path, which is made where it can't be opened, and taken away
 /// again where the disk could not be made of it. No file is touched for a geometry out of range.
-pub(crate) fn format_file<S: Start, W: Write>(
-    rt: &HostRuntime,
+pub(crate) fn format_file<F: DiskFiles, S: Start, W: Write>(
+    files: &mut F,
     path: &str,
     start: S,
     geometry: Geometry,
@@ -32,22 +32,24 @@ pub(crate) fn format_file<S: Start, W: Write>(
         × IsUntold result.disk (W.contents writer.old) (W.contents writer.new))
         ⊎ OnOpenedOrMade geometry (StopsFormatting geometry directory r
         (W.contents writer.old) (W.contents writer.new)) result.disk) }
+    ensures opens { Opens path.now result.disk (F.opened files.old) (F.opened files.new) }
+    ensures takes { MayTakeAway path.now (F.taken_away files.old) (F.taken_away files.new) }
 {
     if !geometry.is_valid() {
         return Finished::untouched(Refusal::BadGeometry, start);
     }
-    match open_file(rt, path, start) {
+    match files.open_disk(path, start) {
         Ok(mut disk) => {
             let result = format_disk(&mut disk, &geometry, directory, writer);
             Finished::of_file(Ended { disk, result })
         }
-        Err(unopened) => format_new_file(rt, path, unopened, geometry, directory, writer),
+        Err(unopened) => format_new_file(files, path, unopened, geometry, directory, writer),
     }
 }
 
 /// Makes a new file, and a disk of it. Where it can't be formatted, it is taken away again.
-fn format_new_file<S: Start, W: Write>(
-    rt: &HostRuntime,
+fn format_new_file<F: DiskFiles, S: Start, W: Write>(
+    files: &mut F,
     path: &str,
     unopened: Unopened<S>,
     geometry: Geometry,
@@ -62,14 +64,16 @@ fn format_new_file<S: Start, W: Write>(
         × IsUntold result.disk (W.contents writer.old) (W.contents writer.new))
         ⊎ OnOpenedOrMade geometry (StopsFormatting geometry directory r
         (W.contents writer.old) (W.contents writer.new)) result.disk) }
+    ensures opens { Opens path.now result.disk (F.opened files.old) (F.opened files.new) }
+    ensures takes { MayTakeAway path.now (F.taken_away files.old) (F.taken_away files.new) }
 {
-    let mut disk = match make_file(rt, path, geometry.length(), unopened.start) {
+    let mut disk = match files.make_disk(path, geometry.length(), unopened.start) {
         Ok(disk) => disk,
         Err(unmade) => return Finished::unopened(unmade.behind(unopened.fault)),
     };
     let result = format_disk(&mut disk, &geometry, directory, writer);
     if is_unformatted(&result) {
-        let _ = take_away(rt, path);
+        files.take_away(path);
     }
     Finished::of_file(Ended { disk, result })
 }
@@ -90,7 +94,8 @@ pub(crate) fn format_disk<D: Disk, W: Write>(
     ensures keeps { KeepsLength (D.state disk.old) (D.state disk.new) }
     ensures done { OnOk result (Formats geometry.now directory (W.contents writer.old)
         (W.contents writer.new) (D.state disk.old) (D.state disk.new)) }
-    ensures refused { IfErr result (λ r. StopsFormatting geometry.now directory r (W.contents writer.old)
+    ensures refused { IfErr result (λ r. StopsFormatting geometry.now directory r
+        (W.contents writer.old)
         (W.contents writer.new) (D.state disk.old) (D.state disk.new)) }
 {
     match format_from(disk, geometry, directory) {

@@ -1,10 +1,8 @@
 //! The program over any streams and files, but for the commands on air.
 #![tactic(auto)]
 
-mod begun;
 mod checking;
 mod ended;
-mod file;
 mod formatting;
 mod migrating;
 mod printing;
@@ -14,4 +12,4 @@ mod subject;
 
 pub use ended::{Exit, UsedDisk};
 pub use mot_words::{Options, Task};
-pub use program::{run_on, run_program};
+pub use program::run_on;

@@ -2,22 +2,21 @@
 ghost use Rattle.std.specs.Prelude.{◌≡◌, OnOk, IfErr, ◌⊎◌};
 ghost use Rattle.disk_model.specs.Disk.{KeepsLength};
 ghost use Rattle.mot_numbers.specs.declared.refusal.Refusal.TheVariants.{DeviceFault};
-ghost use Rattle.mot_program.specs.Program.{IsUntold, OnOpened};
+ghost use Rattle.mot_program.specs.Program.{IsUntold, OnOpened, Opens};
 ghost use Rattle.mot_program.specs.Report.{Migrates, StopsMigrating, migrated_line};
 
 use crate::ended::{Ended, Finished};
-use crate::file::open_file;
 use crate::printing::write_last;
 use disk_model::Disk;
-use disk_store::Start;
+use disk_store::{DiskFiles, Start};
 use mot_repository::Repository;
 use std::alloc::Global;
 use std::io::Write;
 
 /// Rewrites the disk of the file at the path into layout 2, and prints whether there was anything
 /// to do.
-pub(crate) fn migrate_file<S: Start, W: Write>(
-    rt: &HostRuntime,
+pub(crate) fn migrate_file<F: DiskFiles, S: Start, W: Write>(
+    files: &mut F,
     alloc: Global,
     path: &str,
     start: S,
@@ -28,8 +27,10 @@ pub(crate) fn migrate_file<S: Start, W: Write>(
     ensures refused { IfErr result.result (λ r. ((r ≡ DeviceFault)
         × IsUntold result.disk (W.contents writer.old) (W.contents writer.new))
         ⊎ OnOpened (StopsMigrating r (W.contents writer.old) (W.contents writer.new)) result.disk) }
+    ensures opens { Opens path.now result.disk (F.opened files.old) (F.opened files.new) }
+    ensures stays { F.taken_away files.new ≡ F.taken_away files.old }
 {
-    match open_file(rt, path, start) {
+    match files.open_disk(path, start) {
         Ok(disk) => Finished::of_file(migrate_disk(alloc, disk, writer)),
         Err(unopened) => Finished::unopened(unopened),
     }

@@ -4,7 +4,8 @@ ghost use Rattle.std.specs.Io.KnownBytes.{Keeps};
 ghost use Rattle.clap.specs.Words.{Text, found_of, rows_of};
 ghost use Rattle.mot_numbers.specs.declared.refusal.Refusal.{Refusal};
 ghost use Rattle.mot_program.specs.Program.{Does, DoesInPart, IsBeginningRefusal, IsUntold};
-ghost use Rattle.mot_program.specs.Program.{IsRefused, IsUntouched, Succeeds};
+ghost use Rattle.mot_program.specs.Program.{IsRefused, IsUntouched, OpensFor, Succeeds};
+ghost use Rattle.mot_program.specs.Program.{TakesAwayFor, UsesFiles};
 ghost use Rattle.mot_program.specs.declared.ended.UsedDisk.{UsedDisk};
 ghost use Rattle.mot_words.specs.Asked.{AreWrong, AskBy};
 ghost use Rattle.mot_words.specs.Program.Command.{program_app};
@@ -19,46 +20,19 @@ use crate::printing::{explain, refuse};
 use crate::serving::{serve_file, serve_memory};
 use crate::subject::{Subject, subject_of};
 use clap::ArgMatches;
-use disk_store::Start;
+use disk_store::{DiskFiles, Start};
 use mot_numbers::Refusal;
 use mot_words::{program_matches, program_task};
 use std::alloc::Global;
 use std::convert::AsStr;
 use std::io::{Read, Write};
 
-/// Does what the words after the program's own name ask for, and answers the exit status, as
-/// `run_on` does.
-pub fn run_program<S: AsStr, B: Start, R: Read, W: Write, E: Write>(
-    rt: &HostRuntime,
-    alloc: Global,
-    words: &[S],
-    start: B,
-    reader: &mut R,
-    writer: &mut W,
-    errors: &mut E,
-) -> u8
-    ensures status { (result ≡ 0) ⊎ (result ≡ 1) ⊎ (result ≡ 2) }
-    ensures done { result ≡ 0 → (disk : UsedDisk B B.Start)
-        × Succeeds (map S.text words.now) disk
-        (R.remaining reader.old) (R.remaining reader.new)
-        (W.contents writer.old) (W.contents writer.new) }
-    ensures refused { result ≡ 1 → (disk : UsedDisk B B.Start) × (refusal : Refusal)
-        × IsRefused (map S.text words.now) refusal disk
-        (R.remaining reader.old) (R.remaining reader.new)
-        (W.contents writer.old) (W.contents writer.new) }
-    ensures usage { result ≡ 2 → AreWrong program_app (map S.text words.now)
-        × Keeps (R.remaining reader.old) (R.remaining reader.new)
-        × Keeps (W.contents writer.old) (W.contents writer.new) }
-{
-    run_on(rt, alloc, words, start, reader, writer, errors).status
-}
-
 /// Does what the words after the program's own name ask for, and hands out the disk that it worked
 /// on. What went wrong is printed to `errors`.
 ///
 /// `start` is for clauses alone: what the file that is opened held then. A program gives `Unknown`.
-pub fn run_on<S: AsStr, B: Start, R: Read, W: Write, E: Write>(
-    rt: &HostRuntime,
+pub fn run_on<F: DiskFiles, S: AsStr, B: Start, R: Read, W: Write, E: Write>(
+    files: &mut F,
     alloc: Global,
     words: &[S],
     start: B,
@@ -82,6 +56,11 @@ pub fn run_on<S: AsStr, B: Start, R: Read, W: Write, E: Write>(
         × IsUntouched result.disk
         × Keeps (R.remaining reader.old) (R.remaining reader.new)
         × Keeps (W.contents writer.old) (W.contents writer.new) }
+
+    // No file was opened, made or taken away but the one that the words name.
+    ensures files { UsesFiles (map S.text words.now) result.disk
+        (F.opened files.old) (F.opened files.new)
+        (F.taken_away files.old) (F.taken_away files.new) }
 {
     let matches = match program_matches(alloc, words) {
         Ok(matches) => matches,
@@ -90,12 +69,12 @@ pub fn run_on<S: AsStr, B: Start, R: Read, W: Write, E: Write>(
     let Some((name, rest)) = matches.subcommand() else {
         return Exit::unrefused(2, UsedDisk::Untouched(start));
     };
-    run_command(rt, alloc, name, rest, start, reader, writer, errors)
+    run_command(files, alloc, name, rest, start, reader, writer, errors)
 }
 
 /// Does what a command of this name asks for, with these words behind it.
-fn run_command<B: Start, R: Read, W: Write, E: Write>(
-    rt: &HostRuntime,
+fn run_command<F: DiskFiles, B: Start, R: Read, W: Write, E: Write>(
+    files: &mut F,
     alloc: Global,
     name: &str,
     words: &ArgMatches<'_>,
@@ -116,6 +95,10 @@ fn run_command<B: Start, R: Read, W: Write, E: Write>(
         × IsRefused all refusal result.disk
         (R.remaining reader.old) (R.remaining reader.new)
         (W.contents writer.old) (W.contents writer.new) }
+    ensures files { (all : List Text)
+        → AskBy program_app IsTask name.now (rows_of (found_of words.now)) all
+        → UsesFiles all result.disk (F.opened files.old) (F.opened files.new)
+        (F.taken_away files.old) (F.taken_away files.new) }
 {
     let Some(task) = program_task(name, words) else {
         let subject = subject_of(Refusal::BadGeometry, words, None);
@@ -130,7 +113,7 @@ fn run_command<B: Start, R: Read, W: Write, E: Write>(
         result,
         disk,
         fault,
-    } = execute(rt, alloc, task, start, reader, writer);
+    } = execute(files, alloc, task, start, reader, writer);
     match result {
         Ok(()) => Exit::unrefused(0, disk),
         Err(refusal) => refuse(errors, refusal, subject_of(refusal, words, fault), disk),
@@ -138,8 +121,8 @@ fn run_command<B: Start, R: Read, W: Write, E: Write>(
 }
 
 /// Does a task.
-fn execute<B: Start, R: Read, W: Write>(
-    rt: &HostRuntime,
+fn execute<F: DiskFiles, B: Start, R: Read, W: Write>(
+    files: &mut F,
     alloc: Global,
     task: Task<'_>,
     start: B,
@@ -155,6 +138,8 @@ fn execute<B: Start, R: Read, W: Write>(
         ⊎ DoesInPart task.entry r result.disk
         (R.remaining reader.old) (R.remaining reader.new)
         (W.contents writer.old) (W.contents writer.new)) }
+    ensures opens { OpensFor task.entry result.disk (F.opened files.old) (F.opened files.new) }
+    ensures takes { TakesAwayFor task.entry (F.taken_away files.old) (F.taken_away files.new) }
 {
     match task {
         Task::Memory(geometry) => serve_memory(alloc, geometry, start, reader, writer),
@@ -162,9 +147,9 @@ fn execute<B: Start, R: Read, W: Write>(
             path,
             geometry,
             directory,
-        } => format_file(rt, path, start, geometry, directory, writer),
-        Task::Serve(path) => serve_file(rt, alloc, path, start, reader, writer),
-        Task::Check(path) => check_file(rt, alloc, path, start, writer),
-        Task::Migrate(path) => migrate_file(rt, alloc, path, start, writer),
+        } => format_file(files, path, start, geometry, directory, writer),
+        Task::Serve(path) => serve_file(files, alloc, path, start, reader, writer),
+        Task::Check(path) => check_file(files, alloc, path, start, writer),
+        Task::Migrate(path) => migrate_file(files, alloc, path, start, writer),
     }
 }

@@ -4,13 +4,12 @@ ghost use Rattle.std.specs.Io.KnownBytes.{Keeps};
 ghost use Rattle.disk_model.specs.Disk.{KeepsLength};
 ghost use Rattle.mot_numbers.specs.declared.refusal.Refusal.TheVariants.{DeviceFault};
 ghost use Rattle.mot_program.specs.Program.{IsMemoryRefusal, IsUntold, OnMemory, OnOpened};
-ghost use Rattle.mot_program.specs.Program.{SinceNew};
+ghost use Rattle.mot_program.specs.Program.{Opens, SinceNew};
 ghost use Rattle.mot_program.specs.Serving.{ServesInput, StopsServing};
 
 use crate::ended::{Ended, Finished, UsedDisk};
-use crate::file::open_file;
 use disk_model::Disk;
-use disk_store::{RamDisk, Start};
+use disk_store::{DiskFiles, RamDisk, Start};
 use mot_journal::format;
 use mot_numbers::{Geometry, Refusal};
 use mot_server::Server;
@@ -57,8 +56,8 @@ pub(crate) fn serve_memory<S: Start, R: Read, W: Write>(
 
 /// Serves the reader's lines from the disk of the file at the path; answers what ended it before
 /// the input's end.
-pub(crate) fn serve_file<S: Start, R: Read, W: Write>(
-    rt: &HostRuntime,
+pub(crate) fn serve_file<F: DiskFiles, S: Start, R: Read, W: Write>(
+    files: &mut F,
     alloc: Global,
     path: &str,
     start: S,
@@ -74,8 +73,10 @@ pub(crate) fn serve_file<S: Start, R: Read, W: Write>(
         ⊎ OnOpened (StopsServing r
         (R.remaining reader.old) (R.remaining reader.new)
         (W.contents writer.old) (W.contents writer.new)) result.disk) }
+    ensures opens { Opens path.now result.disk (F.opened files.old) (F.opened files.new) }
+    ensures stays { F.taken_away files.new ≡ F.taken_away files.old }
 {
-    match open_file(rt, path, start) {
+    match files.open_disk(path, start) {
         Ok(disk) => Finished::of_file(serve_disk(alloc, disk, reader, writer)),
         Err(unopened) => Finished::unopened(unopened),
     }

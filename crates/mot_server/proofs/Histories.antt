@@ -5,7 +5,7 @@ use Rattle.std.specs.Prelude.{◌&&◌, nat_le, if◌then◌else◌}
 use Rattle.disk_model.specs.Disk.{State}
 use Rattle.mot_journal.specs.Geometry.{columns, geometry_in, geometry_of, has_magic}
 use Rattle.mot_journal.specs.Image.{Standing}
-use Rattle.mot_journal.specs.Journal.{new_standing, with_records}
+use Rattle.mot_journal.specs.Journal.{standing_from, with_records}
 use Rattle.mot_journal.proofs.Laws.{geometry_read}
 use Rattle.mot_numbers.specs.declared.geometry.Geometry.{Geometry}
 use Rattle.mot_numbers.specs.Reading.{◌>>=◌}
@@ -20,20 +20,20 @@ use Rattle.mot_server.proofs.Runs.{after_both, after_none}
 
 -- however often it crashed, a disk stands for what the commands that are done make
 pub histories_are : HistoriesAreCommands
-histories_are g done s new = after_none (new_standing g)
-histories_are g done s (one_more before sure others mid last history is) =
-    subst (λ l. IsAfter (new_standing g) l last)
+histories_are g first done s new = after_none (standing_from g first)
+histories_are g first done s (one_more before sure others mid last history is) =
+    subst (λ l. IsAfter (standing_from g first) l last)
     (sym (append_assoc before sure (take is.count others)))
-    (after_both (new_standing g) before (sure ++ take is.count others) mid last
-    (histories_are g before mid history) is.after)
+    (after_both (standing_from g first) before (sure ++ take is.count others) mid last
+    (histories_are g first before mid history) is.after)
 
 -- one run more
-pub goes_on : (g : Geometry) (before sure others : List Command) (s last : Standing)
-    → IsHistory g before s
+pub goes_on : (g : Geometry) (first : ℕ) (before sure others : List Command) (s last : Standing)
+    → IsHistory g first before s
     → (is : IsAfterSome s sure others last)
-    → IsHistory g (before ++ (sure ++ take is.count others)) last
-goes_on g before sure others s last history is =
-    subst (λ l. IsHistory g l last) (append_assoc before sure (take is.count others))
+    → IsHistory g first (before ++ (sure ++ take is.count others)) last
+goes_on g first before sure others s last history is =
+    subst (λ l. IsHistory g first l last) (append_assoc before sure (take is.count others))
     (one_more before sure others s last history is)
 
 no-if : (b c : Bool) (g h : Geometry) → (if false && b && c then Some g else None) ≡ Some h → ⊥
@@ -49,7 +49,8 @@ no-geometry-cases image h (Some g) none e =
     ≡ Some h) none e)
 
 -- bytes with no magic have no geometry
-no-geometry : (image : List ℕ) (h : Geometry) → has_magic image ≡ false → geometry_of image ≡ Some h
+pub no-geometry : (image : List ℕ) (h : Geometry) → has_magic image ≡ false
+    → geometry_of image ≡ Some h
     → ⊥
 unfolding geometry_of
 no-geometry image h none e =

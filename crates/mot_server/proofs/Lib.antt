@@ -4,11 +4,15 @@ pub mod Going
 pub mod Histories
 pub mod Joins
 pub mod Laws
+mod LifeRows
 pub mod Lives
+pub mod Marked
+pub mod Numbered
 pub mod Openings
 pub mod Places
 pub mod Read
 pub mod ReadRefusals
+pub mod Room
 pub mod RunAnswered
 pub mod Runs
 pub mod Survival

@@ -15,6 +15,8 @@ use Rattle.mot_journal.proofs.Laws.{geometry_read}
 use Rattle.mot_numbers.specs.declared.geometry.Geometry.{Geometry}
 use Rattle.mot_numbers.specs.declared.refusal.Refusal.{Refusal}
 use Rattle.mot_numbers.specs.Geometry.{packet_room, length_of}
+use Rattle.mot_numbers.specs.PacketLength.{IsLength}
+use Rattle.mot_numbers.proofs.Laws.{valid_is}
 use Rattle.mot_numbers.specs.Reading.{◌>>=◌}
 use Rattle.mot_numbers.specs.Geometry.{is_valid}
 use Rattle.mot_player.specs.Continuity.{IsContinuous}
@@ -56,7 +58,8 @@ pub syncs_read : (a b c : State) → OnlySyncs a b → OnlyReads b c → OnlySyn
 syncs_read a b c first second = record {
   keeps = keeps_on a b c first.keeps second.keeps;
   still = λ honest.
-      still_unchanged a b c (first.still (second.keeps.was_honest honest)) (second.unchanged honest);
+      still_unchanged a b c (first.still (second.keeps.was_honest honest))
+      (second.unchanged honest);
 }
 
 same-standing : (r : Result Standing Refusal) (a b : Standing) → r ≡ Ok a → r ≡ Ok b → a ≡ b
@@ -130,6 +133,15 @@ opened_room old new view s agrees opened =
     let read = geometry_read old.bytes (with_records view.journal opened.records) opened.read in
     subst (λ g. 0 < packet_room g) agrees.geometry
     (has-room view.journal.geometry (valid-geometry old.bytes view.journal.geometry read))
+
+-- and its length is one of the four
+pub opened_length : (old new : State) (view : RepositoryView) (s : Standing) → Agrees view s
+    → IsOpened old new view → IsLength s.geometry.packet_length
+opened_length old new view s agrees opened =
+    let read = geometry_read old.bytes (with_records view.journal opened.records) opened.read in
+    let valid = valid_is view.journal.geometry
+    (valid-geometry old.bytes view.journal.geometry read) in
+    subst (λ (g : Geometry). IsLength g.packet_length) agrees.geometry valid.8
 
 -- what was opened stays so where it is read at most
 pub opened_still : (old mid new : State) (view view' : RepositoryView) → IsOpened old mid view

@@ -1,14 +1,20 @@
 -- What becomes of a disk from its formatting on, in the words of commands and of a receiver alone.
-use Rattle.std.specs.Prelude.{◌≡◌, ◌≤◌, ◌<◌, ℕ, List, ◌++◌, length, take, true, false, Some}
+use Rattle.std.specs.Prelude.{⊤, ◌≡◌, ◌⊎◌, ◌≤◌, ◌<◌, ◌+◌, ◌%◌, ℕ, Bool, true, false, List, [], ◌∷◌}
+use Rattle.std.specs.Prelude.{◌++◌, length, take, Some, None}
+use Rattle.std.specs.List.{flat_map}
 use Rattle.disk_model.specs.Disk.{State}
 use Rattle.mot_journal.specs.Geometry.{has_magic}
 use Rattle.mot_numbers.specs.Geometry.{IsValid, length_of}
 use Rattle.mot_numbers.specs.declared.geometry.Geometry.{Geometry}
 use Rattle.mot_numbers.specs.declared.refusal.Refusal.{Refusal}
 use Rattle.mot_numbers.specs.declared.refusal.Refusal.TheVariants.{BadGeometry, DiskTooSmall}
-use Rattle.mot_numbers.specs.declared.refusal.Refusal.TheVariants.{AlreadyFormatted}
+use Rattle.mot_numbers.specs.declared.refusal.Refusal.TheVariants.{AlreadyFormatted, NotFormatted}
 use Rattle.mot_objects.specs.declared.command.Command.{Command}
-use Rattle.mot_objects.specs.Carousel.{Carousel, carousel_after, new_carousel}
+use Rattle.mot_objects.specs.declared.command.Command.TheVariants.{Put, Replace, Withdraw, Period}
+use Rattle.mot_objects.specs.declared.name.TheConstants.{MAX_NAME}
+use Rattle.mot_objects.specs.Carousel.{Carousel, Object, carousel_after, carousel_if_accepted}
+use Rattle.mot_objects.specs.Carousel.{change}
+use Rattle.mot_packets.specs.Packet.{PacketFields, read_packet}
 use Rattle.mot_player.specs.Reading.{ReadsAs}
 use Rattle.mot_repository.specs.Opening.{IsPassing}
 
@@ -16,15 +22,60 @@ use Rattle.mot_repository.specs.Opening.{IsPassing}
 abbrev pub IsBlank : State → Type 0
 IsBlank state = (image : List ℕ) → state.MayLeave image → has_magic image ≡ false
 
+-- the carousel of a new disk, whose directory has this transport id
+abbrev pub carousel_from : ℕ → Carousel
+carousel_from id = record { period = 0; directory = id; cursor = id; objects = [] }
+
+-- the packets have the geometry's address, at most its length, and continuity indexes that count
+-- modulo 4 from this one on (EN 300 401, clause 5.3.2)
+abbrev pub AreNumbered : Geometry → ℕ → List (List ℕ) → Type 0
+AreNumbered g index [] = ⊤
+AreNumbered g index (packet ∷ packets) = (p : PacketFields) × (read_packet packet ≡ Some p)
+    × (p.address ≡ g.address) × (p.index ≡ index) × (p.room + 5 ≤ g.packet_length)
+    × AreNumbered g ((index + 1) % 4) packets
+
 -- The packets of a turn read as exactly the carousel that all of the sure commands and a beginning
--- of the others make of the new one, each accepted where it stands.
-pub record PlaysAfter (g : Geometry) (sure others : List Command)
+-- of the others make of the new one, each accepted where it stands; and they are numbered.
+pub record PlaysAfter (g : Geometry) (first : ℕ) (sure others : List Command)
     (packets : List (List ℕ)) : Type 0 where
   pub count : ℕ
   pub few : count ≤ length others
   pub carousel : Carousel
-  pub after : carousel_after new_carousel g.objects (sure ++ take count others) ≡ Some carousel
+  pub after : carousel_after (carousel_from first) g.objects (sure ++ take count others)
+      ≡ Some carousel
   pub reads : ReadsAs packets carousel g.segment_size
+  pub numbered : AreNumbered g 0 packets
+
+-- A name is too long, or there may be no gap for a body: with as many bytes as it has in front of
+-- each object's, and itself, the data area is more than full.
+abbrev pub MayLackRoom : ℕ → List Object → List ℕ → List ℕ → Type 0
+MayLackRoom area objects name body = (MAX_NAME < length name)
+    ⊎ (area < length (flat_map (λ (o : Object). body ++ o.body) objects ++ body))
+
+-- there may be no room for what a command brings
+abbrev pub LacksRoom : ℕ → List Object → Command → Type 0
+LacksRoom area objects (Put name content mime body) = MayLackRoom area objects name body
+LacksRoom area objects (Replace name content mime body) = MayLackRoom area objects name body
+LacksRoom area objects (Withdraw name) = MAX_NAME < length name
+LacksRoom area objects (Period period) = ⊥
+
+-- Each mark is right where it stands: true where the carousel accepts the command, and goes on from
+-- what it makes; false where the rules refuse it, or where there may be no room for what it brings.
+abbrev pub AreMarksOf : Geometry → Carousel → List Command → List Bool → Type 0
+AreMarksOf g c commands [] = ⊤
+AreMarksOf g c [] (mark ∷ marks) = ⊥
+AreMarksOf g c (command ∷ commands) (true ∷ marks) =
+    (next : Carousel) × (carousel_if_accepted (change c g.objects command) ≡ Some next)
+    × AreMarksOf g next commands marks
+AreMarksOf g c (command ∷ commands) (false ∷ marks) =
+    ((carousel_if_accepted (change c g.objects command) ≡ None)
+    ⊎ LacksRoom g.data_area c.objects command) × AreMarksOf g c commands marks
+
+-- Of a disk that a crash left of one just formatted: want of memory, a failure of the disk, or that
+-- it is not formatted, which it says of itself.
+abbrev pub IsUnopened : State → State → Refusal → Type 0
+IsUnopened old new refusal = IsPassing old new refusal
+    ⊎ ((refusal ≡ NotFormatted) × (has_magic old.bytes ≡ false))
 
 -- why no new disk of this geometry was made and opened, where the disk is honest
 pub data IsFormatRefusal (g : Geometry) (old new : State) (refusal : Refusal) : Type 0 where

@@ -5,22 +5,22 @@ ghost use Rattle.disk_model.specs.Disk.{KeepsLength, IsUnchanged, IsStill, Throu
 ghost use Rattle.disk_model.specs.Failures.{Rises};
 ghost use Rattle.mot_journal.specs.Geometry.{has_magic};
 ghost use Rattle.mot_journal.specs.Image.{stands_for, IsClean};
-ghost use Rattle.mot_journal.specs.Journal.{NoneOrNew, new_standing};
+ghost use Rattle.mot_journal.specs.Journal.{NoneOrFrom, standing_from};
 ghost use Rattle.mot_numbers.specs.Geometry.{IsValid, length_of};
 ghost use Rattle.mot_numbers.specs.declared.refusal.Refusal.TheVariants.{DeviceFault, BadGeometry};
 ghost use Rattle.mot_numbers.specs.declared.refusal.Refusal.TheVariants.{DiskTooSmall};
 ghost use Rattle.mot_numbers.specs.declared.refusal.Refusal.TheVariants.{AlreadyFormatted};
-ghost use Rattle.mot_objects.specs.Carousel.{new_carousel};
 ghost use Rattle.mot_player.specs.Reading.{ReadsAs};
 ghost use Rattle.mot_repository.specs.Opening.{IsPassing};
 ghost use Rattle.mot_repository.specs.Repository.{Holds};
 ghost use Rattle.mot_server.specs.History.{HistoriesAreCommands};
+ghost use Rattle.mot_server.specs.Life.{carousel_from};
 ghost use Rattle.mot_server.specs.Playing.{bytes_of_packets};
 
 use crate::{Refused, Restarted, restart};
 use disk_model::Disk;
-use mot_journal::{Geometry, format};
-use mot_numbers::Refusal;
+use mot_journal::{Geometry, format_from};
+use mot_numbers::{Refusal, TransportId};
 use std::alloc::Global;
 
 /// What formatting came to, and what was opened of the disk that a crash left of it.
@@ -33,15 +33,17 @@ pub struct Beginning<E: Disk> {
 }
 
 /// Formatting a disk that has no magic, and a crash at any moment of it or behind it: what was left
-/// is no disk of this format, or opens as the new carousel, and is played as it. A history of runs,
+/// is no disk of this format, or opens as the new carousel, whose directory has this transport id,
+/// and is played as it. A history of runs,
 /// crashes and restarts, each on what the last one left, begins here.
 pub fn format_and_restart<D: Disk, E: Disk>(
     disk: &mut D,
     alloc: Global,
     geometry: &Geometry,
+    directory: TransportId,
     left: E,
 ) -> Beginning<E>
-    // the disk was formatted: what `format` says of its answer
+    // the disk was formatted: what `format_from` says of its answer
     ensures keeps { KeepsLength (D.state disk.old) (D.state disk.new) }
     ensures bad { IsErrOf result.formatted BadGeometry ↔ (IsValid geometry.now → ⊥) }
     ensures small { IsErrOf result.formatted DiskTooSmall
@@ -61,18 +63,19 @@ pub fn format_and_restart<D: Disk, E: Disk>(
         → OnOk result.formatted (has_magic (D.state disk.old).bytes ≡ false) }
     ensures any_moment { (D.state disk.new).IsHonest
         → ((image : List ℕ) → (D.state disk.old).MayLeave image → has_magic image ≡ false)
-        → Throughout (D.state disk.old) (D.state disk.new) (NoneOrNew geometry.now) }
+        → Throughout (D.state disk.old) (D.state disk.new) (NoneOrFrom geometry.now directory) }
     ensures ok { (D.state disk.new).IsHonest → OnOk result.formatted ((image : List ℕ)
         → (D.state disk.new).MayLeave image
-        → (stands_for image ≡ Ok (new_standing geometry.now)) × IsClean image) }
+        → (stands_for image ≡ Ok (standing_from geometry.now directory)) × IsClean image) }
 
     // where it opens, it is the new carousel
     ensures begins { (D.state disk.new).IsHonest
         → ((image : List ℕ) → (D.state disk.old).MayLeave image → has_magic image ≡ false)
         → (D.state disk.new).LeftSince (D.state disk.old).moment (E.state left).bytes
         → IfOk result.restarted (λ r. (E.state r.server.disk).IsHonest
-        → Holds r.server.view (new_standing geometry.now) (E.state r.server.disk)
-        × ReadsAs (bytes_of_packets r.packets.items) new_carousel geometry.now.segment_size) }
+        → Holds r.server.view (standing_from geometry.now directory) (E.state r.server.disk)
+        × ReadsAs (bytes_of_packets r.packets.items) (carousel_from directory)
+        geometry.now.segment_size) }
 
     // behind a formatting that is Ok it opens, but for want of memory or a failure of the disk
     ensures opens { (D.state disk.new).IsHonest
@@ -84,7 +87,7 @@ pub fn format_and_restart<D: Disk, E: Disk>(
     // make of the new carousel.
     ensures histories { HistoriesAreCommands }
 {
-    let formatted = format(disk, geometry);
+    let formatted = format_from(disk, geometry, directory);
     let restarted = restart(alloc, left);
     Beginning {
         formatted,

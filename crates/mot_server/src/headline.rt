@@ -77,22 +77,22 @@ pub fn run_and_restart<D: Disk, E: Disk>(
         (D.state server.new.disk) commands.now result.end }
 
     // so any number of runs, crashes and restarts may follow each other, from formatting on
-    ensures in_a_row { (g : Geometry) (before : List Command) (now : Standing)
-        → IsHistory g before now → Holds server.old.view now (D.state server.old.disk)
+    ensures in_a_row { (g : Geometry) (first : ℕ) (before : List Command) (now : Standing)
+        → IsHistory g first before now → Holds server.old.view now (D.state server.old.disk)
         → (D.state server.new.disk).LeftSince (D.state server.old.disk).moment (E.state left).bytes
         → IfOk result.restarted (λ r. (E.state r.server.disk).IsHonest
-        → (count : ℕ) × (last : Standing) × IsHistory g (before
+        → (count : ℕ) × (last : Standing) × IsHistory g first (before
         ++ take count (accepted_commands commands.now result.end.done.items
         ++ commands_in_flight commands.now result.end.done.items result.end.fault)) last
         × Holds r.server.view last (E.state r.server.disk)) }
 
     // and a crash once the call has returned keeps each command that it accepted
-    ensures in_a_row_after { (g : Geometry) (before : List Command) (now : Standing)
-        → IsHistory g before now → Holds server.old.view now (D.state server.old.disk)
+    ensures in_a_row_after { (g : Geometry) (first : ℕ) (before : List Command) (now : Standing)
+        → IsHistory g first before now → Holds server.old.view now (D.state server.old.disk)
         → (D.state server.new.disk).MayLeave (E.state left).bytes
         → IfOk result.restarted (λ r. (E.state r.server.disk).IsHonest
         → (count : ℕ) × (last : Standing)
-        × IsHistory g (before ++ accepted_commands commands.now result.end.done.items
+        × IsHistory g first (before ++ accepted_commands commands.now result.end.done.items
         ++ take count (commands_in_flight commands.now result.end.done.items result.end.fault))
         last × Holds r.server.view last (E.state r.server.disk)) }
 

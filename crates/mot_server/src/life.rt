@@ -1,22 +1,26 @@
 //! The life of a disk: formatted, opened, given commands; and what a crash at any moment of that
 //! left, opened and played. Nothing here is told in the words of the disk's format or of memory.
-ghost use Rattle.std.specs.Prelude.{◌≡◌, ◌++◌, [], false, IfOk, IfErr};
+ghost use Rattle.std.specs.Prelude.{◌≡◌, ◌++◌, [], false, length, vec_len, IfOk, IfErr, IfSome};
+ghost use Rattle.std.specs.Prelude.{IfNone};
 ghost use Rattle.disk_model.specs.Disk.{KeepsLength, Throughout};
 ghost use Rattle.mot_journal.specs.Geometry.{has_magic};
 ghost use Rattle.mot_journal.specs.Image.{Standing};
-ghost use Rattle.mot_journal.specs.Journal.{NoneOrNew, new_standing};
-ghost use Rattle.mot_objects.specs.Carousel.{new_carousel};
+ghost use Rattle.mot_journal.specs.declared.layout.Layout.TheVariants.{Two};
+ghost use Rattle.mot_journal.specs.Journal.{NoneOrFrom, standing_from};
 ghost use Rattle.mot_player.specs.Reading.{ReadsAs};
 ghost use Rattle.mot_repository.specs.Opening.{IsOpeningRefusal, IsPassing};
 ghost use Rattle.mot_repository.specs.Repository.{IsOf, Holds};
-ghost use Rattle.mot_server.specs.Life.{IsBlank, IsFormatRefusal, PlaysAfter};
+ghost use Rattle.mot_server.specs.Life.{AreMarksOf, AreNumbered, IsBlank, IsFormatRefusal};
+ghost use Rattle.mot_server.specs.Life.{IsUnopened};
+ghost use Rattle.mot_server.specs.Life.{PlaysAfter, carousel_from};
 ghost use Rattle.mot_server.specs.Lives.{HasDone};
 ghost use Rattle.mot_server.specs.Playing.{bytes_of_packets};
 ghost use Rattle.mot_server.specs.Runs.{accepted_commands, commands_in_flight};
 
 use crate::{Refused, Restarted, RunEnd, Server, restart};
 use disk_model::Disk;
-use mot_journal::{Geometry, format};
+use mot_journal::{Geometry, format_from};
+use mot_numbers::TransportId;
 use mot_objects::Command;
 use mot_packets::Packet;
 use std::alloc::Global;
@@ -55,6 +59,7 @@ pub fn format_run_and_restart<D: Disk, E: Disk + Drop>(
     disk: D,
     alloc: Global,
     geometry: &Geometry,
+    directory: TransportId,
     commands: &[Command],
     left: E,
 ) -> Result<Life<D, E>, Refused<D>>
@@ -63,7 +68,7 @@ pub fn format_run_and_restart<D: Disk, E: Disk + Drop>(
         → IsBlank (D.state disk)
         → (D.state life.disk).LeftSince (D.state disk).moment (E.state left).bytes
         → IfOk life.after_crash (λ first. (E.state first.disk).IsHonest
-        → PlaysAfter geometry.now []
+        → PlaysAfter geometry.now directory []
         (accepted_commands commands.now life.end.done.items
         ++ commands_in_flight commands.now life.end.done.items life.end.fault)
         (bytes_of_packets first.packets.items))) }
@@ -72,12 +77,27 @@ pub fn format_run_and_restart<D: Disk, E: Disk + Drop>(
     ensures acknowledged { IfOk result (λ life. (D.state life.disk).IsHonest
         → (D.state life.disk).MayLeave (E.state left).bytes
         → IfOk life.after_crash (λ first. (E.state first.disk).IsHonest
-        → PlaysAfter geometry.now
+        → PlaysAfter geometry.now directory
         (accepted_commands commands.now life.end.done.items)
         (commands_in_flight commands.now life.end.done.items life.end.fault)
         (bytes_of_packets first.packets.items))) }
 
-    // and then it opens, but for want of memory or a failure of the disk that was left
+    // Which commands are accepted; and nothing else ends the run before the last of them than want
+    // of memory or a failure of the disk.
+    ensures marks { IfOk result (λ life. (D.state life.disk).IsHonest
+        → AreMarksOf geometry.now (carousel_from directory) commands.now life.end.done.items) }
+    ensures whole { IfOk result (λ life.
+        IfNone life.end.fault (vec_len life.end.done ≡ length commands.now)) }
+    ensures fault { IfOk result (λ life. (D.state life.disk).IsHonest → IfSome life.end.fault
+        (λ refusal. IsPassing (D.state disk) (D.state life.disk) refusal)) }
+
+    // What a crash left opens, but for want of memory or a failure of that disk, or where it came
+    // before the magic; once the call has returned, the magic is there.
+    ensures opens_before { IfOk result (λ life. (D.state life.disk).IsHonest
+        → IsBlank (D.state disk)
+        → (D.state life.disk).LeftSince (D.state disk).moment (E.state left).bytes
+        → IfErr life.after_crash (λ e. (E.state e.disk).IsHonest
+        → IsUnopened (E.state left) (E.state e.disk) e.refusal)) }
     ensures opens { IfOk result (λ life. (D.state life.disk).IsHonest
         → (D.state life.disk).MayLeave (E.state left).bytes
         → IfErr life.after_crash (λ e. (E.state e.disk).IsHonest
@@ -85,7 +105,7 @@ pub fn format_run_and_restart<D: Disk, E: Disk + Drop>(
     ensures refused { IfErr result (λ e. (D.state e.disk).IsHonest
         → IsFormatRefusal geometry.now (D.state disk) (D.state e.disk) e.refusal) }
 {
-    let mut server = format_and_open(alloc, disk, geometry)?;
+    let mut server = format_and_open(alloc, disk, geometry, directory)?;
     let end = server.run(alloc, commands);
     let after_crash = first_turn(alloc, left);
     Ok(Life {
@@ -95,28 +115,33 @@ pub fn format_run_and_restart<D: Disk, E: Disk + Drop>(
     })
 }
 
-/// A new disk, formatted and opened: it stands for the new carousel, and at each moment until then
-/// a crash leaves no magic, or an image that does.
+/// A new disk, formatted and opened: it stands for the new carousel, whose directory has this
+/// transport id, and at each moment until then a crash leaves no magic, or an image that does.
 pub fn format_and_open<D: Disk>(
     alloc: Global,
     disk: D,
     geometry: &Geometry,
+    directory: TransportId,
 ) -> Result<Server<D>, Refused<D>>
     ensures keeps { IfOk result (λ server. KeepsLength (D.state disk) (D.state server.disk)) }
     ensures holds { IfOk result (λ server. (D.state server.disk).IsHonest
-        → Holds server.view (new_standing geometry.now) (D.state server.disk)) }
+        → Holds server.view (standing_from geometry.now directory) (D.state server.disk)) }
+    ensures layout { IfOk result (λ server. (D.state server.disk).IsHonest
+        → server.view.journal.layout ≡ Two) }
+    ensures calm { IfOk result (λ server.
+        (D.state server.disk).failures ≡ (D.state disk).failures) }
     ensures any_moment { IfOk result (λ server. (D.state server.disk).IsHonest
         → IsBlank (D.state disk)
-        → Throughout (D.state disk) (D.state server.disk) (NoneOrNew geometry.now)) }
+        → Throughout (D.state disk) (D.state server.disk) (NoneOrFrom geometry.now directory)) }
 
     // lives in a row begin so: no command is done
     ensures begins { IfOk result (λ server. (D.state server.disk).IsHonest
-        → HasDone D.state geometry.now [] server) }
+        → HasDone D.state geometry.now directory [] [] server) }
     ensures refused { IfErr result (λ e. (D.state e.disk).IsHonest
         → IsFormatRefusal geometry.now (D.state disk) (D.state e.disk) e.refusal) }
 {
     let mut disk = disk;
-    if let Err(refusal) = format(&mut disk, geometry) {
+    if let Err(refusal) = format_from(&mut disk, geometry, directory) {
         return Err(Refused { refusal, disk });
     }
     let server = Server::open(alloc, disk)?;
@@ -128,6 +153,9 @@ pub fn first_turn<E: Disk>(alloc: Global, left: E) -> Result<FirstTurn<E>, Refus
     ensures reads { (s : Standing) → IsOf s (E.state left).bytes
         → IfOk result (λ first. (E.state first.disk).IsHonest
         → ReadsAs (bytes_of_packets first.packets.items) s.carousel s.geometry.segment_size) }
+    ensures numbered { (s : Standing) → IsOf s (E.state left).bytes
+        → IfOk result (λ first. (E.state first.disk).IsHonest
+        → AreNumbered s.geometry 0 (bytes_of_packets first.packets.items)) }
     ensures blank { has_magic (E.state left).bytes ≡ false
         → IfOk result (λ first. (E.state first.disk).IsHonest → ⊥) }
     ensures refused { IfErr result

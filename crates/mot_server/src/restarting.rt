@@ -10,6 +10,7 @@ ghost use Rattle.mot_player.specs.Reading.{ReadsAs};
 ghost use Rattle.mot_player.specs.Turn.{turn_of_carousel};
 ghost use Rattle.mot_repository.specs.Opening.{IsOpened, IsOpeningRefusal};
 ghost use Rattle.mot_repository.specs.Repository.{IsOf, Holds};
+ghost use Rattle.mot_server.specs.Life.{AreNumbered};
 ghost use Rattle.mot_server.specs.Playing.{HasPlayedTurn, bytes_of_packets};
 ghost use Rattle.mot_server.specs.Server.{place_in};
 
@@ -55,6 +56,11 @@ pub fn restart<D: Disk>(alloc: Global, disk: D) -> Result<Restarted<D>, Refused<
         → HasPlayedTurn (opened_place s.geometry.address (packet_room s.geometry)
         s.geometry.segment_size (turn_of_carousel s.carousel s.geometry.segment_size))
         (bytes_of_packets r.packets.items) (place_in r.server s)) }
+
+    // Their headers have the address, at most the length, and the indexes that they should.
+    ensures numbered { (s : Standing) → IsOf s (D.state disk).bytes
+        → IfOk result (λ r. (D.state r.server.disk).IsHonest
+        → AreNumbered s.geometry 0 (bytes_of_packets r.packets.items)) }
 
     ensures refused { IfErr result
         (λ e. IsOpeningRefusal (D.state disk) (D.state e.disk) e.refusal) }

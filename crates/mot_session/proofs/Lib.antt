@@ -10,6 +10,8 @@ pub mod Joined
 pub mod Kept
 pub mod Laws
 pub mod Lives
+pub mod Moments
+pub mod OneLine
 pub mod Outcomes
 pub mod Packets
 pub mod Replies
@@ -17,7 +19,9 @@ pub mod Requests
 pub mod Rows
 pub mod Runs
 pub mod SessionLaws
+pub mod Shown
 pub mod Taken
 pub mod Telling
 pub mod Told
+pub mod Unique
 pub mod Written

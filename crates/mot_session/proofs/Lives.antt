@@ -6,13 +6,13 @@ use Rattle.std.proofs.Common.{Some, None, take}
 use Rattle.std.proofs.KnownBytes.{Appends-trans, Appends-nil, Appends-kept, Keeps-refl}
 use Rattle.std.proofs.KnownBytes.{Consumes-kept, Consumes-nil}
 use Rattle.std.proofs.lemmas.List.{length-map}
-use Rattle.std.specs.Io.KnownBytes.{Appends, Keeps}
-use Rattle.std.specs.List.{flat_map}
+use Rattle.std.specs.Io.KnownBytes.{Appends, IsAtEnd, Keeps}
+use Rattle.std.specs.List.{AllByRecursion, flat_map}
 use Rattle.std.specs.Prelude.{IsTrue, IsFalse, IfOk, if◌then◌else◌}
 use Rattle.disk_model.specs.Disk.{State, IsHonestDisk, IsUnchanged, Throughout}
 use Rattle.mot_journal.specs.Geometry.{has_magic}
 use Rattle.mot_journal.specs.Image.{Standing}
-use Rattle.mot_journal.specs.Journal.{NoneOrNew, new_standing}
+use Rattle.mot_journal.specs.Journal.{NoneOrFrom, standing_from}
 use Rattle.mot_lines.specs.declared.line.Line.{Line}
 use Rattle.mot_lines.specs.declared.line.Line.TheVariants as asks
 use Rattle.mot_lines.specs.Line.{line_of}
@@ -24,13 +24,16 @@ use Rattle.mot_numbers.specs.declared.refusal.Refusal.TheVariants.{WriteFault}
 use Rattle.mot_objects.specs.declared.command.Command as command
 use Rattle.mot_player.specs.Reading.{ReadsAs}
 use Rattle.mot_repository.specs.Repository.{IsOf, Holds}
-use Rattle.mot_server.specs.Life.{PlaysAfter}
+use Rattle.mot_server.specs.Life.{AreNumbered, PlaysAfter}
 use Rattle.mot_server.specs.Runs.{IsAfter, StandsAfterSome}
 use Rattle.mot_server.specs.Server.{ServerView}
 use Rattle.mot_server.proofs.Laws.{more, none_of, not_halted, plays_after, plays_new}
-use Rattle.mot_server.specs.Lives.{LivesOn}
-use Rattle.mot_session.specs.Life.{IsKeptFrom, Told, commands_done, commands_failing, done_in}
-use Rattle.mot_session.specs.Life.{failing_in, Tells}
+use Rattle.mot_server.specs.Lives.{HasDone, LivesOn}
+use Rattle.mot_session.specs.Inner.Kept.{IsKeptFrom}
+use Rattle.mot_session.specs.Life.{Told, commands_done, commands_failing, done_in}
+use Rattle.mot_session.specs.Life.{failing_in, IsReply, Tells, is_done}
+use Rattle.mot_objects.specs.Rules.{AllKeepRules}
+use Rattle.mot_repository.proofs.Laws.{rules_kept}
 use Rattle.mot_session.specs.LineByLine.{BreaksOff, ServesEach, ServesOne, ServesSome}
 use Rattle.mot_session.specs.Served.{EndsServing, TakesInput}
 use Rattle.mot_session.specs.Session.{Exchange, Reply, text_of}
@@ -41,7 +44,9 @@ use Rattle.mot_session.specs.Stored.{failed_in}
 use Rattle.mot_session.specs.Stored.{is_accepting, is_failing}
 use Rattle.mot_session.proofs.Crashes.{halted_or_not}
 use Rattle.mot_session.proofs.Outcomes.{Outcome, nothing, one, halts, begun_outcome, outcome}
-use Rattle.mot_session.proofs.Telling.{done_told, failing_told}
+use Rattle.mot_session.proofs.Shown.{begun, front_begun, replied}
+use Rattle.mot_session.proofs.Telling.{done_of_front, done_told, failing_told, sure_flight}
+use Rattle.mot_session.proofs.Telling as telling
 use Rattle.mot_session.proofs.Told.{less_of_sure}
 
 -- what a crash now leaves, where these commands are sure and those may be there besides
@@ -89,7 +94,7 @@ few_if true (Ok asks.Turn) = omega arith
 few_if false request = omega arith
 
 -- no reply accepts a command and tells a fault
-not_both : (reply : Reply) → (is_accepting reply ≡ false) ⊎ (is_failing reply ≡ false)
+pub not_both : (reply : Reply) → (is_accepting reply ≡ false) ⊎ (is_failing reply ≡ false)
 not_both (accepted d) = inr refl
 not_both (refused r) = inl refl
 not_both (listing c) = inl refl
@@ -97,7 +102,7 @@ not_both (packets ps) = inl refl
 not_both (played sents) = inl refl
 not_both (cut_short sents) = inl refl
 
-one_at_most : (b c : Bool) (l : List command.Command) → (b ≡ false) ⊎ (c ≡ false)
+pub one_at_most : (b c : Bool) (l : List command.Command) → (b ≡ false) ⊎ (c ≡ false)
     → ((if b then l else []) ++ (if c then l else []) ≡ [])
     ⊎ ((if b then l else []) ++ (if c then l else []) ≡ l)
 one_at_most true true l (inl e) = cc
@@ -198,7 +203,7 @@ module _ (s : Standing) (start now : State) (before : ServerState) (x : Exchange
             (few_both (stops_of what));
       }
 
-  step_made : Told-Outcome
+  pub step_made : Told-Outcome
       → Step s start now before.halted x.after.halted x.after.standing sure early
       (accepted_in x) (failed_in x)
   step_made what = ⊎_elim (step_halted what) (step_going what) (halted_or_not before.halted)
@@ -245,6 +250,19 @@ kept_none s now was sure early sound at = record {
 module _ (s : Standing) (now old mid : State) (was is : Bool) (standing : Standing)
     (sure early : List command.Command) (sound_old : IsHonestDisk old)
     (at : At s old was sure early) where
+  -- since the moment before a line
+  pub since_before : (done failing : List command.Command)
+      → Step s old now was is standing sure early done failing
+      → (image : List ℕ) → now.LeftSince old.moment image
+      → StandsAfterSome s sure (early ++ (done ++ failing)) image
+  since_before done failing step image left =
+      ⊎_elim {C = StandsAfterSome s sure (early ++ (done ++ failing)) image}
+      (λ o. more s sure early (done ++ failing) image
+      (at.leaves image (sound_old.only_now image o)))
+      (λ came. subst (λ l. StandsAfterSome s sure (l ++ (done ++ failing)) image)
+      (sym (at.going came.0)) came.1)
+      (step.before old.moment image (omega arith) left)
+
   -- a line whose reply was broken off
   kept_broken : (done failing next : List command.Command)
       → Step s old now was is standing sure early done failing → IsHonestDisk now
@@ -253,24 +271,16 @@ module _ (s : Standing) (now old mid : State) (was is : Bool) (standing : Standi
   unfolding IsKeptFrom
   kept_broken done failing next step sound which = record {
     before = step.before;
-    since = all;
+    since = since_before done failing step;
     at_end = λ image left.
         subst (λ l. StandsAfterSome s l (early ++ (done ++ failing)) image) (sym (append-nil sure))
-        (all image (sound.counts_now old.moment image step.later left));
+        (since_before done failing step image
+        (sound.counts_now old.moment image step.later left));
     halted = λ h. let none = step.halted h in
         (refl, ap (λ l. l ++ failing) none.1 ∙ none.2);
     few = step.few_all;
     which = ⊎_elim (λ none. inl none) (λ next. inr (refl, next)) which;
   }
-    where
-      all : (image : List ℕ) → now.LeftSince old.moment image
-          → StandsAfterSome s sure (early ++ (done ++ failing)) image
-      all image left = ⊎_elim {C = StandsAfterSome s sure (early ++ (done ++ failing)) image}
-          (λ o. more s sure early (done ++ failing) image
-          (at.leaves image (sound_old.only_now image o)))
-          (λ came. subst (λ l. StandsAfterSome s sure (l ++ (done ++ failing)) image)
-          (sym (at.going came.0)) came.1)
-          (step.before old.moment image (omega arith) left)
 
   -- one line, and those behind it
   module _ (x : Told) (next : List command.Command) (told : List Told)
@@ -418,10 +428,11 @@ module _ {D : Type 0} (state : D → State)
   each_honest old new (line ∷ lines) written now each honest =
       each.2.goes.keeps.was_honest (each_honest each.0 new lines each.1 now each.3 honest)
 
-  -- what is kept of lines that were served from here, up to this state of the disk
-  abbrev pub KeptFrom : State → List command.Command → ServerView D → List (List ℕ)
-      → Option (List ℕ) → Option (List ℕ) → Type 0
-  KeptFrom last next old lines written now =
+  -- what is kept of lines that were served from here, up to this state of the disk, and what was
+  -- begun behind them
+  abbrev pub KeptFrom : State → List command.Command → (List ℕ → Type 0) → ServerView D
+      → List (List ℕ) → Option (List ℕ) → Option (List ℕ) → Type 0
+  KeptFrom last next Begun old lines written now =
       (standing : Standing) (sure early : List command.Command)
       → StandsFor old.view standing (state old.disk) → IsAfter s sure standing
       → At s (state old.disk) old.view.halted sure early
@@ -429,22 +440,40 @@ module _ {D : Type 0} (state : D → State)
       × (map (λ (t : Told). t.line) told ≡ lines)
       × Appends written now (flat_map (λ (t : Told). t.text) told)
       × Kept s last (state old.disk) old.view.halted sure early next told flight
+      × AllByRecursion (λ (t : Told). IsReply s.geometry (line_of t.line) t.text) told
+      × (front : List ℕ) × Begun front
+      × (IsTrue (is_done front) → IsFalse old.view.halted × (flight ≡ next))
+
+  -- what a server that stands for this keeps has objects by the rules
+  pub rules_of : (server : ServerView D) (standing : Standing) → (state server.disk).IsHonest
+      → StandsFor server.view standing (state server.disk) → IsFalse server.view.halted
+      → AllKeepRules standing.carousel
+  rules_of server standing honest stands going =
+      let now = state server.disk in
+      let so = sound server.disk honest in
+      rules_kept now.bytes standing (so.images now.bytes so.bytes).are_bytes
+      ((stands.holds going).each now.bytes so.bytes).stands
 
   pub kept_here : (server : ServerView D) (known : Option (List ℕ)) → (state server.disk).IsHonest
-      → KeptFrom (state server.disk) [] server [] known known
+      → KeptFrom (state server.disk) [] (λ front. front ≡ []) server [] known known
   kept_here server known honest = λ standing sure early stands after at. (
     [],
     [],
     refl,
     Appends-nil known,
     kept_none s (state server.disk) server.view.halted sure early (sound server.disk honest) at,
+    tt,
+    [],
+    refl,
+    λ so. let e : false ≡ true = so in cc,
   )
 
   module _ (old mid : ServerView D) (line : List ℕ) (written between : Option (List ℕ))
       (honest : (state mid.disk).IsHonest) (one_line : ServesOne state old line mid written between)
-      (last : State) (next : List command.Command) (lines : List (List ℕ)) (now : Option (List ℕ))
-      (rest : KeptFrom last next mid lines between now) where
-    kept_line : KeptFrom last next old (line ∷ lines) written now
+      (last : State) (next : List command.Command) (Begun : List ℕ → Type 0)
+      (lines : List (List ℕ)) (now : Option (List ℕ))
+      (rest : KeptFrom last next Begun mid lines between now) where
+    kept_line : KeptFrom last next Begun old (line ∷ lines) written now
     kept_line = λ standing sure early stands after at.
         let was_honest = one_line.goes.keeps.was_honest honest in
         let led = one_line.answered standing stands honest in
@@ -473,24 +502,47 @@ module _ {D : Type 0} (state : D → State)
               (flat_map (λ (u : Told). u.text) others.0) served.appended others.3,
           kept_more s last (state old.disk) (state mid.disk) old.view.halted mid.view.halted led.0
               sure early (sound old.disk was_honest) at t next others.0 others.1 step others.4,
+          (
+            replied s.geometry before behind (line_of line) served.reply after.geometry
+                (rules_of old standing was_honest stands) served.answers,
+            others.5,
+          ),
+          others.6,
+          others.7,
+          λ so. let is = others.8 so in
+              let none = none_failing s last (state old.disk) (state mid.disk) old.view.halted
+              mid.view.halted led.0 sure early (sound old.disk was_honest) at t next others.0
+              others.1 step others.4 is.0 in (
+                was_going s last (state old.disk) (state mid.disk) old.view.halted mid.view.halted
+                    led.0 sure early (sound old.disk was_honest) at t next others.0 others.1 step
+                    others.4 is.0,
+                ap (λ l. l ++ others.1) none ∙ is.1,
+              ),
         )
 
-  pub kept_each : (last : State) (next : List command.Command) (old mid : ServerView D)
-      (lines : List (List ℕ)) (written between : Option (List ℕ))
+  pub kept_each : (last : State) (next : List command.Command) (Begun : List ℕ → Type 0)
+      (old mid : ServerView D) (lines : List (List ℕ)) (written between : Option (List ℕ))
       → ServesEach state old lines mid written between → (state mid.disk).IsHonest
-      → KeptFrom last next mid [] between between → KeptFrom last next old lines written between
-  kept_each last next old mid [] written between same honest end =
-      subst (λ k. KeptFrom last next old [] k between) same.1
-      (subst (λ (v : ServerView D). KeptFrom last next v [] between between) same.0 end)
-  kept_each last next old mid (line ∷ lines) written between each honest end =
+      → KeptFrom last next Begun mid [] between between
+      → KeptFrom last next Begun old lines written between
+  kept_each last next Begun old mid [] written between same honest end =
+      subst (λ k. KeptFrom last next Begun old [] k between) same.1
+      (subst (λ (v : ServerView D). KeptFrom last next Begun v [] between between) same.0 end)
+  kept_each last next Begun old mid (line ∷ lines) written between each honest end =
       kept_line old each.0 line written each.1
-      (each_honest each.0 mid lines each.1 between each.3 honest) each.2 last next lines between
-      (kept_each last next each.0 mid lines each.1 between each.3 honest end)
+      (each_honest each.0 mid lines each.1 between each.3 honest) each.2 last next Begun lines
+      between (kept_each last next Begun each.0 mid lines each.1 between each.3 honest end)
+
+  -- the front of a reply to the line, behind what was written
+  abbrev pub BegunBy : List ℕ → Option (List ℕ) → Option (List ℕ) → List ℕ → Type 0
+  BegunBy line written now front = Appends written now front
+      × (rest : List ℕ) × IsReply s.geometry (line_of line) (front ++ rest)
 
   -- the line whose reply was broken off
   pub kept_behind : (old new : ServerView D) (line : List ℕ) (written now known : Option (List ℕ))
       → BreaksOff state old line new written now → (state new.disk).IsHonest
-      → KeptFrom (state new.disk) (command_in (line_of line)) old [] known known
+      → KeptFrom (state new.disk) (command_in (line_of line)) (BegunBy line written now) old []
+      known known
   kept_behind old new line written now known breaks honest =
       λ standing sure early stands after at.
       let was_honest = breaks.goes.keeps.was_honest honest in
@@ -501,7 +553,11 @@ module _ {D : Type 0} (state : D → State)
       let x : Exchange = record { line = line; reply = stopped.reply; after = behind } in
       let step = step_made s (state old.disk) (state new.disk) before x (sound new.disk honest)
       (λ h. (breaks.goes.halted h).1 honest) stopped.stored sure early after at
-      (begun_outcome before behind (line_of line) stopped.reply stopped.broken.begins) in (
+      (begun_outcome before behind (line_of line) stopped.reply stopped.broken.begins) in
+      let goes = front_begun s.geometry (line_of line) (text_of stopped.reply)
+      stopped.broken.written.written stopped.broken.written.unwritten stopped.broken.written.split
+      (begun s.geometry before behind (line_of line) stopped.reply after.geometry
+      (rules_of old standing was_honest stands) stopped.broken.begins) in (
         [],
         accepted_in x ++ failed_in x,
         refl,
@@ -511,6 +567,21 @@ module _ {D : Type 0} (state : D → State)
             (accepted_in x) (failed_in x) (command_in (line_of line)) step (sound new.disk honest)
             (one_at_most (is_accepting stopped.reply) (is_failing stopped.reply)
             (command_in (line_of line)) (not_both stopped.reply)),
+        tt,
+        stopped.broken.written.written,
+        (
+          stopped.broken.written.appended,
+          goes.0,
+          goes.1,
+        ),
+        λ so. let is = telling.sure before behind (line_of line) stopped.reply
+            stopped.broken.begins
+            (subst (λ t. is_done t ≡ true) (sym stopped.broken.written.split)
+            (done_of_front stopped.broken.written.written stopped.broken.written.unwritten so)) in (
+              is.0,
+              sure_flight (is_accepting stopped.reply) (is_failing stopped.reply)
+                  (command_in (line_of line)) is.1 (not_both stopped.reply),
+            ),
       )
 
 -- ---- from the formatting on
@@ -540,42 +611,47 @@ kept_from Q start opened le (x ∷ told) flight all kept =
     let later = kept.2 in (all, kept.1, omega (arith, le, later), kept.3)
 
 module _ {A B : Type 0} (result : Result A B) (IsHonest : A → Type 0)
-    (packets_of : A → List (List ℕ)) (g : Geometry) (image : List ℕ)
+    (packets_of : A → List (List ℕ)) (g : Geometry) (first : ℕ) (image : List ℕ)
     (reads : (s : Standing) → IsOf s image
     → IfOk result (λ a. IsHonest a → ReadsAs (packets_of a) s.carousel s.geometry.segment_size))
+    (numbers : (s : Standing) → IsOf s image
+    → IfOk result (λ a. IsHonest a → AreNumbered s.geometry 0 (packets_of a)))
     (now opened : State) (was : Bool) (next : List command.Command) (told : List Told)
     (flight : List command.Command)
-    (kept : Kept (new_standing g) now opened was [] [] next told flight) where
+    (kept : Kept (standing_from g first) now opened was [] [] next told flight) where
   abbrev Plays : List command.Command → List command.Command → Type 0
-  Plays sure others = IfOk result (λ a. IsHonest a → PlaysAfter g sure others (packets_of a))
+  Plays sure others = IfOk result (λ a. IsHonest a → PlaysAfter g first sure others (packets_of a))
 
   -- a crash at some moment since the formatting began
   pub life_kept : (start : State) (IsLeft : ℕ → Type 0)
       → ((t : ℕ) → IsLeft t → now.LeftSince t image)
       → (has_magic image ≡ false → IfOk result (λ a. IsHonest a → ⊥))
-      → Throughout start opened (NoneOrNew g)
+      → Throughout start opened (NoneOrFrom g first)
       → IsKeptFrom (λ t sure others. IsLeft t → Plays sure others) start.moment [] told flight
   life_kept start IsLeft is_left blank time =
       kept_from (λ t sure others. IsLeft t → Plays sure others) start.moment opened.moment
       time.later
       told flight all
-      (kept_so (λ t sure others. HoldsSince now t (new_standing g) sure others)
+      (kept_so (λ t sure others. HoldsSince now t (standing_from g first) sure others)
       (λ t sure others. IsLeft t → Plays sure others)
-      (λ t sure others holds left. plays_after result IsHonest packets_of g image reads sure others
+      (λ t sure others holds left. plays_after result IsHonest packets_of g first image reads
+      numbers
+      sure others
       (holds image (is_left t left)))
       opened.moment [] told flight kept.since)
     where
       all : IsLeft start.moment → Plays [] (commands_done told ++ flight)
       all left = ⊎_elim {C = Plays [] (commands_done told ++ flight)}
-          (λ by_then. plays_new result IsHonest packets_of g image reads
+          (λ by_then. plays_new result IsHonest packets_of g first image reads numbers
           (commands_done told ++ flight) blank (time.each image by_then))
-          (λ came. plays_after result IsHonest packets_of g image reads []
+          (λ came. plays_after result IsHonest packets_of g first image reads numbers []
           (commands_done told ++ flight) came.1)
           (kept.before start.moment image time.later (is_left start.moment left))
 
   -- a crash behind it
   pub life_after : now.MayLeave image → Plays (commands_done told) flight
-  life_after left = plays_after result IsHonest packets_of g image reads (commands_done told) flight
+  life_after left = plays_after result IsHonest packets_of g first image reads numbers
+      (commands_done told) flight
       (kept.at_end image left)
 
 -- ---- what was told
@@ -589,43 +665,59 @@ as_many : (lines : List (List ℕ)) (told : List Told) (count : ℕ) → lines_t
 as_many lines told count same counted =
     counted ∙ ap length (sym same) ∙ length-map told (λ (t : Told). t.line)
 
-module _ (input : List ℕ) (count : ℕ) (fault : Option Refusal) (told : List Told)
+module _ (g : Geometry) (input : List ℕ) (left : Option (List ℕ)) (count : ℕ)
+    (fault : Option Refusal) (told : List Told)
     (flight : List command.Command) (old between new : Option (List ℕ))
-    (written : Appends old between (texts_told told)) (few : length flight ≤ 1) where
+    (written : Appends old between (texts_told told)) (few : length flight ≤ 1)
+    (replies : AllByRecursion (λ (t : Told). IsReply g (line_of t.line) t.text) told) where
   -- all that was served was answered, up to the end of the input or a fault that is none of replies
   pub tells_all : (lines unanswered : List (List ℕ)) → lines_of input ≡ lines ++ unanswered
-      → lines_told told ≡ lines → count ≡ length lines → (fault ≡ None → unanswered ≡ [])
-      → Keeps between new
+      → lines_told told ≡ lines → count ≡ length lines
+      → (fault ≡ None → (unanswered ≡ []) × IsAtEnd left) → Keeps between new
       → (flight ≡ commands_failing told) ⊎ ((commands_failing told ≡ []) × (flight ≡ []))
-      → Tells input count fault told flight old new
+      → Tells g input left count fault told flight old new
   tells_all lines unanswered split same counted whole keeps which = record {
     unanswered = unanswered;
     lines = split ∙ ap (λ l. l ++ unanswered) (sym same);
     counted = as_many lines told count same counted;
+    replies = replies;
     whole = whole;
     front = [];
     written = subst (λ l. Appends old new l) (sym (append-nil (texts_told told)))
         (Appends-kept old between new (texts_told told) written keeps);
     few = few;
-    which = ⊎_elim (λ e. inl e) (λ both. inl (both.1 ∙ sym both.0)) which;
+    ends = inl (refl, ⊎_elim (λ e. e) (λ both. both.1 ∙ sym both.0) which);
   }
 
   -- the reply to the line behind them was broken off
   pub tells_some : (first : List (List ℕ)) (line : List ℕ) (others : List (List ℕ))
       (front : List ℕ) → lines_of input ≡ first ++ line ∷ others → lines_told told ≡ first
       → count ≡ length first → fault ≡ Some WriteFault → Appends between new front
+      → ((rest : List ℕ) × IsReply g (line_of line) (front ++ rest))
+      → (IsTrue (is_done front) → flight ≡ command_in (line_of line))
       → (flight ≡ commands_failing told)
       ⊎ ((commands_failing told ≡ []) × (flight ≡ command_in (line_of line)))
-      → Tells input count fault told flight old new
-  tells_some first line others front split same counted is broken which = record {
+      → Tells g input left count fault told flight old new
+  tells_some first line others front split same counted is broken goes sure which = record {
     unanswered = line ∷ others;
     lines = split ∙ ap (λ l. l ++ line ∷ others) (sym same);
     counted = as_many first told count same counted;
+    replies = replies;
     whole = λ none. absurd (not_none WriteFault fault is none);
     front = front;
     written = Appends-trans old between new (texts_told told) front written broken;
     few = few;
-    which = ⊎_elim (λ e. inl e) (λ both. inr (is, both.1)) which;
+    ends = inr (
+      line,
+      goes.0,
+      others,
+      refl,
+      is,
+      goes.1,
+      ⊎_elim {C = (flight ≡ commands_failing told) ⊎ (flight ≡ command_in (line_of line))}
+          (λ e. inl e) (λ both. inr both.1) which,
+      sure,
+    );
   }
 
 -- the lines that are whole come first
@@ -634,6 +726,23 @@ pub lines_split : (input : List ℕ)
 unfolding lines_of
 lines_split input = refl
 
+-- ---- a server that has done commands
+
+module _ {D : Type 0} (state : D → State) (g : Geometry) (first : ℕ)
+    (sure others : List command.Command) (server : ServerView D)
+    (has : HasDone state g first sure others server) where
+  -- it stands for what they make
+  pub done_stands : StandsFor server.view has.standing (state server.disk)
+  done_stands = record { agrees = has.agrees; holds = λ going. (has.holds going).1 }
+
+  -- and so does what a crash leaves
+  pub done_at : At (standing_from g first) (state server.disk) server.view.halted sure others
+  done_at = record {
+    leaves = has.leaves;
+    going = λ going. (has.holds going).0;
+    few = has.few;
+  }
+
 -- ---- a call of `serve` on a disk on which commands are done
 
 module _ {D : Type 0} (state : D → State)
@@ -641,29 +750,21 @@ module _ {D : Type 0} (state : D → State)
     (done : List command.Command) (standing : Standing) (after : IsAfter s done standing)
     (opened new : ServerView D) (reads : ℕ) (unread left old now : Option (List ℕ)) (count : ℕ)
     (fault : Option Refusal) (honest : (state new.disk).IsHonest)
-    (holds : Holds opened.view standing (state opened.disk)) where
-  stands : StandsFor opened.view standing (state opened.disk)
-  stands = record { agrees = holds.agrees; holds = λ going. holds }
-
-  at : At s (state opened.disk) opened.view.halted done []
-  at = record {
-    leaves = λ image may. none_of s done [] standing image after (holds.each image may);
-    going = λ going. refl;
-    few = omega arith;
-  }
-
+    (stands : StandsFor opened.view standing (state opened.disk))
+    (at : At s (state opened.disk) opened.view.halted done []) where
   -- what was told, and what a crash leaves of it
   abbrev pub ServedSo : Type 0
   ServedSo = (input : List ℕ) × TakesInput reads unread left input
       × (told : List Told) × (flight : List command.Command) × (next : List command.Command)
-      × Tells input count fault told flight old now
+      × Tells s.geometry input left count fault told flight old now
       × Kept s (state new.disk) (state opened.disk) opened.view.halted done [] next told flight
 
   all_served : (input : List ℕ) → TakesInput reads unread left input
       → (lines unanswered : List (List ℕ)) → lines_of input ≡ lines ++ unanswered
-      → count ≡ length lines → (fault ≡ None → unanswered ≡ []) → (between : Option (List ℕ))
-      → Keeps between now
-      → KeptFrom state sound s (state new.disk) [] opened lines old between → ServedSo
+      → count ≡ length lines → (fault ≡ None → (unanswered ≡ []) × IsAtEnd left)
+      → (between : Option (List ℕ)) → Keeps between now
+      → KeptFrom state sound s (state new.disk) [] (λ front. front ≡ []) opened lines old between
+      → ServedSo
   all_served input takes lines unanswered split counted whole between keeps kept =
       let k = kept standing done [] stands after at in (
         input,
@@ -671,18 +772,20 @@ module _ {D : Type 0} (state : D → State)
         k.0,
         k.1,
         [],
-        tells_all input count fault k.0 k.1 old between now k.3 k.4.few lines unanswered split k.2
+        tells_all s.geometry input left count fault k.0 k.1 old between now k.3 k.4.few k.5 lines
+            unanswered split k.2
             counted whole keeps k.4.which,
         k.4,
       )
 
   each_served : (input : List ℕ) → TakesInput reads unread left input
       → (lines unanswered : List (List ℕ)) → lines_of input ≡ lines ++ unanswered
-      → count ≡ length lines → (fault ≡ None → unanswered ≡ [])
+      → count ≡ length lines → (fault ≡ None → (unanswered ≡ []) × IsAtEnd left)
       → ServesEach state opened lines new old now → ServedSo
   each_served input takes lines unanswered split counted whole each =
       all_served input takes lines unanswered split counted whole now (Keeps-refl now)
-      (kept_each state sound s (state new.disk) [] opened new lines old now each honest
+      (kept_each state sound s (state new.disk) [] (λ front. front ≡ []) opened new lines old now
+      each honest
       (kept_here state sound s new now honest))
 
   -- nothing was read
@@ -696,7 +799,8 @@ module _ {D : Type 0} (state : D → State)
             omega arith;
       })
       [] (lines_of []) refl none (λ fine. absurd (faulty fine)) old keeps
-      (subst (λ (v : ServerView D). KeptFrom state sound s (state new.disk) [] v [] old old) same
+      (subst (λ (v : ServerView D).
+      KeptFrom state sound s (state new.disk) [] (λ front. front ≡ []) v [] old old) same
       (kept_here state sound s new old honest))
 
   -- a reply was broken off
@@ -706,7 +810,8 @@ module _ {D : Type 0} (state : D → State)
   some_served input takes lines rest split is some =
       let breaks = some.breaks in
       let k = kept_each state sound s (state new.disk) (command_in (line_of some.line))
-      opened some.mid some.first old some.between some.each (breaks.goes.keeps.was_honest honest)
+      (BegunBy state sound s some.line some.between now) opened some.mid some.first old
+      some.between some.each (breaks.goes.keeps.was_honest honest)
       (kept_behind state sound s some.mid new some.line some.between now some.between
       breaks honest) standing done [] stands after at in (
         input,
@@ -714,17 +819,17 @@ module _ {D : Type 0} (state : D → State)
         k.0,
         k.1,
         command_in (line_of some.line),
-        tells_some input count fault k.0 k.1 old some.between now k.3 k.4.few some.first some.line
-            (some.others ++ rest) breaks.front.written
+        tells_some s.geometry input left count fault k.0 k.1 old some.between now k.3 k.4.few k.5
+            some.first some.line (some.others ++ rest) k.6
             (split ∙ ap (λ l. l ++ rest) some.split
             ∙ append_assoc some.first (some.line ∷ some.others) rest) k.2
-            some.counted is breaks.front.appended k.4.which,
+            some.counted is k.7.0 (k.7.1, k.7.2) (λ so. (k.8 so).1) k.4.which,
         k.4,
       )
 
   -- whatever ended it
   pub served_so : EndsServing fault
-      → (fault ≡ None → (input : List ℕ) × TakesInput reads unread left input
+      → (fault ≡ None → (input : List ℕ) × TakesInput reads unread left input × IsAtEnd left
       × (count ≡ length (lines_of input)) × ServesEach state opened (lines_of input) new old now)
       → (fault ≡ Some ReadFault → (input : List ℕ) × TakesInput reads unread left input
       × (count ≡ length (whole_lines input))
@@ -736,8 +841,8 @@ module _ {D : Type 0} (state : D → State)
       → (count ≡ 0) × (new ≡ opened) × Keeps unread left × Keeps old now) → ServedSo
   served_so ends ended unended unwritten none = ⊎_elim {C = ServedSo}
       (λ is. let e = ended is in
-      each_served e.0 e.1 (lines_of e.0) [] (sym (append-nil (lines_of e.0))) e.2 (λ fine. refl)
-      e.3)
+      each_served e.0 e.1 (lines_of e.0) [] (sym (append-nil (lines_of e.0))) e.3
+      (λ fine. (refl, e.2)) e.4)
       (⊎_elim {C = ServedSo}
       (λ is. let e = none is in
       none_served e.1 e.0 (not_none OutOfMemory fault is) e.2 e.3)
@@ -758,6 +863,13 @@ pub some_of : {A B C D E : Type 0} → (A × B) ⊎ (C × D × E) → B ⊎ E
 some_of (inl some) = inl some.1
 some_of (inr some) = inr some.2
 
+-- what came is what was there, or stands for something
+pub left_or_stands : (s : Standing) (others : List command.Command) (image : List ℕ) (was : Bool)
+    (Old : Type 0) → Old ⊎ (IsFalse was × StandsAfterSome s [] others image)
+    → Old ⊎ StandsAfterSome s [] others image
+left_or_stands s others image was Old (inl old) = inl old
+left_or_stands s others image was Old (inr came) = inr came.1
+
 -- ---- lives in a row
 
 -- what is kept since the first moment
@@ -768,33 +880,44 @@ unfolding IsKeptFrom
 kept_first P t sure [] flight kept = kept
 kept_first P t sure (x ∷ told) flight kept = kept.0
 
-both_ok : {A B : Type 0} (P Q R : A → Type 0) (result : Result A B)
-    → ((a : A) → P a → Q a → R a) → IfOk result P → IfOk result Q → IfOk result R
-both_ok P Q R (Ok a) f p q = f a p q
-both_ok P Q R (Err b) f p q = tt
+three_ok : {A B : Type 0} (P Q R S : A → Type 0) (result : Result A B)
+    → ((a : A) → P a → Q a → R a → S a) → IfOk result P → IfOk result Q → IfOk result R
+    → IfOk result S
+three_ok P Q R S (Ok a) f p q r = f a p q r
+three_ok P Q R S (Err b) f p q r = tt
 
 -- an image that commands have left, opened and played
 module _ {D A B : Type 0} (state : D → State) (result : Result A B) (server_of : A → ServerView D)
-    (packets_of : A → List (List ℕ)) (g : Geometry) (image : List ℕ)
+    (packets_of : A → List (List ℕ)) (g : Geometry) (first : ℕ) (image : List ℕ)
     (held : (s : Standing) → IsOf s image → IfOk result (λ a. (state (server_of a).disk).IsHonest
     → Holds (server_of a).view s (state (server_of a).disk)))
     (reads : (s : Standing) → IsOf s image → IfOk result (λ a. (state (server_of a).disk).IsHonest
-    → ReadsAs (packets_of a) s.carousel s.geometry.segment_size)) where
+    → ReadsAs (packets_of a) s.carousel s.geometry.segment_size))
+    (numbers : (s : Standing) → IsOf s image → IfOk result (λ a.
+    (state (server_of a).disk).IsHonest → AreNumbered s.geometry 0 (packets_of a))) where
   -- a server that opened what a crash left lives on, with the sure ones and some of the others
   pub lives_on : (sure others : List command.Command)
-      → StandsAfterSome (new_standing g) sure others image
+      → StandsAfterSome (standing_from g first) sure others image
       → IfOk result (λ a. (state (server_of a).disk).IsHonest
-      → LivesOn state g sure others (server_of a) (packets_of a))
+      → LivesOn state g first sure others (server_of a) (packets_of a))
   lives_on sure others stands =
       let last = stands.last in
       let is = stands.after.after in
       let all = sure ++ take stands.after.count others in
-      let none : IsAfter (new_standing g) (all ++ []) last =
-      subst (λ l. IsAfter (new_standing g) l last) (sym (append-nil all)) is in
-      both_ok _ _ _ result (λ a holds read honest. record {
+      let none : IsAfter (standing_from g first) (all ++ []) last =
+      subst (λ l. IsAfter (standing_from g first) l last) (sym (append-nil all)) is in
+      three_ok _ _ _ _ result (λ a holds read numbered honest. record {
         count = stands.after.count;
         few = stands.after.few;
-        done = record { standing = last; after = is; holds = holds honest };
+        done = record {
+          standing = last;
+          after = is;
+          agrees = (holds honest).agrees;
+          holds = λ going. (refl, holds honest);
+          leaves = λ left may. none_of (standing_from g first) all [] last left is
+              ((holds honest).each left may);
+          few = omega arith;
+        };
         plays = record {
           count = 0;
           few = omega arith;
@@ -802,5 +925,7 @@ module _ {D A B : Type 0} (state : D → State) (result : Result A B) (server_of
           after = none.carousel;
           reads = subst (λ (x : Geometry). ReadsAs (packets_of a) last.carousel x.segment_size)
               is.geometry (read honest);
+          numbered = subst (λ (x : Geometry). AreNumbered x 0 (packets_of a)) is.geometry
+              (numbered honest);
         };
-      }) (held last stands.image_is) (reads last stands.image_is)
+      }) (held last stands.image_is) (reads last stands.image_is) (numbers last stands.image_is)

@@ -1,7 +1,9 @@
 -- What the text of a reply tells of the command of its line.
 use Rattle.std.proofs.Common.{◌≡◌, ◌⊎◌, inl, inr, Bool, true, false, List, [], Result, Ok, Err}
-use Rattle.std.proofs.Common.{refl, sym, ap, ◌∙◌}
-use Rattle.std.specs.Prelude.{if◌then◌else◌}
+use Rattle.std.proofs.Common.{refl, sym, ap, ◌∙◌, ℕ, ◌<◌, ◌∷◌, ◌++◌, length, take, append-nil}
+use Rattle.std.proofs.Common.{arith}
+use Rattle.std.proofs.lemmas.Slice.Eq.{bytes_eq-Decides}
+use Rattle.std.specs.Prelude.{IsFalse, codes, if◌then◌else◌}
 use Rattle.std.specs.Fmt.{digits}
 use Rattle.mot_lines.specs.declared.line.Line.{Line}
 use Rattle.mot_lines.specs.declared.line.Line.TheVariants as asks
@@ -13,6 +15,9 @@ use Rattle.mot_objects.specs.declared.command.Done.{Done}
 use Rattle.mot_session.specs.Life.{is_done, is_fault}
 use Rattle.mot_session.specs.Session.{Answers, decided, halted, no_memory, IsAnswer}
 use Rattle.mot_session.specs.Session.{IsCommandAnswer}
+use Rattle.mot_session.specs.Session.{NeedsCarousel, packets}
+use Rattle.mot_session.specs.Raw.{raw_packets}
+use Rattle.mot_session.specs.Served.{Begins, whole, next_begun, turn_begun}
 use Rattle.mot_session.specs.Session.{Reply, accepted, refused, accepts, refuses, fails, text_of}
 use Rattle.mot_session.specs.State.{ServerState}
 use Rattle.mot_session.specs.Stored.{command_in, is_accepting, is_failing}
@@ -120,3 +125,95 @@ module _ (request : Result Line Refusal) where
       -- and `refused 15` where the disk failed
       pub failing_told : where_so (is_fault (text_of reply)) ≡ where_so (is_failing reply)
       failing_told = failing_by_kind reply (kinds before after request reply answers)
+
+-- ---- a front that says `done`
+
+no-five : (n : ℕ) → n ≡ 5 → n < 5 → ⊥
+no-five n e less = omega (arith, e, less)
+
+five-of : (front : List ℕ) → is_done front ≡ true → length (take 5 front) ≡ 5
+five-of front e = ap length ((bytes_eq-Decides (take 5 front) (codes "done ")).0 e)
+
+-- what says `done` says so whatever follows
+pub done_of_front : (front rest : List ℕ) → is_done front ≡ true → is_done (front ++ rest) ≡ true
+done_of_front [] rest e = absurd (no-five 0 (five-of [] e) (omega arith))
+done_of_front (a ∷ []) rest e = absurd (no-five 1 (five-of (a ∷ []) e) (omega arith))
+done_of_front (a ∷ b ∷ []) rest e = absurd (no-five 2 (five-of (a ∷ b ∷ []) e) (omega arith))
+done_of_front (a ∷ b ∷ c ∷ []) rest e =
+    absurd (no-five 3 (five-of (a ∷ b ∷ c ∷ []) e) (omega arith))
+done_of_front (a ∷ b ∷ c ∷ d ∷ []) rest e =
+    absurd (no-five 4 (five-of (a ∷ b ∷ c ∷ d ∷ []) e) (omega arith))
+done_of_front (a ∷ b ∷ c ∷ d ∷ f ∷ more) rest e = e
+
+never : (text : List ℕ) → is_done text ≡ false → is_done text ≡ true → ⊥
+never text isnt so = let e : false ≡ true = sym isnt ∙ so in cc
+
+refused_never : (reply : Reply) (r : Refusal) → reply ≡ refused r → is_done (text_of reply) ≡ true
+    → ⊥
+refused_never reply r e so =
+    never (text_of reply) (ap (λ (x : Reply). is_done (text_of x)) e ∙ done_of_refused r) so
+
+packets-never : (ps : List (List ℕ)) → is_done (text_of (packets ps)) ≡ false
+unfolding text_of
+packets-never [] = refl
+packets-never (p ∷ ps) = refl
+
+-- of a reply that says `done`: the server was not halted, and it accepts the command, if there is
+-- one
+abbrev pub IsSure : ServerState → Result Line Refusal → Reply → Type 0
+IsSure before request reply =
+    IsFalse before.halted × ((is_accepting reply ≡ true) ⊎ (command_in request ≡ []))
+
+command-sure : (before after : ServerState) (c : command.Command) (reply : Reply)
+    → IsFalse before.halted → is_done (text_of reply) ≡ true → IsCommandAnswer before c reply after
+    → IsSure before (Ok (asks.Command c)) reply
+command-sure before after c reply going so (accepts d e a) = (going, inl (ap is_accepting e))
+command-sure before after c reply going so (refuses r e reason stays) =
+    absurd (refused_never reply r e so)
+command-sure before after c reply going so (fails e h) =
+    absurd (refused_never reply why.DeviceFault e so)
+
+answer-sure : (before after : ServerState) (request : Result Line Refusal) (reply : Reply)
+    → (NeedsCarousel request → IsFalse before.halted) → is_done (text_of reply) ≡ true
+    → IsAnswer before request reply after → IsSure before request reply
+unfolding IsAnswer
+answer-sure before after (Err r) reply going so a = absurd (refused_never reply r a.0 so)
+answer-sure before after (Ok (asks.Command c)) reply going so a =
+    command-sure before after c reply (going tt) so a
+answer-sure before after (Ok asks.List) reply going so a = (going tt, inr refl)
+answer-sure before after (Ok (asks.Raw kind tid body)) reply going so a =
+    absurd (never (text_of reply) (ap (λ (x : Reply). is_done (text_of x)) a.0
+    ∙ packets-never (raw_packets before.standing.geometry kind tid body)) so)
+answer-sure before after (Ok (asks.Next count)) reply going so a = (going tt, inr refl)
+answer-sure before after (Ok asks.Turn) reply going so a = (going tt, inr refl)
+
+pub sure : (before after : ServerState) (request : Result Line Refusal) (reply : Reply)
+    → Begins before request reply after → is_done (text_of reply) ≡ true
+    → IsSure before request reply
+sure before after request reply (whole (decided going a)) so =
+    answer-sure before after request reply going so a
+sure before after request reply (whole (halted is needs e s)) so =
+    absurd (refused_never reply why.Halted e so)
+sure before after request reply (whole (no_memory needs e s)) so =
+    absurd (refused_never reply why.OutOfMemory e so)
+sure before after request reply (next_begun count made sents is going few e sends) so =
+    (going, inr (ap command_in is))
+sure before after request reply (turn_begun made sents is going e sends) so =
+    (going, inr (ap command_in is))
+
+-- so its command is the one in flight
+pub sure_flight : (b c : Bool) (l : List command.Command) → (b ≡ true) ⊎ (l ≡ [])
+    → (b ≡ false) ⊎ (c ≡ false) → (if b then l else []) ++ (if c then l else []) ≡ l
+sure_flight true true l is (inl e) = cc
+sure_flight true true l is (inr e) = cc
+sure_flight true false l is not = append-nil l
+sure_flight false c l (inl e) not = cc
+sure_flight false true l (inr e) not = refl
+sure_flight false false l (inr e) not = sym e
+
+-- and it is made
+pub made_sure : (b : Bool) (l : List command.Command) → (b ≡ true) ⊎ (l ≡ [])
+    → (if b then l else []) ≡ l
+made_sure true l is = refl
+made_sure false l (inl e) = cc
+made_sure false l (inr e) = sym e

@@ -1,4 +1,5 @@
 pub mod Anyhow
 pub mod Decision
 pub mod InHand
+pub mod Kept
 pub mod Writes

@@ -5,7 +5,10 @@ mod deciding;
 mod life;
 mod serving;
 
-pub use life::{ServedLife, ServedOn, format_serve_and_restart, serve_and_restart};
+pub use life::{
+    ServedLife, ServedLineOn, ServedOn, format_serve_and_restart, serve_and_restart,
+    serve_line_and_restart,
+};
 pub use mot_lines::{Description, Line, SegmentBytes, parse_line};
 pub use mot_numbers::Geometry;
 pub use serving::{

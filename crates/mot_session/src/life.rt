@@ -5,14 +5,15 @@ ghost use Rattle.disk_model.specs.Disk.{KeepsLength};
 ghost use Rattle.mot_numbers.specs.declared.geometry.Geometry.{Geometry};
 ghost use Rattle.mot_objects.specs.declared.command.Command.{Command};
 ghost use Rattle.mot_repository.specs.Opening.{IsPassing};
-ghost use Rattle.mot_server.specs.Life.{IsBlank, IsFormatRefusal, PlaysAfter};
+ghost use Rattle.mot_server.specs.Life.{IsBlank, IsFormatRefusal, IsUnopened, PlaysAfter};
 ghost use Rattle.mot_server.specs.Lives.{HasDone, LivesOn};
 ghost use Rattle.mot_server.specs.Playing.{bytes_of_packets};
-ghost use Rattle.mot_session.specs.Life.{IsKeptFrom, Told, Tells, commands_done};
+ghost use Rattle.mot_session.specs.Life.{Told, Tells, TellsLine, commands_done};
 ghost use Rattle.mot_session.specs.Served.{TakesInput};
 
-use crate::{Geometry, MAX_READS, ServeEnd, serve};
+use crate::{Geometry, MAX_READS, ServeEnd, WriteFault, serve, serve_line};
 use disk_model::Disk;
+use mot_numbers::TransportId;
 use mot_server::{FirstTurn, Refused, Restarted, Server, first_turn, format_and_open, restart};
 use std::alloc::Global;
 use std::io::{Read, Write};
@@ -41,6 +42,7 @@ pub fn format_serve_and_restart<R: Read, W: Write, D: Disk, E: Disk + Drop>(
     disk: D,
     alloc: Global,
     geometry: &Geometry,
+    directory: TransportId,
     reader: &mut R,
     writer: &mut W,
     reads: u64,
@@ -53,19 +55,25 @@ pub fn format_serve_and_restart<R: Read, W: Write, D: Disk, E: Disk + Drop>(
     ensures told { IfOk result (λ life. (D.state life.disk).IsHonest → (input : List ℕ)
         × TakesInput reads (R.remaining reader.old) (R.remaining reader.new) input
         × (told : List Told) × (in_flight : List Command)
-        × Tells input life.end.lines life.end.fault told in_flight
-        (W.contents writer.old) (W.contents writer.new)
-        × (IsBlank (D.state disk) → IsKeptFrom (λ moment sure others.
-        (D.state life.disk).LeftSince moment (E.state left).bytes
+        × Tells geometry.now input (R.remaining reader.new) life.end.lines life.end.fault
+        told in_flight (W.contents writer.old) (W.contents writer.new)
+        × (IsBlank (D.state disk)
+        → (D.state life.disk).LeftSince (D.state disk).moment (E.state left).bytes
         → IfOk life.after_crash (λ first. (E.state first.disk).IsHonest
-        → PlaysAfter geometry.now sure others (bytes_of_packets first.packets.items)))
-        (D.state disk).moment [] told in_flight)
+        → PlaysAfter geometry.now directory [] (commands_done told ++ in_flight)
+        (bytes_of_packets first.packets.items)))
         × ((D.state life.disk).MayLeave (E.state left).bytes
         → IfOk life.after_crash (λ first. (E.state first.disk).IsHonest
-        → PlaysAfter geometry.now (commands_done told) in_flight
+        → PlaysAfter geometry.now directory (commands_done told) in_flight
         (bytes_of_packets first.packets.items)))) }
 
-    // and then it opens, but for want of memory or a failure of the disk that was left
+    // What a crash left opens, but for want of memory or a failure of that disk, or where it came
+    // before the magic; once the call has returned, the magic is there.
+    ensures opens_before { IfOk result (λ life. (D.state life.disk).IsHonest
+        → IsBlank (D.state disk)
+        → (D.state life.disk).LeftSince (D.state disk).moment (E.state left).bytes
+        → IfErr life.after_crash (λ e. (E.state e.disk).IsHonest
+        → IsUnopened (E.state left) (E.state e.disk) e.refusal)) }
     ensures opens { IfOk result (λ life. (D.state life.disk).IsHonest
         → (D.state life.disk).MayLeave (E.state left).bytes
         → IfErr life.after_crash (λ e. (E.state e.disk).IsHonest
@@ -73,7 +81,7 @@ pub fn format_serve_and_restart<R: Read, W: Write, D: Disk, E: Disk + Drop>(
     ensures refused { IfErr result (λ e. (D.state e.disk).IsHonest
         → IsFormatRefusal geometry.now (D.state disk) (D.state e.disk) e.refusal) }
 {
-    let mut server = format_and_open(alloc, disk, geometry)?;
+    let mut server = format_and_open(alloc, disk, geometry, directory)?;
     let end = serve(alloc, reader, writer, &mut server, reads);
     let after_crash = first_turn(alloc, left);
     Ok(ServedLife {
@@ -114,24 +122,25 @@ pub fn serve_and_restart<R: Read, W: Write, D: Disk, E: Disk>(
 
     // The lines, their replies, and what a crash leaves of their commands: first one at some moment
     // since the call began, then one that comes once it has returned.
-    ensures in_a_row { (g : Geometry) (done : List Command) → HasDone D.state g done server.old
+    ensures in_a_row { (g : Geometry) (first : ℕ) (done : List Command)
+        → HasDone D.state g first done [] server.old
         → (D.state server.new.disk).IsHonest → (input : List ℕ)
         × TakesInput reads (R.remaining reader.old) (R.remaining reader.new) input
         × (told : List Told) × (in_flight : List Command)
-        × Tells input result.end.lines result.end.fault told in_flight
+        × Tells g input (R.remaining reader.new) result.end.lines result.end.fault told in_flight
         (W.contents writer.old) (W.contents writer.new)
-        × IsKeptFrom (λ moment sure others.
-        (D.state server.new.disk).LeftSince moment (E.state left).bytes
-        → IfOk result.restarted (λ r. (E.state r.server.disk).IsHonest
-        → LivesOn E.state g sure others r.server (bytes_of_packets r.packets.items)))
-        (D.state server.old.disk).moment done told in_flight
+        × ((D.state server.new.disk).LeftSince (D.state server.old.disk).moment
+        (E.state left).bytes → IfOk result.restarted (λ r. (E.state r.server.disk).IsHonest
+        → LivesOn E.state g first done (commands_done told ++ in_flight) r.server
+        (bytes_of_packets r.packets.items)))
         × ((D.state server.new.disk).MayLeave (E.state left).bytes
         → IfOk result.restarted (λ r. (E.state r.server.disk).IsHonest
-        → LivesOn E.state g (done ++ commands_done told) in_flight r.server
+        → LivesOn E.state g first (done ++ commands_done told) in_flight r.server
         (bytes_of_packets r.packets.items))) }
 
     // it opens, but for want of memory or a failure of the disk that was left
-    ensures opens { (g : Geometry) (done : List Command) → HasDone D.state g done server.old
+    ensures opens { (g : Geometry) (first : ℕ) (done : List Command)
+        → HasDone D.state g first done [] server.old
         → (D.state server.new.disk).IsHonest
         → (D.state server.new.disk).LeftSince (D.state server.old.disk).moment (E.state left).bytes
         → IfErr result.restarted (λ e. (E.state e.disk).IsHonest
@@ -141,4 +150,59 @@ pub fn serve_and_restart<R: Read, W: Write, D: Disk, E: Disk>(
     let end = serve(alloc, reader, writer, server, reads);
     let restarted = restart(alloc, left);
     ServedOn { end, restarted }
+}
+
+/// What became of one line that was served, and of what a crash left of the disk.
+#[derive(Drop)]
+pub struct ServedLineOn<E: Disk> {
+    /// Err where a write or a flush failed.
+    pub answered: Result<(), WriteFault>,
+    /// The server on what the crash left, and the first turn that it played.
+    pub restarted: Result<Restarted<E>, Refused<E>>,
+}
+
+/// One line of a life: `serve` answers each of its lines as this does. Here the return is the
+/// moment: whoever has the reply knows that the commands done, with this line's where it says
+/// `done`, stay done from now on, whatever follows and whenever a crash comes. A crash inside the
+/// call leaves those done before and at most the line's command besides. So a life may be served
+/// line by line, on a halted server too, and each line is promised where the disk is honest up to
+/// it, whatever a later one reads.
+pub fn serve_line_and_restart<W: Write, D: Disk, E: Disk>(
+    server: &mut Server<D>,
+    alloc: Global,
+    line: &[u8],
+    writer: &mut W,
+    left: E,
+) -> ServedLineOn<E>
+    // What was told of the line, and what is done then; and what a crash leaves: first one at some
+    // moment since the call began, then one that comes once it has returned.
+    ensures told { (g : Geometry) (first : ℕ) (done others : List Command)
+        → HasDone D.state g first done others server.old → (D.state server.new.disk).IsHonest
+        → (made cut_off : List Command)
+        × TellsLine g result.answered line.now made cut_off
+        (W.contents writer.old) (W.contents writer.new)
+        × HasDone D.state g first (done ++ made) (others ++ cut_off) server.new
+        × ((D.state server.new.disk).LeftSince (D.state server.old.disk).moment
+        (E.state left).bytes → IfOk result.restarted (λ r. (E.state r.server.disk).IsHonest
+        → LivesOn E.state g first done (others ++ (made ++ cut_off)) r.server
+        (bytes_of_packets r.packets.items)))
+        × ((D.state server.new.disk).MayLeave (E.state left).bytes
+        → IfOk result.restarted (λ r. (E.state r.server.disk).IsHonest
+        → LivesOn E.state g first (done ++ made) (others ++ cut_off) r.server
+        (bytes_of_packets r.packets.items))) }
+
+    // it opens, but for want of memory or a failure of the disk that was left
+    ensures opens { (g : Geometry) (first : ℕ) (done others : List Command)
+        → HasDone D.state g first done others server.old → (D.state server.new.disk).IsHonest
+        → (D.state server.new.disk).LeftSince (D.state server.old.disk).moment (E.state left).bytes
+        → IfErr result.restarted (λ e. (E.state e.disk).IsHonest
+        → IsPassing (E.state left) (E.state e.disk) e.refusal) }
+    ensures keeps { KeepsLength (D.state server.old.disk) (D.state server.new.disk) }
+{
+    let answered = serve_line(alloc, line, writer, server);
+    let restarted = restart(alloc, left);
+    ServedLineOn {
+        answered,
+        restarted,
+    }
 }

@@ -8,7 +8,7 @@ use Rattle.mot_server.specs.Attempts as attempts
 use Rattle.mot_server.specs.declared.running.Attempt.{Attempt}
 use Rattle.mot_server.specs.declared.running.Attempt.TheVariants.{Accepted, Refused}
 use Rattle.mot_update.specs.HasRun.{marks_of_settling}
-use Rattle.mot_update.specs.Told.{Answer, AreAnswers, TellsMore, Withdrew}
+use Rattle.mot_update.specs.Told.{Answer, AreAnswers, TellsBoth, TellsMore, Withdrew}
 use Rattle.mot_update.specs.Told.{answers_of, commands_of}
 use Rattle.mot_update.specs.declared.settling.Settled.{Settled}
 use Rattle.mot_update.specs.declared.settling.Settled.TheVariants as settled
@@ -35,6 +35,43 @@ pub tells_on : (a b c : List Answer → Type 0) (xs : List Answer) → TellsMore
     → TellsMore b c xs
     → TellsMore a c xs
 tells_on a b c xs p q = λ told was. q told (subst b (append-nil told) (p told was))
+
+-- ---- the same with what was given
+
+pub both_trans : (a b c : List Answer → List Wanted → Type 0) (xs ys : List Answer)
+    (us vs : List Wanted) → TellsBoth a b xs us → TellsBoth b c ys vs
+    → TellsBoth a c (xs ++ ys) (us ++ vs)
+both_trans a b c xs ys us vs p q = λ given told was.
+    subst (λ (l : List Wanted). c (told ++ (xs ++ ys)) l) (append_assoc given us vs)
+    (tells_trans (λ t. a t given) (λ t. b t (given ++ us)) (λ t. c t ((given ++ us) ++ vs)) xs ys
+    (p given) (q (given ++ us)) told was)
+
+pub both_nil : (a : List Answer → List Wanted → Type 0) → TellsBoth a a [] []
+both_nil a = λ given told was.
+    subst (λ (l : List Wanted). a (told ++ []) l) (sym (append-nil given))
+    (tells_nil (λ t. a t given) told was)
+
+-- nothing more was told or given
+pub both_kept : (a b c : List Answer → List Wanted → Type 0) (xs : List Answer) (us : List Wanted)
+    → TellsBoth a b xs us → TellsBoth b c [] [] → TellsBoth a c xs us
+both_kept a b c xs us p q =
+    subst (λ (l : List Wanted). TellsBoth a c xs l) (append-nil us)
+    (subst (λ (l : List Answer). TellsBoth a c l (us ++ [])) (append-nil xs)
+    (both_trans a b c xs [] us [] p q))
+
+-- nothing more was told, and these were given
+pub both_gives : (a b c : List Answer → List Wanted → Type 0) (xs : List Answer)
+    (us vs : List Wanted) → TellsBoth a b xs us → TellsBoth b c [] vs → TellsBoth a c xs (us ++ vs)
+both_gives a b c xs us vs p q =
+    subst (λ (l : List Answer). TellsBoth a c l (us ++ vs)) (append-nil xs)
+    (both_trans a b c xs [] us vs p q)
+
+-- these were given, and then these told
+pub both_on : (a b c : List Answer → List Wanted → Type 0) (xs : List Answer) (us : List Wanted)
+    → TellsBoth a b [] us → TellsBoth b c xs [] → TellsBoth a c xs us
+both_on a b c xs us p q =
+    subst (λ (l : List Wanted). TellsBoth a c xs l) (append-nil us)
+    (both_trans a b c [] xs us [] p q)
 
 -- commands that were not answered
 pub answers-more : (answers : List Answer) (commands others : List Command) (marks : List Bool)

@@ -51,3 +51,10 @@ AreAnswers (answer ∷ answers) (command ∷ commands) (mark ∷ marks) =
 -- what was told goes on by these
 abbrev pub TellsMore : (List Answer → Type 0) → (List Answer → Type 0) → List Answer → Type 0
 TellsMore before after answers = (told : List Answer) → before told → after (told ++ answers)
+
+-- what was told goes on by these, and what was given by those
+abbrev pub TellsBoth : (List Answer → List Wanted → Type 0) → (List Answer → List Wanted → Type 0)
+    → List Answer → List Wanted → Type 0
+TellsBoth before after answers wanted =
+    (given : List Wanted)
+    → TellsMore (λ told. before told given) (λ told. after told (given ++ wanted)) answers

@@ -1,5 +1,5 @@
 //! A look at a source: what it gives, made of a server's carousel.
-ghost use Rattle.std.specs.Prelude.{◌≡◌, [], true, IfErr, IfOk};
+ghost use Rattle.std.specs.Prelude.{◌≡◌, ◌≤◌, [], length, true, IfErr, IfOk, OnOk};
 ghost use Rattle.disk_model.specs.Disk.{KeepsLength};
 ghost use Rattle.mot_journal.specs.Image.{Standing};
 ghost use Rattle.mot_numbers.specs.declared.refusal.Refusal.TheVariants.{OutOfMemory};
@@ -9,7 +9,7 @@ ghost use Rattle.mot_server.specs.Attempts.{fault_of};
 ghost use Rattle.mot_update.specs.Faults.{TellsFaults};
 ghost use Rattle.mot_update.specs.Looking.{Gives, HasLooked, HasSettled, RunsThrough};
 ghost use Rattle.mot_update.specs.Looking.{unknown_names, withdraw_all};
-ghost use Rattle.mot_update.specs.Told.{TellsMore};
+ghost use Rattle.mot_update.specs.Told.{TellsBoth};
 
 use crate::{Source, settle, withdraw};
 use disk_model::Disk;
@@ -37,7 +37,12 @@ pub fn look<D: Disk, S: Source>(
         (D.state server.old.disk) (D.state server.new.disk) s
         (S.names source.old) (S.place source.old) (S.given source.old) (S.given source.new)
         (S.is_fine source.new) (fault_of result))
-        × TellsMore (S.was_told source.old) (S.was_told source.new) looked.runs.answers }
+        × TellsBoth (S.was_told source.old) (S.was_told source.new) looked.runs.answers
+        looked.wanted }
+
+    // Where it came to its end, all names were gone over.
+    ensures ended { OnOk result (length (S.names source.new) ≤ S.place source.new) }
+    ensures same { S.names source.new ≡ S.names source.old }
     ensures fine { S.is_fine source.new ≡ true → S.is_fine source.old ≡ true }
 {
     let names = names_to_withdraw(alloc, server.carousel(), source)?;
@@ -82,7 +87,7 @@ fn withdraw_these<D: Disk, S: Source>(
         → (runs : RunsThrough server.old server.new
         (D.state server.old.disk) (D.state server.new.disk) s
         (withdraw_all names.now) (S.is_fine source.new) (fault_of result))
-        × TellsMore (S.was_told source.old) (S.was_told source.new) runs.answers }
+        × TellsBoth (S.was_told source.old) (S.was_told source.new) runs.answers [] }
     ensures fine { S.is_fine source.new ≡ true → S.is_fine source.old ≡ true }
 {
     for name in names {
@@ -108,7 +113,10 @@ fn settle_all<D: Disk, S: Source>(
         (D.state server.old.disk) (D.state server.new.disk) s
         (S.names source.old) (S.place source.old) (S.given source.old) (S.given source.new)
         (S.is_fine source.new) (fault_of result))
-        × TellsMore (S.was_told source.old) (S.was_told source.new) settled.runs.answers }
+        × TellsBoth (S.was_told source.old) (S.was_told source.new) settled.runs.answers
+        settled.wanted }
+    ensures ended { OnOk result (length (S.names source.new) ≤ S.place source.new) }
+    ensures same { S.names source.new ≡ S.names source.old }
     ensures fine { S.is_fine source.new ≡ true → S.is_fine source.old ≡ true }
 {
     loop {

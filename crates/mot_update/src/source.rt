@@ -2,7 +2,7 @@
 ghost use Rattle.std.specs.Prelude.{◌≡◌, ◌+◌, ◌<◌, ◌≤◌, [], ◌∷◌, ℕ, Bool, true, List, Option, Some};
 ghost use Rattle.std.specs.Prelude.{None, IfSome, MatchOption, ⊤, length, slice_get};
 ghost use Rattle.mot_update.specs.Looking.{Gives, was_settled};
-ghost use Rattle.mot_update.specs.Told.{Answer, TellsMore, Withdrew, answers_of, was_accepted};
+ghost use Rattle.mot_update.specs.Told.{Answer, TellsBoth, Withdrew, answers_of, was_accepted};
 ghost use Rattle.mot_update.specs.Updating.{is_known};
 ghost use Rattle.mot_update.specs.declared.wanted.Wanted.{Wanted};
 
@@ -24,8 +24,8 @@ pub trait Source {
     // Whether nothing was refused so far, of what it gave and of what it was told.
     ghost is_fine: { Self → Bool };
 
-    // What it was told so far is this.
-    ghost was_told: { Self → List Answer → Type 0 } = { λ _ _. ⊤ };
+    // What it was told so far is this, and what it gave is that.
+    ghost was_told: { Self → List Answer → List Wanted → Type 0 } = { λ _ _ _. ⊤ };
 
     // The name of the object that it gave last.
     ghost last: { Self → List ℕ };
@@ -46,7 +46,9 @@ pub trait Source {
         ensures named { IfSome result (λ wanted. (i : ℕ) × (place self.old ≤ i)
             × (i < place self.new) × (slice_get (names self.old) i ≡ Some wanted.name)) }
         ensures last { IfSome result (λ wanted. last self.new ≡ wanted.name) }
-        ensures told { TellsMore (was_told self.old) (was_told self.new) [] }
+        ensures told { MatchOption result (TellsBoth (was_told self.old) (was_told self.new) [] [])
+            (λ wanted. TellsBoth (was_told self.old) (was_told self.new) [] (wanted ∷ [])) }
+        ensures ended { MatchOption result (length (names self.old) ≤ place self.new) (λ _. ⊤) }
         ensures fine { is_fine self.new ≡ true → is_fine self.old ≡ true }
 
         // Where nothing was refused, no name is passed over.
@@ -59,8 +61,8 @@ pub trait Source {
         ensures same { names self.new ≡ names self.old }
         ensures stays { place self.new ≡ place self.old }
         ensures gives { Gives (given self.old) (given self.new) [] }
-        ensures told { TellsMore (was_told self.old) (was_told self.new)
-            (Withdrew name.now attempt ∷ []) }
+        ensures told { TellsBoth (was_told self.old) (was_told self.new)
+            (Withdrew name.now attempt ∷ []) [] }
         ensures fine { is_fine self.new ≡ true
             → (is_fine self.old ≡ true) × (was_accepted attempt ≡ true) };
 
@@ -69,8 +71,8 @@ pub trait Source {
         ensures same { names self.new ≡ names self.old }
         ensures stays { place self.new ≡ place self.old }
         ensures gives { Gives (given self.old) (given self.new) [] }
-        ensures told { TellsMore (was_told self.old) (was_told self.new)
-            (answers_of (last self.old) settled) }
+        ensures told { TellsBoth (was_told self.old) (was_told self.new)
+            (answers_of (last self.old) settled) [] }
         ensures fine { is_fine self.new ≡ true
             → (is_fine self.old ≡ true) × (was_settled settled ≡ true) };
 }

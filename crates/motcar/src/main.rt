@@ -3,10 +3,10 @@
 
 mod version;
 
-use disk_store::Unknown;
+use disk_store::{SystemFiles, Unknown};
 use mot_air::{is_air, run_air};
 use mot_numbers::Refusal;
-use mot_program::run_program;
+use mot_program::run_on;
 use std::fs::File;
 use std::io::{BufWriter, ErrorKind, Write};
 use std::process::ExitCode;
@@ -48,15 +48,19 @@ fn run_words<W: Write>(rt: &HostRuntime, words: &[String], writer: &mut W) -> u8
         [word, ..] if is_air(word.as_str()) => {
             run_air(rt, alloc, words, Unknown, writer, &mut errors)
         }
-        _ => run_program(
-            rt,
-            alloc,
-            words,
-            Unknown,
-            &mut rt.reader(),
-            writer,
-            &mut errors,
-        ),
+        _ => {
+            let (mut files, mut reader) = (SystemFiles::new(rt), rt.reader());
+            run_on(
+                &mut files,
+                alloc,
+                words,
+                Unknown,
+                &mut reader,
+                writer,
+                &mut errors,
+            )
+            .status
+        }
     }
 }
 

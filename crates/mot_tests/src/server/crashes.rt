@@ -4,7 +4,7 @@ use super::{COMMANDS, commands_of, is_left_behind, objects_on, seen};
 use crate::disks::{OPENING, THREE, blank_disk, image_of, new_disk, open};
 use crate::expecting::expect;
 use disk_store::MemoryDisk;
-use mot_base::Refusal;
+use mot_base::{Refusal, TransportId};
 use mot_carousel::Command;
 use mot_server::{
     Aftermath, FirstTurn, Life, Refused, Restarted, format_and_restart, format_run_and_restart,
@@ -53,7 +53,7 @@ fn first_turn(
 
 fn formatted(alloc: Global, disk: MemoryDisk, left: MemoryDisk) -> Called {
     let mut disk = disk;
-    let beginning = format_and_restart(&mut disk, alloc, &THREE, left);
+    let beginning = format_and_restart(&mut disk, alloc, &THREE, TransportId::FIRST, left);
     let told = (0, beginning.formatted.is_err(), opened(beginning.restarted));
     (disk, told)
 }
@@ -76,7 +76,7 @@ fn formatted_and_ran(
     commands: &[Command],
     left: MemoryDisk,
 ) -> Called {
-    match format_run_and_restart(disk, alloc, &THREE, commands, left) {
+    match format_run_and_restart(disk, alloc, &THREE, TransportId::FIRST, commands, left) {
         Ok(
             Life {
                 disk,

@@ -5,7 +5,7 @@ use crate::disks::{THREE, blank_disk, image_of, open};
 use crate::expecting::expect;
 use crate::streams::FailingWriter;
 use disk_store::MemoryDisk;
-use mot_base::Refusal;
+use mot_base::{Refusal, TransportId};
 use mot_server::{FirstTurn, Refused};
 use mot_session::format_serve_and_restart;
 use std::alloc::Global;
@@ -39,7 +39,17 @@ fn stopping(alloc: Global, stop: u64) -> Result<MemoryDisk, Refusal> {
 fn life(alloc: Global, disk: MemoryDisk, room: usize, left: MemoryDisk) -> (MemoryDisk, Seen) {
     let mut reader = LINES;
     let mut writer = FailingWriter::new(alloc, room, 1_000);
-    let life = format_serve_and_restart(disk, alloc, &THREE, &mut reader, &mut writer, 100, left);
+    let first = TransportId::FIRST;
+    let life = format_serve_and_restart(
+        disk,
+        alloc,
+        &THREE,
+        first,
+        &mut reader,
+        &mut writer,
+        100,
+        left,
+    );
     let (disk, is_made, left) = match life {
         Ok(life) => (life.disk, true, shown(alloc, life.after_crash)),
         Err(refused) => (refused.disk, false, Err(refused.refusal)),

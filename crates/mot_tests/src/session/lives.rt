@@ -6,7 +6,7 @@ use crate::expecting::expect;
 use disk_store::MemoryDisk;
 use mot_base::Refusal;
 use mot_server::{Restarted, restart};
-use mot_session::serve_and_restart;
+use mot_session::{serve_and_restart, serve_line_and_restart};
 use std::alloc::Global;
 
 /// Lines of which two commands are done, each of which takes one id for the directory.
@@ -104,5 +104,53 @@ fn three_lives_each_stopped_at_a_device_call(rt: HostRuntime) {
     expect(&rt, is_as_told(rt.alloc(), 0), Ok(true));
     for stop in 5..20 {
         expect(&rt, (stop, is_as_told(rt.alloc(), stop)), (stop, Ok(true)));
+    }
+}
+
+/// A line whose command takes one id for the directory.
+const LINE: &[u8] = b"period 5";
+
+/// One line of a life on this server: its disk, what was written, and what was opened of the disk
+/// that stands for what the crash left.
+fn line(
+    alloc: Global,
+    server: Server,
+    left: MemoryDisk,
+) -> (MemoryDisk, Vec<u8>, Result<(u16, usize), Refusal>) {
+    let mut server = server;
+    let mut written = Vec::new(alloc);
+    let served = serve_line_and_restart(&mut server, alloc, LINE, &mut written, left);
+    let shown = match served.restarted {
+        Ok(Restarted { server, packets }) => {
+            Ok((server.carousel().directory.get(), packets.len()))
+        }
+        Err(refused) => Err(refused.refusal),
+    };
+    (server.into_disk(), written, shown)
+}
+
+/// A line on a new disk that stops at this device call: whether a crash behind it leaves the
+/// command where it was told that it is done, and else the command or none.
+fn line_is_as_told(alloc: Global, stop: u64) -> Result<bool, Refusal> {
+    let image = new_disk(alloc, &THREE)?;
+    let none = MemoryDisk::new(alloc, 0).ok_or(Refusal::OutOfMemory)?;
+    let (disk, _, _) = line(alloc, restarted(alloc, &image, stop)?, none);
+    let left = image_of(alloc, &disk, &[0x00, 0xFF, 0x5A])?;
+    let (_, written, shown) = line(alloc, restarted(alloc, &image, stop)?, left);
+    let (directory, packets) = shown?;
+    let done = lines_with(&written, b"done ");
+    Ok(packets > 0 && (directory == 2 || (directory == 1 && done == 0)))
+}
+
+// At none, and at each behind the four calls of opening and the first turn.
+#[test]
+fn a_line_stopped_at_a_device_call(rt: HostRuntime) {
+    expect(&rt, line_is_as_told(rt.alloc(), 0), Ok(true));
+    for stop in 5..12 {
+        expect(
+            &rt,
+            (stop, line_is_as_told(rt.alloc(), stop)),
+            (stop, Ok(true)),
+        );
     }
 }

@@ -1,37 +1,54 @@
-use Rattle.std.proofs.Common.{None, inr, subst, sym}
+use Rattle.std.proofs.Common.{ℕ, List, Some, [], ◌∷◌, inr, subst, sym}
 use Rattle.std.proofs.lemmas.Result.{on_ok_weaker}
-use Rattle.mot_air.proofs.Begun.{IfErr-one, done-is, refused-is, since_opened}
+use Rattle.std.specs.Prelude.{IfErr, OnOk}
+use Rattle.mot_air.proofs.Begun.{IfErr-one, done-is, refused-is}
 use Rattle.mot_files.specs.Packets.{target_of}
 use Rattle.mot_air.specs.Playing.{Plays}
-use Rattle.mot_air.specs.Program.{FailsPlaying, OnOpened, turns_of, when_changed}
+use Rattle.mot_air.specs.Program.{FailsPlaying, OnPlayed, turns_of, when_changed}
+use Rattle.disk_store.specs.Begun.{begun_state}
+use Rattle.disk_store.proofs.Laws.{since_opened}
 use Rattle.mot_air.proofs.on_air.play_file.Goals as goal
 
 pub returns-clause-done : goal.returns-clause-done
 returns-clause-done g c = λ is.
-    let opens = c.in-Ok-open_from.ensures in
+    let opens = c.in-Ok-open_file.ensures in
     let target = target_of c.in-Ok.opened in
     let ended = c.play_into-ended.result.ended in
     let when = when_changed c.args.lines c.args.folder in
-    let P = Plays when (turns_of target c.args.turns) None None in (
+    let path = c.args.packets.now in
+    let taken = c.play_into-ended.result.taken.notes.all in
+    let P = λ (l : List (List ℕ)). Plays when (turns_of target c.args.turns) (Some (path ∷ []))
+    (Some l) in (
       target,
-      c.in-Ok.ensures,
-      subst (OnOpened P) (sym c.done.ensures.disk)
+      c.in-Ok.ensures.target,
+      subst (OnPlayed P) (sym c.done.ensures.disk)
           (done-is ended.result c.done.result.result
-          (on_ok_weaker ended.result (λ p. since_opened c.in-Ok-open_from.disk ended.disk P opens.order
-          opens.new opens.first_bytes p) c.play_into-ended.ensures.done) c.done.ensures.refused is),
+          (on_ok_weaker ended.result (λ p. since_opened c.in-Ok-open_file.disk.disk ended.disk.disk
+          (P taken) opens.first ended.disk.begins c.play_into-ended.ensures.keeps p)
+          (subst (λ (b : List (List ℕ)). OnOk ended.result
+          (Plays when (turns_of target c.args.turns) (Some b) (Some taken)
+          (begun_state c.in-Ok-open_file.disk) (begun_state ended.disk)))
+          c.in-Ok.ensures.begun c.play_into-ended.ensures.done))
+          c.done.ensures.refused is),
     )
 
 pub returns-clause-refused : goal.returns-clause-refused
 returns-clause-refused g c =
-    let opens = c.in-Ok-open_from.ensures in
+    let opens = c.in-Ok-open_file.ensures in
     let target = target_of c.in-Ok.opened in
     let ended = c.play_into-ended.result.ended in
+    let when = when_changed c.args.lines c.args.folder in
+    let path = c.args.packets.now in
+    let taken = c.play_into-ended.result.taken.notes.all in
     refused-is _ ended.result c.done.result.result c.done.ensures.done c.done.ensures.refused
     (IfErr-one ended.result (λ r p.
-    let P = FailsPlaying target (when_changed c.args.lines c.args.folder) c.args.turns r in
+    let P = λ (l : List (List ℕ)). FailsPlaying target when c.args.turns r (path ∷ []) l in
     inr (
       target,
-      c.in-Ok.ensures,
-      subst (OnOpened P) (sym c.done.ensures.disk) (since_opened c.in-Ok-open_from.disk ended.disk P
-          opens.order opens.new opens.first_bytes p),
-    )) c.play_into-ended.ensures.refused)
+      c.in-Ok.ensures.target,
+      subst (OnPlayed P) (sym c.done.ensures.disk)
+          (since_opened c.in-Ok-open_file.disk.disk ended.disk.disk (P taken) opens.first
+          ended.disk.begins c.play_into-ended.ensures.keeps p),
+    )) (subst (λ (b : List (List ℕ)). IfErr ended.result
+    (λ r. FailsPlaying target when c.args.turns r b taken (begun_state c.in-Ok-open_file.disk)
+    (begun_state ended.disk))) c.in-Ok.ensures.begun c.play_into-ended.ensures.refused))

@@ -1,11 +1,16 @@
-use Rattle.std.proofs.Common.{inl, sym, subst}
+use Rattle.std.proofs.Common.{◌⊎◌, inl, sym, subst}
+use Rattle.std.proofs.lemmas.Result.{on_ok_weaker}
 use Rattle.std.specs.Prelude.{IfErr, OnOk}
+use Rattle.mot_air.specs.Lives.{PlaysOn, StopsOn}
 use Rattle.mot_air.specs.Playing.{Plays, PlaysBy, StopsBy, StopsPlaying, unopened}
+use Rattle.mot_air.proofs.Begun.{IfErr-one}
+use Rattle.mot_air.proofs.Kept.{lives_stopped, plays_on}
 use Rattle.mot_air.proofs.Played.{plays, plays_by, stops, stops_by}
 use Rattle.mot_air.proofs.playing.play_with.Given as given
 use Rattle.mot_air.proofs.playing.play_with.Goals as goal
 use Rattle.mot_air.proofs.playing.play_with.Goals.{After-feed-result}
 use Rattle.mot_feed.proofs.Laws.{grows_nil}
+use Rattle.mot_reading.specs.Opening.{IsUnopened}
 use Rattle.mot_reading.proofs.Laws.{unopened_is}
 
 pub returns-in-Err-clause-refused : goal.returns-in-Err-clause-refused
@@ -105,3 +110,55 @@ returns-clause-refused g c =
     opens.opened opens.calm opens.going opens.at_start c.geometry.ensures.valid feeds.keeps
     feeds.continuous g.U.Update.when old new (g.U.Update.moments c.args.update.now)
     (g.U.Update.moments c.feed-result.new.update) result feeds.fault feeds.part)
+
+pub returns-in-Err-clause-lives_stopped : goal.returns-in-Err-clause-lives_stopped
+returns-in-Err-clause-lives_stopped g c =
+    let state = g.D.Disk.state in
+    let opens = c.in-Err.ensures in
+    let writes = g.O.Outlet.writes c.args.outlet.now in λ geometry first done was.
+    subst (λ (e : _). (state e.disk).IsHonest → IfErr e.result (λ r.
+    IsUnopened r (state c.args.disk) (state e.disk)
+    ⊎ StopsOn geometry first done r g.U.Update.when writes writes (state c.args.disk) (state e.disk)))
+    (sym c.unopened.ensures)
+    (λ honest. inl
+    (unopened_is _ (state c.args.disk) _ opens.refused opens.calm opens.only_syncs.still))
+
+pub returns-clause-lives : goal.returns-clause-lives
+returns-clause-lives g c =
+    let state = g.D.Disk.state in
+    let from = (goal.at.returns-clause-lives g c).After-feed-result in
+    let opens = c.in-Ok.ensures in
+    let feeds = c.feed-result.ensures in
+    let result = c.feed-result.result in
+    let old = g.O.Outlet.writes c.args.outlet.now in
+    let new = g.O.Outlet.writes c.feed-result.new.outlet in λ geometry first done was.
+    subst (λ d. (state d).IsHonest → OnOk result
+    (PlaysOn geometry first done g.U.Update.when c.args.turns old new (state c.args.disk) (state d)))
+    (sym c.into_disk.ensures)
+    (λ honest. on_ok_weaker result
+    (plays_on geometry first done g.U.Update.when c.args.turns old new (state c.args.disk)
+    (state c.feed-result.new.server.disk) was honest)
+    (plays state c.args.disk c.in-Ok.server c.feed-result.new.server g.met.D.Disk.sound
+    opens.only_syncs
+    opens.opened opens.calm opens.going opens.at_start c.geometry.ensures.valid feeds.keeps
+    feeds.continuous g.U.Update.when c.args.turns old new _ _ result feeds.calm (by g from)))
+
+pub returns-clause-lives_stopped : goal.returns-clause-lives_stopped
+returns-clause-lives_stopped g c =
+    let state = g.D.Disk.state in
+    let opens = c.in-Ok.ensures in
+    let feeds = c.feed-result.ensures in
+    let result = c.feed-result.result in
+    let old = g.O.Outlet.writes c.args.outlet.now in
+    let new = g.O.Outlet.writes c.feed-result.new.outlet in λ geometry first done was.
+    subst (λ d. (state d).IsHonest → IfErr result (λ r.
+    IsUnopened r (state c.args.disk) (state d)
+    ⊎ StopsOn geometry first done r g.U.Update.when old new (state c.args.disk) (state d)))
+    (sym c.into_disk.ensures)
+    (λ honest. IfErr-one result (λ r stops. lives_stopped geometry first done r g.U.Update.when old new
+    (state c.args.disk) (state c.feed-result.new.server.disk) was honest stops)
+    (stops state c.args.disk c.in-Ok.server c.feed-result.new.server g.met.D.Disk.sound
+    opens.only_syncs
+    opens.opened opens.calm opens.going opens.at_start c.geometry.ensures.valid feeds.keeps
+    feeds.continuous g.U.Update.when old new (g.U.Update.moments c.args.update.now)
+    (g.U.Update.moments c.feed-result.new.update) result feeds.fault feeds.part))

@@ -1,8 +1,9 @@
 use Rattle.std.proofs.Common.{◌≡◌, ◌⊎◌, inr, subst, sym}
 use Rattle.std.specs.Prelude.{IfErr}
 use Rattle.std.proofs.lemmas.Result.{on_ok_weaker}
-use Rattle.mot_air.proofs.Begun.{IfErr-one, done-is, refused-is, since_opened}
+use Rattle.mot_air.proofs.Begun.{IfErr-one, done-is, refused-is}
 use Rattle.mot_air.specs.Program.{IsUntold, OnOpened}
+use Rattle.disk_store.proofs.Laws.{since_opened}
 use Rattle.mot_air.proofs.program.export_file.Goals as goal
 use Rattle.mot_numbers.specs.declared.refusal.Refusal.TheVariants.{DeviceFault}
 use Rattle.mot_reading.specs.Exporting.{Exports, StopsExporting}
@@ -15,8 +16,10 @@ returns-in-Ok-clause-done g c = λ is.
     let new = g.W.Write.contents c.export_disk.new.writer in
     subst (OnOpened (Exports old new)) (sym c.done.ensures.disk)
     (done-is ended.result c.done.result.result
-    (on_ok_weaker ended.result (λ p. since_opened c.in-Ok.disk ended.disk (Exports old new) opens.order
-    opens.new opens.first_bytes p) c.export_disk.ensures.done) c.done.ensures.refused is)
+    (on_ok_weaker ended.result (λ p. since_opened c.in-Ok.disk.disk ended.disk.disk
+    (Exports old new)
+    opens.first ended.disk.begins c.export_disk.ensures.keeps p) c.export_disk.ensures.done)
+    c.done.ensures.refused is)
 
 pub returns-in-Ok-clause-refused : goal.returns-in-Ok-clause-refused
 returns-in-Ok-clause-refused g c =
@@ -27,6 +30,7 @@ returns-in-Ok-clause-refused g c =
     subst (λ (d : _). IfErr c.done.result.result (λ r. ((r ≡ DeviceFault) × IsUntold d old new)
     ⊎ OnOpened (StopsExporting r old new) d)) (sym c.done.ensures.disk)
     (refused-is _ ended.result c.done.result.result c.done.ensures.done c.done.ensures.refused
-    (IfErr-one ended.result (λ r p. inr (since_opened c.in-Ok.disk ended.disk
-    (StopsExporting r old new) opens.order opens.new opens.first_bytes p))
+    (IfErr-one ended.result (λ r p. inr (since_opened c.in-Ok.disk.disk ended.disk.disk
+    (StopsExporting r old new)
+    opens.first ended.disk.begins c.export_disk.ensures.keeps p))
     c.export_disk.ensures.refused))

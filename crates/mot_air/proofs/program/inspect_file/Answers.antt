@@ -1,8 +1,9 @@
 use Rattle.std.proofs.Common.{◌≡◌, ◌⊎◌, inr, subst, sym}
 use Rattle.std.specs.Prelude.{IfErr}
 use Rattle.std.proofs.lemmas.Result.{on_ok_weaker}
-use Rattle.mot_air.proofs.Begun.{IfErr-one, done-is, refused-is, since_opened}
+use Rattle.mot_air.proofs.Begun.{IfErr-one, done-is, refused-is}
 use Rattle.mot_air.specs.Program.{IsUntold, OnOpened}
+use Rattle.disk_store.proofs.Laws.{since_opened}
 use Rattle.mot_air.proofs.program.inspect_file.Goals as goal
 use Rattle.mot_numbers.specs.declared.refusal.Refusal.TheVariants.{DeviceFault}
 use Rattle.mot_reading.specs.Inspecting.{Inspects, StopsInspecting}
@@ -15,8 +16,10 @@ returns-in-Ok-clause-done g c = λ is.
     let new = g.W.Write.contents c.inspect_disk.new.writer in
     subst (OnOpened (Inspects old new)) (sym c.done.ensures.disk)
     (done-is ended.result c.done.result.result
-    (on_ok_weaker ended.result (λ p. since_opened c.in-Ok.disk ended.disk (Inspects old new) opens.order
-    opens.new opens.first_bytes p) c.inspect_disk.ensures.done) c.done.ensures.refused is)
+    (on_ok_weaker ended.result (λ p. since_opened c.in-Ok.disk.disk ended.disk.disk
+    (Inspects old new)
+    opens.first ended.disk.begins c.inspect_disk.ensures.keeps p) c.inspect_disk.ensures.done)
+    c.done.ensures.refused is)
 
 pub returns-in-Ok-clause-refused : goal.returns-in-Ok-clause-refused
 returns-in-Ok-clause-refused g c =
@@ -27,6 +30,7 @@ returns-in-Ok-clause-refused g c =
     subst (λ (d : _). IfErr c.done.result.result (λ r. ((r ≡ DeviceFault) × IsUntold d old new)
     ⊎ OnOpened (StopsInspecting r old new) d)) (sym c.done.ensures.disk)
     (refused-is _ ended.result c.done.result.result c.done.ensures.done c.done.ensures.refused
-    (IfErr-one ended.result (λ r p. inr (since_opened c.in-Ok.disk ended.disk
-    (StopsInspecting r old new) opens.order opens.new opens.first_bytes p))
+    (IfErr-one ended.result (λ r p. inr (since_opened c.in-Ok.disk.disk ended.disk.disk
+    (StopsInspecting r old new)
+    opens.first ended.disk.begins c.inspect_disk.ensures.keeps p))
     c.inspect_disk.ensures.refused))

@@ -5,7 +5,7 @@ use Rattle.mot_numbers.specs.declared.refusal.Refusal.TheVariants.{DeviceFault}
 use Rattle.mot_program.specs.Program.{IsUntold, OnOpened}
 use Rattle.mot_program.specs.Report.{Checks, StopsChecking}
 use Rattle.mot_program.proofs.Ends.{IfErr-one}
-use Rattle.mot_program.proofs.Handed.{since_opened}
+use Rattle.disk_store.proofs.Laws.{since_opened}
 use Rattle.mot_program.proofs.checking.check_file.Goals as goal
 
 pub returns-in-Ok-clause-done : goal.returns-in-Ok-clause-done

@@ -4,7 +4,7 @@ use Rattle.std.proofs.lemmas.Result.{on_ok_weaker}
 use Rattle.mot_program.specs.Program.{IsMakingRefusal, IsUntold, OnOpenedOrMade}
 use Rattle.mot_program.specs.Report.{Formats, StopsFormatting}
 use Rattle.mot_program.proofs.Ends.{IfErr-one}
-use Rattle.mot_program.proofs.Handed.{since_opened}
+use Rattle.disk_store.proofs.Laws.{since_opened}
 use Rattle.mot_program.proofs.formatting.format_file.Goals as goal
 
 pub returns-in-Ok-clause-done : goal.returns-in-Ok-clause-done

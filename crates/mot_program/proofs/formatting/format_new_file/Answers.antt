@@ -5,7 +5,7 @@ use Rattle.mot_numbers.specs.Geometry.{length_of}
 use Rattle.mot_program.specs.Program.{IsMakingRefusal, IsUntold, OnOpenedOrMade}
 use Rattle.mot_program.specs.Report.{Formats, StopsFormatting}
 use Rattle.mot_program.proofs.Ends.{IfErr-one}
-use Rattle.mot_program.proofs.Handed.{since_made}
+use Rattle.disk_store.proofs.Laws.{since_made}
 use Rattle.mot_program.proofs.formatting.format_new_file.Goals as goal
 
 pub returns-clause-done : goal.returns-clause-done

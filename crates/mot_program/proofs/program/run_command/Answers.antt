@@ -4,7 +4,8 @@ use Rattle.std.specs.Io.KnownBytes.{Keeps}
 use Rattle.mot_numbers.specs.declared.refusal.Refusal.{Refusal}
 use Rattle.mot_numbers.specs.declared.refusal.Refusal.TheVariants.{BadGeometry}
 use Rattle.mot_program.specs.Program.{Does, DoesInPart, IsBeginningRefusal, IsRefused, IsUntold}
-use Rattle.mot_program.specs.Program.{Succeeds}
+use Rattle.mot_program.specs.Program.{Succeeds, UsesFiles}
+use Rattle.mot_program.specs.Program.UsesFiles.{asked}
 use Rattle.mot_program.specs.Program.IsRefused.{begun, no_task, unbegun}
 use Rattle.mot_program.proofs.program.run_command.Goals as goal
 
@@ -56,3 +57,23 @@ returns-in-Err-clause-refused g c = λ words asks.
             | inr part ↦ begun task asked part
           ],
     ))
+
+pub returns-in-Ok-clause-files : goal.returns-in-Ok-clause-files
+returns-in-Ok-clause-files g c = λ words asks.
+    let task = c.in-Some.task in
+    let ends = c.execute-result.ensures in
+    subst (λ (e : _). UsesFiles words e.disk
+    (g.F.DiskFiles.opened c.args.files.now) (g.F.DiskFiles.opened c.execute-result.new.files)
+    (g.F.DiskFiles.taken_away c.args.files.now)
+    (g.F.DiskFiles.taken_away c.execute-result.new.files)) (sym c.unrefused.ensures)
+    (asked task ((asks task).1 c.in-Some.ensures.some) ends.opens ends.takes)
+
+pub returns-in-Err-clause-files : goal.returns-in-Err-clause-files
+returns-in-Err-clause-files g c = λ words asks.
+    let task = c.in-Some.task in
+    let ends = c.execute-result.ensures in
+    subst (λ (e : _). UsesFiles words e.disk
+    (g.F.DiskFiles.opened c.args.files.now) (g.F.DiskFiles.opened c.execute-result.new.files)
+    (g.F.DiskFiles.taken_away c.args.files.now)
+    (g.F.DiskFiles.taken_away c.execute-result.new.files)) (sym c.refuse-in-Err.ensures)
+    (asked task ((asks task).1 c.in-Some.ensures.some) ends.opens ends.takes)

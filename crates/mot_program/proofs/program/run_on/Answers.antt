@@ -85,3 +85,10 @@ returns-clause-usage g c = λ two. elim c.run_command.ensures.status [
   | inl zero ↦ absurd (let e : 0 ≡ 2 = sym zero ∙ two in omega (arith, e))
   | inr one ↦ absurd (let e : 1 ≡ 2 = sym one ∙ two in omega (arith, e))
 ]
+
+pub returns-clause-files : goal.returns-clause-files
+returns-clause-files g c =
+    let words = map g.S.AsStr.text c.args.words.now in
+    c.run_command.ensures.files words (AskBy-matched program_app words IsTask program_simple
+    c.in-Ok.matches c.in-Some.name.now (rows_of (found_of c.in-Some.rest.now))
+    c.in-Ok.ensures.matches c.in-Some.ensures.name c.in-Some.ensures.rows)

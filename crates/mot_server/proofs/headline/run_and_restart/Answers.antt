@@ -41,7 +41,7 @@ returns-clause-acknowledged g c = λ s now acknowledged history holds left.
     (c.restart-restarted.ensures.reads stands.last stands.image_is)
 
 pub returns-clause-in_a_row : goal.returns-clause-in_a_row
-returns-clause-in_a_row g c = λ geometry before now history holds left.
+returns-clause-in_a_row g c = λ geometry first_id before now history holds left.
     let leaves = c.run-end.ensures.runs.leaves now holds in
     let stands = leaves.any_moment.each (g.E.Disk.state c.args.left).bytes left in
     let some = accepted_commands c.args.commands.now c.run-end.result.done.items
@@ -49,7 +49,7 @@ returns-clause-in_a_row g c = λ geometry before now history holds left.
     if_ok _ _ c.restart-restarted.result (λ r opened honest. (
       stands.after.count,
       stands.last,
-      goes_on geometry before [] some now stands.last history stands.after,
+      goes_on geometry first_id before [] some now stands.last history stands.after,
       opened honest,
     ))
     (c.restart-restarted.ensures.holds stands.last stands.image_is)
@@ -64,7 +64,7 @@ returns-clause-opens g c = λ now holds left.
     c.restart-restarted.ensures.refused
 
 pub returns-clause-in_a_row_after : goal.returns-clause-in_a_row_after
-returns-clause-in_a_row_after g c = λ geometry before now history holds left.
+returns-clause-in_a_row_after g c = λ geometry first_id before now history holds left.
     let leaves = c.run-end.ensures.runs.leaves now holds in
     let stands = leaves.at_end (g.E.Disk.state c.args.left).bytes left in
     let done = c.run-end.result.done.items in

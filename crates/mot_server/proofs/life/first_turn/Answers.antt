@@ -13,3 +13,8 @@ returns-clause-blank g c = λ none honest.
     not_opened (g.E.Disk.state c.args.left) (g.E.Disk.state server.disk) server.view none
     (c.in_ok-server.ensures.opened
     (subst (λ d. (g.E.Disk.state d).IsHonest) c.into_disk.ensures honest))
+
+pub returns-clause-numbered : goal.returns-clause-numbered
+returns-clause-numbered g c = λ s image honest.
+    c.in_ok-server.ensures.numbered s image
+    (subst (λ d. (g.E.Disk.state d).IsHonest) c.into_disk.ensures honest)

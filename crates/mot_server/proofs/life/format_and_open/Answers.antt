@@ -1,10 +1,15 @@
-use Rattle.std.proofs.Common.{◌≡◌, ◌⊎◌, ◌<◌, true, inl, inr, Err, ap, subst}
+use Rattle.std.proofs.Common.{◌≡◌, ◌⊎◌, ◌<◌, ℕ, List, true, inl, inr, Result, Ok, Err, ap, sym, ◌∙◌}
+use Rattle.std.proofs.Common.{subst, refl, arith, []}
 use Rattle.std.proofs.lemmas.Result.{IfOk-from_err}
 use Rattle.disk_model.specs.Disk.{State}
 use Rattle.disk_model.specs.Failures.{Rises}
 use Rattle.disk_model.proofs.Laws.{keeps_on, stays}
+use Rattle.mot_journal.specs.declared.layout.Layout.{Layout}
+use Rattle.mot_journal.specs.declared.layout.Layout.TheVariants.{Two}
+use Rattle.mot_journal.specs.declared.record.Record.{Record}
 use Rattle.mot_journal.specs.Geometry.{has_magic}
-use Rattle.mot_journal.specs.Journal.{NoneOrNew, new_standing}
+use Rattle.mot_journal.specs.Image.{DiskRecords, IsInLayoutTwo, records_of}
+use Rattle.mot_journal.specs.Journal.{NoneOrFrom, standing_from, with_records}
 use Rattle.mot_numbers.proofs.Laws.{same_error}
 use Rattle.mot_numbers.specs.Geometry.{IsValid, length_of}
 use Rattle.mot_numbers.specs.declared.geometry.Geometry.{Geometry}
@@ -13,10 +18,11 @@ use Rattle.mot_numbers.specs.declared.refusal.Refusal.TheVariants.{BadGeometry, 
 use Rattle.mot_numbers.specs.declared.refusal.Refusal.TheVariants.{AlreadyFormatted, DeviceFault}
 use Rattle.mot_numbers.specs.declared.refusal.Refusal.TheVariants.{OutOfMemory}
 use Rattle.mot_repository.specs.Opening.{IsPassing}
+use Rattle.mot_repository.specs.Repository.{RepositoryView}
 use Rattle.mot_server.specs.Life.{IsFormatRefusal}
 use Rattle.mot_server.proofs.Survival.{passing}
 use Rattle.mot_server.proofs.Openings.{opened_holds}
-use Rattle.mot_server.proofs.Runs.{after_none}
+use Rattle.mot_server.proofs.Runs.{after_none, none_of}
 use Rattle.mot_server.proofs.life.format_and_open.Goals as goal
 
 -- why a disk is not formatted, by cases of its refusal
@@ -33,6 +39,16 @@ why g old new refusal bad small already (inr (inr (inl e))) = IsFormatRefusal.al
 why g old new refusal bad small already (inr (inr (inr fault))) =
     IsFormatRefusal.passing (inr fault)
 
+-- a disk in layout 2 is opened so
+layout_two : (image : List ℕ) (view : RepositoryView) (records : List Record) → IsInLayoutTwo image
+    → records_of image ≡ Ok (with_records view.journal records) → view.journal.layout ≡ Two
+layout_two image view records two read =
+    ap layout_in (sym read ∙ two.1) ∙ two.2
+  where
+    layout_in : Result DiskRecords Refusal → Layout
+    layout_in (Ok r) = r.layout
+    layout_in (Err refusal) = Two
+
 -- a passing reason since a moment when the disk had failed as often
 passing_since : (old mid new : State) (refusal : Refusal) → mid.failures ≡ old.failures
     → IsPassing mid new refusal → IsPassing old new refusal
@@ -48,6 +64,12 @@ returns-in-Err-clause-holds g c = tt
 pub returns-in-Err-clause-any_moment : goal.returns-in-Err-clause-any_moment
 returns-in-Err-clause-any_moment g c = tt
 
+pub returns-in-Err-clause-layout : goal.returns-in-Err-clause-layout
+returns-in-Err-clause-layout g c = tt
+
+pub returns-in-Err-clause-calm : goal.returns-in-Err-clause-calm
+returns-in-Err-clause-calm g c = tt
+
 pub returns-in-Err-clause-begins : goal.returns-in-Err-clause-begins
 returns-in-Err-clause-begins g c = tt
 
@@ -55,7 +77,7 @@ pub returns-in-Err-clause-refused : goal.returns-in-Err-clause-refused
 returns-in-Err-clause-refused g c = λ honest.
     let state = g.D.Disk.state in
     let is = c.in-Err.ensures in
-    why c.args.geometry.now (state c.args.disk) (state c.format.new.disk) c.in-Err.refusal
+    why c.args.geometry.now (state c.args.disk) (state c.format_from.new.disk) c.in-Err.refusal
     (λ e. is.bad.0 (ap Err e)) (λ e. (is.small.0 (ap Err e)).1)
     (λ e. is.already_only honest (ap Err e)) is.refused
 
@@ -71,6 +93,14 @@ pub returns-in_err-server-clause-any_moment : goal.returns-in_err-server-clause-
 returns-in_err-server-clause-any_moment g c =
     IfOk-from_err c.from_residual.result _ c.from_residual.ensures.0
 
+pub returns-in_err-server-clause-layout : goal.returns-in_err-server-clause-layout
+returns-in_err-server-clause-layout g c =
+    IfOk-from_err c.from_residual.result _ c.from_residual.ensures.0
+
+pub returns-in_err-server-clause-calm : goal.returns-in_err-server-clause-calm
+returns-in_err-server-clause-calm g c =
+    IfOk-from_err c.from_residual.result _ c.from_residual.ensures.0
+
 pub returns-in_err-server-clause-begins : goal.returns-in_err-server-clause-begins
 returns-in_err-server-clause-begins g c =
     IfOk-from_err c.from_residual.result _ c.from_residual.ensures.0
@@ -78,7 +108,7 @@ returns-in_err-server-clause-begins g c =
 pub returns-in_err-server-clause-refused : goal.returns-in_err-server-clause-refused
 returns-in_err-server-clause-refused g c =
     let state = g.D.Disk.state in
-    let formatted = c.format.new.disk in
+    let formatted = c.format_from.new.disk in
     let opens = c.in_err-server.ensures in
     let failed = c.in_err-server.field-0.0 in
     rw (same_error c.from_residual.result failed c.from_residual.ensures.1) (λ honest.
@@ -87,7 +117,8 @@ returns-in_err-server-clause-refused g c =
     (g.met.D.Disk.sound formatted was).bytes in
     IsFormatRefusal.passing (passing_since (state c.args.disk) (state formatted)
     (state failed.disk) failed.refusal c.in_default.ensures.calm
-    (passing (state formatted) (state failed.disk) (new_standing c.args.geometry.now)
+    (passing (state formatted) (state failed.disk) (standing_from c.args.geometry.now
+    c.args.directory)
     failed.refusal honest (record { stands = made.0; clean = made.1 }) opens.refused)))
 
 pub returns-clause-refused : goal.returns-clause-refused
@@ -96,20 +127,20 @@ returns-clause-refused g c = tt
 pub returns-clause-keeps : goal.returns-clause-keeps
 returns-clause-keeps g c =
     let state = g.D.Disk.state in
-    keeps_on (state c.args.disk) (state c.format.new.disk) (state c.in_ok-server.server.disk)
-    c.format.ensures.keeps c.in_ok-server.ensures.only_syncs.keeps
+    keeps_on (state c.args.disk) (state c.format_from.new.disk) (state c.in_ok-server.server.disk)
+    c.format_from.ensures.keeps c.in_ok-server.ensures.only_syncs.keeps
 
 pub returns-clause-holds : goal.returns-clause-holds
 returns-clause-holds g c = λ honest.
     let state = g.D.Disk.state in
     let opens = c.in_ok-server.ensures in
-    let formatted = c.format.new.disk in
+    let formatted = c.format_from.new.disk in
     let server = c.in_ok-server.server in
     let was = opens.only_syncs.keeps.was_honest honest in
     let made = c.in_default.ensures.ok was (state formatted).bytes
     (g.met.D.Disk.sound formatted was).bytes in
     opened_holds (state formatted) (state server.disk) server.view
-    (new_standing c.args.geometry.now)
+    (standing_from c.args.geometry.now c.args.directory)
     (record { stands = made.0; clean = made.1 }) (opens.opened honest) honest
     (g.met.D.Disk.sound server.disk honest) (opens.only_syncs.still honest) opens.going
 
@@ -118,13 +149,33 @@ returns-clause-any_moment g c = λ honest blank.
     let state = g.D.Disk.state in
     let opens = c.in_ok-server.ensures in
     let was = opens.only_syncs.keeps.was_honest honest in
-    stays (state c.args.disk) (state c.format.new.disk) (state c.in_ok-server.server.disk)
-    (NoneOrNew c.args.geometry.now)
+    stays (state c.args.disk) (state c.format_from.new.disk) (state c.in_ok-server.server.disk)
+    (NoneOrFrom c.args.geometry.now c.args.directory)
     (c.in_default.ensures.any_moment was blank) (opens.only_syncs.still honest).time
+
+pub returns-clause-layout : goal.returns-clause-layout
+returns-clause-layout g c = λ honest.
+    let state = g.D.Disk.state in
+    let opens = c.in_ok-server.ensures in
+    let formatted = c.format_from.new.disk in
+    let was = opens.only_syncs.keeps.was_honest honest in
+    let two = c.in_default.ensures.layout was (state formatted).bytes
+    (g.met.D.Disk.sound formatted was).bytes in
+    let opened = opens.opened honest in
+    layout_two (state formatted).bytes c.in_ok-server.server.view opened.records two opened.read
+
+pub returns-clause-calm : goal.returns-clause-calm
+returns-clause-calm g c = c.in_ok-server.ensures.calm ∙ c.in_default.ensures.calm
 
 pub returns-clause-begins : goal.returns-clause-begins
 returns-clause-begins g c = λ honest. record {
-  standing = new_standing c.args.geometry.now;
-  after = after_none (new_standing c.args.geometry.now);
-  holds = returns-clause-holds g c honest;
+  standing = standing_from c.args.geometry.now c.args.directory;
+  after = after_none (standing_from c.args.geometry.now c.args.directory);
+  agrees = (returns-clause-holds g c honest).agrees;
+  holds = λ going. (refl, returns-clause-holds g c honest);
+  leaves = λ image may. none_of (standing_from c.args.geometry.now c.args.directory) [] []
+      (standing_from c.args.geometry.now c.args.directory) image
+      (after_none (standing_from c.args.geometry.now c.args.directory))
+      ((returns-clause-holds g c honest).each image may);
+  few = omega arith;
 }

@@ -10,7 +10,9 @@ use Rattle.mot_server.specs.Playing.{HasPlayedTurn, bytes_of_packets}
 use Rattle.mot_server.specs.Server.{place_in}
 use Rattle.mot_server.proofs.Openings.{opened_agrees, opened_holds, turn_refused, opened_room}
 use Rattle.mot_server.proofs.Openings.{opened_still}
-use Rattle.mot_server.proofs.Openings.{opened_beginning, opened_continuous, syncs_read}
+use Rattle.mot_server.proofs.Openings.{opened_beginning, opened_continuous, opened_length}
+use Rattle.mot_server.proofs.Openings.{syncs_read}
+use Rattle.mot_server.proofs.Numbered.{turn_numbered}
 use Rattle.mot_server.proofs.Read.{holds_still}
 use Rattle.mot_server.proofs.restarting.restart.Goals as goal
 
@@ -170,3 +172,17 @@ returns-in-Err-clause-calm g c =
     ⊎_elim (λ is. inl is)
     (λ same. inr (ap (λ d. (g.D.Disk.state d).failures) c.into_disk.ensures ∙ same
     ∙ c.in_ok-server.ensures.calm)) c.in-Err.ensures.calm
+
+pub returns-in-Ok-clause-numbered : goal.returns-in-Ok-clause-numbered
+returns-in-Ok-clause-numbered g c = λ s image honest.
+    let state = g.D.Disk.state in
+    let old = c.in_ok-server.server in
+    let opens = c.in_ok-server.ensures in
+    let was = c.play_turn.ensures.only_reads.keeps.was_honest honest in
+    let opened = opens.opened was in
+    let agrees = opened_agrees (state c.args.disk) (state old.disk) old.view s image opened in
+    turn_numbered s.geometry s.geometry.segment_size
+    (turn_of_carousel s.carousel s.geometry.segment_size)
+    (bytes_of_packets c.in-Ok.packets.items) (place_in c.play_turn.new.self s)
+    (opened_length (state c.args.disk) (state old.disk) old.view s agrees opened)
+    (returns-in-Ok-clause-turn g c s image honest)

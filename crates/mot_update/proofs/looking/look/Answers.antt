@@ -1,12 +1,12 @@
-use Rattle.std.proofs.Common.{◌∙◌, ℕ, List, refl, sym, ap, subst}
+use Rattle.std.proofs.Common.{◌∙◌, ℕ, List, [], refl, sym, ap, subst}
 use Rattle.disk_model.proofs.Laws.{keeps_none, keeps_on, unchanged_none}
 use Rattle.mot_numbers.proofs.Laws.{same_error}
 use Rattle.mot_objects.specs.declared.carousel.Carousel.{Carousel}
 use Rattle.mot_server.specs.Attempts.{fault_of}
 use Rattle.mot_update.specs.Looking.{HasSettled, withdraw_all, unknown_names}
-use Rattle.mot_update.specs.Told.{TellsMore}
+use Rattle.mot_update.specs.Told.{TellsBoth}
 use Rattle.mot_update.specs.Faults.{no_memory}
-use Rattle.mot_update.proofs.Answers.{tells_nil, tells_trans}
+use Rattle.mot_update.proofs.Answers.{both_nil, both_trans}
 use Rattle.mot_update.proofs.Faults.{tells_on}
 use Rattle.mot_update.proofs.Looks.{err_of, gives_nil, look_cut, look_on, withdrawals-are}
 use Rattle.mot_update.proofs.Looks.{withdrew_cut, withdrew_none}
@@ -28,7 +28,7 @@ returns-in_err-names-clause-looked g c = λ s holds honest.
           fine e.0 (withdrawals-are names old.view s holds.agrees) (gives_nil given)
           (withdrew_cut old old state state s gone 0 fine none e.0 sound honest
           (unchanged_none state)),
-      tells_nil (g.S.Source.was_told c.args.source.now),
+      both_nil (g.S.Source.was_told c.args.source.now),
     )
 
 pub returns-in_err-withdraw_these-clause-looked : goal.returns-in_err-withdraw_these-clause-looked
@@ -76,8 +76,8 @@ returns-clause-looked g c = λ s holds honest.
     (settled : HasSettled mid new (state mid.disk) (state new.disk) t names place
     (given c.withdraw_these.new.source) (given c.settle_all.new.source)
     (g.S.Source.is_fine c.settle_all.new.source) (fault_of c.settle_all.result))
-    × TellsMore (told c.withdraw_these.new.source) (told c.settle_all.new.source)
-    settled.runs.answers in
+    × TellsBoth (told c.withdraw_these.new.source) (told c.settle_all.new.source)
+    settled.runs.answers settled.wanted in
     let settled : Settles names (g.S.Source.place c.args.source.now) =
     subst (Settles names) one.stays
     (subst (λ n. Settles n (g.S.Source.place c.withdraw_these.new.source)) one.same
@@ -88,8 +88,9 @@ returns-clause-looked g c = λ s holds honest.
           (g.S.Source.is_fine c.withdraw_these.new.source)
           (g.S.Source.is_fine c.settle_all.new.source) (fault_of c.settle_all.result) are
           one.gives runs.0 two.fine settled.0,
-      tells_trans (told c.args.source.now) (told c.withdraw_these.new.source)
-          (told c.settle_all.new.source) runs.0.answers settled.0.runs.answers runs.1 settled.1,
+      both_trans (told c.args.source.now) (told c.withdraw_these.new.source)
+          (told c.settle_all.new.source) runs.0.answers settled.0.runs.answers [] settled.0.wanted
+          runs.1 settled.1,
     )
 
 pub returns-in_err-names-clause-keeps : goal.returns-in_err-names-clause-keeps

@@ -1,4 +1,4 @@
-use Rattle.std.proofs.Common.{◌≡◌, ◌∙◌, ◌≤◌, ◌<◌, ◌-◌, ℕ, length, Ok, Some, refl, sym, ap}
+use Rattle.std.proofs.Common.{◌≡◌, ◌∙◌, ◌≤◌, ◌<◌, ◌-◌, ℕ, length, Ok, Some, [], ◌∷◌, refl, sym, ap}
 use Rattle.std.proofs.Common.{subst, arith}
 use Rattle.std.proofs.lemmas.Option.{slice_get_within}
 use Rattle.std.specs.Prelude.{slice_get}
@@ -6,8 +6,9 @@ use Rattle.disk_model.proofs.Laws.{keeps_none, keeps_on}
 use Rattle.disk_model.proofs.Laws.{unchanged_none}
 use Rattle.mot_numbers.proofs.Laws.{same_error}
 use Rattle.mot_update.specs.HasRun.{marks_of_settling}
-use Rattle.mot_update.specs.Told.{AreAnswers, TellsMore, answers_of}
-use Rattle.mot_update.proofs.Answers.{answers-settled, tells_kept, tells_nil, tells_on, tells_trans}
+use Rattle.mot_update.specs.Told.{AreAnswers, TellsBoth, answers_of}
+use Rattle.mot_update.proofs.Answers.{answers-settled, both_gives, both_kept, both_nil, both_on}
+use Rattle.mot_update.proofs.Answers.{both_trans}
 use Rattle.mot_update.proofs.Faults.{calm_here, calm_on, fault_on}
 use Rattle.mot_update.proofs.Looks.{accepted_settled, gives_nil, settled_all, settled_fault}
 use Rattle.mot_update.proofs.Looks.{settled_more, settled_none}
@@ -30,7 +31,7 @@ loop-wanted-init g c =
             (g.S.Source.place c.args.source.now) (g.S.Source.given c.args.source.now)
             (g.S.Source.is_fine c.args.source.now)
             (g.met.D.Disk.sound c.args.server.now.disk honest) honest (unchanged_none state) holds,
-        tells_nil (g.S.Source.was_told c.args.source.now),
+        both_nil (g.S.Source.was_told c.args.source.now),
       );
       fine = λ e. e;
     }
@@ -52,8 +53,8 @@ returns-in_default-clause-settled g c = λ s holds honest.
             subst (λ l. length l ≤ g.S.Source.place c.loop-wanted.source)
                 c.loop-wanted.invariant.same (c.in_default.ensures.every e),
           )),
-      tells_kept (told c.args.source.now) (told c.loop-wanted.source) (told c.next.new.self)
-          so_far.0.answers so_far.1 c.in_default.ensures.told,
+      both_kept (told c.args.source.now) (told c.loop-wanted.source) (told c.next.new.self)
+          so_far.0.answers so_far.0.wanted so_far.1 c.in_default.ensures.told,
     )
 
 pub returns-in_err-settled-clause-settled : goal.returns-in_err-settled-clause-settled
@@ -81,8 +82,8 @@ returns-in_err-settled-clause-settled g c = λ s holds honest.
           next.gives (gives_nil (given c.next.new.self)) so_far.0
           (g.S.Source.is_fine c.next.new.self) c.in_err-settled.field-0.0
           (λ t held. two.run t held honest),
-      tells_kept (told c.args.source.now) (told c.loop-wanted.source) (told c.next.new.self)
-          so_far.0.answers so_far.1 next.told,
+      both_gives (told c.args.source.now) (told c.loop-wanted.source) (told c.next.new.self)
+          so_far.0.answers so_far.0.wanted (c.in-Some.wanted ∷ []) so_far.1 next.told,
     )
 
 pub returns-in_default-clause-faults : goal.returns-in_default-clause-faults
@@ -144,12 +145,13 @@ loop-wanted-preserved g c =
                   told.stays ∙ next.every f.0,
                   accepted_settled settled f.1,
                 )),
-            tells_trans (was_told c.args.source.now) (was_told c.loop-wanted.source)
-                (was_told c.settled.new.self) so_far.0.answers answers so_far.1
-                (tells_on (was_told c.loop-wanted.source) (was_told c.next.new.self)
-                (was_told c.settled.new.self) answers next.told
-                (subst (λ l. TellsMore (was_told c.next.new.self) (was_told c.settled.new.self)
-                (answers_of l settled)) next.last told.told)),
+            both_trans (was_told c.args.source.now) (was_told c.loop-wanted.source)
+                (was_told c.settled.new.self) so_far.0.answers answers so_far.0.wanted
+                (c.in-Some.wanted ∷ []) so_far.1
+                (both_on (was_told c.loop-wanted.source) (was_told c.next.new.self)
+                (was_told c.settled.new.self) answers (c.in-Some.wanted ∷ []) next.told
+                (subst (λ l. TellsBoth (was_told c.next.new.self) (was_told c.settled.new.self)
+                (answers_of l settled) []) next.last told.told)),
           );
       fine = λ e. is.fine (next.fine (told.fine e).0);
     }
@@ -178,3 +180,8 @@ returns-in_err-settled-clause-keeps g c =
 pub returns-in_err-settled-clause-fine : goal.returns-in_err-settled-clause-fine
 returns-in_err-settled-clause-fine g c = λ e.
     c.loop-wanted.invariant.fine (c.in-Some.ensures.fine e)
+
+pub returns-in_default-clause-ended : goal.returns-in_default-clause-ended
+returns-in_default-clause-ended g c =
+    subst (λ l. length l ≤ g.S.Source.place c.next.new.self) (sym c.in_default.ensures.same)
+    c.in_default.ensures.ended

@@ -9,7 +9,7 @@ use Rattle.mot_update.specs.Faults.{no_memory}
 use Rattle.mot_update.specs.HasRun.{HasRun}
 use Rattle.mot_update.proofs.Faults.{calm_here, calm_on, fault_on}
 use Rattle.mot_update.specs.Told.{Withdrew}
-use Rattle.mot_update.proofs.Answers.{tells_nil, tells_trans}
+use Rattle.mot_update.proofs.Answers.{both_nil, both_trans}
 use Rattle.mot_update.proofs.Looks.{err_of, gives_kept, gives_nil, withdrew_all}
 use Rattle.mot_update.proofs.Looks.{withdrew_cut}
 use Rattle.mot_update.proofs.Looks.{withdrew_fault, withdrew_next, withdrew_none}
@@ -26,7 +26,7 @@ loop-name-init g c =
       run = λ s holds honest. (
         withdrew_none c.args.server.now state s (g.S.Source.is_fine c.args.source.now)
             (g.met.D.Disk.sound c.args.server.now.disk honest) honest (unchanged_none state) holds,
-        tells_nil (g.S.Source.was_told c.args.source.now),
+        both_nil (g.S.Source.was_told c.args.source.now),
       );
       stays = refl;
       fine = λ e. e;
@@ -116,9 +116,9 @@ loop-name-preserved g c =
                 (Withdraw n ∷ []) (marks_of (Ok attempt)) None)
                 c.in_ok-clone.ensures.cases (two.run t held))
                 c.withdrew.ensures.fine,
-            tells_trans (g.S.Source.was_told c.args.source.now)
+            both_trans (g.S.Source.was_told c.args.source.now)
                 (g.S.Source.was_told c.loop-name.source) (g.S.Source.was_told c.withdrew.new.self)
-                so_far.0.answers (Withdrew c.name-item.result attempt ∷ []) so_far.1
+                so_far.0.answers (Withdrew c.name-item.result attempt ∷ []) [] [] so_far.1
                 c.withdrew.ensures.told,
           );
       stays = c.withdrew.ensures.stays ∙ is.stays;

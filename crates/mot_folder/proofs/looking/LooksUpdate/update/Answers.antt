@@ -21,12 +21,13 @@ updating_by old new start now s may path report fault is
     (unlisted refused none run entries told are) =
     subst (λ f. IsUpdating old new start now s may f) (sym none)
     (record { commands = []; marks = []; run = run; waits = λ e. refl })
-updating_by old new start now s may path report fault is (listed names shown looked told) = record {
-  commands = looked.runs.commands;
-  marks = looked.runs.marks;
-  run = looked.runs.run;
-  waits = λ e. absurd (let t : true ≡ false = sym is ∙ e in cc);
-}
+updating_by old new start now s may path report fault is (listed names shown looked seen all told) =
+    record {
+      commands = looked.runs.commands;
+      marks = looked.runs.marks;
+      run = looked.runs.run;
+      waits = λ e. absurd (let t : true ≡ false = sym is ∙ e in cc);
+    }
 
 between_due : (left : ℕ) (between : Bool) → true ≡ is_due left between → between ≡ true
 between_due left true due = refl

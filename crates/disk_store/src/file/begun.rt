@@ -1,10 +1,10 @@
 //! A file's disk from its opening on.
-ghost use Rattle.std.specs.Prelude.{Bool, true, false};
+ghost use Rattle.std.specs.Prelude.{◌≡◌, Bool, true, false, IfOk};
+ghost use Rattle.disk_store.specs.Beginning.{BeginWith, IsFirst, first_calls};
 ghost use Rattle.disk_store.specs.File.{calls_on, file_state};
-ghost use Rattle.mot_program.specs.Files.{BeginWith, first_calls};
 
+use super::{FileDiskFrom, Start, Unopened};
 use disk_model::{Disk, DiskFault};
-use disk_store::{FileDiskFrom, Start};
 use std::marker::PhantomData;
 
 /// Whether a file was made, or was there and was opened. A word of contracts.
@@ -40,7 +40,7 @@ pub struct BegunFile<S: Start, K: Beginning> {
 
 impl<S: Start, K: Beginning> Disk for BegunFile<S, K> {
     ghost use Rattle.disk_store.specs.FileSound.{file_sound};
-    ghost use Rattle.mot_program.specs.Begun.{begun_state};
+    ghost use Rattle.disk_store.specs.Begun.{begun_state};
 
     ghost state = { begun_state };
 
@@ -61,4 +61,36 @@ impl<S: Start, K: Beginning> Disk for BegunFile<S, K> {
     fn sync(&mut self) -> Result<(), DiskFault> {
         self.disk.sync()
     }
+}
+
+/// Opens the file at the path as a disk.
+pub fn open_file<S: Start>(
+    rt: &HostRuntime,
+    path: &str,
+    start: S,
+) -> Result<BegunFile<S, WasThere>, Unopened<S>>
+    ensures first { IfOk result (λ file. IsFirst false file.disk) }
+{
+    let disk = FileDiskFrom::open_from(rt, path, start)?;
+    Ok(BegunFile {
+        disk,
+        beginning: PhantomData,
+    })
+}
+
+/// Makes a new file of so many zeros, as a disk.
+pub fn make_file<S: Start>(
+    rt: &HostRuntime,
+    path: &str,
+    len: u64,
+    start: S,
+) -> Result<BegunFile<S, WasMade>, Unopened<S>>
+    ensures first { IfOk result (λ file. IsFirst true file.disk) }
+    ensures len { IfOk result (λ file. (file_state file.disk).len ≡ len) }
+{
+    let disk = FileDiskFrom::create_from(rt, path, len, start)?;
+    Ok(BegunFile {
+        disk,
+        beginning: PhantomData,
+    })
 }

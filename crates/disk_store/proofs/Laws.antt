@@ -10,8 +10,8 @@ use Rattle.disk_model.specs.Disk.{IsNew, KeepsLength, State}
 use Rattle.disk_store.specs.File.{calls_on, file_state}
 use Rattle.disk_store.specs.declared.file.start.Start.{Ghosts}
 use Rattle.disk_store.specs.declared.file.FileDiskFrom.{FileDiskFrom}
-use Rattle.mot_program.specs.Files.{BeginWith, HasFirstCalls, IsFirst, SinceMade, SinceOpened}
-use Rattle.mot_program.specs.Files.{first_calls, first_state, state_after}
+use Rattle.disk_store.specs.Beginning.{BeginWith, HasFirstCalls, IsFirst, SinceMade, SinceOpened}
+use Rattle.disk_store.specs.Beginning.{first_calls, first_state, state_after}
 
 module _ {S : Type 0} {start : Ghosts S} where
   module _ (is_new : Bool) (first disk : FileDiskFrom S start) (was : IsFirst is_new first)

@@ -1,6 +1,6 @@
 use Rattle.disk_store.specs.File.{calls_on}
-use Rattle.mot_program.proofs.Handed.{begins_after, one_or_failed}
-use Rattle.mot_program.proofs.begun.BegunFileDisk.read.Goals as goal
+use Rattle.disk_store.proofs.Laws.{begins_after, one_or_failed}
+use Rattle.disk_store.proofs.file.begun.BegunFileDisk.read.Goals as goal
 
 pub invariant_of-self : goal.invariant_of-self
 invariant_of-self g c =

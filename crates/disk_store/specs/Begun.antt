@@ -2,8 +2,8 @@
 use Rattle.disk_model.specs.Disk.{State}
 use Rattle.disk_store.specs.File.{file_state}
 use Rattle.disk_store.specs.declared.file.start.Start as start
-use Rattle.mot_program.specs.declared.begun.Beginning as beginning
-use Rattle.mot_program.specs.declared.begun.BegunFile.{BegunFile}
+use Rattle.disk_store.specs.declared.file.begun.Beginning as beginning
+use Rattle.disk_store.specs.declared.file.begun.BegunFile.{BegunFile}
 
 -- all that contracts know of it as a disk
 abbrev pub begun_state : {S K : Type 0} {s : start.Ghosts S} {k : beginning.Ghosts K}

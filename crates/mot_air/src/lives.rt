@@ -1,0 +1,30 @@
+//! What one life of a disk hands on to the next: whatever was served, run or played in it.
+ghost use Rattle.std.specs.Prelude.{ℕ, [], IfOk, IsFalse, List};
+ghost use Rattle.mot_air.specs.Lives.{KeepsDone};
+ghost use Rattle.mot_numbers.specs.declared.geometry.Geometry.{Geometry};
+ghost use Rattle.mot_objects.specs.declared.command.Command.{Command};
+ghost use Rattle.mot_server.specs.Lives.{HasDone};
+
+use disk_model::Disk;
+use mot_server::{Refused, Server};
+use std::alloc::Global;
+
+/// What a server has done its disk keeps, if no fault of the disk has halted it.
+pub fn keep_done<D: Disk>(_server: &Server<D>)
+    ensures { (g : Geometry) (first : ℕ) (done others : List Command)
+        → HasDone D.state g first done others _server.now → IsFalse _server.now.view.halted
+        → KeepsDone g first done (D.state _server.now.disk) }
+{}
+
+/// Opens a disk: what it keeps the server has done.
+pub fn open_done<D: Disk>(alloc: Global, disk: D) -> Result<Server<D>, Refused<D>>
+    ensures { (g : Geometry) (first : ℕ) (done : List Command)
+        → KeepsDone g first done (D.state disk)
+        → IfOk result (λ server. (D.state server.disk).IsHonest
+        → HasDone D.state g first done [] server) }
+{
+    match Server::open(alloc, disk) {
+        Ok(server) => Ok(server),
+        Err(refused) => Err(refused),
+    }
+}

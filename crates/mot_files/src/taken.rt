@@ -1,0 +1,48 @@
+//! What the writes of packets took, as a list that only clauses read.
+ghost use Rattle.std.specs.Prelude.{◌≡◌, ◌≤◌, ◌∷◌, ◌++◌, [], IfOk, MatchResult, length, take};
+
+use disk_store::Notes;
+use std::io;
+
+/// The path of what was opened to take packets, and then what each write took, in order: nothing,
+/// where it failed. It takes no memory. Only a `PacketWriter` adds to it, so that nothing stands in
+/// it that was not asked of what was opened by that path.
+#[derive(Drop)]
+pub struct Taken {
+    notes: Notes,
+}
+
+impl Taken {
+    /// Nothing was opened, and nothing written.
+    pub fn nothing() -> Taken
+        ensures { result.notes.all ≡ [] }
+    {
+        Taken {
+            notes: Notes::new(),
+        }
+    }
+
+    /// What this path names was opened.
+    pub(crate) fn of(path: &str) -> Taken
+        ensures { result.notes.all ≡ path.now ∷ [] }
+    {
+        let mut notes = Notes::new();
+        notes.note(path.as_bytes());
+        Taken { notes }
+    }
+
+    /// These bytes were to be written, and this came of it, which is handed on.
+    pub(crate) fn wrote(&mut self, bytes: &[u8], answer: io::Result<usize>) -> io::Result<usize>
+        requires { IfOk answer (λ count. count ≤ length bytes.now) }
+        ensures same { result ≡ answer }
+        ensures noted { MatchResult result
+            (λ count. self.new.notes.all ≡ self.old.notes.all ++ take count bytes.now ∷ [])
+            (λ _. self.new.notes.all ≡ self.old.notes.all ++ [] ∷ []) }
+    {
+        match answer {
+            Ok(count) => self.notes.note(&bytes[..count]),
+            Err(_) => self.notes.note(&[]),
+        }
+        answer
+    }
+}
