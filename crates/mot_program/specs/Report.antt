@@ -19,6 +19,7 @@ use Rattle.mot_numbers.specs.declared.refusal.Refusal.TheVariants.{AlreadyFormat
 use Rattle.mot_numbers.specs.declared.refusal.Refusal.TheVariants.{DiskTooSmall, WriteFault}
 use Rattle.mot_repository.specs.Opening.{IsOpeningRefusal}
 use Rattle.mot_repository.specs.Repository.{IsOf}
+use Rattle.mot_session.specs.Served.{WritesFront}
 
 -- In all of these the disk was in a state start and is in a state now, and the writer's known bytes
 -- were old and are new.
@@ -64,12 +65,13 @@ pub data IsFormattingRefusal (g : Geometry) (refusal : Refusal) (start now : Sta
   device : refusal ≡ DeviceFault → Rises start.failures now.failures
       → IsFormattingRefusal g refusal start now
 
--- it could not be formatted, and nothing was printed; or that it is could not be printed
+-- it could not be formatted, and nothing was printed; or that it is was not printed whole
 pub data StopsFormatting (g : Geometry) (directory : ℕ) (refusal : Refusal)
     (old new : Option (List ℕ)) (start now : State) : Type 0 where
   refused : IsFormattingRefusal g refusal start now → IsUnderFormat g directory start now
       → Keeps old new → StopsFormatting g directory refusal old new start now
   unprinted : refusal ≡ WriteFault → IsFormatted g directory start now
+      → WritesFront (formatted_line g) old new
       → StopsFormatting g directory refusal old new start now
 
 -- ---- `check`
@@ -100,12 +102,13 @@ pub record Checks (old new : Option (List ℕ)) (start now : State) : Type 0 whe
   pub told : now.IsHonest → IsReport start.bytes text
   pub printed : Appends old new text
 
--- it could not be read, and nothing was printed; or what it stands for could not be printed
+-- it could not be read, and nothing was printed; or what it stands for was not printed whole
 pub data IsUnreported (refusal : Refusal) (old new : Option (List ℕ)) (start now : State) :
     Type 0 where
   unread : IsOpeningRefusal start now refusal → IsCalm refusal start now → Keeps old new
       → IsUnreported refusal old new start now
-  unprinted : refusal ≡ WriteFault → IsUnreported refusal old new start now
+  unprinted : refusal ≡ WriteFault → (text : List ℕ) → (now.IsHonest → IsReport start.bytes text)
+      → WritesFront text old new → IsUnreported refusal old new start now
 
 -- the disk was only synced all the same
 pub record StopsChecking (refusal : Refusal) (old new : Option (List ℕ)) (start now : State) :
@@ -145,7 +148,7 @@ pub record Migrates (old new : Option (List ℕ)) (start now : State) : Type 0 w
   pub migrated : IsMigrated done start now
   pub printed : Appends old new (migrated_line done)
 
--- it could not be brought to layout 2, and nothing was printed; or that it is could not be printed
+-- it could not be brought to layout 2, and nothing was printed; or that it is was not printed whole
 pub data StopsMigrating (refusal : Refusal) (old new : Option (List ℕ)) (start now : State) :
     Type 0 where
   refused : IsOpeningRefusal start now refusal → IsCalm refusal start now
@@ -153,4 +156,4 @@ pub data StopsMigrating (refusal : Refusal) (old new : Option (List ℕ)) (start
       → Keeps old new
       → StopsMigrating refusal old new start now
   unprinted : refusal ≡ WriteFault → (done : Bool) → IsMigrated done start now
-      → StopsMigrating refusal old new start now
+      → WritesFront (migrated_line done) old new → StopsMigrating refusal old new start now

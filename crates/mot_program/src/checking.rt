@@ -1,15 +1,12 @@
 //! What `check` does.
-ghost use Rattle.std.specs.Prelude.{◌≡◌, ◌↔◌, ◌++◌, ℕ, Bool, List, IsTrue, IsFalse, Ok, OnOk};
-ghost use Rattle.std.specs.Prelude.{IfErr, ◌⊎◌};
-ghost use Rattle.std.specs.Io.KnownBytes.{Appends, Keeps};
-ghost use Rattle.disk_model.specs.Disk.{KeepsLength, OnlyReads};
-ghost use Rattle.disk_model.specs.Failures.{Rises};
-ghost use Rattle.mot_journal.specs.Image.{Standing, stands_for, IsClean};
-ghost use Rattle.mot_journal.specs.Journal.{StandsWhere};
+ghost use Rattle.std.specs.Prelude.{◌≡◌, ◌++◌, IfErr, OnOk, ◌⊎◌};
+ghost use Rattle.std.specs.Io.KnownBytes.{Appends};
+ghost use Rattle.disk_model.specs.Disk.{KeepsLength};
 ghost use Rattle.mot_lines.specs.Listing.{listing_text_beside};
 ghost use Rattle.mot_numbers.specs.declared.refusal.Refusal.TheVariants.{DeviceFault, WriteFault};
 ghost use Rattle.mot_program.specs.Program.{IsUntold, OnOpened, Opens};
 ghost use Rattle.mot_program.specs.Report.{Checks, StopsChecking, clean_line, layout_line};
+ghost use Rattle.mot_session.specs.Served.{WritesFront};
 
 use crate::ended::{Ended, Finished};
 use crate::printing::{write_bytes, write_last};
@@ -17,6 +14,7 @@ use disk_model::Disk;
 use disk_store::{DiskFiles, Start};
 use mot_journal::Layout;
 use mot_numbers::Refusal;
+use mot_objects::Carousel;
 use mot_repository::Repository;
 use mot_session::write_listing;
 use std::alloc::Global;
@@ -57,34 +55,34 @@ pub(crate) fn check_disk<D: Disk, W: Write>(alloc: Global, disk: D, writer: &mut
         Ok(repository) => repository,
         Err(refused) => return Ended::unopened(refused),
     };
-    let result = report(&mut repository, writer);
-    Ended {
-        disk: repository.into_disk(),
-        result,
+    match repository.is_clean() {
+        Ok(is_clean) => Ended {
+            result: write_report(writer, repository.carousel(), is_clean, repository.layout()),
+            disk: repository.into_disk(),
+        },
+        Err(refusal) => Ended {
+            result: Err(refusal),
+            disk: repository.into_disk(),
+        },
     }
 }
 
-/// Prints what an open repository keeps, whether its disk is clean, and its layout.
-fn report<D: Disk, W: Write>(repository: &mut Repository<D>, writer: &mut W) -> Result<(), Refusal>
-    requires { IsFalse repository.old.view.halted }
-    ensures only_reads { OnlyReads (D.state repository.old.disk) (D.state repository.new.disk) }
-    ensures told { OnOk result ((clean : Bool)
-        × Appends (W.contents writer.old) (W.contents writer.new)
-        (listing_text_beside repository.old.view.carousel
-        ++ clean_line clean ++ layout_line repository.old.view.journal.layout)
-        × ((s : Standing) → (D.state repository.new.disk).IsHonest
-        → stands_for (D.state repository.old.disk).bytes ≡ Ok s
-        → StandsWhere repository.old.view.journal (D.state repository.old.disk).bytes
-        → IsTrue clean ↔ IsClean (D.state repository.old.disk).bytes)) }
-    ensures silent { IfErr result (λ r. (r ≡ WriteFault)
-        ⊎ ((r ≡ DeviceFault)
-        × Rises (D.state repository.old.disk).failures (D.state repository.new.disk).failures
-        × Keeps (W.contents writer.old) (W.contents writer.new))) }
+/// Prints a carousel, whether its disk is clean, and the disk's layout.
+fn write_report<W: Write>(
+    writer: &mut W,
+    carousel: &Carousel,
+    is_clean: bool,
+    layout: Layout,
+) -> Result<(), Refusal>
+    ensures written { OnOk result (Appends (W.contents writer.old) (W.contents writer.new)
+        (listing_text_beside carousel.now ++ clean_line is_clean ++ layout_line layout)) }
+    ensures front { IfErr result (λ r. (r ≡ WriteFault)
+        × WritesFront (listing_text_beside carousel.now ++ clean_line is_clean
+        ++ layout_line layout) (W.contents writer.old) (W.contents writer.new)) }
 {
-    let is_clean = repository.is_clean()?;
-    write_listing(writer, repository.carousel())?;
+    write_listing(writer, carousel)?;
     write_bytes(writer, clean_text(is_clean))?;
-    write_last(writer, layout_text(repository.layout()))
+    write_last(writer, layout_text(layout))
 }
 
 /// Whether a disk is clean, as a line.

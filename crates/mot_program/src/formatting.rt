@@ -7,10 +7,13 @@ ghost use Rattle.mot_numbers.specs.declared.refusal.Refusal.TheVariants.{WriteFa
 ghost use Rattle.mot_program.specs.Program.{IsMakingRefusal, IsUntold, MayTakeAway};
 ghost use Rattle.mot_program.specs.Program.{OnOpenedOrMade, Opens};
 ghost use Rattle.mot_program.specs.Report.{Formats, StopsFormatting, formatted_line};
+ghost use Rattle.mot_session.specs.Served.{WritesFront};
 
 use crate::ended::{Ended, Finished};
+use crate::printing::{write_bytes, write_last};
 use disk_model::Disk;
 use disk_store::{DiskFiles, Start, Unopened};
+use itoa::Buffer;
 use mot_journal::format_from;
 use mot_numbers::{Geometry, Refusal, TransportId};
 use std::io::Write;
@@ -108,11 +111,12 @@ pub(crate) fn format_disk<D: Disk, W: Write>(
 fn write_formatted<W: Write>(writer: &mut W, geometry: &Geometry) -> Result<(), Refusal>
     ensures written { OnOk result (Appends (W.contents writer.old) (W.contents writer.new)
         (formatted_line geometry.now)) }
-    ensures fault { IfErr result (λ refusal. refusal ≡ WriteFault) }
+    ensures front { IfErr result (λ refusal. (refusal ≡ WriteFault)
+        × WritesFront (formatted_line geometry.now) (W.contents writer.old)
+        (W.contents writer.new)) }
 {
-    let length = geometry.length();
-    if writeln!(writer, "formatted {length}").is_err() || writer.flush().is_err() {
-        return Err(Refusal::WriteFault);
-    }
-    Ok(())
+    let mut digits = Buffer::new();
+    write_bytes(writer, b"formatted ")?;
+    write_bytes(writer, digits.format(geometry.length()).as_bytes())?;
+    write_last(writer, b"\n")
 }

@@ -4,6 +4,7 @@ ghost use Rattle.std.specs.Io.KnownBytes.{Appends, Keeps};
 ghost use Rattle.clap.specs.Words.{kind_of};
 ghost use Rattle.mot_numbers.specs.declared.refusal.Refusal.TheVariants.{OutOfMemory, WriteFault};
 ghost use Rattle.mot_program.specs.declared.ended.UsedDisk.TheVariants.{Untouched};
+ghost use Rattle.mot_session.specs.Served.{WritesFront};
 
 use crate::ended::{Exit, UsedDisk};
 use crate::subject::{Subject, tell};
@@ -11,15 +12,17 @@ use clap::Error;
 use clap::error::ErrorKind;
 use disk_store::Start;
 use mot_numbers::Refusal;
+use mot_session::write_whole;
 use std::io::Write;
 
-/// Writes all of the bytes.
+/// Writes all of the bytes; after a fault some first of them were written.
 pub(crate) fn write_bytes<W: Write>(writer: &mut W, bytes: &[u8]) -> Result<(), Refusal>
     ensures written { OnOk result
         (Appends (W.contents writer.old) (W.contents writer.new) bytes.now) }
-    ensures fault { IfErr result (λ refusal. refusal ≡ WriteFault) }
+    ensures front { IfErr result (λ refusal. (refusal ≡ WriteFault)
+        × WritesFront bytes.now (W.contents writer.old) (W.contents writer.new)) }
 {
-    match writer.write_all(bytes) {
+    match write_whole(writer, bytes) {
         Ok(()) => Ok(()),
         Err(_) => Err(Refusal::WriteFault),
     }
@@ -29,7 +32,8 @@ pub(crate) fn write_bytes<W: Write>(writer: &mut W, bytes: &[u8]) -> Result<(), 
 pub(crate) fn write_last<W: Write>(writer: &mut W, bytes: &[u8]) -> Result<(), Refusal>
     ensures written { OnOk result
         (Appends (W.contents writer.old) (W.contents writer.new) bytes.now) }
-    ensures fault { IfErr result (λ refusal. refusal ≡ WriteFault) }
+    ensures front { IfErr result (λ refusal. (refusal ≡ WriteFault)
+        × WritesFront bytes.now (W.contents writer.old) (W.contents writer.new)) }
 {
     write_bytes(writer, bytes)?;
     match writer.flush() {

@@ -51,5 +51,5 @@ returns-in-Ok-clause-done g c = on_ok_weaker c.write_formatted.result (λ told. 
 
 pub returns-in-Ok-clause-refused : goal.returns-in-Ok-clause-refused
 returns-in-Ok-clause-refused g c =
-    IfErr-one c.write_formatted.result (λ r is. unprinted is (formatted g c))
-    c.write_formatted.ensures.fault
+    IfErr-one c.write_formatted.result (λ r broken. unprinted broken.0 (formatted g c) broken.1)
+    c.write_formatted.ensures.front

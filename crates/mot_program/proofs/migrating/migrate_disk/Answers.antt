@@ -14,6 +14,7 @@ use Rattle.mot_program.proofs.Ends.{still_unchanged}
 use Rattle.mot_program.proofs.Opened.{migrates_held, migrates_under, opened_throughout}
 use Rattle.mot_program.proofs.migrating.migrate_disk.Given as given
 use Rattle.mot_program.proofs.migrating.migrate_disk.Goals as goal
+use Rattle.mot_session.specs.Served.{WritesFront}
 
 pub returns-in-Err-clause-refused : goal.returns-in-Err-clause-refused
 returns-in-Err-clause-refused g c =
@@ -69,9 +70,13 @@ returns-in-Ok-migrate-clause-done g c =
 pub returns-in-Ok-migrate-clause-refused : goal.returns-in-Ok-migrate-clause-refused
 returns-in-Ok-migrate-clause-refused g c =
     let state = g.D.Disk.state in
-    IfErr-one c.write_last.result (λ r is. unprinted is c.in-Ok-migrate.is_rewritten
+    let old = g.W.Write.contents c.args.writer.now in
+    let new = g.W.Write.contents c.write_last.new.writer in
+    IfErr-one c.write_last.result (λ r broken. unprinted broken.0 c.in-Ok-migrate.is_rewritten
     (subst (λ d. IsMigrated c.in-Ok-migrate.is_rewritten (state c.args.disk) (state d))
-    (sym c.into_disk.ensures) (migrated g c))) c.write_last.ensures.fault
+    (sym c.into_disk.ensures) (migrated g c))
+    (subst (λ l. WritesFront l old new) c.migrated_text.ensures broken.1))
+    c.write_last.ensures.front
 
 pub returns-in-Err-migrate-clause-refused : goal.returns-in-Err-migrate-clause-refused
 returns-in-Err-migrate-clause-refused g c =
