@@ -1,4 +1,5 @@
-/* Refuses the Nth request for memory of the program that it is loaded into, N from the environment's REFUSE. */
+/* Refuses the Nth request for memory of the program that it is loaded into, N from the environment's REFUSE, and with
+   LASTING each one after it. */
 #define _GNU_SOURCE
 #include <dlfcn.h>
 #include <errno.h>
@@ -6,12 +7,15 @@
 #include <stdlib.h>
 
 static long left = -1;
+static int lasts;
 
 static int is_refused(void) {
     if (left < 0) {
         const char *number = getenv("REFUSE");
         left = number ? atol(number) : 0;
+        lasts = getenv("LASTING") != NULL;
     }
+    if (left == 1 && lasts) return 1;
     return left > 0 && --left == 0;
 }
 

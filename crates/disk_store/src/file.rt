@@ -19,7 +19,6 @@ pub use opening::Unopened;
 pub use start::{Start, Unknown};
 use std::marker::PhantomData;
 use system::HeldFile;
-pub use system::take_away;
 
 /// A regular file or a block device, as long as it was when it was opened. A lock that other
 /// programs may ignore keeps it from being opened so a second time.

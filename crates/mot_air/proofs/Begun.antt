@@ -1,5 +1,5 @@
 -- What is told of a result that came of another one.
-use Rattle.std.proofs.Common.{◌≡◌, ◌∙◌, ◌⊎◌, inl, ℕ, List, Option, Bool, true, Result, Ok}
+use Rattle.std.proofs.Common.{◌≡◌, ◌∙◌, ◌⊎◌, inl, ℕ, List, Option, Bool, Result, Ok}
 use Rattle.std.proofs.Common.{Err, sym, subst}
 use Rattle.std.proofs.KnownBytes.{Keeps-refl}
 use Rattle.std.specs.Prelude.{IfErr, IfOk, OnOk}
@@ -26,16 +26,18 @@ IsFine (Ok all) = Unit {0}
 IsFine (Err e) = ⊥
 
 -- done is told where it was
-pub done-is : {P : Type 0} (ended : Result Unit Refusal) (r : Result Bool Refusal) → OnOk ended P
-    → IfErr ended (λ e. r ≡ Err e) → r ≡ Ok true → P
-done-is (Ok x) r p failed is = p
-done-is (Err e) r p failed is = absurd (subst IsFine (sym is ∙ failed) tt)
+pub done-is : {P : Type 0} (all : Bool) (ended : Result Unit Refusal) (r : Result Bool Refusal)
+    → OnOk ended P → IfErr ended (λ e. r ≡ Err e) → r ≡ Ok all → P
+done-is all (Ok x) r p failed is = p
+done-is all (Err e) r p failed is = absurd (subst IsFine (sym is ∙ failed) tt)
 
 -- an error of what was done before is the result's, with what is known of it
-pub refused-is : (Q : Refusal → Type 0) (ended : Result Unit Refusal) (r : Result Bool Refusal)
-    → OnOk ended (r ≡ Ok true) → IfErr ended (λ e. r ≡ Err e) → IfErr ended Q → IfErr r Q
-refused-is Q (Ok x) r done failed why = subst (λ (t : Result Bool Refusal). IfErr t Q) (sym done) tt
-refused-is Q (Err e) r done failed why =
+pub refused-is : (Q : Refusal → Type 0) (all : Bool) (ended : Result Unit Refusal)
+    (r : Result Bool Refusal) → OnOk ended (r ≡ Ok all) → IfErr ended (λ e. r ≡ Err e) → IfErr
+    ended Q → IfErr r Q
+refused-is Q all (Ok x) r done failed why = subst (λ (t : Result Bool Refusal). IfErr t Q)
+    (sym done) tt
+refused-is Q all (Err e) r done failed why =
     subst (λ (t : Result Bool Refusal). IfErr t Q) (sym failed) why
 
 -- a task that was not begun is refused, and no disk was opened

@@ -121,9 +121,12 @@ stops_on g first done refusal when before after start now was part =
           weakens start now (StandsAfterSome s [] (accepted ++ in_flight))
           (StandsAfterSome (standing_from g first) done (commands_among part.events ++ in_flight))
           aired.leaves.any_moment
-          (λ image is. subst (λ l. StandsAfterSome (standing_from g first) done (l ++ in_flight) image)
-          same (behind_some (standing_from g first) s done (accepted ++ in_flight) image was.after is));
-      at_end = λ image left. subst (λ l. StandsAfterSome (standing_from g first) (done ++ l) in_flight
+          (λ image is. subst (λ l. StandsAfterSome (standing_from g first) done (l ++ in_flight)
+          image)
+          same (behind_some (standing_from g first) s done (accepted ++ in_flight) image was.after
+          is));
+      at_end = λ image left. subst (λ l. StandsAfterSome (standing_from g first) (done ++ l)
+          in_flight
           image)
           same (behind (standing_from g first) s done accepted in_flight image was.after
           (aired.leaves.at_end image left));
@@ -163,8 +166,8 @@ pub kept_done : {D : Type 0} (state : D → State) (disk : D) (server : ServerVi
 kept_done state disk server sound opens opened going g first done was honest =
     let s = was.standing in
     let holds = all_hold (state disk) (state server.disk) server.view s
-        (sound disk (opens.keeps.was_honest honest)) was.each (opened honest) honest
-        (sound server.disk honest) (opens.still honest) going in
+    (sound disk (opens.keeps.was_honest honest)) was.each (opened honest) honest
+    (sound server.disk honest) (opens.still honest) going in
     record {
       standing = s;
       after = was.after;

@@ -20,7 +20,7 @@ use Rattle.mot_journal.specs.Image.{Standing}
 use Rattle.mot_numbers.specs.declared.geometry.Geometry.{Geometry}
 use Rattle.mot_numbers.specs.declared.geometry.TheConstants.{MAX_OBJECTS}
 use Rattle.mot_numbers.specs.declared.refusal.Refusal.{Refusal}
-use Rattle.mot_numbers.specs.declared.refusal.Refusal.TheVariants.{OutOfMemory, WriteFault}
+use Rattle.mot_numbers.specs.declared.refusal.Refusal.TheVariants.{WriteFault}
 use Rattle.mot_numbers.specs.Geometry.{is_valid}
 use Rattle.mot_objects.specs.Carousel.{IsSound, carousel_after}
 use Rattle.mot_objects.specs.declared.command.Command.{Command}
@@ -108,11 +108,12 @@ module _ {D : Type 0} (state : D → State) (disk : D) (server new : ServerView 
       → (entries : List LogEntry)
       × HasSynced (not report.any_refused) fault path entries (state disk)
       (state new.disk) s × ReportTells report entries
-  has_synced s path report fault honest all (unlisted refused none run entries told are) =
+  has_synced s path report fault honest all (unlisted refusal why refused ends run entries told
+      are) =
       let was = keeps.was_honest honest in (
         entries,
-        synced.unlisted (ap not refused) (opened_leaves (state disk) (state server.disk)
-            (state new.disk) server.view new.view s [] [] None
+        synced.unlisted refusal why (ap not refused) (opened_leaves (state disk) (state server.disk)
+            (state new.disk) server.view new.view s [] [] fault
             (sound disk (opens.keeps.was_honest was)) all (opens.still was) run.leaves) are,
         told,
       )
@@ -174,7 +175,7 @@ module _ {D : Type 0} (state : D → State) (disk : D) (server new : ServerView 
         }
     synced-cases s all honest each (looks.broken report refusal is look) =
         absurd (subst IsFine is tt)
-    synced-cases s all honest each (looks.untold report refusal is why look) =
+    synced-cases s all honest each (looks.untold report is look) =
         absurd (subst IsFine is tt)
 
     -- a look at the folder that came to its end syncs the disk, from its opening on
@@ -200,11 +201,9 @@ module _ {D : Type 0} (state : D → State) (disk : D) (server new : ServerView 
         let done = has_synced s path report (Some refusal) honest each look in
         broken (not report.any_refused) done.0 (subst (λ e. HasSynced (not report.any_refused)
         (Some e) path done.0 (state disk) (state new.disk) s) (sym (same_err r refusal is)) done.1)
-    broken-cases s r honest each (looks.untold report refusal is why look) =
+    broken-cases s r honest each (looks.untold report is look) =
         let done = has_synced s path report None honest each look in
-        untold (not report.any_refused) done.0
-        (subst (λ (e : Refusal). (e ≡ WriteFault) ⊎ (e ≡ OutOfMemory))
-        (sym (same_err r refusal is)) why) done.1
+        untold (not report.any_refused) done.0 (same_err r WriteFault is) done.1
 
     -- a look that broke off, or could not be told, stops the sync, from the disk's opening on
     pub stops : (result : Result Bool Refusal)

@@ -16,14 +16,14 @@ use Rattle.mot_files.specs.Packets.{IsTarget}
 use Rattle.mot_files.specs.Types.{IsUntyped}
 use Rattle.mot_numbers.specs.declared.refusal.Refusal.{Refusal}
 use Rattle.mot_numbers.specs.declared.refusal.Refusal.TheVariants.{BadNumber, DeviceFault}
-use Rattle.mot_numbers.specs.declared.refusal.Refusal.TheVariants.{OutOfMemory, ReadFault}
+use Rattle.mot_numbers.specs.declared.refusal.Refusal.TheVariants.{OutOfMemory}
 use Rattle.mot_numbers.specs.declared.refusal.Refusal.TheVariants.{WriteFault}
 use Rattle.mot_reading.specs.Exporting.{Exports, StopsExporting}
 use Rattle.mot_reading.specs.Inspecting.{Inspects, StopsInspecting}
 use Rattle.mot_update.specs.Between.{Always, When}
 use Rattle.mot_words.specs.Air.Command.{air_app}
 use Rattle.mot_words.specs.Air.Task.{IsAirTask}
-use Rattle.mot_words.specs.Asked.{AskFor, AskForHelp}
+use Rattle.mot_words.specs.Asked.{AreWrong, AskFor, AskForHelp}
 use Rattle.mot_words.specs.declared.air.task.AirTask.{AirTask}
 use Rattle.mot_words.specs.declared.air.task.AirTask.TheVariants.{Play, Sync, Export, Inspect}
 
@@ -92,10 +92,12 @@ module _ {S : Type 0} {start : Ghosts S} where
   Does (Export disk) used old new = OnOpened (Exports old new) used
   Does (Inspect disk) used old new = OnOpened (Inspects old new) used
 
-  -- the task was begun, and this refusal ended it; or a file was refused, with none
+  -- the task was begun, and this refusal ended it; or a file of the folder was refused, with none,
+  -- and the packets of a file were played all the same
   abbrev pub DoesInPart : AirTask → Option Refusal → AirDisk S start → (old new : Option (List ℕ))
       → Type 0
-  DoesInPart (Play p) None used old new = ⊥
+  DoesInPart (Play p) None used old new =
+      PlaysTo p.packets.now (when_changed p.lines p.folder) p.turns used
   DoesInPart (Play p) (Some r) used old new =
       StopsPlayingTo p.packets.now (when_changed p.lines p.folder) p.turns r used
   DoesInPart (Sync disk folder types) None used old new =
@@ -120,6 +122,12 @@ IsBeginningRefusal (Play p) r =
 IsBeginningRefusal (Sync disk folder types) r = IsUntyped types r ⊎ (r ≡ DeviceFault)
 IsBeginningRefusal (Export disk) r = r ≡ DeviceFault
 IsBeginningRefusal (Inspect disk) r = r ≡ DeviceFault
+
+-- a word is wrong, or none names a command; or the words ask for no task, since an option is given
+-- without the other of which it says more
+abbrev pub AskForNothing : List Text → Type 0
+AskForNothing words =
+    AreWrong air_app words ⊎ ((task : AirTask) → AskFor air_app IsAirTask words task → ⊥)
 
 -- what a run came to, on this disk
 module _ {S : Type 0} {start : Ghosts S} (words : List Text) where

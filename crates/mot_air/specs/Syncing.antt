@@ -1,5 +1,5 @@
 -- What making a disk's carousel equal to a folder does.
-use Rattle.std.specs.Prelude.{◌≡◌, ◌⊎◌, ℕ, Bool, true, false, List, ◌++◌, ◌∷◌, [], map, codes}
+use Rattle.std.specs.Prelude.{◌≡◌, ℕ, Bool, true, false, List, ◌++◌, ◌∷◌, [], map, codes}
 use Rattle.std.specs.Prelude.{Option, Some, None}
 use Rattle.std.specs.Io.KnownBytes.{Appends}
 use Rattle.std.specs.List.{flat_map}
@@ -7,9 +7,9 @@ use Rattle.disk_model.specs.Disk.{State}
 use Rattle.mot_air.specs.Opening.{IsBreak, Leaves}
 use Rattle.mot_folder.specs.Log.{AreEither, LogEntry, entry, log_entry_of, log_line, names_read}
 use Rattle.mot_folder.specs.Log.{of_look}
+use Rattle.mot_folder.specs.Looked.{IsUnlisted}
 use Rattle.mot_journal.specs.Image.{Standing}
 use Rattle.mot_numbers.specs.declared.refusal.Refusal.{Refusal}
-use Rattle.mot_numbers.specs.declared.refusal.Refusal.TheVariants.{OutOfMemory, ReadFault}
 use Rattle.mot_numbers.specs.declared.refusal.Refusal.TheVariants.{WriteFault}
 use Rattle.mot_objects.specs.declared.command.Command.{Command}
 use Rattle.mot_reading.specs.Opening.{IsUnopened, OfStanding}
@@ -59,9 +59,9 @@ pub record EachIsTold (names : List (List ℕ)) (wanted : List Wanted) (entries 
 -- right, what broke it off, and what was told of it besides the files that could not be taken.
 pub data HasSynced (all : Bool) (fault : Option Refusal) (path : List ℕ) (entries : List LogEntry)
     (start now : State) (s : Standing) : Type 0 where
-  -- the folder was not listed, and no command was run
-  unlisted : all ≡ false → Leaves s [] [] None start now
-      → of_look entries ≡ entry (codes "look") path (Refused ReadFault) ∷ []
+  -- the folder was not listed, which is told, and no command was run
+  unlisted : (refusal : Refusal) → IsUnlisted refusal → all ≡ false → Leaves s [] [] fault start now
+      → of_look entries ≡ entry (codes "look") path (Refused refusal) ∷ []
       → HasSynced all fault path entries start now s
   -- none of the names that were listed begins with a dot
   listed : (names : List (List ℕ)) (wanted : List Wanted) → AreShown names
@@ -85,14 +85,13 @@ pub record Syncs (all : Bool) (path : List ℕ) (old new : Option (List ℕ))
   pub calm : now.failures ≡ start.failures
   pub synced : OfStanding (SyncsAndTells all path old new start now) start now
 
--- the look broke off; or what is told of it could not be written, or had no memory
+-- the look broke off, also where a line had no memory; or what is told of it could not be written
 pub data IsBrokenOff (refusal : Refusal) (path : List ℕ) (start now : State)
     (s : Standing) : Type 0 where
   broken : (all : Bool) (entries : List LogEntry)
       → HasSynced all (Some refusal) path entries start now s
       → IsBrokenOff refusal path start now s
-  untold : (all : Bool) (entries : List LogEntry)
-      → (refusal ≡ WriteFault) ⊎ (refusal ≡ OutOfMemory)
+  untold : (all : Bool) (entries : List LogEntry) → refusal ≡ WriteFault
       → HasSynced all None path entries start now s → IsBrokenOff refusal path start now s
 
 -- why there is no answer, and what the look had come to

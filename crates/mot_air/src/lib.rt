@@ -8,11 +8,12 @@ mod playing;
 mod program;
 mod subject;
 mod used;
+mod watched;
 
 pub use lives::{keep_done, open_done};
 pub use mot_files::{LineFolder, Target};
 pub use mot_reading::Ended;
 pub use mot_words::{AirTask as Task, PlayTask};
-pub use playing::{Followed, play_and_answer, play_disk, play_with, sync_disk};
-pub use program::{is_air, run_air, run_air_on};
+pub use playing::{Aired, Followed, play_and_answer, play_disk, play_with, sync_disk};
+pub use program::{is_air, run_air_on};
 pub use used::{AirDisk, AirExit};

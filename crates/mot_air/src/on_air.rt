@@ -1,6 +1,7 @@
 //! Playing the disk of a file into what a path names.
 ghost use Rattle.std.specs.Prelude.{◌≡◌, ◌≢◌, ◌⊎◌, [], ◌∷◌, Some, Ok, true, false, IfErr, OnOk};
 ghost use Rattle.disk_model.specs.Disk.{KeepsLength};
+ghost use Rattle.mot_air.specs.Inner.Directory.{directory_of};
 ghost use Rattle.mot_air.specs.Playing.{Plays, StopsPlaying};
 ghost use Rattle.mot_air.specs.Program.{FailsPlaying, IsUntold, PlaysTo, StopsPlayingTo, turns_of};
 ghost use Rattle.mot_air.specs.Program.{when_changed};
@@ -8,7 +9,7 @@ ghost use Rattle.mot_files.specs.Packets.{begun_of, target_of};
 ghost use Rattle.mot_numbers.specs.declared.refusal.Refusal.TheVariants.{DeviceFault, WriteFault};
 
 use crate::Ended;
-use crate::playing::{Followed, play_and_answer, play_disk};
+use crate::playing::{Aired, Followed, play_and_answer, play_disk};
 use crate::used::Finished;
 use disk_model::Disk;
 use disk_store::{Start, open_file};
@@ -24,10 +25,16 @@ use std::io::Write;
 /// packets can be sent round and round.
 const FILE_TURNS: u64 = 16;
 
+/// After how many packets the directory is sent again where playing has no end. So many of 96 bytes
+/// take 8.2 seconds at 32 kbit/s: with the group under way and itself it is there within ten.
+const DIRECTORY_PACKETS: u32 = 340;
+
 /// What playing came to, and why packets were not taken.
 #[derive(Drop)]
 struct Played<D: Disk> {
     ended: Ended<D, ()>,
+    /// Whether nothing was refused of the folder that a file of packets was to show.
+    is_fine: bool,
     /// What each write of packets took.
     taken: Taken,
     cause: Option<Cause>,
@@ -43,18 +50,20 @@ pub(crate) fn play_file<B: Start, W: Write, E: Write>(
     folder: Option<Followed<'_>>,
     lines: Option<LineFolder<'_>>,
     turns: Option<u32>,
+    directory: Option<u32>,
     start: B,
     writer: &mut W,
     errors: &mut E,
 ) -> Finished<B>
     ensures done { result.result ≡ Ok true
         → PlaysTo packets.now (when_changed lines.entry folder.entry) turns result.disk }
-    ensures told { result.result ≢ Ok false }
+    ensures told { result.result ≡ Ok false
+        → PlaysTo packets.now (when_changed lines.entry folder.entry) turns result.disk }
     ensures refused { IfErr result.result (λ r. (((r ≡ DeviceFault) ⊎ (r ≡ WriteFault))
         × IsUntold result.disk (W.contents writer.old) (W.contents writer.new))
         ⊎ StopsPlayingTo packets.now (when_changed lines.entry folder.entry) turns r result.disk) }
 {
-    let opened = match open_packets(rt, packets, path) {
+    let opened = match open_packets(rt, packets, path, turns) {
         Ok(opened) => opened,
         Err(cause) => return Finished::unwritable(cause, start),
     };
@@ -67,12 +76,13 @@ pub(crate) fn play_file<B: Start, W: Write, E: Write>(
     };
     let Played {
         ended,
+        is_fine,
         taken,
         cause,
     } = play_into(
-        rt, alloc, disk, opened, folder, lines, turns, writer, errors,
+        rt, alloc, disk, opened, folder, lines, turns, directory, writer, errors,
     );
-    Finished::done(ended, taken, cause)
+    Finished::played(ended, is_fine, taken, cause)
 }
 
 /// Plays the disk into what was opened.
@@ -84,6 +94,7 @@ fn play_into<D: Disk, W: Write, E: Write>(
     folder: Option<Followed<'_>>,
     lines: Option<LineFolder<'_>>,
     turns: Option<u32>,
+    directory: Option<u32>,
     writer: &mut W,
     errors: &mut E,
 ) -> Played<D>
@@ -98,17 +109,56 @@ fn play_into<D: Disk, W: Write, E: Write>(
 {
     match opened {
         OpenPackets::Standard(outlet) => {
+            let directory = directory_of(Target::Output, turns, directory);
             let turns = turns_of(Target::Output, turns);
-            play_writer(rt, alloc, disk, outlet, folder, lines, errors, turns)
+            play_stream(
+                rt, alloc, disk, outlet, folder, lines, errors, turns, directory,
+            )
         }
         OpenPackets::Through(outlet) => {
+            let directory = directory_of(Target::Stream, turns, directory);
             let turns = turns_of(Target::Stream, turns);
-            play_writer(rt, alloc, disk, outlet, folder, lines, writer, turns)
+            play_stream(
+                rt, alloc, disk, outlet, folder, lines, writer, turns, directory,
+            )
         }
         OpenPackets::Beside(new) => {
+            let directory = directory_of(Target::File, turns, directory);
             let turns = turns_of(Target::File, turns);
-            play_new_file(rt, alloc, disk, new, folder, lines, writer, turns)
+            play_new_file(
+                rt, alloc, disk, new, folder, lines, writer, turns, directory,
+            )
         }
+    }
+}
+
+/// Plays the disk, so many turns, into a stream: what was refused is told by the log alone.
+fn play_stream<D: Disk, P: Write + Drop, L: Write>(
+    rt: &HostRuntime,
+    alloc: Global,
+    disk: D,
+    outlet: PacketWriter<P>,
+    folder: Option<Followed<'_>>,
+    lines: Option<LineFolder<'_>>,
+    log: &mut L,
+    turns: u64,
+    directory: u32,
+) -> Played<D>
+    ensures keeps { KeepsLength (D.state disk) (D.state result.ended.disk) }
+    ensures done { OnOk result.ended.result (Plays (when_changed lines.entry folder.entry) turns
+        (Some outlet.taken.notes.all) (Some result.taken.notes.all) (D.state disk)
+        (D.state result.ended.disk)) }
+    ensures refused { IfErr result.ended.result (λ r. StopsPlaying r
+        (when_changed lines.entry folder.entry) (Some outlet.taken.notes.all)
+        (Some result.taken.notes.all)
+        (D.state disk) (D.state result.ended.disk)) }
+{
+    let played = play_writer(
+        rt, alloc, disk, outlet, folder, lines, log, turns, directory,
+    );
+    Played {
+        is_fine: true,
+        ..played
     }
 }
 
@@ -122,6 +172,7 @@ fn play_writer<D: Disk, P: Write + Drop, L: Write>(
     lines: Option<LineFolder<'_>>,
     log: &mut L,
     turns: u64,
+    directory: u32,
 ) -> Played<D>
     ensures keeps { KeepsLength (D.state disk) (D.state result.ended.disk) }
     ensures done { OnOk result.ended.result (Plays (when_changed lines.entry folder.entry) turns
@@ -133,9 +184,19 @@ fn play_writer<D: Disk, P: Write + Drop, L: Write>(
         (D.state disk) (D.state result.ended.disk)) }
 {
     let mut outlet = outlet;
-    let ended = match lines {
-        Some(lines) => play_and_answer(rt, alloc, disk, &mut outlet, folder, lines, log, turns),
-        None => play_disk(rt, alloc, disk, &mut outlet, folder, log, turns),
+    let Aired { ended, any_refused } = match lines {
+        Some(lines) => play_and_answer(
+            rt,
+            alloc,
+            disk,
+            &mut outlet,
+            folder,
+            lines,
+            log,
+            turns,
+            directory,
+        ),
+        None => play_disk(rt, alloc, disk, &mut outlet, folder, log, turns, directory),
     };
     let cause = match outlet.fault {
         Some(fault) => Some(Cause::Packets(fault)),
@@ -143,6 +204,7 @@ fn play_writer<D: Disk, P: Write + Drop, L: Write>(
     };
     Played {
         ended,
+        is_fine: !any_refused,
         taken: outlet.taken,
         cause,
     }
@@ -159,6 +221,7 @@ fn play_new_file<D: Disk, L: Write>(
     lines: Option<LineFolder<'_>>,
     log: &mut L,
     turns: u64,
+    directory: u32,
 ) -> Played<D>
     ensures keeps { KeepsLength (D.state disk) (D.state result.ended.disk) }
     ensures done { OnOk result.ended.result (Plays (when_changed lines.entry folder.entry) turns
@@ -174,19 +237,32 @@ fn play_new_file<D: Disk, L: Write>(
 {
     let Played {
         ended,
+        is_fine,
         taken,
         cause,
-    } = play_writer(rt, alloc, disk, new.writer(), folder, lines, log, turns);
+    } = play_writer(
+        rt,
+        alloc,
+        disk,
+        new.writer(),
+        folder,
+        lines,
+        log,
+        turns,
+        directory,
+    );
     let Ended { disk, result } = ended;
     if let Err(refusal) = result {
+        let cause = of_new_file(&new, cause);
         new.take_away(rt);
         return Played {
             ended: Ended {
                 disk,
                 result: Err(refusal),
             },
+            is_fine,
             taken,
-            cause: of_new_file(cause),
+            cause,
         };
     }
     match new.take_place(rt) {
@@ -195,6 +271,7 @@ fn play_new_file<D: Disk, L: Write>(
                 disk,
                 result: Ok(()),
             },
+            is_fine,
             taken,
             cause: None,
         },
@@ -205,6 +282,7 @@ fn play_new_file<D: Disk, L: Write>(
                     disk,
                     result: Err(Refusal::WriteFault),
                 },
+                is_fine,
                 taken,
                 cause: Some(Cause::NewFile(PacketsFault::System(error))),
             }
@@ -213,9 +291,9 @@ fn play_new_file<D: Disk, L: Write>(
 }
 
 /// The cause, told of the new file.
-fn of_new_file(cause: Option<Cause>) -> Option<Cause> {
+fn of_new_file(new: &NewFile<'_>, cause: Option<Cause>) -> Option<Cause> {
     match cause {
-        Some(Cause::Packets(fault)) => Some(Cause::NewFile(fault)),
+        Some(Cause::Packets(fault)) => Some(Cause::NewFile(new.reason(fault))),
         other => other,
     }
 }
@@ -228,5 +306,17 @@ fn turns_of(target: Target, turns: Option<u32>) -> u64
         (Some(turns), _) => turns as u64,
         (None, Target::File) => FILE_TURNS,
         (None, _) => u64::MAX,
+    }
+}
+
+/// After how many packets the directory is sent again, 0 for at each turn's beginning alone; where
+/// no number is given, 340 without end, and else 0.
+fn directory_of(target: Target, turns: Option<u32>, directory: Option<u32>) -> u32
+    ensures { result ≡ directory_of target turns directory }
+{
+    match (directory, turns, target) {
+        (Some(packets), _, _) => packets,
+        (None, None, Target::Output) | (None, None, Target::Stream) => DIRECTORY_PACKETS,
+        (None, _, _) => 0,
     }
 }

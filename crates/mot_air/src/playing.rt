@@ -17,9 +17,10 @@ ghost use Rattle.mot_update.specs.Between.{Always};
 ghost use Rattle.mot_update.specs.Faults.{StaysCalm};
 
 use crate::Ended;
+use crate::watched::WatchedLooks;
 use disk_model::Disk;
 use mot_control::Lines;
-use mot_feed::feed;
+use mot_feed::feed_every;
 use mot_files::{LineFolder, SharedLog, Spool};
 use mot_folder::{FileTypes, Looks, Report, look_at_folder};
 use mot_numbers::Refusal;
@@ -41,8 +42,18 @@ pub struct Followed<'a> {
     pub types: &'a FileTypes,
 }
 
+/// What playing came to.
+#[derive(Drop)]
+pub struct Aired<D: Disk> {
+    /// The disk, and how playing ended.
+    pub ended: Ended<D, ()>,
+    /// Whether a look at the folder refused a file, or did not list it.
+    pub any_refused: bool,
+}
+
 /// Opens the disk and plays it into the outlet, so many turns, with looks at the folder between
-/// turns where there is one. What is told of the looks is written to the log.
+/// turns where there is one. The directory is sent again after so many packets, as `feed_every`
+/// does. What is told of the looks is written to the log.
 pub fn play_disk<T: Files<File = File>, D: Disk, O: Outlet, L: Write + Drop>(
     rt: &T,
     alloc: Global,
@@ -51,19 +62,27 @@ pub fn play_disk<T: Files<File = File>, D: Disk, O: Outlet, L: Write + Drop>(
     folder: Option<Followed<'_>>,
     log: L,
     turns: u64,
-) -> Ended<D, ()>
-    ensures keeps { KeepsLength (D.state disk) (D.state result.disk) }
-    ensures done { OnOk result.result (Plays (when_followed folder.entry) turns
-        (O.writes outlet.old) (O.writes outlet.new) (D.state disk) (D.state result.disk)) }
-    ensures refused { IfErr result.result (λ r. StopsPlaying r (when_followed folder.entry)
-        (O.writes outlet.old) (O.writes outlet.new) (D.state disk) (D.state result.disk)) }
+    directory: u32,
+) -> Aired<D>
+    ensures keeps { KeepsLength (D.state disk) (D.state result.ended.disk) }
+    ensures done { OnOk result.ended.result (Plays (when_followed folder.entry) turns
+        (O.writes outlet.old) (O.writes outlet.new) (D.state disk) (D.state result.ended.disk)) }
+    ensures refused { IfErr result.ended.result (λ r. StopsPlaying r (when_followed folder.entry)
+        (O.writes outlet.old) (O.writes outlet.new) (D.state disk) (D.state result.ended.disk)) }
 {
     match folder {
         Some(Followed { path, types }) => {
-            let mut looks = Looks::new(rt, alloc, path, types, log);
-            play_with(alloc, disk, &mut looks, outlet, turns)
+            let mut looks = WatchedLooks::new(Looks::new(rt, alloc, path, types, log));
+            let ended = play_with(alloc, disk, &mut looks, outlet, turns, directory);
+            Aired {
+                ended,
+                any_refused: looks.any_refused,
+            }
         }
-        None => play_with(alloc, disk, &mut NoUpdate, outlet, turns),
+        None => Aired {
+            ended: play_with(alloc, disk, &mut NoUpdate, outlet, turns, directory),
+            any_refused: false,
+        },
     }
 }
 
@@ -79,55 +98,58 @@ pub fn play_and_answer<T: Files<File = File>, D: Disk, O: Outlet, L: Write + Dro
     lines: LineFolder<'_>,
     log: L,
     turns: u64,
-) -> Ended<D, ()>
-    ensures keeps { KeepsLength (D.state disk) (D.state result.disk) }
-    ensures done { OnOk result.result (Plays Always turns
-        (O.writes outlet.old) (O.writes outlet.new) (D.state disk) (D.state result.disk)) }
-    ensures refused { IfErr result.result (λ r. StopsPlaying r Always
-        (O.writes outlet.old) (O.writes outlet.new) (D.state disk) (D.state result.disk)) }
+    directory: u32,
+) -> Aired<D>
+    ensures keeps { KeepsLength (D.state disk) (D.state result.ended.disk) }
+    ensures done { OnOk result.ended.result (Plays Always turns
+        (O.writes outlet.old) (O.writes outlet.new) (D.state disk) (D.state result.ended.disk)) }
+    ensures refused { IfErr result.ended.result (λ r. StopsPlaying r Always
+        (O.writes outlet.old) (O.writes outlet.new) (D.state disk) (D.state result.ended.disk)) }
 {
     let log = RefCell::new(log);
     match folder {
         Some(Followed { path, types }) => {
             let looks = Looks::new(rt, alloc, path, types, SharedLog::new(&log));
-            play_lines(rt, alloc, disk, outlet, lines, &log, looks, turns)
+            let mut lines = lines_between(rt, alloc, lines, &log, WatchedLooks::new(looks));
+            let ended = play_with(alloc, disk, &mut lines, outlet, turns, directory);
+            Aired {
+                ended,
+                any_refused: lines.update.any_refused,
+            }
         }
-        None => play_lines(rt, alloc, disk, outlet, lines, &log, NoUpdate, turns),
+        None => {
+            let mut lines = lines_between(rt, alloc, lines, &log, NoUpdate);
+            Aired {
+                ended: play_with(alloc, disk, &mut lines, outlet, turns, directory),
+                any_refused: false,
+            }
+        }
     }
 }
 
-/// Opens the disk and plays it into the outlet, so many turns, with these updates, and answers the
-/// lines of the files in a folder. What is told of them is written to the log.
-fn play_lines<T: Files<File = File>, D: Disk, O: Outlet, L: Write + Drop, U: Update + Drop>(
-    rt: &T,
+/// The lines of the files in a folder, answered with these updates. What is told of them is written
+/// to the log.
+fn lines_between<'a, T: Files<File = File>, L: Write + Drop, U: Update + Drop>(
+    rt: &'a T,
     alloc: Global,
-    disk: D,
-    outlet: &mut O,
-    lines: LineFolder<'_>,
-    log: &RefCell<L>,
+    lines: LineFolder<'a>,
+    log: &'a RefCell<L>,
     update: U,
-    turns: u64,
-) -> Ended<D, ()>
-    ensures keeps { KeepsLength (D.state disk) (D.state result.disk) }
-    ensures done { OnOk result.result (Plays Always turns
-        (O.writes outlet.old) (O.writes outlet.new) (D.state disk) (D.state result.disk)) }
-    ensures refused { IfErr result.result (λ r. StopsPlaying r Always
-        (O.writes outlet.old) (O.writes outlet.new) (D.state disk) (D.state result.disk)) }
-{
+) -> Lines<Spool<'a, T, SharedLog<'a, L>>, SharedLog<'a, L>, U> {
     let LineFolder { path, hand, every } = lines;
     let spool = Spool::new(rt, alloc, path, SharedLog::new(log));
-    let mut lines = Lines::new(spool, hand, SharedLog::new(log), every, update);
-    play_with(alloc, disk, &mut lines, outlet, turns)
+    Lines::new(spool, hand, SharedLog::new(log), every, update)
 }
 
 /// Opens the disk and plays it into the outlet, so many turns, with these updates before the first
-/// packet and behind each.
+/// packet and behind each. The directory is sent again after so many packets, as `feed_every` does.
 pub fn play_with<D: Disk, U: Update, O: Outlet>(
     alloc: Global,
     disk: D,
     update: &mut U,
     outlet: &mut O,
     turns: u64,
+    directory: u32,
 ) -> Ended<D, ()>
     ensures keeps { KeepsLength (D.state disk) (D.state result.disk) }
     ensures done { OnOk result.result (Plays U.when turns
@@ -160,7 +182,7 @@ pub fn play_with<D: Disk, U: Update, O: Outlet>(
     };
     // Its sizes are in their ranges: each packet has room.
     let _ = server.geometry();
-    let result = feed(&mut server, alloc, update, outlet, turns);
+    let result = feed_every(&mut server, alloc, update, outlet, turns, directory);
     Ended {
         disk: server.into_disk(),
         result,
@@ -168,8 +190,7 @@ pub fn play_with<D: Disk, U: Update, O: Outlet>(
 }
 
 /// Opens the disk and makes its carousel equal to the folder; whether nothing was refused. What is
-/// told of the look is written to the log; where there was no memory for a line of it, that is the
-/// refusal.
+/// told of the look is written to the log.
 pub fn sync_disk<T: Files<File = File>, D: Disk, L: Write>(
     rt: &T,
     alloc: Global,
@@ -221,9 +242,6 @@ fn look_and_tell<T: Files<File = File>, D: Disk, L: Write>(
     let told = write_lines(log, report.lines.as_slice());
     looked?;
     told?;
-    if report.any_left_out {
-        return Err(Refusal::OutOfMemory);
-    }
     Ok(!report.any_refused)
 }
 

@@ -5,7 +5,8 @@ ghost use Rattle.std.specs.Prelude.{List, None, Ok, Some, codes, option_map};
 ghost use Rattle.std.specs.Io.KnownBytes.{Keeps};
 ghost use Rattle.clap.specs.Words.{Text, found_of, kind_of, rows_of};
 ghost use Rattle.mot_air.specs.Inner.Told.{told_of};
-ghost use Rattle.mot_air.specs.Program.{Does, DoesInPart, IsBeginningRefusal, IsRefused, IsUntold};
+ghost use Rattle.mot_air.specs.Program.{AskForNothing, Does, DoesInPart, IsBeginningRefusal};
+ghost use Rattle.mot_air.specs.Program.{IsRefused, IsUntold};
 ghost use Rattle.mot_air.specs.Program.{IsUntouched, OnOpened, PlaysTo};
 ghost use Rattle.mot_air.specs.Program.{StopsPlayingTo, Succeeds, when_changed};
 ghost use Rattle.mot_air.specs.Syncing.{StopsSyncing, Syncs};
@@ -14,22 +15,23 @@ ghost use Rattle.mot_air.specs.declared.used.AirDisk.{AirDisk};
 ghost use Rattle.mot_files.specs.Lines.{IsUnlined};
 ghost use Rattle.mot_files.specs.Types.{IsUntyped};
 ghost use Rattle.mot_numbers.specs.declared.refusal.Refusal.{Refusal};
-ghost use Rattle.mot_numbers.specs.declared.refusal.Refusal.TheVariants.{DeviceFault, OutOfMemory};
+ghost use Rattle.mot_numbers.specs.declared.refusal.Refusal.TheVariants.{BadNumber, DeviceFault};
+ghost use Rattle.mot_numbers.specs.declared.refusal.Refusal.TheVariants.{OutOfMemory};
 ghost use Rattle.mot_numbers.specs.declared.refusal.Refusal.TheVariants.{WriteFault};
 ghost use Rattle.mot_reading.specs.Exporting.{Exports, StopsExporting};
 ghost use Rattle.mot_reading.specs.Inspecting.{Inspects, StopsInspecting};
 ghost use Rattle.mot_words.specs.Air.Command.{air_app};
 ghost use Rattle.mot_words.specs.Air.Task.{IsAirTask};
-ghost use Rattle.mot_words.specs.Asked.{AreWrong, AskBy};
+ghost use Rattle.mot_words.specs.Asked.{AskBy};
 
 use crate::on_air::play_file;
 use crate::playing::{Followed, sync_disk};
-use crate::subject::{Subject, subject_of, tell, tell_folder};
+use crate::subject::{Subject, missing_option, subject_of, tell, tell_folder, tell_missing};
 use crate::used::{AirExit, Finished};
 use clap::error::ErrorKind;
 use clap::{ArgMatches, Error};
 use disk_store::{Start, open_file};
-use mot_files::{Cause, Taken, file_types, line_folder};
+use mot_files::{Cause, Others, Taken, file_types, line_folder};
 use mot_folder::FileTypes;
 use mot_numbers::Refusal;
 use mot_reading::{export_disk, inspect_disk};
@@ -44,28 +46,6 @@ pub fn is_air(word: &str) -> bool
         ⊎ (word.now ≡ codes "export") ⊎ (word.now ≡ codes "inspect") }
 {
     word == "play" || word == "sync" || word == "export" || word == "inspect"
-}
-
-/// Does what the words after the program's own name ask for, and answers the exit status, as
-/// `run_air_on` does.
-pub fn run_air<S: AsStr, B: Start, W: Write, E: Write>(
-    rt: &HostRuntime,
-    alloc: Global,
-    words: &[S],
-    start: B,
-    writer: &mut W,
-    errors: &mut E,
-) -> u8
-    ensures status { (result ≡ 0) ⊎ (result ≡ 1) ⊎ (result ≡ 2) }
-    ensures done { result ≡ 0 → (disk : AirDisk B B.Start) × Succeeds (map S.text words.now) disk
-        (W.contents writer.old) (W.contents writer.new) }
-    ensures refused { result ≡ 1 → (disk : AirDisk B B.Start) × (refusal : Option Refusal)
-        × IsRefused (map S.text words.now) refusal disk
-        (W.contents writer.old) (W.contents writer.new) }
-    ensures usage { result ≡ 2 → AreWrong air_app (map S.text words.now)
-        × Keeps (W.contents writer.old) (W.contents writer.new) }
-{
-    run_air_on(rt, alloc, words, start, writer, errors).status
 }
 
 /// Does what the words after the program's own name ask for, and hands out the disk that it worked
@@ -91,7 +71,7 @@ pub fn run_air_on<S: AsStr, B: Start, W: Write, E: Write>(
     // What this refusal left of the disk that is handed out.
     ensures refused { result.status ≡ 1 → IsRefused (map S.text words.now) result.refusal
         result.disk (W.contents writer.old) (W.contents writer.new) }
-    ensures usage { result.status ≡ 2 → AreWrong air_app (map S.text words.now)
+    ensures usage { result.status ≡ 2 → AskForNothing (map S.text words.now)
         × IsUntouched result.disk × Keeps (W.contents writer.old) (W.contents writer.new) }
 {
     match air_matches(alloc, words) {
@@ -113,7 +93,7 @@ fn run_command<B: Start, W: Write, E: Write>(
     writer: &mut W,
     errors: &mut E,
 ) -> AirExit<B>
-    ensures status { (result.status ≡ 0) ⊎ (result.status ≡ 1) }
+    ensures status { (result.status ≡ 0) ⊎ (result.status ≡ 1) ⊎ (result.status ≡ 2) }
     ensures done { (all : List Text)
         → AskBy air_app IsAirTask name.now (rows_of (found_of words.now)) all
         → result.status ≡ 0
@@ -122,6 +102,10 @@ fn run_command<B: Start, W: Write, E: Write>(
         → AskBy air_app IsAirTask name.now (rows_of (found_of words.now)) all
         → result.status ≡ 1 → IsRefused all result.refusal result.disk
         (W.contents writer.old) (W.contents writer.new) }
+    ensures usage { (all : List Text)
+        → AskBy air_app IsAirTask name.now (rows_of (found_of words.now)) all
+        → result.status ≡ 2 → AskForNothing all × IsUntouched result.disk
+        × Keeps (W.contents writer.old) (W.contents writer.new) }
 {
     match air_task(name, words) {
         Some(task) => {
@@ -137,9 +121,23 @@ fn run_command<B: Start, W: Write, E: Write>(
                 disk,
             }
         }
+        None => AirExit::untouched(tell_no_task(errors, words), start),
+    }
+}
+
+/// Prints why the words ask for no task, and answers the exit status and the refusal: an option is
+/// missing of which another one says more, or a number is none.
+fn tell_no_task<E: Write>(errors: &mut E, words: &ArgMatches<'_>) -> (u8, Option<Refusal>)
+    ensures { (result ≡ (1, Some BadNumber)) ⊎ (result ≡ (2, None)) }
+{
+    match missing_option(words) {
+        Some(option) => {
+            tell_missing(errors, option);
+            (2, None)
+        }
         None => {
-            let subject = subject_of(Refusal::BadNumber, words, None);
-            AirExit::untouched(refuse(errors, Refusal::BadNumber, subject), start)
+            let refusal = Refusal::BadNumber;
+            refuse(errors, refusal, subject_of(refusal, words, None))
         }
     }
 }
@@ -247,7 +245,9 @@ fn play<B: Start, W: Write, E: Write>(
     ensures done { result.result ≡ Ok true
         → PlaysTo task.entry.packets.now (when_changed task.entry.lines task.entry.folder)
         task.entry.turns result.disk }
-    ensures told { result.result ≢ Ok false }
+    ensures told { result.result ≡ Ok false
+        → PlaysTo task.entry.packets.now (when_changed task.entry.lines task.entry.folder)
+        task.entry.turns result.disk }
     ensures refused { IfErr result.result (λ r.
         ((IsUntyped task.entry.types r ⊎ IsUnlined task.entry.lines r
         ⊎ (r ≡ DeviceFault) ⊎ (r ≡ WriteFault))
@@ -260,13 +260,29 @@ fn play<B: Start, W: Write, E: Write>(
         Ok(types) => types,
         Err(unbegun) => return Finished::unbegun(unbegun, start),
     };
-    let lines = match line_folder(rt, alloc, task.lines, task.every, task.folder) {
+    let others = Others {
+        objects: task.folder,
+        disk,
+        packets,
+        types: task.types,
+    };
+    let lines = match line_folder(rt, alloc, task.lines, task.every, others) {
         Ok(lines) => lines,
         Err(unbegun) => return Finished::unbegun(unbegun, start),
     };
     let folder = followed(task.folder, &types);
     play_file(
-        rt, alloc, disk, packets, folder, lines, task.turns, start, writer, errors,
+        rt,
+        alloc,
+        disk,
+        packets,
+        folder,
+        lines,
+        task.turns,
+        task.directory,
+        start,
+        writer,
+        errors,
     )
 }
 

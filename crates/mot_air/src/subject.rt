@@ -3,10 +3,10 @@
 use clap::ArgMatches;
 use disk_store::OpenFault;
 use mot_files::{Cause, OUTPUT, SUFFIX};
+use mot_folder::open_folder;
 use mot_numbers::Refusal;
 use std::fmt::{self, Display, Formatter};
 use std::io::Write;
-use std::rt::Files;
 
 /// What a refusal is about.
 #[derive(Clone, Copy)]
@@ -63,6 +63,32 @@ fn number_in<'a>(words: &ArgMatches<'a>) -> Subject<'a> {
     Subject::Nothing
 }
 
+/// The option that is missing among the words, as help shows it, where another one that says more
+/// of it was given.
+pub(crate) fn missing_option(words: &ArgMatches<'_>) -> Option<&'static str> {
+    if is_alone(words, "every", "lines") {
+        Some("--lines <DIR>")
+    } else if is_alone(words, "types", "folder") {
+        Some("--folder <DIR>")
+    } else {
+        None
+    }
+}
+
+/// Whether an option was given, and another one was not.
+fn is_alone(words: &ArgMatches<'_>, name: &str, other: &str) -> bool {
+    words.get_str(name).is_some() && words.get_str(other).is_none()
+}
+
+/// Prints that an option is missing, as the parser prints it of a word.
+pub(crate) fn tell_missing<E: Write>(errors: &mut E, option: &str) {
+    let fault = "error: the following required arguments were not provided:";
+    let _ = writeln!(
+        errors,
+        "{fault}\n  {option}\n\nFor more information, try '--help'."
+    );
+}
+
 /// Prints what a refusal is about, where there is more to tell.
 pub(crate) fn tell<E: Write>(errors: &mut E, subject: Subject<'_>) {
     match subject {
@@ -91,10 +117,10 @@ fn shown(path: &str, cause: Cause) -> (&str, &'static str) {
 
 /// Prints why the folder that these words name can't be listed, where it can't.
 pub(crate) fn tell_folder<E: Write>(rt: &HostRuntime, errors: &mut E, words: &ArgMatches<'_>) {
-    let Some(path) = words.get_str("DIR") else {
+    let Some(path) = words.get_str("DIR").or(words.get_str("folder")) else {
         return;
     };
-    if let Err(error) = rt.open_dir(path) {
+    if let Err(error) = open_folder(rt, rt.alloc(), path) {
         let fault = OpenFault::System(error);
         let _ = writeln!(errors, "motcar: {path}: {fault}");
     }

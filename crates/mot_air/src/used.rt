@@ -99,6 +99,28 @@ impl<S: Start> Finished<S> {
         }
     }
 
+    /// All was played, on the disk of a file that was opened, with these packets written, or it was
+    /// refused; whether nothing of a folder was.
+    pub(crate) fn played(
+        ended: Ended<BegunFile<S, WasThere>, ()>,
+        is_fine: bool,
+        taken: Taken,
+        cause: Option<Cause>,
+    ) -> Self
+        ensures disk { result.disk ≡ Opened ended.disk.disk taken }
+        ensures done { OnOk ended.result (result.result ≡ Ok is_fine) }
+        ensures refused { IfErr ended.result (λ r. result.result ≡ Err r) }
+    {
+        let finished = Finished::done(ended, taken, cause);
+        match finished.result {
+            Ok(_) => Finished {
+                result: Ok(is_fine),
+                ..finished
+            },
+            Err(_) => finished,
+        }
+    }
+
     /// Done, or refused, on the disk of a file that was opened, with these packets written.
     pub(crate) fn done(
         ended: Ended<BegunFile<S, WasThere>, ()>,

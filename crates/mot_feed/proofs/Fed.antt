@@ -10,11 +10,14 @@ use Rattle.mot_feed.specs.Feeding.{AreOf, AreTimely, Event, FedPacketsAreContinu
 use Rattle.mot_feed.specs.Feeding.{Feeds, FeedsPart, Happen, HasFed}
 use Rattle.mot_feed.specs.Feeding.{commands_among, are_uncut, has_ended, moments_of}
 use Rattle.mot_feed.specs.Feeding.{sents_in, turns_in, unmade, unwritten}
-use Rattle.mot_feed.specs.Feeding.Event.{Accepted, Played}
+use Rattle.mot_feed.specs.Feeding.Event.{Accepted, Asked, Played}
+use Rattle.mot_feed.specs.Often.{FeedsOften, FeedsPartOften, IsOften, pause}
 use Rattle.mot_feed.specs.Sending.{SendsPacket}
 use Rattle.mot_feed.specs.Sending as one
 use Rattle.mot_feed.specs.Writing.{GrowsPart}
 use Rattle.mot_feed.specs.Writing as part
+use Rattle.mot_feed.proofs.Hearing.{OftenUpTo, asks, left_for, often-accepted, often-all}
+use Rattle.mot_feed.proofs.Hearing.{often-asked, often-cut, often-none, often-sent}
 use Rattle.mot_feed.proofs.Grown.{grows_nil, grows_trans, grows_kept, part_after}
 use Rattle.mot_feed.proofs.Sent.{not_fine, same_refusal}
 use Rattle.mot_journal.specs.Image.{Standing}
@@ -30,7 +33,8 @@ use Rattle.mot_packets.specs.Packet.{PacketFields, read_packet}
 use Rattle.mot_packets.specs.Written.{bytes_of_packet}
 use Rattle.mot_player.proofs.Laws.{steps-are-continuous}
 use Rattle.mot_player.specs.Laws.{AreSent, IsStep}
-use Rattle.mot_player.specs.Place.{Place, Sent, Step, Request, NewTurn, change_turn, opened_place}
+use Rattle.mot_player.specs.Place.{Place, Sent, Step, Request, NewTurn, Directory, change_turn}
+use Rattle.mot_player.specs.Place.{hear_directory, opened_place}
 use Rattle.mot_player.specs.Place.{sent_by}
 use Rattle.mot_player.specs.Turn.{turn_of_carousel}
 use Rattle.mot_repository.specs.Repository.{Holds, RepositoryView}
@@ -60,6 +64,8 @@ happen-join limit size c mid last place between new (Accepted command ∷ events
   happen-join limit size one.0 mid last (change_turn (turn_of_carousel one.0 size) place) between
       new events others one.2 two,
 )
+happen-join limit size c mid last place between new (Asked ∷ events) others one two =
+    happen-join limit size c mid last (hear_directory place) between new events others one two
 
 commands_among-append : (events others : List Event)
     → commands_among (events ++ others) ≡ commands_among events ++ commands_among others
@@ -67,18 +73,21 @@ commands_among-append [] others = refl
 commands_among-append (Played sent ∷ events) others = commands_among-append events others
 commands_among-append (Accepted command ∷ events) others =
     ap (λ l. command ∷ l) (commands_among-append events others)
+commands_among-append (Asked ∷ events) others = commands_among-append events others
 
 sents_in-append : (events others : List Event)
     → sents_in (events ++ others) ≡ sents_in events ++ sents_in others
 sents_in-append [] others = refl
 sents_in-append (Played sent ∷ events) others = ap (λ l. sent ∷ l) (sents_in-append events others)
 sents_in-append (Accepted command ∷ events) others = sents_in-append events others
+sents_in-append (Asked ∷ events) others = sents_in-append events others
 
 ended-append : (ended : Bool) (events others : List Event)
     → has_ended ended (events ++ others) ≡ has_ended (has_ended ended events) others
 ended-append ended [] others = refl
 ended-append ended (Played sent ∷ events) others = ended-append sent.ends_turn events others
 ended-append ended (Accepted command ∷ events) others = ended-append ended events others
+ended-append ended (Asked ∷ events) others = ended-append ended events others
 
 uncut-cases : (ended rest all : Bool) → (ended && rest) ≡ true → (rest ≡ true → all ≡ true)
     → (ended && all) ≡ true
@@ -93,6 +102,7 @@ uncut-append ended (Played sent ∷ events) others one two =
 uncut-append ended (Accepted command ∷ events) others one two =
     uncut-cases ended (are_uncut ended events) (are_uncut ended (events ++ others)) one
     (λ is. uncut-append ended events others is two)
+uncut-append ended (Asked ∷ events) others one two = uncut-append ended events others one two
 
 moments-append : (ended : Bool) (events others : List Event)
     → moments_of ended (events ++ others)
@@ -101,6 +111,7 @@ moments-append ended [] others = refl
 moments-append ended (Played sent ∷ events) others =
     ap (λ l. ended ∷ l) (moments-append sent.ends_turn events others)
 moments-append ended (Accepted command ∷ events) others = moments-append ended events others
+moments-append ended (Asked ∷ events) others = moments-append ended events others
 
 turns-append : (events others : List Event)
     → turns_in (events ++ others) ≡ turns_in events + turns_in others
@@ -108,6 +119,7 @@ turns-append [] others = omega arith
 turns-append (Played sent ∷ events) others =
     omega (arith, turns-append events others)
 turns-append (Accepted command ∷ events) others = turns-append events others
+turns-append (Asked ∷ events) others = turns-append events others
 
 abbrev packet_of : Sent → List ℕ
 packet_of s = bytes_of_packet s.packet
@@ -273,6 +285,63 @@ are-more events commands packets are =
     let same : sents_in events ≡ sents_in (events ++ map Accepted commands) =
     sym (sents_in-append events (map Accepted commands)
     ∙ ap (λ l. sents_in events ++ l) (sents-map commands) ∙ append-nil (sents_in events)) in
+    record {
+      bytes = are.bytes ∙ ap (map packet_of) same;
+      read = subst (λ l. AreSent l packets) same are.read;
+    }
+
+-- ---- the directory asked for, or not
+
+commands-asked : (due : Bool) → commands_among (asks due) ≡ []
+commands-asked true = refl
+commands-asked false = refl
+
+sents-asked : (due : Bool) → sents_in (asks due) ≡ []
+sents-asked true = refl
+sents-asked false = refl
+
+ended-asked : (ended due : Bool) → has_ended ended (asks due) ≡ ended
+ended-asked ended true = refl
+ended-asked ended false = refl
+
+turns-asked : (due : Bool) → turns_in (asks due) ≡ 0
+turns-asked true = refl
+turns-asked false = refl
+
+uncut-asked : (ended due : Bool) → are_uncut ended (asks due) ≡ true
+uncut-asked ended true = refl
+uncut-asked ended false = refl
+
+moments-asked_only : (ended due : Bool) → moments_of ended (asks due) ≡ []
+moments-asked_only ended true = refl
+moments-asked_only ended false = refl
+
+moments-asked : (events : List Event) (due : Bool)
+    → moments_of true (events ++ asks due) ≡ moments_of true events
+moments-asked events due =
+    moments-append true events (asks due)
+    ∙ ap (λ l. moments_of true events ++ l) (moments-asked_only (has_ended true events) due)
+    ∙ append-nil (moments_of true events)
+
+happen-asked : (limit size : ℕ) (c : Carousel) (place new : Place) (due : Bool)
+    → new ≡ (if due then hear_directory place else place)
+    → Happen limit size c place (asks due) c new
+happen-asked limit size c place new true e = (refl, sym e)
+happen-asked limit size c place new false e = (refl, sym e)
+
+timely-asked : (when : When) (commands : List Command) (events : List Event) (due : Bool)
+    → AreTimely when commands events → AreTimely when (commands ++ []) (events ++ asks due)
+timely-asked Never commands events due so_far = append-nil commands ∙ so_far
+timely-asked BetweenTurns commands events due so_far =
+    uncut-append true events (asks due) so_far (uncut-asked (has_ended true events) due)
+timely-asked Always commands events due so_far = tt
+
+are-asked : (events : List Event) (due : Bool) (packets : List (List ℕ))
+    → AreOf events packets → AreOf (events ++ asks due) packets
+are-asked events due packets are =
+    let same : sents_in events ≡ sents_in (events ++ asks due) =
+    sym (sents_in-append events (asks due)
+    ∙ ap (λ l. sents_in events ++ l) (sents-asked due) ∙ append-nil (sents_in events)) in
     record {
       bytes = are.bytes ∙ ap (map packet_of) same;
       read = subst (λ l. AreSent l packets) same are.read;
@@ -486,6 +555,15 @@ module _ {D : Type 0} where
     done = λ e. refl;
   }
 
+  pub none_often : (every : ℕ) (old : ServerView D) (start : State) (s : Standing) (when : When)
+      (turns : ℕ) (contents : Option (List (List ℕ))) (moments : Option (List Bool))
+      (sound : IsHonestDisk start) (honest : start.IsHonest) (still : IsUnchanged start start)
+      (holds : Holds old.view s start) → OftenUpTo every (Some 0)
+      (fed_none old start s when turns contents moments sound honest still holds).events
+  unfolding fed_none
+  none_often every old start s when turns contents moments sound honest still holds =
+      often-none every
+
   module _ {old mid : ServerView D} {start between : State} {s : Standing} {when : When}
       {turns left : ℕ} {between_turns : Bool} {count : ℕ} {before after : Option (List (List ℕ))}
       {earlier since : Option (List Bool)} {more : List Bool}
@@ -525,6 +603,16 @@ module _ {D : Type 0} where
             so_far.ended ∙ so_far.done none,
           )
           all_ended (inr many) = inr (so_far.many ∙ many)
+
+      -- the same, with the directory often
+      pub fed_often : (every : ℕ) (until : Option ℕ) → OftenUpTo every until so_far.events
+          → more ≡ [] → (left ≡ 0) ⊎ (count ≡ 18446744073709551615)
+          → FeedsOften every old mid start between s when turns before after earlier since
+      unfolding fed_all
+      fed_often every until often none end = record {
+        feeds = fed_all none end;
+        often = often-all every until so_far.events often;
+      }
 
       -- an update more
       module _ {up : ServerView D} {then_state : State} {fault : Option Refusal}
@@ -615,6 +703,33 @@ module _ {D : Type 0} where
         done = so_far.done;
       }
 
+      -- commands ask for no directory
+      pub updated_often : {up : ServerView D} {then_state : State}
+          (later : Option (List Bool)) (every : ℕ) (until : Option ℕ)
+          → OftenUpTo every until so_far.events
+          → (none : more ≡ []) (update : IsUpdating mid up between then_state
+          so_far.fed.leaves.last (may_change when between_turns) None)
+          (call : Grows since later (between_turns ∷ []))
+          → OftenUpTo every until (updated none update call).events
+      unfolding updated
+      updated_often later every until often none update call =
+          often-accepted every until so_far.events (done_by update) often
+
+      -- and a fault of an update behind them
+      pub update_fault_often : {up : ServerView D} {then_state : State} {refusal : Refusal}
+          {later : Option (List Bool)} (every : ℕ) (until : Option ℕ)
+          → OftenUpTo every until so_far.events → more ≡ []
+          → IsUpdating mid up between then_state so_far.fed.leaves.last
+          (may_change when between_turns) (Some refusal) → Grows since later (between_turns ∷ [])
+          → refusal ≢ WriteFault
+          → FeedsPartOften every refusal old up start then_state s when before after earlier later
+      unfolding update_fault
+      update_fault_often every until often none update call other = record {
+        feeds = update_fault none update call other;
+        often = often-all every until (updated_events update)
+            (often-accepted every until so_far.events (done_by update) often);
+      }
+
       abbrev t : Standing
       t = so_far.fed.leaves.last
 
@@ -651,6 +766,52 @@ module _ {D : Type 0} where
           unfolding sent_fed fed-join fed-read
           sent_timely =
               timely-sent when so_far.fed.commands so_far.events step.sent so_far.timely
+
+        -- the directory asked for, or not
+        module _ (due : Bool) (asked : place_in new t
+            ≡ (if due then hear_directory (place_in mid t) else place_in mid t)) where
+          abbrev asked_for : List Event
+          asked_for = if due then Asked ∷ [] else []
+
+          asked_fed : HasFed old new start now s None (so_far.events ++ asked_for)
+          asked_fed = fed-join old mid new start between now s None so_far.events asked_for
+              so_far.fed
+              (fed-read mid new between now t None asked_for sound view honest still held
+              (commands-asked due)
+              (happen-asked t.geometry.objects t.geometry.segment_size t.carousel
+              (place_in mid t) (place_in new t) due asked))
+
+          asked_timely : AreTimely when asked_fed.commands (so_far.events ++ asked_for)
+          unfolding asked_fed fed-join fed-read
+          asked_timely = timely-asked when so_far.fed.commands so_far.events due so_far.timely
+
+          pub asked_on : SoFar old new start now s when turns left between_turns count before
+              after earlier since more
+          asked_on = record {
+            events = so_far.events ++ asked_for;
+            fed = asked_fed;
+            packets = so_far.packets;
+            are = are-asked so_far.events due so_far.packets so_far.are;
+            written = so_far.written;
+            called = subst (λ l. Grows earlier since (l ++ more))
+                (sym (moments-asked so_far.events due)) so_far.called;
+            timely = asked_timely;
+            ended = ended-append true so_far.events asked_for
+                ∙ ended-asked (has_ended true so_far.events) due ∙ so_far.ended;
+            counted = omega (
+              arith,
+              turns-append so_far.events asked_for,
+              turns-asked due,
+              so_far.counted,
+            );
+            many = so_far.many;
+            done = so_far.done;
+          }
+
+          pub asked_often : (every until : ℕ) → OftenUpTo every (Some until) so_far.events
+              → OftenUpTo every (left_for due until) asked_on.events
+          unfolding asked_on
+          asked_often every until often = often-asked every until so_far.events due often
 
         -- where no packet was made, nothing more was fed
         unsent_fed : place_in new t ≡ place_in mid t
@@ -712,6 +873,31 @@ module _ {D : Type 0} where
             → FeedsPart refusal old new start now s when before last earlier since
         send_fault refusal once sends = send_fault-cases refusal once (sends t held)
 
+        -- the same, with the directory often
+        module _ (every until : ℕ) (due : Bool)
+            (often : OftenUpTo every (left_for due until) so_far.events)
+            (some : due ≡ false → until ≡ 0 → ⊥) where
+          fault_often-cases : {last : Option (List (List ℕ))} (refusal : Refusal)
+              (once : more ≡ between_turns ∷ [])
+              (one : SendsPacket (Err refusal) (place_in mid t) (place_in new t) after last)
+              → IsOften every (send_fault-cases refusal once one).events
+          unfolding send_fault-cases
+          fault_often-cases {last} refusal once (one.whole packet e is step w) =
+              absurd (not_fine e refusal (sym is))
+          fault_often-cases {last} refusal once (one.short packet e n is step lt w) =
+              often-cut every until due so_far.events step.sent often some
+          fault_often-cases {last} refusal once (one.none r other is same w) = often []
+
+          pub send_fault_often : {last : Option (List (List ℕ))} (refusal : Refusal)
+              → more ≡ between_turns ∷ [] → ((d : Standing) → Holds mid.view d between
+              → SendsPacket (Err refusal) (place_in mid d) (place_in new d) after last)
+              → FeedsPartOften every refusal old new start now s when before last earlier since
+          unfolding send_fault
+          send_fault_often refusal once sends = record {
+            feeds = send_fault refusal once sends;
+            often = fault_often-cases refusal once (sends t held);
+          }
+
         -- one that was written whole
         module _ (once : more ≡ between_turns ∷ []) (some : left ≡ 0 → ⊥) (ends : Bool) (rest : ℕ)
             (is_rest : rest + (if ends then 1 else 0) ≡ left) {last : Option (List (List ℕ))} where
@@ -746,6 +932,27 @@ module _ {D : Type 0} where
               earlier since []
           sent_on sends = sent_on-cases (sends t held)
 
+          -- the same, with the directory often
+          module _ (every until next : ℕ) (due : Bool)
+              (often : OftenUpTo every (left_for due until) so_far.events)
+              (anew : due ≡ true → (d : Standing) → next ≡ pause every (place_in new d))
+              (less : due ≡ false → suc next ≡ until) where
+            sent_often-cases : (one : SendsPacket (Ok ends) (place_in mid t) (place_in new t)
+                after last) → OftenUpTo every (Some next) (sent_on-cases one).events
+            unfolding sent_on-cases
+            sent_often-cases (one.whole packet e is step w) =
+                often-sent every until next due so_far.events step.sent often
+                (λ e. anew e t ∙ ap (pause every) step.place) less
+            sent_often-cases (one.short packet e n is step lt w) = absurd (not_fine ends _ is)
+            sent_often-cases (one.none refusal other is same w) =
+                absurd (not_fine ends refusal is)
+
+            pub sent_often : (sends : (d : Standing) → Holds mid.view d between
+                → SendsPacket (Ok ends) (place_in mid d) (place_in new d) after last)
+                → OftenUpTo every (Some next) (sent_on sends).events
+            unfolding sent_on
+            sent_often sends = sent_often-cases (sends t held)
+
 -- ---- continuity
 
 steps-of : (limit size : ℕ) (c last : Carousel) (place new : Place) (events : List Event)
@@ -760,6 +967,9 @@ steps-of limit size c last place new (Accepted command ∷ events) is =
     let turn = turn_of_carousel is.0 size in
     let rest = steps-of limit size is.0 last (change_turn turn place) new events is.2 in
     (NewTurn turn ∷ rest.0, rest.1)
+steps-of limit size c last place new (Asked ∷ events) is =
+    let rest = steps-of limit size c last (hear_directory place) new events is in
+    (Directory ∷ rest.0, rest.1)
 
 -- of a server just opened all packets that are fed have their continuity indexes
 pub continuous : FedPacketsAreContinuous

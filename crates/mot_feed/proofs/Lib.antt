@@ -1,4 +1,5 @@
 pub mod Fed
 pub mod Grown
+pub mod Hearing
 pub mod Laws
 pub mod Sent

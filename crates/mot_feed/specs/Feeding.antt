@@ -1,5 +1,5 @@
 -- What taking turns between updates and packets does.
-use Rattle.std.specs.Prelude.{ℕ, ◌≡◌, ◌≢◌, ◌⊎◌, ◌+◌, ◌<◌, Bool, true, false, ◌&&◌}
+use Rattle.std.specs.Prelude.{ℕ, ◌≡◌, ◌≢◌, ◌⊎◌, ◌+◌, ◌<◌, Bool, true, ◌&&◌}
 use Rattle.std.specs.Prelude.{if◌then◌else◌, List, [], ◌∷◌, ◌++◌, length, Option, Some, None}
 use Rattle.std.specs.Prelude.{⊤}
 use Rattle.disk_model.specs.Disk.{State}
@@ -13,7 +13,7 @@ use Rattle.mot_objects.specs.declared.command.Command.{Command}
 use Rattle.mot_packets.specs.Outlet.{Grows}
 use Rattle.mot_player.specs.Continuity.{IsContinuous}
 use Rattle.mot_player.specs.Laws.{AreSent}
-use Rattle.mot_player.specs.Place.{Place, Sent, change_turn, opened_place, request}
+use Rattle.mot_player.specs.Place.{Place, Sent, change_turn, hear_directory, opened_place, request}
 use Rattle.mot_player.specs.Sending.{packets_sent}
 use Rattle.mot_player.specs.Turn.{Turn, turn_of_carousel}
 use Rattle.mot_server.specs.RunEnds.{RunLeaves}
@@ -22,21 +22,25 @@ use Rattle.mot_server.specs.Server.{ServerView, place_in}
 use Rattle.mot_update.specs.Between.{Always, BetweenTurns, Never, When}
 use Rattle.mot_update.specs.Faults.{IsUpdateFault}
 
--- what happens while a server is fed from: a command is accepted, or a packet is sent
+-- what happens while a server is fed from: a command is accepted, the directory is asked for, or a
+-- packet is sent
 pub data Event : Type 0 where
   Accepted : Command → Event
+  Asked : Event
   Played : Sent → Event
 
 -- the commands among these
 abbrev pub commands_among : List Event → List Command
 commands_among [] = []
 commands_among (Accepted command ∷ events) = command ∷ commands_among events
+commands_among (Asked ∷ events) = commands_among events
 commands_among (Played sent ∷ events) = commands_among events
 
 -- what was sent among these
 abbrev pub sents_in : List Event → List Sent
 sents_in [] = []
 sents_in (Accepted command ∷ events) = sents_in events
+sents_in (Asked ∷ events) = sents_in events
 sents_in (Played sent ∷ events) = sent ∷ sents_in events
 
 -- These happen, with so many objects at most and segments of this size, from a carousel and a place
@@ -49,23 +53,28 @@ Happen limit size c place (Played sent ∷ events) last new =
 Happen limit size c place (Accepted command ∷ events) last new =
     (next : Carousel) × (carousel_if_accepted (change c limit command) ≡ Some next)
     × Happen limit size next (change_turn (turn_of_carousel next size) place) events last new
+Happen limit size c place (Asked ∷ events) last new =
+    Happen limit size c (hear_directory place) events last new
 
 -- whether a turn has ended behind these, or none was begun
 abbrev pub has_ended : Bool → List Event → Bool
 has_ended ended [] = ended
 has_ended ended (Accepted command ∷ events) = has_ended ended events
+has_ended ended (Asked ∷ events) = has_ended ended events
 has_ended ended (Played sent ∷ events) = has_ended sent.ends_turn events
 
 -- no command comes between two packets of one turn
 abbrev pub are_uncut : Bool → List Event → Bool
 are_uncut ended [] = true
 are_uncut ended (Accepted command ∷ events) = ended && are_uncut ended events
+are_uncut ended (Asked ∷ events) = are_uncut ended events
 are_uncut ended (Played sent ∷ events) = are_uncut sent.ends_turn events
 
 -- in front of each packet, whether a turn had ended there, or none was begun
 abbrev pub moments_of : Bool → List Event → List Bool
 moments_of ended [] = []
 moments_of ended (Accepted command ∷ events) = moments_of ended events
+moments_of ended (Asked ∷ events) = moments_of ended events
 moments_of ended (Played sent ∷ events) = ended ∷ moments_of sent.ends_turn events
 
 -- these commands were run, and these events happened, only when the carousel may be changed
@@ -78,6 +87,7 @@ AreTimely Always commands events = ⊤
 abbrev pub turns_in : List Event → ℕ
 turns_in [] = 0
 turns_in (Accepted command ∷ events) = turns_in events
+turns_in (Asked ∷ events) = turns_in events
 turns_in (Played sent ∷ events) = (if sent.ends_turn then 1 else 0) + turns_in events
 
 -- these packets are what was sent

@@ -2,8 +2,10 @@
 #![tactic(auto)]
 
 mod feeding;
+mod often;
 mod sending;
 
 pub use feeding::feed;
 pub use mot_packets::{Direct, Outlet};
+pub use often::{feed_every, feed_often};
 pub use sending::send_packets;

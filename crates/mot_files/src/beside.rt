@@ -4,8 +4,8 @@ ghost use Rattle.std.specs.Prelude.{◌≡◌, ◌∷◌, [], IfOk};
 
 use crate::fault::PacketsFault;
 use crate::packets::PacketWriter;
-use std::fs::{self, File, OpenOptions, TryLockError};
-use std::io;
+use std::fs::{self, File, Metadata, OpenOptions, TryLockError};
+use std::io::{self, ErrorKind, Write};
 use std::os::unix::fs::MetadataExt;
 use std::path::Path;
 use std::rt::Files;
@@ -22,20 +22,42 @@ pub struct NewFile<'a> {
 }
 
 impl<'a> NewFile<'a> {
-    /// Makes the file, or empties the one that a run left which was killed. A link is not followed,
-    /// and the disk is left as it is.
+    /// Makes the file anew, in the place of one that a run left which was killed.
     pub fn begin(rt: &HostRuntime, path: &'a str, disk: &str) -> Result<NewFile<'a>, PacketsFault>
         ensures { IfOk result (λ new. new.path.now ≡ path.now) }
     {
         let beside = format!(in rt.alloc(); "{path}{SUFFIX}")?;
+        clear(rt, beside.as_str(), disk)?;
         let file = OpenOptions::new()
             .read(true)
             .write(true)
-            .create(true)
+            .create_new(true)
             .open(rt, beside.as_str())?;
-        hold(rt, &file, beside.as_str(), disk)?;
-        file.set_len(0)?;
-        Ok(NewFile { file, path, beside })
+        let new = NewFile { file, path, beside };
+        match new.hold(rt) {
+            Ok(()) => Ok(new),
+            Err(fault) => {
+                new.take_away(rt);
+                Err(fault)
+            }
+        }
+    }
+
+    /// Takes the lock of the file, and looks that its path still names it: else another program
+    /// went on between.
+    fn hold(&self, rt: &HostRuntime) -> Result<(), PacketsFault> {
+        lock(&self.file)?;
+        if self.is_named(rt)? {
+            Ok(())
+        } else {
+            Err(PacketsFault::InUse)
+        }
+    }
+
+    /// Whether its path still names it.
+    fn is_named(&self, rt: &HostRuntime) -> io::Result<bool> {
+        let named = rt.symlink_metadata(self.beside.as_str())?;
+        Ok(is_same(&self.file.metadata()?, &named))
     }
 
     /// What writes packets to it.
@@ -50,36 +72,64 @@ impl<'a> NewFile<'a> {
     pub fn take_place(&self, rt: &HostRuntime) -> io::Result<()> {
         self.file.sync_all()?;
         fs::rename(rt, self.beside.as_str(), self.path)?;
-        let folder = match Path::new(self.path).parent() {
-            Some(folder) if folder.as_str() != "" => File::open(rt, folder)?,
-            _ => File::open(rt, ".")?,
-        };
-        folder.sync_all()
+        File::open(rt, folder_of(self.path))?.sync_all()
     }
 
     /// Takes the file away again.
     pub fn take_away(&self, rt: &HostRuntime) {
-        let _ = fs::remove_file(rt, self.beside.as_str());
+        if let Ok(true) = self.is_named(rt) {
+            let _ = fs::remove_file(rt, self.beside.as_str());
+        }
+    }
+
+    /// Why packets were not taken: where one was cut, what the system says of a write more. The
+    /// file is given up anyway.
+    pub fn reason(&self, fault: PacketsFault) -> PacketsFault {
+        match fault {
+            PacketsFault::Cut => match (&self.file).write(&[0]) {
+                Ok(_) => PacketsFault::Cut,
+                Err(error) => PacketsFault::System(error),
+            },
+            other => other,
+        }
     }
 }
 
-/// Takes the lock of the file that was opened at the path, and looks that the path still names it,
-/// by no link, and that it is a regular file and not the disk.
-fn hold(rt: &HostRuntime, file: &File, path: &str, disk: &str) -> Result<(), PacketsFault> {
-    match file.try_lock() {
-        Ok(()) => {}
-        Err(TryLockError::WouldBlock) => return Err(PacketsFault::InUse),
-        Err(TryLockError::Error(error)) => return Err(PacketsFault::System(error)),
-    }
-    let held = file.metadata()?;
-    let named = rt.symlink_metadata(path)?;
-    if !held.is_file() || held.dev() != named.dev() || held.ino() != named.ino() {
+/// Takes away what a run left at the path that was killed. A link and what is no regular file stay,
+/// and so do the disk and what another program writes.
+fn clear(rt: &HostRuntime, path: &str, disk: &str) -> Result<(), PacketsFault> {
+    let named = match rt.symlink_metadata(path) {
+        Ok(named) => named,
+        Err(error) if error.kind() == ErrorKind::NotFound => return Ok(()),
+        Err(error) => return Err(PacketsFault::System(error)),
+    };
+    if !named.is_file() {
         return Err(PacketsFault::NoFile);
     }
-    if is_file_at(rt, disk, held.dev(), held.ino()) {
+    if is_file_at(rt, disk, named.dev(), named.ino()) {
         return Err(PacketsFault::IsDisk);
     }
+    let file = File::open(rt, path)?;
+    lock(&file)?;
+    fs::remove_file(rt, path)?;
     Ok(())
+}
+
+/// Takes the lock of a file, which tells whether another program of ours writes it.
+fn lock(file: &File) -> Result<(), PacketsFault> {
+    match file.try_lock() {
+        Ok(()) => Ok(()),
+        Err(TryLockError::WouldBlock) => Err(PacketsFault::InUse),
+        Err(TryLockError::Error(error)) => Err(PacketsFault::System(error)),
+    }
+}
+
+/// The path of the folder in which a file of this path stands.
+pub(crate) fn folder_of(path: &str) -> &str {
+    match Path::new(path).parent() {
+        Some(folder) if folder.as_str() != "" => folder.as_str(),
+        _ => ".",
+    }
 }
 
 /// Whether the path names this file.
@@ -88,4 +138,9 @@ pub fn is_file_at(rt: &HostRuntime, path: &str, device: u64, number: u64) -> boo
         Ok(found) => found.dev() == device && found.ino() == number,
         Err(_) => false,
     }
+}
+
+/// Whether an open file is the regular file that was seen at a path.
+pub(crate) fn is_same(held: &Metadata, named: &Metadata) -> bool {
+    held.is_file() && held.dev() == named.dev() && held.ino() == named.ino()
 }

@@ -21,6 +21,8 @@ pub enum PacketsFault {
     NoFile,
     /// A write took less than a packet.
     Cut,
+    /// No turn is asked for, and the file would be empty.
+    NoTurns,
 }
 
 /// What is wrong with a file that adds suffixes.
@@ -28,6 +30,8 @@ pub enum PacketsFault {
 pub enum TypesFault {
     /// The system refused a call, for this reason.
     System(io::Error),
+    /// It is no regular file.
+    NoFile,
     /// It has more than 65,536 bytes.
     Long,
     /// The line of this number, from 1 on, is none.
@@ -43,6 +47,12 @@ pub enum LinesFault {
     NoFolder,
     /// It is the folder that the carousel is made equal to.
     HasObjects,
+    /// The disk stands in it.
+    HasDisk,
+    /// What takes the packets stands in it, or would.
+    HasPackets,
+    /// The file that adds suffixes stands in it.
+    HasTypes,
 }
 
 /// Why a task could not be done: it is printed, and nothing is decided by it.
@@ -120,6 +130,7 @@ impl Display for PacketsFault {
             PacketsFault::IsDisk => f.pad("the disk itself"),
             PacketsFault::NoFile => f.pad("a link, or no regular file"),
             PacketsFault::Cut => f.pad("a packet was cut"),
+            PacketsFault::NoTurns => f.pad("no turns to write"),
         }
     }
 }
@@ -128,6 +139,7 @@ impl Display for TypesFault {
     fn fmt<W: fmt::Write>(&self, f: &mut Formatter<W>) -> fmt::Result {
         match self {
             TypesFault::System(error) => OpenFault::System(*error).fmt(f),
+            TypesFault::NoFile => f.pad("no regular file"),
             TypesFault::Long => f.pad("longer than 65,536 bytes"),
             TypesFault::Line(number) => {
                 write!(f, "line {number} is no SUFFIX TYPE SUBTYPE MIME")
@@ -142,6 +154,9 @@ impl Display for LinesFault {
             LinesFault::System(error) => OpenFault::System(*error).fmt(f),
             LinesFault::NoFolder => f.pad("no folder"),
             LinesFault::HasObjects => f.pad("the folder of the objects"),
+            LinesFault::HasDisk => f.pad("the folder of the disk"),
+            LinesFault::HasPackets => f.pad("the folder of the packets"),
+            LinesFault::HasTypes => f.pad("the folder of the file of suffixes"),
         }
     }
 }

@@ -4,16 +4,19 @@
 
 mod beside;
 mod fault;
+mod line_file;
 mod lines;
 mod log;
+mod names;
 mod packets;
+mod said;
 mod spool;
 mod taken;
 mod types;
 
 pub use beside::{NewFile, SUFFIX};
 pub use fault::{Cause, LinesFault, PacketsFault, TypesFault, Unbegun};
-pub use lines::{LineFolder, line_folder};
+pub use lines::{LineFolder, Others, line_folder};
 pub use log::SharedLog;
 pub use packets::{OUTPUT, OpenPackets, PacketWriter, Target, open_packets};
 pub use spool::Spool;

@@ -3,10 +3,12 @@ ghost use Rattle.std.specs.Prelude.{◌≡◌, IfErr, IfOk, IfSome, is_none, opt
 ghost use Rattle.mot_files.specs.Lines.{IsUnlined};
 ghost use Rattle.mot_files.specs.declared.lines.LineFolder.{LineFolder};
 
-use crate::beside::is_file_at;
+use crate::beside::{folder_of, is_file_at};
 use crate::fault::{Cause, LinesFault, Unbegun};
+use crate::packets::OUTPUT;
 use mot_lines::Hand;
 use std::alloc::Global;
+use std::io::ErrorKind;
 use std::os::unix::fs::MetadataExt;
 use std::rt::Files;
 
@@ -24,13 +26,28 @@ pub struct LineFolder<'a> {
     pub every: u32,
 }
 
-/// The folder at the path, if one is given, with room for a line. It is not that of the objects.
+/// What else a disk is played with. No file of it may stand in the folder of lines, which are taken
+/// away.
+#[derive(Clone, Copy)]
+pub struct Others<'a> {
+    /// The folder of objects, if one is given.
+    pub objects: Option<&'a str>,
+    /// The disk.
+    pub disk: &'a str,
+    /// What takes the packets.
+    pub packets: &'a str,
+    /// The file that adds suffixes, if one is given.
+    pub types: Option<&'a str>,
+}
+
+/// The folder at the path, if one is given, with room for a line. It is not that of the objects,
+/// and none of the other files stands in it.
 pub fn line_folder<'a>(
     rt: &HostRuntime,
     alloc: Global,
     path: Option<&'a str>,
     every: Option<u32>,
-    objects: Option<&str>,
+    others: Others<'_>,
 ) -> Result<Option<LineFolder<'a>>, Unbegun>
     ensures given { IfOk result (λ lines. is_none lines ≡ is_none path.entry) }
     ensures folder { IfOk result
@@ -41,7 +58,7 @@ pub fn line_folder<'a>(
     let Some(path) = path else {
         return Ok(None);
     };
-    if let Err(fault) = check_folder(rt, path, objects) {
+    if let Err(fault) = check_folder(rt, alloc, path, others) {
         return Err(Unbegun::unread(Cause::Lines(fault)));
     }
     match Hand::new(alloc) {
@@ -55,15 +72,65 @@ pub fn line_folder<'a>(
 }
 
 /// Why no lines can come from the path.
-fn check_folder(rt: &HostRuntime, path: &str, objects: Option<&str>) -> Result<(), LinesFault> {
+fn check_folder(
+    rt: &HostRuntime,
+    alloc: Global,
+    path: &str,
+    others: Others<'_>,
+) -> Result<(), LinesFault> {
     let found = rt.metadata(path)?;
     if !found.is_dir() {
         return Err(LinesFault::NoFolder);
     }
-    match objects {
-        Some(other) if is_file_at(rt, other, found.dev(), found.ino()) => {
-            Err(LinesFault::HasObjects)
-        }
+    let folder = Folder {
+        device: found.dev(),
+        number: found.ino(),
+    };
+    let Others {
+        objects,
+        disk,
+        packets,
+        types,
+    } = others;
+    if let Some(objects) = objects
+        && folder.is_at(rt, objects)
+    {
+        return Err(LinesFault::HasObjects);
+    }
+    if folder.has(rt, alloc, disk)? {
+        return Err(LinesFault::HasDisk);
+    }
+    if packets != OUTPUT && folder.has(rt, alloc, packets)? {
+        return Err(LinesFault::HasPackets);
+    }
+    match types {
+        Some(types) if folder.has(rt, alloc, types)? => Err(LinesFault::HasTypes),
         _ => Ok(()),
+    }
+}
+
+/// A folder, by what tells it from all others.
+#[derive(Clone, Copy)]
+struct Folder {
+    device: u64,
+    number: u64,
+}
+
+impl Folder {
+    /// Whether the path names it.
+    fn is_at(self, rt: &HostRuntime, path: &str) -> bool {
+        is_file_at(rt, path, self.device, self.number)
+    }
+
+    /// Whether what this path names stands in it, or would; or, of a link, what it leads to.
+    fn has(self, rt: &HostRuntime, alloc: Global, path: &str) -> Result<bool, LinesFault> {
+        if self.is_at(rt, folder_of(path)) {
+            return Ok(true);
+        }
+        match rt.canonicalize(alloc, path) {
+            Ok(place) => Ok(self.is_at(rt, folder_of(place.as_path().as_str()))),
+            Err(error) if error.kind() == ErrorKind::NotFound => Ok(false),
+            Err(error) => Err(LinesFault::System(error)),
+        }
     }
 }

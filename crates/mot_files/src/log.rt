@@ -1,6 +1,8 @@
 //! One log for all that write to it.
 use std::cell::RefCell;
+use std::fmt::{self, Display, Formatter};
 use std::io::{self, ErrorKind, Write};
+use std::str::from_utf8;
 
 /// A log that others write to as well, each while the others do not.
 #[derive(Drop)]
@@ -29,4 +31,45 @@ impl<'a, W: Write> Write for SharedLog<'a, W> {
             Err(_) => Err(io::Error::from(ErrorKind::ResourceBusy)),
         }
     }
+}
+
+/// A name in a line of the log: `?` for each byte of it that would end the line or move what comes
+/// behind, and where it is no text for each that is none of ASCII.
+#[derive(Clone, Copy)]
+pub(crate) struct Shown<'a> {
+    name: &'a [u8],
+}
+
+impl<'a> Shown<'a> {
+    /// This name.
+    pub(crate) fn new(name: &'a [u8]) -> Shown<'a> {
+        Shown { name }
+    }
+}
+
+impl Display for Shown<'_> {
+    fn fmt<W: fmt::Write>(&self, f: &mut Formatter<W>) -> fmt::Result {
+        match from_utf8(self.name) {
+            Ok(text) => show_text(f, text),
+            Err(_) => show_bytes(f, self.name),
+        }
+    }
+}
+
+/// Shows a text.
+fn show_text<W: fmt::Write>(f: &mut Formatter<W>, text: &str) -> fmt::Result {
+    for letter in text.chars() {
+        let is_shown = letter >= ' ' && letter != '\u{7f}';
+        f.write_char(if is_shown { letter } else { '?' })?;
+    }
+    Ok(())
+}
+
+/// Shows bytes that are no text.
+fn show_bytes<W: fmt::Write>(f: &mut Formatter<W>, bytes: &[u8]) -> fmt::Result {
+    for byte in bytes {
+        let is_shown = *byte >= b' ' && *byte < 0x7F;
+        f.write_char(if is_shown { char::from(*byte) } else { '?' })?;
+    }
+    Ok(())
 }

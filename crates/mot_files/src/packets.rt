@@ -1,10 +1,11 @@
 //! What the packets of `play` go to.
-ghost use Rattle.std.specs.Prelude.{◌≡◌, ◌≤◌, ◌∷◌, ℕ, List, [], None, Some, IfOk, MatchResult};
+ghost use Rattle.std.specs.Prelude.{◌≡◌, ◌≢◌, ◌≤◌, ◌∷◌, ℕ, List, [], None, Some, IfOk, MatchResult};
 ghost use Rattle.std.specs.Prelude.{length};
 ghost use Rattle.std.specs.Prelude.{take};
 ghost use Rattle.std.specs.Io.{WritesAtMost};
 ghost use Rattle.std.specs.Io.KnownBytes.{Appends};
 ghost use Rattle.mot_files.specs.Packets.{IsTarget, begun_of, target_of};
+ghost use Rattle.mot_files.specs.declared.packets.Target.{Target};
 ghost use Rattle.mot_packets.specs.Outlet.{Grows};
 
 use crate::beside::{NewFile, is_file_at};
@@ -52,20 +53,25 @@ impl<'a> OpenPackets<'a> {
 
 /// Opens what the path names, to write packets to it. A pipe or a device is opened for reading and
 /// writing: so a pipe's opening waits for no reader, and its reader may go and come back. The disk
-/// itself is refused.
+/// itself is refused, and so is a file that no turn is asked for.
 pub fn open_packets<'a>(
     rt: &HostRuntime,
     path: &'a str,
     disk: &str,
+    turns: Option<u32>,
 ) -> Result<OpenPackets<'a>, Cause>
     ensures target { IfOk result (λ opened. IsTarget path.now (target_of opened)) }
     ensures begun { IfOk result (λ opened. begun_of opened ≡ path.now ∷ []) }
+    ensures turns { IfOk result (λ opened. target_of opened ≡ Target.File → turns ≢ Some 0) }
 {
     if path == OUTPUT {
         return Ok(OpenPackets::Standard(PacketWriter::of(rt.stdout(), path)));
     }
     if is_stream(rt, path, disk)? {
         return Ok(OpenPackets::Through(open_stream(rt, path)?));
+    }
+    if turns == Some(0) {
+        return Err(Cause::Packets(PacketsFault::NoTurns));
     }
     match NewFile::begin(rt, path, disk) {
         Ok(new) => Ok(OpenPackets::Beside(new)),

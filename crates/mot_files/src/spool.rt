@@ -2,21 +2,33 @@
 //! contract tells.
 ghost use Rattle.std.specs.Prelude.{◌≡◌, false};
 
+use crate::line_file::{Found, LineFile, find};
+use crate::log::Shown;
+use crate::names::{Names, is_of_lines, plain_text};
+use crate::said::{Said, Stamp};
 use mot_numbers::Refusal;
 use std::alloc::Global;
-use std::fs::{File, OpenOptions};
-use std::io::{self, Read, Write};
+use std::fs::File;
+use std::io::{self, ErrorKind, Read, Write};
 use std::rt::Files;
-use std::str::from_utf8;
 
 /// Room for the names that one read of a folder gives.
 const ROOM: usize = 16_384;
 
-/// The regular files directly in a folder, in the order of their names, as one input that waits for
-/// nothing. Names that begin with a dot are passed over, so a file can be written under such a name
-/// and then renamed. Each file is taken away once it was read to its end, so that its lines come
-/// again behind a crash and are lost by none. One that can't be read or taken away is told, and is
-/// the last: else its lines would come again and again.
+/// How often a folder is read in one call, at most.
+const READS: u32 = 2;
+
+/// How many names are looked at in one call, at most.
+const LOOKS: u32 = 16;
+
+/// The regular files directly in a folder whose names end in `.lines` and begin with no dot, in the
+/// order of their names, as one input that waits for nothing. Each file is taken away once it was
+/// read to its end, so that its lines come again behind a crash and are lost by none. A file whose
+/// first line is none, or that can't be opened, is left and told once. One whose reading fails, or
+/// that can't be taken away, is told, and is the last: else its lines would come again and again.
+///
+/// A call reads a part of the folder at most, and looks at a few names: so whatever lies there, it
+/// comes back soon.
 #[derive(Drop)]
 pub struct Spool<'a, T: Files<File = File>, W: Write + Drop> {
     rt: &'a T,
@@ -25,20 +37,18 @@ pub struct Spool<'a, T: Files<File = File>, W: Write + Drop> {
     pub folder: &'a str,
     /// What is told of a file goes there.
     pub log: W,
+    /// The folder, while it is read.
+    listing: Option<T::Dir>,
+    /// The names of the files that come next.
+    names: Names,
+    /// What was told of files that are left.
+    said: Said,
+    /// Whether it was told that the folder can't be read.
+    is_unread: bool,
     /// The file that is read.
     open: Option<LineFile>,
     /// Whether no more is read.
     pub is_stopped: bool,
-}
-
-/// A file of lines that is read.
-#[derive(Drop)]
-struct LineFile {
-    file: File,
-    name: String,
-    path: String,
-    /// Whether what was read last of it is no line end.
-    is_cut: bool,
 }
 
 impl<'a, T: Files<File = File>, W: Write + Drop> Spool<'a, T, W> {
@@ -53,36 +63,157 @@ impl<'a, T: Files<File = File>, W: Write + Drop> Spool<'a, T, W> {
             alloc,
             folder,
             log,
+            listing: None,
+            names: Names::new(alloc),
+            said: Said::new(alloc),
+            is_unread: false,
             open: None,
             is_stopped: false,
         }
     }
 
-    /// Opens the first file, where there is one.
-    fn open_first(&mut self) -> io::Result<()> {
-        let Some(name) = first_name(self.rt, self.alloc, self.folder)? else {
+    /// Opens the next file of lines, where the names that are looked at have one.
+    fn open_next(&mut self) -> io::Result<()> {
+        if self.names.is_empty() && !self.list()? {
             return Ok(());
-        };
-        let path = joined(self.alloc, self.folder, name.as_str())?;
-        match OpenOptions::new().read(true).open(self.rt, path.as_str()) {
-            Ok(file) => {
-                self.open = Some(LineFile {
-                    file,
-                    name,
-                    path,
-                    is_cut: false,
-                });
+        }
+        for _ in 0..LOOKS {
+            let Some(name) = self.names.next()? else {
+                return Ok(());
+            };
+            self.open_named(&name)?;
+            if self.open.is_some() {
+                return Ok(());
             }
-            Err(_) => self.stop(name.as_str()),
         }
         Ok(())
     }
 
-    /// Takes away the file that was read. Its path is kept, so that no memory can lack here and
-    /// make its lines come again.
+    /// Opens the file of this name, where it is one of lines. What is left there is told.
+    fn open_named(&mut self, bytes: &[u8]) -> io::Result<()> {
+        let Some(name) = plain_text(bytes) else {
+            return self.leave(bytes, Refusal::BadName, None);
+        };
+        let name = String::from_str(self.alloc, name)?;
+        let path = format!(in self.alloc; "{}/{}", self.folder, name)?;
+        match find(self.rt, path.as_str()) {
+            Found::Lines(file) => {
+                self.open = Some(LineFile::new(file, name, path));
+                Ok(())
+            }
+            Found::Left(refusal, stamp) => self.leave(bytes, refusal, stamp),
+            Found::Gone => Ok(()),
+        }
+    }
+
+    /// Reads the names of the folder, or a part of them; whether it came to their end. That the
+    /// folder can't be read is told once, and once that it can again.
+    fn list(&mut self) -> io::Result<bool> {
+        let listed = self.list_on();
+        match listed {
+            Ok(true) => self.tell_readable(),
+            Ok(false) => {}
+            Err(error) => {
+                self.names.clear();
+                if error.kind() != ErrorKind::OutOfMemory {
+                    self.tell_unread();
+                }
+            }
+        }
+        listed
+    }
+
+    /// Reads on in the folder, or begins to.
+    fn list_on(&mut self) -> io::Result<bool> {
+        let mut dir = match self.listing.take() {
+            Some(dir) => dir,
+            None => self.begin_listing()?,
+        };
+        let is_whole = self.read_names(&mut dir)?;
+        if is_whole {
+            self.names.end();
+        } else {
+            self.listing = Some(dir);
+        }
+        Ok(is_whole)
+    }
+
+    /// Opens the folder. Where its path is a link, the dot makes the system follow it.
+    fn begin_listing(&mut self) -> io::Result<T::Dir> {
+        if self.names.is_through {
+            self.names.is_through = false;
+            self.said.forget_unmet();
+        }
+        let path = format!(in self.alloc; "{}/.", self.folder)?;
+        self.rt.open_dir(path.as_str())
+    }
+
+    /// Reads names, so often at most; whether it came to their end.
+    fn read_names(&mut self, dir: &mut T::Dir) -> io::Result<bool> {
+        let mut room = Vec::from_elem(self.alloc, 0u8, ROOM)?;
+        for _ in 0..READS {
+            let count = dir.read(&mut room)?;
+            if count == 0 {
+                return Ok(true);
+            }
+            self.see_names(&room[..count])?;
+        }
+        Ok(false)
+    }
+
+    /// Keeps the names of files of lines among these, each ended by a zero byte.
+    fn see_names(&mut self, bytes: &[u8]) -> io::Result<()> {
+        let mut rest = bytes;
+        while let Some(end) = rest.iter().position(|byte| *byte == 0) {
+            if is_of_lines(&rest[..end]) {
+                self.names.keep(&rest[..end])?;
+            }
+            rest = &rest[end + 1..];
+        }
+        Ok(())
+    }
+
+    /// Tells that what stands at this name is left there, where that was not told before.
+    fn leave(&mut self, name: &[u8], refusal: Refusal, stamp: Option<Stamp>) -> io::Result<()> {
+        if self.said.is_new(name, stamp)? {
+            let name = Shown::new(name);
+            let _ = writeln!(self.log, "lines {name} refused {refusal}");
+            let _ = self.log.flush();
+        }
+        Ok(())
+    }
+
+    /// Tells that the folder can't be read.
+    fn tell_unread(&mut self) {
+        if !self.is_unread {
+            self.is_unread = true;
+            let (folder, refusal) = (Shown::new(self.folder.as_bytes()), Refusal::ReadFault);
+            let _ = writeln!(self.log, "lines {folder} refused {refusal}");
+            let _ = self.log.flush();
+        }
+    }
+
+    /// Tells that the folder can be read again.
+    fn tell_readable(&mut self) {
+        if self.is_unread {
+            self.is_unread = false;
+            let folder = Shown::new(self.folder.as_bytes());
+            let _ = writeln!(self.log, "lines {folder} readable");
+            let _ = self.log.flush();
+        }
+    }
+
+    /// Takes away the file that was read, where its path still names it. The path is kept, so that
+    /// no memory can lack here and make its lines come again.
     fn take_away(&mut self, lines: &LineFile) {
-        if self.rt.remove_file(lines.path.as_str()).is_err() {
-            self.stop(lines.name.as_str());
+        match lines.is_named(self.rt) {
+            Ok(true) => {
+                if self.rt.remove_file(lines.path.as_str()).is_err() {
+                    self.stop(lines.name.as_str());
+                }
+            }
+            Ok(false) => {}
+            Err(_) => self.stop(lines.name.as_str()),
         }
     }
 
@@ -101,7 +232,7 @@ impl<'a, T: Files<File = File>, W: Write + Drop> Read for Spool<'a, T, W> {
             return Ok(0);
         }
         if self.open.is_none() {
-            self.open_first()?;
+            self.open_next()?;
         }
         let Some(mut lines) = self.open.take() else {
             return Ok(0);
@@ -121,91 +252,4 @@ impl<'a, T: Files<File = File>, W: Write + Drop> Read for Spool<'a, T, W> {
             }
         }
     }
-}
-
-/// A last line without its end gets one.
-impl Read for LineFile {
-    fn read(&mut self, buf: &mut [u8]) -> io::Result<usize> {
-        let count = self.file.read(buf)?;
-        if count > 0 {
-            self.is_cut = buf[count - 1] != b'\n';
-            return Ok(count);
-        }
-        if !self.is_cut || buf.is_empty() {
-            return Ok(0);
-        }
-        self.is_cut = false;
-        buf[0] = b'\n';
-        Ok(1)
-    }
-}
-
-/// The first name, by its bytes, of the regular files in the folder.
-fn first_name<T: Files<File = File>>(
-    rt: &T,
-    alloc: Global,
-    folder: &str,
-) -> io::Result<Option<String>> {
-    let mut first = None;
-    let mut dir = rt.open_dir(folder)?;
-    let mut room = Vec::from_elem(alloc, 0u8, ROOM)?;
-    for _ in 0..u64::MAX {
-        let count = dir.read(&mut room)?;
-        if count == 0 {
-            return Ok(first);
-        }
-        see_names(rt, alloc, folder, &room[..count], &mut first)?;
-    }
-    Ok(first)
-}
-
-/// Sees names, each ended by a zero byte.
-fn see_names<T: Files<File = File>>(
-    rt: &T,
-    alloc: Global,
-    folder: &str,
-    bytes: &[u8],
-    first: &mut Option<String>,
-) -> io::Result<()> {
-    let mut rest = bytes;
-    while let Some(end) = rest.iter().position(|byte| *byte == 0) {
-        if let Ok(name) = from_utf8(&rest[..end]) {
-            see_name(rt, alloc, folder, name, first)?;
-        }
-        rest = &rest[end + 1..];
-    }
-    Ok(())
-}
-
-/// Keeps the name, where it is a file's that comes before the first.
-fn see_name<T: Files<File = File>>(
-    rt: &T,
-    alloc: Global,
-    folder: &str,
-    name: &str,
-    first: &mut Option<String>,
-) -> io::Result<()> {
-    let comes_first = match first {
-        Some(other) => name < other.as_str(),
-        None => true,
-    };
-    if !comes_first || !is_plain(name) {
-        return Ok(());
-    }
-    match rt.symlink_metadata(joined(alloc, folder, name)?.as_str()) {
-        Ok(found) if found.is_file() => *first = Some(String::from_str(alloc, name)?),
-        _ => {}
-    }
-    Ok(())
-}
-
-/// Whether a name begins with no dot, and would stand in one line of the log.
-fn is_plain(name: &str) -> bool {
-    let bytes = name.as_bytes();
-    bytes.first() != Some(&b'.') && bytes.iter().all(|byte| *byte >= b' ')
-}
-
-/// The path of a file in the folder.
-fn joined(alloc: Global, folder: &str, name: &str) -> io::Result<String> {
-    Ok(format!(in alloc; "{folder}/{name}")?)
 }

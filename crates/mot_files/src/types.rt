@@ -2,12 +2,14 @@
 ghost use Rattle.std.specs.Prelude.{◌≡◌, ◌≤◌, IfErr, IfOk, length};
 ghost use Rattle.mot_files.specs.Types.{IsTyped, IsUntyped};
 
+use crate::beside::is_same;
 use crate::fault::{Cause, TypesFault, Unbegun};
 use mot_numbers::Refusal;
 use mot_suffixes::{FileTypes, RefusedLine};
 use std::alloc::{AllocError, Global};
-use std::fs::OpenOptions;
+use std::fs::{File, OpenOptions};
 use std::io::Read;
+use std::rt::Files;
 
 /// The most bytes of a file that adds suffixes.
 const MOST: u64 = 65_536;
@@ -52,11 +54,24 @@ fn wrong(at: RefusedLine) -> Unbegun
 fn read_text(rt: &HostRuntime, alloc: Global, path: &str) -> Result<Vec<u8>, TypesFault>
     ensures { IfOk result (λ text. length text.items ≤ 65536) }
 {
-    let file = OpenOptions::new().read(true).open(rt, path)?;
+    let file = open_regular(rt, path)?;
     let mut text = Vec::new(alloc);
     file.take(MOST + 1).read_to_end(&mut text)?;
     if text.len() as u64 > MOST {
         return Err(TypesFault::Long);
     }
     Ok(text)
+}
+
+/// Opens the regular file at the path: a pipe, whose opening would wait, is not opened.
+fn open_regular(rt: &HostRuntime, path: &str) -> Result<File, TypesFault> {
+    let named = rt.metadata(path)?;
+    if !named.is_file() {
+        return Err(TypesFault::NoFile);
+    }
+    let file = OpenOptions::new().read(true).open(rt, path)?;
+    if !is_same(&file.metadata()?, &named) {
+        return Err(TypesFault::NoFile);
+    }
+    Ok(file)
 }

@@ -2,12 +2,12 @@
 use Rattle.std.proofs.Common.{◌≡◌, ◌∙◌, ℕ, ◌+◌, ◌<◌, length, zero, suc, List, [], ◌∷◌, ◌++◌, ap}
 use Rattle.std.proofs.Common.{append_assoc}
 use Rattle.std.proofs.Common.{append-nil, codes, map, not, refl, subst, sym, take, arith}
-use Rattle.std.proofs.Common.{Option, Some, None}
+use Rattle.std.proofs.Common.{Some}
 use Rattle.std.specs.Prelude.{slice_get, filter}
 use Rattle.std.proofs.lemmas.List.{map-append}
 use Rattle.std.proofs.lemmas.List.Elements.{filter-append}
 use Rattle.mot_folder.specs.Inner.Names.{name_or_none}
-use Rattle.mot_folder.specs.Log.{AreEither, LogEntry, ReportTells, TellsAnswers, TellsOf, TellsOne}
+use Rattle.mot_folder.specs.Log.{AreEither, LogEntry, TellsAnswers, TellsOf, TellsOne}
 use Rattle.mot_folder.specs.Log.{entry, is_of_look, log_entry_of, names_read, of_look}
 use Rattle.mot_folder.specs.Log.AreEither.{none, one_given, one_missed}
 use Rattle.mot_folder.specs.declared.report.Report.{Report}

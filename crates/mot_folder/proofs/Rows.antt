@@ -4,6 +4,8 @@ use Rattle.std.specs.Prelude.{codes}
 use Rattle.std.specs.Fmt.{digits}
 use Rattle.mot_folder.specs.Log.{entry, log_entry_of, log_line, of_look}
 use Rattle.mot_folder.specs.Looked.{is_due}
+use Rattle.mot_folder.specs.declared.listing.TheConstants.{MAX_NAMES}
+use Rattle.mot_folder.specs.declared.looking.TheConstants.{PACKETS}
 use Rattle.mot_numbers.specs.declared.refusal.Refusal.TheVariants.{EmptyBody, NoRoom}
 use Rattle.mot_numbers.specs.declared.refusal.Refusal.TheVariants.{ReadFault}
 use Rattle.mot_server.specs.declared.running.Attempt.TheVariants.{Accepted, Refused}
@@ -59,3 +61,9 @@ not_due_within = refl
 
 not_due_before : is_due 2 true ≡ false
 not_due_before = refl
+
+packets : PACKETS ≡ 1000
+packets = refl
+
+most_names : MAX_NAMES ≡ 1000
+most_names = refl

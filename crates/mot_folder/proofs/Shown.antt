@@ -1,6 +1,5 @@
 -- Names none of which begins with a dot.
-use Rattle.std.proofs.Common.{◌≡◌, ◌++◌, ℕ, Bool, true, false, List, [], ◌∷◌, subst, sym}
-use Rattle.std.specs.Prelude.{if◌then◌else◌}
+use Rattle.std.proofs.Common.{◌≡◌, ◌++◌, ℕ, false, List, [], ◌∷◌}
 use Rattle.mot_suffixes.specs.Types.{AreShown, is_hidden}
 
 -- one more of them at the end

@@ -1,17 +1,23 @@
 -- What a look at a folder does, and what is told of it.
-use Rattle.std.specs.Prelude.{ℕ, ◌≡◌, ◌&&◌, nat_le, Bool, true, not, List, [], ◌∷◌, Option, None}
-use Rattle.std.specs.Prelude.{codes}
+use Rattle.std.specs.Prelude.{ℕ, ◌≡◌, ◌⊎◌, ◌&&◌, nat_le, Bool, true, not, List, [], ◌∷◌, Option}
+use Rattle.std.specs.Prelude.{None, Some, codes}
 use Rattle.disk_model.specs.Disk.{State}
 use Rattle.mot_folder.specs.Log.{LogEntry, ReportTells, TellsOf, entry, of_look}
 use Rattle.mot_folder.specs.declared.report.Report.{Report}
 use Rattle.mot_journal.specs.Image.{Standing}
 use Rattle.mot_numbers.specs.declared.refusal.Refusal.{Refusal}
-use Rattle.mot_numbers.specs.declared.refusal.Refusal.TheVariants.{ReadFault}
+use Rattle.mot_numbers.specs.declared.refusal.Refusal.TheVariants.{OutOfMemory, ReadFault}
+use Rattle.mot_numbers.specs.declared.refusal.Refusal.TheVariants.{TooManyObjects}
 use Rattle.mot_server.specs.Server.{ServerView}
 use Rattle.mot_server.specs.declared.running.Attempt.TheVariants.{Refused}
 use Rattle.mot_suffixes.specs.Types.{AreShown}
 use Rattle.mot_update.specs.HasRun.{HasRun}
 use Rattle.mot_update.specs.Looking.{HasLooked}
+
+-- why a folder is not listed
+abbrev pub IsUnlisted : Refusal → Type 0
+IsUnlisted refusal =
+    (refusal ≡ ReadFault) ⊎ (refusal ≡ TooManyObjects) ⊎ (refusal ≡ OutOfMemory)
 
 -- The folder of this path was not listed, no command was run, and this is told; or names were
 -- listed, none of them with a dot first, the carousel was updated to files of these names, and what
@@ -19,9 +25,10 @@ use Rattle.mot_update.specs.Looking.{HasLooked}
 -- taken.
 pub data HasLookedAtFolder {D : Type 0} (old new : ServerView D) (start now : State)
     (s : Standing) (path : List ℕ) (report : Report) (fault : Option Refusal) : Type 0 where
-  unlisted : report.any_refused ≡ true → fault ≡ None → HasRun old new start now s [] [] None
+  unlisted : (refusal : Refusal) → IsUnlisted refusal → report.any_refused ≡ true
+      → (fault ≡ None) ⊎ (fault ≡ Some OutOfMemory) → HasRun old new start now s [] [] fault
       → (entries : List LogEntry) → ReportTells report entries
-      → of_look entries ≡ entry (codes "look") path (Refused ReadFault) ∷ []
+      → of_look entries ≡ entry (codes "look") path (Refused refusal) ∷ []
       → HasLookedAtFolder old new start now s path report fault
   -- each name that was gone over is that of an object that was given, or of a file that is told:
   -- all of them where no fault came

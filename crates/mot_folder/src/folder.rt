@@ -8,7 +8,7 @@ ghost use Rattle.mot_server.specs.declared.running.Attempt.TheVariants.{Refused}
 ghost use Rattle.mot_update.specs.Looking.{was_settled};
 ghost use Rattle.mot_update.specs.Told.{TellsBoth, answers_of};
 
-use crate::listing::{FileNames, joined};
+use crate::listing::{FileNames, joined, read_refusal};
 use crate::report::Report;
 use mot_numbers::Refusal;
 use mot_objects::{Body, MAX_BODY, Name};
@@ -16,8 +16,9 @@ use mot_server::Attempt;
 use mot_suffixes::{FileType, FileTypes};
 use mot_update::{Settled, Source, Wanted};
 use std::alloc::{AllocError, Global};
-use std::fs::{File, OpenOptions};
+use std::fs::{File, Metadata, OpenOptions};
 use std::io::Read;
+use std::os::unix::fs::MetadataExt;
 use std::rt::Files;
 use std::str::from_utf8;
 
@@ -177,33 +178,38 @@ fn read_body<T: Files<File = File>>(
     read_file(rt, alloc, path.as_str())
 }
 
-/// The bytes of the file, as a body; `ReadFault` where they can't be read, or were changed while
-/// they were.
+/// The bytes of the regular file, as a body; `ReadFault` where they can't be read, or the file was
+/// exchanged or changed while they were.
 fn read_file<T: Files<File = File>>(rt: &T, alloc: Global, path: &str) -> Result<Body, Refusal> {
-    let before = length_of(rt, path)?;
-    let Ok(file) = OpenOptions::new().read(true).open(rt, path) else {
+    let named = rt.symlink_metadata(path).map_err(read_refusal)?;
+    // What is none is not opened: a pipe would wait for its writer.
+    if !named.is_file() {
         return Err(Refusal::ReadFault);
-    };
+    }
+    let file = OpenOptions::new()
+        .read(true)
+        .open(rt, path)
+        .map_err(read_refusal)?;
+    let before = file.metadata().map_err(read_refusal)?;
+    if before.dev() != named.dev() || before.ino() != named.ino() {
+        return Err(Refusal::ReadFault);
+    }
     let mut bytes = Vec::new(alloc);
-    let Ok(count) = file.take(MAX_BODY as u64 + 1).read_to_end(&mut bytes) else {
-        return Err(Refusal::ReadFault);
-    };
-    let after = length_of(rt, path)?;
-    if count <= MAX_BODY as usize && (before != after || count as u64 != after) {
+    let most = u64::from(MAX_BODY) + 1;
+    let count = (&file)
+        .take(most)
+        .read_to_end(&mut bytes)
+        .map_err(read_refusal)?;
+    let after = file.metadata().map_err(read_refusal)?;
+    if !is_unchanged(&before, &after) || count as u64 != after.len().min(most) {
         return Err(Refusal::ReadFault);
     }
     Body::new(bytes)
 }
 
-/// The length of the regular file at the path.
-fn length_of<T: Files<File = File>>(rt: &T, path: &str) -> Result<u64, Refusal> {
-    match rt.symlink_metadata(path) {
-        Ok(metadata) => {
-            if metadata.is_file() {
-                return Ok(metadata.len());
-            }
-            Err(Refusal::ReadFault)
-        }
-        Err(_) => Err(Refusal::ReadFault),
-    }
+/// Whether a file was not written between the two.
+fn is_unchanged(before: &Metadata, after: &Metadata) -> bool {
+    before.len() == after.len()
+        && before.mtime() == after.mtime()
+        && before.mtime_nsec() == after.mtime_nsec()
 }

@@ -1,6 +1,10 @@
 //! The files of a folder that are objects.
-ghost use Rattle.std.specs.Prelude.{◌≡◌, ◌∷◌, ◌++◌, [], true, if◌then◌else◌, IfOk, OnErr, OnOk};
+ghost use Rattle.std.specs.Prelude.{◌≡◌, ◌↔◌, ◌<◌, ◌∷◌, ◌++◌, [], true, if◌then◌else◌, IfErr, IfOk};
+ghost use Rattle.std.specs.Prelude.{IsOk};
+ghost use Rattle.std.specs.Prelude.{OnErr, OnOk};
 ghost use Rattle.mot_folder.specs.Log.{TellsAnswers};
+ghost use Rattle.mot_folder.specs.Looked.{IsUnlisted};
+ghost use Rattle.mot_numbers.specs.declared.refusal.Refusal.TheVariants.{TooManyObjects};
 ghost use Rattle.mot_objects.specs.Carousel.{are_names_distinct};
 ghost use Rattle.mot_suffixes.specs.Types.{AreShown};
 ghost use Rattle.mot_update.specs.Told.{TellsMore};
@@ -19,11 +23,16 @@ use std::str::from_utf8;
 /// Room for the names that one read of a folder gives.
 const ROOM: usize = 16_384;
 
+/// How many names with one of the suffixes a folder may have, so that no look takes long.
+const MAX_NAMES: u32 = 1_000;
+
 /// Names of files, each once.
 #[derive(Drop)]
 pub struct FileNames {
     /// The names, as the folder gave them.
     pub names: Vec<Name>,
+    /// How many names were counted.
+    counted: u32,
     pub ghost differ: { are_names_distinct names.items ≡ true },
 }
 
@@ -34,7 +43,22 @@ impl FileNames {
     {
         FileNames {
             names: Vec::new(alloc),
+            counted: 0,
         }
+    }
+
+    /// Counts a name with one of the suffixes, of an object or not; `TooManyObjects` where there
+    /// are too many.
+    fn count(&mut self) -> Result<(), Refusal>
+        ensures same { self.new.names ≡ self.old.names }
+        ensures counts { IsOk result ↔ (self.old.counted < MAX_NAMES) }
+        ensures many { IfErr result (λ refusal. refusal ≡ TooManyObjects) }
+    {
+        if self.counted >= MAX_NAMES {
+            return Err(Refusal::TooManyObjects);
+        }
+        self.counted += 1;
+        Ok(())
     }
 
     /// Whether it is one of them.
@@ -59,22 +83,36 @@ impl FileNames {
     }
 }
 
-/// The names of the regular files directly in the folder that have one of the suffixes and begin
-/// with no dot. One that is no name of an object is told, and left out.
+/// The names of the regular files directly in the folder, or in the one that it is a link to, that
+/// have one of the suffixes and begin with no dot. One that is no name of an object is told, and
+/// left out. The errors are `ReadFault`, where the folder can't be listed, `TooManyObjects`, where
+/// more than `MAX_NAMES` names have one of the suffixes, and `OutOfMemory`.
 pub(crate) fn list<T: Files<File = File>>(
     rt: &T,
     alloc: Global,
     path: &str,
     types: &FileTypes,
     report: &mut Report,
-) -> io::Result<FileNames>
+) -> Result<FileNames, Refusal>
     ensures told { TellsMore (TellsAnswers report.old) (TellsAnswers report.new) [] }
     ensures shown { IfOk result (λ names. AreShown names.names.items) }
+    ensures why { IfErr result IsUnlisted }
 {
     let mut names = FileNames::new(alloc);
-    let mut folder = rt.open_dir(path)?;
+    let mut folder = open_folder(rt, alloc, path).map_err(read_refusal)?;
     read_names(rt, alloc, path, types, &mut folder, &mut names, report)?;
     Ok(names)
+}
+
+/// Opens the folder of this path, or the one that it is a link to, to be listed.
+pub fn open_folder<T: Files<File = File>>(rt: &T, alloc: Global, path: &str) -> io::Result<T::Dir> {
+    // An empty path is no folder; with a slash behind it, it would be the topmost one.
+    if path.is_empty() {
+        return rt.open_dir(path);
+    }
+    // A link to a folder is opened by no other path.
+    let inside = joined(alloc, path, ".")?;
+    rt.open_dir(inside.as_str())
 }
 
 /// Adds those of the names that the open folder gives that are objects.
@@ -86,13 +124,14 @@ fn read_names<T: Files<File = File>, R: Read>(
     folder: &mut R,
     names: &mut FileNames,
     report: &mut Report,
-) -> io::Result<()>
+) -> Result<(), Refusal>
     ensures told { TellsMore (TellsAnswers report.old) (TellsAnswers report.new) [] }
     ensures shown { AreShown names.old.names.items → AreShown names.new.names.items }
+    ensures why { IfErr result IsUnlisted }
 {
     let mut room = [0; ROOM];
     for _ in 0..u64::MAX {
-        let count = folder.read(&mut room)?;
+        let count = folder.read(&mut room).map_err(read_refusal)?;
         if count == 0 {
             return Ok(());
         }
@@ -110,9 +149,10 @@ fn add_all<T: Files<File = File>>(
     bytes: &[u8],
     names: &mut FileNames,
     report: &mut Report,
-) -> io::Result<()>
+) -> Result<(), Refusal>
     ensures told { TellsMore (TellsAnswers report.old) (TellsAnswers report.new) [] }
     ensures shown { AreShown names.old.names.items → AreShown names.new.names.items }
+    ensures why { IfErr result IsUnlisted }
 {
     let mut rest = bytes;
     while let Some(end) = rest.iter().position(|byte| *byte == 0) {
@@ -131,11 +171,16 @@ fn add_one<T: Files<File = File>>(
     name: &[u8],
     names: &mut FileNames,
     report: &mut Report,
-) -> io::Result<()>
+) -> Result<(), Refusal>
     ensures told { TellsMore (TellsAnswers report.old) (TellsAnswers report.new) [] }
     ensures shown { AreShown names.old.names.items → AreShown names.new.names.items }
+    ensures why { IfErr result IsUnlisted }
 {
-    if types.of_name(name).is_none() || !is_file(rt, alloc, path, name)? {
+    if types.of_name(name).is_none() {
+        return Ok(());
+    }
+    names.count()?;
+    if !is_file(rt, alloc, path, name)? {
         return Ok(());
     }
     match Name::new(Vec::from_slice(alloc, name)?) {
@@ -151,7 +196,9 @@ fn is_file<T: Files<File = File>>(
     alloc: Global,
     path: &str,
     name: &[u8],
-) -> io::Result<bool> {
+) -> Result<bool, Refusal>
+    ensures why { IfErr result IsUnlisted }
+{
     let Ok(name) = from_utf8(name) else {
         return Ok(false);
     };
@@ -161,8 +208,18 @@ fn is_file<T: Files<File = File>>(
             if error.kind() == ErrorKind::NotFound {
                 return Ok(false);
             }
-            Err(error)
+            Err(read_refusal(error))
         }
+    }
+}
+
+/// Why something could not be read.
+pub(crate) fn read_refusal(error: io::Error) -> Refusal
+    ensures { IsUnlisted result }
+{
+    match error.kind() {
+        ErrorKind::OutOfMemory => Refusal::OutOfMemory,
+        _ => Refusal::ReadFault,
     }
 }
 

@@ -1,5 +1,5 @@
 //! A look at a folder, and looks between the turns of a feed.
-ghost use Rattle.std.specs.Prelude.{◌≡◌, ◌-◌, ◌∷◌, [], None, true, false};
+ghost use Rattle.std.specs.Prelude.{◌≡◌, ◌-◌, ◌∷◌, [], None, OnOk, true, false};
 ghost use Rattle.disk_model.specs.Disk.{KeepsLength};
 ghost use Rattle.mot_packets.specs.Outlet.{Grows};
 ghost use Rattle.mot_update.specs.Between.{BetweenTurns, IsUpdating, may_change};
@@ -13,6 +13,7 @@ use crate::folder::Folder;
 use crate::listing::list;
 use crate::report::Report;
 use disk_model::Disk;
+use mot_lines::cut_at_line_end;
 use mot_numbers::Refusal;
 use mot_server::Server;
 use mot_suffixes::FileTypes;
@@ -27,7 +28,8 @@ use std::rt::Files;
 const PACKETS: u64 = 1_000;
 
 /// Makes the carousel equal to the files of the folder that have one of the suffixes. A folder that
-/// can't be listed is told, and changes nothing. The errors are those of `look`.
+/// can't be listed, or has too many of them, is told, and changes nothing. The errors are those of
+/// `look`, and `OutOfMemory` where memory was wanting for a line, or for what a line tells.
 pub fn look_at_folder<T: Files<File = File>, D: Disk>(
     rt: &T,
     alloc: Global,
@@ -43,17 +45,24 @@ pub fn look_at_folder<T: Files<File = File>, D: Disk>(
         → (D.state server.new.disk).IsHonest
         → HasLookedAtFolder server.old server.new (D.state server.old.disk)
         (D.state server.new.disk) s path.now report.new (fault_of result) }
+
+    // Where it came to its end, a line was written for all that is told.
+    ensures whole { OnOk result (report.new.any_left_out ≡ false) }
 {
     report.begin();
-    let Ok(names) = list(rt, alloc, path, types, report) else {
-        report.refused("look", path.as_bytes(), Refusal::ReadFault);
-        return Ok(());
+    let names = match list(rt, alloc, path, types, report) {
+        Ok(names) => names,
+        Err(refusal) => {
+            report.refused("look", path.as_bytes(), refusal);
+            return report.end();
+        }
     };
     let told = replace(report, Report::new(alloc));
     let mut folder = Folder::new(rt, path, types, names, told);
     let result = look(server, alloc, &mut folder);
     *report = folder.into_report();
-    result
+    result?;
+    report.end()
 }
 
 /// Looks at a folder before the first packet, and then at the first end of a turn behind 1,000
@@ -151,19 +160,27 @@ fn look_is_due(left: &mut u64, between_turns: bool) -> bool
     between_turns && *left == 0
 }
 
-/// Writes the lines that are none of those before, and flushes.
+/// Writes the lines that are none of those before, and flushes. Most of them stand there in the
+/// same order, so each is looked for behind the one that was found last, and then in all of them.
 fn tell_new<W: Write>(log: &mut W, lines: &[u8], before: &[u8]) {
+    let mut rest = before;
     for line in lines.split_inclusive(|byte| *byte == b'\n') {
-        if !has_line(before, line) {
-            let _ = log.write_all(line);
+        match behind_line(rest, line).or_else(|| behind_line(before, line)) {
+            Some(behind) => rest = behind,
+            None => {
+                let _ = log.write_all(line);
+            }
         }
     }
     let _ = log.flush();
 }
 
-/// Whether the line, with its end, is one of the lines.
-fn has_line(lines: &[u8], line: &[u8]) -> bool {
-    lines
-        .split_inclusive(|byte| *byte == b'\n')
-        .any(|other| other == line)
+/// What follows the line, with its end, where it is one of the lines.
+fn behind_line<'a>(lines: &'a [u8], line: &[u8]) -> Option<&'a [u8]> {
+    let mut rest = lines;
+    while !rest.starts_with(line) {
+        let (_, others) = cut_at_line_end(rest)?;
+        rest = others;
+    }
+    Some(&rest[line.len()..])
 }

@@ -1,6 +1,7 @@
 //! What is told of a look at a folder, line by line.
-ghost use Rattle.std.specs.Prelude.{◌≡◌, ◌++◌, [], true, false, codes, map, OnOk};
+ghost use Rattle.std.specs.Prelude.{◌≡◌, ◌↔◌, ◌++◌, [], true, false, codes, map, IfErr, IsOk, OnOk};
 ghost use Rattle.mot_folder.specs.Log.{ReportTells, TellsOne, entry, told_byte};
+ghost use Rattle.mot_numbers.specs.declared.refusal.Refusal.TheVariants.{OutOfMemory};
 ghost use Rattle.mot_server.specs.declared.running.Attempt.TheVariants.{Accepted, Refused};
 ghost use Rattle.mot_update.specs.Told.{was_accepted};
 
@@ -19,6 +20,8 @@ pub struct Report {
     pub any_refused: bool,
     /// Whether there was no memory for a line, which is then left out.
     pub any_left_out: bool,
+    /// Whether a line tells of want of memory.
+    pub any_without_memory: bool,
 }
 
 impl Report {
@@ -32,6 +35,7 @@ impl Report {
             lines: Vec::new(alloc),
             any_refused: false,
             any_left_out: false,
+            any_without_memory: false,
         }
     }
 
@@ -44,6 +48,20 @@ impl Report {
         self.lines.clear();
         self.any_refused = false;
         self.any_left_out = false;
+        self.any_without_memory = false;
+    }
+
+    /// How a look ends that no fault ended: `OutOfMemory` where memory was wanting for a line, or
+    /// for what a line tells.
+    pub fn end(&self) -> Result<(), Refusal>
+        ensures ends { IsOk result
+            ↔ ((self.now.any_left_out ≡ false) × (self.now.any_without_memory ≡ false)) }
+        ensures fault { IfErr result (λ refusal. refusal ≡ OutOfMemory) }
+    {
+        if self.any_left_out || self.any_without_memory {
+            return Err(Refusal::OutOfMemory);
+        }
+        Ok(())
     }
 
     /// What became of a command on the object of this name.
@@ -75,9 +93,13 @@ impl Report {
     /// It was refused.
     pub fn refused(&mut self, what: &str, name: &[u8], refusal: Refusal)
         ensures any { self.new.any_refused ≡ true }
+        ensures memory { refusal ≡ OutOfMemory → self.new.any_without_memory ≡ true }
         ensures told { TellsOne self.old self.new (entry what.now name.now (Refused refusal)) }
     {
         self.any_refused = true;
+        if refusal == Refusal::OutOfMemory {
+            self.any_without_memory = true;
+        }
         let text = refusal_text(refusal);
         let before = self.lines.len();
         let Ok(()) = add_line(&mut self.lines, what, name, text.as_slice()) else {

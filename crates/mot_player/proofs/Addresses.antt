@@ -8,7 +8,8 @@ use Rattle.std.specs.List.{list_all}
 use Rattle.mot_packets.specs.Gather.{have_one_address}
 use Rattle.mot_packets.specs.Packet.{PacketFields}
 use Rattle.mot_groups.specs.Group.{Segment, GroupFields, bytes_of_group}
-use Rattle.mot_player.specs.Place.{UnderWay, Place, Sent, Step, Request, NewTurn, group_for}
+use Rattle.mot_player.specs.Place.{UnderWay, Place, Sent, Step, Request, NewTurn, Directory}
+use Rattle.mot_player.specs.Place.{Follow, group_for, hear_directory, follow}
 use Rattle.mot_player.specs.Place.{with_begun, packet_sent, first_sent, to_send, next_sent, request}
 use Rattle.mot_player.specs.Place.{change_turn, sent_by}
 use Rattle.mot_player.proofs.Requests.{FirstRequest, first_request, no_steps, packets_of}
@@ -53,7 +54,7 @@ all-cons p x xs e f = rw (e, f) refl
 pub steps-address : (steps : List Step) (place : Place) (sents : List Sent) (new : Place) →
     sent_by place steps ≡ Some (sents, new) →
     list_all (λ (q : PacketFields). q.address == place.address) (packets_of sents) ≡ true
-unfolding sent_by request change_turn
+unfolding sent_by request change_turn hear_directory follow
 steps-address [] place sents new h =
     subst (λ ss. list_all (λ (q : PacketFields). q.address == place.address) (packets_of ss) ≡ true)
     (no_steps place sents new h) refl
@@ -72,3 +73,7 @@ steps-address (Request ∷ steps) place sents new h =
     (eq-eqb q.first.packet.address place.address keeps.0) others)
 steps-address (NewTurn turn ∷ steps) place sents new h =
     steps-address steps (change_turn turn place) sents new h
+steps-address (Directory ∷ steps) place sents new h =
+    steps-address steps (hear_directory place) sents new h
+steps-address (Follow turn fresh ∷ steps) place sents new h =
+    steps-address steps (follow turn fresh place) sents new h

@@ -4,13 +4,14 @@ use Rattle.std.proofs.Common.{Some, None, ◌⊎◌, inl, inr, refl, sym, subst,
 use Rattle.std.proofs.Common.{arith, ap, ◌∙◌, append-nil, eq-eqb}
 use Rattle.std.proofs.lemmas.Bool.{and_parts, eqb-true, ne_eqb}
 use Rattle.std.proofs.lemmas.Option.{none-some, same_Some}
-use Rattle.std.specs.Prelude.{◌==◌, if◌then◌else◌, slice_index}
+use Rattle.std.specs.Prelude.{◌==◌, ◌&&◌, not, filter, if◌then◌else◌, slice_index}
 use Rattle.std.specs.List.{list_all, AllByRecursion}
 use Rattle.mot_groups.proofs.Laws.{content_of-bytes_of_group}
 use Rattle.mot_groups.specs.Entity.{numbered_segments, pieces, segments_of}
 use Rattle.mot_groups.specs.Group.{Segment, GroupFields, content_of, segment_content}
 use Rattle.mot_groups.specs.Group.{bytes_of_group}
 use Rattle.mot_numbers.specs.Reading.{◌>>=◌, read_each, is_empty}
+use Rattle.mot_objects.specs.Ids.{contains}
 use Rattle.mot_packets.specs.Cut.{piece_at}
 use Rattle.mot_packets.specs.Gather.{groups_after, have_one_address, gather_front}
 use Rattle.mot_packets.specs.Packet.{PacketFields, read_packet}
@@ -18,7 +19,11 @@ use Rattle.mot_packets.proofs.Laws.{groups_after-last_piece, groups_after-piece,
 use Rattle.mot_player.specs.Continuity.{kind_of, group_index, contents, changes, index_after}
 use Rattle.mot_player.specs.Continuity.{indexes_after, packet_index, packet_indexes_from}
 use Rattle.mot_player.specs.Laws.{StepsAreContinuous}
-use Rattle.mot_player.specs.Place.{Last, UnderWay, Place, Sent, Step, Request, NewTurn, next_index}
+use Rattle.mot_player.specs.Place.{Last, UnderWay, Place, Sent, Step, Request, NewTurn, Directory}
+use Rattle.mot_player.specs.Place.{Follow}
+use Rattle.mot_player.specs.Place.{next_index, hear_directory, follow, directory_segments}
+use Rattle.mot_player.specs.Place.{of_bodies}
+use Rattle.mot_player.specs.Place.{bodies_among, that_stay, ids_of, left_of, left_with}
 use Rattle.mot_player.specs.Place.{group_for, with_begun, packet_sent, first_sent, to_send}
 use Rattle.mot_player.specs.Place.{next_sent, request, change_turn, sent_by, opened_place}
 use Rattle.mot_player.specs.Turn.{Turn, segments_of_turn, segments_of_bodies}
@@ -49,6 +54,17 @@ AreKinds-bodies size (b ∷ bodies) =
     AreKinds-append (segments_of 4 b.0 size b.1) (segments_of_bodies size bodies)
     (AreKinds-numbered_segments 4 b.0 0 (pieces size b.1) (inr refl)) (AreKinds-bodies size bodies)
 
+kinds-of_cases : (b : Bool) (xs ys : List Segment) → AllByRecursion IsKind xs
+    → AllByRecursion IsKind ys →
+    AllByRecursion IsKind (if b then xs else ys)
+kinds-of_cases true xs ys p q = p
+kinds-of_cases false xs ys p q = q
+
+kept-kinds : (b : Bool) (x : Segment) (xs : List Segment) → IsKind x →
+    AllByRecursion IsKind xs → AllByRecursion IsKind (if b then x ∷ xs else xs)
+kept-kinds true x xs k ks = (k, ks)
+kept-kinds false x xs k ks = ks
+
 -- each segment of a turn is of one of the two types
 pub AreKinds-turn : (turn : Turn) (size : ℕ) → AllByRecursion IsKind (segments_of_turn turn size)
 AreKinds-turn turn size =
@@ -56,6 +72,31 @@ AreKinds-turn turn size =
     (segments_of_bodies size turn.bodies)
     (AreKinds-numbered_segments 6 turn.tid 0 (pieces size turn.directory) (inl refl))
     (AreKinds-bodies size turn.bodies)
+
+-- and so are some of them
+pub AreKinds-filter : (p : Segment → Bool) (xs : List Segment) → AllByRecursion IsKind xs →
+    AllByRecursion IsKind (filter p xs)
+AreKinds-filter p [] k = tt
+AreKinds-filter p (x ∷ xs) k =
+    kept-kinds (p x) x (filter p xs) k.0 (AreKinds-filter p xs k.1)
+
+-- of a place whose waiting segments are, so are those that it sends
+pub AreKinds-to_send : (place : Place) → AllByRecursion IsKind place.waiting →
+    AllByRecursion IsKind (to_send place)
+AreKinds-to_send place k =
+    kinds-of_cases (is_empty place.waiting) (segments_of_turn place.turn place.segment_size)
+    place.waiting (AreKinds-turn place.turn place.segment_size) k
+
+-- and those that are left
+AreKinds-left : (place : Place) (u : Option UnderWay) → AllByRecursion IsKind place.waiting →
+    AllByRecursion IsKind (left_with place u)
+AreKinds-left place None k = AreKinds-to_send place k
+AreKinds-left place (Some u) k = k
+
+AreKinds-directory : (turn : Turn) (size : ℕ)
+    → AllByRecursion IsKind (directory_segments turn size)
+AreKinds-directory turn size =
+    AreKinds-numbered_segments 6 turn.tid 0 (pieces size turn.directory) (inl refl)
 
 -- the groups that are begun and not whole, and what was sent of them
 abbrev groups_under_way : Option UnderWay → List (List ℕ)
@@ -320,12 +361,6 @@ begun-continues steps ih before n place (t ∷ segments) s others new st k e h =
     (index-of_begun before place t k.0 d b) d' b' k.1 st.index st.room first.packet.last refl later)
     h
 
-kinds-of_cases : (b : Bool) (xs ys : List Segment) → AllByRecursion IsKind xs
-    → AllByRecursion IsKind ys →
-    AllByRecursion IsKind (if b then xs else ys)
-kinds-of_cases true xs ys p q = p
-kinds-of_cases false xs ys p q = q
-
 next-continues : (steps : List Step) → ContinuesFrom steps
     → (before : List (List ℕ)) (n : ℕ) (place : Place)
     (u : Option UnderWay) (s : Sent) (others : List Sent) (new : Place) → Stands before n place u →
@@ -333,9 +368,7 @@ next-continues : (steps : List Step) → ContinuesFrom steps
     Continues before n (front_sent u) place.address (s.packet ∷ packets_of others)
 next-continues steps ih before n place None s others new st e h =
     begun-continues steps ih before n place (to_send place) s others new st
-    (kinds-of_cases (is_empty place.waiting) (segments_of_turn place.turn place.segment_size)
-    place.waiting
-    (AreKinds-turn place.turn place.segment_size) st.kinds) e h
+    (AreKinds-to_send place st.kinds) e h
 next-continues steps ih before n place (Some u) s others new st e h =
     let first : Sent = packet_sent place u.group u.sent in
     subst (λ (x : Sent). sent_by x.place steps ≡ Some (others, new) →
@@ -346,7 +379,7 @@ next-continues steps ih before n place (Some u) s others new st e h =
     st.body st.kinds st.index st.room first.packet.last refl later) h
 
 steps-continue : (steps : List Step) → ContinuesFrom steps
-unfolding sent_by request change_turn
+unfolding sent_by request change_turn hear_directory follow
 steps-continue [] before n place sents new st h =
     subst (λ l. Continues before n (front_sent place.under_way) place.address (packets_of l))
     (no_steps place sents new h)
@@ -363,6 +396,40 @@ steps-continue (NewTurn turn ∷ steps) before n place sents new st h =
       directory = st.directory;
       body = st.body;
       kinds = AreKinds-turn turn place.segment_size;
+      index = st.index;
+      room = st.room;
+    }) h
+steps-continue (Directory ∷ steps) before n place sents new st h =
+    steps-continue steps before n (hear_directory place) sents new (record {
+      inside = st.inside;
+      directory = st.directory;
+      body = st.body;
+      kinds = kinds-of_cases (is_empty place.waiting) []
+          (directory_segments place.turn place.segment_size ++ of_bodies place.waiting) tt
+          (AreKinds-append (directory_segments place.turn place.segment_size)
+          (of_bodies place.waiting) (AreKinds-directory place.turn place.segment_size)
+          (AreKinds-filter (λ (s : Segment). s.kind == 4) place.waiting st.kinds));
+      index = st.index;
+      room = st.room;
+    }) h
+steps-continue (Follow turn fresh ∷ steps) before n place sents new st h =
+    steps-continue steps before n (follow turn fresh place) sents new (record {
+      inside = st.inside;
+      directory = st.directory;
+      body = st.body;
+      kinds = AreKinds-append
+          (directory_segments turn place.segment_size
+          ++ segments_of_bodies place.segment_size (bodies_among fresh turn))
+          (that_stay fresh turn (left_of place))
+          (AreKinds-append (directory_segments turn place.segment_size)
+          (segments_of_bodies place.segment_size (bodies_among fresh turn))
+          (AreKinds-directory turn place.segment_size)
+          (AreKinds-bodies place.segment_size (bodies_among fresh turn)))
+          (AreKinds-filter
+          (λ (s : Segment). contains (ids_of turn) s.tid && not (contains fresh s.tid))
+          (of_bodies (left_of place))
+          (AreKinds-filter (λ (s : Segment). s.kind == 4) (left_of place)
+          (AreKinds-left place place.under_way st.kinds)));
       index = st.index;
       room = st.room;
     }) h

@@ -2,8 +2,8 @@
 use Rattle.std.proofs.Common.{◌≡◌, List, [], ◌∷◌, ◌++◌, Option, Some, sym, ap, ◌∙◌}
 use Rattle.std.proofs.lemmas.Option.{some_pair_parts}
 use Rattle.mot_player.specs.Laws.{ChangesGoOn, RequestsGoOn}
-use Rattle.mot_player.specs.Place.{Place, Sent, Step, Request, NewTurn, change_turn, request}
-use Rattle.mot_player.specs.Place.{sent_by}
+use Rattle.mot_player.specs.Place.{Place, Sent, Step, Request, NewTurn, Directory, Follow}
+use Rattle.mot_player.specs.Place.{change_turn, hear_directory, follow, request, sent_by}
 use Rattle.mot_player.specs.Turn.{Turn}
 use Rattle.mot_player.proofs.Requests.{FirstRequest, first_request}
 
@@ -25,6 +25,10 @@ one-more_request (Request ∷ steps) place mid sents s h r =
     (ap (λ (ss : List Sent). gives (ss ++ s ∷ []) s.place) (sym q.all))
 one-more_request (NewTurn turn ∷ steps) place mid sents s h r =
     one-more_request steps (change_turn turn place) mid sents s h r
+one-more_request (Directory ∷ steps) place mid sents s h r =
+    one-more_request steps (hear_directory place) mid sents s h r
+one-more_request (Follow turn fresh ∷ steps) place mid sents s h r =
+    one-more_request steps (follow turn fresh place) mid sents s h r
 
 one-more_change : (steps : List Step) (place mid : Place) (sents : List Sent) (turn : Turn) →
     sent_by place steps ≡ Some (sents, mid) →
@@ -40,6 +44,10 @@ one-more_change (Request ∷ steps) place mid sents turn h =
     (ap (λ (ss : List Sent). gives ss (change_turn turn mid)) (sym q.all))
 one-more_change (NewTurn next ∷ steps) place mid sents turn h =
     one-more_change steps (change_turn next place) mid sents turn h
+one-more_change (Directory ∷ steps) place mid sents turn h =
+    one-more_change steps (hear_directory place) mid sents turn h
+one-more_change (Follow next fresh ∷ steps) place mid sents turn h =
+    one-more_change steps (follow next fresh place) mid sents turn h
 
 -- one more request goes on where the steps before left off
 pub requests-go_on : RequestsGoOn
@@ -64,3 +72,7 @@ steps-go_on (Request ∷ steps) more place mid new sents others h r =
     (ap (λ (ss : List Sent). gives (ss ++ others) new) (sym q.all))
 steps-go_on (NewTurn turn ∷ steps) more place mid new sents others h r =
     steps-go_on steps more (change_turn turn place) mid new sents others h r
+steps-go_on (Directory ∷ steps) more place mid new sents others h r =
+    steps-go_on steps more (hear_directory place) mid new sents others h r
+steps-go_on (Follow turn fresh ∷ steps) more place mid new sents others h r =
+    steps-go_on steps more (follow turn fresh place) mid new sents others h r

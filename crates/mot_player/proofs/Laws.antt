@@ -10,5 +10,7 @@ pub use Rattle.mot_player.proofs.Rounds.{rounds_are_continuous}
 pub use Rattle.mot_player.proofs.GoesOn.{requests-go_on, changes-go_on}
 -- and so do further steps
 pub use Rattle.mot_player.proofs.GoesOn.{steps-go_on}
+-- a directory that is asked for comes next, changes come next, and bodies that stay go on
+pub use Rattle.mot_player.proofs.Staying.{bodies-go_on, changes-come-next, directory-comes}
 -- each request brings the end of the turn nearer
 pub use Rattle.mot_player.proofs.Ending.{turns-end}

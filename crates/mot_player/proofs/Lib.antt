@@ -1,9 +1,12 @@
 pub mod Addresses
 pub mod Answered
 pub mod Continuous
+pub mod PacketCounts
+pub mod Passing
 pub mod Cycles
 pub mod Ending
 pub mod GoesOn
+pub mod HeardRows
 pub mod Indexes
 pub mod Kept
 pub mod Laws
@@ -15,5 +18,6 @@ pub mod Rounds
 pub mod Rows
 pub mod Segments
 pub mod SomeBodies
+pub mod Staying
 pub mod TurnReads
 pub mod WholeTurn

@@ -10,8 +10,9 @@ use Rattle.mot_player.specs.Inner.Ready.{HasTaken, place_with}
 use Rattle.mot_player.specs.State.{view_of}
 use Rattle.mot_player.specs.Laws.{blank_bodies, bytes_due, bytes_left, group_bytes_of}
 use Rattle.mot_player.specs.Place.{UnderWay}
-use Rattle.mot_player.specs.PlayerView.{AreBodiesFor, BodyPlan, TurnPlan, entities_of}
-use Rattle.mot_player.specs.PlayerView.{segments_from, turn_with}
+use Rattle.mot_player.specs.Course.{CourseView, course_of, passed}
+use Rattle.mot_player.specs.PlayerView.{AreBodiesFor, BodyPlan, TurnPlan, turn_with}
+use Rattle.mot_player.specs.PlayerView.{waiting_of}
 use Rattle.mot_player.specs.Inner.Entities.{entity_bytes, entity_length}
 use Rattle.mot_player.specs.declared.part.Part.{Part}
 use Rattle.mot_player.specs.declared.state.State.{State}
@@ -31,20 +32,22 @@ length-part plan bodies k at len are l range =
 
 -- the group of the next part has come
 pub taken : (old new : State) (bodies : List (List ℕ)) (p : Part) →
-    AreBodiesFor old.turn bodies → IsNext old.turn old.segment_size old.entity old.segment p →
+    AreBodiesFor old.turn bodies → IsNext old.turn old.segment_size (course_of old.course) p →
     p.entity < length old.turn.bodies + 1 →
     p.from + p.len ≤ entity_length old.turn p.entity → new.turn ≡ old.turn →
-    new.segment_size ≡ old.segment_size → new.entity ≡ p.next_entity →
-    new.segment ≡ p.next_segment → vec_len new.group ≡ p.len + 11 → HasTaken old new bodies
-taken old new bodies p are next inside range same_turn same_size entity segment len =
+    new.segment_size ≡ old.segment_size →
+    course_of new.course ≡ passed (length old.turn.bodies + 1) p (course_of old.course) → vec_len
+    new.group ≡ p.len + 11 → HasTaken old new bodies
+taken old new bodies p are next inside range same_turn same_size course len =
     let long = length-part old.turn bodies p.entity p.from p.len are inside range in
     record {
       segment = segment_of old.turn bodies p;
-      others = segments_from old.segment_size (entities_of (turn_with old.turn bodies))
-          p.next_entity p.next_segment;
+      others = waiting_of old.segment_size (turn_with old.turn bodies)
+          (passed (length old.turn.bodies + 1) p (course_of old.course));
       next = next bodies are;
       len = omega (arith, len, long);
-      waiting = rw (same_turn, same_size, entity, segment) refl;
+      waiting = ap (λ (c : CourseView). waiting_of new.segment_size (turn_with new.turn bodies) c)
+          course ∙ rw (same_turn, same_size) refl;
     }
 
 -- blank bodies have the lengths of the plan

@@ -13,17 +13,14 @@ use Rattle.mot_groups.specs.Entity.{first_pieces, numbered_segments}
 use Rattle.mot_groups.specs.Group.{Segment}
 use Rattle.mot_numbers.specs.Reading.{is_empty}
 use Rattle.mot_player.specs.Bodies.{body_at}
-use Rattle.mot_player.specs.Inner.Next.{due_from}
 use Rattle.mot_player.specs.PlayerView.{AreBodiesFor, BodyPlan, Entity, TurnPlan, entities_of}
 use Rattle.mot_player.specs.PlayerView.{segments_from, segments_in, turn_with, with_bodies}
 use Rattle.mot_player.specs.Inner.Entities.{IsPlannable, IsWithinTurn, entity_bytes, entity_length}
 use Rattle.mot_player.specs.Inner.Entities.{entity_tid}
-use Rattle.mot_player.specs.Turn.{segments_of_turn}
 use Rattle.mot_player.proofs.Segments.{body_entity, length-with_bodies, segments_from-end}
-use Rattle.mot_player.proofs.Segments.{segments_from-whole}
 
 -- the entity at a place
-abbrev entity_at : TurnPlan → List (List ℕ) → ℕ → Entity
+abbrev pub entity_at : TurnPlan → List (List ℕ) → ℕ → Entity
 entity_at plan bodies k =
     record {
       kind = if k == 0 then 6 else 4;
@@ -47,7 +44,7 @@ bodies-at (b ∷ plans) (x ∷ bodies) zero d e l = refl
 bodies-at (b ∷ plans) (x ∷ bodies) (suc j) d e l =
     bodies-at plans bodies j d (ap (drop 1) e) (omega arith)
 
-entities-at : (plan : TurnPlan) (bodies : List (List ℕ)) (k : ℕ) (d : Entity)
+pub entities-at : (plan : TurnPlan) (bodies : List (List ℕ)) (k : ℕ) (d : Entity)
     → AreBodiesFor plan bodies →
     k < length plan.bodies + 1
     → get_or (entities_of (turn_with plan bodies)) k d ≡ entity_at plan bodies k
@@ -101,7 +98,7 @@ from-at size [] k s d l = absurd (omega arith)
 from-at size (x ∷ entities) zero s d l = refl
 from-at size (x ∷ entities) (suc k) s d l = from-at size entities k s d (omega arith)
 
-from-first : (size : ℕ) (entities : List Entity)
+pub from-first : (size : ℕ) (entities : List Entity)
     → segments_from size entities 0 0 ≡ flat_map (segments_in size) entities
 from-first size [] = refl
 from-first size (x ∷ entities) = refl
@@ -130,7 +127,7 @@ none_behind zero size bytes false t f = absurd (omega (arith, f refl))
 none_behind (suc c) size bytes true t f = absurd (omega (arith, t refl))
 none_behind (suc c) size bytes false t f = refl
 
-abbrev segment : ℕ → ℕ → ℕ → Bool → List ℕ → Segment
+abbrev pub segment : ℕ → ℕ → ℕ → Bool → List ℕ → Segment
 segment kind tid number last bytes =
     record { kind = kind; tid = tid; number = number; last = last; bytes = bytes }
 
@@ -242,7 +239,7 @@ behind true size entities k s this rest next more =
 behind false size entities k s this rest next more =
     sym more ∙ ap (segments_from size entities k) (sym (add-one s))
 
-segment-in : (size : ℕ) (e : Entity) (s at len : ℕ) (is_last : Bool) → 0 < size →
+pub segment-in : (size : ℕ) (e : Entity) (s at len : ℕ) (is_last : Bool) → 0 < size →
     IsPart size s (length e.bytes) at len is_last → (rest : List Segment) →
     drop s (segments_in size e) ++ rest
     ≡ segment e.kind e.tid s is_last (take len (drop at e.bytes))
@@ -294,7 +291,7 @@ segment-in size e s at len false some p rest =
     ∙ ap (λ n. segment e.kind e.tid s false (take n (drop at e.bytes)) ∷ behind) (sym whole)
 
 -- the same in a turn
-from-part : (plan : TurnPlan) (bodies : List (List ℕ)) (size k s at len : ℕ) (is_last : Bool)
+pub from-part : (plan : TurnPlan) (bodies : List (List ℕ)) (size k s at len : ℕ) (is_last : Bool)
     → 0 < size →
     AreBodiesFor plan bodies → k < length plan.bodies + 1
     → IsPart size s (entity_length plan k) at len is_last →
@@ -318,35 +315,6 @@ from-part plan bodies size k s at len is_last some e l p =
     ∙ ap (λ ss. segment x.kind x.tid s is_last (take len (drop at x.bytes)) ∷ ss)
     (behind is_last size entities k s (drop (suc s) (segments_in size x) ++ rest) rest
     (from-next size entities k inside) (this (suc s)))
-
--- whatever the bodies, the part is the first segment that is due
-pub is_next : (plan : TurnPlan) (size k s at len : ℕ) (is_last : Bool) (bodies : List (List ℕ))
-    → 0 < size →
-    AreBodiesFor plan bodies → k < length plan.bodies + 1
-    → IsPart size s (entity_length plan k) at len is_last →
-    due_from plan bodies size k s
-    ≡ segment (if k == 0 then 6 else 4) (entity_tid plan k) s is_last
-    (take len (drop at (entity_bytes plan bodies k)))
-    ∷ segments_from size (entities_of (turn_with plan bodies)) (if is_last then k + 1 else k)
-    (if is_last then 0 else s + 1)
-is_next plan size k s at len is_last bodies some e l p =
-    ap (λ w. if is_empty w then segments_of_turn (turn_with plan bodies) size else w)
-    (from-part plan bodies size k s at len is_last some e l p)
-
--- at the end of a turn the directory's first part is due, and then the whole turn's others
-pub is_next-whole : (plan : TurnPlan) (size k at len : ℕ) (is_last : Bool) (bodies : List (List ℕ))
-    → 0 < size →
-    AreBodiesFor plan bodies → k ≡ length plan.bodies + 1
-    → IsPart size 0 (entity_length plan 0) at len is_last →
-    due_from plan bodies size k 0
-    ≡ segment 6 plan.tid 0 is_last (take len (drop at plan.directory))
-    ∷ segments_from size (entities_of (turn_with plan bodies)) (if is_last then 0 + 1 else 0)
-    (if is_last then 0 else 0 + 1)
-is_next-whole plan size k at len is_last bodies some e l p =
-    ap (λ w. if is_empty w then segments_of_turn (turn_with plan bodies) size else w)
-    (segments_from-end plan bodies size k e l)
-    ∙ sym (segments_from-whole (turn_with plan bodies) size)
-    ∙ from-part plan bodies size 0 0 at len is_last some e (omega arith) p
 
 -- nothing waits exactly past the last entity
 pub waits-none : (plan : TurnPlan) (bodies : List (List ℕ)) (size k s : ℕ) → 0 < size
@@ -386,7 +354,7 @@ some-length [] j l h = absurd (omega arith)
 some-length (b ∷ plans) zero l h = let low : 1 ≤ b.length = h.0.0 in omega arith
 some-length (b ∷ plans) (suc j) l h = some-length plans j (omega arith) h.1
 
-entity-some : (plan : TurnPlan) (k : ℕ) → IsPlannable plan → k < length plan.bodies + 1
+pub entity-some : (plan : TurnPlan) (k : ℕ) → IsPlannable plan → k < length plan.bodies + 1
     → 0 < entity_length plan k
 entity-some plan zero p l = p.some
 entity-some plan (suc j) p l =

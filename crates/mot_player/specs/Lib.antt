@@ -1,6 +1,7 @@
 pub mod AnyBodies
 pub mod Bodies
 pub mod Continuity
+pub mod Course
 pub mod Inner
 pub mod LastGroup
 pub mod Laws
@@ -10,5 +11,6 @@ pub mod PlayerView
 pub mod Reading
 pub mod Rounds
 pub mod Sending
+pub mod Staying
 pub mod State
 pub mod Turn

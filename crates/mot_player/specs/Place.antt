@@ -1,12 +1,17 @@
 -- The order of sending (own rules): where a player stands, and what a request and a change of the
 -- turn make of that.
-use Rattle.std.specs.Prelude.{ℕ, ◌+◌, ◌%◌, Bool, ◌&&◌, ◌==◌, if◌then◌else◌, List, [], ◌∷◌, Option}
-use Rattle.std.specs.Prelude.{Some, None, bytes_eq}
+use Rattle.std.specs.Prelude.{ℕ, ◌+◌, ◌%◌, Bool, ◌&&◌, ◌==◌, not, if◌then◌else◌, List, [], ◌∷◌}
+use Rattle.std.specs.Prelude.{◌++◌}
+use Rattle.std.specs.Prelude.{Option, Some, None, bytes_eq, filter, length, map}
+use Rattle.std.specs.Int.{div_ceil}
+use Rattle.std.specs.List.{sum_by}
+use Rattle.mot_groups.specs.Entity.{segments_of}
 use Rattle.mot_groups.specs.Group.{Segment, GroupFields, segment_content, bytes_of_group}
 use Rattle.mot_numbers.specs.Reading.{◌>>=◌, is_empty}
+use Rattle.mot_objects.specs.Ids.{contains}
 use Rattle.mot_packets.specs.Cut.{piece_at}
 use Rattle.mot_packets.specs.Packet.{PacketFields}
-use Rattle.mot_player.specs.Turn.{Turn, segments_of_turn}
+use Rattle.mot_player.specs.Turn.{Turn, segments_of_bodies, segments_of_turn}
 
 -- a group's continuity index and content
 pub record Last : Type 0 where
@@ -119,10 +124,72 @@ unfoldable pub change_turn : Turn → Place → Place
 change_turn turn place =
     record place { turn = turn; waiting = segments_of_turn turn place.segment_size }
 
+-- the directory of a turn, whole
+abbrev pub directory_segments : Turn → ℕ → List Segment
+directory_segments turn size = segments_of 6 turn.tid size turn.directory
+
+-- how many packets the groups of segments take: a group has 11 bytes more than its segment
+abbrev pub packets_of_segments : ℕ → List Segment → ℕ
+packets_of_segments room segments =
+    sum_by (λ (s : Segment). div_ceil (length s.bytes + 11) room) segments
+
+-- how many packets the directory takes
+abbrev pub directory_packets : Place → ℕ
+directory_packets place =
+    packets_of_segments place.room (directory_segments place.turn place.segment_size)
+
+-- of segments, those of bodies
+abbrev pub of_bodies : List Segment → List Segment
+of_bodies segments = filter (λ (s : Segment). s.kind == 4) segments
+
+-- The segments that are left of the turn behind the group under way. Where none is under way and
+-- none wait, those of the turn that begins.
+abbrev pub left_with : Place → Option UnderWay → List Segment
+left_with place None = to_send place
+left_with place (Some u) = place.waiting
+
+abbrev pub left_of : Place → List Segment
+left_of place = left_with place place.under_way
+
+-- The whole directory comes behind the group under way, and then the bodies that wait go on. Where
+-- nothing waits the directory comes next anyhow, and nothing changes.
+unfoldable pub hear_directory : Place → Place
+hear_directory place = record place {
+  waiting =
+      if is_empty place.waiting then []
+      else directory_segments place.turn place.segment_size ++ of_bodies place.waiting;
+}
+
+-- the ids of a turn's bodies
+abbrev pub ids_of : Turn → List ℕ
+ids_of turn = map (λ (b : ℕ × List ℕ). b.0) turn.bodies
+
+-- the bodies of a turn with these ids, in the turn's order
+abbrev pub bodies_among : List ℕ → Turn → List (ℕ × List ℕ)
+bodies_among ids turn = filter (λ (b : ℕ × List ℕ). contains ids b.0) turn.bodies
+
+-- of these segments, those of bodies that this turn has still, but for the fresh ones
+abbrev pub that_stay : List ℕ → Turn → List Segment → List Segment
+that_stay fresh turn segments =
+    filter (λ (s : Segment). contains (ids_of turn) s.tid && not (contains fresh s.tid))
+    (of_bodies segments)
+
+-- A changed turn is followed: behind the group under way come its directory, then its fresh bodies,
+-- and then what was left and stays.
+unfoldable pub follow : Turn → List ℕ → Place → Place
+follow turn fresh place = record place {
+  turn = turn;
+  waiting = directory_segments turn place.segment_size
+      ++ segments_of_bodies place.segment_size (bodies_among fresh turn)
+      ++ that_stay fresh turn (left_of place);
+}
+
 -- what happens to a player
 pub data Step : Type 0 where
   Request : Step
   NewTurn : Turn → Step
+  Directory : Step
+  Follow : Turn → List ℕ → Step
 
 -- what the requests among steps send, and where the player stands then
 unfoldable pub sent_by : Place → List Step → Option (List Sent × Place)
@@ -132,3 +199,5 @@ sent_by place (Request ∷ steps) = do
   others ← sent_by sent.place steps
   Some (sent ∷ others.0, others.1)
 sent_by place (NewTurn turn ∷ steps) = sent_by (change_turn turn place) steps
+sent_by place (Directory ∷ steps) = sent_by (hear_directory place) steps
+sent_by place (Follow turn fresh ∷ steps) = sent_by (follow turn fresh place) steps

@@ -1,11 +1,14 @@
 -- Where the code of a player stands: the turn but for its bodies, and which of its segments comes
 -- next.
 use Rattle.std.specs.Prelude.{◌≡◌, ℕ, zero, suc, List}
-use Rattle.std.specs.Prelude.{[], ◌∷◌, ◌++◌, length, drop, map, flat_map, Option}
+use Rattle.std.specs.Prelude.{[], ◌∷◌, ◌++◌, length, drop, map, flat_map, Option, Some, None}
+use Rattle.std.specs.Prelude.{slice_index_or}
 use Rattle.mot_groups.specs.Entity.{segments_of}
 use Rattle.mot_groups.specs.Group.{Segment}
+use Rattle.mot_player.specs.Course.{CourseView}
 use Rattle.mot_player.specs.Place.{Last, UnderWay, Place}
 use Rattle.mot_player.specs.Turn.{Turn}
+use Rattle.mot_player.specs.declared.course.Waiting.{Waiting}
 
 -- of a body that a turn plays: its transport id and its length
 pub record BodyPlan : Type 0 where
@@ -54,16 +57,34 @@ segments_from size (e ∷ entities) zero segment =
     drop segment (segments_in size e) ++ flat_map (segments_in size) entities
 segments_from size (e ∷ entities) (suc k) segment = segments_from size entities k segment
 
--- Where a player stands, but for the bodies. The next segment that begins is number `segment` of
--- entity number `entity`, of which 0 is the directory; past the last entity nothing waits.
+-- an entity by its number
+abbrev pub entity_in : List Entity → ℕ → Entity
+entity_in entities k = slice_index_or entities k (record { kind = 4; tid = 0; bytes = [] })
+
+-- the segments of a directory that comes next, and those of a queue
+abbrev pub directory_from : ℕ → Turn → Option ℕ → List Segment
+directory_from size turn None = []
+directory_from size turn (Some s) = drop s (segments_of 6 turn.tid size turn.directory)
+
+abbrev pub queued : ℕ → List Entity → List Waiting → List Segment
+queued size entities [] = []
+queued size entities (w ∷ queue) =
+    drop w.segment (segments_in size (entity_in entities w.entity)) ++ queued size entities queue
+
+-- what waits of a turn on this course
+abbrev pub waiting_of : ℕ → Turn → CourseView → List Segment
+waiting_of size turn c =
+    directory_from size turn c.directory ++ queued size (entities_of turn) c.queue
+    ++ segments_from size (entities_of turn) c.entity c.segment
+
+-- Where a player stands, but for the bodies.
 pub record PlayerView : Type 0 where
   pub address : ℕ
   pub room : ℕ
   pub segment_size : ℕ
   pub under_way : Option UnderWay
   pub turn : TurnPlan
-  pub entity : ℕ
-  pub segment : ℕ
+  pub course : CourseView
   pub index : ℕ
   pub last_directory : Option Last
   pub last_body : Option Last
@@ -75,7 +96,7 @@ place_of s bodies = record {
   room = s.room;
   segment_size = s.segment_size;
   under_way = s.under_way;
-  waiting = segments_from s.segment_size (entities_of (turn_with s.turn bodies)) s.entity s.segment;
+  waiting = waiting_of s.segment_size (turn_with s.turn bodies) s.course;
   turn = turn_with s.turn bodies;
   index = s.index;
   last_directory = s.last_directory;

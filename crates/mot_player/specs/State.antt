@@ -1,6 +1,7 @@
 -- What the state of a player stands for.
 use Rattle.std.specs.Prelude.{◌==◌, if◌then◌else◌, Some, None}
 use Rattle.mot_numbers.specs.PacketLength.{room_of}
+use Rattle.mot_player.specs.Course.{course_of}
 use Rattle.mot_player.specs.declared.state.State.{State}
 use Rattle.mot_player.specs.LastGroup.{kept_last}
 use Rattle.mot_player.specs.PlayerView.{PlayerView}
@@ -12,8 +13,7 @@ view_of p = record {
   segment_size = p.segment_size;
   under_way = if p.sent == 0 then None else Some (record { group = p.group.items; sent = p.sent });
   turn = p.turn;
-  entity = p.entity;
-  segment = p.segment;
+  course = course_of p.course;
   index = p.index;
   last_directory = kept_last p.last_directory;
   last_body = kept_last p.last_body;

@@ -3,9 +3,11 @@ ghost use Rattle.std.specs.Prelude.{◌≡◌, ℕ, ◌+◌, ◌*◌, ◌^◌, �
 ghost use Rattle.std.specs.Prelude.{if◌then◌else◌};
 ghost use Rattle.mot_numbers.specs.declared.numbers.TheConstants.{MAX_SEGMENT};
 ghost use Rattle.mot_player.specs.Inner.Next.{IsNext};
-ghost use Rattle.mot_player.specs.Inner.Entities.{IsPlannable, IsWithinTurn, entity_length};
+ghost use Rattle.mot_player.specs.Course.{course_of, passed};
+ghost use Rattle.mot_player.specs.Inner.Entities.{IsOnCourse, IsPlannable, entity_length};
 
 use crate::Turn;
+use crate::course::Course;
 use mot_groups::segment_count;
 use mot_numbers::SegmentSize;
 
@@ -22,21 +24,19 @@ pub(crate) struct Part {
     pub next_segment: usize,
 }
 
-/// The segment of an entity; past the last entity the first of the turn.
-pub(crate) fn part_at(turn: &Turn, size: SegmentSize, entity: usize, segment: usize) -> Part
-    requires { IsWithinTurn turn.now size entity segment }
+/// The segment that is due on a course.
+pub(crate) fn part_at(turn: &Turn, size: SegmentSize, course: &Course) -> Part
+    requires { IsOnCourse turn.now size (course_of course.now) }
     ensures entity { result.entity < length turn.now.bodies + 1 }
     ensures range { result.from + result.len ≤ entity_length turn.now result.entity }
     ensures len { (0 < result.len) × (result.len ≤ size) }
     ensures number { result.number < 2 ^ 15 }
-    ensures within { IsWithinTurn turn.now size result.next_entity result.next_segment }
-    ensures next { IsNext turn.now size entity segment result }
+    ensures on_course { IsOnCourse turn.now size
+        (passed (length turn.now.bodies + 1) result (course_of course.now)) }
+    ensures next { IsNext turn.now size (course_of course.now) result }
 {
-    if entity == turn.entity_count() {
-        segment_at(turn, size, 0, 0)
-    } else {
-        segment_at(turn, size, entity, segment)
-    }
+    let due = course.due(turn.entity_count());
+    segment_at(turn, size, due.entity, due.segment)
 }
 
 /// That segment of that entity.

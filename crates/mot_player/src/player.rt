@@ -1,5 +1,5 @@
 //! The player of a carousel.
-ghost use Rattle.std.specs.Prelude.{◌≡◌, ◌<◌, ℕ, List, false, Some, None, IfOk};
+ghost use Rattle.std.specs.Prelude.{◌≡◌, ◌^◌, ◌<◌, ℕ, List, false, Some, None, IfOk};
 ghost use Rattle.std.specs.Prelude.{IfErr, OnOk, OnErr};
 ghost use Rattle.mot_numbers.specs.PacketLength.{room_of};
 ghost use Rattle.mot_numbers.specs.declared.refusal.Refusal.TheVariants.{OutOfMemory};
@@ -10,10 +10,14 @@ ghost use Rattle.mot_player.specs.AnyBodies.{IsStepOfSome};
 ghost use Rattle.mot_player.specs.Laws.{ChangesGoOn, IsPlace, IsStep, RequestsGoOn};
 ghost use Rattle.mot_player.specs.Laws.{StepsAreContinuous, bytes_left};
 ghost use Rattle.mot_player.specs.Laws.{TurnsEnd, TurnsReadAsTheirCarousels};
-ghost use Rattle.mot_player.specs.Place.{Sent, change_turn, opened_place, request};
+ghost use Rattle.mot_player.specs.Place.{Sent, change_turn, directory_packets, hear_directory};
+ghost use Rattle.mot_player.specs.Place.{opened_place, request};
+ghost use Rattle.mot_player.specs.Staying.{BodiesGoOn, ChangesComeNext, DirectoryComes};
 ghost use Rattle.mot_player.specs.Rounds.{RoundsAreContinuous};
 
+use crate::course::Course;
 use crate::groups::LastGroup;
+use crate::lengths::packets_of_entity;
 use crate::state::State;
 use crate::{Bodies, Played, Turn};
 use mot_numbers::{Address, PacketLength, Refusal, SegmentSize};
@@ -69,9 +73,15 @@ impl Player {
         ensures rounds { OnOk result RoundsAreContinuous }
         ensures requests { OnOk result RequestsGoOn }
         ensures changes { OnOk result ChangesGoOn }
+
+        // A directory that is asked for comes next and whole, changes come next, and bodies that
+        // stay go on.
+        ensures directory_comes { OnOk result DirectoryComes }
+        ensures changes_next { OnOk result ChangesComeNext }
+        ensures bodies_go_on { OnOk result BodiesGoOn }
     {
         let size = usize::from(segment_size.get());
-        let entity = turn.entity_count();
+        let course = Course::ended(alloc, turn.entity_count());
         let group = Vec::with_capacity(alloc, size + 11)?;
         let last_directory = LastGroup::none(alloc, size)?;
         let last_body = LastGroup::none(alloc, size)?;
@@ -81,8 +91,7 @@ impl Player {
             full_length,
             segment_size,
             turn,
-            entity,
-            segment: 0,
+            course,
             group,
             sent: 0,
             index: 0,
@@ -103,8 +112,36 @@ impl Player {
         // A turn has a directory and its bodies.
         let _ = turn.entity_count();
         self.state.turn = turn;
-        self.state.entity = 0;
-        self.state.segment = 0;
+        self.state.course.begin_turn();
+    }
+
+    /// The whole directory comes behind the group under way, and then the bodies go on; where
+    /// nothing of the turn waits, nothing changes, since the next turn begins with it.
+    pub fn hear_directory(&mut self)
+        ensures place { (bodies : List (List ℕ)) → AreBodiesFor self.old.turn bodies
+            → place_of self.new bodies ≡ hear_directory (place_of self.old bodies) }
+        ensures turn { self.new.turn ≡ self.old.turn }
+        ensures size { self.new.segment_size ≡ self.old.segment_size }
+    {
+        let count = self.state.turn.entity_count();
+        self.state.course.hear_directory(count);
+    }
+
+    /// How many packets the turn's directory takes.
+    pub fn directory_packets(&self) -> usize
+        ensures value { (bodies : List (List ℕ))
+            → result ≡ directory_packets (place_of self.now bodies) }
+        ensures few { result < 2 ^ 32 }
+    {
+        let State {
+            turn,
+            segment_size,
+            full_length,
+            ..
+        } = &self.state;
+        // A turn has a directory and its bodies.
+        let _ = turn.entity_count();
+        packets_of_entity(turn.entity_length(0), *segment_size, *full_length)
     }
 
     /// The size of its segments.

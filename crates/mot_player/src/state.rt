@@ -2,6 +2,7 @@
 ghost use Rattle.std.specs.Prelude.{◌≡◌, ℕ, ◌+◌, ◌^◌, ◌<◌, ◌≤◌, List, length, take, drop};
 ghost use Rattle.std.specs.Prelude.{vec_len, Some, OnOk, OnErr};
 
+use crate::course::Course;
 use crate::groups::LastGroup;
 use crate::part::{Part, part_at};
 use crate::reading::read_front;
@@ -16,9 +17,8 @@ pub(crate) struct State {
     pub full_length: PacketLength,
     pub segment_size: SegmentSize,
     pub turn: Turn,
-    /// The next segment that begins: of which entity, and which of its segments.
-    pub entity: usize,
-    pub segment: usize,
+    /// Which segments come next.
+    pub course: Course,
     /// The group under way, and how many of its bytes were sent; 0 where none is under way.
     pub group: Vec<u8>,
     pub sent: usize,
@@ -47,8 +47,8 @@ impl State {
     ghost use Rattle.mot_player.specs.State.{view_of};
     ghost use Rattle.mot_player.specs.Inner.Next.{IsNext};
     ghost use Rattle.mot_player.specs.PlayerView.{AreBodiesFor};
-    ghost use Rattle.mot_player.specs.Inner.Entities.{IsWithinTurn, entity_bytes};
-    ghost use Rattle.mot_player.specs.Inner.Entities.{entity_length};
+    ghost use Rattle.mot_player.specs.Course.{course_of, passed};
+    ghost use Rattle.mot_player.specs.Inner.Entities.{IsOnCourse, entity_bytes, entity_length};
 
     /// Begins the group of the next segment, of which no packet is sent yet. Where a read of the
     /// bodies fails, all stays as it was.
@@ -74,7 +74,7 @@ impl State {
         ensures reads { ReadsBodies B.bodies B.IsHonest B.failures B.HasOnlyRead bodies.old
             bodies.new result }
     {
-        let part = part_at(&self.turn, self.segment_size, self.entity, self.segment);
+        let part = part_at(&self.turn, self.segment_size, &self.course);
         read_front(
             &self.turn,
             bodies,
@@ -95,10 +95,10 @@ impl State {
         requires range { part.from + part.len ≤ entity_length self.old.turn part.entity }
         requires len { (0 < part.len) × (part.len ≤ self.old.segment_size) }
         requires number { part.number < 2 ^ 15 }
-        requires within { IsWithinTurn self.old.turn self.old.segment_size part.next_entity
-            part.next_segment }
-        requires next { IsNext self.old.turn self.old.segment_size self.old.entity
-            self.old.segment part }
+        requires on_course { IsOnCourse self.old.turn self.old.segment_size
+            (passed (length self.old.turn.bodies + 1) part (course_of self.old.course)) }
+        requires next { IsNext self.old.turn self.old.segment_size (course_of self.old.course)
+            part }
         ensures fitted { IsFitted self.new }
         ensures begun { (bodies : List (List ℕ)) → AreBodiesFor self.old.turn bodies
             → take part.len self.old.buffer.items
@@ -132,8 +132,7 @@ impl State {
                 bytes,
             );
         }
-        self.entity = part.next_entity;
-        self.segment = part.next_segment;
+        self.course.pass(self.turn.entity_count(), part);
     }
 
     /// Sends the next packet of the group that was begun, by `packet`; whether it ends the turn.
@@ -169,7 +168,7 @@ impl State {
         );
         let room = self.full_length.room();
         let is_last = self.group.len() - self.sent <= room;
-        let ends_turn = is_last && self.entity == self.turn.entity_count();
+        let ends_turn = is_last && self.course.has_ended(self.turn.entity_count());
         self.sent = if is_last { 0 } else { self.sent + room };
         self.index = (self.index + 1) % 4;
         ends_turn

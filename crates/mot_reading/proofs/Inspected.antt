@@ -10,6 +10,7 @@ use Rattle.mot_journal.specs.Image.{Standing}
 use Rattle.mot_journal.specs.Journal.{with_records}
 use Rattle.mot_numbers.specs.declared.geometry.Geometry.{Geometry}
 use Rattle.mot_numbers.specs.declared.refusal.Refusal.{Refusal}
+use Rattle.mot_numbers.specs.declared.refusal.Refusal.TheVariants.{WriteFault}
 use Rattle.mot_objects.specs.Carousel.{Object}
 use Rattle.mot_objects.specs.Carousel as whole
 use Rattle.mot_objects.specs.declared.object.Object as beside
@@ -17,15 +18,17 @@ use Rattle.mot_objects.specs.Stands.{objects_of}
 use Rattle.mot_player.specs.Place.{Place}
 use Rattle.mot_reading.specs.Inspecting.{Inspects, StopsInspecting, bytes_of_all, bytes_of_bodies}
 use Rattle.mot_reading.specs.Inspecting.{inspection_text, rates_text, sizes_text, turn_text}
-use Rattle.mot_reading.specs.Inspecting.{uncounted, unprinted, unread, use_text}
+use Rattle.mot_reading.specs.Inspecting.{TellsOfDisk, no_memory, uncounted, unprinted, unread}
+use Rattle.mot_reading.specs.Inspecting.{use_text}
 use Rattle.mot_reading.specs.Inner.Inspected.{HasInspected, IsInspectingFault}
-use Rattle.mot_reading.specs.Opening.{first_place}
+use Rattle.mot_reading.specs.Opening.{OfStanding, first_place}
 use Rattle.mot_reading.proofs.Opened.{all_hold, rises_later}
 use Rattle.mot_repository.specs.Opening.{IsOpened}
 use Rattle.mot_repository.specs.Repository.{Agrees, Holds, RepositoryView}
 use Rattle.mot_server.specs.Playing.{HasPlayedTurn}
 use Rattle.mot_server.specs.Server.{ServerView, place_in}
 use Rattle.mot_server.proofs.Laws.{still_unchanged}
+use Rattle.mot_session.specs.Served.{WritesFront}
 
 -- one packet more
 pub bytes_more : (packets : List (List ℕ)) (packet : List ℕ)
@@ -111,45 +114,63 @@ module _ {D : Type 0} (state : D → State) (disk : D) (server new : ServerView 
       still_unchanged (state disk) (state server.disk) (state new.disk)
       (opens.still (reads.keeps.was_honest honest)) (reads.unchanged honest)
 
-  -- what is told of an open server inspects the disk, from its opening on
+  -- what is told of an open server is told of the disk, from its opening on
+  tells_of : (is_printed : List ℕ → Type 0)
+      → ((s : Standing) → Holds server.view s (state server.disk) → (state new.disk).IsHonest
+      → HasInspected server.view.journal (place_in server s) s is_printed)
+      → OfStanding (λ s. TellsOfDisk s (state disk).bytes is_printed) (state disk) (state new.disk)
+  tells_of is_printed told = λ s honest all.
+      let was = reads.keeps.was_honest honest in
+      let first = opened was in
+      let holds = all_hold (state disk) (state server.disk) server.view s
+      (sound disk (opens.keeps.was_honest was)) all first was (sound server.disk was)
+      (opens.still was) going in
+      let has = told s holds honest in
+      record {
+        journal = with_records server.view.journal first.records;
+        read = first.read;
+        gap = has.gap;
+        longest = has.longest;
+        packets = has.packets;
+        place = has.last;
+        turn = subst (λ (p : Place). HasPlayedTurn p has.packets has.last)
+            (at_start s holds.agrees) has.turn;
+        printed = subst (λ n. is_printed
+            (inspection_text s server.view.journal.layout n has.gap has.packets)) first.count
+            has.printed;
+      }
+
+  -- so it inspects the disk
   pub inspects : (result : Result Unit Refusal)
       → ((s : Standing) → Holds server.view s (state server.disk) → (state new.disk).IsHonest
-      → OnOk result (HasInspected server.view.journal (place_in server s) s before after))
+      → OnOk result (HasInspected server.view.journal (place_in server s) s
+      (Appends before after)))
       → OnOk result (Inspects before after (state disk) (state new.disk))
   inspects (Err refusal) told = tt
   inspects (Ok done) told = record {
     still = still_all;
-    told = λ s honest all.
-        let was = reads.keeps.was_honest honest in
-        let first = opened was in
-        let holds = all_hold (state disk) (state server.disk) server.view s
-        (sound disk (opens.keeps.was_honest was)) all first was (sound server.disk was)
-        (opens.still was) going in
-        let has = told s holds honest in
-        record {
-          journal = with_records server.view.journal first.records;
-          read = first.read;
-          gap = has.gap;
-          longest = has.longest;
-          packets = has.packets;
-          place = has.last;
-          turn = subst (λ (p : Place). HasPlayedTurn p has.packets has.last)
-              (at_start s holds.agrees) has.turn;
-          printed = subst (λ n. Appends before after
-              (inspection_text s server.view.journal.layout n has.gap has.packets)) first.count
-              has.printed;
-        };
+    told = tells_of (Appends before after) told;
   }
 
   -- a fault of the telling stops the inspection, from the disk's opening on
   pub stops : (result : Result Unit Refusal)
+      → ((s : Standing) → Holds server.view s (state server.disk) → (state new.disk).IsHonest
+      → IfErr result (λ r. r ≡ WriteFault → HasInspected server.view.journal (place_in server s) s
+      (λ text. WritesFront text before after)))
       → IfErr result (λ r. IsInspectingFault r (state server.disk).failures
       (state new.disk).failures before after)
       → IfErr result (λ r. StopsInspecting r before after (state disk) (state new.disk))
-  stops (Ok done) why = tt
-  stops (Err refusal) (inl is) = unprinted is still_all
-  stops (Err refusal) (inr silent) = elim silent.0 [
-    | inl is ↦ uncounted is silent.1 still_all
-    | inr failed ↦ unread failed.0 (rises_later (state disk).failures (state server.disk).failures
-        (state new.disk).failures opens.keeps.later reads.keeps.later failed.1) silent.1 still_all
+  stops (Ok done) broken why = tt
+  stops (Err refusal) broken (inl is) =
+      unprinted is still_all
+      (tells_of (λ text. WritesFront text before after) (λ s holds honest. broken s holds honest
+      is))
+  stops (Err refusal) broken (inr silent) = elim silent.0 [
+    | inl counting ↦ elim counting [
+      | inl is ↦ uncounted is silent.1 still_all
+      | inr failed ↦ unread failed.0 (rises_later (state disk).failures
+          (state server.disk).failures (state new.disk).failures opens.keeps.later
+          reads.keeps.later failed.1) silent.1 still_all
+    ]
+    | inr is ↦ no_memory is silent.1 still_all
   ]

@@ -12,12 +12,13 @@ use Rattle.mot_journal.specs.declared.layout.Layout.{Layout}
 use Rattle.mot_numbers.specs.declared.geometry.Geometry.{Geometry}
 use Rattle.mot_numbers.specs.declared.refusal.Refusal.{Refusal}
 use Rattle.mot_numbers.specs.declared.refusal.Refusal.TheVariants.{BadNumber, DeviceFault}
-use Rattle.mot_numbers.specs.declared.refusal.Refusal.TheVariants.{WriteFault}
+use Rattle.mot_numbers.specs.declared.refusal.Refusal.TheVariants.{OutOfMemory, WriteFault}
 use Rattle.mot_objects.specs.Carousel.{Object}
 use Rattle.mot_player.specs.Place.{Place}
 use Rattle.mot_reading.specs.Opening.{IsUnopened, OfStanding, first_place}
 use Rattle.mot_repository.specs.Gap.{IsLongestGap}
 use Rattle.mot_server.specs.Playing.{HasPlayedTurn}
+use Rattle.mot_session.specs.Served.{WritesFront}
 
 -- a word and a number
 abbrev pub number_line : List ℕ → ℕ → List ℕ
@@ -82,8 +83,9 @@ inspection_text s layout records gap packets =
 -- In these the disk was in a state start and is in a state now, and the writer's known bytes were
 -- old and are new.
 
--- it was told of a disk of these bytes, which stands for s
-pub record TellsOfDisk (s : Standing) (bytes : List ℕ) (old new : Option (List ℕ)) : Type 0 where
+-- what was printed, of which this is known, tells of a disk of these bytes, which stands for s
+pub record TellsOfDisk (s : Standing) (bytes : List ℕ) (is_printed : List ℕ → Type 0) :
+    Type 0 where
   pub journal : DiskRecords
   pub read : records_of bytes ≡ Ok journal
   pub gap : ℕ
@@ -91,15 +93,15 @@ pub record TellsOfDisk (s : Standing) (bytes : List ℕ) (old new : Option (List
   pub packets : List (List ℕ)
   pub place : Place
   pub turn : HasPlayedTurn (first_place s) packets place
-  pub printed : Appends old new
-      (inspection_text s journal.layout (length journal.records) gap packets)
+  pub printed : is_printed (inspection_text s journal.layout (length journal.records) gap packets)
 
 -- the disk was only synced, and that was told of it
 pub record Inspects (old new : Option (List ℕ)) (start now : State) : Type 0 where
   pub still : now.IsHonest → IsStill start now
-  pub told : OfStanding (λ s. TellsOfDisk s start.bytes old new) start now
+  pub told : OfStanding (λ s. TellsOfDisk s start.bytes (Appends old new)) start now
 
--- why it could not be; the disk was only synced all the same
+-- Why it could not be; the disk was only synced all the same. If printing had begun, what was
+-- printed is a beginning of what is told.
 pub data StopsInspecting (refusal : Refusal) (old new : Option (List ℕ)) (start now : State) :
     Type 0 where
   unopened : IsUnopened refusal start now → Keeps old new
@@ -109,5 +111,8 @@ pub data StopsInspecting (refusal : Refusal) (old new : Option (List ℕ)) (star
   -- the turn has more packets than a number of 64 bits counts
   uncounted : refusal ≡ BadNumber → Keeps old new
       → (now.IsHonest → IsStill start now) → StopsInspecting refusal old new start now
+  no_memory : refusal ≡ OutOfMemory → Keeps old new
+      → (now.IsHonest → IsStill start now) → StopsInspecting refusal old new start now
   unprinted : refusal ≡ WriteFault → (now.IsHonest → IsStill start now)
+      → OfStanding (λ s. TellsOfDisk s start.bytes (λ text. WritesFront text old new)) start now
       → StopsInspecting refusal old new start now

@@ -1,5 +1,6 @@
 //! What is told of a disk's sizes, of what is free of them, and of its turn.
-ghost use Rattle.std.specs.Prelude.{◌≡◌, ◌≤◌, ◌<◌, ◌^◌, ℕ, IfErr, IfOk, IsFalse, OnOk, length};
+ghost use Rattle.std.specs.Prelude.{◌≡◌, ◌≤◌, ◌<◌, ◌^◌, ◌++◌, ℕ, IfErr, IfOk, IsFalse, OnOk};
+ghost use Rattle.std.specs.Prelude.{length};
 ghost use Rattle.std.specs.List.{sum_by};
 ghost use Rattle.std.specs.Io.KnownBytes.{Appends};
 ghost use Rattle.disk_model.specs.Disk.{KeepsLength, OnlyReads};
@@ -14,6 +15,7 @@ ghost use Rattle.mot_reading.specs.Inner.Inspected.{IsInspectingFault, IsTurnSiz
 ghost use Rattle.mot_repository.specs.Gap.{IsLongestGap};
 ghost use Rattle.mot_repository.specs.Repository.{Holds};
 ghost use Rattle.mot_server.specs.Server.{place_in};
+ghost use Rattle.mot_session.specs.Served.{WritesFront};
 
 use crate::Ended;
 use disk_model::Disk;
@@ -22,6 +24,7 @@ use mot_numbers::{Geometry, Refusal};
 use mot_objects::Object;
 use mot_player::Played;
 use mot_server::Server;
+use mot_session::write_whole;
 use std::alloc::Global;
 use std::io::Write;
 
@@ -45,7 +48,7 @@ pub fn inspect_disk<D: Disk, W: Write>(alloc: Global, disk: D, writer: &mut W) -
         Ok(server) => server,
         Err(refused) => return Ended::unopened(refused),
     };
-    let result = write_inspection(&mut server, writer);
+    let result = write_inspection(alloc, &mut server, writer);
     Ended {
         disk: server.into_disk(),
         result,
@@ -54,6 +57,7 @@ pub fn inspect_disk<D: Disk, W: Write>(alloc: Global, disk: D, writer: &mut W) -
 
 /// Writes what is told of an open server; all of it is known before the first byte.
 fn write_inspection<D: Disk, W: Write>(
+    alloc: Global,
     server: &mut Server<D>,
     writer: &mut W,
 ) -> Result<(), Refusal>
@@ -62,15 +66,55 @@ fn write_inspection<D: Disk, W: Write>(
     ensures told { (s : Standing) → Holds server.old.view s (D.state server.old.disk)
         → (D.state server.new.disk).IsHonest → OnOk result
         (HasInspected server.old.view.journal (place_in server.old s) s
-        (W.contents writer.old) (W.contents writer.new)) }
+        (Appends (W.contents writer.old) (W.contents writer.new))) }
+    ensures broken { (s : Standing) → Holds server.old.view s (D.state server.old.disk)
+        → (D.state server.new.disk).IsHonest → IfErr result (λ r. r ≡ WriteFault
+        → HasInspected server.old.view.journal (place_in server.old s) s
+        (λ text. WritesFront text (W.contents writer.old) (W.contents writer.new))) }
     ensures fault { IfErr result (λ r. IsInspectingFault r (D.state server.old.disk).failures
         (D.state server.new.disk).failures (W.contents writer.old) (W.contents writer.new)) }
 {
     let TurnSize { packets, bytes } = count_turn(server)?;
-    write_sizes(writer, &server.geometry())?;
-    write_use(writer, server)?;
-    write_turn(writer, packets, bytes)?;
-    write_rates(writer, bytes)?;
+    let mut text = Vec::new(alloc);
+    let Ok(()) = tell(server, packets, bytes, &mut text) else {
+        return Err(Refusal::OutOfMemory);
+    };
+    print(writer, &text)
+}
+
+/// Adds what is told of an open server, of whose turn these are the packets and bytes.
+fn tell<D: Disk>(
+    server: &Server<D>,
+    packets: u64,
+    bytes: u128,
+    text: &mut Vec<u8>,
+) -> Result<(), Refusal>
+    requires { bytes < 2 ^ 72 }
+    ensures { OnOk result ((gap : ℕ) × IsLongestGap server.now.view.extents
+        server.now.view.journal.geometry.data_area gap
+        × (text.new.items ≡ text.old.items ++ (sizes_text server.now.view.journal.geometry
+        ++ use_text server.now.view.journal.geometry server.now.view.journal.layout
+        (length server.now.view.carousel.objects.items)
+        (sum_by (λ (o : Object). o.length) server.now.view.carousel.objects.items)
+        gap server.now.view.journal.count
+        ++ turn_text packets bytes ++ rates_text bytes))) }
+{
+    write_sizes(text, &server.geometry())?;
+    write_use(text, server)?;
+    write_turn(text, packets, bytes)?;
+    write_rates(text, bytes)
+}
+
+/// Prints the text, and hands it on; after a fault some first bytes of it were printed.
+fn print<W: Write>(writer: &mut W, text: &[u8]) -> Result<(), Refusal>
+    ensures written { OnOk result (Appends (W.contents writer.old) (W.contents writer.new)
+        text.now) }
+    ensures front { IfErr result (λ r. (r ≡ WriteFault)
+        × WritesFront text.now (W.contents writer.old) (W.contents writer.new)) }
+{
+    let Ok(()) = write_whole(writer, text) else {
+        return Err(Refusal::WriteFault);
+    };
     match writer.flush() {
         Ok(()) => Ok(()),
         Err(_) => Err(Refusal::WriteFault),

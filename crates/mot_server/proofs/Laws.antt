@@ -7,6 +7,8 @@ pub use Rattle.mot_server.proofs.Survival.{after_history_none}
 -- what was left of a disk that was formatted here
 pub use Rattle.mot_server.proofs.Lives.{plays_after, plays_new, none_or_left, unopened}
 pub use Rattle.mot_server.proofs.Survival.{passing, if_err}
+-- why a command is refused on a disk of layout 2
+pub use Rattle.mot_server.proofs.Marked.{IsRefused, refused_by}
 -- calls that change nothing, one after the other
 pub use Rattle.mot_server.proofs.Read.{holds_still, rises_on}
 pub use Rattle.mot_server.proofs.Openings.{still_unchanged}

@@ -15,6 +15,7 @@ pub mod ReadRefusals
 pub mod Room
 pub mod RunAnswered
 pub mod Runs
+pub mod Sizes
 pub mod Survival
 pub mod Turns
 pub mod Whole

@@ -4,10 +4,11 @@ use Rattle.std.proofs.Common.{◌∷◌, Option, Some, None, Result, Ok, Err, re
 use Rattle.std.proofs.Common.{arith, map}
 use Rattle.std.proofs.lemmas.Bool.{and_from, le-leb, ltb-true, or_left}
 use Rattle.std.specs.List.{list_any}
-use Rattle.std.specs.Prelude.{◌<◌, ◌++◌, length, nat_le, if◌then◌else◌}
+use Rattle.std.specs.Prelude.{◌<◌, ◌++◌, All, length, nat_le, if◌then◌else◌}
 use Rattle.mot_journal.specs.declared.layout.Layout.{Layout}
 use Rattle.mot_journal.specs.declared.layout.Layout.TheVariants.{Two}
-use Rattle.mot_journal.specs.Image.{Standing}
+use Rattle.mot_journal.specs.Catalogue.{result_then}
+use Rattle.mot_journal.specs.Image.{Standing, stands_for}
 use Rattle.mot_numbers.specs.declared.geometry.Geometry.{Geometry}
 use Rattle.mot_numbers.specs.declared.refusal.Refusal.{Refusal}
 use Rattle.mot_objects.specs.declared.command.Command.{Command}
@@ -18,13 +19,16 @@ use Rattle.mot_objects.specs.Carousel.{change_if_named, free_object_id, has_name
 use Rattle.mot_objects.specs.Carousel.{objects_with, objects_without, renewed_object}
 use Rattle.mot_objects.specs.Content.{ContentNumbers}
 use Rattle.mot_objects.specs.declared.name.TheConstants.{MAX_NAME}
-use Rattle.mot_numbers.specs.declared.refusal.Refusal.TheVariants.{NameTaken, TooManyObjects}
+use Rattle.mot_numbers.specs.declared.refusal.Refusal.TheVariants.{BadName, NameTaken, NoRoom}
+use Rattle.mot_numbers.specs.declared.refusal.Refusal.TheVariants.{TooManyObjects}
 use Rattle.mot_journal.specs.Journal.{standing_from}
 use Rattle.mot_repository.specs.Gap.{first_free, is_free, least_gap}
-use Rattle.mot_repository.specs.Outcome.{after_command, extents_after, has_long_name, start_of}
+use Rattle.mot_repository.specs.Outcome.{after_command, extents_after, has_long_name, or_no_room}
+use Rattle.mot_repository.specs.Outcome.{start_of}
 use Rattle.mot_repository.proofs.Laws.{IsAccepted, accepted_of, accepted_parts}
 use Rattle.mot_server.specs.Life.{AreMarksOf, LacksRoom, MayLackRoom, carousel_from}
 use Rattle.mot_server.proofs.Room.{AreAsLong, full, long-put, long-with, long-without, total-long}
+use Rattle.mot_server.proofs.Sizes.{long_standing}
 use Rattle.mot_server.specs.Marks.{AreMarks}
 
 nothing-met : (extents : List (ℕ × ℕ)) → is_free extents 0 0 ≡ true
@@ -237,3 +241,59 @@ pub marks_of_carousel : (layout : Layout) (g : Geometry) (first : ℕ) (commands
 marks_of_carousel layout g first commands marks last is so =
     marks_two (standing_from g first) commands marks last refl
     (subst (λ l. AreMarks l (standing_from g first) commands marks last) is so)
+
+-- ---- why a command is refused on a disk of that layout
+
+-- Why a command with a name that is not too long is refused: for the rules' reason; or they accept
+-- it, and there is no room for what it brings.
+abbrev pub IsRefused : Standing → Command → Refusal → Type 0
+IsRefused s command refusal =
+    (change s.carousel s.geometry.objects command ≡ Err refusal)
+    ⊎ ((made : Carousel × Done) × (change s.carousel s.geometry.objects command ≡ Ok made)
+    × (refusal ≡ NoRoom) × LacksRoom s.geometry.data_area s.carousel.objects command)
+
+module _ (s : Standing) (command : Command) where
+  abbrev parts : Bool → Result (Carousel × Done) Refusal → Option ℕ
+      → Result (Standing × Done) Refusal
+  parts long rules lies =
+      if long then Err BadName
+      else (result_then rules (λ made. result_then (or_no_room lies) (λ start.
+      Ok (
+        record s {
+          carousel = made.0;
+          extents = extents_after (map (λ (o : Object). o.name) s.carousel.objects) s.extents
+              command
+              start;
+        },
+        made.1,
+      ))))
+
+  abbrev ruled : Result (Carousel × Done) Refusal
+  ruled = change s.carousel s.geometry.objects command
+
+  abbrev lying : Option ℕ
+  lying = start_of s.extents s.geometry.data_area command
+
+  by-parts : after_command Two s command ≡ parts (has_long_name Two command) ruled lying
+  unfolding after_command
+  by-parts = refl
+
+  refused-cases : (refusal : Refusal) → AreAsLong s.extents s.carousel.objects
+      → (r : Result (Carousel × Done) Refusal) (o : Option ℕ) → ruled ≡ r → lying ≡ o
+      → parts false r o ≡ Err refusal → IsRefused s command refusal
+  refused-cases refusal sizes (Err x) o is at e = let same : x ≡ refusal = cc in
+      inl (subst (λ y. ruled ≡ Err y) same is)
+  refused-cases refusal sizes (Ok made) None is at e =
+      let same : NoRoom ≡ refusal = cc in
+      inr (made, is, sym same, no_room s command sizes at)
+  refused-cases refusal sizes (Ok made) (Some start) is at e = cc
+
+pub refused_by : (image : List ℕ) (s : Standing) (command : Command) (refusal : Refusal)
+    → All (λ b. b < 256) image → stands_for image ≡ Ok s → has_long_name Two command ≡ false
+    → after_command Two s command ≡ Err refusal → IsRefused s command refusal
+refused_by image s command refusal bytes stands short e =
+    refused-cases s command refusal (long_standing image s bytes stands)
+    (change s.carousel s.geometry.objects command)
+    (start_of s.extents s.geometry.data_area command) refl refl
+    (ap (λ b. parts s command b (ruled s command) (lying s command)) (sym short)
+    ∙ sym (by-parts s command) ∙ e)

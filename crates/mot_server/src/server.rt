@@ -1,13 +1,14 @@
 //! The server: a repository, and a player of what it keeps.
 ghost use Rattle.std.specs.Prelude.{◌≡◌, ◌<◌, ◌≤◌, ◌↔◌, ℕ, List, true, false, Ok, OnOk, OnErr};
-ghost use Rattle.std.specs.Prelude.{◌+◌, ◌⊎◌, length, slice_range, vec_len, IfOk, IfErr, IsTrue};
-ghost use Rattle.std.specs.Prelude.{IsFalse, MatchResult};
+ghost use Rattle.std.specs.Prelude.{◌+◌, ◌^◌, ◌⊎◌, length, slice_range, vec_len, IfOk, IfErr};
+ghost use Rattle.std.specs.Prelude.{IsFalse, IsTrue, MatchResult};
 ghost use Rattle.disk_model.specs.Disk.{Keeps, Costs, OnlyReads, OnlySyncs};
 ghost use Rattle.disk_model.specs.Disk.{Throughout};
 ghost use Rattle.mot_journal.specs.Image as journal;
 ghost use Rattle.mot_numbers.specs.declared.refusal.Refusal.TheVariants.{DeviceFault};
 ghost use Rattle.mot_numbers.specs.Geometry.{packet_room};
-ghost use Rattle.mot_player.specs.Place.{change_turn, opened_place};
+ghost use Rattle.mot_player.specs.Place.{change_turn, directory_packets, hear_directory};
+ghost use Rattle.mot_player.specs.Place.{opened_place};
 ghost use Rattle.mot_player.specs.Turn.{turn_of_carousel};
 ghost use Rattle.mot_repository.specs.OnDisk.{extent_at};
 ghost use Rattle.mot_repository.specs.Outcome.{after_command};
@@ -216,6 +217,26 @@ impl<D: Disk> Server<D> {
         let done = self.bodies.repository.commit(prepared)?;
         self.player.changed(turn);
         Ok(done)
+    }
+
+    /// The whole directory comes behind the group under way, and then the turn goes on; where a
+    /// turn begins next anyhow, nothing changes. It takes no memory, and nothing of the disk.
+    pub fn hear_directory(&mut self)
+        ensures disk { self.new.disk ≡ self.old.disk }
+        ensures view { self.new.view ≡ self.old.view }
+        ensures place { (s : journal.Standing) → Agrees self.old.view s
+            → place_in self.new s ≡ hear_directory (place_in self.old s) }
+    {
+        self.player.hear_directory();
+    }
+
+    /// How many packets the turn's directory takes.
+    pub fn directory_packets(&self) -> usize
+        ensures value { (s : journal.Standing)
+            → result ≡ directory_packets (place_in self.now s) }
+        ensures few { result < 2 ^ 32 }
+    {
+        self.player.directory_packets()
     }
 
     /// The next packet by the order of sending. It takes no memory. Its refusals are `DeviceFault`
@@ -474,7 +495,8 @@ impl<D: Disk> Server<D> {
     /// The size of the segments that it plays.
     fn segment_size(&self) -> SegmentSize
         ensures value { result ≡ self.now.player.segment_size }
-        ensures plays { PlaysCarousel self.now.view.carousel self.now.view.journal.geometry.segment_size
+        ensures plays { PlaysCarousel self.now.view.carousel
+            self.now.view.journal.geometry.segment_size
             self.now.player }
         ensures place { (bodies : List (List ℕ)) → AreBodiesFor self.now.player.turn bodies
             → IsPlace (place_of self.now.player bodies) }

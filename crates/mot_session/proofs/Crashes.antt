@@ -33,7 +33,7 @@ module _ (before : ServerState) (x : Exchange) where
       subst (λ l. IsAfter before.standing l x.after.standing) (sym is)
       (after_one before.layout before.standing [] before.standing x.after.standing c d
       (after_none before.standing) step)
-  made (halts none going is standing) =
+  made (halts none going is standing rises) =
       subst (λ l. IsAfter before.standing l x.after.standing) (sym none)
       (subst (λ s. IsAfter before.standing [] s) (sym standing) (after_none before.standing))
 
@@ -42,14 +42,14 @@ module _ (before : ServerState) (x : Exchange) where
       → IsTrue x.after.halted
   halted-on (nothing none fine standing same) is = same ∙ is
   halted-on (one c d e fine going same step) is = absurd (not_halted before.halted is going)
-  halted-on (halts none going so standing) is = so
+  halted-on (halts none going so standing rises) is = so
 
   -- where it is not halted behind a line, no command of the line failed
   none_failed : Outcome before x.after (accepted_in x) (failed_in x) → IsFalse x.after.halted
       → failed_in x ≡ []
   none_failed (nothing none fine standing same) going = fine
   none_failed (one c d e fine was same step) going = fine
-  none_failed (halts none was so standing) going = absurd (not_halted x.after.halted so going)
+  none_failed (halts none was so standing rises) going = absurd (not_halted x.after.halted so going)
 
   outcome_of : Answers before (line_of x.line) x.reply x.after
       → Outcome before x.after (accepted_in x) (failed_in x)
@@ -128,7 +128,7 @@ module _ (start now : State) (between : ServerState) (x : Exchange)
       → (accepted_in x ≡ []) × (failed_in x ≡ []) × (x.after.standing ≡ between.standing)
   nothing_done (nothing none fails standing same) is = (none, fails, standing)
   nothing_done (one c d e fails going same step) is = absurd (not_halted between.halted is going)
-  nothing_done (halts none going so standing) is = absurd (not_halted between.halted is going)
+  nothing_done (halts none going so standing rises) is = absurd (not_halted between.halted is going)
 
   module _ (u : ServerState) (done : List Command) (early : u.moment ≤ start.moment)
       (after : IsAfter u.standing done between.standing) where
@@ -208,7 +208,7 @@ module _ (start now : State) (between : ServerState) (x : Exchange)
           absurd (not_halted x.after.halted is (same ∙ was))
       halting (one c d e fails going same step) was is image so =
           absurd (not_halted x.after.halted is (same ∙ was))
-      halting (halts none going h standing) was is image so =
+      halting (halts none going h standing rises) was is image so =
           subst (λ s. StandsAfterSome s [] (failed ++ failed_in x) image) (sym standing)
           (subst (λ l. StandsAfterSome between.standing [] (l ++ failed_in x) image)
           (sym (fine was))

@@ -17,6 +17,7 @@ pub mod Packets
 pub mod Replies
 pub mod Requests
 pub mod Rows
+pub mod Ruled
 pub mod Runs
 pub mod SessionLaws
 pub mod Shown

@@ -10,7 +10,9 @@ use Rattle.std.specs.Io.KnownBytes.{Appends, IsAtEnd, Keeps}
 use Rattle.std.specs.List.{AllByRecursion, flat_map}
 use Rattle.std.specs.Prelude.{IsTrue, IsFalse, IfOk, if◌then◌else◌}
 use Rattle.disk_model.specs.Disk.{State, IsHonestDisk, IsUnchanged, Throughout}
+use Rattle.disk_model.specs.Failures.{Rises}
 use Rattle.mot_journal.specs.Geometry.{has_magic}
+use Rattle.mot_journal.specs.declared.layout.Layout.TheVariants.{Two}
 use Rattle.mot_journal.specs.Image.{Standing}
 use Rattle.mot_journal.specs.Journal.{NoneOrFrom, standing_from}
 use Rattle.mot_lines.specs.declared.line.Line.{Line}
@@ -24,14 +26,16 @@ use Rattle.mot_numbers.specs.declared.refusal.Refusal.TheVariants.{WriteFault}
 use Rattle.mot_objects.specs.declared.command.Command as command
 use Rattle.mot_player.specs.Reading.{ReadsAs}
 use Rattle.mot_repository.specs.Repository.{IsOf, Holds}
-use Rattle.mot_server.specs.Life.{AreNumbered, PlaysAfter}
+use Rattle.mot_objects.specs.Carousel.{Carousel, carousel_after}
+use Rattle.mot_server.specs.Life.{AreNumbered, PlaysAfter, carousel_from}
 use Rattle.mot_server.specs.Runs.{IsAfter, StandsAfterSome}
 use Rattle.mot_server.specs.Server.{ServerView}
-use Rattle.mot_server.proofs.Laws.{more, none_of, not_halted, plays_after, plays_new}
+use Rattle.mot_server.proofs.Laws.{more, none_of, not_halted, plays_after, plays_new, rises_on}
 use Rattle.mot_server.specs.Lives.{HasDone, LivesOn}
 use Rattle.mot_session.specs.Inner.Kept.{IsKeptFrom}
-use Rattle.mot_session.specs.Life.{Told, commands_done, commands_failing, done_in}
-use Rattle.mot_session.specs.Life.{failing_in, IsReply, Tells, is_done}
+use Rattle.mot_session.specs.Life.{Told, commands_done, done_in}
+use Rattle.mot_session.specs.Life.{AreRight, fails_in, Tells, is_done}
+use Rattle.mot_session.specs.Replies.{IsReply}
 use Rattle.mot_objects.specs.Rules.{AllKeepRules}
 use Rattle.mot_repository.proofs.Laws.{rules_kept}
 use Rattle.mot_session.specs.LineByLine.{BreaksOff, ServesEach, ServesOne, ServesSome}
@@ -44,10 +48,16 @@ use Rattle.mot_session.specs.Stored.{failed_in}
 use Rattle.mot_session.specs.Stored.{is_accepting, is_failing}
 use Rattle.mot_session.proofs.Crashes.{halted_or_not}
 use Rattle.mot_session.proofs.Outcomes.{Outcome, nothing, one, halts, begun_outcome, outcome}
+use Rattle.mot_session.proofs.Ruled.{HasImage, carousel_at, layout_stays, line-short, right_more}
+use Rattle.mot_session.proofs.Ruled.{right_reply}
 use Rattle.mot_session.proofs.Shown.{begun, front_begun, replied}
 use Rattle.mot_session.proofs.Telling.{done_of_front, done_told, failing_told, sure_flight}
 use Rattle.mot_session.proofs.Telling as telling
 use Rattle.mot_session.proofs.Told.{less_of_sure}
+
+-- the commands that were told to have failed
+abbrev pub commands_failing : List Told → List command.Command
+commands_failing told = flat_map fails_in told
 
 -- what a crash now leaves, where these commands are sure and those may be there besides
 pub record At (s : Standing) (now : State) (is_halted : Bool) (sure early : List command.Command) :
@@ -122,17 +132,17 @@ module _ (s : Standing) (start now : State) (before : ServerState) (x : Exchange
       × (x.after.standing ≡ before.standing) × IsTrue x.after.halted
   quiet (nothing none fine standing same) is = (none, fine, standing, same ∙ is)
   quiet (one c d e fine going same step) is = absurd (not_halted before.halted is going)
-  quiet (halts none going so standing) is = absurd (not_halted before.halted is going)
+  quiet (halts none going so standing rises) is = absurd (not_halted before.halted is going)
 
   fine_behind : Told-Outcome → IsFalse x.after.halted → failed_in x ≡ []
   fine_behind (nothing none fine standing same) going = fine
   fine_behind (one c d e fine was same step) going = fine
-  fine_behind (halts none was so standing) going = absurd (not_halted x.after.halted so going)
+  fine_behind (halts none was so standing rises) going = absurd (not_halted x.after.halted so going)
 
   stops_of : Told-Outcome → (failed_in x ≡ []) ⊎ ((accepted_in x ≡ []) × IsTrue x.after.halted)
   stops_of (nothing none fine standing same) = inl fine
   stops_of (one c d e fine was same step) = inl fine
-  stops_of (halts none was so standing) = inr (none, so)
+  stops_of (halts none was so standing rises) = inr (none, so)
 
   few_done : length (accepted_in x) ≤ 1
   few_done = few_if (is_accepting x.reply) (line_of x.line)
@@ -285,51 +295,51 @@ module _ (s : Standing) (now old mid : State) (was is : Bool) (standing : Standi
   -- one line, and those behind it
   module _ (x : Told) (next : List command.Command) (told : List Told)
       (flight : List command.Command)
-      (step : Step s old mid was is standing sure early (done_in x) (failing_in x))
-      (rest : Kept s now mid is (sure ++ done_in x) (early ++ failing_in x) next told flight) where
+      (step : Step s old mid was is standing sure early (done_in x) (fails_in x))
+      (rest : Kept s now mid is (sure ++ done_in x) (early ++ fails_in x) next told flight) where
     was_going : IsFalse is → IsFalse was
     was_going going = ⊎_elim (λ h. absurd (not_halted is (step.halted h).0 going)) (λ g. g)
         (halted_or_not was)
 
-    none_failing : IsFalse is → failing_in x ≡ []
+    none_failing : IsFalse is → fails_in x ≡ []
     none_failing going =
-        subst (λ l. l ++ failing_in x ≡ []) (at.going (was_going going)) (step.going going)
+        subst (λ l. l ++ fails_in x ≡ []) (at.going (was_going going)) (step.going going)
 
-    in_order : failing_in x ≡ [] → (done_in x ++ commands_done told) ++ (failing_in x ++ flight)
+    in_order : fails_in x ≡ [] → (done_in x ++ commands_done told) ++ (fails_in x ++ flight)
         ≡ done_in x ++ (commands_done told ++ flight)
     in_order none = ap (λ l. (done_in x ++ commands_done told) ++ (l ++ flight)) none
         ∙ append_assoc (done_in x) (commands_done told) flight
 
     -- an image that came with the line
-    wide : (image : List ℕ) → StandsAfterSome s sure (done_in x ++ failing_in x) image
+    wide : (image : List ℕ) → StandsAfterSome s sure (done_in x ++ fails_in x) image
         → StandsAfterSome s sure
-        ((done_in x ++ commands_done told) ++ (failing_in x ++ flight)) image
+        ((done_in x ++ commands_done told) ++ (fails_in x ++ flight)) image
     wide image came = ⊎_elim
         {C = StandsAfterSome s sure
-        ((done_in x ++ commands_done told) ++ (failing_in x ++ flight)) image}
+        ((done_in x ++ commands_done told) ++ (fails_in x ++ flight)) image}
         (λ none. subst (λ l. StandsAfterSome s sure l image) (sym (in_order none))
         (more s sure (done_in x) (commands_done told ++ flight) image
         (subst (λ l. StandsAfterSome s sure l image)
         (ap (λ l. done_in x ++ l) none ∙ append-nil (done_in x)) came)))
         (λ stop. let none = rest.halted stop.1 in
         subst (λ l. StandsAfterSome s sure l image)
-        (sym (ap (λ l. (done_in x ++ l) ++ (failing_in x ++ flight)) none.0
-        ∙ ap (λ l. (done_in x ++ []) ++ (failing_in x ++ l)) none.1
-        ∙ ap (λ l. l ++ (failing_in x ++ [])) (append-nil (done_in x))
-        ∙ ap (λ l. done_in x ++ l) (append-nil (failing_in x)))) came)
+        (sym (ap (λ l. (done_in x ++ l) ++ (fails_in x ++ flight)) none.0
+        ∙ ap (λ l. (done_in x ++ []) ++ (fails_in x ++ l)) none.1
+        ∙ ap (λ l. l ++ (fails_in x ++ [])) (append-nil (done_in x))
+        ∙ ap (λ l. done_in x ++ l) (append-nil (fails_in x)))) came)
         step.stops
 
     -- one that came behind it
-    far : (image : List ℕ) → failing_in x ≡ []
+    far : (image : List ℕ) → fails_in x ≡ []
         → StandsAfterSome s (sure ++ done_in x) (commands_done told ++ flight) image
         → StandsAfterSome s sure
-        ((done_in x ++ commands_done told) ++ (failing_in x ++ flight)) image
+        ((done_in x ++ commands_done told) ++ (fails_in x ++ flight)) image
     far image none came = subst (λ l. StandsAfterSome s sure l image) (sym (in_order none))
         (less_of_sure s sure (done_in x) (commands_done told ++ flight) image came)
 
     abbrev Comes : ℕ → List ℕ → Type 0
     Comes t image = old.LeftSince t image ⊎ (IsFalse was × StandsAfterSome s sure
-        ((done_in x ++ commands_done told) ++ (failing_in x ++ flight)) image)
+        ((done_in x ++ commands_done told) ++ (fails_in x ++ flight)) image)
 
     comes : (t : ℕ) (image : List ℕ) → t ≤ old.moment → now.LeftSince t image → Comes t image
     comes t image le left =
@@ -342,46 +352,46 @@ module _ (s : Standing) (now old mid : State) (was is : Bool) (standing : Standi
 
     -- since the moment before the line
     here : (image : List ℕ) → now.LeftSince old.moment image → StandsAfterSome s sure
-        ((done_in x ++ commands_done told) ++ (early ++ (failing_in x ++ flight))) image
+        ((done_in x ++ commands_done told) ++ (early ++ (fails_in x ++ flight))) image
     here image left = ⊎_elim
         {C = StandsAfterSome s sure
-        ((done_in x ++ commands_done told) ++ (early ++ (failing_in x ++ flight))) image}
+        ((done_in x ++ commands_done told) ++ (early ++ (fails_in x ++ flight))) image}
         (λ o. ⊎_elim
         {C = StandsAfterSome s sure
-        ((done_in x ++ commands_done told) ++ (early ++ (failing_in x ++ flight))) image}
+        ((done_in x ++ commands_done told) ++ (early ++ (fails_in x ++ flight))) image}
         (λ h. let none = step.halted h in
         let others = rest.halted none.0 in
         subst (λ l. StandsAfterSome s sure l image)
-        (sym (ap (λ l. (l ++ commands_done told) ++ (early ++ (failing_in x ++ flight))) none.1
-        ∙ ap (λ l. l ++ (early ++ (failing_in x ++ flight))) others.0
+        (sym (ap (λ l. (l ++ commands_done told) ++ (early ++ (fails_in x ++ flight))) none.1
+        ∙ ap (λ l. l ++ (early ++ (fails_in x ++ flight))) others.0
         ∙ ap (λ l. early ++ (l ++ flight)) none.2
         ∙ ap (λ l. early ++ l) others.1 ∙ append-nil early))
         (at.leaves image (sound_old.only_now image o)))
         (λ g. more s sure []
-        ((done_in x ++ commands_done told) ++ (early ++ (failing_in x ++ flight))) image
+        ((done_in x ++ commands_done told) ++ (early ++ (fails_in x ++ flight))) image
         (subst (λ l. StandsAfterSome s sure l image) (at.going g)
         (at.leaves image (sound_old.only_now image o))))
         (halted_or_not was))
         (λ came. subst (λ l. StandsAfterSome s sure
-        ((done_in x ++ commands_done told) ++ (l ++ (failing_in x ++ flight))) image)
+        ((done_in x ++ commands_done told) ++ (l ++ (fails_in x ++ flight))) image)
         (sym (at.going came.0)) came.1)
         (comes old.moment image (omega arith) left)
 
     abbrev Which : Type 0
-    Which = (failing_in x ++ flight ≡ failing_in x ++ commands_failing told)
-        ⊎ ((failing_in x ++ commands_failing told ≡ []) × (failing_in x ++ flight ≡ next))
+    Which = (fails_in x ++ flight ≡ fails_in x ++ commands_failing told)
+        ⊎ ((fails_in x ++ commands_failing told ≡ []) × (fails_in x ++ flight ≡ next))
 
     which_is : Which
-    which_is = ⊎_elim {C = Which} (λ same. inl (ap (λ l. failing_in x ++ l) same))
+    which_is = ⊎_elim {C = Which} (λ same. inl (ap (λ l. fails_in x ++ l) same))
         (λ other. ⊎_elim {C = Which}
         (λ none. inr (
           ap (λ l. l ++ commands_failing told) none ∙ other.0,
           ap (λ l. l ++ flight) none ∙ other.1,
         ))
-        (λ stop. inl (ap (λ l. failing_in x ++ l) ((rest.halted stop.1).1 ∙ sym other.0)))
+        (λ stop. inl (ap (λ l. fails_in x ++ l) ((rest.halted stop.1).1 ∙ sym other.0)))
         step.stops) rest.which
 
-    kept_more : Kept s now old was sure early next (x ∷ told) (failing_in x ++ flight)
+    kept_more : Kept s now old was sure early next (x ∷ told) (fails_in x ++ flight)
     unfolding IsKeptFrom
     kept_more = record {
       before = comes;
@@ -390,21 +400,51 @@ module _ (s : Standing) (now old mid : State) (was is : Bool) (standing : Standi
         mid.moment,
         step.later,
         subst (λ l. IsKeptFrom (λ t sure others. HoldsSince now t s sure others) mid.moment
-            (sure ++ done_in x) told l) (append_assoc early (failing_in x) flight) rest.since,
+            (sure ++ done_in x) told l) (append_assoc early (fails_in x) flight) rest.since,
       );
       at_end = λ image left.
-          subst (λ l. StandsAfterSome s l (early ++ (failing_in x ++ flight)) image)
+          subst (λ l. StandsAfterSome s l (early ++ (fails_in x ++ flight)) image)
           (append_assoc sure (done_in x) (commands_done told))
           (subst (λ l. StandsAfterSome s ((sure ++ done_in x) ++ commands_done told) l image)
-          (append_assoc early (failing_in x) flight) (rest.at_end image left));
+          (append_assoc early (fails_in x) flight) (rest.at_end image left));
       halted = λ h. let none = step.halted h in
           let others = rest.halted none.0 in (
             ap (λ l. l ++ commands_done told) none.1 ∙ others.0,
             ap (λ l. l ++ flight) none.2 ∙ others.1,
           );
-      few = subst (λ l. length l ≤ 1) (append_assoc early (failing_in x) flight) rest.few;
+      few = subst (λ l. length l ≤ 1) (append_assoc early (fails_in x) flight) rest.few;
       which = which_is;
     }
+
+-- ---- commands that are told to have failed
+
+-- a line's command failed only on a disk that did
+pub line_failed : (before after : ServerState) (done failed : List command.Command)
+    → Outcome before after done failed → (failed ≡ []) ⊎ Rises before.failures after.failures
+line_failed before after done failed (nothing none fine standing same) = inl fine
+line_failed before after done failed (one c d is fine was same step) = inl fine
+line_failed before after done failed (halts none was so standing rises) = inr rises
+
+-- so often the disk had failed before lines and behind them, and where it did not in between none
+-- of their commands is told to have failed
+pub record FailsSo (before now : ℕ) (told : List Told) : Type 0 where
+  pub later : before ≤ now
+  pub cause : (commands_failing told ≡ []) ⊎ Rises before now
+
+rises-later : (before mid now : ℕ) → mid ≤ now → Rises before mid → Rises before now
+rises-later before mid now le (inl less) = inl (omega (arith, le, less))
+rises-later before mid now le (inr most) = inr most
+
+fails_more : (before mid now : ℕ) (t : Told) (told : List Told) → before ≤ mid
+    → (fails_in t ≡ []) ⊎ Rises before mid → FailsSo mid now told → FailsSo before now (t ∷ told)
+fails_more before mid now t told le line rest = record {
+  later = let later = rest.later in omega (arith, le, later);
+  cause = ⊎_elim {C = (commands_failing (t ∷ told) ≡ []) ⊎ Rises before now}
+      (λ none. ⊎_elim {C = (commands_failing (t ∷ told) ≡ []) ⊎ Rises before now}
+      (λ others. inl (ap (λ l. l ++ commands_failing told) none ∙ others))
+      (λ rises. inr (rises_on before mid now le rest.later rises)) rest.cause)
+      (λ rises. inr (rises-later before mid now rest.later rises)) line;
+}
 
 -- ---- lines that were served, from a server to a server
 
@@ -443,6 +483,9 @@ module _ {D : Type 0} (state : D → State)
       × AllByRecursion (λ (t : Told). IsReply s.geometry (line_of t.line) t.text) told
       × (front : List ℕ) × Begun front
       × (IsTrue (is_done front) → IsFalse old.view.halted × (flight ≡ next))
+      × (old.view.journal.layout ≡ Two
+      → AreRight s.geometry (carousel_at (state_of old standing (state old.disk))) told)
+      × FailsSo (state old.disk).failures last.failures told
 
   -- what a server that stands for this keeps has objects by the rules
   pub rules_of : (server : ServerView D) (standing : Standing) → (state server.disk).IsHonest
@@ -453,6 +496,18 @@ module _ {D : Type 0} (state : D → State)
       let so = sound server.disk honest in
       rules_kept now.bytes standing (so.images now.bytes so.bytes).are_bytes
       ((stands.holds going).each now.bytes so.bytes).stands
+
+  -- and it is what an image has
+  pub image_of : (server : ServerView D) (standing : Standing) → (state server.disk).IsHonest
+      → StandsFor server.view standing (state server.disk) → IsFalse server.view.halted
+      → HasImage standing
+  image_of server standing honest stands going =
+      let now = state server.disk in
+      let so = sound server.disk honest in (
+        now.bytes,
+        (so.images now.bytes so.bytes).are_bytes,
+        ((stands.holds going).each now.bytes so.bytes).stands,
+      )
 
   pub kept_here : (server : ServerView D) (known : Option (List ℕ)) → (state server.disk).IsHonest
       → KeptFrom (state server.disk) [] (λ front. front ≡ []) server [] known known
@@ -466,6 +521,8 @@ module _ {D : Type 0} (state : D → State)
     [],
     refl,
     λ so. let e : false ≡ true = so in cc,
+    λ two. tt,
+    record { later = omega arith; cause = inl refl },
   )
 
   module _ (old mid : ServerView D) (line : List ℕ) (written between : Option (List ℕ))
@@ -488,15 +545,15 @@ module _ {D : Type 0} (state : D → State)
         let told_done = done_told (line_of line) before behind served.reply served.answers in
         let told_failing = failing_told (line_of line) before behind served.reply served.answers in
         let step : Step s (state old.disk) (state mid.disk) old.view.halted mid.view.halted led.0
-        sure early (done_in t) (failing_in t) =
+        sure early (done_in t) (fails_in t) =
         subst (λ l. Step s (state old.disk) (state mid.disk) old.view.halted mid.view.halted led.0
         sure early (done_in t) l) (sym told_failing)
         (subst (λ l. Step s (state old.disk) (state mid.disk) old.view.halted mid.view.halted led.0
         sure early l (failed_in x)) (sym told_done) made) in
-        let others = rest led.0 (sure ++ done_in t) (early ++ failing_in t) led.1 step.after
+        let others = rest led.0 (sure ++ done_in t) (early ++ fails_in t) led.1 step.after
         (record { leaves = step.leaves; going = step.going; few = step.few }) in (
           t ∷ others.0,
-          failing_in t ++ others.1,
+          fails_in t ++ others.1,
           line_more line others.0 lines others.2,
           Appends-trans written between now (text_of served.reply)
               (flat_map (λ (u : Told). u.text) others.0) served.appended others.3,
@@ -518,6 +575,19 @@ module _ {D : Type 0} (state : D → State)
                     others.4 is.0,
                 ap (λ l. l ++ others.1) none ∙ is.1,
               ),
+          λ two. right_more before behind two s.geometry after.geometry line (text_of served.reply)
+              others.0 (carousel_at before) (carousel_at behind)
+              (right_reply before behind two (line_of line) served.reply (line-short line)
+              (image_of old standing was_honest stands) (rules_of old standing was_honest stands)
+              served.answers)
+              (others.9 (layout_stays before behind two (line_of line) served.reply served.answers
+              ∙ two)),
+          fails_more (state old.disk).failures (state mid.disk).failures last.failures t others.0
+              one_line.goes.keeps.later
+              (subst (λ l. (l ≡ []) ⊎ Rises (state old.disk).failures (state mid.disk).failures)
+              (sym told_failing)
+              (line_failed before behind (accepted_in x) (failed_in x)
+              (outcome before behind (line_of line) served.reply served.answers))) others.10,
         )
 
   pub kept_each : (last : State) (next : List command.Command) (Begun : List ℕ → Type 0)
@@ -582,6 +652,8 @@ module _ {D : Type 0} (state : D → State)
               sure_flight (is_accepting stopped.reply) (is_failing stopped.reply)
                   (command_in (line_of line)) is.1 (not_both stopped.reply),
             ),
+        λ two. tt,
+        record { later = breaks.goes.keeps.later; cause = inl refl },
       )
 
 -- ---- from the formatting on
@@ -758,6 +830,10 @@ module _ {D : Type 0} (state : D → State)
       × (told : List Told) × (flight : List command.Command) × (next : List command.Command)
       × Tells s.geometry input left count fault told flight old now
       × Kept s (state new.disk) (state opened.disk) opened.view.halted done [] next told flight
+      × (opened.view.journal.layout ≡ Two
+      → AreRight s.geometry (carousel_at (state_of opened standing (state opened.disk))) told)
+      × ((commands_failing told ≡ [])
+      ⊎ Rises (state opened.disk).failures (state new.disk).failures)
 
   all_served : (input : List ℕ) → TakesInput reads unread left input
       → (lines unanswered : List (List ℕ)) → lines_of input ≡ lines ++ unanswered
@@ -776,6 +852,8 @@ module _ {D : Type 0} (state : D → State)
             unanswered split k.2
             counted whole keeps k.4.which,
         k.4,
+        k.9,
+        k.10.cause,
       )
 
   each_served : (input : List ℕ) → TakesInput reads unread left input
@@ -825,6 +903,8 @@ module _ {D : Type 0} (state : D → State)
             ∙ append_assoc some.first (some.line ∷ some.others) rest) k.2
             some.counted is k.7.0 (k.7.1, k.7.2) (λ so. (k.8 so).1) k.4.which,
         k.4,
+        k.9,
+        k.10.cause,
       )
 
   -- whatever ended it
@@ -857,6 +937,22 @@ module _ {D : Type 0} (state : D → State)
       some)
       (λ some. some_served e.0 e.1 (lines_of e.0) [] (sym (append-nil (lines_of e.0))) is some)
       e.2))) ends
+
+-- the carousel that the commands make, of a server that may be halted
+pub kept_by : (g : Geometry) (first : ℕ) (done : List command.Command) (standing : Standing)
+    (halted : Bool) → IsAfter (standing_from g first) done standing
+    → (if halted then None else Some standing.carousel)
+    ≡ (if halted then None else carousel_after (carousel_from first) g.objects done)
+kept_by g first done standing halted after =
+    ap (λ (o : Option Carousel). if halted then None else o) (sym after.carousel)
+
+-- no commands make the new one
+pub kept_new : (g : Geometry) (first : ℕ) (standing : Standing) (halted : Bool)
+    → IsFalse halted → IsAfter (standing_from g first) [] standing
+    → (if halted then None else Some standing.carousel) ≡ Some (carousel_from first)
+unfolding carousel_after
+kept_new g first standing halted going after =
+    ap (λ b. if b then None else Some standing.carousel) going ∙ sym after.carousel
 
 -- of two cases, the last part of either
 pub some_of : {A B C D E : Type 0} → (A × B) ⊎ (C × D × E) → B ⊎ E

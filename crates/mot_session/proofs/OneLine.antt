@@ -1,24 +1,28 @@
 -- One line that was served on a disk on which commands are done.
-use Rattle.std.proofs.Common.{◌≡◌, ℕ, true, List, ◌++◌}
+use Rattle.std.proofs.Common.{◌≡◌, ◌⊎◌, ℕ, true, List, [], ◌∷◌, ◌++◌, None}
 use Rattle.std.proofs.Common.{Option, Result, Ok, Err, refl, sym, subst}
-use Rattle.std.specs.Prelude.{OnOk, OnErr}
+use Rattle.std.specs.Prelude.{OnOk, OnErr, if◌then◌else◌}
 use Rattle.disk_model.specs.Disk.{State, IsHonestDisk}
+use Rattle.disk_model.specs.Failures.{Rises}
 use Rattle.mot_journal.specs.Image.{Standing}
 use Rattle.mot_journal.specs.Journal.{standing_from}
 use Rattle.mot_lines.specs.Line.{line_of}
 use Rattle.mot_numbers.specs.declared.geometry.Geometry.{Geometry}
 use Rattle.mot_objects.specs.declared.command.Command.{Command}
+use Rattle.mot_objects.specs.Carousel.{Carousel, carousel_after}
+use Rattle.mot_server.specs.Life.{carousel_from}
 use Rattle.mot_server.specs.Lives.{HasDone}
 use Rattle.mot_server.specs.Runs.{StandsAfterSome}
 use Rattle.mot_server.specs.Server.{ServerView}
-use Rattle.mot_session.specs.Life.{Told, TellsLine, done_in, failing_in, is_done}
+use Rattle.mot_session.specs.Life.{AreRight, Told, TellsLine, done_in, fails_in, is_done}
 use Rattle.mot_session.specs.LineByLine.{BreaksOff, ServesOne}
 use Rattle.mot_session.specs.Session.{Exchange, text_of}
 use Rattle.mot_session.specs.State.{StandsFor, state_of}
 use Rattle.mot_session.specs.Stored.{accepted_in, command_in, failed_in, is_accepting, is_failing}
 use Rattle.mot_session.proofs.Lives.{Step, done_at, done_stands, not_both, one_at_most, rules_of}
-use Rattle.mot_session.proofs.Lives.{since_before, step_made}
+use Rattle.mot_session.proofs.Lives.{image_of, kept_by, line_failed, since_before, step_made}
 use Rattle.mot_session.proofs.Outcomes.{begun_outcome, outcome}
+use Rattle.mot_session.proofs.Ruled.{carousel_at, line-short, right_more, right_reply}
 use Rattle.mot_session.proofs.Shown.{begun, front_begun, replied}
 use Rattle.mot_session.proofs.Telling.{done_of_front, done_told, failing_told, made_sure}
 use Rattle.mot_session.proofs.Telling as telling
@@ -28,18 +32,27 @@ module _ {D : Type 0} (state : D → State)
     (g : Geometry) (first : ℕ) (done others : List Command) (old new : ServerView D)
     (line : List ℕ) (written now : Option (List ℕ))
     (has : HasDone state g first done others old) (honest : (state new.disk).IsHonest) where
+  -- the carousel before the line, unless the server was halted
+  abbrev carousel_was : Option Carousel
+  carousel_was =
+      if old.view.halted then None else carousel_after (carousel_from first) g.objects done
+
   -- what the line leaves, which made these commands, and of which a fault of the disk cut off
   -- others
   pub record Leaves (made cut_off : List Command) : Type 0 where
     pub has_done : HasDone state g first (done ++ made) (others ++ cut_off) new
     pub since : (image : List ℕ) → (state new.disk).LeftSince (state old.disk).moment image
         → StandsAfterSome (standing_from g first) done (others ++ (made ++ cut_off)) image
+    pub cause : (cut_off ≡ []) ⊎ Rises (state old.disk).failures (state new.disk).failures
 
   leaves_by : (last : Standing) (made cut_off : List Command) → IsHonestDisk (state old.disk)
       → StandsFor new.view last (state new.disk)
       → Step (standing_from g first) (state old.disk) (state new.disk) old.view.halted
-      new.view.halted last done others made cut_off → Leaves made cut_off
-  leaves_by last made cut_off was stands step = record {
+      new.view.halted last done others made cut_off
+      → (cut_off ≡ []) ⊎ Rises (state old.disk).failures (state new.disk).failures
+      → Leaves made cut_off
+  leaves_by last made cut_off was stands step cause = record {
+    cause = cause;
     has_done = record {
       standing = last;
       after = step.after;
@@ -56,7 +69,8 @@ module _ {D : Type 0} (state : D → State)
   -- it was answered, and the whole reply was written
   pub line_served : (T E : Type 0) (it : T) → ServesOne state old line new written now
       → (made cut_off : List Command)
-      × TellsLine {T = T} {E = E} g (Ok it) line made cut_off written now × Leaves made cut_off
+      × TellsLine {T = T} {E = E} g old.view.journal.layout carousel_was (Ok it) line made cut_off
+      written now × Leaves made cut_off
   line_served T E it one =
       let was_honest = one.goes.keeps.was_honest honest in
       let stands = done_stands state g first done others old has in
@@ -73,30 +87,43 @@ module _ {D : Type 0} (state : D → State)
       let told_done = done_told (line_of line) before behind served.reply served.answers in
       let told_failing = failing_told (line_of line) before behind served.reply served.answers in
       let step : Step (standing_from g first) (state old.disk) (state new.disk) old.view.halted
-      new.view.halted led.0 done others (done_in t) (failing_in t) =
+      new.view.halted led.0 done others (done_in t) (fails_in t) =
       subst (λ l. Step (standing_from g first) (state old.disk) (state new.disk) old.view.halted
       new.view.halted led.0 done others (done_in t) l) (sym told_failing)
       (subst (λ l. Step (standing_from g first) (state old.disk) (state new.disk) old.view.halted
       new.view.halted led.0 done others l (failed_in x)) (sym told_done) made) in (
         done_in t,
-        failing_in t,
+        fails_in t,
         (
           t,
           refl,
           replied g before behind (line_of line) served.reply has.after.geometry
               (rules_of state sound (standing_from g first) old has.standing was_honest stands)
               served.answers,
+          λ two. subst (λ o. AreRight g o (t ∷ []))
+              (kept_by g first done has.standing old.view.halted has.after)
+              (right_more before behind two g has.after.geometry line (text_of served.reply) []
+              (carousel_at before) (carousel_at behind)
+              (right_reply before behind two (line_of line) served.reply (line-short line)
+              (image_of state sound (standing_from g first) old has.standing was_honest stands)
+              (rules_of state sound (standing_from g first) old has.standing was_honest stands)
+              served.answers) tt),
           served.appended,
           refl,
           refl,
         ),
-        leaves_by led.0 (done_in t) (failing_in t) (sound old.disk was_honest) led.1 step,
+        leaves_by led.0 (done_in t) (fails_in t) (sound old.disk was_honest) led.1 step
+            (subst (λ l. (l ≡ []) ⊎ Rises (state old.disk).failures (state new.disk).failures)
+            (sym told_failing) (line_failed before behind (accepted_in x) (failed_in x)
+            (outcome before behind (line_of line) served.reply served.answers))),
       )
 
   -- the reply was broken off
   pub line_broken : (T E : Type 0) (fault : E) → BreaksOff state old line new written now
       → (made cut_off : List Command)
-      × TellsLine {T = T} {E = E} g (Err fault) line made cut_off written now
+      × TellsLine {T = T} {E = E} g old.view.journal.layout carousel_was (Err fault) line made
+      cut_off
+      written now
       × Leaves made cut_off
   line_broken T E fault breaks =
       let was_honest = breaks.goes.keeps.was_honest honest in
@@ -130,14 +157,17 @@ module _ {D : Type 0} (state : D → State)
               (done_of_front stopped.broken.written.written stopped.broken.written.unwritten so)) in
               made_sure (is_accepting stopped.reply) (command_in (line_of line)) is.1,
         ),
-        leaves_by led.0 (accepted_in x) (failed_in x) (sound old.disk was_honest) led.1 step,
+        leaves_by led.0 (accepted_in x) (failed_in x) (sound old.disk was_honest) led.1 step
+            (line_failed before behind (accepted_in x) (failed_in x)
+            (begun_outcome before behind (line_of line) stopped.reply stopped.broken.begins)),
       )
 
   -- either
   pub line_told : (T E : Type 0) (result : Result T E)
       → OnOk result (ServesOne state old line new written now)
       → OnErr result (BreaksOff state old line new written now)
-      → (made cut_off : List Command) × TellsLine g result line made cut_off written now
+      → (made cut_off : List Command)
+      × TellsLine g old.view.journal.layout carousel_was result line made cut_off written now
       × Leaves made cut_off
   line_told T E (Ok it) one breaks = line_served T E it one
   line_told T E (Err fault) one breaks = line_broken T E fault breaks

@@ -3,6 +3,7 @@ use Rattle.std.proofs.Common.{◌≡◌, Bool, true, false, List, [], ◌∷◌,
 use Rattle.std.proofs.Common.{◌∙◌}
 use Rattle.std.proofs.Common.{ℕ, arith}
 use Rattle.std.specs.Prelude.{IsTrue, IsFalse, if◌then◌else◌}
+use Rattle.disk_model.specs.Failures.{Rises}
 use Rattle.mot_journal.specs.declared.layout.Layout.{Layout}
 use Rattle.mot_journal.specs.Image.{Standing}
 use Rattle.mot_lines.specs.declared.line.Line.{Line}
@@ -33,7 +34,8 @@ pub data Outcome (before after : ServerState) (done failed : List command.Comman
       → after_command before.layout before.standing c ≡ Ok (after.standing, d)
       → Outcome before after done failed
   halts : done ≡ [] → IsFalse before.halted → IsTrue after.halted
-      → after.standing ≡ before.standing → Outcome before after done failed
+      → after.standing ≡ before.standing → Rises before.failures after.failures
+      → Outcome before after done failed
 
 -- the command of a request, where the reply accepts it
 abbrev pub done_by : Reply → Result Line Refusal → List command.Command
@@ -85,7 +87,7 @@ commanded before after c reply going (refuses refusal e why stays) =
     (refused-fine before.layout before.standing c refusal why) stays.keeps.standing
     stays.keeps.halted
 commanded before after c reply going (fails e h) = halts
-    (ap (λ (r : Reply). done_by r (Ok (asks.Command c))) e) going h.halted h.standing
+    (ap (λ (r : Reply). done_by r (Ok (asks.Command c))) e) going h.halted h.standing h.rises
 
 nexts : (before after : ServerState) (request : Result Line Refusal) (count : ℕ) (reply : Reply)
     → IsNextAnswer before count reply after

@@ -35,9 +35,9 @@ use Rattle.mot_objects.specs.declared.command.Done.{Done}
 use Rattle.mot_packets.specs.Written.{bytes_of_packet}
 use Rattle.mot_packets.proofs.Laws.{length-packets_of_group}
 use Rattle.mot_player.specs.Place.{Place, Request, Sent, request, sent_by}
-use Rattle.mot_session.specs.Life.{AreAsked, IsReply}
 use Rattle.mot_session.specs.OnAnyDisk.{Shown, shown_lines}
 use Rattle.mot_session.specs.Played.{Sends, sent_lines}
+use Rattle.mot_session.specs.Replies.{AreAsked, IsReply, IsShown}
 use Rattle.mot_session.specs.Raw.{raw_group, raw_packets}
 use Rattle.mot_session.specs.Served.{Begins, whole, next_begun, turn_begun}
 use Rattle.mot_session.specs.Session.{Answers, decided, halted, no_memory, IsAnswer}
@@ -110,10 +110,10 @@ taken-endless (Some tid) = joined (codes "object ") (field tid)
 
 -- ---- a command is done
 
-abbrev ids_of : Done → List ℕ
+abbrev pub ids_of : Done → List ℕ
 ids_of d = taken_words d.object ++ codes "directory " ++ decimal d.directory
 
-ids-endless : (d : Done) → HasNoLineEnd (ids_of d)
+pub ids-endless : (d : Done) → HasNoLineEnd (ids_of d)
 ids-endless d =
     joined (taken_words d.object ++ codes "directory ") (decimal d.directory)
     (joined (taken_words d.object) (codes "directory ") (taken-endless d.object)
@@ -125,7 +125,7 @@ regroup-done : (done words directory number end : List ℕ)
     → done ++ words ++ directory ++ number ++ end ≡ done ++ (words ++ directory ++ number) ++ end
 regroup-done done words directory number end = simp append_assoc
 
-done-shown : (d : Done) → done_line d ≡ codes "done " ++ ids_of d ++ 10 ∷ []
+pub done-shown : (d : Done) → done_line d ≡ codes "done " ++ ids_of d ++ 10 ∷ []
 done-shown d = regroup-done (codes "done ") (taken_words d.object) (codes "directory ")
     (decimal d.directory) (10 ∷ [])
 
@@ -291,12 +291,12 @@ module _ (g : Geometry) where
   refusal-shown : (request : Result Line Refusal) (r : Refusal)
       → IsReply g request (text_of (refused r))
   unfolding text_of
-  refusal-shown request r = IsReply.refused r refl
+  refusal-shown request r = inl (r, refl)
 
   done-reply : (c : command.Command) (d : Done)
       → IsReply g (Ok (asks.Command c)) (text_of (accepted d))
   unfolding text_of
-  done-reply c d = IsReply.done c (ids_of d) refl (ids-endless d) (done-shown d)
+  done-reply c d = inr (inl (c, d, refl, refl))
 
   command-shown : (before after : ServerState) (c : command.Command) (reply : Reply)
       → IsCommandAnswer before c reply after → IsReply g (Ok (asks.Command c)) (text_of reply)
@@ -308,61 +308,65 @@ module _ (g : Geometry) where
       as_reply (Ok (asks.Command c)) reply (refused DeviceFault) e
       (refusal-shown (Ok (asks.Command c)) DeviceFault)
 
-  list-reply : (c : Carousel) → AllKeepRules c → IsReply g (Ok asks.List) (text_of (listing c))
+  as_shown : (request : Result Line Refusal) (reply shown : Reply) → reply ≡ shown
+      → IsShown g request (text_of shown) → IsShown g request (text_of reply)
+  as_shown request reply shown e is = subst (λ r. IsShown g request (text_of r)) (sym e) is
+
+  pub list-reply : (c : Carousel) → AllKeepRules c → IsShown g (Ok asks.List) (text_of (listing c))
   unfolding text_of
   list-reply c rules =
-      IsReply.listed (numbers_of c) (map words_of_object c.objects) refl
+      IsShown.listed (numbers_of c) (map words_of_object c.objects) refl
       (numbers-endless c, objects-endless c.objects rules.objects) (listing-shown c)
 
-  raw-reply : (kind : GroupKind) (tid : ℕ) (body : List ℕ)
-      → IsReply g (Ok (asks.Raw kind tid body)) (text_of (packets (raw_packets g kind tid body)))
+  pub raw-reply : (kind : GroupKind) (tid : ℕ) (body : List ℕ)
+      → IsShown g (Ok (asks.Raw kind tid body)) (text_of (packets (raw_packets g kind tid body)))
   unfolding text_of
   raw-reply kind tid body =
       let ps : List (List ℕ) = raw_packets g kind tid body in
-      IsReply.packets (shown_raw ps) false
+      IsShown.packets (shown_raw ps) false
       (raw-ends ps ∙ ap (λ n. replicate n false) (raw-count g kind tid body))
       (raw-shown ps ∙ sym (append-nil (shown_lines (shown_raw ps))))
 
   played-reply : (request : Result Line Refusal) (sents : List Sent)
       → AreAsked g request false (ends_of (shown_of sents))
-      → IsReply g request (text_of (played sents))
+      → IsShown g request (text_of (played sents))
   unfolding text_of
-  played-reply request sents asked = IsReply.packets (shown_of sents) false asked
+  played-reply request sents asked = IsShown.packets (shown_of sents) false asked
       (sents-shown sents ∙ sym (append-nil (shown_lines (shown_of sents))))
 
   cut-reply : (request : Result Line Refusal) (sents : List Sent)
       → AreAsked g request true (ends_of (shown_of sents))
-      → IsReply g request (sent_lines sents ++ refusal_line DeviceFault)
-  cut-reply request sents asked = IsReply.packets (shown_of sents) true asked
+      → IsShown g request (sent_lines sents ++ refusal_line DeviceFault)
+  cut-reply request sents asked = IsShown.packets (shown_of sents) true asked
       (ap (λ l. l ++ refusal_line DeviceFault) (sents-shown sents))
 
   cut-text : (request : Result Line Refusal) (sents : List Sent)
-      → IsReply g request (sent_lines sents ++ refusal_line DeviceFault)
-      → IsReply g request (text_of (cut_short sents))
+      → IsShown g request (sent_lines sents ++ refusal_line DeviceFault)
+      → IsShown g request (text_of (cut_short sents))
   unfolding text_of
   cut-text request sents is = is
 
-  next-shown : (before after : ServerState) (count : ℕ) (reply : Reply)
+  pub next-shown : (before after : ServerState) (count : ℕ) (reply : Reply)
       → IsNextAnswer before count reply after
-      → IsReply g (Ok (asks.Next count)) (text_of reply)
+      → IsShown g (Ok (asks.Next count)) (text_of reply)
   next-shown before after count reply (all sents e sends) =
-      as_reply (Ok (asks.Next count)) reply (played sents) e
+      as_shown (Ok (asks.Next count)) reply (played sents) e
       (played-reply (Ok (asks.Next count)) sents (ends-length sents
       ∙ sent-length count before.place after.place sents sends.sent.steps))
   next-shown before after count reply (cut made sents between few e sends failing) =
       let many : length (ends_of (shown_of sents)) ≡ made = ends-length sents
       ∙ sent-length made before.place between.place sents sends.sent.steps in
-      as_reply (Ok (asks.Next count)) reply (cut_short sents) e
+      as_shown (Ok (asks.Next count)) reply (cut_short sents) e
       (cut-text (Ok (asks.Next count)) sents
       (cut-reply (Ok (asks.Next count)) sents (omega (arith, few, many))))
 
-  turn-shown : (before after : ServerState) (reply : Reply)
-      → IsTurnAnswer before reply after → IsReply g (Ok asks.Turn) (text_of reply)
+  pub turn-shown : (before after : ServerState) (reply : Reply)
+      → IsTurnAnswer before reply after → IsShown g (Ok asks.Turn) (text_of reply)
   turn-shown before after reply (all others sents e sends) =
-      as_reply (Ok asks.Turn) reply (played sents) e
+      as_shown (Ok asks.Turn) reply (played sents) e
       (played-reply (Ok asks.Turn) sents (others, sents-ends sents ∙ sends.ends))
   turn-shown before after reply (cut made sents between e sends failing) =
-      as_reply (Ok asks.Turn) reply (cut_short sents) e
+      as_shown (Ok asks.Turn) reply (cut_short sents) e
       (cut-text (Ok asks.Turn) sents
       (cut-reply (Ok asks.Turn) sents (made, sents-ends sents ∙ sends.ends)))
 
@@ -377,13 +381,15 @@ module _ (g : Geometry) where
       command-shown before after c reply a
   answer-shown before after (Ok asks.List) reply same rules a =
       as_reply (Ok asks.List) reply (listing before.standing.carousel) a.0
-      (list-reply before.standing.carousel (rules tt))
+      (inr (inr (list-reply before.standing.carousel (rules tt))))
   answer-shown before after (Ok (asks.Raw kind tid body)) reply same rules a =
       as_reply (Ok (asks.Raw kind tid body)) reply (packets (raw_packets g kind tid body))
-      (a.0 ∙ ap (λ h. packets (raw_packets h kind tid body)) same) (raw-reply kind tid body)
+      (a.0 ∙ ap (λ h. packets (raw_packets h kind tid body)) same)
+      (inr (inr (raw-reply kind tid body)))
   answer-shown before after (Ok (asks.Next count)) reply same rules a =
-      next-shown before after count reply a
-  answer-shown before after (Ok asks.Turn) reply same rules a = turn-shown before after reply a
+      inr (inr (next-shown before after count reply a))
+  answer-shown before after (Ok asks.Turn) reply same rules a =
+      inr (inr (turn-shown before after reply a))
 
   -- the text of a reply that answers a request is a whole reply to it
   pub replied : (before after : ServerState) (request : Result Line Refusal) (reply : Reply)
@@ -420,9 +426,10 @@ module _ (g : Geometry) where
       let many : length (ends_of (shown_of sents)) ≡ made = ends-length sents
       ∙ sent-length made before.place after.place sents sends.sent.steps in
       ⊎_elim {C = Goes request (text_of (played sents))}
-      (λ less. played-goes request sents (cut-reply request sents (omega (arith, less, many))))
+      (λ less. played-goes request sents
+      (inr (inr (cut-reply request sents (omega (arith, less, many))))))
       (λ same. whole-goes request (text_of (played sents))
-      (played-reply request sents (many ∙ same))) (less_or_same made count few)
+      (inr (inr (played-reply request sents (many ∙ same))))) (less_or_same made count few)
     where
       less_or_same : (m n : ℕ) → m ≤ n → (m < n) ⊎ (m ≡ n)
       less_or_same m n le = ⊎_elim {C = (m < n) ⊎ (m ≡ n)}
@@ -448,7 +455,7 @@ module _ (g : Geometry) where
   begun before after request reply same rules (turn_begun made sents is going e sends) =
       as_goes request (Ok asks.Turn) reply (played sents) is e
       (played-goes (Ok asks.Turn) sents
-      (cut-reply (Ok asks.Turn) sents (made, sents-ends sents ∙ sends.ends)))
+      (inr (inr (cut-reply (Ok asks.Turn) sents (made, sents-ends sents ∙ sends.ends)))))
 
   -- and so is each front of it
   pub front_begun : (request : Result Line Refusal) (text front rest : List ℕ)

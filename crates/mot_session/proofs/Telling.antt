@@ -3,16 +3,17 @@ use Rattle.std.proofs.Common.{◌≡◌, ◌⊎◌, inl, inr, Bool, true, false,
 use Rattle.std.proofs.Common.{refl, sym, ap, ◌∙◌, ℕ, ◌<◌, ◌∷◌, ◌++◌, length, take, append-nil}
 use Rattle.std.proofs.Common.{arith}
 use Rattle.std.proofs.lemmas.Slice.Eq.{bytes_eq-Decides}
-use Rattle.std.specs.Prelude.{IsFalse, codes, if◌then◌else◌}
+use Rattle.std.specs.Prelude.{IsFalse, bytes_eq, codes, if◌then◌else◌}
 use Rattle.std.specs.Fmt.{digits}
 use Rattle.mot_lines.specs.declared.line.Line.{Line}
 use Rattle.mot_lines.specs.declared.line.Line.TheVariants as asks
+use Rattle.mot_lines.specs.Text.{refusal_line}
 use Rattle.mot_numbers.specs.declared.refusal.Refusal.{Refusal}
 use Rattle.mot_numbers.specs.declared.refusal.Refusal.TheVariants as why
 use Rattle.mot_numbers.specs.Refusal.{is_device_fault}
 use Rattle.mot_objects.specs.declared.command.Command as command
 use Rattle.mot_objects.specs.declared.command.Done.{Done}
-use Rattle.mot_session.specs.Life.{is_done, is_fault}
+use Rattle.mot_session.specs.Life.{is_done}
 use Rattle.mot_session.specs.Session.{Answers, decided, halted, no_memory, IsAnswer}
 use Rattle.mot_session.specs.Session.{IsCommandAnswer}
 use Rattle.mot_session.specs.Session.{NeedsCarousel, packets}
@@ -21,6 +22,10 @@ use Rattle.mot_session.specs.Served.{Begins, whole, next_begun, turn_begun}
 use Rattle.mot_session.specs.Session.{Reply, accepted, refused, accepts, refuses, fails, text_of}
 use Rattle.mot_session.specs.State.{ServerState}
 use Rattle.mot_session.specs.Stored.{command_in, is_accepting, is_failing}
+
+-- the text is that of a fault of the disk
+abbrev pub is_fault : List ℕ → Bool
+is_fault text = bytes_eq text (refusal_line why.DeviceFault)
 
 done_of_accepted : (d : Done) → is_done (text_of (accepted d)) ≡ true
 unfolding text_of

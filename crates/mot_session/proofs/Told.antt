@@ -63,7 +63,7 @@ module _ (start now : State) (before : ServerState) (x : Exchange) (sound : IsHo
   leaves (one c d is fine was same step) image left =
       none_of s (acknowledged ++ accepted_in x) (failed_in x) x.after.standing image accepted_more
       (each (same ∙ going) image left)
-  leaves (halts none was is standing) image left =
+  leaves (halts none was is standing rises) image left =
       let all = came image
       (at_end start now (StandsAfterSome before.standing [] (accepted_in x ++ failed_in x))
       sound (crosses.going going) image left) in

@@ -28,14 +28,17 @@ use Rattle.mot_lines.specs.Line.{raw_of, replace_of, request_of, turn_of, withdr
 use Rattle.mot_lines.specs.Words.{number_of_word, words_of}
 use Rattle.mot_objects.specs.declared.command.Command.TheVariants.{Period, Put, Replace, Withdraw}
 use Rattle.mot_lines.specs.Lines.{HasNoLineEnd}
-use Rattle.mot_lines.specs.Text.{played_line, refusal_line}
+use Rattle.mot_lines.specs.Text.{done_line, played_line, refusal_line}
 use Rattle.mot_numbers.specs.declared.geometry.Geometry.{Geometry}
 use Rattle.mot_numbers.specs.declared.refusal.Refusal.{Refusal}
 use Rattle.mot_numbers.specs.declared.refusal.Refusal.TheVariants as why
 use Rattle.mot_numbers.specs.Refusal.{name_of, number_of}
 use Rattle.mot_objects.specs.declared.command.Command as command
-use Rattle.mot_session.specs.Life.{AreAsked, IsReply, Tells, Told}
-use Rattle.mot_session.proofs.Shown.{joined, number-endless}
+use Rattle.mot_numbers.specs.PacketLength.{IsLength}
+use Rattle.mot_session.specs.Laws.{RepliesAreCutOnce}
+use Rattle.mot_session.specs.Life.{Tells, Told}
+use Rattle.mot_session.specs.Replies.{AreAsked, IsReply, IsShown}
+use Rattle.mot_session.proofs.Shown.{done-shown, ids-endless, ids_of, joined, number-endless}
 
 abbrev NoEnd : ℕ → Type 0
 NoEnd b = nat_eq b 10 ≡ false
@@ -556,15 +559,15 @@ module _ (g : Geometry) where
 
   as_lines : (q : Result Line Refusal) (text : List ℕ) → IsNotList q → IsProper q
       → IsReply g q text → AsLines q text
-  as_lines q text other proper (IsReply.refused r e) =
+  as_lines q text other proper (inl (r, e)) =
       subst (λ t. AsLines q t) (sym e) (refused_lines q r)
-  as_lines q text other proper (IsReply.done c ids is endless e) =
-      subst (λ t. AsLines q t) (sym e)
-      (subst (λ x. AsLines x (codes "done " ++ ids ++ 10 ∷ [])) (sym is)
-      (done_lines c ids endless))
-  as_lines q text other proper (IsReply.listed numbers objects is endless e) =
+  as_lines q text other proper (inr (inl (c, d, is, e))) =
+      subst (λ t. AsLines q t) (sym (e ∙ done-shown d))
+      (subst (λ x. AsLines x (codes "done " ++ ids_of d ++ 10 ∷ [])) (sym is)
+      (done_lines c (ids_of d) (ids-endless d)))
+  as_lines q text other proper (inr (inr (IsShown.listed numbers objects is endless e))) =
       absurd (subst IsNotList is other)
-  as_lines q text other proper (IsReply.packets shown failed asked e) =
+  as_lines q text other proper (inr (inr (IsShown.packets shown failed asked e))) =
       subst (λ t. AsLines q t) (sym e) (packet_lines q shown failed proper asked)
 
   -- ---- a listing
@@ -610,12 +613,12 @@ module _ (g : Geometry) where
 
   list_form : (text : List ℕ) → IsReply g (Ok asks.List) text
       → ((r : Refusal) × (text ≡ refusal_line r)) ⊎ Lists text
-  list_form text (IsReply.refused r e) = inl (r, e)
-  list_form text (IsReply.done c ids is endless e) = cc
-  list_form text (IsReply.listed numbers objects is endless e) =
+  list_form text (inl (r, e)) = inl (r, e)
+  list_form text (inr (inl (c, d, is, e))) = cc
+  list_form text (inr (inr (IsShown.listed numbers objects is endless e))) =
       inr (record { numbers = numbers; objects = objects; endless = endless; same = e })
-  list_form text (IsReply.packets shown true asked e) = absurd asked
-  list_form text (IsReply.packets shown false asked e) = absurd asked
+  list_form text (inr (inr (IsShown.packets shown true asked e))) = absurd asked
+  list_form text (inr (inr (IsShown.packets shown false asked e))) = absurd asked
 
   carousel-endless : (n : List ℕ) → HasNoLineEnd n → HasNoLineEnd (codes "carousel " ++ n)
   carousel-endless n h = joined (codes "carousel ") n (by_test (codes "carousel ") carousel-quiet) h
@@ -700,16 +703,15 @@ module _ (g : Geometry) where
 
   not_object : (q : Result Line Refusal) (text rest : List ℕ) → IsProper q → IsReply g q text
       → NotObject (text ++ rest)
-  not_object q text rest proper (IsReply.refused r e) = text-not text (refusal_line r) rest e refl
-  not_object q text rest proper (IsReply.done c ids is endless e) =
-      text-not text (codes "done " ++ ids ++ 10 ∷ []) rest e refl
-  not_object q text rest proper (IsReply.listed numbers objects is endless e) =
+  not_object q text rest proper (inl (r, e)) = text-not text (refusal_line r) rest e refl
+  not_object q text rest proper (inr (inl (c, d, is, e))) = text-not text (done_line d) rest e refl
+  not_object q text rest proper (inr (inr (IsShown.listed numbers objects is endless e))) =
       text-not text (codes "carousel " ++ numbers ++ 10 ∷ [] ++ objects_of objects) rest e refl
-  not_object q text rest proper (IsReply.packets [] false asked e) =
+  not_object q text rest proper (inr (inr (IsShown.packets [] false asked e))) =
       absurd (none-asked q proper asked)
-  not_object q text rest proper (IsReply.packets [] true asked e) =
+  not_object q text rest proper (inr (inr (IsShown.packets [] true asked e))) =
       text-not text (refusal_line why.DeviceFault) rest e refl
-  not_object q text rest proper (IsReply.packets (p ∷ shown) failed asked e) =
+  not_object q text rest proper (inr (inr (IsShown.packets (p ∷ shown) failed asked e))) =
       text-not text (texts_shown (p ∷ shown)
       ++ (if failed then refusal_line why.DeviceFault else [])) rest e refl
 
@@ -902,7 +904,7 @@ module _ (g : Geometry) where
 
     -- Of a geometry whose packets carry data, and however serving ended: what was read and written
     -- says what was told of each line, and so which commands are done.
-    pub told_once : (input : List ℕ) (left : Option (List ℕ)) (count : ℕ) (fault : Option Refusal)
+    told_once : (input : List ℕ) (left : Option (List ℕ)) (count : ℕ) (fault : Option Refusal)
         (told others : List Told) (flight fly : List command.Command) (old new : List ℕ)
         → Tells g input left count fault told flight (Some old) (Some new)
         → Tells g input left count fault others fly (Some old) (Some new) → told ≡ others
@@ -916,3 +918,15 @@ module _ (g : Geometry) where
         (ends_not input left count fault others fly (Some old) (Some new) b)
         (append_cancel_left old (texts told ++ a.front) (texts others ++ b.front)
         (sym a.written ∙ b.written))
+
+-- packets carry data
+some-room : (n : ℕ) → IsLength n → 0 < n - 5
+some-room n (inl e) = omega (arith, e)
+some-room n (inr (inl e)) = omega (arith, e)
+some-room n (inr (inr (inl e))) = omega (arith, e)
+some-room n (inr (inr (inr e))) = omega (arith, e)
+
+pub replies-are_cut_once : RepliesAreCutOnce
+replies-are_cut_once g input left count fault told others flight fly old new valid =
+    told_once g (some-room g.packet_length valid.8) input left count fault told others flight fly
+    old new

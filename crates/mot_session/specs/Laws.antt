@@ -1,6 +1,6 @@
--- What holds of every raw reply, and of every session.
+-- What holds of every raw reply, of every session, and of what is told of lines.
 use Rattle.std.specs.Prelude.{ℕ, ◌≡◌, ◌+◌, ◌⊎◌, ◌<◌, ◌≤◌, Bool, true, false, List, [], ◌∷◌, ◌++◌}
-use Rattle.std.specs.Prelude.{length, if◌then◌else◌, Some, Result}
+use Rattle.std.specs.Prelude.{length, if◌then◌else◌, Option, Some, Result}
 use Rattle.disk_model.specs.Failures.{most_failures}
 use Rattle.mot_groups.specs.Group.{read_group}
 use Rattle.mot_lines.specs.declared.line.Line.{Line}
@@ -10,8 +10,10 @@ use Rattle.mot_numbers.specs.declared.group_kind.GroupKind.{GroupKind}
 use Rattle.mot_numbers.specs.declared.numbers.TheConstants.{MAX_SEGMENT}
 use Rattle.mot_numbers.specs.declared.refusal.Refusal.{Refusal}
 use Rattle.mot_numbers.specs.Refusal.{is_device_fault}
+use Rattle.mot_objects.specs.declared.command.Command.{Command}
 use Rattle.mot_packets.specs.Gather.{gather}
 use Rattle.mot_player.specs.Continuity.{IsContinuous}
+use Rattle.mot_session.specs.Life.{Tells, Told}
 use Rattle.mot_session.specs.Raw.{raw_group, raw_packets}
 use Rattle.mot_session.specs.Served.{Begins}
 use Rattle.mot_session.specs.Session.{Exchange, Reply, Session, cut_short}
@@ -70,3 +72,12 @@ pub record SessionLaws : Type 0 where
   pub continuous : SessionsAreContinuous
   pub stopped : StoppedSessionsAreContinuous
   pub device_faults : FaultsAreTheDisks
+
+-- Two ways to cut what was written into whole replies to the lines that were read are one: so what
+-- was told of each line, and which commands are done, is a function of these bytes.
+abbrev pub RepliesAreCutOnce : Type 0
+RepliesAreCutOnce =
+    (g : Geometry) (input : List ℕ) (left : Option (List ℕ)) (count : ℕ) (fault : Option Refusal)
+    (told others : List Told) (flight fly : List Command) (old new : List ℕ) → IsValid g
+    → Tells g input left count fault told flight (Some old) (Some new)
+    → Tells g input left count fault others fly (Some old) (Some new) → told ≡ others

@@ -6,6 +6,7 @@ pub mod OnAnyDisk
 pub mod Output
 pub mod Played
 pub mod Raw
+pub mod Replies
 pub mod Served
 pub mod Session
 pub mod State

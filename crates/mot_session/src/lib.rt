@@ -2,9 +2,11 @@
 #![tactic(auto)]
 
 mod deciding;
+mod law;
 mod life;
 mod serving;
 
+pub use law::told_laws;
 pub use life::{
     ServedLife, ServedLineOn, ServedOn, format_serve_and_restart, serve_and_restart,
     serve_line_and_restart,

@@ -1,14 +1,20 @@
 //! The life of a disk, told of lines: formatted, opened and served; and what a crash at any moment
 //! of that left, opened and played. Input bytes, output bytes and packets are all that is told.
-ghost use Rattle.std.specs.Prelude.{◌≤◌, ◌++◌, ℕ, List, [], IfOk, IfErr};
+ghost use Rattle.std.specs.Prelude.{◌≡◌, ◌≤◌, ◌++◌, ℕ, List, [], Some, None, IfOk, IfErr};
+ghost use Rattle.std.specs.Prelude.{◌⊎◌, if◌then◌else◌};
+ghost use Rattle.std.specs.List.{flat_map};
 ghost use Rattle.disk_model.specs.Disk.{KeepsLength};
+ghost use Rattle.disk_model.specs.Failures.{Rises};
+ghost use Rattle.mot_journal.specs.declared.layout.Layout.TheVariants.{Two};
 ghost use Rattle.mot_numbers.specs.declared.geometry.Geometry.{Geometry};
 ghost use Rattle.mot_objects.specs.declared.command.Command.{Command};
 ghost use Rattle.mot_repository.specs.Opening.{IsPassing};
+ghost use Rattle.mot_objects.specs.Carousel.{carousel_after};
 ghost use Rattle.mot_server.specs.Life.{IsBlank, IsFormatRefusal, IsUnopened, PlaysAfter};
+ghost use Rattle.mot_server.specs.Life.{carousel_from};
 ghost use Rattle.mot_server.specs.Lives.{HasDone, LivesOn};
 ghost use Rattle.mot_server.specs.Playing.{bytes_of_packets};
-ghost use Rattle.mot_session.specs.Life.{Told, Tells, TellsLine, commands_done};
+ghost use Rattle.mot_session.specs.Life.{AreRight, Told, Tells, TellsLine, commands_done, fails_in};
 ghost use Rattle.mot_session.specs.Served.{TakesInput};
 
 use crate::{Geometry, MAX_READS, ServeEnd, WriteFault, serve, serve_line};
@@ -35,9 +41,13 @@ pub struct ServedLife<D: Disk, E: Disk> {
 ///
 /// What the operator is promised, whole: for every input the packets of that turn read, by the
 /// standards' grammars, as exactly the carousel after a beginning of the commands whose replies say
-/// `done`, with at most the one in flight. That beginning holds each command whose reply was made
-/// before a moment of the disk's clock, where the crash came since; and behind the call it holds
-/// all of them. So a command whose `done` was written is never lost.
+/// `done`, with at most the one in flight; and after a crash that comes once the call has returned,
+/// after all of them. (`serve_line_and_restart` has it line by line: there the return is the moment
+/// from which on a command whose `done` was written is never lost.)
+///
+/// Each reply is right where it stands: a command is done where the rules of the carousel accept
+/// it, with the ids that they give, and nowhere else, or there may be no room for what it brings;
+/// memory may be wanting, and a fault of the disk is told only where the disk failed.
 pub fn format_serve_and_restart<R: Read, W: Write, D: Disk, E: Disk + Drop>(
     disk: D,
     alloc: Global,
@@ -50,13 +60,17 @@ pub fn format_serve_and_restart<R: Read, W: Write, D: Disk, E: Disk + Drop>(
 ) -> Result<ServedLife<D, E>, Refused<D>>
     requires { reads ≤ MAX_READS }
 
-    // The lines, their replies, and what a crash leaves of their commands: first one at some moment
-    // since the call began, then one that comes once it has returned.
+    // The lines and their replies, each right where it stands, and a fault of the disk is told of a
+    // command only where the disk failed; and what a crash leaves of their commands: first one at
+    // some moment since the call began, then one that comes once it has returned.
     ensures told { IfOk result (λ life. (D.state life.disk).IsHonest → (input : List ℕ)
         × TakesInput reads (R.remaining reader.old) (R.remaining reader.new) input
         × (told : List Told) × (in_flight : List Command)
         × Tells geometry.now input (R.remaining reader.new) life.end.lines life.end.fault
         told in_flight (W.contents writer.old) (W.contents writer.new)
+        × AreRight geometry.now (Some (carousel_from directory)) told
+        × ((flat_map fails_in told ≡ [])
+        ⊎ Rises (D.state disk).failures (D.state life.disk).failures)
         × (IsBlank (D.state disk)
         → (D.state life.disk).LeftSince (D.state disk).moment (E.state left).bytes
         → IfOk life.after_crash (λ first. (E.state first.disk).IsHonest
@@ -120,8 +134,9 @@ pub fn serve_and_restart<R: Read, W: Write, D: Disk, E: Disk>(
 ) -> ServedOn<E>
     requires { reads ≤ MAX_READS }
 
-    // The lines, their replies, and what a crash leaves of their commands: first one at some moment
-    // since the call began, then one that comes once it has returned.
+    // The lines and their replies, each right where it stands, and a fault of the disk is told of a
+    // command only where the disk failed; and what a crash leaves of their commands: first one at
+    // some moment since the call began, then one that comes once it has returned.
     ensures in_a_row { (g : Geometry) (first : ℕ) (done : List Command)
         → HasDone D.state g first done [] server.old
         → (D.state server.new.disk).IsHonest → (input : List ℕ)
@@ -129,6 +144,10 @@ pub fn serve_and_restart<R: Read, W: Write, D: Disk, E: Disk>(
         × (told : List Told) × (in_flight : List Command)
         × Tells g input (R.remaining reader.new) result.end.lines result.end.fault told in_flight
         (W.contents writer.old) (W.contents writer.new)
+        × (server.old.view.journal.layout ≡ Two → AreRight g (if server.old.view.halted then None
+        else carousel_after (carousel_from first) g.objects done) told)
+        × ((flat_map fails_in told ≡ [])
+        ⊎ Rises (D.state server.old.disk).failures (D.state server.new.disk).failures)
         × ((D.state server.new.disk).LeftSince (D.state server.old.disk).moment
         (E.state left).bytes → IfOk result.restarted (λ r. (E.state r.server.disk).IsHonest
         → LivesOn E.state g first done (commands_done told ++ in_flight) r.server
@@ -174,13 +193,17 @@ pub fn serve_line_and_restart<W: Write, D: Disk, E: Disk>(
     writer: &mut W,
     left: E,
 ) -> ServedLineOn<E>
-    // What was told of the line, and what is done then; and what a crash leaves: first one at some
-    // moment since the call began, then one that comes once it has returned.
+    // What was told of the line, a fault of the disk only where it failed, and what is done then;
+    // and what a crash leaves: first one at some moment since the call began, then one that comes
+    // once it has returned.
     ensures told { (g : Geometry) (first : ℕ) (done others : List Command)
         → HasDone D.state g first done others server.old → (D.state server.new.disk).IsHonest
         → (made cut_off : List Command)
-        × TellsLine g result.answered line.now made cut_off
-        (W.contents writer.old) (W.contents writer.new)
+        × TellsLine g server.old.view.journal.layout (if server.old.view.halted then None
+        else carousel_after (carousel_from first) g.objects done)
+        result.answered line.now made cut_off (W.contents writer.old) (W.contents writer.new)
+        × ((cut_off ≡ [])
+        ⊎ Rises (D.state server.old.disk).failures (D.state server.new.disk).failures)
         × HasDone D.state g first (done ++ made) (others ++ cut_off) server.new
         × ((D.state server.new.disk).LeftSince (D.state server.old.disk).moment
         (E.state left).bytes → IfOk result.restarted (λ r. (E.state r.server.disk).IsHonest

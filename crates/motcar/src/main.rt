@@ -4,7 +4,7 @@
 mod version;
 
 use disk_store::{SystemFiles, Unknown};
-use mot_air::{is_air, run_air};
+use mot_air::{is_air, run_air_on};
 use mot_numbers::Refusal;
 use mot_program::run_on;
 use std::fs::File;
@@ -46,7 +46,7 @@ fn run_words<W: Write>(rt: &HostRuntime, words: &[String], writer: &mut W) -> u8
     match words {
         [word] if word.as_str() == "--version" => show_version(rt, writer),
         [word, ..] if is_air(word.as_str()) => {
-            run_air(rt, alloc, words, Unknown, writer, &mut errors)
+            run_air_on(rt, alloc, words, Unknown, writer, &mut errors).status
         }
         _ => {
             let (mut files, mut reader) = (SystemFiles::new(rt), rt.reader());

@@ -4,7 +4,7 @@ ghost use Rattle.disk_store.specs.Beginning.{IsFirst};
 ghost use Rattle.disk_store.specs.File.{file_state};
 
 use super::begun::{BegunFile, WasMade, WasThere, make_file, open_file};
-use super::system::take_away;
+use super::system::Beside;
 use super::{Start, Unopened};
 use crate::notes::Notes;
 
@@ -42,7 +42,8 @@ pub trait DiskFiles {
             (λ _. opened self.new ≡ opened self.old) }
         ensures stays { taken_away self.new ≡ taken_away self.old };
 
-    /// Takes away a file that was made and is of no use, and the empty one beside it, if it can.
+    /// Takes away the file that was made last and is of no use, and the empty one that was made
+    /// beside it, if it can.
     fn take_away(&mut self, path: &str)
         ensures gone { taken_away self.new ≡ taken_away self.old ++ path.now ∷ [] }
         ensures stays { opened self.new ≡ opened self.old };
@@ -53,6 +54,8 @@ pub trait DiskFiles {
 #[derive(Drop)]
 pub struct SystemFiles<'a> {
     rt: &'a HostRuntime,
+    /// What stood beside the file that was made last, before it was.
+    beside: Option<Beside>,
     opened: Notes,
     gone: Notes,
 }
@@ -65,6 +68,7 @@ impl<'a> SystemFiles<'a> {
     {
         SystemFiles {
             rt,
+            beside: None,
             opened: Notes::new(),
             gone: Notes::new(),
         }
@@ -92,6 +96,10 @@ impl<'a> DiskFiles for SystemFiles<'a> {
         len: u64,
         start: S,
     ) -> Result<BegunFile<S, WasMade>, Unopened<S>> {
+        self.beside = match Beside::of(self.rt, path) {
+            Ok(beside) => Some(beside),
+            Err(error) => return Err(Unopened::of(start, error)),
+        };
         let file = make_file(self.rt, path, len, start)?;
         self.opened.note(path.as_bytes());
         Ok(file)
@@ -99,6 +107,8 @@ impl<'a> DiskFiles for SystemFiles<'a> {
 
     fn take_away(&mut self, path: &str) {
         self.gone.note(path.as_bytes());
-        let _ = take_away(self.rt, path);
+        if let Some(beside) = &self.beside {
+            let _ = beside.take_away(self.rt, path);
+        }
     }
 }

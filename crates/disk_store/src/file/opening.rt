@@ -6,7 +6,7 @@ ghost use Rattle.disk_store.specs.Inner.Noting.{HasOnlyOpened};
 ghost use Rattle.disk_model.specs.Disk.{IsNew, LeavesAll};
 ghost use Rattle.disk_store.specs.File.{file_state, calls_on, CanSync};
 
-use super::system::{HeldFile, take_away};
+use super::system::{Beside, HeldFile};
 use super::{FileDisk, FileDiskFrom, OpenFault, Start, Unknown};
 use crate::DiskFault;
 use crate::call_count::CallCount;
@@ -22,6 +22,16 @@ pub struct Unopened<S: Start> {
 }
 
 impl<S: Start> Unopened<S> {
+    /// A file that was not made, for this reason of the system.
+    pub fn of(start: S, error: io::Error) -> Unopened<S>
+        ensures { result.start ≡ start }
+    {
+        Unopened {
+            start,
+            fault: OpenFault::System(error),
+        }
+    }
+
     /// A file that was not made either, where it could not be opened for this reason. That is the
     /// reason to tell, unless there was nothing to open.
     pub fn behind(self, first: OpenFault) -> Unopened<S>
@@ -131,6 +141,7 @@ impl<S: Start> FileDiskFrom<S> {
         ensures all { IfOk result (λ disk. LeavesAll (file_state disk)) }
         ensures order { IfOk result (λ disk. calls_on disk ≡ making_calls len) }
     {
+        let beside = Beside::of(rt, path)?;
         let file = OpenOptions::new()
             .read(true)
             .write(true)
@@ -139,7 +150,7 @@ impl<S: Start> FileDiskFrom<S> {
         match FileDiskFrom::fill(file, rt, path, len) {
             Ok(disk) => Ok(disk),
             Err(fault) => {
-                let _ = take_away(rt, path);
+                let _ = beside.take_away(rt, path);
                 Err(fault)
             }
         }

@@ -9,8 +9,7 @@ use super::OpenFault;
 use crate::history::History;
 use sqlite_std_file::OpenError;
 use std::fs::{self, File, TryLockError};
-use std::io;
-use std::io::{Seek, SeekFrom};
+use std::io::{self, ErrorKind, Seek, SeekFrom};
 use std::os::unix::fs::{FileExt, FileTypeExt, MetadataExt};
 use std::path::Path;
 use std::rt::Files;
@@ -163,18 +162,40 @@ fn drop_cached_pages(rt: &HostRuntime, file: &File, path: &str) -> io::Result<()
     match sqlite_std_file::open(rt, real.as_str(), sqlite_std_file::Unknown) {
         Ok(_) => Ok(()),
         Err(OpenError::Io(error)) => Err(error),
-        Err(OpenError::OutOfMemory) => Err(io::ErrorKind::OutOfMemory.into()),
-        Err(OpenError::Busy) => Err(io::ErrorKind::ResourceBusy.into()),
-        Err(OpenError::HotJournal) => Err(io::ErrorKind::AlreadyExists.into()),
+        Err(OpenError::OutOfMemory) => Err(ErrorKind::OutOfMemory.into()),
+        Err(OpenError::Busy) => Err(ErrorKind::ResourceBusy.into()),
+        Err(OpenError::HotJournal) => Err(ErrorKind::AlreadyExists.into()),
     }
 }
 
-/// Takes a file away that was made and is of no use, and the empty one beside it. It fails where
-/// that can't be done.
-pub fn take_away(rt: &HostRuntime, path: &str) -> io::Result<()> {
-    let beside = format!(in rt.alloc(); "{path}-wal")?;
-    remove_empty(rt, beside.as_str())?;
-    fs::remove_file(rt, path)
+/// The empty file that `drop_cached_pages` wants beside a file: its path, and whether anything
+/// stands there before it is made.
+#[derive(Drop)]
+pub struct Beside {
+    path: String,
+    was_there: bool,
+}
+
+impl Beside {
+    /// Looks beside the file of this path. What can't be looked at counts as there.
+    pub fn of(rt: &HostRuntime, path: &str) -> io::Result<Beside> {
+        let path = format!(in rt.alloc(); "{path}-wal")?;
+        let was_there = match fs::symlink_metadata(rt, path.as_str()) {
+            Ok(_) => true,
+            Err(error) => error.kind() != ErrorKind::NotFound,
+        };
+        Ok(Beside { path, was_there })
+    }
+
+    /// Takes away the file of this path that was made and is of no use, and the empty one that was
+    /// made with it. It fails where that can't be done, and takes no memory.
+    pub fn take_away(&self, rt: &HostRuntime, path: &str) -> io::Result<()> {
+        fs::remove_file(rt, path)?;
+        if self.was_there {
+            return Ok(());
+        }
+        remove_empty(rt, self.path.as_str())
+    }
 }
 
 /// Takes away what an opening has made beside a file, and nobody else's file.

@@ -1,5 +1,5 @@
 -- A look whose lines are told.
-use Rattle.std.specs.Prelude.{◌≡◌, ◌⊎◌, ℕ, Bool, false, not, List, Option, Some, None, Result, Ok}
+use Rattle.std.specs.Prelude.{◌≡◌, ℕ, Bool, false, not, List, Option, Some, None, Result, Ok}
 use Rattle.std.specs.Prelude.{Err}
 use Rattle.std.specs.Io.KnownBytes.{Appends}
 use Rattle.disk_model.specs.Disk.{State}
@@ -7,7 +7,7 @@ use Rattle.mot_folder.specs.Looked.{HasLookedAtFolder}
 use Rattle.mot_folder.specs.declared.report.Report.{Report}
 use Rattle.mot_journal.specs.Image.{Standing}
 use Rattle.mot_numbers.specs.declared.refusal.Refusal.{Refusal}
-use Rattle.mot_numbers.specs.declared.refusal.Refusal.TheVariants.{OutOfMemory, WriteFault}
+use Rattle.mot_numbers.specs.declared.refusal.Refusal.TheVariants.{WriteFault}
 use Rattle.mot_server.specs.Server.{ServerView}
 
 -- it came to its end, and was told whole; or it broke off, or could not be told
@@ -20,7 +20,6 @@ pub data LooksAndTells {D : Type 0} (old new : ServerView D) (start now : State)
   broken : (report : Report) (refusal : Refusal) → result ≡ Err refusal
       → HasLookedAtFolder old new start now s path report (Some refusal)
       → LooksAndTells old new start now s path before after result
-  untold : (report : Report) (refusal : Refusal) → result ≡ Err refusal
-      → (refusal ≡ WriteFault) ⊎ (refusal ≡ OutOfMemory)
+  untold : (report : Report) → result ≡ Err WriteFault
       → HasLookedAtFolder old new start now s path report None
       → LooksAndTells old new start now s path before after result

@@ -376,6 +376,12 @@ fn an_empty_file_stands_beside(rt: HostRuntime) {
     );
     expect(&rt, is_made(&rt, "beside.test/other", u64::MAX), false);
     expect(&rt, has_two_files(&rt, "beside.test", path, beside), true);
+    for given in [b"mine".as_slice(), b""] {
+        write_file(&rt, "beside.test/other-wal", given);
+        let made = is_made(&rt, "beside.test/other", u64::MAX);
+        let stays = is_file_of(&rt, "beside.test/other-wal", given);
+        expect(&rt, (made, stays), (false, true));
+    }
 }
 
 // A file with two names is no disk; by a link that leads to its one name it is.

@@ -1,12 +1,14 @@
 -- The entities of a turn, by their number, and how far a turn reaches.
 use Rattle.std.specs.Prelude.{◌≡◌, ◌⊎◌, ℕ, ◌+◌, ◌*◌, ◌<◌, ◌≤◌, ◌==◌, if◌then◌else◌, List}
-use Rattle.std.specs.Prelude.{length, map, ◌-◌, slice_index}
+use Rattle.std.specs.Prelude.{length, map, ◌-◌, slice_index, IfSome}
 use Rattle.std.specs.List.{AllByRecursion}
 use Rattle.mot_directory.specs.declared.directory.TheConstants.{MAX_DIRECTORY}
 use Rattle.mot_numbers.specs.declared.geometry.TheConstants.{MAX_OBJECTS}
 use Rattle.mot_objects.specs.declared.body.TheConstants.{MAX_BODY}
 use Rattle.mot_player.specs.Bodies.{body_at}
+use Rattle.mot_player.specs.Course.{CourseView}
 use Rattle.mot_player.specs.PlayerView.{BodyPlan, TurnPlan}
+use Rattle.mot_player.specs.declared.course.Waiting.{Waiting}
 
 -- a turn of a carousel within its limits: how long its entities are, and how many
 pub record IsPlannable (plan : TurnPlan) : Type 0 where
@@ -36,3 +38,15 @@ abbrev pub IsWithinTurn : TurnPlan → ℕ → ℕ → ℕ → Type 0
 IsWithinTurn plan size entity segment =
     (entity < length plan.bodies + 1) × (segment * size < entity_length plan entity)
     ⊎ (entity ≡ length plan.bodies + 1) × (segment ≡ 0)
+
+-- a segment of one of the turn's entities
+abbrev pub IsInside : TurnPlan → ℕ → Waiting → Type 0
+IsInside plan size w =
+    (w.entity < length plan.bodies + 1) × (w.segment * size < entity_length plan w.entity)
+
+-- what waits are segments of the turn, and only the directory's own place is for the directory
+pub record IsOnCourse (plan : TurnPlan) (size : ℕ) (c : CourseView) : Type 0 where
+  pub directory : IfSome c.directory (λ (s : ℕ). s * size < length plan.directory)
+  pub queue : AllByRecursion (λ (w : Waiting). (0 < w.entity) × IsInside plan size w) c.queue
+  pub body : 0 < c.entity
+  pub within : IsWithinTurn plan size c.entity c.segment

@@ -5,8 +5,9 @@ use Rattle.mot_groups.specs.Group.{Segment, bytes_of_group}
 use Rattle.mot_numbers.specs.declared.numbers.TheConstants.{MAX_SEGMENT}
 use Rattle.mot_player.specs.declared.state.State.{State}
 use Rattle.mot_player.specs.Place.{Place, group_for, to_send, with_begun}
+use Rattle.mot_player.specs.Course.{course_of}
 use Rattle.mot_player.specs.PlayerView.{place_of}
-use Rattle.mot_player.specs.Inner.Entities.{IsPlannable, IsWithinTurn}
+use Rattle.mot_player.specs.Inner.Entities.{IsOnCourse, IsPlannable}
 use Rattle.mot_player.specs.State.{view_of}
 
 abbrev pub place_with : State → List (List ℕ) → Place
@@ -16,7 +17,7 @@ place_with p bodies = place_of (view_of p) bodies
 -- group.
 pub record IsFitted (p : State) : Type 0 where
   pub index : p.index < 4
-  pub within : IsWithinTurn p.turn p.segment_size p.entity p.segment
+  pub on_course : IsOnCourse p.turn p.segment_size (course_of p.course)
   pub plannable : IsPlannable p.turn
   pub size : (64 ≤ p.segment_size) × (p.segment_size ≤ MAX_SEGMENT)
   pub group : p.segment_size + 11 ≤ vec_capacity p.group

@@ -1,12 +1,12 @@
 -- What an open server is inspected by.
 use Rattle.std.specs.Prelude.{◌≡◌, ◌⊎◌, ℕ, List, length, Option}
-use Rattle.std.specs.Io.KnownBytes.{Appends, Keeps}
+use Rattle.std.specs.Io.KnownBytes.{Keeps}
 use Rattle.disk_model.specs.Failures.{Rises}
 use Rattle.mot_journal.specs.Image.{Standing}
 use Rattle.mot_journal.specs.Journal.{JournalView}
 use Rattle.mot_numbers.specs.declared.refusal.Refusal.{Refusal}
 use Rattle.mot_numbers.specs.declared.refusal.Refusal.TheVariants.{BadNumber, DeviceFault}
-use Rattle.mot_numbers.specs.declared.refusal.Refusal.TheVariants.{WriteFault}
+use Rattle.mot_numbers.specs.declared.refusal.Refusal.TheVariants.{OutOfMemory, WriteFault}
 use Rattle.mot_player.specs.Place.{Place}
 use Rattle.mot_reading.specs.Inspecting.{bytes_of_all, inspection_text}
 use Rattle.mot_repository.specs.Gap.{IsLongestGap}
@@ -25,17 +25,18 @@ abbrev pub IsCountingFault : Refusal → ℕ → ℕ → Type 0
 IsCountingFault refusal before now =
     (refusal ≡ BadNumber) ⊎ ((refusal ≡ DeviceFault) × Rises before now)
 
--- what was told of a server that plays from this place
+-- what was printed, of which this is known, tells of a server that plays from this place
 pub record HasInspected (journal : JournalView) (place : Place) (s : Standing)
-    (old new : Option (List ℕ)) : Type 0 where
+    (is_printed : List ℕ → Type 0) : Type 0 where
   pub gap : ℕ
   pub longest : IsLongestGap s.extents s.geometry.data_area gap
   pub packets : List (List ℕ)
   pub last : Place
   pub turn : HasPlayedTurn place packets last
-  pub printed : Appends old new (inspection_text s journal.layout journal.count gap packets)
+  pub printed : is_printed (inspection_text s journal.layout journal.count gap packets)
 
 -- why it could not be
 abbrev pub IsInspectingFault : Refusal → ℕ → ℕ → (old new : Option (List ℕ)) → Type 0
 IsInspectingFault refusal before now old new =
-    (refusal ≡ WriteFault) ⊎ (IsCountingFault refusal before now × Keeps old new)
+    (refusal ≡ WriteFault)
+    ⊎ ((IsCountingFault refusal before now ⊎ (refusal ≡ OutOfMemory)) × Keeps old new)

@@ -5,10 +5,10 @@ use Rattle.mot_words.specs.Parts.{disk_app, motcar_top, number_rule, path_rule, 
 
 abbrev pub play_app : App
 play_app =
-    with_rule (with_rule (with_rule (with_rule (with_rule (with_rule (with_rule
+    with_rule (with_rule (with_rule (with_rule (with_rule (with_rule (with_rule (with_rule
     (new_app (codes "play")) (word_rule (codes "DISK"))) (word_rule (codes "PACKETS")))
     (path_rule (codes "folder"))) (path_rule (codes "types"))) (path_rule (codes "lines")))
-    (number_rule (codes "every"))) (number_rule (codes "turns"))
+    (number_rule (codes "every"))) (number_rule (codes "turns"))) (number_rule (codes "directory"))
 
 abbrev pub sync_app : App
 sync_app =

@@ -1,5 +1,6 @@
 -- The tasks of the commands on air.
-use Rattle.std.specs.Prelude.{◌≡◌, List, Option, codes, option_map}
+use Rattle.std.specs.Prelude.{◌≡◌, ◌&&◌, ◌||◌, Bool, true, List, Option, codes, is_none, is_some}
+use Rattle.std.specs.Prelude.{option_map}
 use Rattle.std.specs.Borrow.{Bor}
 use Rattle.clap.specs.Words.{Row, Text, first_of}
 use Rattle.mot_words.specs.Given.{IsGiven, NameWord}
@@ -11,6 +12,16 @@ abbrev pub NameOption : List Row → Text → Option (Bor Text) → Type 0
 NameOption rows name word =
     option_map (λ (word : Bor Text). word.now) word ≡ first_of name rows
 
+-- an option is given with the other of which it says more, or is not given
+abbrev pub goes_with : List Row → Text → Text → Bool
+goes_with rows name other = is_none (first_of name rows) || is_some (first_of other rows)
+
+-- behind how many packets lines are read is said of lines, and suffixes of a folder
+abbrev pub is_whole : List Row → Bool
+is_whole rows =
+    goes_with rows (codes "every") (codes "lines") && goes_with rows (codes "types")
+    (codes "folder")
+
 -- a command of this name, with these words behind it, is this task
 abbrev pub IsAirTask : Text → List Row → AirTask → Type 0
 IsAirTask name rows (Play p) =
@@ -19,6 +30,7 @@ IsAirTask name rows (Play p) =
     × NameOption rows (codes "folder") p.folder × NameOption rows (codes "types") p.types
     × NameOption rows (codes "lines") p.lines × IsGiven (first_of (codes "every") rows) p.every
     × IsGiven (first_of (codes "turns") rows) p.turns
+    × IsGiven (first_of (codes "directory") rows) p.directory × (is_whole rows ≡ true)
 IsAirTask name rows (Sync disk folder types) =
     (name ≡ codes "sync") × NameWord rows (codes "DISK") disk.now
     × NameWord rows (codes "DIR") folder.now × NameOption rows (codes "types") types

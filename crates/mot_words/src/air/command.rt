@@ -42,6 +42,12 @@ const VERBS: &[Verb] = &[
                 kind: Kind::Number,
                 help: "End after so many whole turns [default: 16 into a file, else without end]",
             },
+            Argument {
+                name: "directory",
+                kind: Kind::Number,
+                help: "Send the directory again after so many packets; 0: at each turn's beginning \
+                    [default: 340 without end, else 0]",
+            },
         ],
     },
     Verb {

@@ -1,8 +1,8 @@
 //! What the words of the command line ask for.
-ghost use Rattle.std.specs.Prelude.{◌≡◌, IfNone, IfSome, codes, option_map};
+ghost use Rattle.std.specs.Prelude.{◌≡◌, IfNone, IfSome, codes, is_none, option_map};
 ghost use Rattle.std.specs.Borrow.{Bor};
 ghost use Rattle.clap.specs.Words.{Text, first_of, found_of, rows_of};
-ghost use Rattle.mot_words.specs.Air.Task.{IsAirTask};
+ghost use Rattle.mot_words.specs.Air.Task.{IsAirTask, goes_with, is_whole};
 ghost use Rattle.mot_words.specs.Given.{NameWord};
 ghost use Rattle.mot_words.specs.declared.air.task.AirTask.{AirTask};
 
@@ -26,6 +26,9 @@ pub struct PlayTask<'a> {
     pub every: Option<u32>,
     /// How many whole turns; where none is given, 16 into a file, and else without end.
     pub turns: Option<u32>,
+    /// After how many packets the directory is sent again, with 0 at each turn's beginning alone;
+    /// where no number is given, 340 without end, and else 0.
+    pub directory: Option<u32>,
 }
 
 /// What a command on air is to do.
@@ -48,7 +51,8 @@ pub enum AirTask<'a> {
     Inspect(&'a str),
 }
 
-/// The task of a command and the words behind it; `None` where a number is none.
+/// The task of a command and the words behind it; `None` where a number is none, or an option is
+/// given without the other of which it says more.
 pub fn air_task<'a>(name: &str, words: &ArgMatches<'a>) -> Option<AirTask<'a>>
     ensures some { IfSome result (IsAirTask name.now (rows_of (found_of words.now))) }
     ensures none { IfNone result ((task : AirTask)
@@ -72,6 +76,9 @@ fn play_of<'a>(disk: &'a str, words: &ArgMatches<'a>) -> Option<AirTask<'a>>
     ensures none { IfNone result ((task : AirTask)
         → IsAirTask (codes "play") (rows_of (found_of words.now)) task → ⊥) }
 {
+    if !is_whole(words) {
+        return None;
+    }
     Some(AirTask::Play(PlayTask {
         disk,
         packets: word_of(words, "PACKETS")?,
@@ -80,6 +87,7 @@ fn play_of<'a>(disk: &'a str, words: &ArgMatches<'a>) -> Option<AirTask<'a>>
         lines: option_of(words, "lines"),
         every: number_of(words, "every")?,
         turns: number_of(words, "turns")?,
+        directory: number_of(words, "directory")?,
     }))
 }
 
@@ -96,6 +104,28 @@ fn sync_of<'a>(disk: &'a str, words: &ArgMatches<'a>) -> Option<AirTask<'a>>
         folder: word_of(words, "DIR")?,
         types: option_of(words, "types"),
     })
+}
+
+/// Whether each option is given with the other of which it says more: `--every` with `--lines`, and
+/// `--types` with `--folder`.
+fn is_whole(words: &ArgMatches<'_>) -> bool
+    ensures { result ≡ is_whole (rows_of (found_of words.now)) }
+{
+    goes_with(words, "every", "lines") && goes_with(words, "types", "folder")
+}
+
+/// Whether an option is given with another one, or is not given.
+fn goes_with(words: &ArgMatches<'_>, name: &str, other: &str) -> bool
+    ensures { result ≡ goes_with (rows_of (found_of words.now)) name.now other.now }
+{
+    is_absent(words, name) || !is_absent(words, other)
+}
+
+/// Whether an option was not given.
+fn is_absent(words: &ArgMatches<'_>, name: &str) -> bool
+    ensures { result ≡ is_none (first_of name.now (rows_of (found_of words.now))) }
+{
+    option_of(words, name).is_none()
 }
 
 /// The word of an option, if it was given.

@@ -1,4 +1,4 @@
-use Rattle.std.proofs.Common.{ℕ, List, Some, [], ◌∷◌, inr, subst, sym}
+use Rattle.std.proofs.Common.{ℕ, true, false, List, Some, [], ◌∷◌, inr, subst, sym}
 use Rattle.std.proofs.lemmas.Result.{on_ok_weaker}
 use Rattle.std.specs.Prelude.{IfErr, OnOk}
 use Rattle.mot_air.proofs.Begun.{IfErr-one, done-is, refused-is}
@@ -21,15 +21,38 @@ returns-clause-done g c = λ is.
     (Some l) in (
       target,
       c.in-Ok.ensures.target,
-      subst (OnPlayed P) (sym c.done.ensures.disk)
-          (done-is ended.result c.done.result.result
+      subst (OnPlayed P) (sym c.played.ensures.disk)
+          (done-is true ended.result c.played.result.result
           (on_ok_weaker ended.result (λ p. since_opened c.in-Ok-open_file.disk.disk ended.disk.disk
           (P taken) opens.first ended.disk.begins c.play_into-ended.ensures.keeps p)
           (subst (λ (b : List (List ℕ)). OnOk ended.result
           (Plays when (turns_of target c.args.turns) (Some b) (Some taken)
           (begun_state c.in-Ok-open_file.disk) (begun_state ended.disk)))
           c.in-Ok.ensures.begun c.play_into-ended.ensures.done))
-          c.done.ensures.refused is),
+          c.played.ensures.refused is),
+    )
+
+pub returns-clause-told : goal.returns-clause-told
+returns-clause-told g c = λ is.
+    let opens = c.in-Ok-open_file.ensures in
+    let target = target_of c.in-Ok.opened in
+    let ended = c.play_into-ended.result.ended in
+    let when = when_changed c.args.lines c.args.folder in
+    let path = c.args.packets.now in
+    let taken = c.play_into-ended.result.taken.notes.all in
+    let P = λ (l : List (List ℕ)). Plays when (turns_of target c.args.turns) (Some (path ∷ []))
+    (Some l) in (
+      target,
+      c.in-Ok.ensures.target,
+      subst (OnPlayed P) (sym c.played.ensures.disk)
+          (done-is false ended.result c.played.result.result
+          (on_ok_weaker ended.result (λ p. since_opened c.in-Ok-open_file.disk.disk ended.disk.disk
+          (P taken) opens.first ended.disk.begins c.play_into-ended.ensures.keeps p)
+          (subst (λ (b : List (List ℕ)). OnOk ended.result
+          (Plays when (turns_of target c.args.turns) (Some b) (Some taken)
+          (begun_state c.in-Ok-open_file.disk) (begun_state ended.disk)))
+          c.in-Ok.ensures.begun c.play_into-ended.ensures.done))
+          c.played.ensures.refused is),
     )
 
 pub returns-clause-refused : goal.returns-clause-refused
@@ -40,13 +63,14 @@ returns-clause-refused g c =
     let when = when_changed c.args.lines c.args.folder in
     let path = c.args.packets.now in
     let taken = c.play_into-ended.result.taken.notes.all in
-    refused-is _ ended.result c.done.result.result c.done.ensures.done c.done.ensures.refused
+    refused-is _ c.play_into-ended.result.is_fine ended.result c.played.result.result
+    c.played.ensures.done c.played.ensures.refused
     (IfErr-one ended.result (λ r p.
     let P = λ (l : List (List ℕ)). FailsPlaying target when c.args.turns r (path ∷ []) l in
     inr (
       target,
       c.in-Ok.ensures.target,
-      subst (OnPlayed P) (sym c.done.ensures.disk)
+      subst (OnPlayed P) (sym c.played.ensures.disk)
           (since_opened c.in-Ok-open_file.disk.disk ended.disk.disk (P taken) opens.first
           ended.disk.begins c.play_into-ended.ensures.keeps p),
     )) (subst (λ (b : List (List ℕ)). IfErr ended.result

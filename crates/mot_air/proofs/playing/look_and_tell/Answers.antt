@@ -1,4 +1,4 @@
-use Rattle.std.proofs.Common.{inl, inr, refl, subst}
+use Rattle.std.proofs.Common.{◌∙◌, Err, ap, inl, inr, refl, subst}
 use Rattle.std.specs.Io.KnownBytes.{Appends}
 use Rattle.mot_air.specs.Inner.Looked.{broken, told, untold}
 use Rattle.mot_air.proofs.playing.look_and_tell.Goals as goal
@@ -19,10 +19,10 @@ returns-in_err-looked-clause-fault g c =
 
 pub returns-in_err-told-clause-looked : goal.returns-in_err-told-clause-looked
 returns-in_err-told-clause-looked g c = λ s holds honest.
-    untold c.look_at_folder-looked.new.report c.in_err-told.field-0.0
+    untold c.look_at_folder-looked.new.report
     (same_error c.from_residual-in_err-told.result c.in_err-told.field-0.0
-    c.from_residual-in_err-told.ensures.1)
-    (inl c.in_err-told.ensures.fault) (c.in_ok-looked.ensures.looked s holds honest)
+    c.from_residual-in_err-told.ensures.1 ∙ ap Err c.in_err-told.ensures.fault)
+    (c.in_ok-looked.ensures.looked s holds honest)
 
 pub returns-in_err-told-clause-fault : goal.returns-in_err-told-clause-fault
 returns-in_err-told-clause-fault g c =
@@ -30,17 +30,9 @@ returns-in_err-told-clause-fault g c =
     c.from_residual-in_err-told.ensures.1)
     (inr (unwritten c.in_err-told.ensures.fault c.in_ok-looked.ensures.faults.failures))
 
-pub returns-then-report-clause-looked : goal.returns-then-report-clause-looked
-returns-then-report-clause-looked g c = λ s holds honest.
-    untold c.look_at_folder-looked.new.report _ refl (inr refl)
-    (c.in_ok-looked.ensures.looked s holds honest)
-
-pub returns-then-report-clause-fault : goal.returns-then-report-clause-fault
-returns-then-report-clause-fault g c = inl (no_memory refl c.in_ok-looked.ensures.faults.failures)
-
 pub returns-clause-looked : goal.returns-clause-looked
 returns-clause-looked g c = λ s holds honest.
-    told c.look_at_folder-looked.new.report refl c.if-report.false
+    told c.look_at_folder-looked.new.report refl c.in_ok-looked.ensures.whole
     (subst (Appends (g.L.Write.contents c.args.log.now)
     (g.L.Write.contents c.write_lines-told.new.log)) c.as_slice.ensures.value
     c.in_ok-told.ensures.written)

@@ -8,7 +8,7 @@ use Rattle.mot_air.proofs.Kept.{lives_stopped, plays_on}
 use Rattle.mot_air.proofs.Played.{plays, plays_by, stops, stops_by}
 use Rattle.mot_air.proofs.playing.play_with.Given as given
 use Rattle.mot_air.proofs.playing.play_with.Goals as goal
-use Rattle.mot_air.proofs.playing.play_with.Goals.{After-feed-result}
+use Rattle.mot_air.proofs.playing.play_with.Goals.{After-feed_every-result}
 use Rattle.mot_feed.proofs.Laws.{grows_nil}
 use Rattle.mot_reading.specs.Opening.{IsUnopened}
 use Rattle.mot_reading.proofs.Laws.{unopened_is}
@@ -36,42 +36,44 @@ returns-in-Err-clause-called_before g c =
     ))
 
 -- the playing, with its calls
-by : (g : given.Over) (c : After-feed-result g) → OnOk c.feed-result.result
+by : (g : given.Over) (c : After-feed_every-result g) → OnOk c.feed_every-result.result
     (PlaysBy g.U.Update.when c.args.turns (g.O.Outlet.writes c.args.outlet.now)
-    (g.O.Outlet.writes c.feed-result.new.outlet) (g.U.Update.moments c.args.update.now)
-    (g.U.Update.moments c.feed-result.new.update) (g.D.Disk.state c.args.disk)
-    (g.D.Disk.state c.feed-result.new.server.disk))
+    (g.O.Outlet.writes c.feed_every-result.new.outlet) (g.U.Update.moments c.args.update.now)
+    (g.U.Update.moments c.feed_every-result.new.update) (g.D.Disk.state c.args.disk)
+    (g.D.Disk.state c.feed_every-result.new.server.disk))
 by g c =
     let opens = c.in-Ok.ensures in
-    let feeds = c.feed-result.ensures in
-    plays_by g.D.Disk.state c.args.disk c.in-Ok.server c.feed-result.new.server g.met.D.Disk.sound
-    opens.only_syncs opens.opened opens.calm opens.going opens.at_start c.geometry.ensures.valid
-    feeds.keeps feeds.continuous g.U.Update.when c.args.turns _ _ _ _ c.feed-result.result feeds.fed
+    let feeds = c.feed_every-result.ensures in
+    plays_by g.D.Disk.state c.args.disk c.in-Ok.server c.feed_every-result.new.server
+    g.met.D.Disk.sound opens.only_syncs opens.opened opens.calm opens.going opens.at_start
+    c.geometry.ensures.valid
+    feeds.keeps feeds.continuous g.U.Update.when c.args.turns _ _ _ _
+    c.feed_every-result.result feeds.fed
 
 pub returns-clause-called : goal.returns-clause-called
 returns-clause-called g c =
     let state = g.D.Disk.state in
-    let from = (goal.at.returns-clause-called g c).After-feed-result in
+    let from = (goal.at.returns-clause-called g c).After-feed_every-result in
     let old = g.O.Outlet.writes c.args.outlet.now in
-    let new = g.O.Outlet.writes c.feed-result.new.outlet in
+    let new = g.O.Outlet.writes c.feed_every-result.new.outlet in
     let earlier = g.U.Update.moments c.args.update.now in
-    let later = g.U.Update.moments c.feed-result.new.update in
-    subst (λ d. OnOk c.feed-result.result (PlaysBy g.U.Update.when c.args.turns old new
+    let later = g.U.Update.moments c.feed_every-result.new.update in
+    subst (λ d. OnOk c.feed_every-result.result (PlaysBy g.U.Update.when c.args.turns old new
     earlier later (state c.args.disk) (state d))) (sym c.into_disk.ensures) (by g from)
 
 pub returns-clause-done : goal.returns-clause-done
 returns-clause-done g c =
     let state = g.D.Disk.state in
-    let from = (goal.at.returns-clause-done g c).After-feed-result in
+    let from = (goal.at.returns-clause-done g c).After-feed_every-result in
     let opens = c.in-Ok.ensures in
-    let feeds = c.feed-result.ensures in
-    let result = c.feed-result.result in
+    let feeds = c.feed_every-result.ensures in
+    let result = c.feed_every-result.result in
     let old = g.O.Outlet.writes c.args.outlet.now in
-    let new = g.O.Outlet.writes c.feed-result.new.outlet in
+    let new = g.O.Outlet.writes c.feed_every-result.new.outlet in
     subst (λ d. OnOk result (Plays g.U.Update.when c.args.turns old new (state c.args.disk)
     (state d)))
     (sym c.into_disk.ensures)
-    (plays state c.args.disk c.in-Ok.server c.feed-result.new.server g.met.D.Disk.sound
+    (plays state c.args.disk c.in-Ok.server c.feed_every-result.new.server g.met.D.Disk.sound
     opens.only_syncs
     opens.opened opens.calm opens.going opens.at_start c.geometry.ensures.valid feeds.keeps
     feeds.continuous g.U.Update.when c.args.turns old new _ _ result feeds.calm (by g from))
@@ -80,16 +82,16 @@ pub returns-clause-called_before : goal.returns-clause-called_before
 returns-clause-called_before g c =
     let state = g.D.Disk.state in
     let opens = c.in-Ok.ensures in
-    let feeds = c.feed-result.ensures in
-    let result = c.feed-result.result in
+    let feeds = c.feed_every-result.ensures in
+    let result = c.feed_every-result.result in
     let old = g.O.Outlet.writes c.args.outlet.now in
-    let new = g.O.Outlet.writes c.feed-result.new.outlet in
+    let new = g.O.Outlet.writes c.feed_every-result.new.outlet in
     let earlier = g.U.Update.moments c.args.update.now in
-    let later = g.U.Update.moments c.feed-result.new.update in
+    let later = g.U.Update.moments c.feed_every-result.new.update in
     subst (λ d. IfErr result (λ r. StopsBy r g.U.Update.when old new earlier later
     (state c.args.disk) (state d)))
     (sym c.into_disk.ensures)
-    (stops_by state c.args.disk c.in-Ok.server c.feed-result.new.server g.met.D.Disk.sound
+    (stops_by state c.args.disk c.in-Ok.server c.feed_every-result.new.server g.met.D.Disk.sound
     opens.only_syncs
     opens.opened opens.calm opens.going opens.at_start c.geometry.ensures.valid feeds.keeps
     feeds.continuous g.U.Update.when old new earlier later result feeds.part)
@@ -98,18 +100,18 @@ pub returns-clause-refused : goal.returns-clause-refused
 returns-clause-refused g c =
     let state = g.D.Disk.state in
     let opens = c.in-Ok.ensures in
-    let feeds = c.feed-result.ensures in
-    let result = c.feed-result.result in
+    let feeds = c.feed_every-result.ensures in
+    let result = c.feed_every-result.result in
     let old = g.O.Outlet.writes c.args.outlet.now in
-    let new = g.O.Outlet.writes c.feed-result.new.outlet in
+    let new = g.O.Outlet.writes c.feed_every-result.new.outlet in
     subst (λ d. IfErr result
     (λ r. StopsPlaying r g.U.Update.when old new (state c.args.disk) (state d)))
     (sym c.into_disk.ensures)
-    (stops state c.args.disk c.in-Ok.server c.feed-result.new.server g.met.D.Disk.sound
+    (stops state c.args.disk c.in-Ok.server c.feed_every-result.new.server g.met.D.Disk.sound
     opens.only_syncs
     opens.opened opens.calm opens.going opens.at_start c.geometry.ensures.valid feeds.keeps
     feeds.continuous g.U.Update.when old new (g.U.Update.moments c.args.update.now)
-    (g.U.Update.moments c.feed-result.new.update) result feeds.fault feeds.part)
+    (g.U.Update.moments c.feed_every-result.new.update) result feeds.fault feeds.part)
 
 pub returns-in-Err-clause-lives_stopped : goal.returns-in-Err-clause-lives_stopped
 returns-in-Err-clause-lives_stopped g c =
@@ -118,7 +120,8 @@ returns-in-Err-clause-lives_stopped g c =
     let writes = g.O.Outlet.writes c.args.outlet.now in λ geometry first done was.
     subst (λ (e : _). (state e.disk).IsHonest → IfErr e.result (λ r.
     IsUnopened r (state c.args.disk) (state e.disk)
-    ⊎ StopsOn geometry first done r g.U.Update.when writes writes (state c.args.disk) (state e.disk)))
+    ⊎ StopsOn geometry first done r g.U.Update.when writes writes (state c.args.disk)
+    (state e.disk)))
     (sym c.unopened.ensures)
     (λ honest. inl
     (unopened_is _ (state c.args.disk) _ opens.refused opens.calm opens.only_syncs.still))
@@ -126,19 +129,20 @@ returns-in-Err-clause-lives_stopped g c =
 pub returns-clause-lives : goal.returns-clause-lives
 returns-clause-lives g c =
     let state = g.D.Disk.state in
-    let from = (goal.at.returns-clause-lives g c).After-feed-result in
+    let from = (goal.at.returns-clause-lives g c).After-feed_every-result in
     let opens = c.in-Ok.ensures in
-    let feeds = c.feed-result.ensures in
-    let result = c.feed-result.result in
+    let feeds = c.feed_every-result.ensures in
+    let result = c.feed_every-result.result in
     let old = g.O.Outlet.writes c.args.outlet.now in
-    let new = g.O.Outlet.writes c.feed-result.new.outlet in λ geometry first done was.
+    let new = g.O.Outlet.writes c.feed_every-result.new.outlet in λ geometry first done was.
     subst (λ d. (state d).IsHonest → OnOk result
-    (PlaysOn geometry first done g.U.Update.when c.args.turns old new (state c.args.disk) (state d)))
+    (PlaysOn geometry first done g.U.Update.when c.args.turns old new (state c.args.disk)
+    (state d)))
     (sym c.into_disk.ensures)
     (λ honest. on_ok_weaker result
     (plays_on geometry first done g.U.Update.when c.args.turns old new (state c.args.disk)
-    (state c.feed-result.new.server.disk) was honest)
-    (plays state c.args.disk c.in-Ok.server c.feed-result.new.server g.met.D.Disk.sound
+    (state c.feed_every-result.new.server.disk) was honest)
+    (plays state c.args.disk c.in-Ok.server c.feed_every-result.new.server g.met.D.Disk.sound
     opens.only_syncs
     opens.opened opens.calm opens.going opens.at_start c.geometry.ensures.valid feeds.keeps
     feeds.continuous g.U.Update.when c.args.turns old new _ _ result feeds.calm (by g from)))
@@ -147,18 +151,19 @@ pub returns-clause-lives_stopped : goal.returns-clause-lives_stopped
 returns-clause-lives_stopped g c =
     let state = g.D.Disk.state in
     let opens = c.in-Ok.ensures in
-    let feeds = c.feed-result.ensures in
-    let result = c.feed-result.result in
+    let feeds = c.feed_every-result.ensures in
+    let result = c.feed_every-result.result in
     let old = g.O.Outlet.writes c.args.outlet.now in
-    let new = g.O.Outlet.writes c.feed-result.new.outlet in λ geometry first done was.
+    let new = g.O.Outlet.writes c.feed_every-result.new.outlet in λ geometry first done was.
     subst (λ d. (state d).IsHonest → IfErr result (λ r.
     IsUnopened r (state c.args.disk) (state d)
     ⊎ StopsOn geometry first done r g.U.Update.when old new (state c.args.disk) (state d)))
     (sym c.into_disk.ensures)
-    (λ honest. IfErr-one result (λ r stops. lives_stopped geometry first done r g.U.Update.when old new
-    (state c.args.disk) (state c.feed-result.new.server.disk) was honest stops)
-    (stops state c.args.disk c.in-Ok.server c.feed-result.new.server g.met.D.Disk.sound
+    (λ honest. IfErr-one result (λ r stops. lives_stopped geometry first done r g.U.Update.when old
+    new
+    (state c.args.disk) (state c.feed_every-result.new.server.disk) was honest stops)
+    (stops state c.args.disk c.in-Ok.server c.feed_every-result.new.server g.met.D.Disk.sound
     opens.only_syncs
     opens.opened opens.calm opens.going opens.at_start c.geometry.ensures.valid feeds.keeps
     feeds.continuous g.U.Update.when old new (g.U.Update.moments c.args.update.now)
-    (g.U.Update.moments c.feed-result.new.update) result feeds.fault feeds.part))
+    (g.U.Update.moments c.feed_every-result.new.update) result feeds.fault feeds.part))

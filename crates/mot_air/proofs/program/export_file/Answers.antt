@@ -1,4 +1,4 @@
-use Rattle.std.proofs.Common.{◌≡◌, ◌⊎◌, inr, subst, sym}
+use Rattle.std.proofs.Common.{true, ◌≡◌, ◌⊎◌, inr, subst, sym}
 use Rattle.std.specs.Prelude.{IfErr}
 use Rattle.std.proofs.lemmas.Result.{on_ok_weaker}
 use Rattle.mot_air.proofs.Begun.{IfErr-one, done-is, refused-is}
@@ -15,7 +15,7 @@ returns-in-Ok-clause-done g c = λ is.
     let old = g.W.Write.contents c.args.writer.now in
     let new = g.W.Write.contents c.export_disk.new.writer in
     subst (OnOpened (Exports old new)) (sym c.done.ensures.disk)
-    (done-is ended.result c.done.result.result
+    (done-is true ended.result c.done.result.result
     (on_ok_weaker ended.result (λ p. since_opened c.in-Ok.disk.disk ended.disk.disk
     (Exports old new)
     opens.first ended.disk.begins c.export_disk.ensures.keeps p) c.export_disk.ensures.done)
@@ -29,7 +29,7 @@ returns-in-Ok-clause-refused g c =
     let new = g.W.Write.contents c.export_disk.new.writer in
     subst (λ (d : _). IfErr c.done.result.result (λ r. ((r ≡ DeviceFault) × IsUntold d old new)
     ⊎ OnOpened (StopsExporting r old new) d)) (sym c.done.ensures.disk)
-    (refused-is _ ended.result c.done.result.result c.done.ensures.done c.done.ensures.refused
+    (refused-is _ true ended.result c.done.result.result c.done.ensures.done c.done.ensures.refused
     (IfErr-one ended.result (λ r p. inr (since_opened c.in-Ok.disk.disk ended.disk.disk
     (StopsExporting r old new)
     opens.first ended.disk.begins c.export_disk.ensures.keeps p))

@@ -39,7 +39,11 @@ returns-clause-done g c = λ is.
     c.in-Ok-line_folder.ensures.given c.followed-folder.ensures) (c.play_file.ensures.done is)
 
 pub returns-clause-told : goal.returns-clause-told
-returns-clause-told g c = c.play_file.ensures.told
+returns-clause-told g c = λ is.
+    let task = c.args.task in
+    subst (λ when. PlaysTo task.packets.now when task.turns c.play_file.result.disk)
+    (same_changed (λ (followed : Followed). followed.path) _ _ _ _
+    c.in-Ok-line_folder.ensures.given c.followed-folder.ensures) (c.play_file.ensures.told is)
 
 pub returns-clause-refused : goal.returns-clause-refused
 returns-clause-refused g c =

@@ -1,21 +1,22 @@
-use Rattle.std.proofs.Common.{◌≡◌, ◌∙◌, arith, inl, inr, map, subst, sym}
+use Rattle.std.proofs.Common.{◌≡◌, inl, inr, map, subst, sym}
 use Rattle.std.proofs.KnownBytes.{Keeps-refl}
 use Rattle.std.specs.Io.KnownBytes.{Keeps}
 use Rattle.clap.specs.Words.{found_of, rows_of}
-use Rattle.mot_air.specs.Program.{IsRefused, IsUntouched, Succeeds, no_help, no_memory}
+use Rattle.mot_air.specs.Program.{AskForNothing, IsRefused, IsUntouched, Succeeds, no_help}
+use Rattle.mot_air.specs.Program.{no_memory}
 use Rattle.mot_air.proofs.program.run_air_on.Goals as goal
 use Rattle.mot_words.proofs.Laws.{AreWrong-fault, AreWrong-none, AskBy-matched, AskForHelp-shown}
 use Rattle.mot_words.proofs.Laws.{air_simple}
 use Rattle.mot_words.specs.Air.Command.{air_app}
 use Rattle.mot_words.specs.Air.Task.{IsAirTask}
-use Rattle.mot_words.specs.Asked.{AreWrong}
 
 pub returns-clause-done : goal.returns-clause-done
 returns-clause-done g c =
     let words = map g.S.AsStr.text c.args.words.now in
     let old = g.W.Write.contents c.args.writer.now in
     let new = g.W.Write.contents c.explain.new.writer in
-    subst (λ (e : _). e.status ≡ 0 → Succeeds words e.disk old new) (sym c.untouched-in-Err.ensures) (λ z. inr (
+    subst (λ (e : _). e.status ≡ 0 → Succeeds words e.disk old new)
+    (sym c.untouched-in-Err.ensures) (λ z. inr (
       AskForHelp-shown air_app words c.in-Err.error c.in-Err.ensures.kinds
           (c.explain.ensures.help z),
       tt,
@@ -39,10 +40,10 @@ returns-clause-usage g c =
     let words = map g.S.AsStr.text c.args.words.now in
     let old = g.W.Write.contents c.args.writer.now in
     let new = g.W.Write.contents c.explain.new.writer in
-    subst (λ (e : _). e.status ≡ 2 → AreWrong air_app words × IsUntouched e.disk × Keeps old new)
+    subst (λ (e : _). e.status ≡ 2 → AskForNothing words × IsUntouched e.disk × Keeps old new)
     (sym c.untouched-in-Err.ensures) (λ z. (
-      AreWrong-fault air_app words c.in-Err.error c.in-Err.ensures.kinds
-          (c.explain.ensures.usage z).0 (c.explain.ensures.usage z).1,
+      inl (AreWrong-fault air_app words c.in-Err.error c.in-Err.ensures.kinds
+          (c.explain.ensures.usage z).0 (c.explain.ensures.usage z).1),
       tt,
       (c.explain.ensures.usage z).2,
     ))
@@ -51,19 +52,16 @@ pub returns-in-Ok-clause-usage : goal.returns-in-Ok-clause-usage
 returns-in-Ok-clause-usage g c =
     let words = map g.S.AsStr.text c.args.words.now in
     let old = g.W.Write.contents c.args.writer.now in
-    subst (λ (e : _). e.status ≡ 2 → AreWrong air_app words × IsUntouched e.disk × Keeps old old)
+    subst (λ (e : _). e.status ≡ 2 → AskForNothing words × IsUntouched e.disk × Keeps old old)
     (sym c.untouched.ensures) (λ z. (
-      AreWrong-none air_app words air_simple c.in-Ok.matches c.in-Ok.ensures.matches
-          c.in-None.ensures.rows,
+      inl (AreWrong-none air_app words air_simple c.in-Ok.matches c.in-Ok.ensures.matches
+          c.in-None.ensures.rows),
       tt,
       Keeps-refl _,
     ))
 
 pub returns-in-Some-clause-status : goal.returns-in-Some-clause-status
-returns-in-Some-clause-status g c = elim c.run_command.ensures.status [
-  | inl zero ↦ inl zero
-  | inr one ↦ inr (inl one)
-]
+returns-in-Some-clause-status g c = c.run_command.ensures.status
 
 pub returns-in-Some-clause-done : goal.returns-in-Some-clause-done
 returns-in-Some-clause-done g c =
@@ -80,7 +78,8 @@ returns-in-Some-clause-refused g c =
     c.in-Ok.ensures.matches c.in-Some.ensures.name c.in-Some.ensures.rows)
 
 pub returns-in-Some-clause-usage : goal.returns-in-Some-clause-usage
-returns-in-Some-clause-usage g c = λ two. elim c.run_command.ensures.status [
-  | inl zero ↦ absurd (let e : 0 ≡ 2 = sym zero ∙ two in omega (arith, e))
-  | inr one ↦ absurd (let e : 1 ≡ 2 = sym one ∙ two in omega (arith, e))
-]
+returns-in-Some-clause-usage g c =
+    let words = map g.S.AsStr.text c.args.words.now in
+    c.run_command.ensures.usage words (AskBy-matched air_app words IsAirTask air_simple
+    c.in-Ok.matches c.in-Some.name.now (rows_of (found_of c.in-Some.rest.now))
+    c.in-Ok.ensures.matches c.in-Some.ensures.name c.in-Some.ensures.rows)

@@ -37,7 +37,8 @@ returns-in_err-write_bytes-2-clause-front g c =
     rw p.1 (
       p.2 ∙ broken.0,
       WritesFront-before (codes "formatted " ++ number) (10 ∷ []) old new
-          (WritesFront-after (codes "formatted ") number old mid new c.in_ok-write_bytes.ensures.written
+          (WritesFront-after (codes "formatted ") number old mid new
+          c.in_ok-write_bytes.ensures.written
           (subst (λ l. WritesFront l mid new) is broken.1)),
     )
 

@@ -44,4 +44,4 @@ returns-clause-refused g c =
     (sym c.into_disk.ensures)
     (stops state c.args.disk c.in-Ok.server c.write_inspection-result.new.server g.met.D.Disk.sound
     opens.only_syncs opens.opened opens.going opens.at_start calls.only_reads old new result
-    calls.fault)
+    calls.broken calls.fault)

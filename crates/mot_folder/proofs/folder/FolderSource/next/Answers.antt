@@ -1,4 +1,4 @@
-use Rattle.std.proofs.Common.{◌≡◌, ◌∙◌, ◌<◌, ◌≤◌, ◌+◌, arith, false, length, subst, take, true}
+use Rattle.std.proofs.Common.{◌∙◌, ◌<◌, arith, length, subst, take}
 use Rattle.mot_folder.proofs.Either.{then_given, then_missed}
 use Rattle.mot_folder.proofs.folder.FolderSource.next.Goals as goal
 use Rattle.mot_server.specs.declared.running.Attempt.TheVariants.{Refused}

@@ -1,4 +1,4 @@
-use Rattle.std.proofs.Common.{◌≡◌, ℕ, Bool, true, false, List, Option, None, [], refl, sym, subst}
+use Rattle.std.proofs.Common.{◌≡◌, ℕ, Bool, true, false, List, Option, None, [], refl, sym}
 use Rattle.std.proofs.Common.{◌∙◌}
 use Rattle.disk_model.specs.Disk.{State}
 use Rattle.disk_model.proofs.Laws.{unchanged_none}
@@ -18,9 +18,8 @@ updating_by : {D : Type 0} (old new : ServerView D) (start now : State) (s : Sta
     → HasLookedAtFolder old new start now s path report fault
     → IsUpdating old new start now s may fault
 updating_by old new start now s may path report fault is
-    (unlisted refused none run entries told are) =
-    subst (λ f. IsUpdating old new start now s may f) (sym none)
-    (record { commands = []; marks = []; run = run; waits = λ e. refl })
+    (unlisted refusal why refused ends run entries told are) =
+    record { commands = []; marks = []; run = run; waits = λ e. refl }
 updating_by old new start now s may path report fault is (listed names shown looked seen all told) =
     record {
       commands = looked.runs.commands;

@@ -1,20 +1,28 @@
-use Rattle.std.proofs.Common.{refl}
+use Rattle.std.proofs.Common.{ℕ, List, ap, ◌∙◌}
+use Rattle.mot_groups.specs.Group.{Segment}
+use Rattle.mot_numbers.specs.PacketLength.{room_of}
+use Rattle.mot_player.specs.Place.{opened_place}
+use Rattle.mot_player.specs.PlayerView.{turn_with, waiting_of}
+use Rattle.mot_player.specs.Turn.{Turn}
 use Rattle.mot_player.proofs.Continuous.{steps-are-continuous}
 use Rattle.mot_player.proofs.Ending.{turns-end}
 use Rattle.mot_player.proofs.GoesOn.{changes-go_on, requests-go_on}
 use Rattle.mot_player.proofs.WholeTurn.{turns_read_as_their_carousels}
 use Rattle.mot_player.proofs.Segments.{segments_from-end}
 use Rattle.mot_player.proofs.Rounds.{rounds_are_continuous}
+use Rattle.mot_player.proofs.Staying.{bodies-go_on, changes-come-next, directory-comes}
 use Rattle.mot_player.proofs.player.Player.new.Goals as goal
 
 pub returns-clause-opened : goal.returns-clause-opened
 returns-clause-opened c = λ bodies e.
-    rw (
-      c.in_ok-last_directory.ensures.none,
-      c.in_ok-last_body.ensures.none,
-      segments_from-end c.args.turn bodies c.args.segment_size c.entity_count-entity.result e
-          c.entity_count-entity.ensures.count,
-    ) refl
+    let turn : Turn = turn_with c.args.turn bodies in
+    let size : ℕ = c.args.segment_size in
+    rw (c.in_ok-last_directory.ensures.none, c.in_ok-last_body.ensures.none)
+    (ap (λ (w : List Segment).
+    record (opened_place c.args.address (room_of c.args.full_length) size turn) { waiting = w })
+    (ap (waiting_of size turn) c.ended-course.ensures.course
+    ∙ segments_from-end c.args.turn bodies size c.entity_count.result e
+    c.entity_count.ensures.count))
 
 pub returns-clause-continuous : goal.returns-clause-continuous
 returns-clause-continuous c = steps-are-continuous
@@ -33,3 +41,12 @@ returns-clause-turns_end c = turns-end
 
 pub returns-clause-rounds : goal.returns-clause-rounds
 returns-clause-rounds c = rounds_are_continuous
+
+pub returns-clause-directory_comes : goal.returns-clause-directory_comes
+returns-clause-directory_comes c = directory-comes
+
+pub returns-clause-changes_next : goal.returns-clause-changes_next
+returns-clause-changes_next c = changes-come-next
+
+pub returns-clause-bodies_go_on : goal.returns-clause-bodies_go_on
+returns-clause-bodies_go_on c = bodies-go_on

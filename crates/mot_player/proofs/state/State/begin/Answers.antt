@@ -88,7 +88,7 @@ returns-in_err-read_front-clause-fitted g c =
     let fitted = c.requires.fitted in
     record {
       index = fitted.index;
-      within = fitted.within;
+      on_course = fitted.on_course;
       plannable = fitted.plannable;
       size = fitted.size;
       group = fitted.group;

@@ -1,0 +1,13 @@
+-- How often the directory is sent.
+use Rattle.std.specs.Prelude.{ℕ, Option, Some, None}
+use Rattle.mot_files.specs.declared.packets.Target.{Target}
+use Rattle.mot_files.specs.declared.packets.Target.TheVariants.{File, Output, Stream}
+
+-- after how many packets the directory is sent again, with 0 for at each turn's beginning alone:
+-- where no number is asked for, 340 without end, and 0 where there is an end
+abbrev pub directory_of : Target → (turns packets : Option ℕ) → ℕ
+directory_of target turns (Some packets) = packets
+directory_of target (Some turns) None = 0
+directory_of Output None None = 340
+directory_of Stream None None = 340
+directory_of File None None = 0

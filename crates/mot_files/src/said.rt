@@ -1,0 +1,83 @@
+//! What was told of names in a folder, so that it is told once.
+use std::alloc::{AllocError, Global};
+use std::fs::Metadata;
+use std::os::unix::fs::MetadataExt;
+
+/// The most names that are remembered. Of more nothing is told.
+const MOST: usize = 100;
+
+/// What tells a file from another one, and from the same one once it was changed.
+#[derive(Clone, Copy, PartialEq, Eq)]
+pub(crate) struct Stamp {
+    device: u64,
+    number: u64,
+    changed: (i64, i64),
+}
+
+impl Stamp {
+    /// That of the file which has this metadata.
+    pub(crate) fn of(found: &Metadata) -> Stamp {
+        Stamp {
+            device: found.dev(),
+            number: found.ino(),
+            changed: (found.ctime(), found.ctime_nsec()),
+        }
+    }
+}
+
+/// A name of which something was told.
+#[derive(Drop)]
+struct Told {
+    name: Vec<u8>,
+    /// The file that it named, where one was seen.
+    stamp: Option<Stamp>,
+    /// Whether it was met since names were forgotten last.
+    is_met: bool,
+}
+
+/// The names of which something was told.
+#[derive(Drop)]
+pub(crate) struct Said {
+    alloc: Global,
+    names: Vec<Told>,
+}
+
+impl Said {
+    /// Nothing was told.
+    pub(crate) fn new(alloc: Global) -> Said {
+        Said {
+            alloc,
+            names: Vec::new(alloc),
+        }
+    }
+
+    /// Whether something is to be told of this file, which then counts as told: not what was told
+    /// of it before, nor where too many names are remembered.
+    pub(crate) fn is_new(&mut self, name: &[u8], stamp: Option<Stamp>) -> Result<bool, AllocError> {
+        for told in self.names.iter_mut() {
+            if told.name.as_slice() == name {
+                let is_new = told.stamp != stamp;
+                told.stamp = stamp;
+                told.is_met = true;
+                return Ok(is_new);
+            }
+        }
+        if self.names.len() >= MOST {
+            return Ok(false);
+        }
+        self.names.push(Told {
+            name: Vec::from_slice(self.alloc, name)?,
+            stamp,
+            is_met: true,
+        })?;
+        Ok(true)
+    }
+
+    /// Forgets the names that were not met since the last call.
+    pub(crate) fn forget_unmet(&mut self) {
+        self.names.retain(|told| told.is_met);
+        for told in self.names.iter_mut() {
+            told.is_met = false;
+        }
+    }
+}

@@ -1,0 +1,65 @@
+-- Whole replies to lines, and which of them are right where the carousel is so.
+use Rattle.std.specs.Prelude.{◌≡◌, ◌⊎◌, ℕ, ◌+◌, ◌-◌, ◌<◌, Bool, true, false, List, [], ◌∷◌, ◌++◌}
+use Rattle.std.specs.Prelude.{length, map, replicate, Option, None, Some, Result, Ok, Err, codes}
+use Rattle.std.specs.Prelude.{if◌then◌else◌}
+use Rattle.std.specs.Int.{div_ceil}
+use Rattle.std.specs.List.{AllByRecursion, flat_map}
+use Rattle.mot_lines.specs.declared.line.Line.{Line}
+use Rattle.mot_lines.specs.declared.line.Line.TheVariants.{Command, Raw, Next, Turn}
+use Rattle.mot_lines.specs.declared.line.Line.TheVariants as asks
+use Rattle.mot_lines.specs.Lines.{HasNoLineEnd}
+use Rattle.mot_lines.specs.Text.{done_line, played_line, refusal_line}
+use Rattle.mot_numbers.specs.declared.geometry.Geometry.{Geometry}
+use Rattle.mot_numbers.specs.declared.refusal.Refusal.{Refusal}
+use Rattle.mot_numbers.specs.declared.refusal.Refusal.TheVariants.{DeviceFault, Halted, NoRoom}
+use Rattle.mot_objects.specs.declared.command.Command as command
+use Rattle.mot_objects.specs.declared.command.Done.{Done}
+use Rattle.mot_objects.specs.Carousel.{Carousel, change}
+use Rattle.mot_server.specs.Life.{LacksRoom}
+
+-- Of so many packets these end a turn: they are all that a request asks for, or, where the disk
+-- failed behind them, some first ones. A `raw` line's group has 11 bytes more than its body.
+abbrev pub AreAsked : Geometry → Result Line Refusal → Bool → List Bool → Type 0
+AreAsked g (Ok (Raw kind tid body)) false ends =
+    ends ≡ replicate (div_ceil (length body + 11) (g.packet_length - 5)) false
+AreAsked g (Ok (Next count)) false ends = length ends ≡ count
+AreAsked g (Ok (Next count)) true ends = length ends < count
+AreAsked g (Ok Turn) false ends = (n : ℕ) × (ends ≡ replicate n false ++ true ∷ [])
+AreAsked g (Ok Turn) true ends = (n : ℕ) × (ends ≡ replicate n false)
+AreAsked g request failed ends = ⊥
+
+-- the text shows what the request asks for: lines of the carousel, or of packets
+pub data IsShown (g : Geometry) (request : Result Line Refusal) (text : List ℕ) : Type 0 where
+  listed : (numbers : List ℕ) (objects : List (List ℕ)) → request ≡ Ok asks.List
+      → AllByRecursion HasNoLineEnd (numbers ∷ objects)
+      → text ≡ codes "carousel " ++ numbers ++ 10 ∷ []
+      ++ flat_map (λ o. codes "object " ++ o ++ 10 ∷ []) objects → IsShown g request text
+  packets : (shown : List (List ℕ × Bool)) (failed : Bool)
+      → AreAsked g request failed (map (λ (p : List ℕ × Bool). p.1) shown)
+      → text ≡ flat_map (λ (p : List ℕ × Bool). played_line p.0 p.1) shown
+      ++ (if failed then refusal_line DeviceFault else []) → IsShown g request text
+
+-- The text is a whole reply to the request. Where one such text ends is seen from the lines alone:
+-- so the bytes of replies say which of their lines answers which request.
+abbrev pub IsReply : Geometry → Result Line Refusal → List ℕ → Type 0
+IsReply g request text = ((r : Refusal) × (text ≡ refusal_line r))
+    ⊎ ((c : command.Command) × (d : Done) × (request ≡ Ok (Command c)) × (text ≡ done_line d))
+    ⊎ IsShown g request text
+
+-- The text is right for the request where the carousel is so, and it is this then. A command is
+-- done where the rules accept it, with the ids that they give; or refused as they say, or since
+-- there is no room for what it brings, where that may be. A fault of the disk in a command halts
+-- the server, which has no carousel from then on, and refuses whatever needs one. A line that is no
+-- request is refused as it is parsed.
+abbrev pub IsRight : Geometry → Option Carousel → Result Line Refusal → List ℕ → Option Carousel
+    → Type 0
+IsRight g c (Err r) text new = (text ≡ refusal_line r) × (new ≡ c)
+IsRight g c (Ok (Raw kind tid body)) text new = (new ≡ c) × IsShown g (Ok (Raw kind tid body)) text
+IsRight g None (Ok request) text new = (text ≡ refusal_line Halted) × (new ≡ None)
+IsRight g (Some c) (Ok (Command x)) text None = text ≡ refusal_line DeviceFault
+IsRight g (Some c) (Ok (Command x)) text (Some new) =
+    ((d : Done) × (change c g.objects x ≡ Ok (new, d)) × (text ≡ done_line d))
+    ⊎ ((r : Refusal) × (change c g.objects x ≡ Err r) × (text ≡ refusal_line r) × (new ≡ c))
+    ⊎ ((made : Carousel × Done) × (change c g.objects x ≡ Ok made) × (text ≡ refusal_line NoRoom)
+    × (new ≡ c) × LacksRoom g.data_area c.objects x)
+IsRight g (Some c) (Ok request) text new = (new ≡ Some c) × IsShown g (Ok request) text
