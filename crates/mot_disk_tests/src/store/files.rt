@@ -376,12 +376,14 @@ fn an_empty_file_stands_beside(rt: HostRuntime) {
     );
     expect(&rt, is_made(&rt, "beside.test/other", u64::MAX), false);
     expect(&rt, has_two_files(&rt, "beside.test", path, beside), true);
+    make_empty_folder(&rt, "beside.test");
     for given in [b"mine".as_slice(), b""] {
         write_file(&rt, "beside.test/other-wal", given);
         let made = is_made(&rt, "beside.test/other", u64::MAX);
         let stays = is_file_of(&rt, "beside.test/other-wal", given);
         expect(&rt, (made, stays), (false, true));
     }
+    take_away(&rt, "beside.test");
 }
 
 // A file with two names is no disk; by a link that leads to its one name it is.
