@@ -11,7 +11,7 @@ use Rattle.mot_feed.specs.Feeding.{Feeds, FeedsPart, Happen, HasFed}
 use Rattle.mot_feed.specs.Feeding.{commands_among, are_uncut, has_ended, moments_of}
 use Rattle.mot_feed.specs.Feeding.{sents_in, turns_in, unmade, unwritten}
 use Rattle.mot_feed.specs.Feeding.Event.{Accepted, Asked, Played}
-use Rattle.mot_feed.specs.Often.{FeedsOften, FeedsPartOften, IsOften, pause}
+use Rattle.mot_feed.specs.Often.{FeedsOften, FeedsPartOften, IsOften, is_due, pause}
 use Rattle.mot_feed.specs.Sending.{SendsPacket}
 use Rattle.mot_feed.specs.Sending as one
 use Rattle.mot_feed.specs.Writing.{GrowsPart}
@@ -558,7 +558,7 @@ module _ {D : Type 0} where
   pub none_often : (every : ℕ) (old : ServerView D) (start : State) (s : Standing) (when : When)
       (turns : ℕ) (contents : Option (List (List ℕ))) (moments : Option (List Bool))
       (sound : IsHonestDisk start) (honest : start.IsHonest) (still : IsUnchanged start start)
-      (holds : Holds old.view s start) → OftenUpTo every (Some 0)
+      (holds : Holds old.view s start) → OftenUpTo every true (Some 0)
       (fed_none old start s when turns contents moments sound honest still holds).events
   unfolding fed_none
   none_often every old start s when turns contents moments sound honest still holds =
@@ -605,13 +605,14 @@ module _ {D : Type 0} where
           all_ended (inr many) = inr (so_far.many ∙ many)
 
       -- the same, with the directory often
-      pub fed_often : (every : ℕ) (until : Option ℕ) → OftenUpTo every until so_far.events
+      pub fed_often : (every : ℕ) (until : Option ℕ)
+          → OftenUpTo every between_turns until so_far.events
           → more ≡ [] → (left ≡ 0) ⊎ (count ≡ 18446744073709551615)
           → FeedsOften every old mid start between s when turns before after earlier since
       unfolding fed_all
       fed_often every until often none end = record {
         feeds = fed_all none end;
-        often = often-all every until so_far.events often;
+        often = often-all every between_turns until so_far.events often;
       }
 
       -- an update more
@@ -706,19 +707,19 @@ module _ {D : Type 0} where
       -- commands ask for no directory
       pub updated_often : {up : ServerView D} {then_state : State}
           (later : Option (List Bool)) (every : ℕ) (until : Option ℕ)
-          → OftenUpTo every until so_far.events
+          → OftenUpTo every between_turns until so_far.events
           → (none : more ≡ []) (update : IsUpdating mid up between then_state
           so_far.fed.leaves.last (may_change when between_turns) None)
           (call : Grows since later (between_turns ∷ []))
-          → OftenUpTo every until (updated none update call).events
+          → OftenUpTo every between_turns until (updated none update call).events
       unfolding updated
       updated_often later every until often none update call =
-          often-accepted every until so_far.events (done_by update) often
+          often-accepted every between_turns until so_far.events (done_by update) often
 
       -- and a fault of an update behind them
       pub update_fault_often : {up : ServerView D} {then_state : State} {refusal : Refusal}
           {later : Option (List Bool)} (every : ℕ) (until : Option ℕ)
-          → OftenUpTo every until so_far.events → more ≡ []
+          → OftenUpTo every between_turns until so_far.events → more ≡ []
           → IsUpdating mid up between then_state so_far.fed.leaves.last
           (may_change when between_turns) (Some refusal) → Grows since later (between_turns ∷ [])
           → refusal ≢ WriteFault
@@ -726,8 +727,8 @@ module _ {D : Type 0} where
       unfolding update_fault
       update_fault_often every until often none update call other = record {
         feeds = update_fault none update call other;
-        often = often-all every until (updated_events update)
-            (often-accepted every until so_far.events (done_by update) often);
+        often = often-all every between_turns until (updated_events update)
+            (often-accepted every between_turns until so_far.events (done_by update) often);
       }
 
       abbrev t : Standing
@@ -808,10 +809,12 @@ module _ {D : Type 0} where
             done = so_far.done;
           }
 
-          pub asked_often : (every until : ℕ) → OftenUpTo every (Some until) so_far.events
-              → OftenUpTo every (left_for due until) asked_on.events
+          pub asked_often : (every until : ℕ) → due ≡ is_due between_turns until
+              → OftenUpTo every between_turns (Some until) so_far.events
+              → OftenUpTo every between_turns (left_for due until) asked_on.events
           unfolding asked_on
-          asked_often every until often = often-asked every until so_far.events due often
+          asked_often every until is often =
+              often-asked every until between_turns so_far.events due is often
 
         -- where no packet was made, nothing more was fed
         unsent_fed : place_in new t ≡ place_in mid t
@@ -875,8 +878,8 @@ module _ {D : Type 0} where
 
         -- the same, with the directory often
         module _ (every until : ℕ) (due : Bool)
-            (often : OftenUpTo every (left_for due until) so_far.events)
-            (some : due ≡ false → until ≡ 0 → ⊥) where
+            (often : OftenUpTo every between_turns (left_for due until) so_far.events)
+            (is_so : due ≡ is_due between_turns until) where
           fault_often-cases : {last : Option (List (List ℕ))} (refusal : Refusal)
               (once : more ≡ between_turns ∷ [])
               (one : SendsPacket (Err refusal) (place_in mid t) (place_in new t) after last)
@@ -885,7 +888,7 @@ module _ {D : Type 0} where
           fault_often-cases {last} refusal once (one.whole packet e is step w) =
               absurd (not_fine e refusal (sym is))
           fault_often-cases {last} refusal once (one.short packet e n is step lt w) =
-              often-cut every until due so_far.events step.sent often some
+              often-cut every until between_turns due so_far.events step.sent often is_so
           fault_often-cases {last} refusal once (one.none r other is same w) = often []
 
           pub send_fault_often : {last : Option (List (List ℕ))} (refusal : Refusal)
@@ -934,14 +937,16 @@ module _ {D : Type 0} where
 
           -- the same, with the directory often
           module _ (every until next : ℕ) (due : Bool)
-              (often : OftenUpTo every (left_for due until) so_far.events)
+              (often : OftenUpTo every between_turns (left_for due until) so_far.events)
+              (is_so : due ≡ is_due between_turns until)
               (anew : due ≡ true → (d : Standing) → next ≡ pause every (place_in new d))
               (less : due ≡ false → suc next ≡ until) where
             sent_often-cases : (one : SendsPacket (Ok ends) (place_in mid t) (place_in new t)
-                after last) → OftenUpTo every (Some next) (sent_on-cases one).events
+                after last) → OftenUpTo every ends (Some next) (sent_on-cases one).events
             unfolding sent_on-cases
             sent_often-cases (one.whole packet e is step w) =
-                often-sent every until next due so_far.events step.sent often
+                often-sent every until next between_turns ends due so_far.events step.sent often
+                is_so (sym step.ends ∙ sym (same_ends ends e is))
                 (λ e. anew e t ∙ ap (pause every) step.place) less
             sent_often-cases (one.short packet e n is step lt w) = absurd (not_fine ends _ is)
             sent_often-cases (one.none refusal other is same w) =
@@ -949,7 +954,7 @@ module _ {D : Type 0} where
 
             pub sent_often : (sends : (d : Standing) → Holds mid.view d between
                 → SendsPacket (Ok ends) (place_in mid d) (place_in new d) after last)
-                → OftenUpTo every (Some next) (sent_on sends).events
+                → OftenUpTo every ends (Some next) (sent_on sends).events
             unfolding sent_on
             sent_often sends = sent_often-cases (sends t held)
 

@@ -1,6 +1,6 @@
 -- The directory asked for often, while a server is fed from.
-use Rattle.std.specs.Prelude.{◌≡◌, ℕ, zero, suc, ◌*◌, max, Bool, true, false, List, [], ◌∷◌}
-use Rattle.std.specs.Prelude.{Option, Some, None}
+use Rattle.std.specs.Prelude.{◌≡◌, ℕ, ◌*◌, ◌-◌, max, nat_eq, Bool, true, false, not, ◌||◌, ◌&&◌}
+use Rattle.std.specs.Prelude.{List, [], ◌∷◌, Option, Some, None}
 use Rattle.disk_model.specs.Disk.{State}
 use Rattle.mot_feed.specs.Feeding.{Accepted, Asked, Event, Feeds, FeedsPart, Played}
 use Rattle.mot_journal.specs.Image.{Standing}
@@ -14,20 +14,28 @@ use Rattle.mot_update.specs.Between.{When}
 abbrev pub pause : ℕ → Place → ℕ
 pause every place = max every (10 * directory_packets place)
 
--- At most so many packets more are sent before the directory is asked for; then, behind the packet
--- that follows, at most a pause of them, and so on. Where it was just asked for there is no number.
-abbrev pub is_often : ℕ → Option ℕ → List Event → Bool
-is_often every left [] = true
-is_often every left (Accepted command ∷ events) = is_often every left events
-is_often every left (Asked ∷ events) = is_often every None events
-is_often every None (Played sent ∷ events) =
-    is_often every (Some (pause every sent.place)) events
-is_often every (Some zero) (Played sent ∷ events) = false
-is_often every (Some (suc left)) (Played sent ∷ events) = is_often every (Some left) events
+-- the directory is due if a turn has ended or none was begun, or if no more packets are to be sent
+-- before it
+abbrev pub is_due : Bool → ℕ → Bool
+is_due ended left = ended || nat_eq left 0
 
--- it is asked for before the first packet, and then often
+-- So many more packets are sent until the directory is due; it is asked for when it is due, and at
+-- no other time; after the packet that follows, a pause of packets begins, and so on. There is no
+-- number if it was just asked for.
+abbrev pub is_often : ℕ → (ended : Bool) → Option ℕ → List Event → Bool
+is_often every ended left [] = true
+is_often every ended left (Accepted command ∷ events) = is_often every ended left events
+is_often every ended None (Asked ∷ events) = false
+is_often every ended None (Played sent ∷ events) =
+    is_often every sent.ends_turn (Some (pause every sent.place)) events
+is_often every ended (Some left) (Asked ∷ events) =
+    is_due ended left && is_often every ended None events
+is_often every ended (Some left) (Played sent ∷ events) =
+    not (is_due ended left) && is_often every sent.ends_turn (Some (left - 1)) events
+
+-- it is asked for before the first packet, and then often, and no oftener
 abbrev pub IsOften : ℕ → List Event → Type 0
-IsOften every events = is_often every (Some 0) events ≡ true
+IsOften every events = is_often every true (Some 0) events ≡ true
 
 -- turns were fed, and the directory was asked for often
 pub record FeedsOften {D : Type 0} (every : ℕ) (old new : ServerView D) (start now : State)

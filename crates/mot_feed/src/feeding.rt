@@ -14,9 +14,9 @@ use mot_server::Server;
 use mot_update::Update;
 use std::alloc::Global;
 
-/// Sends packets, each in one write, with updates before the first and behind each, until so many
-/// turns have ended: with `u64::MAX` for as good as ever. The errors are those of the updates and
-/// of `send_packets`.
+/// Sends packets, each in one write, with updates before the first and after each, until so many
+/// turns have ended; `u64::MAX` turns are practically endless. The errors are those of the updates
+/// and of `send_packets`.
 pub fn feed<D: Disk, O: Outlet, U: Update>(
     server: &mut Server<D>,
     alloc: Global,

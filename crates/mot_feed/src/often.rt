@@ -18,9 +18,10 @@ use mot_server::Server;
 use mot_update::Update;
 use std::alloc::Global;
 
-/// As `feed`, and the directory is asked for in front of each turn, where that changes nothing, and
-/// then again and again: behind the packet that follows, `every` packets go out until the next
-/// time, or ten times as many as the directory takes, if these are more.
+/// As `feed`, and the directory is asked for in front of each turn, which changes nothing there,
+/// and then again and again: after the packet that follows, `every` packets go out until the next
+/// time, or ten times as many as the directory takes, if these are more. It is asked for at no
+/// other time.
 pub fn feed_often<D: Disk, O: Outlet, U: Update>(
     server: &mut Server<D>,
     alloc: Global,
@@ -66,7 +67,7 @@ pub fn feed_often<D: Disk, O: Outlet, U: Update>(
     Ok(())
 }
 
-/// Feeds as `feed_often` does; where `every` is 0, as `feed` does.
+/// Feeds as `feed_often` does; if `every` is 0, as `feed` does.
 pub fn feed_every<D: Disk, O: Outlet, U: Update>(
     server: &mut Server<D>,
     alloc: Global,

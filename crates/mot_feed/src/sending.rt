@@ -13,7 +13,7 @@ use mot_packets::Packet;
 use mot_server::Server;
 
 /// Sends so many packets by the order of sending, each in one write, before the next is asked for.
-/// The refusals are `WriteFault`, where the outlet failed or took less than a packet, and those of
+/// The refusals are `WriteFault`, if the outlet failed or took less than a packet, and those of
 /// `Server::next_packet`, after which the packets before it were written. The disk is only read.
 pub fn send_packets<D: Disk, O: Outlet>(
     server: &mut Server<D>,

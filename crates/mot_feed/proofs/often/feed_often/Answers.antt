@@ -7,7 +7,7 @@ use Rattle.mot_feed.proofs.Fed.{SoFar, asked_often, asked_on, continuous, fed_no
 use Rattle.mot_feed.proofs.Fed.{none_often, rest_else, rest_then, send_fault_often, sent_often}
 use Rattle.mot_feed.proofs.Fed.{sent_on, update_fault_often, updated, updated_often}
 use Rattle.mot_feed.proofs.Hearing.{OftenUpTo, left_for}
-use Rattle.mot_feed.specs.Often.{pause}
+use Rattle.mot_feed.specs.Often.{is_due, pause}
 use Rattle.mot_feed.proofs.Sent.{not_of_writing, send_fault_behind, sent_calm}
 use Rattle.mot_feed.proofs.often.feed_often.Given as given
 use Rattle.mot_feed.proofs.often.feed_often.Goals as goal
@@ -100,6 +100,17 @@ returns-in_err-between_turns-clause-fault g c =
 abbrev due_in : (g : given.Over) → After-send_one g → Bool
 due_in g c = c.if-between_turns.due
 
+two_ways : (b : Bool) → b ≡ true → b ≡ false → ⊥
+two_ways true is other = absurd (cc)
+two_ways false is other = absurd (cc)
+
+due_is : (g : given.Over) (c : After-send_one g)
+    → due_in g c ≡ is_due c.loop.between_turns c.loop.until
+due_is g c = elim c.if-between_turns.branch [
+  | then-between_turns w ↦ w.due-is ∙ rw w.if-between_turns.true refl
+  | else-between_turns w ↦ w.due-is ∙ rw w.if-between_turns.false refl
+]
+
 -- what was fed up to the packet that is sent
 found : (g : given.Over) (c : After-send_one g) (s : Standing)
     → Holds c.args.server.now.view s (g.D.Disk.state c.args.server.now.disk)
@@ -109,7 +120,7 @@ found : (g : given.Over) (c : After-send_one g) (s : Standing)
     c.loop.between_turns c.loop.counter (g.O.Outlet.writes c.args.outlet.now)
     (g.O.Outlet.writes c.loop.outlet) (g.U.Update.moments c.args.update.now)
     (g.U.Update.moments c.update.new.self) (c.loop.between_turns ∷ []))
-    × OftenUpTo c.args.every (left_for (due_in g c) c.loop.until) so_far.events
+    × OftenUpTo c.args.every c.loop.between_turns (left_for (due_in g c) c.loop.until) so_far.events
 found g c s holds honest =
     let state = g.D.Disk.state in
     let up = c.update.new.server in
@@ -130,26 +141,17 @@ found g c s holds honest =
     (behind.fed.leaves.going refl).agrees in (
       asked_on behind heard sound c.ask.ensures.view honest still (due_in g c) heard_by,
       asked_often behind heard sound c.ask.ensures.view honest still (due_in g c) heard_by every
-          until
+          until (due_is g c)
           (updated_often so_far
           (g.U.Update.moments c.update.new.self) every (Some until) is.1 refl run one.called),
     )
 
-two_ways : (b : Bool) → b ≡ true → b ≡ false → ⊥
-two_ways true is other = absurd (cc)
-two_ways false is other = absurd (cc)
-
--- where it is not, more packets may be sent
-some_left : (g : given.Over) (c : After-send_one g) → due_in g c ≡ false → c.loop.until ≡ 0 → ⊥
-some_left g c not none = elim c.if-between_turns.branch [
-  | then-between_turns w ↦
-      absurd (two_ways c.if-between_turns.due (w.due-is ∙ w.if-between_turns.true) not)
-  | else-between_turns w ↦ absurd (two_ways c.if-between_turns.due (w.due-is ∙ rw none refl) not)
-]
-
-less_one : (until next : ℕ) → (until ≡ 0 → ⊥) → next ≡ until - 1 → suc next ≡ until
-less_one zero next some less = absurd (some refl)
-less_one (suc left) next some less = omega (arith, less)
+-- where it is not due, more packets are sent
+less_one : (ended : Bool) (until next : ℕ) → is_due ended until ≡ false → next ≡ until - 1
+    → suc next ≡ until
+less_one true until next not less = absurd (cc)
+less_one false zero next not less = absurd (cc)
+less_one false (suc left) next not less = omega (arith, less)
 
 pub returns-in_err-between_turns-clause-part : goal.returns-in_err-between_turns-clause-part
 returns-in_err-between_turns-clause-part g c = λ s holds honest.
@@ -162,7 +164,7 @@ returns-in_err-between_turns-clause-part g c = λ s holds honest.
     (send_fault_often is.0 c.send_one.new.server
     (g.met.D.Disk.sound c.ask.new.server.disk then_honest) two.view honest
     (two.only_reads.unchanged honest) c.args.every c.loop.until (due_in g from) is.1
-    (some_left g from) c.in_err-between_turns.field-0.0 refl
+    (due_is g from) c.in_err-between_turns.field-0.0 refl
     (λ d held. two.sent d held honest))
 
 pub loop-preserved : goal.loop-preserved
@@ -210,12 +212,14 @@ loop-preserved g c =
           let less : c.if-between_turns.due ≡ false → suc next ≡ c.loop.until =
           λ not. elim c.if-due.branch [
             | then-due w ↦ absurd (two_ways c.if-between_turns.due w.if-due.true not)
-            | else-due w ↦ less_one c.loop.until next (some_left g from not) w.until-is
+            | else-due w ↦
+                less_one c.loop.between_turns c.loop.until next (sym (due_is g from) ∙ not) w.until-is
           ] in (
             sent_on is.0 new sound two.view honest still refl c.if-left-eq0.false ends rest is_rest
                 (λ d held. two.sent d held honest),
             sent_often is.0 new sound two.view honest still refl c.if-left-eq0.false ends rest
-                is_rest c.args.every c.loop.until next (due_in g from) is.1 anew less
+                is_rest c.args.every c.loop.until next (due_in g from) is.1 (due_is g from) anew
+                less
                 (λ d held. two.sent d held honest),
           );
     }

@@ -18,5 +18,5 @@ invariant-loop g l = record {
       (g.D.Disk.state l.server.disk) s g.U.Update.when l.turns l.left l.between_turns l.counter
       (g.O.Outlet.writes l.initial.outlet) (g.O.Outlet.writes l.outlet)
       (g.U.Update.moments l.initial.update) (g.U.Update.moments l.update) [])
-      × OftenUpTo l.every (Some l.until) so_far.events;
+      × OftenUpTo l.every l.between_turns (Some l.until) so_far.events;
 }
