@@ -23,9 +23,9 @@ use system::HeldFile;
 /// A regular file or a block device, as long as it was when it was opened. A lock that other
 /// programs may ignore keeps it from being opened so a second time.
 ///
-/// No contract says what a file gives. The disk is honest as long as each of its reads gave what
-/// was written there last or, where nothing was, what the file held as it was opened. That is what
-/// `S` says, and the opening reads none of it. A file that was made held zeros.
+/// No contract says what a file gives. The disk is honest as long as each of its reads gave the
+/// bytes that were written there last or, if none were, those that the file held as it was opened.
+/// `S` stands for the latter, and the opening reads none of it. A file that was made held zeros.
 #[derive(Drop)]
 pub struct FileDiskFrom<S: Start> {
     file: HeldFile,

@@ -128,7 +128,7 @@ impl History {
         answer
     }
 
-    /// The system was told to drop what it keeps of the file.
+    /// The system was asked to drop its cached pages of the file.
     pub fn dropped(&mut self, answer: io::Result<()>) -> io::Result<()>
         ensures same { result ≡ answer }
         ensures noted { OnOk result (self.new.calls ≡ self.old.calls ++ Dropped ∷ []) }

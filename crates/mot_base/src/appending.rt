@@ -33,7 +33,7 @@ pub fn append_number(out: &mut Vec<u8>, number: u16)
     append(out, &bytes_of_number(number));
 }
 
-/// Adds bytes for which there is room, where the room is fixed.
+/// Adds bytes for which there is room, if the room is fixed.
 pub fn array_append<const ROOM: usize>(out: &mut ArrayVec<u8, ROOM>, bytes: &[u8])
     requires { array_vec_len out.old + length bytes.now ≤ ROOM }
     ensures items { out.new.items ≡ out.old.items ++ bytes.now }
@@ -42,7 +42,7 @@ pub fn array_append<const ROOM: usize>(out: &mut ArrayVec<u8, ROOM>, bytes: &[u8
     out.try_extend_from_slice(bytes).unwrap();
 }
 
-/// Adds a number of 16 bits, its high byte first, where the room is fixed.
+/// Adds a number of 16 bits, its high byte first, if the room is fixed.
 pub fn array_append_number<const ROOM: usize>(out: &mut ArrayVec<u8, ROOM>, number: u16)
     requires { array_vec_len out.old + 2 ≤ ROOM }
     ensures items { out.new.items ≡ out.old.items ++ to_be_bytes w16 number }

@@ -25,10 +25,10 @@ use std::alloc::Global;
 use std::io::{Read, Write};
 
 /// Answers what there is of a reader that does not wait, in one read of at most 4,096 bytes: each
-/// line that ends in it as `serve_line` does, but that a `next` and a `turn` line are refused
-/// `BadLine`. What follows the last line end stays in hand. A reader that fails, because nothing is
-/// there now (`WouldBlock`) or for any other reason, gives nothing and ends nothing, nor does a
-/// command that memory is wanted for. The errors are `DeviceFault` and `Halted`, those of the last
+/// line that ends in it as `serve_line` does, except that a `next` and a `turn` line are refused
+/// `BadLine`. The bytes after the last line end stay in hand. A reader that fails, because nothing
+/// is there now (`WouldBlock`) or for any other reason, gives nothing and ends nothing, nor does a
+/// command for which memory runs out. The errors are `DeviceFault` and `Halted`, those of the last
 /// line that was answered; the rest of what was read is lost.
 pub fn answer_there<R: Read, W: Write + Drop, D: Disk>(
     alloc: Global,
@@ -162,7 +162,7 @@ fn command_in(line: &Line) -> Option<&Command>
     }
 }
 
-/// Does a command, and then tells what became of it.
+/// Does a command, and then answers what became of it.
 fn answer_command<W: Write + Drop, D: Disk>(
     alloc: Global,
     command: &Command,
@@ -196,7 +196,7 @@ fn reply_text(attempt: &Result<Attempt, Refusal>) -> TextLine
     }
 }
 
-/// What a command ends. Want of memory ends nothing.
+/// What a command ends. Running out of memory ends nothing.
 fn ended(attempt: Result<Attempt, Refusal>) -> Result<(), Refusal>
     ensures { fault_of result ≡ end_of attempt }
 {

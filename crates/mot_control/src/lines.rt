@@ -20,7 +20,7 @@ use mot_update::Update;
 use std::alloc::Global;
 use std::io::{Read, Write};
 
-/// Answers lines between packets: before the first packet and behind every so many it answers what
+/// Answers lines between packets: before the first packet and after every so many it answers what
 /// there is of the reader, in one read, as `answer_there` does. Before each packet another update
 /// is called first.
 #[derive(Drop)]
@@ -29,7 +29,7 @@ pub struct Lines<R: Read + Drop, W: Write + Drop, U: Update + Drop> {
     pub reader: R,
     /// What has come of the next line.
     pub hand: Hand,
-    /// Where replies are told.
+    /// The log of replies.
     pub log: Log<W>,
     /// The other update.
     pub update: U,
@@ -86,13 +86,13 @@ impl<R: Read + Drop, W: Write + Drop, U: Update + Drop> Update for Lines<R, W, U
         ensures called { Grows (U.moments self.old.update) (U.moments self.new.update)
             (between_turns ∷ []) }
 
-        // It reads where a read is due, and else it only counts.
+        // It reads if a read is due, and else it only counts.
         ensures counts { 0 < self.old.left → (self.new.reader ≡ self.old.reader)
             × (self.new.hand ≡ self.old.hand) × (self.new.log ≡ self.old.log)
             × OnOk result (self.new.left ≡ self.old.left - 1) }
         ensures reads { self.old.left ≡ 0 → OnOk result (self.new.left ≡ self.old.between) }
 
-        // What was taken of the reader was answered, and nothing else was told.
+        // What was taken from the reader was answered, and nothing else was.
         ensures lines { (input : List ℕ) → self.old.hand ≡ bytes_in_hand (rest_of input)
             → TakesBetween D.state server.old server.new input (may_change U.when between_turns)
             (R.remaining self.old.reader) (R.remaining self.new.reader) self.new.hand

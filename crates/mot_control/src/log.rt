@@ -1,4 +1,4 @@
-//! Where replies are told.
+//! The log of replies.
 ghost use Rattle.std.specs.Prelude.{ℕ, List};
 ghost use Rattle.mot_control.specs.Inner.Request.{TellsThere};
 ghost use Rattle.mot_session.specs.OnAnyDisk.{AnswersAnyhow, read_only};
@@ -11,8 +11,7 @@ use mot_session::answer_reading;
 use std::alloc::Global;
 use std::io::Write;
 
-/// Where replies are told. One that can't be written ends nothing: what it tells of counts all the
-/// same.
+/// The log of replies. A reply that can't be written ends nothing: its command counts all the same.
 #[derive(Drop)]
 pub struct Log<W: Write + Drop> {
     /// What takes the replies.

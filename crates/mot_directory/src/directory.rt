@@ -26,9 +26,9 @@ use std::alloc::Global;
 pub const MAX_DIRECTORY: usize = 84_013;
 
 /// The carousel's directory (EN 301 234), uncompressed and with no directory extension: the
-/// directory header, and each object's transport id and header, in the objects' order. Of the
-/// bodies it holds the lengths alone. It has 13 to 84,013 bytes, and its room is taken once. The
-/// only refusal is `OutOfMemory`.
+/// directory header, and each object's transport id and header, in the objects' order. It holds the
+/// lengths of the bodies alone. It has 13 to 84,013 bytes, and its room is taken once. The only
+/// refusal is `OutOfMemory`.
 pub fn directory_bytes(
     alloc: Global,
     carousel: &Carousel,

@@ -32,7 +32,7 @@ const VERSION_NUMBER: u8 = 0x06;
 /// The form of a parameter with one byte of data, in the two bits above the id.
 const ONE_BYTE: u8 = 0x40;
 
-/// The form of a parameter whose data stands behind its length.
+/// The form of a parameter whose data stands after its length.
 const WITH_LENGTH: u8 = 0xC0;
 
 /// The most bytes of data that a length of 7 bits counts.
@@ -48,8 +48,8 @@ const UTF_8: u8 = 0xF0;
 pub const MAX_HEADER: usize = 334;
 
 /// The MOT header of an object (EN 301 234): the header core, and as its extension ContentName,
-/// MimeType where there is one, and VersionNumber. Of the body it holds the length alone. It has 13
-/// to 334 bytes, and its room is taken once. The only refusal is `OutOfMemory`.
+/// MimeType if the object has one, and VersionNumber. It holds the length of the body alone. It has
+/// 13 to 334 bytes, and its room is taken once. The only refusal is `OutOfMemory`.
 pub fn header_bytes(alloc: Global, object: &Object) -> Result<Vec<u8>, Refusal>
     // Whatever the body, it reads as the object's header, and each length fits its field.
     ensures reads { IfOk result (λ bytes. (body : List ℕ) → length body ≡ object.now.length

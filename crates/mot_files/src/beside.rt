@@ -1,5 +1,5 @@
-//! A file that is written beside the one whose place it takes once it is whole. Of what these calls
-//! do to files no contract tells.
+//! A file that is written beside the one whose place it takes once it is whole. No contract says
+//! what these calls do to files.
 ghost use Rattle.std.specs.Prelude.{◌≡◌, ◌∷◌, [], IfOk};
 
 use crate::fault::PacketsFault;
@@ -10,7 +10,7 @@ use std::os::unix::fs::MetadataExt;
 use std::path::Path;
 use std::rt::Files;
 
-/// What stands behind the name of the file that is written.
+/// The end of the name of the file that is written.
 pub const SUFFIX: &str = ".new";
 
 /// A new file of `PATH.new`, which no other program of ours writes.
@@ -22,7 +22,7 @@ pub struct NewFile<'a> {
 }
 
 impl<'a> NewFile<'a> {
-    /// Makes the file anew, in the place of one that a run left which was killed.
+    /// Makes the file, in the place of one that a killed run left.
     pub fn begin(rt: &HostRuntime, path: &'a str, disk: &str) -> Result<NewFile<'a>, PacketsFault>
         ensures { IfOk result (λ new. new.path.now ≡ path.now) }
     {
@@ -82,7 +82,7 @@ impl<'a> NewFile<'a> {
         }
     }
 
-    /// Why packets were not taken: where one was cut, what the system says of a write more. The
+    /// Why packets were not taken: if one was cut, what the system says of a further write. The
     /// file is given up anyway.
     pub fn reason(&self, fault: PacketsFault) -> PacketsFault {
         match fault {
@@ -115,7 +115,7 @@ fn clear(rt: &HostRuntime, path: &str, disk: &str) -> Result<(), PacketsFault> {
     Ok(())
 }
 
-/// Takes the lock of a file, which tells whether another program of ours writes it.
+/// Takes the lock of a file, which shows whether another program of ours writes it.
 fn lock(file: &File) -> Result<(), PacketsFault> {
     match file.try_lock() {
         Ok(()) => Ok(()),

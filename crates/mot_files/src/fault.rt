@@ -1,4 +1,4 @@
-//! Why a task could not be done, where more is known than its refusal says.
+//! Why a task could not be done, if more is known than its refusal says.
 ghost use Rattle.std.specs.Prelude.{◌≡◌};
 ghost use Rattle.mot_numbers.specs.declared.refusal.Refusal.TheVariants.{OutOfMemory, ReadFault};
 
@@ -34,7 +34,7 @@ pub enum TypesFault {
     NoFile,
     /// It has more than 65,536 bytes.
     Long,
-    /// The line of this number, from 1 on, is none.
+    /// The line of this number, from 1 on, does not have the form.
     Line(usize),
 }
 
@@ -43,13 +43,13 @@ pub enum TypesFault {
 pub enum LinesFault {
     /// The system refused a call, for this reason.
     System(io::Error),
-    /// It is none.
+    /// It is not a folder.
     NoFolder,
     /// It is the folder that the carousel is made equal to.
     HasObjects,
     /// The disk stands in it.
     HasDisk,
-    /// What takes the packets stands in it, or would.
+    /// PACKETS stands in it, or would.
     HasPackets,
     /// The file that adds suffixes stands in it.
     HasTypes,
@@ -64,7 +64,7 @@ pub enum Cause {
     Types(TypesFault),
     /// Lines can't come from the folder.
     Lines(LinesFault),
-    /// What should take the packets was not opened, or did not take them.
+    /// PACKETS was not opened, or did not take the packets.
     Packets(PacketsFault),
     /// The new file beside it was not written, or could not take its place.
     NewFile(PacketsFault),
@@ -75,7 +75,7 @@ pub enum Cause {
 pub struct Unbegun {
     /// The refusal.
     pub refusal: Refusal,
-    /// What is wrong with a file, where that is it.
+    /// What is wrong with a file, if that is the cause.
     pub cause: Option<Cause>,
 }
 
@@ -128,7 +128,7 @@ impl Display for PacketsFault {
             PacketsFault::System(error) => OpenFault::System(*error).fmt(f),
             PacketsFault::InUse => f.pad("in use by another program"),
             PacketsFault::IsDisk => f.pad("the disk itself"),
-            PacketsFault::NoFile => f.pad("a link, or no regular file"),
+            PacketsFault::NoFile => f.pad("a link, or not a regular file"),
             PacketsFault::Cut => f.pad("a packet was cut"),
             PacketsFault::NoTurns => f.pad("no turns to write"),
         }
@@ -139,7 +139,7 @@ impl Display for TypesFault {
     fn fmt<W: fmt::Write>(&self, f: &mut Formatter<W>) -> fmt::Result {
         match self {
             TypesFault::System(error) => OpenFault::System(*error).fmt(f),
-            TypesFault::NoFile => f.pad("no regular file"),
+            TypesFault::NoFile => f.pad("not a regular file"),
             TypesFault::Long => f.pad("longer than 65,536 bytes"),
             TypesFault::Line(number) => {
                 write!(f, "line {number} is no SUFFIX TYPE SUBTYPE MIME")
@@ -152,7 +152,7 @@ impl Display for LinesFault {
     fn fmt<W: fmt::Write>(&self, f: &mut Formatter<W>) -> fmt::Result {
         match self {
             LinesFault::System(error) => OpenFault::System(*error).fmt(f),
-            LinesFault::NoFolder => f.pad("no folder"),
+            LinesFault::NoFolder => f.pad("not a folder"),
             LinesFault::HasObjects => f.pad("the folder of the objects"),
             LinesFault::HasDisk => f.pad("the folder of the disk"),
             LinesFault::HasPackets => f.pad("the folder of the packets"),

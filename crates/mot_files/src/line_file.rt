@@ -1,5 +1,5 @@
-//! A file of lines, and what stands at a name that should be one. Of what these calls do to files
-//! no contract tells.
+//! A file of lines, and what stands at a name that should be one. No contract says what these calls
+//! do to files.
 use crate::beside::is_same;
 use crate::said::Stamp;
 use mot_numbers::Refusal;
@@ -72,7 +72,7 @@ impl Read for LineFile {
 pub(crate) enum Found {
     /// A file of lines, or an empty one.
     Lines(File),
-    /// What is left there, for this reason.
+    /// It is left there, for this reason.
     Left(Refusal, Option<Stamp>),
     /// Nothing, or something else than a moment before.
     Gone,
@@ -97,7 +97,8 @@ pub(crate) fn find<T: Files<File = File>>(rt: &T, path: &str) -> Found {
     }
 }
 
-/// Opens this file at the path, where it is still there and its first line is one.
+/// Opens this file at the path, if it is still there and its first line begins with a word of
+/// lines.
 fn open_lines<T: Files<File = File>>(
     rt: &T,
     path: &str,

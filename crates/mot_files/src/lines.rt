@@ -12,7 +12,7 @@ use std::io::ErrorKind;
 use std::os::unix::fs::MetadataExt;
 use std::rt::Files;
 
-/// Behind how many packets lines are read, where no number is given.
+/// After how many packets lines are read, if no number is given.
 const EVERY: u32 = 8;
 
 /// A folder of files of lines, and what has come of the next line.
@@ -26,8 +26,7 @@ pub struct LineFolder<'a> {
     pub every: u32,
 }
 
-/// What else a disk is played with. No file of it may stand in the folder of lines, which are taken
-/// away.
+/// The other files of the command. None may stand in the folder of lines, which are removed.
 #[derive(Clone, Copy)]
 pub struct Others<'a> {
     /// The folder of objects, if one is given.
@@ -109,7 +108,7 @@ fn check_folder(
     }
 }
 
-/// A folder, by what tells it from all others.
+/// A folder, by what identifies it.
 #[derive(Clone, Copy)]
 struct Folder {
     device: u64,

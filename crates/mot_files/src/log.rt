@@ -33,8 +33,8 @@ impl<'a, W: Write> Write for SharedLog<'a, W> {
     }
 }
 
-/// A name in a line of the log: `?` for each byte of it that would end the line or move what comes
-/// behind, and where it is no text for each that is none of ASCII.
+/// A name in a line of the log: `?` for each byte of it that would end the line or move what
+/// follows, and if it is not text, for each byte above ASCII.
 #[derive(Clone, Copy)]
 pub(crate) struct Shown<'a> {
     name: &'a [u8],

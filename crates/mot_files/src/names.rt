@@ -11,14 +11,14 @@ const ENDING: &[u8] = b".lines";
 /// The most names that are kept of a folder at a time.
 const MOST: usize = 64;
 
-/// The first names of a folder, by their bytes, behind those that were given. Once all of the
-/// folder were given it begins anew.
+/// The first names of a folder, by their bytes, after those that were given. Once all of the folder
+/// were given it begins again with the first.
 #[derive(Drop)]
 pub(crate) struct Names {
     alloc: Global,
     /// Those that come next, the last of them first.
     waiting: Vec<Vec<u8>>,
-    /// The name behind which they come.
+    /// The name after which they come.
     behind: Option<Vec<u8>>,
     /// Whether there are more than are kept.
     has_more: bool,
@@ -43,7 +43,7 @@ impl Names {
         self.waiting.is_empty()
     }
 
-    /// Leaves none, and begins anew.
+    /// Leaves none, and begins again with the first.
     pub(crate) fn clear(&mut self) {
         self.waiting.clear();
         self.behind = None;

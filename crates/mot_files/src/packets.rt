@@ -43,7 +43,7 @@ pub enum OpenPackets<'a> {
 }
 
 impl<'a> OpenPackets<'a> {
-    /// Leaves nothing of it, where nothing is played.
+    /// Leaves nothing of it, if nothing is played.
     pub fn give_up(&self, rt: &HostRuntime) {
         if let OpenPackets::Beside(new) = self {
             new.take_away(rt);
@@ -143,7 +143,7 @@ impl<W: Write + Drop> Outlet for PacketWriter<W> {
             (take count bytes.now ∷ []))
             (λ _. Grows (Some self.old.taken.notes.all) (Some self.new.taken.notes.all) ([] ∷ [])) }
 
-        // The writer took what is told, and nothing else.
+        // The writer took the noted bytes, and nothing else.
         ensures written { IfOk result (λ count. Appends (W.contents self.old.writer)
             (W.contents self.new.writer) (take count bytes.now)) }
     {

@@ -1,12 +1,12 @@
-//! What was told of names in a folder, so that it is told once.
+//! Names in a folder about which the log has a line, so that it has one once.
 use std::alloc::{AllocError, Global};
 use std::fs::Metadata;
 use std::os::unix::fs::MetadataExt;
 
-/// The most names that are remembered. Of more nothing is told.
+/// The most names that are remembered. Further ones are not logged.
 const MOST: usize = 100;
 
-/// What tells a file from another one, and from the same one once it was changed.
+/// What distinguishes a file from another one, and from the same one once it was changed.
 #[derive(Clone, Copy, PartialEq, Eq)]
 pub(crate) struct Stamp {
     device: u64,
@@ -25,17 +25,17 @@ impl Stamp {
     }
 }
 
-/// A name of which something was told.
+/// A name about which the log has a line.
 #[derive(Drop)]
 struct Told {
     name: Vec<u8>,
-    /// The file that it named, where one was seen.
+    /// The file that it named, if one was seen.
     stamp: Option<Stamp>,
     /// Whether it was met since names were forgotten last.
     is_met: bool,
 }
 
-/// The names of which something was told.
+/// The names about which the log has a line.
 #[derive(Drop)]
 pub(crate) struct Said {
     alloc: Global,
@@ -43,7 +43,7 @@ pub(crate) struct Said {
 }
 
 impl Said {
-    /// Nothing was told.
+    /// Nothing was logged.
     pub(crate) fn new(alloc: Global) -> Said {
         Said {
             alloc,
@@ -51,8 +51,8 @@ impl Said {
         }
     }
 
-    /// Whether something is to be told of this file, which then counts as told: not what was told
-    /// of it before, nor where too many names are remembered.
+    /// Whether a line about this file is due, which then counts as logged: not if the log has this
+    /// line already, nor if too many names are remembered.
     pub(crate) fn is_new(&mut self, name: &[u8], stamp: Option<Stamp>) -> Result<bool, AllocError> {
         for told in self.names.iter_mut() {
             if told.name.as_slice() == name {

@@ -1,5 +1,5 @@
-//! Files of lines in a folder, read one behind the other. Of what these calls do to files no
-//! contract tells.
+//! Files of lines in a folder, read one after the other. No contract says what these calls do to
+//! files.
 ghost use Rattle.std.specs.Prelude.{◌≡◌, false};
 
 use crate::line_file::{Found, LineFile, find};
@@ -21,11 +21,12 @@ const READS: u32 = 2;
 /// How many names are looked at in one call, at most.
 const LOOKS: u32 = 16;
 
-/// The regular files directly in a folder whose names end in `.lines` and begin with no dot, in the
-/// order of their names, as one input that waits for nothing. Each file is taken away once it was
-/// read to its end, so that its lines come again behind a crash and are lost by none. A file whose
-/// first line is none, or that can't be opened, is left and told once. One whose reading fails, or
-/// that can't be taken away, is told, and is the last: else its lines would come again and again.
+/// The regular files directly in a folder whose names end in `.lines` and do not begin with a dot,
+/// in the order of their names, as one input that waits for nothing. Each file is removed once it
+/// was read to its end. So its lines come again after a crash, and none is lost. A file whose first
+/// line does not begin with a word of lines, or that can't be opened, is left and logged once. One
+/// whose reading fails, or that can't be removed, is logged, and is the last: else its lines would
+/// come again and again.
 ///
 /// A call reads a part of the folder at most, and looks at a few names: so whatever lies there, it
 /// comes back soon.
@@ -35,15 +36,15 @@ pub struct Spool<'a, T: Files<File = File>, W: Write + Drop> {
     alloc: Global,
     /// The folder's path.
     pub folder: &'a str,
-    /// What is told of a file goes there.
+    /// Lines about a file go there.
     pub log: W,
     /// The folder, while it is read.
     listing: Option<T::Dir>,
     /// The names of the files that come next.
     names: Names,
-    /// What was told of files that are left.
+    /// The files that are left and logged.
     said: Said,
-    /// Whether it was told that the folder can't be read.
+    /// Whether the log says that the folder can't be read.
     is_unread: bool,
     /// The file that is read.
     open: Option<LineFile>,
@@ -72,7 +73,7 @@ impl<'a, T: Files<File = File>, W: Write + Drop> Spool<'a, T, W> {
         }
     }
 
-    /// Opens the next file of lines, where the names that are looked at have one.
+    /// Opens the next file of lines, if there is one among the names that are looked at.
     fn open_next(&mut self) -> io::Result<()> {
         if self.names.is_empty() && !self.list()? {
             return Ok(());
@@ -89,7 +90,7 @@ impl<'a, T: Files<File = File>, W: Write + Drop> Spool<'a, T, W> {
         Ok(())
     }
 
-    /// Opens the file of this name, where it is one of lines. What is left there is told.
+    /// Opens the file of this name, if it is a file of lines. A file that is left there is logged.
     fn open_named(&mut self, bytes: &[u8]) -> io::Result<()> {
         let Some(name) = plain_text(bytes) else {
             return self.leave(bytes, Refusal::BadName, None);
@@ -106,8 +107,8 @@ impl<'a, T: Files<File = File>, W: Write + Drop> Spool<'a, T, W> {
         }
     }
 
-    /// Reads the names of the folder, or a part of them; whether it came to their end. That the
-    /// folder can't be read is told once, and once that it can again.
+    /// Reads the names of the folder, or a part of them; whether it came to their end. The log says
+    /// once that the folder can't be read, and once that it can again.
     fn list(&mut self) -> io::Result<bool> {
         let listed = self.list_on();
         match listed {
@@ -138,7 +139,7 @@ impl<'a, T: Files<File = File>, W: Write + Drop> Spool<'a, T, W> {
         Ok(is_whole)
     }
 
-    /// Opens the folder. Where its path is a link, the dot makes the system follow it.
+    /// Opens the folder. If its path is a link, the dot makes the system follow it.
     fn begin_listing(&mut self) -> io::Result<T::Dir> {
         if self.names.is_through {
             self.names.is_through = false;
@@ -173,7 +174,7 @@ impl<'a, T: Files<File = File>, W: Write + Drop> Spool<'a, T, W> {
         Ok(())
     }
 
-    /// Tells that what stands at this name is left there, where that was not told before.
+    /// Logs that the file of this name is left there, if the log does not have that already.
     fn leave(&mut self, name: &[u8], refusal: Refusal, stamp: Option<Stamp>) -> io::Result<()> {
         if self.said.is_new(name, stamp)? {
             let name = Shown::new(name);
@@ -203,8 +204,8 @@ impl<'a, T: Files<File = File>, W: Write + Drop> Spool<'a, T, W> {
         }
     }
 
-    /// Takes away the file that was read, where its path still names it. The path is kept, so that
-    /// no memory can lack here and make its lines come again.
+    /// Removes the file that was read, if its path still names it. The path is kept, so that no
+    /// memory can lack here and make its lines come again.
     fn take_away(&mut self, lines: &LineFile) {
         match lines.is_named(self.rt) {
             Ok(true) => {

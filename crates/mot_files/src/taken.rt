@@ -5,8 +5,8 @@ use disk_store::Notes;
 use std::io;
 
 /// The path of what was opened to take packets, and then what each write took, in order: nothing,
-/// where it failed. It takes no memory. Only a `PacketWriter` adds to it, so that nothing stands in
-/// it that was not asked of what was opened by that path.
+/// if it failed. It takes no memory. Only a `PacketWriter` adds to it, so that it has only bytes
+/// that the outlet opened by that path was asked to write.
 #[derive(Drop)]
 pub struct Taken {
     notes: Notes,

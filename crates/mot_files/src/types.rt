@@ -14,8 +14,8 @@ use std::rt::Files;
 /// The most bytes of a file that adds suffixes.
 const MOST: u64 = 65_536;
 
-/// The known suffixes, and those that the file at the path adds, where one is given: `ReadFault`
-/// where it can't be read or has more than 65,536 bytes, and the refusals of its lines.
+/// The known suffixes, and those that the file at the path adds, if one is given: `ReadFault` if it
+/// can't be read or has more than 65,536 bytes, and the refusals of its lines.
 pub fn file_types(rt: &HostRuntime, alloc: Global, path: Option<&str>) -> Result<FileTypes, Unbegun>
     ensures typed { IfOk result (IsTyped path.entry) }
     ensures refused { IfErr result (λ unbegun. IsUntyped path.entry unbegun.refusal) }
@@ -37,7 +37,7 @@ pub fn file_types(rt: &HostRuntime, alloc: Global, path: Option<&str>) -> Result
     }
 }
 
-/// A line of the file is none, or there was no memory for what it says.
+/// A line of the file does not have the form, or there was no memory for it.
 fn wrong(at: RefusedLine) -> Unbegun
     ensures { result.refusal ≡ at.refusal }
 {

@@ -1,4 +1,4 @@
--- A slot of the journal: a gate, and the record behind it (own format).
+-- A slot of the journal: a gate, and the record after it (own format).
 use Rattle.std.specs.Prelude.{ℕ, ◌+◌, ◌*◌, ◌-◌, Bool, true, ◌&&◌, ◌==◌, nat_lt}
 use Rattle.std.specs.Prelude.{nat_le, if◌then◌else◌, List, [], ◌∷◌, ◌++◌, length, take, drop}
 use Rattle.std.specs.Prelude.{replicate, slice_index, Option, Some, None}

@@ -12,7 +12,7 @@ use mot_numbers::TransportId;
 use mot_objects::{BodyLength, Content, MAX_MIME, Mime, Name, Period};
 use std::alloc::{AllocError, Global};
 
-/// The record of an open slot; none where a field has a fault.
+/// The record of an open slot; `None` if a field has a fault.
 pub fn read_record(
     alloc: Global,
     geometry: &Geometry,
@@ -53,7 +53,7 @@ pub fn number(bytes: &[u8], at: usize, width: usize) -> u32
     BigEndian::read_uint(&bytes[at..at + width], width) as u32
 }
 
-/// The action of a slot; none where a field of it has a fault.
+/// The action of a slot; `None` if a field of it has a fault.
 fn read_action(
     alloc: Global,
     geometry: &Geometry,
@@ -74,7 +74,7 @@ fn read_action(
     }
 }
 
-/// The action of a slot that sets an object; none where a field of it has a fault.
+/// The action of a slot that sets an object; `None` if a field of it has a fault.
 fn read_set(
     alloc: Global,
     geometry: &Geometry,
@@ -120,7 +120,7 @@ fn read_set(
     }))
 }
 
-/// These bytes as a name; none where they break its rule.
+/// These bytes as a name; `None` if they break its rule.
 fn read_name(alloc: Global, layout: Layout, bytes: &[u8]) -> Result<Option<Name>, AllocError>
     ensures { IfOk result (λ name. name ≡ name_from (longest_name layout) bytes.now) }
 {
@@ -133,7 +133,7 @@ fn read_name(alloc: Global, layout: Layout, bytes: &[u8]) -> Result<Option<Name>
     }
 }
 
-/// The MIME type whose length is the first byte, or that there is none; none where it breaks its
+/// The MIME type whose length is the first byte, or that there is none; `None` if it breaks its
 /// rule.
 fn read_mime(alloc: Global, bytes: &[u8]) -> Result<Option<Option<Mime>>, AllocError>
     requires { 1 + MAX_MIME < length bytes.now }

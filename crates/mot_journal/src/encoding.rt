@@ -40,7 +40,7 @@ pub fn slot_bytes(layout: Layout, entry: &Record) -> ArrayVec<u8, 512>
     slot
 }
 
-/// The slot of the record of this number; zeros where there is none. It takes no memory.
+/// The slot of the record of this number; zeros if there is no such record. It takes no memory.
 pub fn slot_or_zeros(layout: Layout, given: &[Record], number: usize) -> ArrayVec<u8, 512>
     ensures value { result.items ≡ slot_from layout (slice_get given.now number) }
     ensures reads { (g : Sizes) → AreSound g layout given.now

@@ -46,14 +46,14 @@ pub fn format<D: Disk>(disk: &mut D, geometry: &Geometry) -> Result<(), Refusal>
         (λ refusal. (refusal ≡ DeviceFault)
         ⊎ ((D.state disk.new).failures ≡ (D.state disk.old).failures)) }
 
-    // a sync and a read of the magic, the bytes behind it, two halves, and the magic between syncs
+    // a sync and a read of the magic, the bytes after it, two halves, and the magic between syncs
     ensures cost { Costs (2 * slot_count Two geometry.now + 6)
         (D.state disk.old) (D.state disk.new) result }
     ensures untouched { (IsValid geometry.now → ⊥)
         ⊎ ((D.state disk.old).len < length_of geometry.now)
         → IsUnchanged (D.state disk.old) (D.state disk.new) }
 
-    // Where the disk reads the magic, it is synced at most.
+    // If the disk reads the magic, it is synced at most.
     ensures already { (D.state disk.new).IsHonest → has_magic (D.state disk.old).bytes ≡ true
         → IsStill (D.state disk.old) (D.state disk.new) }
     ensures synced { (D.state disk.new).IsHonest → IsErrOf result AlreadyFormatted
@@ -78,7 +78,7 @@ pub fn format<D: Disk>(disk: &mut D, geometry: &Geometry) -> Result<(), Refusal>
     format_from(disk, geometry, TransportId::FIRST)
 }
 
-/// The same, but that the directory has this transport id, behind which the ids go on.
+/// The same, except that the directory has this transport id, after which the ids go on.
 pub fn format_from<D: Disk>(
     disk: &mut D,
     geometry: &Geometry,
@@ -96,14 +96,14 @@ pub fn format_from<D: Disk>(
         (λ refusal. (refusal ≡ DeviceFault)
         ⊎ ((D.state disk.new).failures ≡ (D.state disk.old).failures)) }
 
-    // a sync and a read of the magic, the bytes behind it, two halves, and the magic between syncs
+    // a sync and a read of the magic, the bytes after it, two halves, and the magic between syncs
     ensures cost { Costs (2 * slot_count Two geometry.now + 6)
         (D.state disk.old) (D.state disk.new) result }
     ensures untouched { (IsValid geometry.now → ⊥)
         ⊎ ((D.state disk.old).len < length_of geometry.now)
         → IsUnchanged (D.state disk.old) (D.state disk.new) }
 
-    // Where the disk reads the magic, it is synced at most.
+    // If the disk reads the magic, it is synced at most.
     ensures already { (D.state disk.new).IsHonest → has_magic (D.state disk.old).bytes ≡ true
         → IsStill (D.state disk.old) (D.state disk.new) }
     ensures synced { (D.state disk.new).IsHonest → IsErrOf result AlreadyFormatted
@@ -143,7 +143,7 @@ pub fn format_from<D: Disk>(
     Ok(())
 }
 
-/// Syncs, and tells whether the disk has the magic.
+/// Syncs, and answers whether the disk has the magic.
 fn reads_magic<D: Disk>(disk: &mut D) -> Result<bool, DiskFault>
     requires { 8 ≤ (D.state disk.old).len }
     ensures only_syncs { OnlySyncs (D.state disk.old) (D.state disk.new) }
@@ -177,7 +177,7 @@ fn make<D: Disk>(disk: &mut D, geometry: &Geometry, directory: TransportId) -> R
     publish(disk, 0, &MAGIC)
 }
 
-/// Writes all from the byte behind the magic up to the data area.
+/// Writes all from the byte after the magic up to the data area.
 fn fill<D: Disk>(disk: &mut D, geometry: &Geometry, directory: TransportId) -> Result<(), DiskFault>
     requires valid { IsValid geometry.now }
     requires long_enough { length_of geometry.now ≤ (D.state disk.old).len }

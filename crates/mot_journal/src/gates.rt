@@ -47,8 +47,8 @@ pub fn are_gates_clean<D: Disk>(
     Ok(true)
 }
 
-/// Whether the last gate of these slots is closed, or the one before them where there is none; none
-/// where one is open behind a closed one.
+/// Whether the last gate of these slots is closed, or the one before them if there are none; `None`
+/// if one is open after a closed one.
 fn last_gate(slots: &[u8], layout: Layout, was_shut: bool) -> Option<bool>
     ensures { result ≡ scan was_shut
         (slots_in (slot_size layout) (length slots.now / slot_size layout) slots.now) }

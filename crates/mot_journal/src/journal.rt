@@ -67,7 +67,7 @@ pub struct Loaded {
 pub fn load<D: Disk>(alloc: Global, disk: &mut D) -> Result<Loaded, Refusal>
     ensures only_reads { OnlyReads (D.state disk.old) (D.state disk.new) }
 
-    // The disk has failed where a device fault is told, and nowhere else.
+    // A disk fault is answered exactly if the disk has failed.
     ensures calm { MatchResult result
         (λ loaded. (D.state disk.new).failures ≡ (D.state disk.old).failures)
         (λ refusal. (refusal ≡ DeviceFault)
@@ -152,7 +152,7 @@ impl Journal {
         self.count
     }
 
-    /// Whether a device fault has come in a call that writes. Nothing can be written then.
+    /// Whether a disk fault has come in a call that writes. Nothing can be written then.
     pub fn is_spent(&self) -> bool
         ensures { result ≡ self.now.spent }
     {

@@ -1,5 +1,5 @@
-//! The journal of a disk: its geometry, and records in the slots of two halves, each behind a gate
-//! that is opened last.
+//! The journal of a disk: its geometry, and records in the slots of two halves. A gate at the
+//! beginning of each slot is opened last.
 #![tactic(auto)]
 
 mod decoding;

@@ -15,7 +15,7 @@ use crate::{Geometry, Layout, Record};
 use mot_numbers::Refusal;
 use std::alloc::Global;
 
-/// The geometry that the first 64 bytes of a disk of this length tell.
+/// The geometry that the first 64 bytes of a disk of this length give.
 pub(crate) fn geometry_of_head(head: &[u8], len: u64) -> Option<Geometry>
     requires { length head.now ≡ 64 }
     ensures { (rest : List ℕ) → 64 + length rest ≡ len → result ≡ geometry_of (head.now ++ rest) }

@@ -5,8 +5,8 @@ use crate::MAX_LINE;
 use std::alloc::{AllocError, Global};
 use std::marker::Model;
 
-/// How many first bytes are kept of a line: one more than the longest one has, so that these are
-/// refused where the line is.
+/// How many first bytes are kept of a line: one more than the longest line has, so that these are
+/// refused if the line is.
 const KEPT: usize = MAX_LINE + 1;
 
 /// The line that is being read, with room for what is kept of it.
@@ -63,7 +63,7 @@ impl Hand {
         self.bytes.is_empty()
     }
 
-    /// What is kept of the line. It asks for the same as the whole line does.
+    /// The kept bytes of the line. They ask for the same as the whole line does.
     pub fn as_slice(&self) -> &[u8]
         ensures bytes { result.now ≡ self.now }
         ensures asks { (line : List ℕ) → self.now ≡ bytes_in_hand line

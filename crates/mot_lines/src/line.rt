@@ -34,7 +34,7 @@ pub enum Line {
     /// A command: `put NAME TYPE SUBTYPE MIME HEX`, `replace` with the same words, `withdraw NAME`
     /// or `period N`.
     Command(Command),
-    /// What the carousel has: `list`.
+    /// The content of the carousel: `list`.
     List,
     /// One data group of one segment, and the packets that carry it: `raw TYPE TID HEX`.
     Raw {
@@ -51,11 +51,11 @@ pub enum Line {
     Turn,
 }
 
-/// What a line asks for, given without its end. `BadLine`: an unknown first word, a wrong count of
-/// words, or more than 530,000 bytes. Then the words are looked at in their order, and the first
-/// that is wrong gives the refusal: `BadName`, `BadType`, `BadMime`, `BadNumber`, or for the body
-/// `BadBody`, `EmptyBody` or `BodyTooLong`. `OutOfMemory` where there is no room for a name, a MIME
-/// type or the body; a list, a `next` and a `turn` line are never refused for want of memory.
+/// The request of a line, given without its end. `BadLine`: an unknown first word, a wrong count of
+/// words, or more than 530,000 bytes. Then the first wrong word gives the refusal: `BadName`,
+/// `BadType`, `BadMime`, `BadNumber`, or for the body `BadBody`, `EmptyBody` or `BodyTooLong`.
+/// `OutOfMemory` if there is no room for a name, a MIME type or the body; a list, a `next` and a
+/// `turn` line are never refused as out of memory.
 pub fn parse_line(alloc: Global, line: &[u8]) -> Result<Line, Refusal>
     ensures { IsParsed result (line_of line.now) }
 {

@@ -31,7 +31,7 @@ pub type PacketLine = ArrayVec<u8, PACKET_LINE_ROOM>;
 /// Places for the digits of the longest packet.
 const NO_DIGITS: [u8; 2 * MAX_PACKET] = [0; 2 * MAX_PACKET];
 
-/// Makes the line that of a packet, with ` end` behind one that was played and ends a turn.
+/// Makes the line that of a packet, with ` end` after a packet that was played and ends a turn.
 // In place, since a line that is answered is copied.
 pub fn set_packet_text(text: &mut PacketLine, packet: &Packet, ends_turn: bool)
     ensures { text.new.items ≡ played_line packet.now.items ends_turn }
@@ -159,7 +159,7 @@ pub fn put_text(object: &Object) -> TextLine
     text
 }
 
-/// The line that sets a period; none where it is 0.
+/// The line that sets a period; none if it is 0.
 pub fn period_text(period: Period) -> TextLine
     ensures { result.items ≡ period_line period }
 {

@@ -15,7 +15,7 @@ impl PacketLength {
     ghost use Rattle.mot_numbers.specs.PacketLength.{IsLength, bytes_of, room_of, code_of};
     ghost use Rattle.mot_numbers.specs.PacketLength.{shortest_room};
 
-    /// The length of so many bytes; `None` where no packet has so many.
+    /// The length of so many bytes; `None` if no packet has so many.
     pub fn new(bytes: u16) -> Option<Self>
         ensures valid { IsSome result ↔ IsLength bytes }
         ensures value { IfSome result (λ length. bytes_of length ≡ bytes) }

@@ -22,13 +22,13 @@ pub enum Refusal {
     EmptyBody,
     /// A body is above its limit.
     BodyTooLong,
-    /// Any other number is none, or out of its range.
+    /// Any other number is not one, or is out of its range.
     BadNumber,
     /// A put of a name that is there.
     NameTaken,
     /// A replace or withdraw of a name that is not there.
     NoSuchName,
-    /// A put where the greatest number of objects is there.
+    /// A put when the greatest number of objects is there.
     TooManyObjects,
     /// No gap of the data area holds the body.
     NoRoom,
@@ -36,7 +36,7 @@ pub enum Refusal {
     OutOfMemory,
     /// The disk failed in this call.
     DeviceFault,
-    /// An earlier command ended in a device fault, and the disk was not opened again.
+    /// An earlier command ended in a disk fault, and the disk was not opened again.
     Halted,
     /// The disk has no magic, a geometry out of range, or less length than its geometry asks.
     NotFormatted,
@@ -118,7 +118,7 @@ impl Refusal {
     }
 }
 
-/// Its number and its name and, where a slot is damaged, that slot's number.
+/// Its number and its name and, if a slot is damaged, that slot's number.
 impl Display for Refusal {
     fn fmt<W: fmt::Write>(&self, f: &mut Formatter<W>) -> fmt::Result {
         write!(f, "{} {}", self.number(), self.name())?;

@@ -40,7 +40,7 @@ impl Carousel {
         }
     }
 
-    /// Where in the list the object of this name stands; `None` where there is none.
+    /// The place of the object of this name in the list; `None` if there is no such object.
     pub fn place_of(&self, name: &Name) -> Option<usize>
         ensures place { result ≡ index_of name.now self.now.objects.items }
         ensures within { IfSome result (λ place. place < vec_len self.now.objects) }

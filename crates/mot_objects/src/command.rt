@@ -30,7 +30,7 @@ pub enum Command {
 /// The transport ids that an accepted command took.
 #[derive(Clone, Copy, Debug, PartialEq, Eq)]
 pub struct Done {
-    /// The object's id, where the command was a put or a replace.
+    /// The object's id, if the command was a put or a replace.
     pub object: Option<TransportId>,
     /// The directory's id.
     pub directory: TransportId,

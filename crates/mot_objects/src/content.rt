@@ -39,7 +39,7 @@ impl Model for Content {
 }
 
 impl Content {
-    /// The content of these numbers; `BadType` where one is out of range.
+    /// The content of these numbers; `BadType` if one is out of range.
     pub fn new(content_type: u8, subtype: u16) -> Result<Self, Refusal>
         ensures valid { IsOk result ↔ ((content_type ≤ MAX_TYPE) × (subtype ≤ MAX_SUBTYPE)) }
         ensures value { IfOk result (λ content.

@@ -28,7 +28,7 @@ impl Model for Mime {
 }
 
 impl Mime {
-    /// The MIME type of these bytes; `BadMime` where they break its rule.
+    /// The MIME type of these bytes; `BadMime` if they break its rule.
     pub fn new(bytes: Vec<u8>) -> Result<Self, Refusal>
         ensures valid { IsOk result ↔ IsMime bytes.items }
         ensures value { IfOk result (λ mime. mime ≡ bytes.items) }

@@ -29,7 +29,7 @@ impl Model for Name {
 }
 
 impl Name {
-    /// The name of these bytes; `BadName` where they break its rule.
+    /// The name of these bytes; `BadName` if they break its rule.
     pub fn new(bytes: Vec<u8>) -> Result<Self, Refusal>
         ensures valid { IsOk result ↔ IsName bytes.items }
         ensures value { IfOk result (λ name. name ≡ bytes.items) }

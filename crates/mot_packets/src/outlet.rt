@@ -1,4 +1,4 @@
-//! What packets go out by.
+//! Outlets: where packets go.
 ghost use Rattle.std.specs.Prelude.{◌≤◌, ◌∷◌, ℕ, List, [], None, Option, length, take, IfOk};
 ghost use Rattle.std.specs.Prelude.{MatchResult};
 ghost use Rattle.std.specs.Io.KnownBytes.{WriteAppends};
@@ -6,9 +6,9 @@ ghost use Rattle.mot_packets.specs.Outlet.{Grows};
 
 use std::io::{self, Write};
 
-/// What takes packets, each in one write of its own: a pipe, a device or a file.
+/// Takes packets, each in one write of its own: a pipe, a device or a file.
 pub trait Outlet {
-    // What each write took, in order, where that is known: nothing, where it failed.
+    // What each write took, in order, if that is known: nothing, if it failed.
     ghost writes: { Self → Option (List (List ℕ)) } = { λ _. None };
 
     /// Offers the bytes in one write. It takes so many first bytes of them.
@@ -33,7 +33,7 @@ impl<W: Write + Drop> Outlet for Direct<W> {
             (λ count. Grows None None (take count bytes.now ∷ []))
             (λ _. Grows {A = List ℕ} None None ([] ∷ [])) }
 
-        // The writer takes what is told, and nothing else.
+        // The writer takes the noted bytes, and nothing else.
         ensures written { WriteAppends (W.contents self.old.writer) (W.contents self.new.writer)
             result bytes.now }
     {

@@ -27,8 +27,8 @@ pub type Packet = ArrayVec<u8, MAX_PACKET>;
 pub fn packet_count(len: usize, full_length: PacketLength) -> usize
     ensures count { result ≡ div_ceil len (room_of full_length) }
 
-    // Packets that read as the pieces of a group gather to it alone, and behind them what they
-    // stand in front of at the same address.
+    // Packets that read as the pieces of a group gather to it alone. The packets after them at the
+    // same address gather as if the group were not there.
     ensures gathers { (address index : ℕ) (group : List ℕ) (packets : List (List ℕ))
         → length group ≡ len → 0 < len
         → read_each read_packet packets ≡ Some (pieces_of (room_of full_length) address index group)

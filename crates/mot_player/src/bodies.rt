@@ -1,4 +1,4 @@
-//! Where a player has its bodies from.
+//! The source of a player's bodies.
 ghost use Rattle.std.specs.Prelude.{◌≡◌, ◌+◌, ◌<◌, ◌≤◌, List, ℕ, length, map, refl, slice_range};
 ghost use Rattle.std.specs.Prelude.{OnOk, IfErr};
 ghost use Rattle.disk_model.specs.Failures.{HasCause};
@@ -10,11 +10,11 @@ use mot_objects::Body;
 
 /// The bodies of a carousel, in the order of its objects, wherever they are kept.
 ///
-/// A read errs exactly where the count of failures rises in it. At the greatest `u64` the count
-/// can't rise, and each read fails. Honest bodies give their bytes; of others only the lengths are
-/// known. No contract can rule out that a device gives other bytes, so what a read gives has as its
-/// premise that the bodies are honest after it; as bodies that are honest were honest before, that
-/// premise at the end of a run of reads covers each of them.
+/// A read errs exactly if the count of failures rises in it. At the greatest `u64` the count can't
+/// rise, and each read fails. Honest bodies give their bytes; of others only the lengths are known.
+/// No contract can rule out that a device gives other bytes, so the result of a read has as its
+/// premise that the bodies are honest after it. Honest bodies were honest before, so that premise
+/// at the end of a run of reads covers each of them.
 pub trait Bodies {
     /// The bodies.
     ghost bodies: { Self → List (List ℕ) };
@@ -25,10 +25,10 @@ pub trait Bodies {
     /// How often a read has failed.
     ghost failures: { Self → ℕ };
 
-    /// What stays, where only reads have come between the first and the second.
+    /// What stays, if only reads have come between the first and the second.
     ghost HasOnlyRead: { Self → Self → Type 0 };
 
-    /// It stays where no read has come.
+    /// It stays if no read has come.
     ghost unread: { (kept : Self) → HasOnlyRead kept kept };
 
     /// How many bodies there are.

@@ -1,12 +1,12 @@
-//! The last data group of each type, and beginning one behind it.
+//! The last data group of each type, and beginning the next one.
 ghost use Rattle.std.specs.Prelude.{◌≡◌, ◌<◌, ◌≤◌, length, vec_len, vec_capacity};
 
 use mot_groups::{content_front, write_group};
 use mot_numbers::{GroupKind, TransportId};
 use std::alloc::{AllocError, Global};
 
-/// The group of a type that was begun last: its continuity index, its segment, and what stands in
-/// front of that in its content. The segment is empty where no group was begun.
+/// The group of a type that was begun last: its continuity index, its segment, and the bytes in
+/// front of that in its content. The segment is empty if no group was begun.
 #[derive(Drop)]
 pub(crate) struct LastGroup {
     pub index: u8,

@@ -9,7 +9,7 @@ use mot_groups::segment_count;
 use mot_numbers::{PacketLength, SegmentSize};
 use mot_packets::packet_count;
 
-/// How many bytes of a group are none of its segment.
+/// How many bytes of a group are not its segment's.
 const GROUP_FRAME: usize = 11;
 
 /// How many packets an entity of so many bytes takes, which is no longer than a directory.

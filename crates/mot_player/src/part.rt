@@ -11,7 +11,7 @@ use crate::course::Course;
 use mot_groups::segment_count;
 use mot_numbers::SegmentSize;
 
-/// A segment of an entity of a turn, and which comes behind it.
+/// A segment of an entity of a turn, and the next one.
 #[derive(Clone, Copy)]
 pub(crate) struct Part {
     pub entity: usize,
@@ -56,7 +56,7 @@ fn segment_at(turn: &Turn, segment_size: SegmentSize, entity: usize, segment: us
     ensures plannable { IsPlannable turn.now }
     ensures size { (64 ≤ segment_size) × (segment_size ≤ MAX_SEGMENT) }
 {
-    // A turn has a directory and its bodies.
+    // A turn has a directory and its bodies. (The line is there for the proof.)
     let _ = turn.entity_count();
     let size = usize::from(segment_size.get());
     let entity_len = turn.entity_length(entity);

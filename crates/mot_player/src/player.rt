@@ -109,14 +109,14 @@ impl Player {
         ensures turn { self.new.turn ≡ turn }
         ensures size { self.new.segment_size ≡ self.old.segment_size }
     {
-        // A turn has a directory and its bodies.
+        // A turn has a directory and its bodies. (The line is there for the proof.)
         let _ = turn.entity_count();
         self.state.turn = turn;
         self.state.course.begin_turn();
     }
 
-    /// The whole directory comes behind the group under way, and then the bodies go on; where
-    /// nothing of the turn waits, nothing changes, since the next turn begins with it.
+    /// The whole directory comes after the group under way, and then the bodies go on. If nothing
+    /// of the turn waits, nothing changes, since the next turn begins with it.
     pub fn hear_directory(&mut self)
         ensures place { (bodies : List (List ℕ)) → AreBodiesFor self.old.turn bodies
             → place_of self.new bodies ≡ hear_directory (place_of self.old bodies) }
@@ -139,7 +139,7 @@ impl Player {
             full_length,
             ..
         } = &self.state;
-        // A turn has a directory and its bodies.
+        // A turn has a directory and its bodies. (The line is there for the proof.)
         let _ = turn.entity_count();
         packets_of_entity(turn.entity_length(0), *segment_size, *full_length)
     }
@@ -153,8 +153,8 @@ impl Player {
         self.state.segment_size
     }
 
-    /// The next packet. It takes no memory; `DeviceFault` where a read of the bodies failed, and
-    /// then the player is as before. The bodies are those of the last turn handed in.
+    /// The next packet. It takes no memory; `DeviceFault` if a read of the bodies failed, and then
+    /// the player is as before. The bodies are those of the last turn handed in.
     pub fn next_packet<B: Bodies>(&mut self, bodies: &mut B) -> Result<Played, Refusal>
         requires { AreBodiesFor self.old.turn (B.bodies bodies.old) }
         ensures sent { B.IsHonest bodies.new → IfOk result (λ played.

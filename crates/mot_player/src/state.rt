@@ -1,4 +1,4 @@
-//! Where a player stands, and its buffers.
+//! The state of a player, and its buffers.
 ghost use Rattle.std.specs.Prelude.{◌≡◌, ℕ, ◌+◌, ◌^◌, ◌<◌, ◌≤◌, List, length, take, drop};
 ghost use Rattle.std.specs.Prelude.{vec_len, Some, OnOk, OnErr};
 
@@ -19,7 +19,7 @@ pub(crate) struct State {
     pub turn: Turn,
     /// Which segments come next.
     pub course: Course,
-    /// The group under way, and how many of its bytes were sent; 0 where none is under way.
+    /// The group under way, and how many of its bytes were sent; 0 if none is under way.
     pub group: Vec<u8>,
     pub sent: usize,
     /// The next packet's continuity index.
@@ -30,7 +30,7 @@ pub(crate) struct State {
     pub buffer: Vec<u8>,
 }
 
-/// A packet, and whether it ends the turn: nothing of the turn is left behind it, and no changed
+/// A packet, and whether it ends the turn: nothing of the turn is left after it, and no changed
 /// turn waits.
 #[derive(Drop)]
 pub struct Played {
@@ -50,7 +50,7 @@ impl State {
     ghost use Rattle.mot_player.specs.Course.{course_of, passed};
     ghost use Rattle.mot_player.specs.Inner.Entities.{IsOnCourse, entity_bytes, entity_length};
 
-    /// Begins the group of the next segment, of which no packet is sent yet. Where a read of the
+    /// Begins the group of the next segment, of which no packet is sent yet. If a read of the
     /// bodies fails, all stays as it was.
     #[inline(never)]
     pub fn begin<B: Bodies>(&mut self, bodies: &mut B) -> Result<(), Refusal>
@@ -156,8 +156,8 @@ impl State {
             ≡ (packet_sent (place_with self.old bodies) self.old.group.items
             self.old.sent).ends_turn }
     {
-        // One packet a call, since a turn may change between two; a loop over all packets of a
-        // group stands where a group is not sent but shown (`write_packets` of `mot_session`).
+        // One packet a call, since a turn may change between two. `write_packets` of `mot_session`
+        // has a loop over all packets of a group, which is not sent but shown.
         cut_packet_into(
             packet,
             self.group.as_slice(),

@@ -29,7 +29,7 @@ use entry::write_change;
 use mot_journal::{Journal, Record};
 use mot_numbers::Refusal;
 
-/// Where the half is full, writes the given records into the other one, and selects it.
+/// If the half is full, writes the given records into the other one, and selects it.
 fn make_room<D: Disk>(journal: &mut Journal, disk: &mut D, given: &[Record]) -> Result<(), Refusal>
     requires going { IsFalse journal.old.spent }
     requires long_enough { length_of journal.old.geometry ≤ (D.state disk.old).len }
@@ -67,7 +67,7 @@ fn make_room<D: Disk>(journal: &mut Journal, disk: &mut D, given: &[Record]) -> 
     Ok(())
 }
 
-/// Writes what is prepared for a command: where the half is full, the given records into the other
+/// Writes what is prepared for a command: if the half is full, the given records into the other
 /// one; then the body into its gap, and the record.
 pub fn commit_change<D: Disk>(
     journal: &mut Journal,

@@ -5,8 +5,8 @@ ghost use Rattle.mot_repository.specs.Gap.{IsLongestGap, is_free, least_gap};
 use std::alloc::{AllocError, Global};
 
 /// The least start in a data area of `data_len` bytes from which `len` bytes lie in the area and
-/// meet no extent (start, length); `None` where no gap holds them. The extents may stand in any
-/// order. It takes no memory.
+/// meet no extent (start, length); `None` if no gap holds them. The extents may stand in any order.
+/// It takes no memory.
 pub fn first_fit(extents: &[(u32, u32)], len: u32, data_len: u32) -> Option<u32>
     ensures { result ≡ least_gap extents.now len data_len }
 {
@@ -53,7 +53,7 @@ pub fn longest_gap(extents: &[(u32, u32)], data_len: u32) -> u32
 }
 
 /// The start, raised past each extent that `len` bytes from it on meet, in one pass: no free start
-/// lies below it, and where it stays as it was, it is free.
+/// lies below it, and if it stays as it was, it is free.
 fn raised(extents: &[(u32, u32)], start: u64, len: u32) -> u64
     requires low { start < 2 ^ 33 }
     ensures least { start ≤ result }

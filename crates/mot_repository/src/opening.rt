@@ -31,10 +31,11 @@ impl<D: Disk> Repository<D> {
     /// Opens a disk. It syncs it first, and changes nothing on it but that. It takes memory for the
     /// records of one half and for the objects, and none for bodies.
     ///
-    /// The refusals are `DeviceFault` where the disk failed, `OutOfMemory`, `NotFormatted` for a
-    /// disk with no magic, a geometry out of range or too few bytes, and `Damaged` with the number
-    /// of the first slot that breaks the format, or else of the first whose record makes a fault of
-    /// the list: too many objects, none of the id that is to go, two of one id, extents that meet.
+    /// The refusals are `DeviceFault` if the disk failed, `OutOfMemory`, `NotFormatted` for a disk
+    /// with no magic, a geometry out of range or too few bytes, and `Damaged`. The last has the
+    /// number of the first slot that breaks the format, or else of the first whose record makes a
+    /// fault of the list: too many objects, none of the id that is to go, two of one id, extents
+    /// that meet.
     pub fn open(alloc: Global, disk: D) -> Result<Self, Refused<D>>
         ensures only_syncs { MatchResult result
             (λ r. OnlySyncs (D.state disk) (D.state r.disk))
@@ -47,7 +48,7 @@ impl<D: Disk> Repository<D> {
         ensures refused { IfErr result
             (λ e. IsOpeningRefusal (D.state disk) (D.state e.disk) e.refusal) }
 
-        // The disk has failed where a device fault is told, and nowhere else.
+        // A disk fault is answered exactly if the disk has failed.
         ensures calm { MatchResult result
             (λ r. (D.state r.disk).failures ≡ (D.state disk).failures)
             (λ e. (e.refusal ≡ DeviceFault)

@@ -36,7 +36,7 @@ pub struct Prepared<'a> {
     pub(crate) body: &'a [u8],
     /// Its record.
     pub(crate) record: Record,
-    /// The records that a full half is rewritten to first; none where it has room.
+    /// The records that a full half is rewritten to first; none if it has room.
     pub(crate) given: Vec<Record>,
 }
 
@@ -49,10 +49,10 @@ impl Prepared<'_> {
     }
 }
 
-/// Works out what the command does, and takes all memory that doing it takes. In this order:
-/// `BadName` where the layout has no room for the name, what the rules of the carousel refuse, and
-/// `NoRoom` where no gap holds the body. `OutOfMemory` may come at any point after the name. The
-/// records of a rewrite are made where the half is full.
+/// Works out what the command does, and takes all memory that doing it takes. The refusals come in
+/// this order: `BadName` if the layout has no room for the name, those of the carousel's rules, and
+/// `NoRoom` if no gap holds the body. `OutOfMemory` may come at any point after the name. The
+/// records of a rewrite are made if the half is full.
 pub(crate) fn prepare_change<'a>(
     alloc: Global,
     geometry: &Geometry,
@@ -96,7 +96,7 @@ pub(crate) fn prepare_change<'a>(
     })
 }
 
-/// The records that a full half is rewritten to; none where it has room.
+/// The records that a full half is rewritten to; none if it has room.
 fn records_to_give(
     alloc: Global,
     is_full: bool,

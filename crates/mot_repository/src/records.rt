@@ -12,7 +12,7 @@ use mot_objects::{BodyLength, Carousel, Command, Object};
 use std::alloc::{AllocError, Global};
 
 /// The records that a full half is rewritten to: one that sets each object, or one of kind nothing
-/// where there is no object.
+/// if there is no object.
 pub(crate) fn records_of(alloc: Global, inventory: &Inventory) -> Result<Vec<Record>, AllocError>
     ensures { let kept = catalogue_with inventory.now.carousel inventory.now.extents.items in
         IfOk result (λ records. records.items ≡ records_of_catalogue kept) }
@@ -74,7 +74,8 @@ fn action_of_change(
     }
 }
 
-/// What the types of the fields keep of a record. It does nothing.
+/// What the types of the fields keep of a record. It is there for the proof, and does nothing when
+/// it runs.
 fn know_fields(made: &Record)
     ensures { IsTyped made.now }
 {

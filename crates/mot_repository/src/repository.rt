@@ -16,7 +16,7 @@ use std::marker::Model;
 
 /// A carousel kept on a disk. Its bodies are never held in memory.
 ///
-/// A device fault in a command halts it: it is then to be opened again from its disk.
+/// A disk fault in a command halts it: it is then to be opened again from its disk.
 #[derive(Drop)]
 pub struct Repository<D: Disk> {
     disk: D,
@@ -112,7 +112,7 @@ impl<D: Disk> Repository<D> {
         self.journal.layout()
     }
 
-    /// Whether a command ended in a device fault.
+    /// Whether a command ended in a disk fault.
     pub fn halted(&self) -> bool
         ensures value { result ≡ self.now.view.halted }
     {
@@ -164,8 +164,8 @@ impl<D: Disk> Repository<D> {
         area_start(&self.journal.geometry()) + u64::from(start) + from as u64
     }
 
-    /// Reads a part of the body of the object at this place, through the disk. It answers also
-    /// where the repository is halted. The only refusal is `DeviceFault`.
+    /// Reads a part of the body of the object at this place, through the disk. It answers also if
+    /// the repository is halted. The only refusal is `DeviceFault`.
     pub fn read_body(&mut self, place: usize, from: usize, out: &mut [u8]) -> Result<(), Refusal>
         requires place { place < length self.old.view.extents }
         requires within { from + length out.old ≤ (extent_at self.old.view.extents place).1 }
@@ -208,9 +208,9 @@ impl<D: Disk> Repository<D> {
         Ok(())
     }
 
-    /// Works out what the command does, and takes all memory that doing it takes. It calls no
-    /// device, and changes nothing. The refusals are `Halted`, those of the rules, `NoRoom` where
-    /// no gap holds the body, `OutOfMemory`, and on layout 1 `BadName` for a name above 100 bytes.
+    /// Works out what the command does, and takes all memory that doing it takes. It does not call
+    /// the disk, and changes nothing. The refusals are `Halted`, those of the rules, `NoRoom` if no
+    /// gap holds the body, `OutOfMemory`, and on layout 1 `BadName` for a name above 100 bytes.
     pub fn prepare<'a>(&self, alloc: Global, command: &'a Command) -> Result<Prepared<'a>, Refusal>
         ensures prepared { IfOk result (λ p. IsPrepared self.now.view command.now p) }
         ensures going { OnOk result (IsFalse self.now.view.halted) }
@@ -251,7 +251,7 @@ impl<D: Disk> Repository<D> {
             → Throughout (D.state self.old.disk) (D.state self.new.disk)
             (IsBeforeOrAfter self.old.view.journal.layout s command) }
 
-        // So does a crash now, whether a device fault came or not.
+        // So does a crash now, whether a disk fault came or not.
         ensures now { (command : Command) → IsPrepared self.old.view command prepared.entry
             → (s : Standing) → Holds self.old.view s (D.state self.old.disk)
             → (image : List ℕ) → (D.state self.new.disk).MayLeave image
@@ -300,7 +300,7 @@ impl<D: Disk> Repository<D> {
             → Throughout (D.state self.old.disk) (D.state self.new.disk)
             (IsBeforeOrAfter self.old.view.journal.layout s command.now) }
 
-        // So does a crash now, whether a device fault came or not.
+        // So does a crash now, whether a disk fault came or not.
         ensures now { (s : Standing) → Holds self.old.view s (D.state self.old.disk)
             → (image : List ℕ) → (D.state self.new.disk).MayLeave image
             → IsBeforeOrAfter self.old.view.journal.layout s command.now image }
@@ -315,7 +315,7 @@ impl<D: Disk> Repository<D> {
         self.commit(prepared)
     }
 
-    /// Whether no gate of the selected half is open behind a closed one. It only reads.
+    /// Whether no gate of the selected half is open after a closed one. It only reads.
     pub fn is_clean(&mut self) -> Result<bool, Refusal>
         ensures only_reads { OnlyReads (D.state self.old.disk) (D.state self.new.disk) }
         ensures cost { (D.state self.new.disk).calls
@@ -327,8 +327,8 @@ impl<D: Disk> Repository<D> {
         ensures refused { IfErr result (λ refusal. IsCheckRefusal self.old self.new
             (D.state self.old.disk).failures (D.state self.new.disk).failures refusal) }
 
-        // Where the disk stands for something, and the journal stands where it has its records, the
-        // answer is whether what is read is clean.
+        // If the disk stands for something, and the journal stands where it has its records, the
+        // answer is whether the bytes that are read are clean.
         ensures exact { (s : Standing) → (D.state self.new.disk).IsHonest
             → stands_for (D.state self.old.disk).bytes ≡ Ok s
             → StandsWhere self.old.view.journal (D.state self.old.disk).bytes
@@ -345,9 +345,9 @@ impl<D: Disk> Repository<D> {
         Ok(clean)
     }
 
-    /// Rewrites the journal into layout 2; false, with no device call, where it is of layout 2
-    /// already. At `DeviceFault` the repository is halted; `OutOfMemory` and `Halted` come before
-    /// anything is written.
+    /// Rewrites the journal into layout 2; false, with no disk call, if it is of layout 2 already.
+    /// At `DeviceFault` the repository is halted; `OutOfMemory` and `Halted` come before anything
+    /// is written.
     pub fn migrate(&mut self, alloc: Global) -> Result<bool, Refusal>
         ensures keeps { Keeps (D.state self.old.disk) (D.state self.new.disk) }
         ensures geometry { self.new.view.journal.geometry ≡ self.old.view.journal.geometry }

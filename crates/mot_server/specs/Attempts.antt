@@ -1,4 +1,4 @@
--- What one command came to, told as a run of it alone.
+-- What one command came to, as a run of it alone.
 use Rattle.std.specs.Prelude.{Bool, true, false, List, [], ◌∷◌, Option, Some, None, Result, Ok, Err}
 use Rattle.mot_numbers.specs.declared.refusal.Refusal.{Refusal}
 use Rattle.mot_objects.specs.declared.command.Done.{Done}

@@ -1,5 +1,5 @@
--- What a run of commands answers on every disk, whatever the disk holds and however it fails: told
--- of what the repository keeps in memory.
+-- What a run of commands answers on every disk, whatever the disk holds and however it fails: in
+-- the words of what the repository keeps in memory.
 use Rattle.std.specs.Prelude.{◌≡◌, Bool, true, false, List, [], ◌∷◌, length, drop, Option, Some}
 use Rattle.std.specs.Prelude.{None, IsTrue, IsFalse}
 use Rattle.mot_numbers.specs.declared.refusal.Refusal.{Refusal}

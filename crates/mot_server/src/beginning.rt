@@ -26,16 +26,16 @@ use std::alloc::Global;
 /// What formatting came to, and what was opened of the disk that a crash left of it.
 #[derive(Drop)]
 pub struct Beginning<E: Disk> {
-    /// How formatting ended: the crash came before, at some moment of it, or behind it.
+    /// How formatting ended: the crash came before, at some moment of it, or after it.
     pub formatted: Result<(), Refusal>,
     /// The server on what the crash left, and the first turn that it played.
     pub restarted: Result<Restarted<E>, Refused<E>>,
 }
 
-/// Formatting a disk that has no magic, and a crash at any moment of it or behind it: what was left
-/// is no disk of this format, or opens as the new carousel, whose directory has this transport id,
-/// and is played as it. A history of runs,
-/// crashes and restarts, each on what the last one left, begins here.
+/// Formatting a disk that has no magic, and a crash at any moment of it or after it. The bytes that
+/// the crash left are no disk of this format, or open as the new carousel, whose directory has this
+/// transport id, and are played as it. A history of runs, crashes and restarts, each on the disk
+/// that the last one left, begins here.
 pub fn format_and_restart<D: Disk, E: Disk>(
     disk: &mut D,
     alloc: Global,
@@ -68,7 +68,7 @@ pub fn format_and_restart<D: Disk, E: Disk>(
         → (D.state disk.new).MayLeave image
         → (stands_for image ≡ Ok (standing_from geometry.now directory)) × IsClean image) }
 
-    // where it opens, it is the new carousel
+    // if it opens, it is the new carousel
     ensures begins { (D.state disk.new).IsHonest
         → ((image : List ℕ) → (D.state disk.old).MayLeave image → has_magic image ≡ false)
         → (D.state disk.new).LeftSince (D.state disk.old).moment (E.state left).bytes
@@ -77,7 +77,7 @@ pub fn format_and_restart<D: Disk, E: Disk>(
         × ReadsAs (bytes_of_packets r.packets.items) (carousel_from directory)
         geometry.now.segment_size) }
 
-    // behind a formatting that is Ok it opens, but for want of memory or a failure of the disk
+    // after a formatting that is Ok it opens, unless memory runs out or the disk fails
     ensures opens { (D.state disk.new).IsHonest
         → (D.state disk.new).MayLeave (E.state left).bytes
         → OnOk result.formatted (IfErr result.restarted (λ e. (E.state e.disk).IsHonest

@@ -32,7 +32,8 @@ pub(crate) fn is_body<D: Disk>(
         → (D.state repository.new.disk).IsHonest → IfOk result
         (λ same. IsTrue same ↔ (object_body s.carousel.objects place ≡ bytes.now)) }
 {
-    // There is a body for each object.
+    // There is a body for each object. The line is there for the proof, and does nothing when it
+    // runs.
     let _ = repository.body_count();
     if repository.body_length(place) as usize != bytes.len() {
         return Ok(false);

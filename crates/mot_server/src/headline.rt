@@ -26,10 +26,9 @@ pub struct Aftermath<E: Disk> {
 }
 
 /// For every list of commands and a crash at any moment, before or inside any disk write, opening
-/// what was left gives the carousel after a beginning of the accepted commands that holds every
-/// acknowledged one and at most the one in flight; and the first turn of packets played from it
-/// reads, by the standards' grammars, as exactly that carousel's directory and bodies, nothing
-/// more.
+/// the disk gives the carousel after a beginning of the accepted commands. It holds every
+/// acknowledged one and at most the one in flight. The first turn of packets played from it reads,
+/// by the standards' grammars, as exactly that carousel's directory and bodies, nothing more.
 ///
 /// `left` is any disk that reads as an image which a crash may have left; that it is honest is
 /// asked of it at the end, since a read may show that it is not. `s` is what the disk stood for
@@ -38,10 +37,10 @@ pub struct Aftermath<E: Disk> {
 /// statement holds at each cut.
 ///
 /// It has no other premises than these. The disk is honest, and each image that a crash at the
-/// beginning of the call may leave is clean and stands for what the server keeps (`Holds`): so it
-/// is of a disk that was formatted here, and every call keeps it so, but for one that halts the
-/// server. After a device fault the disk is opened again. And opening meets no want of memory and
-/// no failure of the disk: nothing else refuses what was left.
+/// beginning of the call may leave is clean and stands for what the server keeps (`Holds`). A disk
+/// that was formatted here is so, and every call keeps it so, except one that halts the server.
+/// After a disk fault the disk is opened again. And opening meets no lack of memory and no disk
+/// fault: nothing else refuses the disk.
 pub fn run_and_restart<D: Disk, E: Disk>(
     server: &mut Server<D>,
     alloc: Global,
@@ -96,7 +95,7 @@ pub fn run_and_restart<D: Disk, E: Disk>(
         ++ take count (commands_in_flight commands.now result.end.done.items result.end.fault))
         last × Holds r.server.view last (E.state r.server.disk)) }
 
-    // it opens, but for want of memory or a failure of the disk that was left
+    // it opens, unless memory runs out or the disk that was left fails
     ensures opens { (now : Standing) → Holds server.old.view now (D.state server.old.disk)
         → (D.state server.new.disk).LeftSince (D.state server.old.disk).moment (E.state left).bytes
         → IfErr result.restarted (λ e. (E.state e.disk).IsHonest

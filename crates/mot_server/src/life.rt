@@ -1,5 +1,5 @@
-//! The life of a disk: formatted, opened, given commands; and what a crash at any moment of that
-//! left, opened and played. Nothing here is told in the words of the disk's format or of memory.
+//! The life of a disk: formatted, opened, given commands; and then opened and played as a crash at
+//! any moment left it. Nothing here is said in the words of the disk's format or of memory.
 ghost use Rattle.std.specs.Prelude.{◌≡◌, ◌++◌, [], false, length, vec_len, IfOk, IfErr, IfSome};
 ghost use Rattle.std.specs.Prelude.{IfNone};
 ghost use Rattle.disk_model.specs.Disk.{KeepsLength, Throughout};
@@ -46,14 +46,14 @@ pub struct Life<D: Disk, E: Disk> {
 }
 
 /// Formats a disk, opens it and does the commands. A crash comes at any moment of that, before or
-/// inside any call of the disk, or behind it; `left` is any disk that reads as an image which that
-/// crash may have left. It is opened, and its first turn is played.
+/// inside any disk call, or after it; `left` is any disk that reads as an image which that crash
+/// may have left. It is opened, and its first turn is played.
 ///
 /// The headline, whole: for every list of commands and a crash at any moment the packets of that
 /// turn read, by the standards' grammars, as exactly the carousel after a beginning of the accepted
-/// commands, with at most the one in flight; and behind the call that beginning holds each command
-/// that was accepted. Its premises: both disks keep the model to the end, and at first no image of
-/// the disk has the magic of a formatted one. Runs on a disk that was left go on from there as
+/// commands, with at most the one in flight. After the call that beginning holds each command that
+/// was accepted. Its premises: both disks keep the model to the end, and at first no image of the
+/// disk has the magic of a formatted one. Runs on a disk that was left go on from there as
 /// `run_and_restart` says.
 pub fn format_run_and_restart<D: Disk, E: Disk + Drop>(
     disk: D,
@@ -82,8 +82,8 @@ pub fn format_run_and_restart<D: Disk, E: Disk + Drop>(
         (commands_in_flight commands.now life.end.done.items life.end.fault)
         (bytes_of_packets first.packets.items))) }
 
-    // Which commands are accepted; and nothing else ends the run before the last of them than want
-    // of memory or a failure of the disk.
+    // Which commands are accepted. Only running out of memory or a disk fault ends the run before
+    // the last of them.
     ensures marks { IfOk result (λ life. (D.state life.disk).IsHonest
         → AreMarksOf geometry.now (carousel_from directory) commands.now life.end.done.items) }
     ensures whole { IfOk result (λ life.
@@ -91,7 +91,7 @@ pub fn format_run_and_restart<D: Disk, E: Disk + Drop>(
     ensures fault { IfOk result (λ life. (D.state life.disk).IsHonest → IfSome life.end.fault
         (λ refusal. IsPassing (D.state disk) (D.state life.disk) refusal)) }
 
-    // What a crash left opens, but for want of memory or a failure of that disk, or where it came
+    // A disk that a crash left opens, unless memory runs out, that disk fails, or the crash came
     // before the magic; once the call has returned, the magic is there.
     ensures opens_before { IfOk result (λ life. (D.state life.disk).IsHonest
         → IsBlank (D.state disk)

@@ -65,7 +65,7 @@ pub fn restart<D: Disk>(alloc: Global, disk: D) -> Result<Restarted<D>, Refused<
     ensures refused { IfErr result
         (λ e. IsOpeningRefusal (D.state disk) (D.state e.disk) e.refusal) }
 
-    // The disk has failed where a device fault is told, and nowhere else.
+    // A disk fault is answered exactly if the disk has failed.
     ensures calm { MatchResult result
         (λ r. (D.state r.server.disk).failures ≡ (D.state disk).failures)
         (λ e. (e.refusal ≡ DeviceFault)

@@ -89,8 +89,8 @@ impl<D: Disk> Server<D> {
         RunEnd { done, fault: None }
     }
 
-    /// Does one command, as a run of it alone: what would be marked false is an answer, and what
-    /// would end the run is the error. Unlike a run it tells the ids, and why it was refused.
+    /// Does one command, as a run of it alone: a command that would be marked false has an answer,
+    /// and what would end the run is the error. Unlike a run it gives the ids, and the refusal.
     pub fn attempt(&mut self, alloc: Global, command: &Command) -> Result<Attempt, Refusal>
         ensures keeps { Keeps (D.state self.old.disk) (D.state self.new.disk) }
         ensures layout { self.new.view.journal.layout ≡ self.old.view.journal.layout }
@@ -99,7 +99,7 @@ impl<D: Disk> Server<D> {
 
         ensures halted { OnOk result (self.new.view.halted ≡ self.old.view.halted) }
 
-        // The disk has failed where a device fault is told, and nowhere else.
+        // A disk fault is answered exactly if the disk has failed.
         ensures calm { MatchResult result
             (λ answer. (D.state self.new.disk).failures ≡ (D.state self.old.disk).failures)
             (λ refusal. (refusal ≡ DeviceFault)

@@ -30,7 +30,7 @@ use std::marker::Model;
 
 /// A server of packets, which keeps a carousel on a disk, and plays it. It holds no body in memory.
 ///
-/// A device fault in a command halts it: it is then to be opened again from its disk.
+/// A disk fault in a command halts it: it is then to be opened again from its disk.
 #[derive(Drop)]
 pub struct Server<D: Disk> {
     bodies: DiskBodies<D>,
@@ -76,17 +76,18 @@ impl<D: Disk> Server<D> {
     /// nothing on it but that. It takes memory for the records of one half, the objects and one
     /// turn's directory, and none for bodies.
     ///
-    /// The refusals are `DeviceFault` where the disk failed, `OutOfMemory`, `NotFormatted` for a
-    /// disk with no magic, a geometry out of range or too few bytes, and `Damaged` with the number
-    /// of the first slot that breaks the format, or else of the first whose record makes a fault of
-    /// the list: too many objects, none of the id that is to go, two of one id, extents that meet.
+    /// The refusals are `DeviceFault` if the disk failed, `OutOfMemory`, `NotFormatted` for a disk
+    /// with no magic, a geometry out of range or too few bytes, and `Damaged`. The last has the
+    /// number of the first slot that breaks the format, or else of the first whose record makes a
+    /// fault of the list: too many objects, none of the id that is to go, two of one id, extents
+    /// that meet.
     pub fn open(alloc: Global, disk: D) -> Result<Self, Refused<D>>
         ensures only_syncs { MatchResult result
             (λ server. OnlySyncs (D.state disk) (D.state server.disk))
             (λ e. OnlySyncs (D.state disk) (D.state e.disk)) }
         ensures going { IfOk result (λ server. IsFalse server.view.halted) }
 
-        // The disk has failed where a device fault is told, and nowhere else.
+        // A disk fault is answered exactly if the disk has failed.
         ensures calm { MatchResult result
             (λ server. (D.state server.disk).failures ≡ (D.state disk).failures)
             (λ e. (e.refusal ≡ DeviceFault)
@@ -152,7 +153,7 @@ impl<D: Disk> Server<D> {
         self.bodies.repository.layout()
     }
 
-    /// Whether a command ended in a device fault.
+    /// Whether a command ended in a disk fault.
     pub fn halted(&self) -> bool
         ensures value { result ≡ self.now.view.halted }
     {
@@ -174,9 +175,9 @@ impl<D: Disk> Server<D> {
         self.bodies.repository.record_count()
     }
 
-    /// Does what the command asks, and gives the transport ids that it took. The refusals are those
-    /// of the rules, `NoRoom` where no gap holds the body, `OutOfMemory`, `BadName` on layout 1 for
-    /// a name above 100 bytes, `DeviceFault` and `Halted`.
+    /// Does the command, and gives the transport ids that it took. The refusals are those of the
+    /// rules, `NoRoom` if no gap holds the body, `OutOfMemory`, `BadName` on layout 1 for a name
+    /// above 100 bytes, `DeviceFault` and `Halted`.
     ///
     /// At `DeviceFault` the server is halted, with the carousel from before; after every other
     /// refusal it is as it was, and so is the disk. All memory is taken before anything is written.
@@ -219,8 +220,8 @@ impl<D: Disk> Server<D> {
         Ok(done)
     }
 
-    /// The whole directory comes behind the group under way, and then the turn goes on; where a
-    /// turn begins next anyhow, nothing changes. It takes no memory, and nothing of the disk.
+    /// The whole directory comes after the group under way, and then the turn goes on; if a turn
+    /// begins next anyhow, nothing changes. It takes no memory, and does not call the disk.
     pub fn hear_directory(&mut self)
         ensures disk { self.new.disk ≡ self.old.disk }
         ensures view { self.new.view ≡ self.old.view }
@@ -240,7 +241,7 @@ impl<D: Disk> Server<D> {
     }
 
     /// The next packet by the order of sending. It takes no memory. Its refusals are `DeviceFault`
-    /// where a body can't be read, after which the server goes on from where it was, and `Halted`.
+    /// if a body can't be read, after which the server goes on from where it was, and `Halted`.
     pub fn next_packet(&mut self) -> Result<Played, Refusal>
         ensures only_reads { OnlyReads (D.state self.old.disk) (D.state self.new.disk) }
         ensures view { self.new.view ≡ self.old.view }
@@ -304,14 +305,15 @@ impl<D: Disk> Server<D> {
         if self.bodies.repository.halted() {
             return Err(Refusal::Halted);
         }
-        // There is a body for each object.
+        // There is a body for each object. The line is there for the proof, and does nothing when
+        // it runs.
         let _ = self.bodies.repository.body_count();
         self.player.next_into(&mut self.bodies, packet)
     }
 
     /// The packets up to the first that ends a turn: from the beginning of a turn on they read as
     /// exactly the carousel. Its refusals are those of `next_packet`, and `OutOfMemory`; the server
-    /// then goes on behind the packets that were played.
+    /// then goes on after the packets that were played.
     pub fn play_turn(&mut self, alloc: Global) -> Result<Vec<Packet>, Refusal>
         ensures only_reads { OnlyReads (D.state self.old.disk) (D.state self.new.disk) }
         ensures view { self.new.view ≡ self.old.view }
@@ -339,7 +341,7 @@ impl<D: Disk> Server<D> {
         ensures refused { IfErr result (λ refusal. IsTurnRefusal self.old self.new
             (D.state self.old.disk).failures (D.state self.new.disk).failures refusal) }
 
-        // The disk has failed where a device fault is told, and nowhere else.
+        // A disk fault is answered exactly if the disk has failed.
         ensures calm { MatchResult result
             (λ packets. (D.state self.new.disk).failures ≡ (D.state self.old.disk).failures)
             (λ refusal. (refusal ≡ DeviceFault)
@@ -400,14 +402,15 @@ impl<D: Disk> Server<D> {
         if self.halted() {
             return Err(Refusal::Halted);
         }
-        // There is a body for each object.
+        // There is a body for each object. The line is there for the proof, and does nothing when
+        // it runs.
         let _ = self.bodies.repository.body_count();
         self.bodies.repository.read_body(place, from, out)
     }
 
     /// Whether the body of the object at this place has exactly these bytes. It only reads, a piece
-    /// at a time, and nothing where the lengths differ. Its refusals are `DeviceFault`, which does
-    /// not halt the server, and `Halted`.
+    /// at a time, and nothing if the lengths differ. Its refusals are `DeviceFault`, which does not
+    /// halt the server, and `Halted`.
     pub fn body_is(&mut self, place: usize, bytes: &[u8]) -> Result<bool, Refusal>
         requires { place < vec_len self.old.view.carousel.objects }
         ensures only_reads { OnlyReads (D.state self.old.disk) (D.state self.new.disk) }
@@ -428,13 +431,14 @@ impl<D: Disk> Server<D> {
         if self.halted() {
             return Err(Refusal::Halted);
         }
-        // There is a body for each object.
+        // There is a body for each object. The line is there for the proof, and does nothing when
+        // it runs.
         let _ = self.bodies.repository.body_count();
         is_body(&mut self.bodies.repository, place, bytes)
     }
 
-    /// Whether no gate of the selected half is open behind a closed one. It only reads. Its
-    /// refusals are `DeviceFault`, which does not halt the server, and `Halted`.
+    /// Whether no gate of the selected half is open after a closed one. It only reads. Its refusals
+    /// are `DeviceFault`, which does not halt the server, and `Halted`.
     pub fn is_clean(&mut self) -> Result<bool, Refusal>
         ensures only_reads { OnlyReads (D.state self.old.disk) (D.state self.new.disk) }
         ensures view { self.new.view ≡ self.old.view }
@@ -447,8 +451,8 @@ impl<D: Disk> Server<D> {
         ensures refused { IfErr result (λ refusal. IsReadRefusal self.old self.new
             (D.state self.old.disk).failures (D.state self.new.disk).failures refusal) }
 
-        // Where the disk stands for something, and the journal stands where it has its records, the
-        // answer is whether what is read is clean.
+        // If the disk stands for something, and the journal stands where it has its records, the
+        // answer is whether the bytes that are read are clean.
         ensures exact { (s : journal.Standing) → (D.state self.new.disk).IsHonest
             → stands_for (D.state self.old.disk).bytes ≡ Ok s
             → StandsWhere self.old.view.journal (D.state self.old.disk).bytes
@@ -457,9 +461,9 @@ impl<D: Disk> Server<D> {
         self.bodies.repository.is_clean()
     }
 
-    /// Rewrites the journal into layout 2; false, with no device call, where it is of layout 2
-    /// already. It plays on as before. At `DeviceFault` the server is halted; `OutOfMemory` and
-    /// `Halted` come before anything is written.
+    /// Rewrites the journal into layout 2; false, with no disk call, if it is of layout 2 already.
+    /// It plays on as before. At `DeviceFault` the server is halted; `OutOfMemory` and `Halted`
+    /// come before anything is written.
     pub fn migrate(&mut self, alloc: Global) -> Result<bool, Refusal>
         ensures keeps { Keeps (D.state self.old.disk) (D.state self.new.disk) }
         ensures player { self.new.player ≡ self.old.player }

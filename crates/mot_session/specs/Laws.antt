@@ -1,4 +1,4 @@
--- What holds of every raw reply, of every session, and of what is told of lines.
+-- What holds of every raw reply, of every session, and of the replies to lines.
 use Rattle.std.specs.Prelude.{ℕ, ◌≡◌, ◌+◌, ◌⊎◌, ◌<◌, ◌≤◌, Bool, true, false, List, [], ◌∷◌, ◌++◌}
 use Rattle.std.specs.Prelude.{length, if◌then◌else◌, Option, Some, Result}
 use Rattle.disk_model.specs.Failures.{most_failures}

@@ -1,5 +1,5 @@
--- What is promised of each line of an input, told of the server as it was before the line and as it
--- was after it: so what comes behind a line takes nothing of it back.
+-- The promise of each line of an input, for the server as it was before the line and as it was
+-- after it: so what comes after a line takes nothing of it back.
 use Rattle.std.specs.Prelude.{ℕ, ◌≡◌, List, [], ◌∷◌, ◌++◌, length, Option, IsTrue}
 use Rattle.std.specs.Io.KnownBytes.{Appends}
 use Rattle.disk_model.specs.Disk.{State, IsUnchanged, KeepsLength}

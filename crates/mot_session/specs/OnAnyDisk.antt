@@ -1,5 +1,5 @@
--- What a request is answered on every disk, whatever the disk holds and however it fails: told of
--- what the server keeps in memory.
+-- What a request is answered on every disk, whatever the disk holds and however it fails: in
+-- the words of what the server keeps in memory.
 use Rattle.std.specs.Prelude.{ℕ, ◌≡◌, ◌<◌, ◌≤◌, Bool, true, false, List, ◌++◌, length, map}
 use Rattle.std.specs.Prelude.{replicate, Result, Ok, Err, IsTrue, IsFalse}
 use Rattle.std.specs.List.{flat_map}

@@ -1,4 +1,4 @@
-//! What the answer to a line is.
+//! Deciding the answer to a line.
 ghost use Rattle.std.specs.Prelude.{◌≡◌, [], Ok, IsTrue, IsFalse};
 ghost use Rattle.disk_model.specs.Disk.{IsUnchanged, KeepsLength, Throughout};
 ghost use Rattle.mot_journal.specs.Image.{Standing};
@@ -18,8 +18,8 @@ use mot_objects::{Command, Done};
 use mot_server::Server;
 use std::alloc::{AllocError, Global};
 
-/// What a line is answered, before it is written. A list and packets are shown as the server has
-/// them then, and played packets are made while they are written.
+/// The answer to a line, before it is written. A list and packets are shown as the server has them
+/// then, and played packets are made while they are written.
 #[derive(Drop)]
 pub(crate) enum Decision {
     /// The line was refused, or what it asked for.

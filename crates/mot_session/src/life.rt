@@ -1,5 +1,5 @@
-//! The life of a disk, told of lines: formatted, opened and served; and what a crash at any moment
-//! of that left, opened and played. Input bytes, output bytes and packets are all that is told.
+//! The life of a disk with lines: formatted, opened and served; and then opened and played as a
+//! crash at any moment left it. Its words are input bytes, output bytes and packets alone.
 ghost use Rattle.std.specs.Prelude.{◌≡◌, ◌≤◌, ◌++◌, ℕ, List, [], Some, None, IfOk, IfErr};
 ghost use Rattle.std.specs.Prelude.{◌⊎◌, if◌then◌else◌};
 ghost use Rattle.std.specs.List.{flat_map};
@@ -36,18 +36,18 @@ pub struct ServedLife<D: Disk, E: Disk> {
 }
 
 /// Formats a disk, opens it and serves the reader's lines, as the program does. A crash comes at
-/// any moment of that, before or inside any call of the disk, or behind it; `left` is any disk that
-/// reads as an image which that crash may have left. It is opened, and its first turn is played.
+/// any moment of that, before or inside any disk call, or after it; `left` is any disk that reads
+/// as an image which that crash may have left. It is opened, and its first turn is played.
 ///
-/// What the operator is promised, whole: for every input the packets of that turn read, by the
-/// standards' grammars, as exactly the carousel after a beginning of the commands whose replies say
-/// `done`, with at most the one in flight; and after a crash that comes once the call has returned,
-/// after all of them. (`serve_line_and_restart` has it line by line: there the return is the moment
-/// from which on a command whose `done` was written is never lost.)
+/// The operator's promise, whole: for every input the packets of that turn read, by the standards'
+/// grammars, as exactly the carousel after a beginning of the commands whose replies say `done`,
+/// with at most the one in flight; and after a crash that comes once the call has returned, after
+/// all of them. (`serve_line_and_restart` has it line by line: there the return is the moment from
+/// which on a command whose `done` was written is never lost.)
 ///
-/// Each reply is right where it stands: a command is done where the rules of the carousel accept
-/// it, with the ids that they give, and nowhere else, or there may be no room for what it brings;
-/// memory may be wanting, and a fault of the disk is told only where the disk failed.
+/// Each reply is right at its place: a command is done exactly if the rules of the carousel accept
+/// it, with the ids that they give, unless there may be no room for what it brings. Memory may run
+/// out, and a disk fault is answered only if the disk failed.
 pub fn format_serve_and_restart<R: Read, W: Write, D: Disk, E: Disk + Drop>(
     disk: D,
     alloc: Global,
@@ -60,9 +60,9 @@ pub fn format_serve_and_restart<R: Read, W: Write, D: Disk, E: Disk + Drop>(
 ) -> Result<ServedLife<D, E>, Refused<D>>
     requires { reads ≤ MAX_READS }
 
-    // The lines and their replies, each right where it stands, and a fault of the disk is told of a
-    // command only where the disk failed; and what a crash leaves of their commands: first one at
-    // some moment since the call began, then one that comes once it has returned.
+    // The lines and their replies, each right at its place; a command is answered a disk fault only
+    // if the disk failed. And what a crash leaves of their commands: first one at some moment since
+    // the call began, then one that comes once it has returned.
     ensures told { IfOk result (λ life. (D.state life.disk).IsHonest → (input : List ℕ)
         × TakesInput reads (R.remaining reader.old) (R.remaining reader.new) input
         × (told : List Told) × (in_flight : List Command)
@@ -81,7 +81,7 @@ pub fn format_serve_and_restart<R: Read, W: Write, D: Disk, E: Disk + Drop>(
         → PlaysAfter geometry.now directory (commands_done told) in_flight
         (bytes_of_packets first.packets.items)))) }
 
-    // What a crash left opens, but for want of memory or a failure of that disk, or where it came
+    // A disk that a crash left opens, unless memory runs out, that disk fails, or the crash came
     // before the magic; once the call has returned, the magic is there.
     ensures opens_before { IfOk result (λ life. (D.state life.disk).IsHonest
         → IsBlank (D.state disk)
@@ -134,9 +134,9 @@ pub fn serve_and_restart<R: Read, W: Write, D: Disk, E: Disk>(
 ) -> ServedOn<E>
     requires { reads ≤ MAX_READS }
 
-    // The lines and their replies, each right where it stands, and a fault of the disk is told of a
-    // command only where the disk failed; and what a crash leaves of their commands: first one at
-    // some moment since the call began, then one that comes once it has returned.
+    // The lines and their replies, each right at its place; a command is answered a disk fault only
+    // if the disk failed. And what a crash leaves of their commands: first one at some moment since
+    // the call began, then one that comes once it has returned.
     ensures in_a_row { (g : Geometry) (first : ℕ) (done : List Command)
         → HasDone D.state g first done [] server.old
         → (D.state server.new.disk).IsHonest → (input : List ℕ)
@@ -157,7 +157,7 @@ pub fn serve_and_restart<R: Read, W: Write, D: Disk, E: Disk>(
         → LivesOn E.state g first (done ++ commands_done told) in_flight r.server
         (bytes_of_packets r.packets.items))) }
 
-    // it opens, but for want of memory or a failure of the disk that was left
+    // it opens, unless memory runs out or the disk that was left fails
     ensures opens { (g : Geometry) (first : ℕ) (done : List Command)
         → HasDone D.state g first done [] server.old
         → (D.state server.new.disk).IsHonest
@@ -174,18 +174,18 @@ pub fn serve_and_restart<R: Read, W: Write, D: Disk, E: Disk>(
 /// What became of one line that was served, and of what a crash left of the disk.
 #[derive(Drop)]
 pub struct ServedLineOn<E: Disk> {
-    /// Err where a write or a flush failed.
+    /// Err if a write or a flush failed.
     pub answered: Result<(), WriteFault>,
     /// The server on what the crash left, and the first turn that it played.
     pub restarted: Result<Restarted<E>, Refused<E>>,
 }
 
 /// One line of a life: `serve` answers each of its lines as this does. Here the return is the
-/// moment: whoever has the reply knows that the commands done, with this line's where it says
-/// `done`, stay done from now on, whatever follows and whenever a crash comes. A crash inside the
-/// call leaves those done before and at most the line's command besides. So a life may be served
-/// line by line, on a halted server too, and each line is promised where the disk is honest up to
-/// it, whatever a later one reads.
+/// moment: whoever has the reply knows that the commands done, with this line's if it says `done`,
+/// stay done from now on, whatever follows and whenever a crash comes. A crash inside the call
+/// leaves those done before and at most the line's command besides. So a life may be served line by
+/// line, on a halted server too, and each line is promised if the disk is honest up to it, whatever
+/// a later one reads.
 pub fn serve_line_and_restart<W: Write, D: Disk, E: Disk>(
     server: &mut Server<D>,
     alloc: Global,
@@ -193,9 +193,9 @@ pub fn serve_line_and_restart<W: Write, D: Disk, E: Disk>(
     writer: &mut W,
     left: E,
 ) -> ServedLineOn<E>
-    // What was told of the line, a fault of the disk only where it failed, and what is done then;
-    // and what a crash leaves: first one at some moment since the call began, then one that comes
-    // once it has returned.
+    // The reply to the line, a disk fault only if the disk failed, and the commands that are done
+    // then; and what a crash leaves: first one at some moment since the call began, then one that
+    // comes once it has returned.
     ensures told { (g : Geometry) (first : ℕ) (done others : List Command)
         → HasDone D.state g first done others server.old → (D.state server.new.disk).IsHonest
         → (made cut_off : List Command)
@@ -214,7 +214,7 @@ pub fn serve_line_and_restart<W: Write, D: Disk, E: Disk>(
         → LivesOn E.state g first (done ++ made) (others ++ cut_off) r.server
         (bytes_of_packets r.packets.items))) }
 
-    // it opens, but for want of memory or a failure of the disk that was left
+    // it opens, unless memory runs out or the disk that was left fails
     ensures opens { (g : Geometry) (first : ℕ) (done others : List Command)
         → HasDone D.state g first done others server.old → (D.state server.new.disk).IsHonest
         → (D.state server.new.disk).LeftSince (D.state server.old.disk).moment (E.state left).bytes

@@ -39,21 +39,21 @@ pub const MAX_READS: u64 = 4_294_967_296;
 pub struct ServeEnd {
     /// How many lines were answered in full.
     pub lines: u64,
-    /// What ended it: nothing where the input ended, or `OutOfMemory`, `ReadFault` or `WriteFault`.
+    /// What ended it: nothing if the input ended, or `OutOfMemory`, `ReadFault` or `WriteFault`.
     pub fault: Option<Refusal>,
 }
 
 /// Answers each line that the reader gives, in at most `reads` reads of at most 4,096 bytes each,
 /// each by a call of `serve_line`, so that the writer is flushed after each reply. Faults are
-/// `ReadFault`, where a read failed or the input did not end within the reads (a line in hand is
-/// not answered); `WriteFault`, where a write or a flush failed; and `OutOfMemory`, where there is
-/// no room for a line (nothing was read or written). A device fault ends no serving: it is a line's
-/// reply, and a command's halts the server.
+/// `ReadFault`, if a read failed or the input did not end within the reads (a line in hand is not
+/// answered); `WriteFault`, if a write or a flush failed; and `OutOfMemory`, if there is no room
+/// for a line (nothing was read or written). A disk fault ends no serving: it is a line's reply,
+/// and a command's halts the server.
 ///
-/// What is promised of replies, of what a crash leaves, and of the server afterwards has as its
-/// premise that the server stood for something (`StandsFor`: every server does that was opened on a
-/// disk formatted here), and that the disk is honest to the end; of each line it is promised where
-/// the disk is honest up to that line, whatever a later one reads (`ServesEach`). Which reply a
+/// The promises about replies, about what a crash leaves, and about the server afterwards have as
+/// their premise that the server stood for something (`StandsFor`: every server does that was
+/// opened on a disk formatted here), and that the disk is honest to the end. They hold of each line
+/// if the disk is honest up to that line, whatever a later one reads (`ServesEach`). Which reply a
 /// line gets is right on every disk for what the server keeps in memory.
 pub fn serve<R: Read, W: Write, D: Disk>(
     alloc: Global,
@@ -64,8 +64,8 @@ pub fn serve<R: Read, W: Write, D: Disk>(
 ) -> ServeEnd
     requires { reads ≤ MAX_READS }
 
-    // All that the reader had was read, and each line of it was answered; all that was told is
-    // stored.
+    // All that the reader had was read, and each line of it was answered; all acknowledged commands
+    // are stored.
     ensures ended { result.fault ≡ None → (input : List ℕ)
         × TakesInput reads (R.remaining reader.old) (R.remaining reader.new) input
         × IsAtEnd (R.remaining reader.new) × (result.lines ≡ length (lines_of input))
@@ -74,7 +74,7 @@ pub fn serve<R: Read, W: Write, D: Disk>(
         × ServesEach D.state server.old (lines_of input) server.new
         (W.contents writer.old) (W.contents writer.new) }
 
-    // Each line whose end was read was answered; all that was told is stored.
+    // Each line whose end was read was answered; all acknowledged commands are stored.
     ensures unread { result.fault ≡ Some ReadFault → (input : List ℕ)
         × TakesInput reads (R.remaining reader.old) (R.remaining reader.new) input
         × (result.lines ≡ length (whole_lines input))
@@ -83,8 +83,9 @@ pub fn serve<R: Read, W: Write, D: Disk>(
         × ServesEach D.state server.old (whole_lines input) server.new
         (W.contents writer.old) (W.contents writer.new) }
 
-    // The first lines were answered, and the reply to the next was broken off; all that was told is
-    // stored. What follows the last line end is a line only where the input has ended.
+    // The first lines were answered, and the reply to the next was broken off; all acknowledged
+    // commands are stored. The bytes after the last line end are a line only if the input has
+    // ended.
     ensures unwritten { result.fault ≡ Some Refusal.WriteFault → (input : List ℕ)
         × TakesInput reads (R.remaining reader.old) (R.remaining reader.new) input
         × ((Leads D.state server.old server.new (λ before after. Stopped (D.state server.new.disk)
@@ -134,21 +135,21 @@ pub fn serve<R: Read, W: Write, D: Disk>(
 }
 
 /// Answers one line, given without its end: does what it asks for, writes the whole reply, and
-/// flushes the writer. Err where a write or a flush failed. `serve` calls it for each line of its
+/// flushes the writer. Err if a write or a flush failed. `serve` calls it for each line of its
 /// input, one after the other; of a line above 530,000 bytes it gives the first 530,001, which are
 /// refused as the whole line would be.
 ///
 /// Here the states of the disk are those of one line's beginning and of the call's return: whoever
-/// has the reply knows a moment of the disk's clock since which what it tells is stored. What is
-/// promised has the same premise as in `serve`.
+/// has the reply knows a moment of the disk's clock since which the acknowledged commands are
+/// stored. The premise is that of `serve`.
 pub fn serve_line<W: Write, D: Disk>(
     alloc: Global,
     line: &[u8],
     writer: &mut W,
     server: &mut Server<D>,
 ) -> Result<(), WriteFault>
-    // The whole reply was written, and what was told is stored. On every disk the reply is right
-    // for what is kept in memory; and a server that is halted changes nothing.
+    // The whole reply was written, and the acknowledged commands are stored. On every disk the
+    // reply is right for what is kept in memory; and a server that is halted changes nothing.
     ensures answered { OnOk result (ServesOne D.state server.old line.now server.new
         (W.contents writer.old) (W.contents writer.new)) }
 

@@ -1,4 +1,4 @@
-//! What a file's suffix says of it.
+//! The meaning of a file's suffix.
 ghost use Rattle.std.specs.Prelude.{◌≡◌, ◌++◌, ◌⊎◌, [], true, List, Some, None, Ok};
 ghost use Rattle.std.specs.Prelude.{IfErr, IfNone, IfOk, IfSome, IsNone};
 ghost use Rattle.mot_numbers.specs.declared.refusal.Refusal.TheVariants.{BadMime, BadName};
@@ -17,7 +17,7 @@ use mot_objects::{Content, Mime};
 use std::alloc::{AllocError, Global};
 use std::marker::Model;
 
-/// What is known of suffixes (TS 101 756, table 17).
+/// The known suffixes (TS 101 756, table 17).
 const KNOWN: &str = "\
 txt 1 0 text/plain
 html 1 2 text/html
@@ -30,7 +30,7 @@ bmp 2 2 image/bmp
 png 2 3 image/png
 ";
 
-/// What files of a suffix are.
+/// The type of the files of a suffix.
 #[derive(Drop)]
 pub struct FileType {
     /// The suffix, without its dot.
@@ -87,9 +87,9 @@ impl FileTypes {
         Ok(types)
     }
 
-    /// Adds those of the lines of a text, each `SUFFIX TYPE SUBTYPE MIME` with single spaces, where
-    /// an empty line and one that begins with `#` say nothing. Of two lines of one suffix the later
-    /// one counts. A line is refused as its words are, and what those before it say stays.
+    /// Adds those of the lines of a text, each `SUFFIX TYPE SUBTYPE MIME` with single spaces; an
+    /// empty line and one that begins with `#` are ignored. A later line of one suffix replaces an
+    /// earlier one. A line is refused as its words are, and the lines before it stay.
     pub fn add(&mut self, alloc: Global, text: &[u8]) -> Result<(), RefusedLine>
         ensures right { IfOk result (λ _. refusal_in text.now ≡ None) }
         ensures added { IfOk result (λ _. self.new ≡ self.old ++ types_in text.now) }
@@ -134,8 +134,8 @@ impl FileTypes {
         Ok(())
     }
 
-    /// What the suffix of the file's name says, whatever the case of its letters: the last of the
-    /// types of that suffix; none where there is none, or the name begins with a dot.
+    /// The type of the suffix of the file's name, whatever the case of its letters: the last of the
+    /// types of that suffix; `None` if there is no such type, or if the name begins with a dot.
     pub fn of_name(&self, name: &[u8]) -> Option<&FileType>
         ensures found { IfSome result (λ it. type_of_name self.now name.now ≡ Some it.now) }
         ensures none { IfNone result (type_of_name self.now name.now ≡ None) }
@@ -146,7 +146,8 @@ impl FileTypes {
     }
 }
 
-/// What follows the last dot of a name; none where there is none, or the name begins with one.
+/// The part after the last dot of a name; `None` if there is no dot, or if the name begins with
+/// one.
 fn find_suffix(name: &[u8]) -> Option<&[u8]>
     ensures found { IfSome result (λ suffix. suffix_of name.now ≡ Some suffix.now) }
     ensures none { IfNone result (suffix_of name.now ≡ None) }

@@ -1,4 +1,4 @@
--- What a source is told of a look: what came of each command, in order.
+-- What a source learns of a look: what came of each command, in order.
 use Rattle.std.specs.Prelude.{◌≡◌, ℕ, Bool, true, false, List, [], ◌∷◌, ◌++◌}
 use Rattle.mot_objects.specs.declared.command.Command.{Command}
 use Rattle.mot_objects.specs.declared.command.Command.TheVariants as command

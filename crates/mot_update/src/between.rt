@@ -18,12 +18,12 @@ pub trait Update {
     // When it may change the carousel.
     ghost when: { When };
 
-    // Each call so far, in order, by whether it came between turns, where that is known.
+    // Each call so far, in order, by whether it came between turns, if that is known.
     ghost moments: { Self → Option (List Bool) } = { λ _. None };
 
-    /// Does what is to be done now: before the first packet, and then behind each packet, which
-    /// ended a turn or not. What would end a run of commands is the error, as is a body that can't
-    /// be read.
+    /// Does what is to be done now: before the first packet, and then after each packet, which
+    /// ended a turn or not. The error is what would end a run of commands, or that a body can't be
+    /// read.
     fn update<D: Disk>(
         &mut self,
         server: &mut Server<D>,

@@ -19,9 +19,9 @@ use mot_server::Server;
 use std::alloc::Global;
 
 /// Makes the carousel have what the source gives: objects whose names it does not know are
-/// withdrawn, and then each object that it gives is settled. A refused command is told to the
-/// source, and the look goes on. The error is what would end a run of commands, `OutOfMemory`, and
-/// `DeviceFault` where a body on the disk can't be read, which does not halt the server.
+/// withdrawn, and then each object that it gives is settled. A refused command goes to the source,
+/// and the look goes on. The error is what would end a run of commands, `OutOfMemory`, and
+/// `DeviceFault` if a body on the disk can't be read, which does not halt the server.
 pub fn look<D: Disk, S: Source>(
     server: &mut Server<D>,
     alloc: Global,
@@ -40,7 +40,7 @@ pub fn look<D: Disk, S: Source>(
         × TellsBoth (S.was_told source.old) (S.was_told source.new) looked.runs.answers
         looked.wanted }
 
-    // Where it came to its end, all names were gone over.
+    // If it came to its end, all names were gone over.
     ensures ended { OnOk result (length (S.names source.new) ≤ S.place source.new) }
     ensures same { S.names source.new ≡ S.names source.old }
     ensures fine { S.is_fine source.new ≡ true → S.is_fine source.old ≡ true }

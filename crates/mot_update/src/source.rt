@@ -1,4 +1,4 @@
-//! Where wanted objects come from.
+//! The source of wanted objects.
 ghost use Rattle.std.specs.Prelude.{◌≡◌, ◌+◌, ◌<◌, ◌≤◌, [], ◌∷◌, ℕ, Bool, true, List, Option, Some};
 ghost use Rattle.std.specs.Prelude.{None, IfSome, MatchOption, ⊤, length, slice_get};
 ghost use Rattle.mot_update.specs.Looking.{Gives, was_settled};
@@ -12,8 +12,8 @@ use mot_server::Attempt;
 use std::alloc::Global;
 
 /// What an updated carousel is to have: names, all of them known at the beginning, and then the
-/// objects of these names one after the other. Of a name no object may come: then the one that the
-/// carousel has of it stays as it is. It is told what became of each.
+/// objects of these names one after the other. If no object of a name comes, the one that the
+/// carousel has of it stays as it is. The source learns what became of each.
 pub trait Source {
     // The names that are known.
     ghost names: { Self → List (List ℕ) };
@@ -21,23 +21,24 @@ pub trait Source {
     // How many of them were gone over.
     ghost place: { Self → ℕ };
 
-    // Whether nothing was refused so far, of what it gave and of what it was told.
+    // Whether nothing was refused so far, of the objects that it gave and of those that it learned
+    // of.
     ghost is_fine: { Self → Bool };
 
-    // What it was told so far is this, and what it gave is that.
+    // What it learned so far is this, and what it gave is that.
     ghost was_told: { Self → List Answer → List Wanted → Type 0 } = { λ _ _ _. ⊤ };
 
     // The name of the object that it gave last.
     ghost last: { Self → List ℕ };
 
-    // The objects that it gave, where that is told.
+    // The objects that it gave, if that is known.
     ghost given: { Self → Option (List Wanted) } = { λ _. None };
 
     /// Whether the name is known.
     fn knows(&self, name: &Name) -> bool
         ensures { result ≡ is_known (names self.now) name.now };
 
-    /// The next object, of a further one of the names; none where there is no further one.
+    /// The next object, of a further one of the names; `None` if there is no further one.
     fn next(&mut self, alloc: Global) -> Option<Wanted>
         ensures same { names self.new ≡ names self.old }
         ensures goes { place self.old ≤ place self.new }
@@ -51,7 +52,7 @@ pub trait Source {
         ensures ended { MatchOption result (length (names self.old) ≤ place self.new) (λ _. ⊤) }
         ensures fine { is_fine self.new ≡ true → is_fine self.old ≡ true }
 
-        // Where nothing was refused, no name is passed over.
+        // If nothing was refused, no name is passed over.
         ensures every { is_fine self.new ≡ true → MatchOption result
             (length (names self.old) ≤ place self.old)
             (λ wanted. place self.new ≡ place self.old + 1) };

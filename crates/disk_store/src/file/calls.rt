@@ -1,5 +1,5 @@
-//! The calls on a file as a disk. Each is a call of the system, noted with its answer, but where it
-//! has to fail: at the greatest count of failures, and a sync after one that failed.
+//! The calls on a file as a disk. Each is a system call, noted with its answer, with two exceptions
+//! that fail without one: at the greatest count of failures, and a sync after a failed one.
 ghost use Rattle.std.specs.Prelude.{◌≡◌, ◌⊎◌, ◌+◌, ◌≤◌, [], ◌∷◌, ◌++◌, length, slice_range};
 ghost use Rattle.std.specs.Prelude.{OnOk, OnErr, IsErr};
 ghost use Rattle.disk_store.specs.Calls.{Gave, FailedRead, Wrote, FailedWrite, Synced};
@@ -77,7 +77,7 @@ impl<S: Start> Disk for FileDiskFrom<S> {
         ensures noted { OnOk result
             (calls_on self.new ≡ calls_on self.old ++ Wrote at bytes.now ∷ []) }
 
-        // What failed is not noted as done: the old bytes are what a read is to give.
+        // A failed write is not noted as done: a read is to give the old bytes.
         ensures noted_failure { OnErr result
             ((calls_on self.new ≡ calls_on self.old ++ FailedWrite at bytes.now ∷ [])
             ⊎ ((calls_on self.new ≡ calls_on self.old)

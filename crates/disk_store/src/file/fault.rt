@@ -39,7 +39,7 @@ fn write_reason<W: fmt::Write>(error: &io::Error, f: &mut Formatter<W>) -> fmt::
     f.pad(words.without_number())
 }
 
-/// The longest text of an error that is told whole.
+/// The longest text of an error that is kept whole.
 const MOST_WORDS: usize = 256;
 
 /// The first bytes of a text.

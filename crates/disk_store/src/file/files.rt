@@ -13,7 +13,7 @@ pub trait DiskFiles {
     // The paths of those that were opened or made as disks so far, in order.
     ghost opened: { Self → List (List ℕ) };
 
-    // The paths of those that were to be taken away.
+    // The paths of those that were to be removed.
     ghost taken_away: { Self → List (List ℕ) };
 
     /// Opens the file at the path as a disk.
@@ -54,7 +54,7 @@ pub trait DiskFiles {
 #[derive(Drop)]
 pub struct SystemFiles<'a> {
     rt: &'a HostRuntime,
-    /// What stood beside the file that was made last, before it was.
+    /// What stood beside the file that was made last, before it was made.
     beside: Option<Beside>,
     opened: Notes,
     gone: Notes,

@@ -32,8 +32,8 @@ impl<S: Start> Unopened<S> {
         }
     }
 
-    /// A file that was not made either, where it could not be opened for this reason. That is the
-    /// reason to tell, unless there was nothing to open.
+    /// A file that was not made either, since it could not be opened for this reason. That is the
+    /// reason to give, unless there was nothing to open.
     pub fn behind(self, first: OpenFault) -> Unopened<S>
         ensures { result.start ≡ self.start }
     {
@@ -55,9 +55,9 @@ impl<S: Start> From<Unopened<S>> for DiskFault {
 }
 
 impl FileDiskFrom<Unknown> {
-    /// Opens a file or a block device that is there, and reads nothing of it but its length. What
-    /// it gives is synced, and comes from the device. It fails where the path names nothing or
-    /// anything else, where the file may not be read and written or has a second name, and where
+    /// Opens a file or a block device that is there, and reads nothing of it but its length. The
+    /// bytes that it gives are synced, and come from the device. It fails if the path names nothing
+    /// or anything else, if the file may not be read and written or has a second name, and if
     /// another opening of it lives.
     pub fn open(rt: &HostRuntime, path: &str) -> Result<FileDisk, DiskFault>
         ensures new { IfOk result (λ disk. IsNew (file_state disk).bytes (file_state disk)) }
@@ -71,9 +71,9 @@ impl FileDiskFrom<Unknown> {
         Ok(FileDiskFrom::open_path(rt, path)?)
     }
 
-    /// Makes a new file of so many zeros, and opens it. It fails where the path names anything, and
-    /// then leaves that as it is; where it fails later, it takes the file away again. Each zero is
-    /// written, so that the file has no holes.
+    /// Makes a new file of so many zeros, and opens it. It fails if the path names anything, and
+    /// then leaves that as it is; if it fails later, it removes the file again. Each zero is
+    /// written, so that the file is not sparse.
     pub fn create(rt: &HostRuntime, path: &str, len: u64) -> Result<FileDisk, DiskFault>
         ensures new { IfOk result (λ disk. IsNew (replicate len 0) (file_state disk)) }
         ensures can_sync { IfOk result CanSync }
@@ -85,7 +85,7 @@ impl FileDiskFrom<Unknown> {
 
 impl<S: Start> FileDiskFrom<S> {
     /// Opens a file that held what `S` says, as `open` does. The value of `S` is used up, so that
-    /// code over any `S` opens or makes one file; it comes back where none was opened.
+    /// code over any `S` opens or makes one file; it comes back if no file was opened.
     pub fn open_from(rt: &HostRuntime, path: &str, start: S) -> Result<FileDiskFrom<S>, Unopened<S>>
         ensures new { IfOk result (λ disk. IsNew (file_state disk).bytes (file_state disk)) }
         ensures first_bytes { IfOk result (λ disk. (file_state disk).len ≡ length S.Start.bytes
@@ -134,7 +134,7 @@ impl<S: Start> FileDiskFrom<S> {
         Ok(FileDiskFrom::begin(file, len))
     }
 
-    /// Makes what the path names nothing for yet, and takes it away again where that fails.
+    /// Makes a file at a path that names nothing yet, and removes it again if that fails.
     fn make_path(rt: &HostRuntime, path: &str, len: u64) -> Result<FileDiskFrom<S>, OpenFault>
         ensures new { IfOk result (λ disk. IsNew (replicate len 0) (file_state disk)) }
         ensures can_sync { IfOk result CanSync }

@@ -26,7 +26,7 @@ pub struct HeldFile {
 }
 
 impl HeldFile {
-    /// Fails where another open of the file has the lock, which goes with the file's last handle.
+    /// Fails if another open of the file has the lock, which goes with the file's last handle.
     pub fn lock(file: File) -> Result<HeldFile, OpenFault>
         ensures { IfOk result (λ held. held.history.calls ≡ Locked ∷ []) }
     {
@@ -151,9 +151,10 @@ fn write_zeros(file: &File, len: u64) -> io::Result<()> {
 }
 
 /// No call of std drops a file's cached pages. The opening of the kit's SQLite does, of the file of
-/// a path, once it has synced the file and its folder; nothing else is asked of what it opens. It
-/// wants an empty file beside, which it makes where there is none: that stays, so that a disk opens
-/// on a file system that has become full. A block device's pages are dropped with its last handle.
+/// a path, once it has synced the file and its folder; nothing else is asked of the file that it
+/// opens. It needs an empty file beside it, and makes one if there is none. That file stays, so
+/// that a disk opens on a file system that has become full. A block device's pages are dropped with
+/// its last handle.
 fn drop_cached_pages(rt: &HostRuntime, file: &File, path: &str) -> io::Result<()> {
     if file.metadata()?.file_type().is_block_device() {
         return Ok(());
@@ -187,8 +188,8 @@ impl Beside {
         Ok(Beside { path, was_there })
     }
 
-    /// Takes away the file of this path that was made and is of no use, and the empty one that was
-    /// made with it. It fails where that can't be done, and takes no memory.
+    /// Removes the file of this path that was made and is of no use, and the empty one that was
+    /// made with it. It fails if that can't be done, and takes no memory.
     pub fn take_away(&self, rt: &HostRuntime, path: &str) -> io::Result<()> {
         fs::remove_file(rt, path)?;
         if self.was_there {

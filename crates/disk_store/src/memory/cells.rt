@@ -23,7 +23,7 @@ pub struct Cells {
 impl Cells {
     ghost use Rattle.disk_store.specs.Cells.{content_of_cells};
 
-    /// These bytes, all of them synced. None for want of memory.
+    /// These bytes, all of them synced; `None` if memory runs out.
     pub fn holding(alloc: Global, bytes: Vec<u8>) -> Option<Self>
         ensures { IfSome result (λ cells. content_of_cells cells ≡ at_start bytes.items) }
     {
@@ -61,7 +61,7 @@ impl Cells {
         self.synced.copy_from_slice(&self.bytes);
     }
 
-    /// The bytes that a crash leaves by these choices. None for want of memory.
+    /// The bytes that a crash leaves by these choices; `None` if memory runs out.
     pub fn crash(&self, alloc: Global, choices: &[u8]) -> Option<Vec<u8>>
         ensures { IfSome result (λ image. IsCrash choices.now (content_of_cells self.now) image.items) }
     {

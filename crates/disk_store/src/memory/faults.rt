@@ -72,7 +72,7 @@ impl Faults {
         }
     }
 
-    /// Counts a call, and tells whether it fails. A failure is counted, too.
+    /// Counts a call, and answers whether it fails. A failure is counted, too.
     pub fn strike(&mut self) -> bool
         ensures struck { result ≡ is_struck self.old }
         ensures failures { self.new.failures

@@ -25,12 +25,12 @@ pub struct RamDisk {
 impl RamDisk {
     ghost use Rattle.disk_store.specs.Ram.{ram_state};
 
-    /// A disk of so many zeros, all of them synced. None for want of memory.
+    /// A disk of so many zeros, all of them synced; `None` if memory runs out.
     pub fn new(alloc: Global, len: u64) -> Option<RamDisk>
         ensures new { IfSome result (λ disk. IsNew (replicate len 0) (ram_state disk)) }
     {
         let bytes = vec![in alloc; 0; len as usize].ok()?;
-        // Clauses alone read what is noted, here and below.
+        // Clauses alone read the notes, here and below; they do nothing when they run.
         let mut history = History::new();
         let _ = history.made(len, Ok(()));
         let _ = history.synced(Ok(()));

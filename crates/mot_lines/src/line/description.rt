@@ -17,7 +17,7 @@ pub struct Description {
     pub name: Name,
     /// TYPE and SUBTYPE.
     pub content: Content,
-    /// MIME, where it is not `-`.
+    /// MIME, if it is not `-`.
     pub mime: Option<Mime>,
     /// HEX.
     pub body: Body,

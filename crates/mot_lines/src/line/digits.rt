@@ -7,7 +7,7 @@ ghost use Rattle.mot_numbers.specs.declared.refusal.Refusal.TheVariants.{BadBody
 use mot_numbers::Refusal;
 use std::alloc::Global;
 
-/// What each character is worth as a hex digit, in either case; `NO_DIGIT` where it is none.
+/// The value of each character as a hex digit, in either case; `NO_DIGIT` if it is not a digit.
 const WORTH: [u16; 256] = [
     256, 256, 256, 256, 256, 256, 256, 256, 256, 256, 256, 256, 256, 256, 256, 256, 256, 256, 256,
     256, 256, 256, 256, 256, 256, 256, 256, 256, 256, 256, 256, 256, 256, 256, 256, 256, 256, 256,
@@ -63,7 +63,7 @@ fn decode_into(digits: &[u8], bytes: &mut [u8]) -> bool
     true
 }
 
-/// What a character is worth.
+/// The value of a character.
 fn worth(character: u8) -> u16
     ensures { result ≡ digit_worth character }
 {

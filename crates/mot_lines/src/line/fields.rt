@@ -57,8 +57,8 @@ pub(super) fn parse_name(alloc: Global, word: &[u8]) -> Result<Name, Refusal>
     Name::new(bytes)
 }
 
-/// What an object is, by the words TYPE, 0 to 63, and SUBTYPE, 0 to 511; `BadType` where one is no
-/// number of 1 to 10 digits in its range.
+/// The content of an object, by the words TYPE, 0 to 63, and SUBTYPE, 0 to 511; `BadType` if one is
+/// not a number of 1 to 10 digits in its range.
 pub fn parse_content(kind: &[u8], subtype: &[u8]) -> Result<Content, Refusal>
     ensures { result ≡ content_in (number_of_word kind.now) (number_of_word subtype.now) }
 {
@@ -74,7 +74,7 @@ pub fn parse_content(kind: &[u8], subtype: &[u8]) -> Result<Content, Refusal>
     Content::new(kind, subtype)
 }
 
-/// MIME, or `BadMime`; or `OutOfMemory`. `-` is none.
+/// MIME, or `BadMime`; or `OutOfMemory`. `-` stands for no MIME type.
 pub(super) fn parse_mime(alloc: Global, word: &[u8]) -> Result<Option<Mime>, Refusal>
     ensures { OrOutOfMemory result (mime_in word.now) }
 {

@@ -1,4 +1,4 @@
-//! What words and numbers are.
+//! Words and numbers.
 ghost use Rattle.std.specs.Prelude.{◌≡◌, ◌≢◌, ◌∷◌, [], IfNone, IfSome, bytes_eq, length};
 ghost use Rattle.mot_lines.specs.Words.{words_of, number_of_word};
 ghost use Rattle.mot_lines.specs.Inner.Words.{words_after, IsOne, AreThree, AreFive};
@@ -28,7 +28,7 @@ pub(super) fn is_word(word: &[u8], text: &[u8]) -> bool
     word == text
 }
 
-/// The word, where there is one.
+/// The word, if there is one.
 pub(super) fn one_word(words: Option<&[u8]>) -> Option<&[u8]>
     ensures { IsOne result (words_after words.entry) }
 {
@@ -39,7 +39,7 @@ pub(super) fn one_word(words: Option<&[u8]>) -> Option<&[u8]>
     Some(first)
 }
 
-/// The words, where there are five.
+/// The words, if there are five.
 pub(super) fn five_words(words: Option<&[u8]>) -> Option<(&[u8], &[u8], &[u8], &[u8], &[u8])>
     ensures { AreFive result (words_after words.entry) }
 {
@@ -49,7 +49,7 @@ pub(super) fn five_words(words: Option<&[u8]>) -> Option<(&[u8], &[u8], &[u8], &
     Some((first, second, third, fourth, fifth))
 }
 
-/// The words of a line, where there are four.
+/// The words of a line, if there are four.
 pub fn four_words(line: &[u8]) -> Option<(&[u8], &[u8], &[u8], &[u8])>
     ensures words { IfSome result (λ four. words_of line.now
         ≡ four.0.now ∷ four.1.now ∷ four.2.now ∷ four.3.now ∷ []) }
@@ -60,7 +60,7 @@ pub fn four_words(line: &[u8]) -> Option<(&[u8], &[u8], &[u8], &[u8])>
     Some((first, second, third, fourth))
 }
 
-/// The words, where there are three.
+/// The words, if there are three.
 pub(super) fn three_words(words: Option<&[u8]>) -> Option<(&[u8], &[u8], &[u8])>
     ensures { AreThree result (words_after words.entry) }
 {

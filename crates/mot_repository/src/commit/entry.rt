@@ -1,4 +1,4 @@
-//! What a commit writes where the half has room: the body into its gap, and then the record.
+//! What a commit writes if the half has room: the body into its gap, and then the record.
 ghost use Rattle.std.specs.Prelude.{◌≡◌, ◌+◌, ◌≤◌, ◌<◌, ◌++◌, [], ◌∷◌, ℕ, List, true, length};
 ghost use Rattle.std.specs.Prelude.{slice_range, Ok, OnOk, OnErr, IfErr, IsFalse};
 ghost use Rattle.disk_model.specs.Disk.{Keeps, Costs, Throughout, WritesWithin};

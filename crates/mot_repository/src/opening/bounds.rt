@@ -10,12 +10,12 @@ use mot_objects::{Name, Object};
 const NAME_FLAGS: usize = 4096;
 
 /// Bounds of all objects of a fold, so that one beyond them need not be compared with any. They
-/// hold on where an object is replaced or goes.
+/// hold on if an object is replaced or goes.
 #[derive(Drop)]
 pub(super) struct Bounds {
     /// No object has a greater id.
     pub greatest_id: u16,
-    /// No body ends behind it.
+    /// No body ends after it.
     pub greatest_end: u64,
     /// Each object's name has its flag on.
     names: [bool; NAME_FLAGS],
@@ -31,7 +31,7 @@ impl Bounds {
         }
     }
 
-    /// Whether the flag of a name is on; where it is off, no object has the name.
+    /// Whether the flag of a name is on; if it is off, no object has the name.
     pub fn has_flag(&self, name: &Name) -> bool
         ensures { result ≡ is_flagged self.now.names name.now }
     {

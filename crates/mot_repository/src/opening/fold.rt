@@ -55,7 +55,8 @@ pub(crate) fn inventory_of(
     Ok(inventory)
 }
 
-/// What the types of a record's ids say: they are numbers of two bytes.
+/// What the types of a record's ids say: they are numbers of two bytes. It is there for the proof,
+/// and does nothing when it runs.
 fn know_ids(entry: &Record)
     ensures { HasShortIds entry.now }
 {
@@ -64,7 +65,8 @@ fn know_ids(entry: &Record)
     know_object_id(&entry.action);
 }
 
-/// What the type of the id of a record that names an object says.
+/// What the type of the id of a record that names an object says. It is there for the proof, and
+/// does nothing when it runs.
 fn know_object_id(action: &Action)
     ensures { HasShortId action.now }
 {
@@ -97,7 +99,7 @@ fn new_inventory(alloc: Global, limit: u16) -> Result<Inventory, AllocError>
     })
 }
 
-/// What it is after one record more; `None` for a fault of the list. It is consistent before, so
+/// The inventory after one record more; `None` for a fault of the list. It is consistent before, so
 /// only what the record brings is compared with what stands.
 fn inventory_after(
     inventory: Inventory,
@@ -154,8 +156,8 @@ fn inventory_after(
     })
 }
 
-/// Does an action to the objects and their extents; false where there are too many for a new one,
-/// none of the id that is to go, or another of its id or whose body it meets.
+/// Does an action to the objects and their extents. It is false if there are too many for a new
+/// one, if no object has the id that is to go, or if another has its id or meets its body.
 fn apply(
     objects: &mut Vec<Object>,
     extents: &mut Vec<(u32, u32)>,
@@ -204,8 +206,8 @@ fn apply(
     }
 }
 
-/// Puts an object in the place of the one of its name, or behind the others; false where there are
-/// as many as may be, or another has its id or a body that meets its own.
+/// Puts an object in the place of the one of its name, or after the others. It is false if there
+/// are as many as may be, or if another has its id or a body that meets its own.
 fn set_object(
     objects: &mut Vec<Object>,
     extents: &mut Vec<(u32, u32)>,
@@ -272,7 +274,7 @@ fn stands_apart(
     true
 }
 
-/// Whether all ids differ, where all but the one at this place do and are not above `greatest`.
+/// Whether all ids differ, if all but the one at this place do and are not above `greatest`.
 fn are_ids_distinct(objects: &[Object], place: usize, greatest: u16) -> bool
     requires bounded { AreIdsWithin greatest (remove objects.now place) }
     requires within { place < length objects.now }
@@ -289,7 +291,7 @@ fn are_ids_distinct(objects: &[Object], place: usize, greatest: u16) -> bool
     !has_id(&objects[place + 1..], object.tid)
 }
 
-/// Whether no two extents meet, where none do without the one at this place and none ends behind
+/// Whether no two extents meet, if none do without the one at this place and none ends after
 /// `greatest`.
 fn are_apart(extents: &[(u32, u32)], place: usize, greatest: u64) -> bool
     requires bounded { AreEndsWithin greatest (remove extents.now place) }
@@ -305,7 +307,7 @@ fn are_apart(extents: &[(u32, u32)], place: usize, greatest: u64) -> bool
     is_clear(&extents[..place], start, size) && is_clear(&extents[place + 1..], start, size)
 }
 
-/// Takes away the object of this id; false where there is none.
+/// Removes the object of this id; false if there is no such object.
 fn remove_object(objects: &mut Vec<Object>, extents: &mut Vec<(u32, u32)>, tid: TransportId) -> bool
     requires paired { HaveLengths objects.old.items extents.old.items }
     requires listed { vec_len objects.old ≤ MAX_OBJECTS }
@@ -349,7 +351,7 @@ fn place_of_id(objects: &[Object], tid: TransportId) -> Option<usize>
     objects.iter().position(|object| object.tid == tid)
 }
 
-/// Whether one of these objects has this id, where none has one above `greatest`.
+/// Whether one of these objects has this id, if none has one above `greatest`.
 fn is_id_used(objects: &[Object], greatest: u16, tid: TransportId) -> bool
     requires { AreIdsWithin greatest objects.now }
     ensures { result ≡ list_any (λ (o : Object). nat_eq tid o.tid) objects.now }

@@ -8,8 +8,7 @@ use crate::inventory::Inventory;
 use mot_objects::Command;
 use std::alloc::{AllocError, Global};
 
-/// Where in the data area the body of a command goes, 0 where it brings none; `None` where no gap
-/// holds it.
+/// The place of a command's body in the data area, 0 if it brings none; `None` if no gap holds it.
 pub(crate) fn body_start(
     alloc: Global,
     extents: &[(u32, u32)],

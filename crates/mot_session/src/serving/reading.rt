@@ -20,9 +20,9 @@ use mot_server::Server;
 use std::alloc::{AllocError, Global};
 use std::io::Write;
 
-/// Answers what a line was parsed to ask for as `serve_line` does, on a server that is only read: a
-/// list, a raw line, or a line's own refusal. What would change or play the carousel, a command, a
-/// `next` and a `turn` line, is refused `BadLine`. Err where a write or a flush failed.
+/// Answers a parsed line as `serve_line` does, on a server that is only read: a list, a raw line,
+/// or a line's own refusal. A line that would change or play the carousel (a command, a `next` or a
+/// `turn` line) is refused `BadLine`. Err if a write or a flush failed.
 pub fn answer_reading<W: Write, D: Disk>(
     alloc: Global,
     request: &Result<Line, Refusal>,

@@ -138,8 +138,8 @@ fn write_turn<W: Write, D: Disk>(writer: &mut W, server: &mut Server<D>) -> Resu
     }
 }
 
-/// Plays a packet and writes its line; answers whether it ends a turn. Where it is refused, the
-/// refusal's line is written, and the answer is none. The line is a place to make it in.
+/// Plays a packet and writes its line; answers whether it ends a turn. If it is refused, the
+/// refusal's line is written, and the answer is `None`. The line is a place to make it in.
 fn write_next_packet<W: Write, D: Disk>(
     writer: &mut W,
     server: &mut Server<D>,
