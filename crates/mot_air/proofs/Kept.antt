@@ -140,7 +140,7 @@ pub lives_stopped : (g : Geometry) (first : ℕ) (done : List Command) (refusal 
     → IsUnopened refusal start now ⊎ StopsOn g first done refusal when before after start now
 lives_stopped g first done refusal when before after start now was honest (unopened why none) =
     inl why
-lives_stopped g first done refusal when before after start now was honest (stopped why part) =
+lives_stopped g first done refusal when before after start now was honest (stopped keeps why part) =
     inr (stops_on g first done refusal when before after start now was
     (part was.standing honest was.each))
 

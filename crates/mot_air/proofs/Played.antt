@@ -1,8 +1,9 @@
 -- Playing a disk, from its opening on.
 use Rattle.std.proofs.Common.{◌≡◌, ◌∙◌, ◌<◌, ap, arith, ℕ, Bool, true, List, Option, Some, None}
 use Rattle.std.proofs.Common.{Result, Ok, Err, inr, refl, subst}
-use Rattle.std.specs.Prelude.{IsFalse, OnOk, IfErr, is_none, option_map}
+use Rattle.std.specs.Prelude.{IsFalse, OnOk, IfErr, is_none}
 use Rattle.std.proofs.lemmas.Bool.Decides.{nat_tests}
+use Rattle.disk_model.proofs.Laws.{keeps_on}
 use Rattle.disk_model.specs.Disk.{State, IsHonestDisk, KeepsLength, OnlySyncs}
 use Rattle.mot_air.specs.Playing.{HasAired, Plays, PlaysBy, StopsBy, StopsPlaying, WritesPart}
 use Rattle.mot_air.specs.Playing.{stopped, when_followed}
@@ -46,6 +47,9 @@ module _ {D : Type 0} (state : D → State) (disk : D) (server new : ServerView 
       (sound disk (opens.keeps.was_honest was)) all (opened was) was (sound server.disk was)
       (opens.still was)
       going
+
+  keeps_from : KeepsLength (state disk) (state new.disk)
+  keeps_from = keeps_on (state disk) (state server.disk) (state new.disk) opens.keeps keeps
 
   room : (s : Standing) → Agrees server.view s → 0 < packet_room s.geometry
   room s agrees =
@@ -114,6 +118,7 @@ module _ {D : Type 0} (state : D → State) (disk : D) (server new : ServerView 
       → OnOk result (Plays when turns before after (state disk) (state new.disk))
   plays when turns before after earlier later (Err refusal) stays by = tt
   plays when turns before after earlier later (Ok done) stays by = record {
+    keeps = keeps_from;
     calm = stays.failures ∙ calm;
     writes = λ s honest all. (by s honest all).0;
   }
@@ -161,7 +166,7 @@ module _ {D : Type 0} (state : D → State) (disk : D) (server new : ServerView 
       before after earlier later))
       → IfErr result (λ r. StopsPlaying r when before after (state disk) (state new.disk))
   stops when before after earlier later (Ok done) why feeds = tt
-  stops when before after earlier later (Err refusal) why feeds = stopped
+  stops when before after earlier later (Err refusal) why feeds = stopped keeps_from
       (breaks_off server (state disk) (state server.disk) (state new.disk) refusal going calm why)
       (λ s honest all.
       (writes_part when before after earlier later refusal feeds s honest all).0)
@@ -169,16 +174,18 @@ module _ {D : Type 0} (state : D → State) (disk : D) (server new : ServerView 
 -- ---- when the carousel may change
 
 -- a folder that is handed on is still one
-same_followed : {F G : Type 0} (f : F → G) (folder : Option F) (given : Option G)
-    → option_map f folder ≡ given → when_followed folder ≡ when_followed given
-same_followed {F} {G} f None given is = ap (λ (o : Option G). when_followed o) is
-same_followed {F} {G} f (Some x) given is = ap (λ (o : Option G). when_followed o) is
+same_followed : {F G : Type 0} (folder : Option F) (given : Option G)
+    → is_none folder ≡ is_none given → when_followed folder ≡ when_followed given
+same_followed None None is = refl
+same_followed None (Some g) is = absurd (cc)
+same_followed (Some f) None is = absurd (cc)
+same_followed (Some f) (Some g) is = refl
 
 -- and so are lines
-pub same_changed : {L K F G : Type 0} (f : F → G) (lines : Option L) (others : Option K)
+pub same_changed : {L K F G : Type 0} (lines : Option L) (others : Option K)
     (folder : Option F) (given : Option G) → is_none lines ≡ is_none others
-    → option_map f folder ≡ given → when_changed lines folder ≡ when_changed others given
-same_changed f None None folder given same is = same_followed f folder given is
-same_changed f None (Some k) folder given same is = absurd (cc)
-same_changed f (Some l) None folder given same is = absurd (cc)
-same_changed f (Some l) (Some k) folder given same is = refl
+    → is_none folder ≡ is_none given → when_changed lines folder ≡ when_changed others given
+same_changed None None folder given same is = same_followed folder given is
+same_changed None (Some k) folder given same is = absurd (cc)
+same_changed (Some l) None folder given same is = absurd (cc)
+same_changed (Some l) (Some k) folder given same is = refl

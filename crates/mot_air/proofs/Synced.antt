@@ -4,6 +4,7 @@ use Rattle.std.proofs.Common.{Option, Some, None, Result, Ok, Err, not, refl, sy
 use Rattle.std.proofs.Common.{append-nil}
 use Rattle.std.specs.Io.KnownBytes.{Appends}
 use Rattle.std.specs.Prelude.{◌⊎◌, IfErr, IfOk, IsFalse, OnOk}
+use Rattle.disk_model.proofs.Laws.{keeps_on}
 use Rattle.disk_model.specs.Disk.{State, IsHonestDisk, KeepsLength, OnlySyncs}
 use Rattle.mot_air.specs.Inner.Looked.{LooksAndTells}
 use Rattle.mot_air.specs.Inner.Looked as looks
@@ -13,7 +14,7 @@ use Rattle.mot_air.specs.Syncing.{broken, untold, stopped}
 use Rattle.mot_air.specs.Syncing as synced
 use Rattle.mot_air.proofs.Opened.{breaks_off, opened_leaves}
 use Rattle.mot_feed.specs.Feeding.{IsFeedFault}
-use Rattle.mot_folder.specs.Log.{AreEither, LogEntry, ReportTells}
+use Rattle.mot_folder.specs.Log.{LogEntry, ReportTells}
 use Rattle.mot_folder.specs.Looked.{HasLookedAtFolder, listed, unlisted}
 use Rattle.mot_folder.specs.declared.report.Report.{Report}
 use Rattle.mot_journal.specs.Image.{Standing}
@@ -31,9 +32,10 @@ use Rattle.mot_repository.specs.Repository.{Agrees, Holds}
 use Rattle.mot_server.proofs.Laws.{valid_is}
 use Rattle.mot_server.specs.Runs.{accepted_commands}
 use Rattle.mot_server.specs.Server.{ServerView}
+use Rattle.mot_shelf.specs.Given.{Given}
+use Rattle.mot_suffixes.specs.Types.{SuffixType}
 use Rattle.mot_update.proofs.Laws.{made}
 use Rattle.mot_update.specs.Faults.{StaysCalm}
-use Rattle.mot_update.specs.Laws.{names_of}
 use Rattle.mot_update.specs.Looking.{AreAccepted, HasLooked}
 use Rattle.mot_update.specs.Updating.{updating}
 
@@ -62,6 +64,9 @@ module _ {D : Type 0} (state : D → State) (disk : D) (server new : ServerView 
       (sound disk (opens.keeps.was_honest was)) all (opened was) was (sound server.disk was)
       (opens.still was)
       going
+
+  keeps_from : KeepsLength (state disk) (state new.disk)
+  keeps_from = keeps_on (state disk) (state server.disk) (state new.disk) opens.keeps keeps
 
   sound_carousel : (s : Standing) → (state new.disk).IsHonest → AllAre s (state disk)
       → IsSound s.carousel
@@ -102,14 +107,16 @@ module _ {D : Type 0} (state : D → State) (disk : D) (server new : ServerView 
         stands = (run.leaves.going refl).each;
       }
 
-  has_synced : (s : Standing) (path : List ℕ) (report : Report) (fault : Option Refusal)
-      → (state new.disk).IsHonest → AllAre s (state disk)
-      → HasLookedAtFolder server new (state server.disk) (state new.disk) s path report fault
+  has_synced : (s : Standing) (types : List SuffixType) (path : List ℕ) (given : Given)
+      (report : Report) (fault : Option Refusal) → (state new.disk).IsHonest
+      → AllAre s (state disk)
+      → HasLookedAtFolder server new (state server.disk) (state new.disk) s types path given report
+      fault
       → (entries : List LogEntry)
-      × HasSynced (not report.any_refused) fault path entries (state disk)
+      × HasSynced (not report.any_refused) fault types path given entries (state disk)
       (state new.disk) s × ReportTells report entries
-  has_synced s path report fault honest all (unlisted refusal why refused ends run entries told
-      are) =
+  has_synced s types path given report fault honest all (unlisted refusal why refused ends run
+      entries told are) =
       let was = keeps.was_honest honest in (
         entries,
         synced.unlisted refusal why (ap not refused) (opened_leaves (state disk) (state server.disk)
@@ -117,10 +124,11 @@ module _ {D : Type 0} (state : D → State) (disk : D) (server new : ServerView 
             (sound disk (opens.keeps.was_honest was)) all (opens.still was) run.leaves) are,
         told,
       )
-  has_synced s path report fault honest all (listed names shown looked seen whole tells) =
+  has_synced s types path given report fault honest all (listed names shown listing looked seen
+      whole tells) =
       let was = keeps.was_honest honest in (
         tells.entries,
-        synced.listed names looked.wanted shown (record {
+        synced.listed names looked.wanted shown listing (record {
           is_update = looked.is_update;
           commands = looked.runs.commands;
           others = looked.runs.others;
@@ -133,12 +141,11 @@ module _ {D : Type 0} (state : D → State) (disk : D) (server new : ServerView 
               looked.runs.run.leaves;
           answers = looked.runs.answers;
           answered = looked.runs.told;
-        }) (equal (not report.any_refused) fault looked) tells.are (λ none. record {
+        }) (equal (not report.any_refused) fault looked) tells.are seen whole (record {
           before = tells.before;
           missed = tells.missed;
           read = tells.read;
-          either = subst (λ (l : List (List ℕ)). AreEither l (names_of looked.wanted) tells.missed)
-              (whole none) tells.either;
+          taken = tells.taken;
         }),
         tells.told,
       )
@@ -161,15 +168,16 @@ module _ {D : Type 0} (state : D → State) (disk : D) (server new : ServerView 
   IsFine (Ok x) = Unit {0}
   IsFine (Err e) = ⊥
 
-  module _ (path : List ℕ) (before after : Option (List ℕ)) where
+  module _ (types : List SuffixType) (path : List ℕ) (given : Given)
+      (before after : Option (List ℕ)) where
     synced-cases : (s : Standing) (all : Bool) → (state new.disk).IsHonest → AllAre s (state disk)
-        → LooksAndTells server new (state server.disk) (state new.disk) s path before after (Ok all)
-        → SyncsAndTells all path before after (state disk) (state new.disk) s
+        → LooksAndTells server new (state server.disk) (state new.disk) s types path given before after (Ok all)
+        → SyncsAndTells all types path given before after (state disk) (state new.disk) s
     synced-cases s all honest each (looks.told report is whole written look) =
-        let done = has_synced s path report None honest each look in
+        let done = has_synced s types path given report None honest each look in
         record {
           entries = done.0;
-          synced = subst (λ b. HasSynced b None path done.0 (state disk) (state new.disk) s)
+          synced = subst (λ b. HasSynced b None types path given done.0 (state disk) (state new.disk) s)
               (sym (same_ok all (not report.any_refused) is)) done.1;
           written = subst (Appends before after) (done.2 whole) written;
         }
@@ -182,10 +190,11 @@ module _ {D : Type 0} (state : D → State) (disk : D) (server new : ServerView 
     pub syncs : (result : Result Bool Refusal)
         → OnOk result (StaysCalm server new (state server.disk) (state new.disk))
         → ((s : Standing) → Holds server.view s (state server.disk) → (state new.disk).IsHonest
-        → LooksAndTells server new (state server.disk) (state new.disk) s path before after result)
-        → IfOk result (λ all. Syncs all path before after (state disk) (state new.disk))
+        → LooksAndTells server new (state server.disk) (state new.disk) s types path given before after result)
+        → IfOk result (λ all. Syncs all types path given before after (state disk) (state new.disk))
     syncs (Err refusal) stays looked = tt
     syncs (Ok all) stays looked = record {
+      keeps = keeps_from;
       calm = stays.failures ∙ calm;
       synced = λ s honest each.
           synced-cases s all honest each (looked s (holds_opened s honest each) honest);
@@ -193,26 +202,26 @@ module _ {D : Type 0} (state : D → State) (disk : D) (server new : ServerView 
 
     broken-cases : (s : Standing) (r : Refusal) → (state new.disk).IsHonest
         → AllAre s (state disk)
-        → LooksAndTells server new (state server.disk) (state new.disk) s path before after (Err r)
-        → IsBrokenOff r path (state disk) (state new.disk) s
+        → LooksAndTells server new (state server.disk) (state new.disk) s types path given before after (Err r)
+        → IsBrokenOff r types path given (state disk) (state new.disk) s
     broken-cases s r honest each (looks.told report is whole written look) =
         absurd (subst IsFine (sym is) tt)
     broken-cases s r honest each (looks.broken report refusal is look) =
-        let done = has_synced s path report (Some refusal) honest each look in
+        let done = has_synced s types path given report (Some refusal) honest each look in
         broken (not report.any_refused) done.0 (subst (λ e. HasSynced (not report.any_refused)
-        (Some e) path done.0 (state disk) (state new.disk) s) (sym (same_err r refusal is)) done.1)
+        (Some e) types path given done.0 (state disk) (state new.disk) s) (sym (same_err r refusal is)) done.1)
     broken-cases s r honest each (looks.untold report is look) =
-        let done = has_synced s path report None honest each look in
+        let done = has_synced s types path given report None honest each look in
         untold (not report.any_refused) done.0 (same_err r WriteFault is) done.1
 
     -- a look that broke off, or could not be told, stops the sync, from the disk's opening on
     pub stops : (result : Result Bool Refusal)
         → IfErr result (λ r. IsFeedFault server (state server.disk) (state new.disk) r)
         → ((s : Standing) → Holds server.view s (state server.disk) → (state new.disk).IsHonest
-        → LooksAndTells server new (state server.disk) (state new.disk) s path before after result)
-        → IfErr result (λ r. StopsSyncing r path (state disk) (state new.disk))
+        → LooksAndTells server new (state server.disk) (state new.disk) s types path given before after result)
+        → IfErr result (λ r. StopsSyncing r types path given (state disk) (state new.disk))
     stops (Ok all) why looked = tt
-    stops (Err r) why looked = stopped
+    stops (Err r) why looked = stopped keeps_from
         (breaks_off server (state disk) (state server.disk) (state new.disk) r going calm why)
         (λ s honest each.
         broken-cases s r honest each (looked s (holds_opened s honest each) honest))

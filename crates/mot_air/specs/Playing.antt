@@ -1,7 +1,7 @@
 -- What playing a disk writes, and what it leaves of the disk.
 use Rattle.std.specs.Prelude.{◌≡◌, ◌⊎◌, ℕ, Bool, true, false, List, [], length, Option, Some, None}
 use Rattle.std.specs.Option.{option_map_or}
-use Rattle.disk_model.specs.Disk.{State}
+use Rattle.disk_model.specs.Disk.{KeepsLength, State}
 use Rattle.mot_air.specs.Opening.{IsBreak, Leaves}
 use Rattle.mot_feed.specs.Feeding.{AreOf, AreTimely, CallsPart, Event, Happen}
 use Rattle.mot_feed.specs.Feeding.{commands_among, has_ended, moments_of, turns_in}
@@ -65,9 +65,10 @@ pub record WritesPart (refusal : Refusal) (when : When) (before after : Option (
   pub played : HasAired s when fault events packets start now
   pub written : GrowsPart refusal packets before after
 
--- the disk was played, and has not failed
+-- the disk was played, is as long as it was, and has not failed
 pub record Plays (when : When) (turns : ℕ) (before after : Option (List (List ℕ)))
     (start now : State) : Type 0 where
+  pub keeps : KeepsLength start now
   pub calm : now.failures ≡ start.failures
   pub writes : OfStanding (WritesTurns when turns before after start now) start now
 
@@ -76,7 +77,7 @@ pub data StopsPlaying (refusal : Refusal) (when : When) (before after : Option (
     (start now : State) : Type 0 where
   unopened : IsUnopened refusal start now → Grows before after []
       → StopsPlaying refusal when before after start now
-  stopped : IsBreak refusal start now
+  stopped : KeepsLength start now → IsBreak refusal start now
       → OfStanding (WritesPart refusal when before after start now) start now
       → StopsPlaying refusal when before after start now
 

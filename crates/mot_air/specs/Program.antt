@@ -1,6 +1,6 @@
 -- What the commands on air do.
-use Rattle.std.specs.Prelude.{ℕ, ◌≡◌, ◌⊎◌, true, false, List, [], ◌∷◌, Option, Some, None}
-use Rattle.std.specs.Io.KnownBytes.{Keeps}
+use Rattle.std.specs.Prelude.{ℕ, ◌≡◌, ◌⊎◌, Bool, true, false, List, [], ◌∷◌, Option, Some, None}
+use Rattle.std.specs.Io.KnownBytes.{Appends, Keeps}
 use Rattle.clap.specs.Words.{Text}
 use Rattle.disk_model.specs.Disk.{State}
 use Rattle.disk_store.specs.Beginning.{SinceOpened}
@@ -8,20 +8,24 @@ use Rattle.disk_store.specs.declared.file.start.Start.{Ghosts}
 use Rattle.mot_air.specs.Playing.{Plays, StopsPlaying, when_followed}
 use Rattle.mot_air.specs.Syncing.{StopsSyncing, Syncs}
 use Rattle.mot_air.specs.declared.used.AirDisk.{AirDisk}
-use Rattle.mot_air.specs.declared.used.AirDisk.TheVariants.{Opened, Untouched}
+use Rattle.mot_air.specs.declared.used.AirDisk.TheVariants.{Opened, Synced, Untouched}
 use Rattle.mot_files.specs.declared.packets.Target.{Target}
 use Rattle.mot_files.specs.declared.packets.Target.TheVariants.{File, Output, Stream}
 use Rattle.mot_files.specs.Lines.{IsUnlined}
 use Rattle.mot_files.specs.Packets.{IsTarget}
-use Rattle.mot_files.specs.Types.{IsUntyped}
+use Rattle.mot_files.specs.Types.{IsTyped, IsUntyped}
 use Rattle.mot_numbers.specs.declared.refusal.Refusal.{Refusal}
 use Rattle.mot_numbers.specs.declared.refusal.Refusal.TheVariants.{BadNumber, DeviceFault}
 use Rattle.mot_numbers.specs.declared.refusal.Refusal.TheVariants.{OutOfMemory}
 use Rattle.mot_numbers.specs.declared.refusal.Refusal.TheVariants.{WriteFault}
 use Rattle.mot_reading.specs.Exporting.{Exports, StopsExporting}
 use Rattle.mot_reading.specs.Inspecting.{Inspects, StopsInspecting}
+use Rattle.mot_session.specs.Served.{WritesFront}
+use Rattle.mot_shelf.specs.Given.{Given}
+use Rattle.mot_shelf.specs.Seen.{given_of}
+use Rattle.mot_suffixes.specs.Types.{SuffixType}
 use Rattle.mot_update.specs.Between.{Always, When}
-use Rattle.mot_words.specs.Air.Command.{air_app}
+use Rattle.mot_words.specs.Command.{motcar_app}
 use Rattle.mot_words.specs.Air.Task.{IsAirTask}
 use Rattle.mot_words.specs.Asked.{AreWrong, AskFor, AskForHelp}
 use Rattle.mot_words.specs.declared.air.task.AirTask.{AirTask}
@@ -58,16 +62,25 @@ module _ {S : Type 0} {start : Ghosts S} where
   abbrev pub IsUntouched : AirDisk S start → Type 0
   IsUntouched (Untouched value) = Unit {0}
   IsUntouched (Opened disk taken) = ⊥
+  IsUntouched (Synced disk seen) = ⊥
 
   -- a file was opened, and this holds between what its disk was then and what it is
   abbrev pub OnOpened : (State → State → Type 0) → AirDisk S start → Type 0
   OnOpened P (Untouched value) = ⊥
   OnOpened P (Opened disk taken) = SinceOpened P disk
+  OnOpened P (Synced disk seen) = ⊥
 
   -- the same with the path by which what takes packets was opened, and what each write took
   abbrev pub OnPlayed : (List (List ℕ) → State → State → Type 0) → AirDisk S start → Type 0
   OnPlayed P (Untouched value) = ⊥
   OnPlayed P (Opened disk taken) = SinceOpened (P taken.notes.all) disk
+  OnPlayed P (Synced disk seen) = ⊥
+
+  -- the same with what a folder gave
+  abbrev pub OnSynced : (Given → State → State → Type 0) → AirDisk S start → Type 0
+  OnSynced P (Untouched value) = ⊥
+  OnSynced P (Opened disk taken) = ⊥
+  OnSynced P (Synced disk seen) = SinceOpened (P (given_of seen)) disk
 
   -- the disk was played into what this path names; or was not as it should be
   abbrev pub PlaysTo : Text → When → Option ℕ → AirDisk S start → Type 0
@@ -80,6 +93,20 @@ module _ {S : Type 0} {start : Ghosts S} where
       (target : Target) × IsTarget path target
       × OnPlayed (λ taken. FailsPlaying target when turns r (path ∷ []) taken) used
 
+  -- the disk's carousel was made equal to the folder of this path, by the table of suffixes that
+  -- is asked for; or was not
+  abbrev pub SyncsTo : {A : Type 0} → (types : Option A) → Text → Bool
+      → (old new : Option (List ℕ)) → AirDisk S start → Type 0
+  SyncsTo types path all old new used =
+      (table : List SuffixType) × IsTyped types table
+      × OnSynced (λ given. Syncs all table path given old new) used
+
+  abbrev pub StopsSyncingTo : {A : Type 0} → (types : Option A) → Text → Refusal
+      → AirDisk S start → Type 0
+  StopsSyncingTo types path r used =
+      (table : List SuffixType) × IsTyped types table
+      × OnSynced (StopsSyncing r table path) used
+
   -- In these the writer's known bytes were old and are new. Of what a pipe, a device or a file
   -- takes no contract tells.
 
@@ -88,9 +115,9 @@ module _ {S : Type 0} {start : Ghosts S} where
   abbrev pub Does : AirTask → AirDisk S start → (old new : Option (List ℕ)) → Type 0
   Does (Play p) used old new =
       PlaysTo p.packets.now (when_changed p.lines p.folder) p.turns used
-  Does (Sync disk folder types) used old new = OnOpened (Syncs true folder.now old new) used
+  Does (Sync disk folder types) used old new = SyncsTo types folder.now true old new used
   Does (Export disk) used old new = OnOpened (Exports old new) used
-  Does (Inspect disk) used old new = OnOpened (Inspects old new) used
+  Does (Inspect disk rate) used old new = OnOpened (Inspects rate old new) used
 
   -- the task was begun, and this refusal ended it; or a file of the folder was refused, with none,
   -- and the packets of a file were played all the same
@@ -101,13 +128,14 @@ module _ {S : Type 0} {start : Ghosts S} where
   DoesInPart (Play p) (Some r) used old new =
       StopsPlayingTo p.packets.now (when_changed p.lines p.folder) p.turns r used
   DoesInPart (Sync disk folder types) None used old new =
-      OnOpened (Syncs false folder.now old new) used
+      SyncsTo types folder.now false old new used
   DoesInPart (Sync disk folder types) (Some r) used old new =
-      OnOpened (StopsSyncing r folder.now) used
+      StopsSyncingTo types folder.now r used
   DoesInPart (Export disk) None used old new = ⊥
   DoesInPart (Export disk) (Some r) used old new = OnOpened (StopsExporting r old new) used
-  DoesInPart (Inspect disk) None used old new = ⊥
-  DoesInPart (Inspect disk) (Some r) used old new = OnOpened (StopsInspecting r old new) used
+  DoesInPart (Inspect disk rate) None used old new = ⊥
+  DoesInPart (Inspect disk rate) (Some r) used old new =
+      OnOpened (StopsInspecting rate r old new) used
 
   -- no disk was opened, and nothing was printed
   pub record IsUntold (used : AirDisk S start) (old new : Option (List ℕ)) : Type 0 where
@@ -121,21 +149,28 @@ IsBeginningRefusal (Play p) r =
     IsUntyped p.types r ⊎ IsUnlined p.lines r ⊎ (r ≡ DeviceFault) ⊎ (r ≡ WriteFault)
 IsBeginningRefusal (Sync disk folder types) r = IsUntyped types r ⊎ (r ≡ DeviceFault)
 IsBeginningRefusal (Export disk) r = r ≡ DeviceFault
-IsBeginningRefusal (Inspect disk) r = r ≡ DeviceFault
+IsBeginningRefusal (Inspect disk rate) r = r ≡ DeviceFault
 
 -- a word is wrong, or none names a command; or the words ask for no task, since an option is given
 -- without the other of which it says more
 abbrev pub AskForNothing : List Text → Type 0
 AskForNothing words =
-    AreWrong air_app words ⊎ ((task : AirTask) → AskFor air_app IsAirTask words task → ⊥)
+    AreWrong motcar_app words ⊎ ((task : AirTask) → AskFor motcar_app IsAirTask words task → ⊥)
+
+-- A text was printed, or some first bytes of it. What help says no clause tells.
+abbrev pub Prints : (old new : Option (List ℕ)) → Type 0
+Prints old new = (text : List ℕ) × Appends old new text
+
+abbrev pub PrintsFront : (old new : Option (List ℕ)) → Type 0
+PrintsFront old new = (text : List ℕ) × WritesFront text old new
 
 -- what a run came to, on this disk
 module _ {S : Type 0} {start : Ghosts S} (words : List Text) where
-  -- the task that the words ask for was done; or they ask for help
+  -- the task that the words ask for was done; or they ask for help, which was printed
   abbrev pub Succeeds : AirDisk S start → (old new : Option (List ℕ)) → Type 0
   Succeeds used old new =
-      ((task : AirTask) × AskFor air_app IsAirTask words task × Does task used old new)
-      ⊎ (AskForHelp air_app words × IsUntouched used)
+      ((task : AirTask) × AskFor motcar_app IsAirTask words task × Does task used old new)
+      ⊎ (AskForHelp motcar_app words × Prints old new × IsUntouched used)
 
   -- why it was refused
   pub data IsRefused (refusal : Option Refusal) (used : AirDisk S start)
@@ -144,15 +179,15 @@ module _ {S : Type 0} {start : Ghosts S} (words : List Text) where
     no_memory : refusal ≡ Some OutOfMemory → IsUntold used old new → IsRefused refusal used old new
     -- a number of theirs is none, so that they ask for no task
     no_task : refusal ≡ Some BadNumber
-        → ((task : AirTask) → AskFor air_app IsAirTask words task → ⊥)
+        → ((task : AirTask) → AskFor motcar_app IsAirTask words task → ⊥)
         → IsUntold used old new → IsRefused refusal used old new
     -- the help could not be printed
-    no_help : AskForHelp air_app words → refusal ≡ Some WriteFault → IsUntouched used
-        → IsRefused refusal used old new
+    no_help : AskForHelp motcar_app words → refusal ≡ Some WriteFault → PrintsFront old new
+        → IsUntouched used → IsRefused refusal used old new
     -- the task was not begun
     unbegun : (task : AirTask) (r : Refusal) → refusal ≡ Some r
-        → AskFor air_app IsAirTask words task → IsBeginningRefusal task r
+        → AskFor motcar_app IsAirTask words task → IsBeginningRefusal task r
         → IsUntold used old new → IsRefused refusal used old new
     -- the task was begun
-    begun : (task : AirTask) → AskFor air_app IsAirTask words task
+    begun : (task : AirTask) → AskFor motcar_app IsAirTask words task
         → DoesInPart task refusal used old new → IsRefused refusal used old new

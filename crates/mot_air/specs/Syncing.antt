@@ -3,11 +3,12 @@ use Rattle.std.specs.Prelude.{◌≡◌, ℕ, Bool, true, false, List, ◌++◌,
 use Rattle.std.specs.Prelude.{Option, Some, None}
 use Rattle.std.specs.Io.KnownBytes.{Appends}
 use Rattle.std.specs.List.{flat_map}
-use Rattle.disk_model.specs.Disk.{State}
+use Rattle.disk_model.specs.Disk.{KeepsLength, State}
 use Rattle.mot_air.specs.Opening.{IsBreak, Leaves}
-use Rattle.mot_folder.specs.Log.{AreEither, LogEntry, entry, log_entry_of, log_line, names_read}
-use Rattle.mot_folder.specs.Log.{of_look}
+use Rattle.mot_folder.specs.Listed.{IsListing}
+use Rattle.mot_folder.specs.Log.{LogEntry, entry, log_entry_of, log_line, names_read, of_look}
 use Rattle.mot_folder.specs.Looked.{IsUnlisted}
+use Rattle.mot_folder.specs.Taken.{AreTaken}
 use Rattle.mot_journal.specs.Image.{Standing}
 use Rattle.mot_numbers.specs.declared.refusal.Refusal.{Refusal}
 use Rattle.mot_numbers.specs.declared.refusal.Refusal.TheVariants.{WriteFault}
@@ -15,7 +16,8 @@ use Rattle.mot_objects.specs.declared.command.Command.{Command}
 use Rattle.mot_reading.specs.Opening.{IsUnopened, OfStanding}
 use Rattle.mot_repository.specs.Repository.{IsOf}
 use Rattle.mot_server.specs.declared.running.Attempt.TheVariants.{Refused}
-use Rattle.mot_suffixes.specs.Types.{AreShown}
+use Rattle.mot_shelf.specs.Given.{Given}
+use Rattle.mot_suffixes.specs.Types.{AreShown, SuffixType}
 use Rattle.mot_update.specs.Laws.{IsUpdate, IsUpdated, names_of}
 use Rattle.mot_update.specs.Told.{Answer, AreAnswers}
 use Rattle.mot_update.specs.Updating.{updating}
@@ -46,56 +48,65 @@ pub record IsEqual (s : Standing) (names : List (List ℕ)) (wanted : List Wante
   pub updated : IsUpdated s.carousel names wanted last.carousel
   pub stands : (image : List ℕ) → now.MayLeave image → IsOf last image
 
--- Of these names each is that of an object that was read, or of a file that is told as one that
--- could not be taken; before that only files were told that have no name of an object.
-pub record EachIsTold (names : List (List ℕ)) (wanted : List Wanted) (entries : List LogEntry) :
-    Type 0 where
+-- Each of these names is that of an object that was read of the folder, with the bytes that it gave,
+-- or of a file that is told as one that could not be taken; before that only files were told that
+-- have no name of an object.
+pub record EachIsTold (types : List SuffixType) (given : Given) (names : List (List ℕ))
+    (wanted : List Wanted) (entries : List LogEntry) : Type 0 where
   pub before : List (List ℕ)
   pub missed : List (List ℕ)
   pub read : names_read entries ≡ before ++ missed
-  pub either : AreEither names (names_of wanted) missed
+  pub taken : AreTaken types names given.read given.missed wanted missed
 
--- What a look at the folder of this path made of a disk that stood for s; whether all of it is
--- right, what broke it off, and what was told of it besides the files that could not be taken.
-pub data HasSynced (all : Bool) (fault : Option Refusal) (path : List ℕ) (entries : List LogEntry)
-    (start now : State) (s : Standing) : Type 0 where
+-- What a look at the folder of this path, by these types, made of a disk that stood for s; whether
+-- all of it is right, what broke it off, and what was told of it besides the files that could not be
+-- taken. The folder gave this.
+pub data HasSynced (all : Bool) (fault : Option Refusal) (types : List SuffixType) (path : List ℕ)
+    (given : Given) (entries : List LogEntry) (start now : State) (s : Standing) : Type 0 where
   -- the folder was not listed, which is told, and no command was run
   unlisted : (refusal : Refusal) → IsUnlisted refusal → all ≡ false → Leaves s [] [] fault start now
       → of_look entries ≡ entry (codes "look") path (Refused refusal) ∷ []
-      → HasSynced all fault path entries start now s
-  -- none of the names that were listed begins with a dot
+      → HasSynced all fault types path given entries start now s
+  -- it was listed once; none of the names begins with a dot, and all of them were gone over where no
+  -- fault came
   listed : (names : List (List ℕ)) (wanted : List Wanted) → AreShown names
+      → IsListing types path given names
       → (updated : HasUpdated s names wanted fault start now)
       → (all ≡ true → fault ≡ None → IsEqual s names wanted now)
       → of_look entries ≡ map log_entry_of updated.answers
-      → (fault ≡ None → EachIsTold names wanted entries)
-      → HasSynced all fault path entries start now s
+      → (seen : List (List ℕ)) → (fault ≡ None → seen ≡ names)
+      → EachIsTold types given seen wanted entries
+      → HasSynced all fault types path given entries start now s
 
 -- a look came to its end, and a line for each thing that is told of it was written to the log
-pub record SyncsAndTells (all : Bool) (path : List ℕ) (old new : Option (List ℕ))
-    (start now : State) (s : Standing) : Type 0 where
+pub record SyncsAndTells (all : Bool) (types : List SuffixType) (path : List ℕ) (given : Given)
+    (old new : Option (List ℕ)) (start now : State) (s : Standing) : Type 0 where
   pub entries : List LogEntry
-  pub synced : HasSynced all None path entries start now s
+  pub synced : HasSynced all None types path given entries start now s
   pub written : Appends old new (flat_map log_line entries)
 
--- A look came to its end, and the disk has not failed; true where nothing was refused. The log's
--- known bytes were old and are new.
-pub record Syncs (all : Bool) (path : List ℕ) (old new : Option (List ℕ))
-    (start now : State) : Type 0 where
+-- A look came to its end, and the disk is as long as it was and has not failed; true where nothing
+-- was refused. The log's known bytes were old and are new.
+pub record Syncs (all : Bool) (types : List SuffixType) (path : List ℕ) (given : Given)
+    (old new : Option (List ℕ)) (start now : State) : Type 0 where
+  pub keeps : KeepsLength start now
   pub calm : now.failures ≡ start.failures
-  pub synced : OfStanding (SyncsAndTells all path old new start now) start now
+  pub synced : OfStanding (SyncsAndTells all types path given old new start now) start now
 
 -- the look broke off, also where a line had no memory; or what is told of it could not be written
-pub data IsBrokenOff (refusal : Refusal) (path : List ℕ) (start now : State)
-    (s : Standing) : Type 0 where
+pub data IsBrokenOff (refusal : Refusal) (types : List SuffixType) (path : List ℕ) (given : Given)
+    (start now : State) (s : Standing) : Type 0 where
   broken : (all : Bool) (entries : List LogEntry)
-      → HasSynced all (Some refusal) path entries start now s
-      → IsBrokenOff refusal path start now s
+      → HasSynced all (Some refusal) types path given entries start now s
+      → IsBrokenOff refusal types path given start now s
   untold : (all : Bool) (entries : List LogEntry) → refusal ≡ WriteFault
-      → HasSynced all None path entries start now s → IsBrokenOff refusal path start now s
+      → HasSynced all None types path given entries start now s
+      → IsBrokenOff refusal types path given start now s
 
 -- why there is no answer, and what the look had come to
-pub data StopsSyncing (refusal : Refusal) (path : List ℕ) (start now : State) : Type 0 where
-  unopened : IsUnopened refusal start now → StopsSyncing refusal path start now
-  stopped : IsBreak refusal start now → OfStanding (IsBrokenOff refusal path start now) start now
-      → StopsSyncing refusal path start now
+pub data StopsSyncing (refusal : Refusal) (types : List SuffixType) (path : List ℕ) (given : Given)
+    (start now : State) : Type 0 where
+  unopened : IsUnopened refusal start now → StopsSyncing refusal types path given start now
+  stopped : KeepsLength start now → IsBreak refusal start now
+      → OfStanding (IsBrokenOff refusal types path given start now) start now
+      → StopsSyncing refusal types path given start now

@@ -1,5 +1,5 @@
 //! The commands that put a carousel on air: playing a disk into a pipe, and making it equal to a
-//! folder; and those that write it as lines, and tell its sizes.
+//! folder; and those that print it as lines, and print its sizes.
 #![tactic(auto)]
 
 mod lives;

@@ -9,7 +9,7 @@ use disk_model::Disk;
 use mot_server::{Refused, Server};
 use std::alloc::Global;
 
-/// What a server has done its disk keeps, if no fault of the disk has halted it.
+/// A server's disk keeps what the server has done, if no disk fault has halted it.
 pub fn keep_done<D: Disk>(_server: &Server<D>)
     ensures { (g : Geometry) (first : ℕ) (done others : List Command)
         → HasDone D.state g first done others _server.now → IsFalse _server.now.view.halted

@@ -18,6 +18,7 @@ use mot_files::{
     open_packets,
 };
 use mot_numbers::Refusal;
+use mot_shelf::Shelf;
 use std::alloc::Global;
 use std::io::Write;
 
@@ -25,7 +26,7 @@ use std::io::Write;
 /// packets can be sent round and round.
 const FILE_TURNS: u64 = 16;
 
-/// After how many packets the directory is sent again where playing has no end. So many of 96 bytes
+/// After how many packets the directory is sent again if playing has no end. So many of 96 bytes
 /// take 8.2 seconds at 32 kbit/s: with the group under way and itself it is there within ten.
 const DIRECTORY_PACKETS: u32 = 340;
 
@@ -41,13 +42,13 @@ struct Played<D: Disk> {
 }
 
 /// Plays the disk of the file at the path into what the other path names, and answers the lines
-/// that there are. The log goes to `writer`, and to `errors` where the packets go to `writer`.
-pub(crate) fn play_file<B: Start, W: Write, E: Write>(
+/// that there are. The log goes to `writer`, and to `errors` if the packets go to `writer`.
+pub(crate) fn play_file<B: Start, F: Shelf + Drop, W: Write, E: Write>(
     rt: &HostRuntime,
     alloc: Global,
     path: &str,
     packets: &str,
-    folder: Option<Followed<'_>>,
+    folder: Option<Followed<'_, F>>,
     lines: Option<LineFolder<'_>>,
     turns: Option<u32>,
     directory: Option<u32>,
@@ -86,12 +87,12 @@ pub(crate) fn play_file<B: Start, W: Write, E: Write>(
 }
 
 /// Plays the disk into what was opened.
-fn play_into<D: Disk, W: Write, E: Write>(
+fn play_into<D: Disk, F: Shelf + Drop, W: Write, E: Write>(
     rt: &HostRuntime,
     alloc: Global,
     disk: D,
     opened: OpenPackets<'_>,
-    folder: Option<Followed<'_>>,
+    folder: Option<Followed<'_, F>>,
     lines: Option<LineFolder<'_>>,
     turns: Option<u32>,
     directory: Option<u32>,
@@ -132,13 +133,13 @@ fn play_into<D: Disk, W: Write, E: Write>(
     }
 }
 
-/// Plays the disk, so many turns, into a stream: what was refused is told by the log alone.
-fn play_stream<D: Disk, P: Write + Drop, L: Write>(
+/// Plays the disk, so many turns, into a stream: the log alone says what was refused.
+fn play_stream<D: Disk, F: Shelf + Drop, P: Write + Drop, L: Write>(
     rt: &HostRuntime,
     alloc: Global,
     disk: D,
     outlet: PacketWriter<P>,
-    folder: Option<Followed<'_>>,
+    folder: Option<Followed<'_, F>>,
     lines: Option<LineFolder<'_>>,
     log: &mut L,
     turns: u64,
@@ -163,12 +164,12 @@ fn play_stream<D: Disk, P: Write + Drop, L: Write>(
 }
 
 /// Plays the disk, so many turns, each packet in one write to the writer.
-fn play_writer<D: Disk, P: Write + Drop, L: Write>(
+fn play_writer<D: Disk, F: Shelf + Drop, P: Write + Drop, L: Write>(
     rt: &HostRuntime,
     alloc: Global,
     disk: D,
     outlet: PacketWriter<P>,
-    folder: Option<Followed<'_>>,
+    folder: Option<Followed<'_, F>>,
     lines: Option<LineFolder<'_>>,
     log: &mut L,
     turns: u64,
@@ -196,7 +197,7 @@ fn play_writer<D: Disk, P: Write + Drop, L: Write>(
             turns,
             directory,
         ),
-        None => play_disk(rt, alloc, disk, &mut outlet, folder, log, turns, directory),
+        None => play_disk(alloc, disk, &mut outlet, folder, log, turns, directory),
     };
     let cause = match outlet.fault {
         Some(fault) => Some(Cause::Packets(fault)),
@@ -210,14 +211,14 @@ fn play_writer<D: Disk, P: Write + Drop, L: Write>(
     }
 }
 
-/// Plays the disk, so many turns, into a new file, which then takes its place. Where that fails it
-/// is taken away again.
-fn play_new_file<D: Disk, L: Write>(
+/// Plays the disk, so many turns, into a new file, which then takes its place. If that fails, it is
+/// removed again.
+fn play_new_file<D: Disk, F: Shelf + Drop, L: Write>(
     rt: &HostRuntime,
     alloc: Global,
     disk: D,
     new: NewFile<'_>,
-    folder: Option<Followed<'_>>,
+    folder: Option<Followed<'_, F>>,
     lines: Option<LineFolder<'_>>,
     log: &mut L,
     turns: u64,
@@ -290,7 +291,7 @@ fn play_new_file<D: Disk, L: Write>(
     }
 }
 
-/// The cause, told of the new file.
+/// The cause, with the path of the new file.
 fn of_new_file(new: &NewFile<'_>, cause: Option<Cause>) -> Option<Cause> {
     match cause {
         Some(Cause::Packets(fault)) => Some(Cause::NewFile(new.reason(fault))),
@@ -298,7 +299,7 @@ fn of_new_file(new: &NewFile<'_>, cause: Option<Cause>) -> Option<Cause> {
     }
 }
 
-/// So many turns; where no number is given, sixteen for a file, and else as good as without end.
+/// So many turns; if no number is given, sixteen for a file, and else practically without end.
 fn turns_of(target: Target, turns: Option<u32>) -> u64
     ensures { result ≡ turns_of target turns }
 {
@@ -309,8 +310,8 @@ fn turns_of(target: Target, turns: Option<u32>) -> u64
     }
 }
 
-/// After how many packets the directory is sent again, 0 for at each turn's beginning alone; where
-/// no number is given, 340 without end, and else 0.
+/// After how many packets the directory is sent again, 0 for at each turn's beginning alone; if no
+/// number is given, 340 without end, and else 0.
 fn directory_of(target: Target, turns: Option<u32>, directory: Option<u32>) -> u32
     ensures { result ≡ directory_of target turns directory }
 {

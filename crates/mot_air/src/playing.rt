@@ -22,10 +22,11 @@ use disk_model::Disk;
 use mot_control::Lines;
 use mot_feed::feed_every;
 use mot_files::{LineFolder, SharedLog, Spool};
-use mot_folder::{FileTypes, Looks, Report, look_at_folder};
+use mot_folder::{FileTypes, Folder, Looks, look_at_folder};
 use mot_numbers::Refusal;
 use mot_packets::Outlet;
 use mot_server::Server;
+use mot_shelf::Shelf;
 use mot_update::{NoUpdate, Update};
 use std::alloc::Global;
 use std::cell::RefCell;
@@ -34,10 +35,10 @@ use std::io::Write;
 use std::rt::Files;
 
 /// A folder that a carousel is made equal to, and which of its files are objects.
-#[derive(Clone, Copy)]
-pub struct Followed<'a> {
+#[derive(Drop)]
+pub struct Followed<'a, S: Shelf + Drop> {
     /// The folder.
-    pub path: &'a str,
+    pub shelf: S,
     /// The suffixes.
     pub types: &'a FileTypes,
 }
@@ -52,14 +53,13 @@ pub struct Aired<D: Disk> {
 }
 
 /// Opens the disk and plays it into the outlet, so many turns, with looks at the folder between
-/// turns where there is one. The directory is sent again after so many packets, as `feed_every`
-/// does. What is told of the looks is written to the log.
-pub fn play_disk<T: Files<File = File>, D: Disk, O: Outlet, L: Write + Drop>(
-    rt: &T,
+/// turns if there is one. The directory is sent again after so many packets, as `feed_every` does.
+/// The lines of the looks are written to the log.
+pub fn play_disk<S: Shelf + Drop, D: Disk, O: Outlet, L: Write + Drop>(
     alloc: Global,
     disk: D,
     outlet: &mut O,
-    folder: Option<Followed<'_>>,
+    folder: Option<Followed<'_, S>>,
     log: L,
     turns: u64,
     directory: u32,
@@ -71,8 +71,8 @@ pub fn play_disk<T: Files<File = File>, D: Disk, O: Outlet, L: Write + Drop>(
         (O.writes outlet.old) (O.writes outlet.new) (D.state disk) (D.state result.ended.disk)) }
 {
     match folder {
-        Some(Followed { path, types }) => {
-            let mut looks = WatchedLooks::new(Looks::new(rt, alloc, path, types, log));
+        Some(Followed { shelf, types }) => {
+            let mut looks = WatchedLooks::new(Looks::new(alloc, shelf, types, log));
             let ended = play_with(alloc, disk, &mut looks, outlet, turns, directory);
             Aired {
                 ended,
@@ -87,14 +87,14 @@ pub fn play_disk<T: Files<File = File>, D: Disk, O: Outlet, L: Write + Drop>(
 }
 
 /// Opens the disk and plays it into the outlet as `play_disk` does, and answers the lines of the
-/// files in a folder before the first packet and then behind every so many, as `mot_control::Lines`
-/// does: a command may come within a turn. What is told of both is written to the log.
-pub fn play_and_answer<T: Files<File = File>, D: Disk, O: Outlet, L: Write + Drop>(
+/// files in a folder before the first packet and then after every so many, as `mot_control::Lines`
+/// does: a command may come within a turn. The lines about both are written to the log.
+pub fn play_and_answer<T: Files<File = File>, S: Shelf + Drop, D: Disk, O: Outlet, L: Write + Drop>(
     rt: &T,
     alloc: Global,
     disk: D,
     outlet: &mut O,
-    folder: Option<Followed<'_>>,
+    folder: Option<Followed<'_, S>>,
     lines: LineFolder<'_>,
     log: L,
     turns: u64,
@@ -108,8 +108,8 @@ pub fn play_and_answer<T: Files<File = File>, D: Disk, O: Outlet, L: Write + Dro
 {
     let log = RefCell::new(log);
     match folder {
-        Some(Followed { path, types }) => {
-            let looks = Looks::new(rt, alloc, path, types, SharedLog::new(&log));
+        Some(Followed { shelf, types }) => {
+            let looks = Looks::new(alloc, shelf, types, SharedLog::new(&log));
             let mut lines = lines_between(rt, alloc, lines, &log, WatchedLooks::new(looks));
             let ended = play_with(alloc, disk, &mut lines, outlet, turns, directory);
             Aired {
@@ -127,8 +127,8 @@ pub fn play_and_answer<T: Files<File = File>, D: Disk, O: Outlet, L: Write + Dro
     }
 }
 
-/// The lines of the files in a folder, answered with these updates. What is told of them is written
-/// to the log.
+/// The lines of the files in a folder, answered with these updates. The replies are written to the
+/// log.
 fn lines_between<'a, T: Files<File = File>, L: Write + Drop, U: Update + Drop>(
     rt: &'a T,
     alloc: Global,
@@ -142,7 +142,7 @@ fn lines_between<'a, T: Files<File = File>, L: Write + Drop, U: Update + Drop>(
 }
 
 /// Opens the disk and plays it into the outlet, so many turns, with these updates before the first
-/// packet and behind each. The directory is sent again after so many packets, as `feed_every` does.
+/// packet and after each. The directory is sent again after so many packets, as `feed_every` does.
 pub fn play_with<D: Disk, U: Update, O: Outlet>(
     alloc: Global,
     disk: D,
@@ -165,7 +165,7 @@ pub fn play_with<D: Disk, U: Update, O: Outlet>(
         (O.writes outlet.old) (O.writes outlet.new) (U.moments update.old) (U.moments update.new)
         (D.state disk) (D.state result.disk)) }
 
-    // Where commands were done in the lives before, it goes on from them.
+    // If commands were done in the lives before, it goes on from them.
     ensures lives { (g : Geometry) (first : ℕ) (done : List Command)
         → KeepsDone g first done (D.state disk)
         → (D.state result.disk).IsHonest → OnOk result.result (PlaysOn g first done U.when turns
@@ -180,7 +180,7 @@ pub fn play_with<D: Disk, U: Update, O: Outlet>(
         Ok(server) => server,
         Err(refused) => return Ended::unopened(refused),
     };
-    // Its sizes are in their ranges: each packet has room.
+    // Its sizes are in their ranges: each packet has room. (The line is there for the proof.)
     let _ = server.geometry();
     let result = feed_every(&mut server, alloc, update, outlet, turns, directory);
     Ended {
@@ -189,42 +189,41 @@ pub fn play_with<D: Disk, U: Update, O: Outlet>(
     }
 }
 
-/// Opens the disk and makes its carousel equal to the folder; whether nothing was refused. What is
-/// told of the look is written to the log.
-pub fn sync_disk<T: Files<File = File>, D: Disk, L: Write>(
-    rt: &T,
+/// Opens the disk and makes its carousel equal to the folder; whether nothing was refused. The
+/// lines of the look are written to the log.
+pub fn sync_disk<S: Shelf + Drop, D: Disk, L: Write>(
     alloc: Global,
     disk: D,
-    folder: &str,
-    types: &FileTypes,
+    folder: &mut Folder<'_, S>,
     log: &mut L,
 ) -> Ended<D, bool>
     ensures keeps { KeepsLength (D.state disk) (D.state result.disk) }
-    ensures done { IfOk result.result (λ all. Syncs all folder.now
+    ensures done { IfOk result.result (λ all. Syncs all folder.old.types.now
+        (S.path folder.old.shelf) (S.gave folder.new.shelf)
         (L.contents log.old) (L.contents log.new) (D.state disk) (D.state result.disk)) }
-    ensures refused { IfErr result.result (λ r.
-        StopsSyncing r folder.now (D.state disk) (D.state result.disk)) }
+    ensures refused { IfErr result.result (λ r. StopsSyncing r folder.old.types.now
+        (S.path folder.old.shelf) (S.gave folder.new.shelf)
+        (D.state disk) (D.state result.disk)) }
 {
     let mut server = match Server::open(alloc, disk) {
         Ok(server) => server,
         Err(refused) => return Ended::unopened(refused),
     };
-    // Its sizes are in their ranges.
+    // Its sizes are in their ranges. (The line is there for the proof.)
     let _ = server.geometry();
-    let result = look_and_tell(rt, alloc, &mut server, folder, types, log);
+    let result = look_and_tell(alloc, &mut server, folder, log);
     Ended {
         disk: server.into_disk(),
         result,
     }
 }
 
-/// Looks at the folder once, and writes what is told of it to the log; whether nothing was refused.
-fn look_and_tell<T: Files<File = File>, D: Disk, L: Write>(
-    rt: &T,
+/// Looks at the folder once, and writes the lines of the look to the log; whether nothing was
+/// refused.
+fn look_and_tell<S: Shelf + Drop, D: Disk, L: Write>(
     alloc: Global,
     server: &mut Server<D>,
-    folder: &str,
-    types: &FileTypes,
+    folder: &mut Folder<'_, S>,
     log: &mut L,
 ) -> Result<bool, Refusal>
     ensures keeps { KeepsLength (D.state server.old.disk) (D.state server.new.disk) }
@@ -235,14 +234,14 @@ fn look_and_tell<T: Files<File = File>, D: Disk, L: Write>(
     ensures looked { (s : Standing) → Holds server.old.view s (D.state server.old.disk)
         → (D.state server.new.disk).IsHonest
         → LooksAndTells server.old server.new (D.state server.old.disk)
-        (D.state server.new.disk) s folder.now (L.contents log.old) (L.contents log.new) result }
+        (D.state server.new.disk) s folder.old.types.now (S.path folder.old.shelf)
+        (S.gave folder.new.shelf) (L.contents log.old) (L.contents log.new) result }
 {
-    let mut report = Report::new(alloc);
-    let looked = look_at_folder(rt, alloc, server, folder, types, &mut report);
-    let told = write_lines(log, report.lines.as_slice());
+    let looked = look_at_folder(alloc, server, folder);
+    let told = write_lines(log, folder.report.lines.as_slice());
     looked?;
     told?;
-    Ok(!report.any_refused)
+    Ok(!folder.report.any_refused)
 }
 
 /// Writes the lines to the log.

@@ -1,16 +1,16 @@
 //! The commands on air, over any streams and files.
 ghost use Rattle.std.specs.Prelude.{◌≡◌, ◌≢◌, ◌⊎◌, ◌↔◌, Option, map, true, false, IfErr, IfOk};
 ghost use Rattle.std.specs.Prelude.{IsTrue};
-ghost use Rattle.std.specs.Prelude.{List, None, Ok, Some, codes, option_map};
-ghost use Rattle.std.specs.Io.KnownBytes.{Keeps};
+ghost use Rattle.std.specs.Prelude.{List, None, Ok, Some, IfSome, codes, is_none};
+ghost use Rattle.std.specs.Io.KnownBytes.{Appends, Keeps};
 ghost use Rattle.clap.specs.Words.{Text, found_of, kind_of, rows_of};
 ghost use Rattle.mot_air.specs.Inner.Told.{told_of};
 ghost use Rattle.mot_air.specs.Program.{AskForNothing, Does, DoesInPart, IsBeginningRefusal};
 ghost use Rattle.mot_air.specs.Program.{IsRefused, IsUntold};
-ghost use Rattle.mot_air.specs.Program.{IsUntouched, OnOpened, PlaysTo};
-ghost use Rattle.mot_air.specs.Program.{StopsPlayingTo, Succeeds, when_changed};
+ghost use Rattle.mot_air.specs.Program.{IsUntouched, OnOpened, OnSynced, PlaysTo, Prints};
+ghost use Rattle.mot_air.specs.Program.{PrintsFront, StopsPlayingTo, StopsSyncingTo, Succeeds};
+ghost use Rattle.mot_air.specs.Program.{SyncsTo, when_changed};
 ghost use Rattle.mot_air.specs.Syncing.{StopsSyncing, Syncs};
-ghost use Rattle.mot_air.specs.declared.playing.Followed.{Followed};
 ghost use Rattle.mot_air.specs.declared.used.AirDisk.{AirDisk};
 ghost use Rattle.mot_files.specs.Lines.{IsUnlined};
 ghost use Rattle.mot_files.specs.Types.{IsUntyped};
@@ -20,7 +20,8 @@ ghost use Rattle.mot_numbers.specs.declared.refusal.Refusal.TheVariants.{OutOfMe
 ghost use Rattle.mot_numbers.specs.declared.refusal.Refusal.TheVariants.{WriteFault};
 ghost use Rattle.mot_reading.specs.Exporting.{Exports, StopsExporting};
 ghost use Rattle.mot_reading.specs.Inspecting.{Inspects, StopsInspecting};
-ghost use Rattle.mot_words.specs.Air.Command.{air_app};
+ghost use Rattle.mot_words.specs.Command.{motcar_app};
+ghost use Rattle.mot_session.specs.Served.{WritesFront};
 ghost use Rattle.mot_words.specs.Air.Task.{IsAirTask};
 ghost use Rattle.mot_words.specs.Asked.{AskBy};
 
@@ -32,10 +33,12 @@ use clap::error::ErrorKind;
 use clap::{ArgMatches, Error};
 use disk_store::{Start, open_file};
 use mot_files::{Cause, Others, Taken, file_types, line_folder};
-use mot_folder::FileTypes;
+use mot_folder::{FileTypes, Folder};
 use mot_numbers::Refusal;
 use mot_reading::{export_disk, inspect_disk};
-use mot_words::{AirTask, PlayTask, air_matches, air_task};
+use mot_session::write_whole;
+use mot_shelf::SystemShelf;
+use mot_words::{AirTask, PlayTask, air_task, motcar_matches};
 use std::alloc::Global;
 use std::convert::AsStr;
 use std::io::Write;
@@ -49,10 +52,10 @@ pub fn is_air(word: &str) -> bool
 }
 
 /// Does what the words after the program's own name ask for, and hands out the disk that it worked
-/// on. What is told goes to `writer`, but where packets go there the log to `errors`. What went
-/// wrong is printed to `errors`.
+/// on. The log goes to `writer`, or to `errors` if the packets go to `writer`. Refusals are printed
+/// to `errors`.
 ///
-/// `start` is for clauses alone: what the file of the disk held as it was opened. A program gives
+/// `start` is for clauses alone: the content of the disk's file when it was opened. A program gives
 /// `Unknown`.
 pub fn run_air_on<S: AsStr, B: Start, W: Write, E: Write>(
     rt: &HostRuntime,
@@ -74,16 +77,16 @@ pub fn run_air_on<S: AsStr, B: Start, W: Write, E: Write>(
     ensures usage { result.status ≡ 2 → AskForNothing (map S.text words.now)
         × IsUntouched result.disk × Keeps (W.contents writer.old) (W.contents writer.new) }
 {
-    match air_matches(alloc, words) {
+    match motcar_matches(alloc, words) {
         Ok(matches) => match matches.subcommand() {
             Some((name, rest)) => run_command(rt, alloc, name, rest, start, writer, errors),
             None => AirExit::untouched((2, None), start),
         },
-        Err(error) => AirExit::untouched(explain(writer, errors, &error), start),
+        Err(error) => AirExit::untouched(explain(alloc, writer, errors, &error), start),
     }
 }
 
-/// Does what a command of this name asks for, with these words behind it.
+/// Does the task of a command of this name, with these words after it.
 fn run_command<B: Start, W: Write, E: Write>(
     rt: &HostRuntime,
     alloc: Global,
@@ -95,15 +98,15 @@ fn run_command<B: Start, W: Write, E: Write>(
 ) -> AirExit<B>
     ensures status { (result.status ≡ 0) ⊎ (result.status ≡ 1) ⊎ (result.status ≡ 2) }
     ensures done { (all : List Text)
-        → AskBy air_app IsAirTask name.now (rows_of (found_of words.now)) all
+        → AskBy motcar_app IsAirTask name.now (rows_of (found_of words.now)) all
         → result.status ≡ 0
         → Succeeds all result.disk (W.contents writer.old) (W.contents writer.new) }
     ensures refused { (all : List Text)
-        → AskBy air_app IsAirTask name.now (rows_of (found_of words.now)) all
+        → AskBy motcar_app IsAirTask name.now (rows_of (found_of words.now)) all
         → result.status ≡ 1 → IsRefused all result.refusal result.disk
         (W.contents writer.old) (W.contents writer.new) }
     ensures usage { (all : List Text)
-        → AskBy air_app IsAirTask name.now (rows_of (found_of words.now)) all
+        → AskBy motcar_app IsAirTask name.now (rows_of (found_of words.now)) all
         → result.status ≡ 2 → AskForNothing all × IsUntouched result.disk
         × Keeps (W.contents writer.old) (W.contents writer.new) }
 {
@@ -125,8 +128,8 @@ fn run_command<B: Start, W: Write, E: Write>(
     }
 }
 
-/// Prints why the words ask for no task, and answers the exit status and the refusal: an option is
-/// missing of which another one says more, or a number is none.
+/// Prints why the words ask for no task, and answers the exit status and the refusal: the option is
+/// missing that another one qualifies, or a word is not a number.
 fn tell_no_task<E: Write>(errors: &mut E, words: &ArgMatches<'_>) -> (u8, Option<Refusal>)
     ensures { (result ≡ (1, Some BadNumber)) ⊎ (result ≡ (2, None)) }
 {
@@ -165,19 +168,22 @@ fn tell_result<E: Write>(
 /// Prints what is wrong with the words, or the help that they ask for, and answers the exit status
 /// and the refusal.
 fn explain<W: Write, E: Write>(
+    alloc: Global,
     writer: &mut W,
     errors: &mut E,
     error: &Error,
 ) -> (u8, Option<Refusal>)
     ensures status { (result.0 ≡ 0) ⊎ (result.0 ≡ 1) ⊎ (result.0 ≡ 2) }
-    ensures help { result.0 ≡ 0 → kind_of error.now ≡ ErrorKind.DisplayHelp }
+    ensures help { result.0 ≡ 0 → (kind_of error.now ≡ ErrorKind.DisplayHelp)
+        × Prints (W.contents writer.old) (W.contents writer.new) }
     ensures usage { result.0 ≡ 2 → (kind_of error.now ≢ ErrorKind.DisplayHelp)
         × (kind_of error.now ≢ ErrorKind.OutOfMemory)
         × Keeps (W.contents writer.old) (W.contents writer.new) }
     ensures refused { result.0 ≡ 1
         → ((result.1 ≡ Some OutOfMemory)
         × Keeps (W.contents writer.old) (W.contents writer.new))
-        ⊎ ((result.1 ≡ Some WriteFault) × (kind_of error.now ≡ ErrorKind.DisplayHelp)) }
+        ⊎ ((result.1 ≡ Some WriteFault) × (kind_of error.now ≡ ErrorKind.DisplayHelp)
+        × PrintsFront (W.contents writer.old) (W.contents writer.new)) }
 {
     let kind = error.kind();
     if kind == ErrorKind::OutOfMemory {
@@ -187,10 +193,22 @@ fn explain<W: Write, E: Write>(
         let _ = write!(errors, "{error}");
         return (2, None);
     }
-    if write!(writer, "{error}").is_err() || writer.flush().is_err() {
-        return refuse(errors, Refusal::WriteFault, Subject::Nothing);
+    let Ok(help) = error.to_string(alloc) else {
+        return refuse(errors, Refusal::OutOfMemory, Subject::Nothing);
+    };
+    if print_whole(writer, help.as_bytes()) {
+        return (0, None);
     }
-    (0, None)
+    refuse(errors, Refusal::WriteFault, Subject::Nothing)
+}
+
+/// Prints all of the bytes; whether it could.
+fn print_whole<W: Write>(writer: &mut W, bytes: &[u8]) -> bool
+    ensures whole { result ≡ true
+        → Appends (W.contents writer.old) (W.contents writer.new) bytes.now }
+    ensures front { WritesFront bytes.now (W.contents writer.old) (W.contents writer.new) }
+{
+    write_whole(writer, bytes).is_ok() && writer.flush().is_ok()
 }
 
 /// Prints a refusal, and on a second line what it is about, and answers its status and it.
@@ -228,12 +246,12 @@ fn execute<B: Start, W: Write, E: Write>(
             types,
         } => sync(rt, alloc, disk, folder, types, start, writer),
         AirTask::Export(disk) => export_file(rt, alloc, disk, start, writer),
-        AirTask::Inspect(disk) => inspect_file(rt, alloc, disk, start, writer),
+        AirTask::Inspect { disk, rate } => inspect_file(rt, alloc, disk, rate, start, writer),
     }
 }
 
-/// Plays a disk, with looks at the folder of objects and answers to the lines of the other, where
-/// they are given, for files of the known suffixes and of those that a file adds.
+/// Plays a disk, with looks at the folder of objects and answers to the lines of the other, if they
+/// are given, for files of the known suffixes and of those that a file adds.
 fn play<B: Start, W: Write, E: Write>(
     rt: &HostRuntime,
     alloc: Global,
@@ -270,7 +288,7 @@ fn play<B: Start, W: Write, E: Write>(
         Ok(lines) => lines,
         Err(unbegun) => return Finished::unbegun(unbegun, start),
     };
-    let folder = followed(task.folder, &types);
+    let folder = followed(rt, task.folder, &types);
     play_file(
         rt,
         alloc,
@@ -287,11 +305,20 @@ fn play<B: Start, W: Write, E: Write>(
 }
 
 /// The folder, if one is given, with what is known of suffixes.
-fn followed<'a>(folder: Option<&'a str>, types: &'a FileTypes) -> Option<Followed<'a>>
-    ensures { option_map (λ (followed : Followed). followed.path) result ≡ folder.entry }
+fn followed<'a>(
+    rt: &'a HostRuntime,
+    folder: Option<&'a str>,
+    types: &'a FileTypes,
+) -> Option<Followed<'a, SystemShelf<'a, HostRuntime>>>
+    ensures given { is_none folder.entry ≡ is_none result }
+    ensures path { IfSome result (λ followed. IfSome folder.entry
+        (λ path. followed.shelf.path.now ≡ path.now)) }
 {
     match folder {
-        Some(path) => Some(Followed { path, types }),
+        Some(path) => Some(Followed {
+            shelf: SystemShelf::new(rt, path),
+            types,
+        }),
         None => None,
     }
 }
@@ -307,11 +334,11 @@ fn sync<B: Start, W: Write>(
     start: B,
     log: &mut W,
 ) -> Finished<B>
-    ensures done { IfOk result.result (λ all. OnOpened (Syncs all folder.now
-        (W.contents log.old) (W.contents log.new)) result.disk) }
+    ensures done { IfOk result.result (λ all. SyncsTo types.entry folder.now all
+        (W.contents log.old) (W.contents log.new) result.disk) }
     ensures refused { IfErr result.result (λ r. ((IsUntyped types.entry r ⊎ (r ≡ DeviceFault))
         × IsUntold result.disk (W.contents log.old) (W.contents log.new))
-        ⊎ OnOpened (StopsSyncing r folder.now) result.disk) }
+        ⊎ StopsSyncingTo types.entry folder.now r result.disk) }
 {
     match file_types(rt, alloc, types) {
         Ok(types) => sync_file(rt, alloc, path, folder, &types, start, log),
@@ -329,16 +356,17 @@ fn sync_file<B: Start, W: Write>(
     start: B,
     log: &mut W,
 ) -> Finished<B>
-    ensures done { IfOk result.result (λ all. OnOpened (Syncs all folder.now
-        (W.contents log.old) (W.contents log.new)) result.disk) }
+    ensures done { IfOk result.result (λ all. OnSynced (λ given. Syncs all types.now folder.now
+        given (W.contents log.old) (W.contents log.new)) result.disk) }
     ensures refused { IfErr result.result (λ r. ((r ≡ DeviceFault)
         × IsUntold result.disk (W.contents log.old) (W.contents log.new))
-        ⊎ OnOpened (StopsSyncing r folder.now) result.disk) }
+        ⊎ OnSynced (StopsSyncing r types.now folder.now) result.disk) }
 {
     match open_file(rt, path, start) {
         Ok(disk) => {
-            let ended = sync_disk(rt, alloc, disk, folder, types, log);
-            Finished::of_file(ended, Taken::nothing())
+            let mut folder = Folder::new(alloc, SystemShelf::new(rt, folder), types);
+            let ended = sync_disk(alloc, disk, &mut folder, log);
+            Finished::synced(ended, folder.shelf.into_seen())
         }
         Err(unopened) => Finished::unopened(unopened),
     }
@@ -371,19 +399,24 @@ fn inspect_file<B: Start, W: Write>(
     rt: &HostRuntime,
     alloc: Global,
     path: &str,
+    rate: Option<u32>,
     start: B,
     writer: &mut W,
 ) -> Finished<B>
     ensures done { result.result ≡ Ok true
-        → OnOpened (Inspects (W.contents writer.old) (W.contents writer.new)) result.disk }
+        → OnOpened (Inspects rate (W.contents writer.old) (W.contents writer.new)) result.disk }
     ensures told { result.result ≢ Ok false }
     ensures refused { IfErr result.result (λ r. ((r ≡ DeviceFault)
         × IsUntold result.disk (W.contents writer.old) (W.contents writer.new))
-        ⊎ OnOpened (StopsInspecting r (W.contents writer.old) (W.contents writer.new))
+        ⊎ OnOpened (StopsInspecting rate r (W.contents writer.old) (W.contents writer.new))
         result.disk) }
 {
     match open_file(rt, path, start) {
-        Ok(disk) => Finished::done(inspect_disk(alloc, disk, writer), Taken::nothing(), None),
+        Ok(disk) => Finished::done(
+            inspect_disk(alloc, disk, rate, writer),
+            Taken::nothing(),
+            None,
+        ),
         Err(unopened) => Finished::unopened(unopened),
     }
 }

@@ -1,10 +1,10 @@
-//! What a refusal is about: the file that was not opened or written, or the option whose number is
-//! none. It is printed, and nothing is decided by it.
+//! What a refusal is about: the file that was not opened or written, or the option whose word is
+//! not a number. It is printed, and nothing is decided by it.
 use clap::ArgMatches;
 use disk_store::OpenFault;
 use mot_files::{Cause, OUTPUT, SUFFIX};
-use mot_folder::open_folder;
 use mot_numbers::Refusal;
+use mot_shelf::open_folder;
 use std::fmt::{self, Display, Formatter};
 use std::io::Write;
 
@@ -23,6 +23,8 @@ pub(crate) enum Subject<'a> {
         option: &'static str,
         number: &'a str,
     },
+    /// The rate that was given, which no sub-channel has.
+    Rate(&'a str),
 }
 
 /// What this refusal of a command with these words is about.
@@ -51,7 +53,7 @@ fn word_of_cause(cause: Cause) -> &'static str {
     }
 }
 
-/// The first number among the words that is none.
+/// The first word that should be a number and is not one, or the rate, if one was given.
 fn number_in<'a>(words: &ArgMatches<'a>) -> Subject<'a> {
     for option in ["every", "turns"] {
         if let Some(number) = words.get_str(option)
@@ -60,11 +62,14 @@ fn number_in<'a>(words: &ArgMatches<'a>) -> Subject<'a> {
             return Subject::Number { option, number };
         }
     }
-    Subject::Nothing
+    match words.get_str("rate") {
+        Some(rate) => Subject::Rate(rate),
+        None => Subject::Nothing,
+    }
 }
 
-/// The option that is missing among the words, as help shows it, where another one that says more
-/// of it was given.
+/// The option that is missing among the words, as help shows it, if another one that qualifies it
+/// was given.
 pub(crate) fn missing_option(words: &ArgMatches<'_>) -> Option<&'static str> {
     if is_alone(words, "every", "lines") {
         Some("--lines <DIR>")
@@ -89,13 +94,16 @@ pub(crate) fn tell_missing<E: Write>(errors: &mut E, option: &str) {
     );
 }
 
-/// Prints what a refusal is about, where there is more to tell.
+/// Prints what a refusal is about, if there is more to say.
 pub(crate) fn tell<E: Write>(errors: &mut E, subject: Subject<'_>) {
     match subject {
         Subject::Nothing => {}
         Subject::File { path, cause } => tell_file(errors, path, cause),
         Subject::Number { option, number } => {
             let _ = writeln!(errors, "motcar: --{option} {number}: 0 to 4294967295");
+        }
+        Subject::Rate(rate) => {
+            let _ = writeln!(errors, "motcar: --rate {rate}: a multiple of 8, 8 to 1824");
         }
     }
 }
@@ -115,7 +123,7 @@ fn shown(path: &str, cause: Cause) -> (&str, &'static str) {
     }
 }
 
-/// Prints why the folder that these words name can't be listed, where it can't.
+/// Prints why the folder that these words name can't be listed, if it can't.
 pub(crate) fn tell_folder<E: Write>(rt: &HostRuntime, errors: &mut E, words: &ArgMatches<'_>) {
     let Some(path) = words.get_str("DIR").or(words.get_str("folder")) else {
         return;

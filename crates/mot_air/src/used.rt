@@ -1,6 +1,6 @@
 //! The disk that a command worked on, and how a command ended.
 ghost use Rattle.std.specs.Prelude.{◌≡◌, true, Ok, Err, None, Some, IfErr, OnOk};
-ghost use Rattle.mot_air.specs.declared.used.AirDisk.TheVariants.{Opened, Untouched};
+ghost use Rattle.mot_air.specs.declared.used.AirDisk.TheVariants.{Opened, Synced, Untouched};
 ghost use Rattle.mot_files.specs.declared.fault.Cause.TheVariants.{Disk};
 ghost use Rattle.mot_numbers.specs.declared.refusal.Refusal.TheVariants.{DeviceFault, WriteFault};
 
@@ -8,8 +8,9 @@ use crate::Ended;
 use disk_store::{BegunFile, FileDiskFrom, Start, Unopened, WasThere};
 use mot_files::{Cause, Taken, Unbegun};
 use mot_numbers::Refusal;
+use mot_shelf::Seen;
 
-/// The disk that a command worked on. The value of `S` is used up where a file is opened, so that
+/// The disk that a command worked on. The value of `S` is used up if a file is opened, so that
 /// whoever still has it has opened none.
 #[derive(Drop)]
 pub enum AirDisk<S: Start> {
@@ -17,15 +18,17 @@ pub enum AirDisk<S: Start> {
     Untouched(S),
     /// The disk of the file that was opened, and what each write of packets took.
     Opened(FileDiskFrom<S>, Taken),
+    /// The same, and what the folder gave that the carousel was to be made equal to.
+    Synced(FileDiskFrom<S>, Seen),
 }
 
 /// How a run ended.
 #[derive(Drop)]
 pub struct AirExit<S: Start> {
-    /// The exit status: 0 where the task was done or help was asked for, 1 after a refusal, 2 after
-    /// a fault of the words.
+    /// The exit status: 0 if the task was done or help was asked for, 1 after a refusal, 2 after a
+    /// fault of the words.
     pub status: u8,
-    /// The refusal of status 1; none where files of a folder were refused, which the log tells.
+    /// The refusal of status 1; none if files of a folder were refused: the log says which.
     pub refusal: Option<Refusal>,
     /// The disk that was worked on, as it stands.
     pub disk: AirDisk<S>,
@@ -46,13 +49,13 @@ impl<S: Start> AirExit<S> {
     }
 }
 
-/// What a task came to, and the disk after it: true where it was done, false where a file of the
-/// folder was refused.
+/// What a task came to, and the disk after it: true if it was done, false if a file of the folder
+/// was refused.
 #[derive(Drop)]
 pub(crate) struct Finished<S: Start> {
     pub(crate) result: Result<bool, Refusal>,
     pub(crate) disk: AirDisk<S>,
-    /// Why it was refused, where more is known than the refusal says.
+    /// Why it was refused, if more is known than the refusal says.
     pub(crate) cause: Option<Cause>,
 }
 
@@ -84,7 +87,7 @@ impl<S: Start> Finished<S> {
         }
     }
 
-    /// What should take the packets was not opened, and then no disk.
+    /// PACKETS was not opened, and then no disk.
     pub(crate) fn unwritable(cause: Cause, start: S) -> Self
         ensures { result ≡ record {
           result = Err WriteFault;
@@ -142,17 +145,17 @@ impl<S: Start> Finished<S> {
         }
     }
 
-    /// On the disk of a file that was opened, with these packets written.
-    pub(crate) fn of_file(ended: Ended<BegunFile<S, WasThere>, bool>, taken: Taken) -> Self
+    /// On the disk of a file that was opened, with what the folder gave.
+    pub(crate) fn synced(ended: Ended<BegunFile<S, WasThere>, bool>, seen: Seen) -> Self
         ensures { result ≡ record {
           result = ended.result;
-          disk = Opened ended.disk.disk taken;
+          disk = Synced ended.disk.disk seen;
           cause = None;
         } }
     {
         Finished {
             result: ended.result,
-            disk: AirDisk::Opened(ended.disk.disk, taken),
+            disk: AirDisk::Synced(ended.disk.disk, seen),
             cause: None,
         }
     }

@@ -12,23 +12,22 @@ use disk_model::Disk;
 use mot_folder::Looks;
 use mot_numbers::Refusal;
 use mot_server::Server;
+use mot_shelf::Shelf;
 use mot_update::Update;
 use std::alloc::Global;
-use std::fs::File;
 use std::io::Write;
-use std::rt::Files;
 
 /// Looks at a folder between turns.
 #[derive(Drop)]
-pub(crate) struct WatchedLooks<'a, T: Files<File = File>, W: Write + Drop> {
-    looks: Looks<'a, T, W>,
+pub(crate) struct WatchedLooks<'a, S: Shelf + Drop, W: Write + Drop> {
+    looks: Looks<'a, S, W>,
     /// Whether a file was refused in any look, or the folder not listed.
     pub(crate) any_refused: bool,
 }
 
-impl<'a, T: Files<File = File>, W: Write + Drop> WatchedLooks<'a, T, W> {
+impl<'a, S: Shelf + Drop, W: Write + Drop> WatchedLooks<'a, S, W> {
     /// No look yet.
-    pub(crate) fn new(looks: Looks<'a, T, W>) -> WatchedLooks<'a, T, W> {
+    pub(crate) fn new(looks: Looks<'a, S, W>) -> WatchedLooks<'a, S, W> {
         WatchedLooks {
             looks,
             any_refused: false,
@@ -36,7 +35,7 @@ impl<'a, T: Files<File = File>, W: Write + Drop> WatchedLooks<'a, T, W> {
     }
 }
 
-impl<'a, T: Files<File = File>, W: Write + Drop> Update for WatchedLooks<'a, T, W> {
+impl<'a, S: Shelf + Drop, W: Write + Drop> Update for WatchedLooks<'a, S, W> {
     ghost when = { BetweenTurns };
 
     fn update<D: Disk>(
@@ -55,7 +54,7 @@ impl<'a, T: Files<File = File>, W: Write + Drop> Update for WatchedLooks<'a, T, 
         ensures called { Grows None None (between_turns ∷ []) }
     {
         let result = self.looks.update(server, alloc, between_turns);
-        self.any_refused = self.any_refused || self.looks.report.any_refused;
+        self.any_refused = self.any_refused || self.looks.folder.report.any_refused;
         result
     }
 }

@@ -1,7 +1,10 @@
 -- The definitions, computed on worked rows.
-use Rattle.std.proofs.Common.{◌≡◌, [], ◌∷◌, Some, None, true, false, refl}
+use Rattle.std.proofs.Common.{◌≡◌, [], ◌∷◌, ◌++◌, Some, None, true, false, refl}
 use Rattle.std.specs.Prelude.{codes}
 use Rattle.std.specs.Fmt.{digits}
+use Rattle.std.specs.Str.{chars, is_utf8}
+use lib.Utf8.{encode}
+use Rattle.mot_folder.specs.Listed.{names_in, object_names, with_type}
 use Rattle.mot_folder.specs.Log.{entry, log_entry_of, log_line, of_look}
 use Rattle.mot_folder.specs.Looked.{is_due}
 use Rattle.mot_folder.specs.declared.listing.TheConstants.{MAX_NAMES}
@@ -9,6 +12,7 @@ use Rattle.mot_folder.specs.declared.looking.TheConstants.{PACKETS}
 use Rattle.mot_numbers.specs.declared.refusal.Refusal.TheVariants.{EmptyBody, NoRoom}
 use Rattle.mot_numbers.specs.declared.refusal.Refusal.TheVariants.{ReadFault}
 use Rattle.mot_server.specs.declared.running.Attempt.TheVariants.{Accepted, Refused}
+use Rattle.mot_suffixes.specs.Types.{known_types}
 use Rattle.mot_update.specs.Told.{Put, Replaced, Withdrew}
 
 put_line : log_line (log_entry_of
@@ -67,3 +71,22 @@ packets = refl
 
 most_names : MAX_NAMES ≡ 1000
 most_names = refl
+
+-- names, each ended by a zero byte; what no zero ends is none
+names_cut : names_in (codes "a.png" ++ 0 ∷ codes "b" ++ 0 ∷ codes "c")
+    ≡ codes "a.png" ∷ codes "b" ∷ []
+names_cut = refl
+
+no_names : names_in [] ≡ []
+no_names = refl
+
+-- of these names those with a suffix
+suffixes : with_type known_types (codes "a.png" ∷ codes "b.doc" ∷ codes ".c.png" ∷ codes "d.TXT" ∷ [])
+    ≡ codes "a.png" ∷ codes "d.TXT" ∷ []
+suffixes = refl
+
+-- of these names of files those of objects: one with a space is none
+objects : object_names (codes "b.png" ∷ codes "a b.png" ∷ codes "a.png" ∷ codes "b.png" ∷ [])
+    ≡ codes "b.png" ∷ codes "a.png" ∷ []
+unfolding is_utf8 chars encode
+objects = refl

@@ -1,3 +1,5 @@
 pub mod Inner
+pub mod Listed
 pub mod Log
 pub mod Looked
+pub mod Taken

@@ -1,12 +1,14 @@
--- What is told of a look at a folder: a line for each command, and each file that was not taken.
+-- The log of a look at a folder: a line for each command, and each file that was not taken.
 use Rattle.std.specs.Prelude.{◌≡◌, ◌==◌, ◌||◌, ℕ, nat_lt, Bool, false, not, if◌then◌else◌, bytes_eq}
 use Rattle.std.specs.Prelude.{List, [], ◌∷◌, ◌++◌, map, filter, codes}
 use Rattle.std.specs.List.{flat_map}
 use Rattle.mot_folder.specs.declared.report.Report.{Report}
+use Rattle.mot_folder.specs.Taken.{AreTaken}
 use Rattle.mot_lines.specs.Text.{done_line, refusal_line}
 use Rattle.mot_server.specs.declared.running.Attempt.{Attempt}
 use Rattle.mot_server.specs.declared.running.Attempt.TheVariants.{Accepted, Refused}
-use Rattle.mot_update.specs.Laws.{names_of}
+use Rattle.mot_shelf.specs.Given.{Given}
+use Rattle.mot_suffixes.specs.Types.{SuffixType}
 use Rattle.mot_update.specs.Told.{Answer, Put, Replaced, Withdrew}
 use Rattle.mot_update.specs.declared.wanted.Wanted.{Wanted}
 
@@ -59,19 +61,10 @@ TellsOne old new e = (entries : List LogEntry) → ReportTells old entries
 abbrev pub names_read : List LogEntry → List (List ℕ)
 names_read entries = map (λ (e : LogEntry). e.name) (filter (λ e. not (is_of_look e)) entries)
 
--- these names, in order: each further one is that of the next object that was given, or of the next
--- that was missed
-pub data AreEither : List (List ℕ) → List (List ℕ) → List (List ℕ) → Type 0 where
-  none : AreEither [] [] []
-  one_given : (names given missed : List (List ℕ)) (name : List ℕ)
-      → AreEither names given missed → AreEither (names ++ name ∷ []) (given ++ name ∷ []) missed
-  one_missed : (names given missed : List (List ℕ)) (name : List ℕ)
-      → AreEither names given missed → AreEither (names ++ name ∷ []) given (missed ++ name ∷ [])
-
 -- It tells these answers, and beside them only files that were not taken. Of these names each is
--- that of an object that was given, or of one of these files.
-pub record TellsOf (report : Report) (names : List (List ℕ)) (answers : List Answer)
-    (given : List Wanted) : Type 0 where
+-- that of an object that was given, with the bytes that the folder gave, or of one of these files.
+pub record TellsOf (types : List SuffixType) (given : Given) (report : Report)
+    (names : List (List ℕ)) (answers : List Answer) (wanted : List Wanted) : Type 0 where
   pub entries : List LogEntry
   pub told : ReportTells report entries
   pub are : of_look entries ≡ map log_entry_of answers
@@ -79,7 +72,7 @@ pub record TellsOf (report : Report) (names : List (List ℕ)) (answers : List A
   pub before : List (List ℕ)
   pub missed : List (List ℕ)
   pub read : names_read entries ≡ before ++ missed
-  pub either : AreEither names (names_of given) missed
+  pub taken : AreTaken types names given.read given.missed wanted missed
 
 -- it tells these answers, and beside them only files that were not taken
 pub record TellsAnswers (report : Report) (answers : List Answer) : Type 0 where

@@ -1,7 +1,8 @@
--- What a look at a folder does, and what is told of it.
+-- What a look at a folder does, and its log.
 use Rattle.std.specs.Prelude.{ℕ, ◌≡◌, ◌⊎◌, ◌&&◌, nat_le, Bool, true, not, List, [], ◌∷◌, Option}
 use Rattle.std.specs.Prelude.{None, Some, codes}
 use Rattle.disk_model.specs.Disk.{State}
+use Rattle.mot_folder.specs.Listed.{IsListing}
 use Rattle.mot_folder.specs.Log.{LogEntry, ReportTells, TellsOf, entry, of_look}
 use Rattle.mot_folder.specs.declared.report.Report.{Report}
 use Rattle.mot_journal.specs.Image.{Standing}
@@ -10,7 +11,8 @@ use Rattle.mot_numbers.specs.declared.refusal.Refusal.TheVariants.{OutOfMemory, 
 use Rattle.mot_numbers.specs.declared.refusal.Refusal.TheVariants.{TooManyObjects}
 use Rattle.mot_server.specs.Server.{ServerView}
 use Rattle.mot_server.specs.declared.running.Attempt.TheVariants.{Refused}
-use Rattle.mot_suffixes.specs.Types.{AreShown}
+use Rattle.mot_shelf.specs.Given.{Given}
+use Rattle.mot_suffixes.specs.Types.{AreShown, SuffixType}
 use Rattle.mot_update.specs.HasRun.{HasRun}
 use Rattle.mot_update.specs.Looking.{HasLooked}
 
@@ -19,24 +21,25 @@ abbrev pub IsUnlisted : Refusal → Type 0
 IsUnlisted refusal =
     (refusal ≡ ReadFault) ⊎ (refusal ≡ TooManyObjects) ⊎ (refusal ≡ OutOfMemory)
 
--- The folder of this path was not listed, no command was run, and this is told; or names were
--- listed, none of them with a dot first, the carousel was updated to files of these names, and what
--- came of each command is told, in order. Beside that only files are told of that could not be
--- taken.
+-- The folder of this path was not listed, no command was run, and this is told; or it was listed
+-- once, the carousel was updated to the files of the names that it gave, with the bytes that it
+-- gave of them, and what came of each command is told, in order. Beside that only files are told of
+-- that could not be taken.
 pub data HasLookedAtFolder {D : Type 0} (old new : ServerView D) (start now : State)
-    (s : Standing) (path : List ℕ) (report : Report) (fault : Option Refusal) : Type 0 where
+    (s : Standing) (types : List SuffixType) (path : List ℕ) (given : Given) (report : Report)
+    (fault : Option Refusal) : Type 0 where
   unlisted : (refusal : Refusal) → IsUnlisted refusal → report.any_refused ≡ true
       → (fault ≡ None) ⊎ (fault ≡ Some OutOfMemory) → HasRun old new start now s [] [] fault
       → (entries : List LogEntry) → ReportTells report entries
       → of_look entries ≡ entry (codes "look") path (Refused refusal) ∷ []
-      → HasLookedAtFolder old new start now s path report fault
+      → HasLookedAtFolder old new start now s types path given report fault
   -- each name that was gone over is that of an object that was given, or of a file that is told:
-  -- all of them where no fault came
-  listed : (names : List (List ℕ)) → AreShown names
+  -- all of them where no fault came; none has a dot first
+  listed : (names : List (List ℕ)) → AreShown names → IsListing types path given names
       → (looked : HasLooked old new start now s names 0 None None (not report.any_refused) fault)
       → (seen : List (List ℕ)) → (fault ≡ None → seen ≡ names)
-      → TellsOf report seen looked.runs.answers looked.wanted
-      → HasLookedAtFolder old new start now s path report fault
+      → TellsOf types given report seen looked.runs.answers looked.wanted
+      → HasLookedAtFolder old new start now s types path given report fault
 
 -- whether a look is due: between turns, where this packet was the last that was to come before it
 abbrev pub is_due : ℕ → Bool → Bool

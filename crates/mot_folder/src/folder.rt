@@ -1,94 +1,67 @@
 //! A folder of files, as a source of wanted objects.
-ghost use Rattle.std.specs.Prelude.{◌≡◌, ◌<◌, ◌≤◌, ◌-◌, ℕ, List, [], Some, true, false, not, IfOk};
-ghost use Rattle.std.specs.Prelude.{codes, length, take};
-ghost use Rattle.std.specs.Prelude.{slice_get, vec_len};
+ghost use Rattle.std.specs.Prelude.{◌≡◌, ◌-◌, ℕ, List, [], true, false, not, IfOk};
+ghost use Rattle.std.specs.Prelude.{MatchResult, codes, slice_get};
 ghost use Rattle.mot_folder.specs.Inner.Names.{name_or_none};
+ghost use Rattle.mot_folder.specs.Inner.Reading.{Misses, Takes, TellsLook};
 ghost use Rattle.mot_folder.specs.Log.{TellsOf, TellsOne, entry};
 ghost use Rattle.mot_server.specs.declared.running.Attempt.TheVariants.{Refused};
+ghost use Rattle.mot_shelf.specs.Given.{Given, nothing};
+ghost use Rattle.mot_suffixes.specs.Types.{SuffixType, type_of_name};
 ghost use Rattle.mot_update.specs.Looking.{was_settled};
+ghost use Rattle.mot_folder.specs.Taken.{wanted_file};
 ghost use Rattle.mot_update.specs.Told.{TellsBoth, answers_of};
 
-use crate::listing::{FileNames, joined, read_refusal};
+use crate::listing::{FileNames, read_refusal};
 use crate::report::Report;
 use mot_numbers::Refusal;
 use mot_objects::{Body, MAX_BODY, Name};
 use mot_server::Attempt;
+use mot_shelf::Shelf;
 use mot_suffixes::{FileType, FileTypes};
 use mot_update::{Settled, Source, Wanted};
 use std::alloc::{AllocError, Global};
-use std::fs::{File, Metadata, OpenOptions};
-use std::io::Read;
-use std::os::unix::fs::MetadataExt;
-use std::rt::Files;
-use std::str::from_utf8;
 
-/// The files of a folder as they were listed. Each is read when its turn comes; one that can't be
-/// taken is told, and its object stays as it is.
+/// A folder that a carousel is made equal to, look by look. In a look its files are listed, and each
+/// is read when its turn comes; one that can't be taken is logged, and its object stays as it is.
 #[derive(Drop)]
-pub(crate) struct Folder<'a, T: Files<File = File>> {
-    rt: &'a T,
-    path: &'a str,
-    types: &'a FileTypes,
-    names: FileNames,
-    place: usize,
-    report: Report,
+pub struct Folder<'a, S: Shelf + Drop> {
+    /// The folder, and what it gave in the last look.
+    pub shelf: S,
+    /// Which of its files are objects.
+    pub types: &'a FileTypes,
+    /// The names of the last look.
+    pub(crate) names: FileNames,
+    /// How many of them were gone over.
+    pub(crate) place: usize,
+    /// The lines of the last look.
+    pub report: Report,
 }
 
-impl<'a, T: Files<File = File>> Folder<'a, T> {
-    /// The files of these names, none of which was read.
-    pub fn new(
-        rt: &'a T,
-        path: &'a str,
-        types: &'a FileTypes,
-        names: FileNames,
-        report: Report,
-    ) -> Folder<'a, T>
-        ensures path { result.path.now ≡ path.now }
-        ensures names { result.names ≡ names }
-        ensures place { result.place ≡ 0 }
-        ensures report { result.report ≡ report }
+impl<'a, S: Shelf + Drop> Folder<'a, S> {
+    /// No look yet.
+    pub fn new(alloc: Global, shelf: S, types: &'a FileTypes) -> Folder<'a, S>
+        ensures shelf { result.shelf ≡ shelf }
+        ensures types { result.types.now ≡ types.now }
     {
         Folder {
-            rt,
-            path,
+            shelf,
             types,
-            names,
+            names: FileNames::new(alloc),
             place: 0,
-            report,
+            report: Report::new(alloc),
         }
-    }
-
-    /// What was told of it.
-    pub fn into_report(self) -> Report
-        ensures { result ≡ self.entry.report }
-    {
-        self.report
-    }
-
-    /// Reads the file of the name at this place.
-    fn read(&self, alloc: Global, place: usize) -> Result<Wanted, Refusal>
-        requires { place < vec_len self.now.names.names }
-        ensures { IfOk result
-            (λ wanted. slice_get self.now.names.names.items place ≡ Some wanted.name) }
-    {
-        let name = &self.names.names[place];
-        let Some(file_type) = self.types.of_name(name.as_bytes()) else {
-            return Err(Refusal::BadName);
-        };
-        let body = read_body(self.rt, alloc, self.path, name)?;
-        Ok(wanted(name, file_type, body)?)
     }
 }
 
-impl<'a, T: Files<File = File>> Source for Folder<'a, T> {
+impl<'a, S: Shelf + Drop> Source for Folder<'a, S> {
     ghost names = { λ folder. folder.names.names.items };
 
     ghost place = { λ folder. folder.place };
 
     ghost is_fine = { λ folder. not folder.report.any_refused };
 
-    ghost was_told = { λ folder.
-        TellsOf folder.report (take folder.place folder.names.names.items) };
+    ghost was_told = { λ folder. TellsLook folder.types.now (S.path folder.shelf)
+        (S.gave folder.shelf) folder.names.names.items folder.place folder.report };
 
     ghost last = { λ folder. name_or_none (slice_get folder.names.names.items (folder.place - 1)) };
 
@@ -100,9 +73,11 @@ impl<'a, T: Files<File = File>> Source for Folder<'a, T> {
         while self.place < self.names.names.len() {
             let place = self.place;
             self.place += 1;
-            match self.read(alloc, place) {
+            let names = &self.names;
+            let name = &names.names[place];
+            match read(&mut self.shelf, alloc, self.types, name) {
                 Ok(wanted) => return Some(wanted),
-                Err(refusal) => tell_refused(&mut self.report, &self.names, place, refusal),
+                Err(refusal) => tell_refused(&mut self.report, name, refusal),
             }
         }
         None
@@ -117,16 +92,16 @@ impl<'a, T: Files<File = File>> Source for Folder<'a, T> {
     }
 }
 
-/// Tells that the file of the name at this place could not be taken.
-fn tell_refused(report: &mut Report, names: &FileNames, place: usize, refusal: Refusal)
+/// Tells that the file of this name could not be taken.
+fn tell_refused(report: &mut Report, name: &Name, refusal: Refusal)
     ensures any { report.new.any_refused ≡ true }
-    ensures told { TellsOne report.old report.new (entry (codes "read")
-        (name_or_none (slice_get names.now.names.items place)) (Refused refusal)) }
+    ensures told { TellsOne report.old report.new
+        (entry (codes "read") name.now (Refused refusal)) }
 {
-    report.refused("read", name_at(names, place), refusal);
+    report.refused("read", name.as_bytes(), refusal);
 }
 
-/// The bytes of the name at this place; none where there is no such place.
+/// The bytes of the name at this place; `None` if there is no such place.
 fn name_at(names: &FileNames, place: usize) -> &[u8]
     ensures { result.now ≡ name_or_none (slice_get names.now.names.items place) }
 {
@@ -140,8 +115,9 @@ fn name_at(names: &FileNames, place: usize) -> &[u8]
 fn tell_settled(report: &mut Report, names: &FileNames, place: usize, settled: Settled)
     ensures fine { report.new.any_refused ≡ false
         → (report.old.any_refused ≡ false) × (was_settled settled ≡ true) }
-    ensures told { (names_before : List (List ℕ))
-        → TellsBoth (TellsOf report.old names_before) (TellsOf report.new names_before)
+    ensures told { (types : List SuffixType) (given : Given) (names_before : List (List ℕ))
+        → TellsBoth (TellsOf types given report.old names_before)
+        (TellsOf types given report.new names_before)
         (answers_of (name_or_none (slice_get names.now.names.items (place - 1))) settled) [] }
 {
     let name = name_at(names, place.saturating_sub(1));
@@ -152,9 +128,42 @@ fn tell_settled(report: &mut Report, names: &FileNames, place: usize, settled: S
     }
 }
 
+/// Reads the file of this name, as what is wanted.
+fn read<S: Shelf + Drop>(
+    shelf: &mut S,
+    alloc: Global,
+    types: &FileTypes,
+    name: &Name,
+) -> Result<Wanted, Refusal>
+    ensures same { S.path shelf.new ≡ S.path shelf.old }
+    ensures took { MatchResult result
+        (Takes types.now name.now (S.gave shelf.old) (S.gave shelf.new))
+        (λ _. Misses name.now (S.gave shelf.old) (S.gave shelf.new)) }
+{
+    let most = u64::from(MAX_BODY) + 1;
+    let bytes = match shelf.read(alloc, name.as_bytes(), most) {
+        Ok(bytes) => bytes,
+        Err(error) => return Err(read_refusal(error)),
+    };
+    wanted_of_file(types, name, bytes)
+}
+
+/// What is wanted of a file of this name with these bytes.
+fn wanted_of_file(types: &FileTypes, name: &Name, bytes: Vec<u8>) -> Result<Wanted, Refusal>
+    ensures { IfOk result (λ wanted. (type : SuffixType)
+        × (type_of_name types.now name.now ≡ Some type)
+        × (wanted ≡ wanted_file type name.now bytes.items)) }
+{
+    let Some(file_type) = types.of_name(name.as_bytes()) else {
+        return Err(Refusal::BadName);
+    };
+    let body = Body::new(bytes)?;
+    Ok(wanted(name, file_type, body)?)
+}
+
 /// An object of this name and body, of what its suffix says.
 fn wanted(name: &Name, file_type: &FileType, body: Body) -> Result<Wanted, AllocError>
-    ensures { IfOk result (λ wanted. wanted.name ≡ name.now) }
+    ensures { IfOk result (λ wanted. wanted ≡ wanted_file file_type.now name.now body) }
 {
     Ok(Wanted {
         name: name.clone()?,
@@ -162,54 +171,4 @@ fn wanted(name: &Name, file_type: &FileType, body: Body) -> Result<Wanted, Alloc
         mime: Some(file_type.mime.clone()?),
         body,
     })
-}
-
-/// The bytes of the file of this name in the folder, as a body.
-fn read_body<T: Files<File = File>>(
-    rt: &T,
-    alloc: Global,
-    folder: &str,
-    name: &Name,
-) -> Result<Body, Refusal> {
-    let Ok(name) = from_utf8(name.as_bytes()) else {
-        return Err(Refusal::BadName);
-    };
-    let path = joined(alloc, folder, name)?;
-    read_file(rt, alloc, path.as_str())
-}
-
-/// The bytes of the regular file, as a body; `ReadFault` where they can't be read, or the file was
-/// exchanged or changed while they were.
-fn read_file<T: Files<File = File>>(rt: &T, alloc: Global, path: &str) -> Result<Body, Refusal> {
-    let named = rt.symlink_metadata(path).map_err(read_refusal)?;
-    // What is none is not opened: a pipe would wait for its writer.
-    if !named.is_file() {
-        return Err(Refusal::ReadFault);
-    }
-    let file = OpenOptions::new()
-        .read(true)
-        .open(rt, path)
-        .map_err(read_refusal)?;
-    let before = file.metadata().map_err(read_refusal)?;
-    if before.dev() != named.dev() || before.ino() != named.ino() {
-        return Err(Refusal::ReadFault);
-    }
-    let mut bytes = Vec::new(alloc);
-    let most = u64::from(MAX_BODY) + 1;
-    let count = (&file)
-        .take(most)
-        .read_to_end(&mut bytes)
-        .map_err(read_refusal)?;
-    let after = file.metadata().map_err(read_refusal)?;
-    if !is_unchanged(&before, &after) || count as u64 != after.len().min(most) {
-        return Err(Refusal::ReadFault);
-    }
-    Body::new(bytes)
-}
-
-/// Whether a file was not written between the two.
-fn is_unchanged(before: &Metadata, after: &Metadata) -> bool {
-    before.len() == after.len()
-        && before.mtime() == after.mtime()
-        && before.mtime_nsec() == after.mtime_nsec()
 }

@@ -6,7 +6,7 @@ mod listing;
 mod looking;
 mod report;
 
-pub use listing::open_folder;
+pub use folder::Folder;
 pub use looking::{Looks, look_at_folder};
 pub use mot_suffixes::{FileType, FileTypes};
 pub use report::Report;

@@ -1,24 +1,26 @@
 //! The files of a folder that are objects.
-ghost use Rattle.std.specs.Prelude.{◌≡◌, ◌↔◌, ◌<◌, ◌∷◌, ◌++◌, [], true, if◌then◌else◌, IfErr, IfOk};
-ghost use Rattle.std.specs.Prelude.{IsOk};
+ghost use Rattle.std.specs.Prelude.{◌≡◌, ◌↔◌, ◌<◌, ◌∷◌, ◌++◌, [], true, false, length};
+ghost use Rattle.std.specs.Prelude.{if◌then◌else◌, IfErr, IfOk, IfNone, IfSome, IsOk, IsTrue};
 ghost use Rattle.std.specs.Prelude.{OnErr, OnOk};
+ghost use Rattle.mot_folder.specs.Inner.Listing.{GivesAll, GoesOn, IsUnread, WereAsked};
+ghost use Rattle.mot_folder.specs.Listed.{IsListing, and_object, has_type, names_in};
 ghost use Rattle.mot_folder.specs.Log.{TellsAnswers};
 ghost use Rattle.mot_folder.specs.Looked.{IsUnlisted};
 ghost use Rattle.mot_numbers.specs.declared.refusal.Refusal.TheVariants.{TooManyObjects};
 ghost use Rattle.mot_objects.specs.Carousel.{are_names_distinct};
-ghost use Rattle.mot_suffixes.specs.Types.{AreShown};
+ghost use Rattle.mot_shelf.specs.Given.{nothing};
+ghost use Rattle.mot_suffixes.specs.Types.{AreShown, is_hidden};
 ghost use Rattle.mot_update.specs.Told.{TellsMore};
 ghost use Rattle.mot_update.specs.Updating.{is_known};
 
 use crate::report::Report;
+use memchr::memchr;
 use mot_numbers::Refusal;
 use mot_objects::Name;
+use mot_shelf::Shelf;
 use mot_suffixes::FileTypes;
 use std::alloc::{AllocError, Global};
-use std::fs::File;
-use std::io::{self, ErrorKind, Read};
-use std::rt::Files;
-use std::str::from_utf8;
+use std::io::{self, ErrorKind};
 
 /// Room for the names that one read of a folder gives.
 const ROOM: usize = 16_384;
@@ -47,8 +49,8 @@ impl FileNames {
         }
     }
 
-    /// Counts a name with one of the suffixes, of an object or not; `TooManyObjects` where there
-    /// are too many.
+    /// Counts a name with one of the suffixes, of an object or not; `TooManyObjects` if there are
+    /// too many.
     fn count(&mut self) -> Result<(), Refusal>
         ensures same { self.new.names ≡ self.old.names }
         ensures counts { IsOk result ↔ (self.old.counted < MAX_NAMES) }
@@ -69,7 +71,7 @@ impl FileNames {
         self.names.iter().any(|other| name == other.as_bytes())
     }
 
-    /// One more, where it is not one of them already.
+    /// One more, if it is not one of them already.
     pub fn add(&mut self, name: Name) -> Result<(), AllocError>
         ensures added { OnOk result (self.new.names.items
             ≡ (if is_known self.old.names.items name then self.old.names.items
@@ -83,134 +85,149 @@ impl FileNames {
     }
 }
 
-/// The names of the regular files directly in the folder, or in the one that it is a link to, that
-/// have one of the suffixes and begin with no dot. One that is no name of an object is told, and
-/// left out. The errors are `ReadFault`, where the folder can't be listed, `TooManyObjects`, where
-/// more than `MAX_NAMES` names have one of the suffixes, and `OutOfMemory`.
-pub(crate) fn list<T: Files<File = File>>(
-    rt: &T,
+/// The names of the regular files directly in the folder that have one of the suffixes and do not
+/// begin with a dot. A name that can't be an object's is logged, and left out. The errors are
+/// `ReadFault`, if the folder can't be listed, `TooManyObjects`, if more than `MAX_NAMES` names have
+/// one of the suffixes, and `OutOfMemory`.
+pub(crate) fn list<S: Shelf + Drop>(
+    shelf: &mut S,
     alloc: Global,
-    path: &str,
     types: &FileTypes,
     report: &mut Report,
 ) -> Result<FileNames, Refusal>
+    requires { S.gave shelf.old ≡ nothing }
+    ensures same { S.path shelf.new ≡ S.path shelf.old }
     ensures told { TellsMore (TellsAnswers report.old) (TellsAnswers report.new) [] }
+    ensures listed { IfOk result (λ names. IsListing types.now (S.path shelf.old)
+        (S.gave shelf.new) names.names.items) }
+    ensures unread { IsUnread nothing (S.gave shelf.new) }
     ensures shown { IfOk result (λ names. AreShown names.names.items) }
     ensures why { IfErr result IsUnlisted }
 {
     let mut names = FileNames::new(alloc);
-    let mut folder = open_folder(rt, alloc, path).map_err(read_refusal)?;
-    read_names(rt, alloc, path, types, &mut folder, &mut names, report)?;
+    if let Err(error) = shelf.open(alloc) {
+        return Err(read_refusal(error));
+    }
+    read_names(shelf, alloc, types, &mut names, report)?;
     Ok(names)
 }
 
-/// Opens the folder of this path, or the one that it is a link to, to be listed.
-pub fn open_folder<T: Files<File = File>>(rt: &T, alloc: Global, path: &str) -> io::Result<T::Dir> {
-    // An empty path is no folder; with a slash behind it, it would be the topmost one.
-    if path.is_empty() {
-        return rt.open_dir(path);
-    }
-    // A link to a folder is opened by no other path.
-    let inside = joined(alloc, path, ".")?;
-    rt.open_dir(inside.as_str())
-}
-
 /// Adds those of the names that the open folder gives that are objects.
-fn read_names<T: Files<File = File>, R: Read>(
-    rt: &T,
+fn read_names<S: Shelf + Drop>(
+    shelf: &mut S,
     alloc: Global,
-    path: &str,
     types: &FileTypes,
-    folder: &mut R,
     names: &mut FileNames,
     report: &mut Report,
 ) -> Result<(), Refusal>
+    ensures same { S.path shelf.new ≡ S.path shelf.old }
     ensures told { TellsMore (TellsAnswers report.old) (TellsAnswers report.new) [] }
+    ensures gave { OnOk result (GivesAll types.now (S.gave shelf.old) (S.gave shelf.new)
+        names.old.names.items names.new.names.items) }
+    ensures unread { IsUnread (S.gave shelf.old) (S.gave shelf.new) }
     ensures shown { AreShown names.old.names.items → AreShown names.new.names.items }
     ensures why { IfErr result IsUnlisted }
 {
     let mut room = [0; ROOM];
     for _ in 0..u64::MAX {
-        let count = folder.read(&mut room).map_err(read_refusal)?;
-        if count == 0 {
-            return Ok(());
+        match shelf.names(&mut room) {
+            Ok(0) => return Ok(()),
+            Ok(count) => add_all(shelf, alloc, types, &room[..count], names, report)?,
+            Err(error) => return Err(read_refusal(error)),
         }
-        add_all(rt, alloc, path, types, &room[..count], names, report)?;
     }
-    Ok(())
+    Err(Refusal::ReadFault)
 }
 
 /// Adds those of the names, each ended by a zero byte, that are objects.
-fn add_all<T: Files<File = File>>(
-    rt: &T,
+fn add_all<S: Shelf + Drop>(
+    shelf: &mut S,
     alloc: Global,
-    path: &str,
     types: &FileTypes,
     bytes: &[u8],
     names: &mut FileNames,
     report: &mut Report,
 ) -> Result<(), Refusal>
+    ensures same { S.path shelf.new ≡ S.path shelf.old }
     ensures told { TellsMore (TellsAnswers report.old) (TellsAnswers report.new) [] }
+    ensures goes { OnOk result (GoesOn types.now (names_in bytes.now) (S.gave shelf.old)
+        (S.gave shelf.new) names.old.names.items names.new.names.items) }
+    ensures asked { WereAsked (S.gave shelf.old) (S.gave shelf.new) }
     ensures shown { AreShown names.old.names.items → AreShown names.new.names.items }
     ensures why { IfErr result IsUnlisted }
 {
     let mut rest = bytes;
-    while let Some(end) = rest.iter().position(|byte| *byte == 0) {
-        add_one(rt, alloc, path, types, &rest[..end], names, report)?;
-        rest = &rest[end + 1..];
+    while let Some((name, others)) = cut_name(rest) {
+        add_one(shelf, alloc, types, name, names, report)?;
+        rest = others;
     }
     Ok(())
 }
 
-/// Adds the name, where it is that of an object.
-fn add_one<T: Files<File = File>>(
-    rt: &T,
+/// The first of the names, each ended by a zero byte, and the others; `None` if there is no name.
+fn cut_name(bytes: &[u8]) -> Option<(&[u8], &[u8])>
+    ensures first { IfSome result (λ cut. names_in bytes.now ≡ cut.0.now ∷ names_in cut.1.now) }
+    ensures shorter { IfSome result (λ cut. length cut.1.now < length bytes.now) }
+    ensures none { IfNone result (names_in bytes.now ≡ []) }
+{
+    let end = memchr(0, bytes)?;
+    Some((&bytes[..end], &bytes[end + 1..]))
+}
+
+/// Adds the name, if it is that of an object.
+fn add_one<S: Shelf + Drop>(
+    shelf: &mut S,
     alloc: Global,
-    path: &str,
     types: &FileTypes,
     name: &[u8],
     names: &mut FileNames,
     report: &mut Report,
 ) -> Result<(), Refusal>
+    ensures same { S.path shelf.new ≡ S.path shelf.old }
     ensures told { TellsMore (TellsAnswers report.old) (TellsAnswers report.new) [] }
+    ensures goes { OnOk result (GoesOn types.now (name.now ∷ []) (S.gave shelf.old)
+        (S.gave shelf.new) names.old.names.items names.new.names.items) }
+    ensures asked { WereAsked (S.gave shelf.old) (S.gave shelf.new) }
     ensures shown { AreShown names.old.names.items → AreShown names.new.names.items }
     ensures why { IfErr result IsUnlisted }
 {
-    if types.of_name(name).is_none() {
+    if !is_object(types, name) {
         return Ok(());
     }
     names.count()?;
-    if !is_file(rt, alloc, path, name)? {
-        return Ok(());
+    match shelf.is_file(alloc, name) {
+        Ok(true) => add_file(alloc, name, names, report)?,
+        Ok(false) => {}
+        Err(error) => return Err(read_refusal(error)),
     }
+    Ok(())
+}
+
+/// Whether the name has one of the suffixes.
+fn is_object(types: &FileTypes, name: &[u8]) -> bool
+    ensures typed { result ≡ has_type types.now name.now }
+    ensures shown { IsTrue result → is_hidden name.now ≡ false }
+{
+    types.of_name(name).is_some()
+}
+
+/// Adds the name of a regular file; a name that can't be an object's is logged instead.
+fn add_file(
+    alloc: Global,
+    name: &[u8],
+    names: &mut FileNames,
+    report: &mut Report,
+) -> Result<(), AllocError>
+    ensures told { TellsMore (TellsAnswers report.old) (TellsAnswers report.new) [] }
+    ensures added { OnOk result
+        (names.new.names.items ≡ and_object names.old.names.items name.now) }
+    ensures kept { OnErr result (names.new.names.items ≡ names.old.names.items) }
+{
     match Name::new(Vec::from_slice(alloc, name)?) {
         Ok(name) => names.add(name)?,
         Err(refusal) => report.refused("read", name, refusal),
     }
     Ok(())
-}
-
-/// Whether there is a regular file of this name in the folder. A link is none.
-fn is_file<T: Files<File = File>>(
-    rt: &T,
-    alloc: Global,
-    path: &str,
-    name: &[u8],
-) -> Result<bool, Refusal>
-    ensures why { IfErr result IsUnlisted }
-{
-    let Ok(name) = from_utf8(name) else {
-        return Ok(false);
-    };
-    match rt.symlink_metadata(joined(alloc, path, name)?.as_str()) {
-        Ok(metadata) => Ok(metadata.is_file()),
-        Err(error) => {
-            if error.kind() == ErrorKind::NotFound {
-                return Ok(false);
-            }
-            Err(read_refusal(error))
-        }
-    }
 }
 
 /// Why something could not be read.
@@ -221,12 +238,4 @@ pub(crate) fn read_refusal(error: io::Error) -> Refusal
         ErrorKind::OutOfMemory => Refusal::OutOfMemory,
         _ => Refusal::ReadFault,
     }
-}
-
-/// The path of a file in the folder.
-pub(crate) fn joined(alloc: Global, path: &str, name: &str) -> Result<String, AllocError> {
-    let mut whole = String::from_str(alloc, path)?;
-    whole.push('/')?;
-    whole.push_str(name)?;
-    Ok(whole)
 }

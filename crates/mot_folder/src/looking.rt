@@ -11,32 +11,27 @@ ghost use Rattle.mot_server.specs.Attempts.{fault_of};
 
 use crate::folder::Folder;
 use crate::listing::list;
-use crate::report::Report;
 use disk_model::Disk;
 use mot_lines::cut_at_line_end;
 use mot_numbers::Refusal;
 use mot_server::Server;
+use mot_shelf::Shelf;
 use mot_suffixes::FileTypes;
 use mot_update::{Update, look};
 use std::alloc::Global;
-use std::fs::File;
 use std::io::Write;
-use std::mem::{replace, swap};
-use std::rt::Files;
+use std::mem::swap;
 
 /// How many packets come between two looks, and then those up to the end of a turn.
 const PACKETS: u64 = 1_000;
 
 /// Makes the carousel equal to the files of the folder that have one of the suffixes. A folder that
-/// can't be listed, or has too many of them, is told, and changes nothing. The errors are those of
-/// `look`, and `OutOfMemory` where memory was wanting for a line, or for what a line tells.
-pub fn look_at_folder<T: Files<File = File>, D: Disk>(
-    rt: &T,
+/// can't be listed, or has too many of them, is logged, and changes nothing. The errors are those
+/// of `look`, and `OutOfMemory` if memory ran out for a line, or for the subject of a line.
+pub fn look_at_folder<S: Shelf + Drop, D: Disk>(
     alloc: Global,
     server: &mut Server<D>,
-    path: &str,
-    types: &FileTypes,
-    report: &mut Report,
+    folder: &mut Folder<'_, S>,
 ) -> Result<(), Refusal>
     ensures keeps { KeepsLength (D.state server.old.disk) (D.state server.new.disk) }
     ensures faults { TellsFaults server.old server.new
@@ -44,70 +39,58 @@ pub fn look_at_folder<T: Files<File = File>, D: Disk>(
     ensures looked { (s : Standing) → Holds server.old.view s (D.state server.old.disk)
         → (D.state server.new.disk).IsHonest
         → HasLookedAtFolder server.old server.new (D.state server.old.disk)
-        (D.state server.new.disk) s path.now report.new (fault_of result) }
+        (D.state server.new.disk) s folder.old.types.now (S.path folder.old.shelf)
+        (S.gave folder.new.shelf) folder.new.report (fault_of result) }
 
-    // Where it came to its end, a line was written for all that is told.
-    ensures whole { OnOk result (report.new.any_left_out ≡ false) }
+    // If it came to its end, a line was written for everything that is logged.
+    ensures whole { OnOk result (folder.new.report.any_left_out ≡ false) }
 {
-    report.begin();
-    let names = match list(rt, alloc, path, types, report) {
-        Ok(names) => names,
+    folder.shelf.begin();
+    folder.report.begin();
+    match list(&mut folder.shelf, alloc, folder.types, &mut folder.report) {
+        Ok(names) => folder.names = names,
         Err(refusal) => {
-            report.refused("look", path.as_bytes(), refusal);
-            return report.end();
+            let path = folder.shelf.shown().as_bytes();
+            folder.report.refused("look", path, refusal);
+            return folder.report.end();
         }
-    };
-    let told = replace(report, Report::new(alloc));
-    let mut folder = Folder::new(rt, path, types, names, told);
-    let result = look(server, alloc, &mut folder);
-    *report = folder.into_report();
-    result?;
-    report.end()
+    }
+    folder.place = 0;
+    look(server, alloc, folder)?;
+    folder.report.end()
 }
 
-/// Looks at a folder before the first packet, and then at the first end of a turn behind 1,000
-/// packets. What is told of a look is written to the log and flushed behind it, but for the lines
-/// that were told of the look before; where that fails, the look counts all the same.
+/// Looks at a folder before the first packet, and then at the first end of a turn after 1,000
+/// packets. The lines of a look are written to the log and flushed after it, except those that the
+/// look before had, too. If that fails, the look counts all the same.
 #[derive(Drop)]
-pub struct Looks<'a, T: Files<File = File>, W: Write + Drop> {
-    rt: &'a T,
-    /// The folder.
-    pub path: &'a str,
-    types: &'a FileTypes,
+pub struct Looks<'a, S: Shelf + Drop, W: Write + Drop> {
+    /// The folder, with the lines of the last look.
+    pub folder: Folder<'a, S>,
     log: W,
-    /// What is told of the last look.
-    pub report: Report,
     /// The lines of the look before it.
     before: Vec<u8>,
     /// How many packets come before the next look.
     pub left: u64,
 }
 
-impl<'a, T: Files<File = File>, W: Write + Drop> Looks<'a, T, W> {
+impl<'a, S: Shelf + Drop, W: Write + Drop> Looks<'a, S, W> {
     /// No look yet.
-    pub fn new(
-        rt: &'a T,
-        alloc: Global,
-        path: &'a str,
-        types: &'a FileTypes,
-        log: W,
-    ) -> Looks<'a, T, W>
+    pub fn new(alloc: Global, shelf: S, types: &'a FileTypes, log: W) -> Looks<'a, S, W>
         ensures due { result.left ≡ 0 }
-        ensures path { result.path.now ≡ path.now }
+        ensures shelf { result.folder.shelf ≡ shelf }
+        ensures types { result.folder.types.now ≡ types.now }
     {
         Looks {
-            rt,
-            path,
-            types,
+            folder: Folder::new(alloc, shelf, types),
             log,
-            report: Report::new(alloc),
             before: Vec::new(alloc),
             left: 0,
         }
     }
 }
 
-impl<'a, T: Files<File = File>, W: Write + Drop> Update for Looks<'a, T, W> {
+impl<'a, S: Shelf + Drop, W: Write + Drop> Update for Looks<'a, S, W> {
     ghost when = { BetweenTurns };
 
     fn update<D: Disk>(
@@ -125,7 +108,7 @@ impl<'a, T: Files<File = File>, W: Write + Drop> Update for Looks<'a, T, W> {
             (D.state server.new.disk) s (may_change BetweenTurns between_turns) (fault_of result) }
         ensures called { Grows None None (between_turns ∷ []) }
 
-        // It looks where a look is due, and else it only counts.
+        // It looks if a look is due, and else it only counts.
         ensures counts { is_due self.old.left between_turns ≡ false
             → (server.new ≡ server.old) × (self.new.left ≡ self.old.left - 1) }
         ensures looks { is_due self.old.left between_turns ≡ true → self.new.left ≡ PACKETS }
@@ -133,18 +116,19 @@ impl<'a, T: Files<File = File>, W: Write + Drop> Update for Looks<'a, T, W> {
             → (s : Standing) → Holds server.old.view s (D.state server.old.disk)
             → (D.state server.new.disk).IsHonest
             → HasLookedAtFolder server.old server.new (D.state server.old.disk)
-            (D.state server.new.disk) s self.old.path.now self.new.report (fault_of result) }
+            (D.state server.new.disk) s self.old.folder.types.now
+            (S.path self.old.folder.shelf) (S.gave self.new.folder.shelf) self.new.folder.report
+            (fault_of result) }
     {
-        let (path, types) = (self.path, self.types);
         if !look_is_due(&mut self.left, between_turns) {
             return Ok(());
         }
         self.left = PACKETS;
-        swap(&mut self.before, &mut self.report.lines);
-        let result = look_at_folder(self.rt, alloc, server, path, types, &mut self.report);
+        swap(&mut self.before, &mut self.folder.report.lines);
+        let result = look_at_folder(alloc, server, &mut self.folder);
         tell_new(
             &mut self.log,
-            self.report.lines.as_slice(),
+            self.folder.report.lines.as_slice(),
             self.before.as_slice(),
         );
         result
@@ -160,8 +144,8 @@ fn look_is_due(left: &mut u64, between_turns: bool) -> bool
     between_turns && *left == 0
 }
 
-/// Writes the lines that are none of those before, and flushes. Most of them stand there in the
-/// same order, so each is looked for behind the one that was found last, and then in all of them.
+/// Writes the lines that are not among those before, and flushes. Most of them stand there in the
+/// same order, so each is looked for after the one that was found last, and then in all of them.
 fn tell_new<W: Write>(log: &mut W, lines: &[u8], before: &[u8]) {
     let mut rest = before;
     for line in lines.split_inclusive(|byte| *byte == b'\n') {
@@ -175,7 +159,7 @@ fn tell_new<W: Write>(log: &mut W, lines: &[u8], before: &[u8]) {
     let _ = log.flush();
 }
 
-/// What follows the line, with its end, where it is one of the lines.
+/// The rest after the line, with its end, if it is one of the lines.
 fn behind_line<'a>(lines: &'a [u8], line: &[u8]) -> Option<&'a [u8]> {
     let mut rest = lines;
     while !rest.starts_with(line) {

@@ -1,4 +1,4 @@
-//! What is told of a look at a folder, line by line.
+//! The log of a look at a folder, line by line.
 ghost use Rattle.std.specs.Prelude.{◌≡◌, ◌↔◌, ◌++◌, [], true, false, codes, map, IfErr, IsOk, OnOk};
 ghost use Rattle.mot_folder.specs.Log.{ReportTells, TellsOne, entry, told_byte};
 ghost use Rattle.mot_numbers.specs.declared.refusal.Refusal.TheVariants.{OutOfMemory};
@@ -20,12 +20,12 @@ pub struct Report {
     pub any_refused: bool,
     /// Whether there was no memory for a line, which is then left out.
     pub any_left_out: bool,
-    /// Whether a line tells of want of memory.
+    /// Whether a line says that memory ran out.
     pub any_without_memory: bool,
 }
 
 impl Report {
-    /// Nothing was told.
+    /// Nothing was logged.
     pub fn new(alloc: Global) -> Report
         ensures fine { result.any_refused ≡ false }
         ensures whole { result.any_left_out ≡ false }
@@ -51,8 +51,8 @@ impl Report {
         self.any_without_memory = false;
     }
 
-    /// How a look ends that no fault ended: `OutOfMemory` where memory was wanting for a line, or
-    /// for what a line tells.
+    /// How a look ends that no fault ended: `OutOfMemory` if memory ran out for a line, or for the
+    /// subject of a line.
     pub fn end(&self) -> Result<(), Refusal>
         ensures ends { IsOk result
             ↔ ((self.now.any_left_out ≡ false) × (self.now.any_without_memory ≡ false)) }
@@ -132,7 +132,7 @@ fn add_name(lines: &mut Vec<u8>, name: &[u8]) -> Result<(), AllocError>
     Ok(())
 }
 
-/// A byte of a name as it is told.
+/// A byte of a name as the log shows it.
 fn told(byte: u8) -> u8
     ensures { result ≡ told_byte byte }
 {

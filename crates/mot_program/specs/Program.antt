@@ -1,6 +1,6 @@
 -- What the program does.
 use Rattle.std.specs.Prelude.{ℕ, ◌≡◌, ◌⊎◌, List, [], ◌∷◌, ◌++◌, Option}
-use Rattle.std.specs.Io.KnownBytes.{Keeps}
+use Rattle.std.specs.Io.KnownBytes.{Appends, Keeps}
 use Rattle.clap.specs.Words.{Text}
 use Rattle.disk_model.specs.Disk.{State}
 use Rattle.disk_store.specs.Ram.{ram_state}
@@ -20,8 +20,9 @@ use Rattle.mot_program.specs.Report.{Checks, Formats, Migrates, StopsChecking, S
 use Rattle.mot_program.specs.Report.{StopsMigrating}
 use Rattle.mot_program.specs.Serving.{ServesInput, StopsServing}
 use Rattle.mot_repository.specs.Repository.{IsOf}
+use Rattle.mot_session.specs.Served.{WritesFront}
 use Rattle.mot_words.specs.Asked.{AskFor, AskForHelp}
-use Rattle.mot_words.specs.Program.Command.{program_app}
+use Rattle.mot_words.specs.Command.{motcar_app}
 use Rattle.mot_words.specs.Program.Task.{IsTask}
 use Rattle.mot_words.specs.declared.program.task.Task.{Task}
 use Rattle.mot_words.specs.declared.program.task.Task.TheVariants.{Memory, Format, Serve, Check}
@@ -147,13 +148,21 @@ IsBeginningRefusal (Serve path) r = r ≡ DeviceFault
 IsBeginningRefusal (Check path) r = r ≡ DeviceFault
 IsBeginningRefusal (Migrate path) r = r ≡ DeviceFault
 
+-- A text was printed, or some first bytes of it. What help says no clause tells.
+abbrev pub Prints : (old new : Option (List ℕ)) → Type 0
+Prints old new = (text : List ℕ) × Appends old new text
+
+abbrev pub PrintsFront : (old new : Option (List ℕ)) → Type 0
+PrintsFront old new = (text : List ℕ) × WritesFront text old new
+
 -- what a run came to, on this disk
 module _ {S : Type 0} {start : Ghosts S} (words : List Text) where
-  -- the task that the words ask for was done; or they ask for help, and nothing was read
+  -- the task that the words ask for was done; or they ask for help, which was printed, and nothing
+  -- was read
   abbrev pub Succeeds : UsedDisk S start → (unread left old new : Option (List ℕ)) → Type 0
   Succeeds used unread left old new =
-      ((task : Task) × AskFor program_app IsTask words task × Does task used unread left old new)
-      ⊎ (AskForHelp program_app words × IsUntouched used × Keeps unread left)
+      ((task : Task) × AskFor motcar_app IsTask words task × Does task used unread left old new)
+      ⊎ (AskForHelp motcar_app words × Prints old new × IsUntouched used × Keeps unread left)
 
   -- Which files were used: none, or the one that the task of the words names. The paths of those
   -- that were opened or made as disks were before and are after, and of those that were taken away
@@ -161,7 +170,7 @@ module _ {S : Type 0} {start : Ghosts S} (words : List Text) where
   pub data UsesFiles (used : UsedDisk S start) (before after gone left : List Text) :
       Type 0 where
     none : IsUntouched used → after ≡ before → left ≡ gone → UsesFiles used before after gone left
-    asked : (task : Task) → AskFor program_app IsTask words task
+    asked : (task : Task) → AskFor motcar_app IsTask words task
         → OpensFor task used before after → TakesAwayFor task gone left
         → UsesFiles used before after gone left
 
@@ -171,18 +180,18 @@ module _ {S : Type 0} {start : Ghosts S} (words : List Text) where
     -- before it could be told what the words ask for
     no_memory : refusal ≡ OutOfMemory → IsUntold used old new → Keeps unread left
         → IsRefused refusal used unread left old new
-    -- a number of theirs fits no field of a geometry, so that they ask for no task
-    no_task : refusal ≡ BadGeometry → ((task : Task) → AskFor program_app IsTask words task → ⊥)
+    -- a number of theirs fits no field of a geometry, so that they ask for none of these tasks
+    no_task : refusal ≡ BadGeometry → ((task : Task) → AskFor motcar_app IsTask words task → ⊥)
         → IsUntold used old new → Keeps unread left
         → IsRefused refusal used unread left old new
     -- the help could not be printed
-    no_help : AskForHelp program_app words → refusal ≡ WriteFault → IsUntouched used
-        → Keeps unread left → IsRefused refusal used unread left old new
+    no_help : AskForHelp motcar_app words → refusal ≡ WriteFault → PrintsFront old new
+        → IsUntouched used → Keeps unread left → IsRefused refusal used unread left old new
     -- the task was not begun
-    unbegun : (task : Task) → AskFor program_app IsTask words task
+    unbegun : (task : Task) → AskFor motcar_app IsTask words task
         → IsBeginningRefusal task refusal → IsUntold used old new → Keeps unread left
         → IsRefused refusal used unread left old new
     -- the task was begun
-    begun : (task : Task) → AskFor program_app IsTask words task
+    begun : (task : Task) → AskFor motcar_app IsTask words task
         → DoesInPart task refusal used unread left old new
         → IsRefused refusal used unread left old new

@@ -7,8 +7,8 @@ use disk_store::{Beginning, BegunFile, FileDiskFrom, OpenFault, RamDisk, Start, 
 use mot_numbers::Refusal;
 use mot_server::Refused;
 
-/// The disk that a task worked on. The value of `S` is used up where a file is opened or made, so
-/// that whoever still has it has opened none.
+/// The disk that a task worked on. The value of `S` is used up if a file is opened or made, so that
+/// whoever still has it has opened none.
 #[derive(Drop)]
 pub enum UsedDisk<S: Start> {
     /// No file was opened or made.
@@ -22,8 +22,8 @@ pub enum UsedDisk<S: Start> {
 /// How a run of the program ended.
 #[derive(Drop)]
 pub struct Exit<S: Start> {
-    /// The exit status: 0 where the task was done or help was asked for, 1 after a refusal that is
-    /// no line's reply, 2 after a fault of the words.
+    /// The exit status: 0 if the task was done or help was asked for, 1 after a refusal that is no
+    /// line's reply, 2 after a fault of the words.
     pub status: u8,
     /// The refusal of status 1.
     pub refusal: Option<Refusal>,
@@ -108,7 +108,7 @@ pub(crate) struct Ended<D: Disk> {
 }
 
 impl<D: Disk> Ended<D> {
-    /// Of a disk that was not opened.
+    /// The end of a task on a disk that was not opened.
     pub(crate) fn unopened(refused: Refused<D>) -> Self
         ensures { result ≡ record { disk = refused.disk; result = Err refused.refusal } }
     {
@@ -118,7 +118,7 @@ impl<D: Disk> Ended<D> {
         }
     }
 
-    /// Of a disk on which this fault ended the task, if one did.
+    /// The end of a task on a disk, with the fault that ended it, if one did.
     pub(crate) fn after(disk: D, fault: Option<Refusal>) -> Self
         ensures disk { result.disk ≡ disk }
         ensures done { OnOk result.result (fault ≡ None) }

@@ -18,8 +18,8 @@ use mot_journal::format_from;
 use mot_numbers::{Geometry, Refusal, TransportId};
 use std::io::Write;
 
-/// Makes a disk of the file at the path, which is made where it can't be opened, and taken away
-/// again where the disk could not be made of it. No file is touched for a geometry out of range.
+/// Makes a disk of the file at the path. The file is made if it can't be opened, and removed again
+/// if the disk could not be made of it. No file is touched for a geometry out of range.
 pub(crate) fn format_file<F: DiskFiles, S: Start, W: Write>(
     files: &mut F,
     path: &str,
@@ -50,7 +50,7 @@ pub(crate) fn format_file<F: DiskFiles, S: Start, W: Write>(
     }
 }
 
-/// Makes a new file, and a disk of it. Where it can't be formatted, it is taken away again.
+/// Makes a new file, and a disk of it. If it can't be formatted, it is removed again.
 fn format_new_file<F: DiskFiles, S: Start, W: Write>(
     files: &mut F,
     path: &str,

@@ -3,6 +3,7 @@ ghost use Rattle.std.specs.Prelude.{◌≡◌, ◌≢◌, ◌⊎◌, OnOk, IfErr
 ghost use Rattle.std.specs.Io.KnownBytes.{Appends, Keeps};
 ghost use Rattle.clap.specs.Words.{kind_of};
 ghost use Rattle.mot_numbers.specs.declared.refusal.Refusal.TheVariants.{OutOfMemory, WriteFault};
+ghost use Rattle.mot_program.specs.Program.{Prints, PrintsFront};
 ghost use Rattle.mot_program.specs.declared.ended.UsedDisk.TheVariants.{Untouched};
 ghost use Rattle.mot_session.specs.Served.{WritesFront};
 
@@ -13,6 +14,7 @@ use clap::error::ErrorKind;
 use disk_store::Start;
 use mot_numbers::Refusal;
 use mot_session::write_whole;
+use std::alloc::Global;
 use std::io::Write;
 
 /// Writes all of the bytes; after a fault some first of them were written.
@@ -44,6 +46,7 @@ pub(crate) fn write_last<W: Write>(writer: &mut W, bytes: &[u8]) -> Result<(), R
 
 /// Prints what is wrong with the words, or the help that they ask for.
 pub(crate) fn explain<S: Start, W: Write, E: Write>(
+    alloc: Global,
     writer: &mut W,
     errors: &mut E,
     error: &Error,
@@ -51,14 +54,16 @@ pub(crate) fn explain<S: Start, W: Write, E: Write>(
 ) -> Exit<S>
     ensures status { (result.status ≡ 0) ⊎ (result.status ≡ 1) ⊎ (result.status ≡ 2) }
     ensures untouched { result.disk ≡ Untouched start }
-    ensures help { result.status ≡ 0 → kind_of error.now ≡ ErrorKind.DisplayHelp }
+    ensures help { result.status ≡ 0 → (kind_of error.now ≡ ErrorKind.DisplayHelp)
+        × Prints (W.contents writer.old) (W.contents writer.new) }
     ensures usage { result.status ≡ 2 → (kind_of error.now ≢ ErrorKind.DisplayHelp)
         × (kind_of error.now ≢ ErrorKind.OutOfMemory)
         × Keeps (W.contents writer.old) (W.contents writer.new) }
     ensures refused { result.status ≡ 1
         → ((result.refusal ≡ Some OutOfMemory)
         × Keeps (W.contents writer.old) (W.contents writer.new))
-        ⊎ ((result.refusal ≡ Some WriteFault) × (kind_of error.now ≡ ErrorKind.DisplayHelp)) }
+        ⊎ ((result.refusal ≡ Some WriteFault) × (kind_of error.now ≡ ErrorKind.DisplayHelp)
+        × PrintsFront (W.contents writer.old) (W.contents writer.new)) }
 {
     let kind = error.kind();
     let disk = UsedDisk::Untouched(start);
@@ -69,10 +74,13 @@ pub(crate) fn explain<S: Start, W: Write, E: Write>(
         let _ = write!(errors, "{error}");
         return Exit::unrefused(2, disk);
     }
-    if write!(writer, "{error}").is_err() || writer.flush().is_err() {
-        return refuse(errors, Refusal::WriteFault, Subject::Nothing, disk);
+    let Ok(help) = error.to_string(alloc) else {
+        return refuse(errors, Refusal::OutOfMemory, Subject::Nothing, disk);
+    };
+    match write_last(writer, help.as_bytes()) {
+        Ok(()) => Exit::unrefused(0, disk),
+        Err(fault) => refuse(errors, fault, Subject::Nothing, disk),
     }
-    Exit::unrefused(0, disk)
 }
 
 /// Ends a run by a refusal that is no line's reply, and prints it, and on a second line what it is

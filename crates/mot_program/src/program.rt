@@ -8,7 +8,7 @@ ghost use Rattle.mot_program.specs.Program.{IsRefused, IsUntouched, OpensFor, Su
 ghost use Rattle.mot_program.specs.Program.{TakesAwayFor, UsesFiles};
 ghost use Rattle.mot_program.specs.declared.ended.UsedDisk.{UsedDisk};
 ghost use Rattle.mot_words.specs.Asked.{AreWrong, AskBy};
-ghost use Rattle.mot_words.specs.Program.Command.{program_app};
+ghost use Rattle.mot_words.specs.Command.{motcar_app};
 ghost use Rattle.mot_words.specs.Program.Task.{IsTask};
 
 use crate::Task;
@@ -22,7 +22,7 @@ use crate::subject::{Subject, subject_of};
 use clap::ArgMatches;
 use disk_store::{DiskFiles, Start};
 use mot_numbers::Refusal;
-use mot_words::{program_matches, program_task};
+use mot_words::{motcar_matches, program_task};
 use std::alloc::Global;
 use std::convert::AsStr;
 use std::io::{Read, Write};
@@ -52,19 +52,19 @@ pub fn run_on<F: DiskFiles, S: AsStr, B: Start, R: Read, W: Write, E: Write>(
         × IsRefused (map S.text words.now) refusal result.disk
         (R.remaining reader.old) (R.remaining reader.new)
         (W.contents writer.old) (W.contents writer.new) }
-    ensures usage { result.status ≡ 2 → AreWrong program_app (map S.text words.now)
+    ensures usage { result.status ≡ 2 → AreWrong motcar_app (map S.text words.now)
         × IsUntouched result.disk
         × Keeps (R.remaining reader.old) (R.remaining reader.new)
         × Keeps (W.contents writer.old) (W.contents writer.new) }
 
-    // No file was opened, made or taken away but the one that the words name.
+    // No file was opened, made or removed but the one that the words name.
     ensures files { UsesFiles (map S.text words.now) result.disk
         (F.opened files.old) (F.opened files.new)
         (F.taken_away files.old) (F.taken_away files.new) }
 {
-    let matches = match program_matches(alloc, words) {
+    let matches = match motcar_matches(alloc, words) {
         Ok(matches) => matches,
-        Err(error) => return explain(writer, errors, &error, start),
+        Err(error) => return explain(alloc, writer, errors, &error, start),
     };
     let Some((name, rest)) = matches.subcommand() else {
         return Exit::unrefused(2, UsedDisk::Untouched(start));
@@ -72,7 +72,7 @@ pub fn run_on<F: DiskFiles, S: AsStr, B: Start, R: Read, W: Write, E: Write>(
     run_command(files, alloc, name, rest, start, reader, writer, errors)
 }
 
-/// Does what a command of this name asks for, with these words behind it.
+/// Does the task of a command of this name, with these words after it.
 fn run_command<F: DiskFiles, B: Start, R: Read, W: Write, E: Write>(
     files: &mut F,
     alloc: Global,
@@ -85,18 +85,18 @@ fn run_command<F: DiskFiles, B: Start, R: Read, W: Write, E: Write>(
 ) -> Exit<B>
     ensures status { (result.status ≡ 0) ⊎ (result.status ≡ 1) }
     ensures done { (all : List Text)
-        → AskBy program_app IsTask name.now (rows_of (found_of words.now)) all
+        → AskBy motcar_app IsTask name.now (rows_of (found_of words.now)) all
         → result.status ≡ 0 → Succeeds all result.disk
         (R.remaining reader.old) (R.remaining reader.new)
         (W.contents writer.old) (W.contents writer.new) }
     ensures refused { (all : List Text)
-        → AskBy program_app IsTask name.now (rows_of (found_of words.now)) all
+        → AskBy motcar_app IsTask name.now (rows_of (found_of words.now)) all
         → result.status ≡ 1 → (refusal : Refusal) × (result.refusal ≡ Some refusal)
         × IsRefused all refusal result.disk
         (R.remaining reader.old) (R.remaining reader.new)
         (W.contents writer.old) (W.contents writer.new) }
     ensures files { (all : List Text)
-        → AskBy program_app IsTask name.now (rows_of (found_of words.now)) all
+        → AskBy motcar_app IsTask name.now (rows_of (found_of words.now)) all
         → UsesFiles all result.disk (F.opened files.old) (F.opened files.new)
         (F.taken_away files.old) (F.taken_away files.new) }
 {

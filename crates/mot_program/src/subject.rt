@@ -94,7 +94,7 @@ pub(crate) fn subject_of<'a>(
     }
 }
 
-/// Prints what a refusal is about, where there is more to tell.
+/// Prints what a refusal is about, if there is more to say.
 pub(crate) fn tell<E: Write>(errors: &mut E, subject: Subject<'_>) {
     match subject {
         Subject::Nothing => {}

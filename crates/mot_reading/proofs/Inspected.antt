@@ -14,12 +14,13 @@ use Rattle.mot_numbers.specs.declared.refusal.Refusal.TheVariants.{WriteFault}
 use Rattle.mot_objects.specs.Carousel.{Object}
 use Rattle.mot_objects.specs.Carousel as whole
 use Rattle.mot_objects.specs.declared.object.Object as beside
-use Rattle.mot_objects.specs.Stands.{objects_of}
+use Rattle.mot_objects.specs.Stands.{carousel_of, objects_of}
 use Rattle.mot_player.specs.Place.{Place}
+use Rattle.mot_player.specs.Turn.{turn_of_carousel}
 use Rattle.mot_reading.specs.Inspecting.{Inspects, StopsInspecting, bytes_of_all, bytes_of_bodies}
-use Rattle.mot_reading.specs.Inspecting.{inspection_text, rates_text, sizes_text, turn_text}
+use Rattle.mot_reading.specs.Inspecting.{inspection_text, rates_of, sizes_text, turn_lengths_text}
 use Rattle.mot_reading.specs.Inspecting.{TellsOfDisk, no_memory, uncounted, unprinted, unread}
-use Rattle.mot_reading.specs.Inspecting.{use_text}
+use Rattle.mot_reading.specs.Inspecting.{turn_text, use_text}
 use Rattle.mot_reading.specs.Inner.Inspected.{HasInspected, IsInspectingFault}
 use Rattle.mot_reading.specs.Opening.{OfStanding, first_place}
 use Rattle.mot_reading.proofs.Opened.{all_hold, rises_later}
@@ -65,11 +66,12 @@ same_bytes a (o ∷ os) (b ∷ bodies) e =
     ∙ ap (λ m. fold (λ (n : ℕ) (o : Object). n + length o.body) (a + m) (objects_of os bodies))
     (first_length o os b bodies e)
 
--- a text of six parts, with the same parts
-same_text : (text : Geometry → Geometry → ℕ → ℕ → ℕ → ℕ → List ℕ) (a b g : Geometry)
-    (n n' u u' k k' m m' : ℕ)
-    → a ≡ g → b ≡ g → n ≡ n' → u ≡ u' → k ≡ k' → m ≡ m' → text a b n u k m ≡ text g g n' u' k' m'
-same_text text a b g n n' u u' k k' m m' first second ns us ks ms = cc
+-- a text of eight parts, with the same parts
+same_text : (text : Geometry → Geometry → ℕ → ℕ → ℕ → ℕ → Geometry → whole.Carousel → List ℕ)
+    (a b e g : Geometry) (n n' u u' k k' m m' : ℕ) (c c' : whole.Carousel)
+    → a ≡ g → b ≡ g → n ≡ n' → u ≡ u' → k ≡ k' → m ≡ m' → e ≡ g → c ≡ c'
+    → text a b n u k m e c ≡ text g g n' u' k' m' g c'
+same_text text a b e g n n' u u' k k' m m' c c' first second ns us ks ms third cs = cc
 
 module _ (view : RepositoryView) (s : Standing) (agrees : Agrees view s) where
   abbrev items : List beside.Object
@@ -86,20 +88,26 @@ module _ (view : RepositoryView) (s : Standing) (agrees : Agrees view s) where
       ∙ ap (λ (c : whole.Carousel). bytes_of_bodies c.objects) (sym agrees.carousel)
 
   -- what was told of what is kept in memory is told of what the disk stands for
-  pub told_text : (g : Geometry) (gap count bytes : ℕ) (packets : List (List ℕ))
+  pub told_text : (g : Geometry) (gap count bytes : ℕ) (packets : List (List ℕ)) (rates : List ℕ)
       → g ≡ view.journal.geometry → count ≡ length packets → bytes ≡ bytes_of_all packets
       → sizes_text g ++ use_text view.journal.geometry view.journal.layout (length items)
       (sum_by (λ (o : beside.Object). o.length) items) gap view.journal.count
-      ++ turn_text count bytes ++ rates_text bytes
-      ≡ inspection_text s view.journal.layout view.journal.count gap packets
-  told_text g gap count bytes packets sizes counted all =
-      same_text (λ a b n u k m. sizes_text a
+      ++ turn_text count bytes ++ turn_lengths_text rates view.journal.geometry.segment_size
+      (turn_of_carousel (carousel_of view.carousel agrees.bodies)
+      view.journal.geometry.segment_size)
+      ≡ inspection_text s view.journal.layout view.journal.count gap packets rates
+  told_text g gap count bytes packets rates sizes counted all =
+      same_text (λ a b n u k m e c. sizes_text a
       ++ use_text b view.journal.layout n u gap view.journal.count
-      ++ turn_text k m ++ rates_text m) g view.journal.geometry s.geometry
+      ++ turn_text k m
+      ++ turn_lengths_text rates e.segment_size (turn_of_carousel c e.segment_size))
+      g view.journal.geometry view.journal.geometry s.geometry
       (length items) (length s.carousel.objects)
       (sum_by (λ (o : beside.Object). o.length) items) (bytes_of_bodies s.carousel.objects)
       count (length packets) bytes (bytes_of_all packets)
-      (sizes ∙ agrees.geometry) agrees.geometry number used counted all
+      (carousel_of view.carousel agrees.bodies) s.carousel
+      (sizes ∙ agrees.geometry) agrees.geometry number used counted all agrees.geometry
+      (sym agrees.carousel)
 
 module _ {D : Type 0} (state : D → State) (disk : D) (server new : ServerView D)
     (sound : (d : D) → (state d).IsHonest → IsHonestDisk (state d))
@@ -108,7 +116,7 @@ module _ {D : Type 0} (state : D → State) (disk : D) (server new : ServerView 
     (going : IsFalse server.view.halted)
     (at_start : (s : Standing) → Agrees server.view s → place_in server s ≡ first_place s)
     (reads : OnlyReads (state server.disk) (state new.disk))
-    (before after : Option (List ℕ)) where
+    (rate : Option ℕ) (before after : Option (List ℕ)) where
   still_all : (state new.disk).IsHonest → IsStill (state disk) (state new.disk)
   still_all honest =
       still_unchanged (state disk) (state server.disk) (state new.disk)
@@ -117,8 +125,8 @@ module _ {D : Type 0} (state : D → State) (disk : D) (server new : ServerView 
   -- what is told of an open server is told of the disk, from its opening on
   tells_of : (is_printed : List ℕ → Type 0)
       → ((s : Standing) → Holds server.view s (state server.disk) → (state new.disk).IsHonest
-      → HasInspected server.view.journal (place_in server s) s is_printed)
-      → OfStanding (λ s. TellsOfDisk s (state disk).bytes is_printed) (state disk) (state new.disk)
+      → HasInspected rate server.view.journal (place_in server s) s is_printed)
+      → OfStanding (λ s. TellsOfDisk (rates_of rate) s (state disk).bytes is_printed) (state disk) (state new.disk)
   tells_of is_printed told = λ s honest all.
       let was = reads.keeps.was_honest honest in
       let first = opened was in
@@ -136,16 +144,17 @@ module _ {D : Type 0} (state : D → State) (disk : D) (server new : ServerView 
         turn = subst (λ (p : Place). HasPlayedTurn p has.packets has.last)
             (at_start s holds.agrees) has.turn;
         printed = subst (λ n. is_printed
-            (inspection_text s server.view.journal.layout n has.gap has.packets)) first.count
+            (inspection_text s server.view.journal.layout n has.gap has.packets (rates_of rate)))
+            first.count
             has.printed;
       }
 
   -- so it inspects the disk
   pub inspects : (result : Result Unit Refusal)
       → ((s : Standing) → Holds server.view s (state server.disk) → (state new.disk).IsHonest
-      → OnOk result (HasInspected server.view.journal (place_in server s) s
+      → OnOk result (HasInspected rate server.view.journal (place_in server s) s
       (Appends before after)))
-      → OnOk result (Inspects before after (state disk) (state new.disk))
+      → OnOk result (Inspects rate before after (state disk) (state new.disk))
   inspects (Err refusal) told = tt
   inspects (Ok done) told = record {
     still = still_all;
@@ -155,11 +164,11 @@ module _ {D : Type 0} (state : D → State) (disk : D) (server new : ServerView 
   -- a fault of the telling stops the inspection, from the disk's opening on
   pub stops : (result : Result Unit Refusal)
       → ((s : Standing) → Holds server.view s (state server.disk) → (state new.disk).IsHonest
-      → IfErr result (λ r. r ≡ WriteFault → HasInspected server.view.journal (place_in server s) s
+      → IfErr result (λ r. r ≡ WriteFault → HasInspected rate server.view.journal (place_in server s) s
       (λ text. WritesFront text before after)))
       → IfErr result (λ r. IsInspectingFault r (state server.disk).failures
       (state new.disk).failures before after)
-      → IfErr result (λ r. StopsInspecting r before after (state disk) (state new.disk))
+      → IfErr result (λ r. StopsInspecting rate r before after (state disk) (state new.disk))
   stops (Ok done) broken why = tt
   stops (Err refusal) broken (inl is) =
       unprinted is still_all

@@ -1,2 +1,3 @@
 pub mod Inspected
+pub mod Lengths
 pub mod Printing

@@ -1,4 +1,5 @@
 pub mod Exporting
+pub mod Filling
 pub mod Inner
 pub mod Inspecting
 pub mod Opening

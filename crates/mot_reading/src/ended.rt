@@ -15,7 +15,7 @@ pub struct Ended<D: Disk, T> {
 }
 
 impl<D: Disk, T> Ended<D, T> {
-    /// Of a disk that was not opened.
+    /// The end of a command on a disk that was not opened.
     pub fn unopened(refused: Refused<D>) -> Self
         ensures { result ≡ record { disk = refused.disk; result = Err refused.refusal } }
     {

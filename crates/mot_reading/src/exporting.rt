@@ -25,7 +25,8 @@ use std::io::Write;
 const PIECE: usize = 4_096;
 
 /// Opens the disk and writes its carousel as lines: a `put` line for each object, in order, and the
-/// `period` line where it is not 0. What is refused in the middle has written a beginning of them.
+/// `period` line if the period is not 0. If it is refused in the middle, it has written a beginning
+/// of them.
 pub fn export_disk<D: Disk, W: Write>(alloc: Global, disk: D, writer: &mut W) -> Ended<D, ()>
     ensures keeps { KeepsLength (D.state disk) (D.state result.disk) }
     ensures done { OnOk result.result (Exports (W.contents writer.old) (W.contents writer.new)

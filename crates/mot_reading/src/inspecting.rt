@@ -1,5 +1,5 @@
-//! What is told of a disk's sizes, of what is free of them, and of its turn.
-ghost use Rattle.std.specs.Prelude.{◌≡◌, ◌≤◌, ◌<◌, ◌^◌, ◌++◌, ℕ, IfErr, IfOk, IsFalse, OnOk};
+//! Printing a disk's sizes, what is free of them, and its turn.
+ghost use Rattle.std.specs.Prelude.{◌≡◌, ◌≤◌, ◌<◌, ◌^◌, ◌++◌, ℕ, List, IfErr, IfOk, IsFalse, OnOk};
 ghost use Rattle.std.specs.Prelude.{length};
 ghost use Rattle.std.specs.List.{sum_by};
 ghost use Rattle.std.specs.Io.KnownBytes.{Appends};
@@ -7,9 +7,12 @@ ghost use Rattle.disk_model.specs.Disk.{KeepsLength, OnlyReads};
 ghost use Rattle.mot_journal.specs.Image.{Standing};
 ghost use Rattle.mot_numbers.specs.declared.refusal.Refusal.TheVariants.{WriteFault};
 ghost use Rattle.mot_objects.specs.declared.object.Object.{Object};
+ghost use Rattle.mot_objects.specs.Stands.{AreBodiesOf, carousel_of};
+ghost use Rattle.mot_player.specs.Turn.{turn_of_carousel};
+ghost use Rattle.mot_reading.specs.Filling.{TurnsHaveTheirLengths};
 ghost use Rattle.mot_reading.specs.Inspecting.{Inspects, StopsInspecting, data_text, number_line};
-ghost use Rattle.mot_reading.specs.Inspecting.{rates_text, seconds_line, shares_line, sizes_text};
-ghost use Rattle.mot_reading.specs.Inspecting.{turn_text, use_text};
+ghost use Rattle.mot_reading.specs.Inspecting.{rates_of, shares_line, sizes_text, turn_text};
+ghost use Rattle.mot_reading.specs.Inspecting.{turn_lengths_text, use_text};
 ghost use Rattle.mot_reading.specs.Inner.Inspected.{HasInspected, IsCountingFault};
 ghost use Rattle.mot_reading.specs.Inner.Inspected.{IsInspectingFault, IsTurnSize};
 ghost use Rattle.mot_repository.specs.Gap.{IsLongestGap};
@@ -18,6 +21,7 @@ ghost use Rattle.mot_server.specs.Server.{place_in};
 ghost use Rattle.mot_session.specs.Served.{WritesFront};
 
 use crate::Ended;
+use crate::lengths::write_lengths;
 use disk_model::Disk;
 use mot_journal::Layout;
 use mot_numbers::{Geometry, Refusal};
@@ -36,73 +40,90 @@ struct TurnSize {
 }
 
 /// Opens the disk, plays a turn of it to nobody, and writes its sizes, what is used and free of
-/// them, and what the turn takes.
-pub fn inspect_disk<D: Disk, W: Write>(alloc: Global, disk: D, writer: &mut W) -> Ended<D, ()>
+/// them, what the turn takes, and how long it is in packets of each length: in a sub-channel of
+/// this rate in kbit/s or, if none is given, of the usual ones.
+pub fn inspect_disk<D: Disk, W: Write>(
+    alloc: Global,
+    disk: D,
+    rate: Option<u32>,
+    writer: &mut W,
+) -> Ended<D, ()>
     ensures keeps { KeepsLength (D.state disk) (D.state result.disk) }
-    ensures done { OnOk result.result (Inspects (W.contents writer.old) (W.contents writer.new)
+    ensures done { OnOk result.result (Inspects rate (W.contents writer.old) (W.contents writer.new)
         (D.state disk) (D.state result.disk)) }
-    ensures refused { IfErr result.result (λ r. StopsInspecting r
+    ensures refused { IfErr result.result (λ r. StopsInspecting rate r
         (W.contents writer.old) (W.contents writer.new) (D.state disk) (D.state result.disk)) }
+
+    // The lengths that are told of the disk's own packets are those of the turn that is played.
+    ensures lengths { TurnsHaveTheirLengths }
 {
     let mut server = match Server::open(alloc, disk) {
         Ok(server) => server,
         Err(refused) => return Ended::unopened(refused),
     };
-    let result = write_inspection(alloc, &mut server, writer);
+    let result = write_inspection(alloc, &mut server, rate, writer);
     Ended {
         disk: server.into_disk(),
         result,
     }
 }
 
-/// Writes what is told of an open server; all of it is known before the first byte.
+/// Writes the lines about an open server, for a sub-channel of this rate or the usual ones; all of
+/// them are known before the first byte.
 fn write_inspection<D: Disk, W: Write>(
     alloc: Global,
     server: &mut Server<D>,
+    rate: Option<u32>,
     writer: &mut W,
 ) -> Result<(), Refusal>
     requires { IsFalse server.old.view.halted }
     ensures only_reads { OnlyReads (D.state server.old.disk) (D.state server.new.disk) }
     ensures told { (s : Standing) → Holds server.old.view s (D.state server.old.disk)
         → (D.state server.new.disk).IsHonest → OnOk result
-        (HasInspected server.old.view.journal (place_in server.old s) s
+        (HasInspected rate server.old.view.journal (place_in server.old s) s
         (Appends (W.contents writer.old) (W.contents writer.new))) }
     ensures broken { (s : Standing) → Holds server.old.view s (D.state server.old.disk)
         → (D.state server.new.disk).IsHonest → IfErr result (λ r. r ≡ WriteFault
-        → HasInspected server.old.view.journal (place_in server.old s) s
+        → HasInspected rate server.old.view.journal (place_in server.old s) s
         (λ text. WritesFront text (W.contents writer.old) (W.contents writer.new))) }
     ensures fault { IfErr result (λ r. IsInspectingFault r (D.state server.old.disk).failures
         (D.state server.new.disk).failures (W.contents writer.old) (W.contents writer.new)) }
 {
     let TurnSize { packets, bytes } = count_turn(server)?;
     let mut text = Vec::new(alloc);
-    let Ok(()) = tell(server, packets, bytes, &mut text) else {
+    let Ok(()) = tell(alloc, server, packets, bytes, rate, &mut text) else {
         return Err(Refusal::OutOfMemory);
     };
     print(writer, &text)
 }
 
-/// Adds what is told of an open server, of whose turn these are the packets and bytes.
+/// Adds the lines about an open server, whose turn has these packets and bytes.
 fn tell<D: Disk>(
+    alloc: Global,
     server: &Server<D>,
     packets: u64,
     bytes: u128,
+    rate: Option<u32>,
     text: &mut Vec<u8>,
 ) -> Result<(), Refusal>
-    requires { bytes < 2 ^ 72 }
-    ensures { OnOk result ((gap : ℕ) × IsLongestGap server.now.view.extents
+    ensures { (bodies : List (List ℕ)) → AreBodiesOf server.now.view.carousel bodies
+        → OnOk result ((gap : ℕ) × IsLongestGap server.now.view.extents
         server.now.view.journal.geometry.data_area gap
         × (text.new.items ≡ text.old.items ++ (sizes_text server.now.view.journal.geometry
         ++ use_text server.now.view.journal.geometry server.now.view.journal.layout
         (length server.now.view.carousel.objects.items)
         (sum_by (λ (o : Object). o.length) server.now.view.carousel.objects.items)
         gap server.now.view.journal.count
-        ++ turn_text packets bytes ++ rates_text bytes))) }
+        ++ turn_text packets bytes
+        ++ turn_lengths_text (rates_of rate) server.now.view.journal.geometry.segment_size
+        (turn_of_carousel (carousel_of server.now.view.carousel bodies)
+        server.now.view.journal.geometry.segment_size)))) }
 {
     write_sizes(text, &server.geometry())?;
     write_use(text, server)?;
     write_turn(text, packets, bytes)?;
-    write_rates(text, bytes)
+    let size = server.geometry().size_of_segments();
+    write_lengths(alloc, text, rate, server.carousel(), size)
 }
 
 /// Prints the text, and hands it on; after a fault some first bytes of it were printed.
@@ -121,8 +142,8 @@ fn print<W: Write>(writer: &mut W, text: &[u8]) -> Result<(), Refusal>
     }
 }
 
-/// Plays a turn, and counts its packets and their bytes. The refusals are `DeviceFault` where a
-/// body can't be read, and `BadNumber` for more packets than are counted.
+/// Plays a turn, and counts its packets and their bytes. The refusals are `DeviceFault` if a body
+/// can't be read, and `BadNumber` for more packets than are counted.
 fn count_turn<D: Disk>(server: &mut Server<D>) -> Result<TurnSize, Refusal>
     requires { IsFalse server.old.view.halted }
     ensures only_reads { OnlyReads (D.state server.old.disk) (D.state server.new.disk) }
@@ -130,14 +151,13 @@ fn count_turn<D: Disk>(server: &mut Server<D>) -> Result<TurnSize, Refusal>
     ensures counted { (s : Standing) → Holds server.old.view s (D.state server.old.disk)
         → (D.state server.new.disk).IsHonest → IfOk result
         (λ size. IsTurnSize (place_in server.old s) size.packets size.bytes) }
-    ensures few { IfOk result (λ size. size.bytes < 2 ^ 72) }
     ensures fault { IfErr result (λ r. IsCountingFault r (D.state server.old.disk).failures
         (D.state server.new.disk).failures) }
 {
     let mut bytes: u128 = 0;
     for others in 0..u64::MAX {
         let Played { packet, ends_turn } = server.next_packet()?;
-        // It has no more bytes than its room.
+        // It has no more bytes than its room. (The line is there for the proof.)
         let _ = packet.is_full();
         bytes += packet.len() as u128;
         if ends_turn {
@@ -242,36 +262,6 @@ fn write_turn<W: Write>(writer: &mut W, packets: u64, bytes: u128) -> Result<(),
     ensures fault { IfErr result (λ r. r ≡ WriteFault) }
 {
     match writeln!(writer, "turn {packets} packets {bytes} bytes") {
-        Ok(()) => Ok(()),
-        Err(_) => Err(Refusal::WriteFault),
-    }
-}
-
-/// Writes how long a turn of so many bytes is in sub-channels of some rates.
-fn write_rates<W: Write>(writer: &mut W, bytes: u128) -> Result<(), Refusal>
-    requires { bytes < 2 ^ 72 }
-    ensures written { OnOk result (Appends (W.contents writer.old) (W.contents writer.new)
-        (rates_text bytes)) }
-    ensures fault { IfErr result (λ r. r ≡ WriteFault) }
-{
-    write_seconds(writer, 8, bytes)?;
-    write_seconds(writer, 16, bytes)?;
-    write_seconds(writer, 32, bytes)?;
-    write_seconds(writer, 64, bytes)
-}
-
-/// Writes how many seconds so many bytes take at so many kbit/s.
-fn write_seconds<W: Write>(writer: &mut W, rate: u128, bytes: u128) -> Result<(), Refusal>
-    requires some { 0 < rate }
-    requires low { rate ≤ 64 }
-    requires few { bytes < 2 ^ 72 }
-    ensures written { OnOk result (Appends (W.contents writer.old) (W.contents writer.new)
-        (seconds_line rate bytes)) }
-    ensures fault { IfErr result (λ r. r ≡ WriteFault) }
-{
-    let tenths = (2 * bytes + 25 * rate - 1) / (25 * rate);
-    let (whole, rest) = (tenths / 10, tenths % 10);
-    match writeln!(writer, "seconds {rate} {whole}.{rest}") {
         Ok(()) => Ok(()),
         Err(_) => Err(Refusal::WriteFault),
     }

@@ -3,7 +3,9 @@
 
 mod ended;
 mod exporting;
+mod filling;
 mod inspecting;
+mod lengths;
 
 pub use ended::Ended;
 pub use exporting::export_disk;

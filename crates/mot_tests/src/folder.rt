@@ -1,9 +1,11 @@
 //! Folders: suffixes, printed lines, and a folder that is not there.
 use crate::disks::{Server, new_server};
 use crate::expecting::expect;
+use crate::shelf::MemoryShelf;
 use mot_base::{Geometry, Refusal};
-use mot_folder::{FileTypes, Report, look_at_folder};
+use mot_folder::{FileTypes, Folder, Report, look_at_folder};
 use mot_server::Attempt;
+use mot_shelf::SystemShelf;
 use std::alloc::Global;
 use std::test::Fail;
 
@@ -116,10 +118,10 @@ fn lines_are_told(rt: HostRuntime) {
 
 /// What is told of a look at a folder that is not there.
 fn missing(rt: &HostRuntime, alloc: Global, server: &mut Server) -> Result<Vec<u8>, Refusal> {
-    let mut report = Report::new(alloc);
     let types = FileTypes::new(alloc)?;
-    look_at_folder(rt, alloc, server, "none/such", &types, &mut report)?;
-    Ok(report.lines)
+    let mut folder = Folder::new(alloc, SystemShelf::new(rt, "none/such"), &types);
+    look_at_folder(alloc, server, &mut folder)?;
+    Ok(folder.report.lines)
 }
 
 /// The same of a new server.
@@ -136,5 +138,46 @@ fn a_folder_that_is_not_there_is_told(rt: HostRuntime) -> Result<(), Fail> {
         told.as_slice(),
         b"look none/such refused 22 ReadFault\n".as_slice(),
     );
+    Ok(())
+}
+
+/// Two files that can be read.
+const BOTH: [(&[u8], &[u8]); 2] = [(b"a.txt", b"one"), (b"b.txt", b"two")];
+
+/// The first of them alone.
+const FIRST_OF_BOTH: [(&[u8], &[u8]); 1] = [(b"a.txt", b"one")];
+
+/// What is told of looks at a folder that has both files, then can't be read at the second of them,
+/// then can't be listed, and then has the first alone.
+fn told_of_changes(alloc: Global) -> Result<[Vec<u8>; 4], Refusal> {
+    let mut server = new_server(alloc, &Geometry::default())?;
+    let both: Option<&'static [u8]> = Some(b"a.txt\0b.txt\0c.doc\0");
+    let first = told_of(alloc, &mut server, MemoryShelf::new(both, &BOTH))?;
+    let second = told_of(alloc, &mut server, MemoryShelf::new(both, &FIRST_OF_BOTH))?;
+    let third = told_of(alloc, &mut server, MemoryShelf::new(None, &BOTH))?;
+    let one: Option<&'static [u8]> = Some(b"a.txt\0");
+    let fourth = told_of(alloc, &mut server, MemoryShelf::new(one, &FIRST_OF_BOTH))?;
+    Ok([first, second, third, fourth])
+}
+
+/// What is told of a look at this folder.
+fn told_of(alloc: Global, server: &mut Server, shelf: MemoryShelf) -> Result<Vec<u8>, Refusal> {
+    let types = FileTypes::new(alloc)?;
+    let mut folder = Folder::new(alloc, shelf, &types);
+    look_at_folder(alloc, server, &mut folder)?;
+    Ok(folder.report.lines)
+}
+
+#[test]
+fn a_folder_that_changes_is_told(rt: HostRuntime) -> Result<(), Fail> {
+    let [first, second, third, fourth] = told_of_changes(rt.alloc())?;
+    let put = b"put a.txt done object 2 directory 3\nput b.txt done object 4 directory 5\n";
+    expect(&rt, first.as_slice(), put.as_slice());
+    let unread = b"read b.txt refused 22 ReadFault\n";
+    expect(&rt, second.as_slice(), unread.as_slice());
+    let unlisted = b"look memory refused 22 ReadFault\n";
+    expect(&rt, third.as_slice(), unlisted.as_slice());
+    let gone = b"withdraw b.txt done directory 6\n";
+    expect(&rt, fourth.as_slice(), gone.as_slice());
     Ok(())
 }

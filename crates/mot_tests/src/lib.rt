@@ -24,6 +24,8 @@ mod serving;
 #[cfg(test)]
 mod session;
 #[cfg(test)]
+mod shelf;
+#[cfg(test)]
 mod streams;
 #[cfg(test)]
 mod update;

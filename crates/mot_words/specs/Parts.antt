@@ -1,4 +1,4 @@
--- What both command lines are made with, in the words of `clap`.
+-- What the command line is made with, in the words of `clap`.
 use Rattle.std.specs.Prelude.{pos, true, Some, codes}
 use Rattle.clap.specs.Words.{App, Rule, Shape, Text, new_app, new_rule, with_rule}
 use Rattle.clap.specs.declared.builder.ArgAction.TheVariants.{Set}

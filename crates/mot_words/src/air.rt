@@ -1,6 +1,4 @@
-//! The command line of `play`, `sync`, `export` and `inspect`.
-mod command;
+//! The tasks of `play`, `sync`, `export` and `inspect`.
 mod task;
 
-pub use command::air_matches;
 pub use task::{AirTask, PlayTask, air_task};

@@ -16,7 +16,7 @@ pub(crate) fn word_of<'a>(words: &ArgMatches<'a>, name: &str) -> Option<&'a str>
     words.get_str(name)
 }
 
-/// The number of an option, if it was given; `None` where it is no number.
+/// The number of an option, if it was given; `None` if it is not a number.
 #[tactic(auto, using(crate::proofs::Values::first_found))]
 pub(crate) fn number_of(words: &ArgMatches<'_>, name: &str) -> Option<Option<u32>>
     ensures some { IfSome result (IsGiven (first_of name.now (rows_of (found_of words.now)))) }

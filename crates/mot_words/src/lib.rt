@@ -1,10 +1,12 @@
-//! The words of the two command lines, and what they ask for.
+//! The words of the command line, and what they ask for.
 #![tactic(auto)]
 
 mod air;
+mod command;
 mod given;
 mod parts;
 mod program;
 
-pub use air::{AirTask, PlayTask, air_matches, air_task};
-pub use program::{Options, Task, program_matches, program_task};
+pub use air::{AirTask, PlayTask, air_task};
+pub use command::motcar_matches;
+pub use program::{Options, Task, program_task};

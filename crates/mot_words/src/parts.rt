@@ -1,18 +1,18 @@
-//! What both command lines are made with.
+//! What the command line is made with.
 ghost use Rattle.std.specs.Prelude.{◌≡◌, false};
 ghost use Rattle.clap.specs.Words.{rule_of};
-ghost use Rattle.mot_words.specs.Inner.Made.{IsMade, line_app, motcar_app, rule_for, verb_app};
+ghost use Rattle.mot_words.specs.Inner.Made.{IsMade, line_app, empty_app, rule_for, verb_app};
 
 use clap::{Arg, ArgAction, Command, value_parser};
 use std::alloc::{AllocError, Global};
 
-/// A command, as its row of a command line tells it.
+/// A command, as its row of the command line says.
 pub(crate) struct Verb {
     /// Its name.
     pub(crate) name: &'static str,
     /// What the help says of it.
     pub(crate) about: &'static str,
-    /// What is given behind it.
+    /// What is given after it.
     pub(crate) arguments: &'static [Argument],
 }
 
@@ -57,7 +57,7 @@ pub(crate) fn command_line<'a>(alloc: Global, verbs: &[Verb]) -> Result<Command<
 
 /// The program, with no command yet.
 fn top<'a>(alloc: Global) -> Result<Command<'a>, AllocError>
-    ensures { IsMade motcar_app result }
+    ensures { IsMade empty_app result }
 {
     let command = Command::new(alloc, "motcar").bin_name("motcar")?;
     Ok(

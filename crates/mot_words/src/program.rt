@@ -1,8 +1,6 @@
-//! The command line of `memory`, `format`, `serve`, `check` and `migrate`.
-mod command;
+//! The tasks of `memory`, `format`, `serve`, `check` and `migrate`.
 mod options;
 mod task;
 
-pub use command::program_matches;
 pub use options::Options;
 pub use task::{Task, program_task};

@@ -44,7 +44,7 @@ fn run_words<W: Write>(rt: &HostRuntime, words: &[String], writer: &mut W) -> u8
     let alloc = rt.alloc();
     let mut errors = rt.stderr();
     match words {
-        [word] if word.as_str() == "--version" => show_version(rt, writer),
+        [word] if word.as_str() == "--version" || word.as_str() == "-V" => show_version(rt, writer),
         [word, ..] if is_air(word.as_str()) => {
             run_air_on(rt, alloc, words, Unknown, writer, &mut errors).status
         }

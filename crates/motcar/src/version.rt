@@ -11,9 +11,8 @@ const VERSION: &str = "motcar 0.2.0\n";
 /// folder of the program on.
 const NOTE: &str = "../share/motcar/VERSION";
 
-/// Prints the version, and below it what the note of the installation tells of this version. No
-/// constant of the program could tell that, since it is known once the program was proved and
-/// built.
+/// Prints the version, and below it the note of the installation about this version. No constant of
+/// the program could have the note, since it is known once the program was proved and built.
 pub(crate) fn print_version<W: Write>(rt: &HostRuntime, writer: &mut W) -> io::Result<()> {
     match read_note(rt) {
         Ok(note) if note.as_str().starts_with(VERSION) => print(writer, note.as_str()),

@@ -8,7 +8,7 @@ use Rattle.mot_numbers.specs.declared.refusal.Refusal.{Refusal}
 use Rattle.mot_numbers.specs.declared.refusal.Refusal.TheVariants.{BadNumber, DeviceFault}
 use Rattle.mot_numbers.specs.declared.refusal.Refusal.TheVariants.{OutOfMemory, WriteFault}
 use Rattle.mot_player.specs.Place.{Place}
-use Rattle.mot_reading.specs.Inspecting.{bytes_of_all, inspection_text}
+use Rattle.mot_reading.specs.Inspecting.{bytes_of_all, inspection_text, rates_of}
 use Rattle.mot_repository.specs.Gap.{IsLongestGap}
 use Rattle.mot_server.specs.Playing.{HasPlayedTurn}
 
@@ -26,14 +26,15 @@ IsCountingFault refusal before now =
     (refusal ≡ BadNumber) ⊎ ((refusal ≡ DeviceFault) × Rises before now)
 
 -- what was printed, of which this is known, tells of a server that plays from this place
-pub record HasInspected (journal : JournalView) (place : Place) (s : Standing)
+pub record HasInspected (rate : Option ℕ) (journal : JournalView) (place : Place) (s : Standing)
     (is_printed : List ℕ → Type 0) : Type 0 where
   pub gap : ℕ
   pub longest : IsLongestGap s.extents s.geometry.data_area gap
   pub packets : List (List ℕ)
   pub last : Place
   pub turn : HasPlayedTurn place packets last
-  pub printed : is_printed (inspection_text s journal.layout journal.count gap packets)
+  pub printed : is_printed (inspection_text s journal.layout journal.count gap packets
+      (rates_of rate))
 
 -- why it could not be
 abbrev pub IsInspectingFault : Refusal → ℕ → ℕ → (old new : Option (List ℕ)) → Type 0

@@ -1,6 +1,6 @@
 -- The tasks of the commands on air.
-use Rattle.std.specs.Prelude.{◌≡◌, ◌&&◌, ◌||◌, Bool, true, List, Option, codes, is_none, is_some}
-use Rattle.std.specs.Prelude.{option_map}
+use Rattle.std.specs.Prelude.{ℕ, ◌≡◌, ◌%◌, ◌&&◌, ◌||◌, ◌==◌, nat_le, Bool, true, List, Option, Some}
+use Rattle.std.specs.Prelude.{None, codes, is_none, is_some, option_map}
 use Rattle.std.specs.Borrow.{Bor}
 use Rattle.clap.specs.Words.{Row, Text, first_of}
 use Rattle.mot_words.specs.Given.{IsGiven, NameWord}
@@ -22,6 +22,12 @@ is_whole rows =
     goes_with rows (codes "every") (codes "lines") && goes_with rows (codes "types")
     (codes "folder")
 
+-- a sub-channel has this rate in kbit/s, if one is given (EN 300 401, clause 6.2.1: 864 capacity
+-- units, and at best 15 of them for each 32 kbit/s)
+abbrev pub is_rate : Option ℕ → Bool
+is_rate None = true
+is_rate (Some rate) = nat_le 8 rate && nat_le rate 1824 && rate % 8 == 0
+
 -- a command of this name, with these words behind it, is this task
 abbrev pub IsAirTask : Text → List Row → AirTask → Type 0
 IsAirTask name rows (Play p) =
@@ -35,5 +41,6 @@ IsAirTask name rows (Sync disk folder types) =
     (name ≡ codes "sync") × NameWord rows (codes "DISK") disk.now
     × NameWord rows (codes "DIR") folder.now × NameOption rows (codes "types") types
 IsAirTask name rows (Export disk) = (name ≡ codes "export") × NameWord rows (codes "DISK") disk.now
-IsAirTask name rows (Inspect disk) =
+IsAirTask name rows (Inspect disk rate) =
     (name ≡ codes "inspect") × NameWord rows (codes "DISK") disk.now
+    × IsGiven (first_of (codes "rate") rows) rate × (is_rate rate ≡ true)

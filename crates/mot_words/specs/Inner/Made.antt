@@ -39,8 +39,8 @@ abbrev pub with_verb : App → Verb → App
 with_verb app verb = with_subcommand app (verb_app verb).top
 
 -- the program with no command yet, and the command line with the commands of these rows
-abbrev pub motcar_app : App
-motcar_app = record { top = motcar_top; subs = [] }
+abbrev pub empty_app : App
+empty_app = record { top = motcar_top; subs = [] }
 
 abbrev pub line_app : List Verb → App
-line_app verbs = with_all with_verb motcar_app verbs
+line_app verbs = with_all with_verb empty_app verbs

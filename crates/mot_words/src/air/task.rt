@@ -2,7 +2,7 @@
 ghost use Rattle.std.specs.Prelude.{◌≡◌, IfNone, IfSome, codes, is_none, option_map};
 ghost use Rattle.std.specs.Borrow.{Bor};
 ghost use Rattle.clap.specs.Words.{Text, first_of, found_of, rows_of};
-ghost use Rattle.mot_words.specs.Air.Task.{IsAirTask, goes_with, is_whole};
+ghost use Rattle.mot_words.specs.Air.Task.{IsAirTask, goes_with, is_rate, is_whole};
 ghost use Rattle.mot_words.specs.Given.{NameWord};
 ghost use Rattle.mot_words.specs.declared.air.task.AirTask.{AirTask};
 
@@ -14,7 +14,7 @@ use clap::ArgMatches;
 pub struct PlayTask<'a> {
     /// The path of the disk's file.
     pub disk: &'a str,
-    /// What takes the packets: the path of a pipe, a device or a file, or `-`.
+    /// The place of the packets: the path of a pipe, a device or a file, or `-`.
     pub packets: &'a str,
     /// The path of the folder that the carousel is made equal to, if one is given.
     pub folder: Option<&'a str>,
@@ -22,12 +22,12 @@ pub struct PlayTask<'a> {
     pub types: Option<&'a str>,
     /// The path of the folder whose files are answered as lines, if one is given.
     pub lines: Option<&'a str>,
-    /// Behind how many packets lines are read; where none is given, 8.
+    /// After how many packets lines are read; 8, if no number is given.
     pub every: Option<u32>,
-    /// How many whole turns; where none is given, 16 into a file, and else without end.
+    /// How many whole turns. If no number is given: 16 into a file, and else without end.
     pub turns: Option<u32>,
-    /// After how many packets the directory is sent again, with 0 at each turn's beginning alone;
-    /// where no number is given, 340 without end, and else 0.
+    /// After how many packets the directory is sent again; 0: at each turn's beginning alone. If no
+    /// number is given: 340 without end, and else 0.
     pub directory: Option<u32>,
 }
 
@@ -47,12 +47,17 @@ pub enum AirTask<'a> {
     },
     /// Print the carousel of the disk of the file at this path.
     Export(&'a str),
-    /// Tell the sizes of the disk of the file at this path.
-    Inspect(&'a str),
+    /// Print the sizes of a disk.
+    Inspect {
+        /// The path of the disk's file.
+        disk: &'a str,
+        /// The rate in kbit/s at which its turn is timed; if none is given, the usual ones.
+        rate: Option<u32>,
+    },
 }
 
-/// The task of a command and the words behind it; `None` where a number is none, or an option is
-/// given without the other of which it says more.
+/// The task of a command and the words after it; `None` if a word that should be a number is not
+/// one, no sub-channel has the rate, or an option is given without the one that it qualifies.
 pub fn air_task<'a>(name: &str, words: &ArgMatches<'a>) -> Option<AirTask<'a>>
     ensures some { IfSome result (IsAirTask name.now (rows_of (found_of words.now))) }
     ensures none { IfNone result ((task : AirTask)
@@ -63,7 +68,7 @@ pub fn air_task<'a>(name: &str, words: &ArgMatches<'a>) -> Option<AirTask<'a>>
         "play" => play_of(disk, words),
         "sync" => sync_of(disk, words),
         "export" => Some(AirTask::Export(disk)),
-        "inspect" => Some(AirTask::Inspect(disk)),
+        "inspect" => inspect_of(disk, words),
         _ => None,
     }
 }
@@ -104,6 +109,31 @@ fn sync_of<'a>(disk: &'a str, words: &ArgMatches<'a>) -> Option<AirTask<'a>>
         folder: word_of(words, "DIR")?,
         types: option_of(words, "types"),
     })
+}
+
+/// The task of the command `inspect` on this disk.
+fn inspect_of<'a>(disk: &'a str, words: &ArgMatches<'a>) -> Option<AirTask<'a>>
+    ensures some { IfSome result (λ task.
+        NameWord (rows_of (found_of words.now)) (codes "DISK") disk.now
+        → IsAirTask (codes "inspect") (rows_of (found_of words.now)) task) }
+    ensures none { IfNone result ((task : AirTask)
+        → IsAirTask (codes "inspect") (rows_of (found_of words.now)) task → ⊥) }
+{
+    let rate = number_of(words, "rate")?;
+    if !is_rate(rate) {
+        return None;
+    }
+    Some(AirTask::Inspect { disk, rate })
+}
+
+/// Whether a sub-channel has this rate in kbit/s, if one is given: a multiple of 8, at most 1,824.
+fn is_rate(rate: Option<u32>) -> bool
+    ensures { result ≡ is_rate rate }
+{
+    match rate {
+        Some(rate) => rate >= 8 && rate <= 1_824 && rate % 8 == 0,
+        None => true,
+    }
 }
 
 /// Whether each option is given with the other of which it says more: `--every` with `--lines`, and

@@ -27,7 +27,7 @@ pub struct Options {
 impl Options {
     ghost use Rattle.mot_words.specs.Program.Options.{geometry_asked};
 
-    /// The geometry of these numbers, and of the default ones where none is given; `None` where one
+    /// The geometry of these numbers, with the default for each that is not given; `None` if one
     /// does not fit its field.
     pub fn geometry(self) -> Option<Geometry>
         ensures { result ≡ geometry_asked self }
@@ -43,7 +43,7 @@ impl Options {
     }
 }
 
-/// The number, where it fits; where none is given, the default.
+/// The number, if it fits; the default, if none is given.
 fn field(number: Option<u32>, default: u16) -> Option<u16>
     ensures { result ≡ field_in number default }
 {
@@ -53,7 +53,7 @@ fn field(number: Option<u32>, default: u16) -> Option<u16>
     }
 }
 
-/// The geometry that the words give; `None` where a number does not fit its field.
+/// The geometry that the words give; `None` if a number does not fit its field.
 pub(crate) fn geometry_of(matches: &ArgMatches<'_>) -> Option<Geometry>
     ensures some { IfSome result (GiveGeometry (rows_of (found_of matches.now))) }
     ensures none { IfNone result ((geometry : Geometry)
@@ -62,8 +62,8 @@ pub(crate) fn geometry_of(matches: &ArgMatches<'_>) -> Option<Geometry>
     options_of(matches)?.geometry()
 }
 
-/// The transport id of a new disk's directory, the one behind the id that the words give, or else
-/// the first; `None` where that is no number, or fits no id.
+/// The transport id of a new disk's directory: the one after the id that the words give, or else
+/// the first; `None` if the word is not a number, or fits no id.
 pub(crate) fn directory_of(matches: &ArgMatches<'_>) -> Option<TransportId>
     ensures some { IfSome result (GiveDirectory (rows_of (found_of matches.now))) }
     ensures none { IfNone result ((directory : ℕ)
@@ -74,7 +74,7 @@ pub(crate) fn directory_of(matches: &ArgMatches<'_>) -> Option<TransportId>
     TransportId::new(after % 65_535 + 1)
 }
 
-/// The numbers of the options that were given; `None` where one is no number.
+/// The numbers of the options that were given; `None` if a word is not a number.
 fn options_of(matches: &ArgMatches<'_>) -> Option<Options>
     ensures some { IfSome result (AreGiven (rows_of (found_of matches.now))) }
     ensures none { IfNone result ((options : Options)

@@ -21,7 +21,7 @@ pub enum Task<'a> {
         path: &'a str,
         /// The sizes of the disk.
         geometry: Geometry,
-        /// The transport id of the new directory, behind which all later ones are taken.
+        /// The transport id of the new directory, after which all later ones are taken.
         directory: TransportId,
     },
     /// Serve the disk of the file at this path.
@@ -32,7 +32,7 @@ pub enum Task<'a> {
     Migrate(&'a str),
 }
 
-/// The task of a command and the words behind it; `None` where a number does not fit its field.
+/// The task of a command and the words after it; `None` if a number does not fit its field.
 pub fn program_task<'a>(name: &str, words: &ArgMatches<'a>) -> Option<Task<'a>>
     ensures some { IfSome result (IsTask name.now (rows_of (found_of words.now))) }
     ensures none { IfNone result ((task : Task)

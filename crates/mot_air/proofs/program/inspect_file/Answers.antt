@@ -14,10 +14,10 @@ returns-in-Ok-clause-done g c = λ is.
     let ended = c.inspect_disk.result in
     let old = g.W.Write.contents c.args.writer.now in
     let new = g.W.Write.contents c.inspect_disk.new.writer in
-    subst (OnOpened (Inspects old new)) (sym c.done.ensures.disk)
+    subst (OnOpened (Inspects c.args.rate old new)) (sym c.done.ensures.disk)
     (done-is true ended.result c.done.result.result
     (on_ok_weaker ended.result (λ p. since_opened c.in-Ok.disk.disk ended.disk.disk
-    (Inspects old new)
+    (Inspects c.args.rate old new)
     opens.first ended.disk.begins c.inspect_disk.ensures.keeps p) c.inspect_disk.ensures.done)
     c.done.ensures.refused is)
 
@@ -28,9 +28,9 @@ returns-in-Ok-clause-refused g c =
     let old = g.W.Write.contents c.args.writer.now in
     let new = g.W.Write.contents c.inspect_disk.new.writer in
     subst (λ (d : _). IfErr c.done.result.result (λ r. ((r ≡ DeviceFault) × IsUntold d old new)
-    ⊎ OnOpened (StopsInspecting r old new) d)) (sym c.done.ensures.disk)
+    ⊎ OnOpened (StopsInspecting c.args.rate r old new) d)) (sym c.done.ensures.disk)
     (refused-is _ true ended.result c.done.result.result c.done.ensures.done c.done.ensures.refused
     (IfErr-one ended.result (λ r p. inr (since_opened c.in-Ok.disk.disk ended.disk.disk
-    (StopsInspecting r old new)
+    (StopsInspecting c.args.rate r old new)
     opens.first ended.disk.begins c.inspect_disk.ensures.keeps p))
     c.inspect_disk.ensures.refused))

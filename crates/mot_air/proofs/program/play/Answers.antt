@@ -1,8 +1,7 @@
-use Rattle.std.proofs.Common.{◌≡◌, ◌⊎◌, inl, inr, subst}
+use Rattle.std.proofs.Common.{◌≡◌, ◌⊎◌, inl, inr, subst, sym}
 use Rattle.std.specs.Prelude.{IfErr}
 use Rattle.mot_air.specs.Program.{IsUntold, PlaysTo, StopsPlayingTo}
 use Rattle.mot_air.specs.Program.{when_changed}
-use Rattle.mot_air.specs.declared.playing.Followed.{Followed}
 use Rattle.mot_air.proofs.Begun.{IfErr-one, refused_untouched}
 use Rattle.mot_air.proofs.Played.{same_changed}
 use Rattle.mot_air.proofs.program.play.Goals as goal
@@ -35,15 +34,15 @@ pub returns-clause-done : goal.returns-clause-done
 returns-clause-done g c = λ is.
     let task = c.args.task in
     subst (λ when. PlaysTo task.packets.now when task.turns c.play_file.result.disk)
-    (same_changed (λ (followed : Followed). followed.path) _ _ _ _
-    c.in-Ok-line_folder.ensures.given c.followed-folder.ensures) (c.play_file.ensures.done is)
+    (same_changed _ _ _ _
+    c.in-Ok-line_folder.ensures.given (sym c.followed-folder.ensures.given)) (c.play_file.ensures.done is)
 
 pub returns-clause-told : goal.returns-clause-told
 returns-clause-told g c = λ is.
     let task = c.args.task in
     subst (λ when. PlaysTo task.packets.now when task.turns c.play_file.result.disk)
-    (same_changed (λ (followed : Followed). followed.path) _ _ _ _
-    c.in-Ok-line_folder.ensures.given c.followed-folder.ensures) (c.play_file.ensures.told is)
+    (same_changed _ _ _ _
+    c.in-Ok-line_folder.ensures.given (sym c.followed-folder.ensures.given)) (c.play_file.ensures.told is)
 
 pub returns-clause-refused : goal.returns-clause-refused
 returns-clause-refused g c =
@@ -55,8 +54,8 @@ returns-clause-refused g c =
     ((IsUntyped task.types r ⊎ IsUnlined task.lines r ⊎ (r ≡ DeviceFault) ⊎ (r ≡ WriteFault))
     × IsUntold ended.disk old new)
     ⊎ StopsPlayingTo task.packets.now when task.turns r ended.disk))
-    (same_changed (λ (followed : Followed). followed.path) _ _ _ _
-    c.in-Ok-line_folder.ensures.given c.followed-folder.ensures)
+    (same_changed _ _ _ _
+    c.in-Ok-line_folder.ensures.given (sym c.followed-folder.ensures.given))
     (IfErr-one ended.result (λ r why. elim why [
       | inl early ↦ inl (inr (inr early.0), early.1)
       | inr stops ↦ inr stops

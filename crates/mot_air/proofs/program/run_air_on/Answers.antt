@@ -6,8 +6,8 @@ use Rattle.mot_air.specs.Program.{AskForNothing, IsRefused, IsUntouched, Succeed
 use Rattle.mot_air.specs.Program.{no_memory}
 use Rattle.mot_air.proofs.program.run_air_on.Goals as goal
 use Rattle.mot_words.proofs.Laws.{AreWrong-fault, AreWrong-none, AskBy-matched, AskForHelp-shown}
-use Rattle.mot_words.proofs.Laws.{air_simple}
-use Rattle.mot_words.specs.Air.Command.{air_app}
+use Rattle.mot_words.proofs.Laws.{motcar_simple}
+use Rattle.mot_words.specs.Command.{motcar_app}
 use Rattle.mot_words.specs.Air.Task.{IsAirTask}
 
 pub returns-clause-done : goal.returns-clause-done
@@ -17,8 +17,9 @@ returns-clause-done g c =
     let new = g.W.Write.contents c.explain.new.writer in
     subst (λ (e : _). e.status ≡ 0 → Succeeds words e.disk old new)
     (sym c.untouched-in-Err.ensures) (λ z. inr (
-      AskForHelp-shown air_app words c.in-Err.error c.in-Err.ensures.kinds
-          (c.explain.ensures.help z),
+      AskForHelp-shown motcar_app words c.in-Err.error c.in-Err.ensures.kinds
+          (c.explain.ensures.help z).0,
+      (c.explain.ensures.help z).1,
       tt,
     ))
 
@@ -31,8 +32,8 @@ returns-clause-refused g c =
     (sym c.untouched-in-Err.ensures) (λ z.
     elim (c.explain.ensures.refused z) [
       | inl why ↦ no_memory why.0 (record { untouched = tt; silent = why.1 })
-      | inr why ↦ no_help (AskForHelp-shown air_app words c.in-Err.error c.in-Err.ensures.kinds
-          why.1) why.0 tt
+      | inr why ↦ no_help (AskForHelp-shown motcar_app words c.in-Err.error c.in-Err.ensures.kinds
+          why.1) why.0 why.2 tt
     ])
 
 pub returns-clause-usage : goal.returns-clause-usage
@@ -42,7 +43,7 @@ returns-clause-usage g c =
     let new = g.W.Write.contents c.explain.new.writer in
     subst (λ (e : _). e.status ≡ 2 → AskForNothing words × IsUntouched e.disk × Keeps old new)
     (sym c.untouched-in-Err.ensures) (λ z. (
-      inl (AreWrong-fault air_app words c.in-Err.error c.in-Err.ensures.kinds
+      inl (AreWrong-fault motcar_app words c.in-Err.error c.in-Err.ensures.kinds
           (c.explain.ensures.usage z).0 (c.explain.ensures.usage z).1),
       tt,
       (c.explain.ensures.usage z).2,
@@ -54,7 +55,7 @@ returns-in-Ok-clause-usage g c =
     let old = g.W.Write.contents c.args.writer.now in
     subst (λ (e : _). e.status ≡ 2 → AskForNothing words × IsUntouched e.disk × Keeps old old)
     (sym c.untouched.ensures) (λ z. (
-      inl (AreWrong-none air_app words air_simple c.in-Ok.matches c.in-Ok.ensures.matches
+      inl (AreWrong-none motcar_app words motcar_simple c.in-Ok.matches c.in-Ok.ensures.matches
           c.in-None.ensures.rows),
       tt,
       Keeps-refl _,
@@ -66,20 +67,20 @@ returns-in-Some-clause-status g c = c.run_command.ensures.status
 pub returns-in-Some-clause-done : goal.returns-in-Some-clause-done
 returns-in-Some-clause-done g c =
     let words = map g.S.AsStr.text c.args.words.now in
-    c.run_command.ensures.done words (AskBy-matched air_app words IsAirTask air_simple
+    c.run_command.ensures.done words (AskBy-matched motcar_app words IsAirTask motcar_simple
     c.in-Ok.matches c.in-Some.name.now (rows_of (found_of c.in-Some.rest.now))
     c.in-Ok.ensures.matches c.in-Some.ensures.name c.in-Some.ensures.rows)
 
 pub returns-in-Some-clause-refused : goal.returns-in-Some-clause-refused
 returns-in-Some-clause-refused g c =
     let words = map g.S.AsStr.text c.args.words.now in
-    c.run_command.ensures.refused words (AskBy-matched air_app words IsAirTask air_simple
+    c.run_command.ensures.refused words (AskBy-matched motcar_app words IsAirTask motcar_simple
     c.in-Ok.matches c.in-Some.name.now (rows_of (found_of c.in-Some.rest.now))
     c.in-Ok.ensures.matches c.in-Some.ensures.name c.in-Some.ensures.rows)
 
 pub returns-in-Some-clause-usage : goal.returns-in-Some-clause-usage
 returns-in-Some-clause-usage g c =
     let words = map g.S.AsStr.text c.args.words.now in
-    c.run_command.ensures.usage words (AskBy-matched air_app words IsAirTask air_simple
+    c.run_command.ensures.usage words (AskBy-matched motcar_app words IsAirTask motcar_simple
     c.in-Ok.matches c.in-Some.name.now (rows_of (found_of c.in-Some.rest.now))
     c.in-Ok.ensures.matches c.in-Some.ensures.name c.in-Some.ensures.rows)

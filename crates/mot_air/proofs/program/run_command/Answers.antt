@@ -13,7 +13,7 @@ use Rattle.mot_air.specs.Program.{Succeeds, begun, no_task, unbegun}
 use Rattle.mot_air.specs.declared.used.AirDisk.{AirDisk}
 use Rattle.mot_air.proofs.program.run_command.Goals as goal
 use Rattle.mot_numbers.specs.declared.refusal.Refusal.{Refusal}
-use Rattle.mot_words.specs.Air.Command.{air_app}
+use Rattle.mot_words.specs.Command.{motcar_app}
 use Rattle.mot_words.specs.Air.Task.{IsAirTask}
 use Rattle.mot_words.specs.Asked.{AskFor}
 use Rattle.mot_words.specs.declared.air.task.AirTask.{AirTask}
@@ -36,7 +36,7 @@ done_told (Err r) z = absurd (omega arith)
 
 refused_told : {S : Type 0} {start : Ghosts S} (words : List Text) (task : AirTask)
     (used : AirDisk S start) (old new : Option (List ℕ)) (r : Result Bool Refusal)
-    → AskFor air_app IsAirTask words task
+    → AskFor motcar_app IsAirTask words task
     → (r ≡ Ok false → DoesInPart task None used old new)
     → IfErr r (λ x. (IsBeginningRefusal task x × IsUntold used old new)
     ⊎ DoesInPart task (Some x) used old new)

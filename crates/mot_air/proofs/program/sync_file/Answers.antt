@@ -1,35 +1,63 @@
-use Rattle.std.proofs.Common.{◌≡◌, ◌⊎◌, inr, subst, sym}
+use Rattle.std.proofs.Common.{◌≡◌, ◌∙◌, ◌⊎◌, ℕ, List, ap, inr, subst, sym}
 use Rattle.std.specs.Prelude.{IfErr, IfOk}
+use Rattle.disk_store.specs.Begun.{begun_state}
 use Rattle.mot_air.proofs.Begun.{IfErr-one, IfOk-one}
-use Rattle.mot_air.specs.Program.{IsUntold, OnOpened}
+use Rattle.mot_air.specs.Program.{IsUntold, OnSynced}
 use Rattle.mot_air.specs.Syncing.{StopsSyncing, Syncs}
 use Rattle.disk_store.proofs.Laws.{since_opened}
 use Rattle.mot_air.proofs.program.sync_file.Goals as goal
 use Rattle.mot_numbers.specs.declared.refusal.Refusal.TheVariants.{DeviceFault}
+use Rattle.mot_shelf.specs.Given.{Given}
+use Rattle.mot_shelf.specs.Seen.{given_of}
+use Rattle.mot_shelf.specs.declared.system.Seen.{Seen}
+use Rattle.mot_suffixes.specs.Types.{SuffixType}
+
+-- the types, the path and what was seen are those that are told
+told : (P : List SuffixType → List ℕ → Given → Type 0) (t u : List SuffixType) (p q : List ℕ)
+    (g h : Seen) → t ≡ u → p ≡ q → h ≡ g → P t p (given_of g) → P u q (given_of h)
+told P t u p q g h types path seen is =
+    subst (λ (x : List SuffixType). P x q (given_of h)) types
+    (subst (λ (x : List ℕ). P t x (given_of h)) path
+    (subst (λ (x : Seen). P t p (given_of x)) (sym seen) is))
 
 pub returns-in-Ok-clause-done : goal.returns-in-Ok-clause-done
 returns-in-Ok-clause-done g c =
     let opens = c.in-Ok.ensures in
     let ended = c.sync_disk-ended.result in
+    let folder = c.new-folder.result in
+    let seen = c.into_seen.result in
+    let types = c.args.types.now in
+    let path = c.args.folder.now in
     let old = g.W.Write.contents c.args.log.now in
     let new = g.W.Write.contents c.sync_disk-ended.new.log in
-    subst (λ (f : _). IfOk f.result (λ all. OnOpened (Syncs all c.args.folder.now old new) f.disk))
-    (sym c.of_file.ensures)
+    subst (λ (f : _). IfOk f.result (λ all.
+    OnSynced (λ given. Syncs all types path given old new) f.disk)) (sym c.synced.ensures)
     (IfOk-one ended.result (λ all p. since_opened c.in-Ok.disk.disk ended.disk.disk
-    (Syncs all c.args.folder.now old new)
-    opens.first ended.disk.begins c.sync_disk-ended.ensures.keeps p)
-    c.sync_disk-ended.ensures.done)
+    (Syncs all types path (given_of seen) old new)
+    opens.first ended.disk.begins c.sync_disk-ended.ensures.keeps
+    (told (λ ts pa gi. Syncs all ts pa gi old new (begun_state c.in-Ok.disk)
+    (begun_state ended.disk)) folder.types.now types folder.shelf.path.now path
+    c.sync_disk-ended.new.folder.shelf.seen seen c.new-folder.ensures.types
+    (ap (λ (s : _). s.path.now) c.new-folder.ensures.shelf ∙ c.new.ensures.path)
+    c.into_seen.ensures p)) c.sync_disk-ended.ensures.done)
 
 pub returns-in-Ok-clause-refused : goal.returns-in-Ok-clause-refused
 returns-in-Ok-clause-refused g c =
     let opens = c.in-Ok.ensures in
     let ended = c.sync_disk-ended.result in
+    let folder = c.new-folder.result in
+    let seen = c.into_seen.result in
+    let types = c.args.types.now in
+    let path = c.args.folder.now in
     let old = g.W.Write.contents c.args.log.now in
     let new = g.W.Write.contents c.sync_disk-ended.new.log in
-    let folder = c.args.folder.now in
     subst (λ (f : _). IfErr f.result (λ r. ((r ≡ DeviceFault) × IsUntold f.disk old new)
-    ⊎ OnOpened (StopsSyncing r folder) f.disk)) (sym c.of_file.ensures)
+    ⊎ OnSynced (StopsSyncing r types path) f.disk)) (sym c.synced.ensures)
     (IfErr-one ended.result (λ r p. inr (since_opened c.in-Ok.disk.disk ended.disk.disk
-    (StopsSyncing r folder)
-    opens.first ended.disk.begins c.sync_disk-ended.ensures.keeps p))
-    c.sync_disk-ended.ensures.refused)
+    (StopsSyncing r types path (given_of seen))
+    opens.first ended.disk.begins c.sync_disk-ended.ensures.keeps
+    (told (λ ts pa gi. StopsSyncing r ts pa gi (begun_state c.in-Ok.disk)
+    (begun_state ended.disk)) folder.types.now types folder.shelf.path.now path
+    c.sync_disk-ended.new.folder.shelf.seen seen c.new-folder.ensures.types
+    (ap (λ (s : _). s.path.now) c.new-folder.ensures.shelf ∙ c.new.ensures.path)
+    c.into_seen.ensures p))) c.sync_disk-ended.ensures.refused)

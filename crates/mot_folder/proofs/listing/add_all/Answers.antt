@@ -1,21 +1,30 @@
-use Rattle.std.proofs.Common.{[]}
+use Rattle.std.proofs.Common.{◌∙◌, ◌++◌, ◌∷◌, [], ap, append_assoc, sym}
+use Rattle.mot_folder.specs.Listed.{names_in}
 use Rattle.mot_folder.specs.Log.{TellsAnswers}
-use Rattle.mot_folder.proofs.Log.{tells_same}
+use Rattle.mot_folder.proofs.Seen.{asked_on, goes_on}
 use Rattle.mot_folder.proofs.listing.add_all.Goals as goal
 use Rattle.mot_update.proofs.Laws.{tells_on}
 
-pub loop-end-init : goal.loop-end-init
-loop-end-init g c = record { told = tells_same c.args.report.now; shown = λ shown. shown }
-
-pub returns-in_err-add_one-clause-told : goal.returns-in_err-add_one-clause-told
-returns-in_err-add_one-clause-told g c =
-    tells_on (TellsAnswers c.args.report.now) (TellsAnswers c.loop-end.report)
-    (TellsAnswers c.add_one.new.report) [] c.loop-end.invariant.told c.in_err-add_one.ensures.told
-
-pub loop-end-preserved : goal.loop-end-preserved
-loop-end-preserved g c = record {
-  told = tells_on (TellsAnswers c.args.report.now) (TellsAnswers c.loop-end.report)
-      (TellsAnswers c.add_one.new.report) [] c.loop-end.invariant.told
-      c.in_ok-add_one.ensures.told;
-  shown = λ shown. c.in_ok-add_one.ensures.shown (c.loop-end.invariant.shown shown);
-}
+pub loop-name-preserved : goal.loop-name-preserved
+loop-name-preserved g c =
+    let was = c.loop-name.invariant in
+    let one = c.in_ok-add_one.ensures in
+    let name = c.in-Some.name.now in
+    let done = was.goes.0 in
+    let first = g.S.Shelf.gave c.args.shelf.now in
+    let old = g.S.Shelf.gave c.loop-name.shelf in
+    let new = g.S.Shelf.gave c.add_one.new.shelf in
+    record {
+      same = one.same ∙ was.same;
+      told = tells_on (TellsAnswers c.args.report.now) (TellsAnswers c.loop-name.report)
+          (TellsAnswers c.add_one.new.report) [] was.told one.told;
+      asked = asked_on first old new was.asked one.asked;
+      goes = (
+        done ++ name ∷ [],
+        was.goes.1 ∙ ap (λ l. done ++ l) c.in-Some.ensures.first
+            ∙ sym (append_assoc done (name ∷ []) (names_in c.in-Some.others.now)),
+        goes_on c.args.types.now done (name ∷ []) first old new c.args.names.now.names.items
+            c.loop-name.names.names.items c.add_one.new.names.names.items was.goes.2 one.goes,
+      );
+      shown = λ shown. one.shown (was.shown shown);
+    }

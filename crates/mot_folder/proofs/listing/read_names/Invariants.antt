@@ -1,4 +1,5 @@
-use Rattle.std.proofs.Common.{[]}
+use Rattle.std.proofs.Common.{◌≡◌, []}
+use Rattle.mot_folder.specs.Inner.Listing.{GivesSome, IsUnread}
 use Rattle.mot_folder.specs.Log.{TellsAnswers}
 use Rattle.mot_suffixes.specs.Types.{AreShown}
 use Rattle.mot_update.specs.Told.{TellsMore}
@@ -6,6 +7,10 @@ use Rattle.mot_folder.proofs.listing.read_names.Given as goal
 
 abbrev pub invariant-loop : goal.invariant-loop
 invariant-loop g l = record {
+  same : g.S.Shelf.path l.shelf ≡ g.S.Shelf.path l.initial.shelf;
   told : TellsMore (TellsAnswers l.initial.report) (TellsAnswers l.report) [];
+  unread : IsUnread (g.S.Shelf.gave l.initial.shelf) (g.S.Shelf.gave l.shelf);
+  gave : GivesSome l.types (g.S.Shelf.gave l.initial.shelf) (g.S.Shelf.gave l.shelf)
+      l.initial.names.names.items l.names.names.items;
   shown : AreShown l.initial.names.names.items → AreShown l.names.names.items;
 }

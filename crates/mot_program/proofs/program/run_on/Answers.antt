@@ -7,15 +7,16 @@ use Rattle.mot_program.specs.Program.{IsUntouched}
 use Rattle.mot_program.specs.Program.IsRefused.{no_help, no_memory}
 use Rattle.mot_program.proofs.program.run_on.Goals as goal
 use Rattle.mot_words.proofs.Laws.{AreWrong-fault, AreWrong-none, AskBy-matched, AskForHelp-shown}
-use Rattle.mot_words.proofs.Laws.{program_simple}
+use Rattle.mot_words.proofs.Laws.{motcar_simple}
 use Rattle.mot_words.specs.Asked.{AreWrong}
-use Rattle.mot_words.specs.Program.Command.{program_app}
+use Rattle.mot_words.specs.Command.{motcar_app}
 use Rattle.mot_words.specs.Program.Task.{IsTask}
 
 pub returns-in-Err-clause-done : goal.returns-in-Err-clause-done
 returns-in-Err-clause-done g c = λ z. inr (
-  AskForHelp-shown program_app (map g.S.AsStr.text c.args.words.now) c.in-Err.error
-      c.in-Err.ensures.kinds (c.explain.ensures.help z),
+  AskForHelp-shown motcar_app (map g.S.AsStr.text c.args.words.now) c.in-Err.error
+      c.in-Err.ensures.kinds (c.explain.ensures.help z).0,
+  (c.explain.ensures.help z).1,
   subst (λ (d : _). IsUntouched d) (sym c.explain.ensures.untouched) tt,
   Keeps-refl _,
 )
@@ -32,14 +33,14 @@ returns-in-Err-clause-refused g c = λ z.
       | inr why ↦ (
         WriteFault,
         why.0,
-        no_help (AskForHelp-shown program_app (map g.S.AsStr.text c.args.words.now) c.in-Err.error
-            c.in-Err.ensures.kinds why.1) refl untouched (Keeps-refl _),
+        no_help (AskForHelp-shown motcar_app (map g.S.AsStr.text c.args.words.now) c.in-Err.error
+            c.in-Err.ensures.kinds why.1) refl why.2 untouched (Keeps-refl _),
       )
     ]
 
 pub returns-in-Err-clause-usage : goal.returns-in-Err-clause-usage
 returns-in-Err-clause-usage g c = λ z. (
-  AreWrong-fault program_app (map g.S.AsStr.text c.args.words.now) c.in-Err.error
+  AreWrong-fault motcar_app (map g.S.AsStr.text c.args.words.now) c.in-Err.error
       c.in-Err.ensures.kinds (c.explain.ensures.usage z).0 (c.explain.ensures.usage z).1,
   subst (λ (d : _). IsUntouched d) (sym c.explain.ensures.untouched) tt,
   Keeps-refl _,
@@ -51,9 +52,9 @@ returns-in_default-clause-usage g c =
     let words = map g.S.AsStr.text c.args.words.now in
     let remains = g.R.Read.remaining c.args.reader.now in
     let old = g.W.Write.contents c.args.writer.now in
-    subst (λ (e : _). e.status ≡ 2 → AreWrong program_app words × IsUntouched e.disk
+    subst (λ (e : _). e.status ≡ 2 → AreWrong motcar_app words × IsUntouched e.disk
     × Keeps remains remains × Keeps old old) (sym c.unrefused.ensures) (λ z. (
-      AreWrong-none program_app words program_simple c.in-Ok.matches c.in-Ok.ensures.matches
+      AreWrong-none motcar_app words motcar_simple c.in-Ok.matches c.in-Ok.ensures.matches
           c.in_default.ensures.rows,
       tt,
       Keeps-refl _,
@@ -69,14 +70,14 @@ returns-clause-status g c = elim c.run_command.ensures.status [
 pub returns-clause-done : goal.returns-clause-done
 returns-clause-done g c =
     let words = map g.S.AsStr.text c.args.words.now in
-    c.run_command.ensures.done words (AskBy-matched program_app words IsTask program_simple
+    c.run_command.ensures.done words (AskBy-matched motcar_app words IsTask motcar_simple
     c.in-Ok.matches c.in-Some.name.now (rows_of (found_of c.in-Some.rest.now))
     c.in-Ok.ensures.matches c.in-Some.ensures.name c.in-Some.ensures.rows)
 
 pub returns-clause-refused : goal.returns-clause-refused
 returns-clause-refused g c =
     let words = map g.S.AsStr.text c.args.words.now in
-    c.run_command.ensures.refused words (AskBy-matched program_app words IsTask program_simple
+    c.run_command.ensures.refused words (AskBy-matched motcar_app words IsTask motcar_simple
     c.in-Ok.matches c.in-Some.name.now (rows_of (found_of c.in-Some.rest.now))
     c.in-Ok.ensures.matches c.in-Some.ensures.name c.in-Some.ensures.rows)
 
@@ -89,6 +90,6 @@ returns-clause-usage g c = λ two. elim c.run_command.ensures.status [
 pub returns-clause-files : goal.returns-clause-files
 returns-clause-files g c =
     let words = map g.S.AsStr.text c.args.words.now in
-    c.run_command.ensures.files words (AskBy-matched program_app words IsTask program_simple
+    c.run_command.ensures.files words (AskBy-matched motcar_app words IsTask motcar_simple
     c.in-Ok.matches c.in-Some.name.now (rows_of (found_of c.in-Some.rest.now))
     c.in-Ok.ensures.matches c.in-Some.ensures.name c.in-Some.ensures.rows)

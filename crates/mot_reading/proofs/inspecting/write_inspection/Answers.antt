@@ -6,9 +6,12 @@ use Rattle.std.specs.List.{sum_by}
 use Rattle.std.specs.Io.KnownBytes.{Appends}
 use Rattle.std.proofs.lemmas.Result.{on_ok_weaker}
 use Rattle.mot_journal.specs.Image.{Standing}
+use Rattle.mot_objects.specs.Stands.{carousel_of}
 use Rattle.mot_objects.specs.declared.object.Object.{Object}
+use Rattle.mot_player.specs.Turn.{turn_of_carousel}
 use Rattle.mot_reading.proofs.Inspected.{told_text}
-use Rattle.mot_reading.specs.Inspecting.{inspection_text, rates_text, sizes_text, turn_text}
+use Rattle.mot_reading.specs.Inspecting.{inspection_text, rates_of, sizes_text, turn_lengths_text}
+use Rattle.mot_reading.specs.Inspecting.{turn_text}
 use Rattle.mot_reading.specs.Inspecting.{use_text}
 use Rattle.mot_reading.specs.Inner.Inspected.{HasInspected}
 use Rattle.mot_repository.specs.Gap.{IsLongestGap}
@@ -30,23 +33,26 @@ inspected : (g : given.Over) (c : After-drop-text-2 g) (is_printed : List ℕ �
     → is_printed c.deref.result.now → (s : Standing)
     → Holds c.args.server.now.view s (g.D.Disk.state c.args.server.now.disk)
     → (g.D.Disk.state c.count_turn.new.server.disk).IsHonest
-    → HasInspected c.args.server.now.view.journal (place_in c.args.server.now s) s is_printed
+    → HasInspected c.args.rate c.args.server.now.view.journal (place_in c.args.server.now s) s
+    is_printed
 inspected g c is_printed printed s holds honest =
     let view = c.args.server.now.view in
     let now = c.count_turn.new.server.view in
     let same = c.in_ok-packets.ensures.view in
     let size = c.in_ok-packets.ensures.counted s holds honest in
-    let told = c.in-Ok.ensures in
-    let gap = told.0 in
     let packets = c.in_ok-packets.field-0.packets in
     let bytes = c.in_ok-packets.field-0.bytes in
     let agrees : Agrees now s =
     subst (λ (v : RepositoryView). Agrees v s) (sym same) holds.agrees in
+    let told = c.in-Ok.ensures agrees.bodies agrees.are_bodies in
+    let gap = told.0 in
     let objects = now.carousel.objects.items in
     let whole = sizes_text now.journal.geometry
     ++ use_text now.journal.geometry now.journal.layout (length objects)
     (sum_by (λ (o : Object). o.length) objects) gap now.journal.count
-    ++ turn_text packets bytes ++ rates_text bytes in
+    ++ turn_text packets bytes
+    ++ turn_lengths_text (rates_of c.args.rate) now.journal.geometry.segment_size
+    (turn_of_carousel (carousel_of now.carousel agrees.bodies) now.journal.geometry.segment_size) in
     let text : c.deref.result.now ≡ whole =
     c.deref.ensures.value ∙ told.2 ∙ ap (λ l. l ++ whole) c.new-text.ensures.items in
     record {
@@ -57,9 +63,9 @@ inspected g c is_printed printed s holds honest =
       last = size.last;
       turn = size.turn;
       printed = subst (λ (v : RepositoryView). is_printed
-          (inspection_text s v.journal.layout v.journal.count gap size.packets)) same
+          (inspection_text s v.journal.layout v.journal.count gap size.packets (rates_of c.args.rate))) same
           (subst is_printed (text ∙ told_text now s agrees now.journal.geometry gap packets bytes
-          size.packets refl size.count_is size.bytes_are) printed);
+          size.packets (rates_of c.args.rate) refl size.count_is size.bytes_are) printed);
     }
 
 pub returns-clause-told : goal.returns-clause-told

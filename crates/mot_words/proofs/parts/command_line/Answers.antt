@@ -1,6 +1,6 @@
 use Rattle.std.proofs.Common.{◌≡◌, ◌∙◌, ◌||◌, [], ap, ap₂, get_or}
 use Rattle.clap.specs.Words.{app_of, with_subcommand}
-use Rattle.mot_words.specs.Inner.Made.{motcar_app, verb_app, with_verb}
+use Rattle.mot_words.specs.Inner.Made.{empty_app, verb_app, with_verb}
 use Rattle.mot_words.specs.declared.parts.Verb.{Verb}
 use Rattle.mot_words.proofs.InTurn.{one_more}
 use Rattle.mot_words.proofs.parts.command_line.Goals as goal
@@ -19,7 +19,7 @@ loop-verb-preserved c =
     let below = c.in_ok-below.ensures in
     let is : app_of c.in_ok-below.below ≡ verb_app verb = below.0 in
     let added = c.in_ok-command-2.ensures in record {
-      made = one_more with_verb motcar_app c.args.verbs.now at.verb-index default
+      made = one_more with_verb empty_app c.args.verbs.now at.verb-index default
           c.loop-verb-test.true _ _ at.invariant.made
           (added.shape below.1 ∙ ap (λ app. with_subcommand (app_of at.command) app.top) is);
       local = added.globals ∙ ap₂ ◌||◌ at.invariant.local below.1;

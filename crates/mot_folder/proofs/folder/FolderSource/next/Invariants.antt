@@ -1,16 +1,20 @@
-use Rattle.std.proofs.Common.{◌≡◌, ◌-◌, ◌≤◌, [], length, take, false}
-use Rattle.mot_folder.specs.Log.{TellsOf}
+use Rattle.std.proofs.Common.{◌≡◌, ◌-◌, ◌≤◌, [], length, false}
+use Rattle.mot_folder.specs.Inner.Reading.{TellsLook}
 use Rattle.mot_update.specs.Told.{TellsBoth}
 use Rattle.mot_folder.proofs.folder.FolderSource.next.Given as goal
 
 abbrev pub invariant-loop-self : goal.invariant-loop-self
 invariant-loop-self g l = record {
+  types : l.self.types.now ≡ l.initial.self.types.now;
+  path : g.S.Shelf.path l.self.shelf ≡ g.S.Shelf.path l.initial.self.shelf;
   names : l.self.names.names.items ≡ l.initial.self.names.names.items;
   goes : l.initial.self.place ≤ l.self.place;
   told : TellsBoth
-      (TellsOf l.initial.self.report
-      (take l.initial.self.place l.initial.self.names.names.items))
-      (TellsOf l.self.report (take l.self.place l.self.names.names.items)) [] [];
+      (TellsLook l.initial.self.types.now (g.S.Shelf.path l.initial.self.shelf)
+      (g.S.Shelf.gave l.initial.self.shelf) l.initial.self.names.names.items
+      l.initial.self.place l.initial.self.report)
+      (TellsLook l.self.types.now (g.S.Shelf.path l.self.shelf)
+      (g.S.Shelf.gave l.self.shelf) l.self.names.names.items l.self.place l.self.report) [] [];
   fine : l.self.report.any_refused ≡ false
       → (l.initial.self.report.any_refused ≡ false) × (l.self.place ≡ l.initial.self.place);
 }

@@ -1,0 +1,31 @@
+use Rattle.std.proofs.Common.{◌∙◌, refl, subst, sym}
+use Rattle.mot_objects.specs.Name.{IsName}
+use Rattle.mot_folder.proofs.Log.{tells_same, tells_unread}
+use Rattle.mot_folder.proofs.Seen.{object_added, object_left_out}
+use Rattle.mot_folder.proofs.listing.add_file.Goals as goal
+
+pub returns-in_ok-add-in-Ok-clause-added : goal.returns-in_ok-add-in-Ok-clause-added
+returns-in_ok-add-in-Ok-clause-added c =
+    object_added c.args.names.now.names.items c.add.new.self.names.items c.args.name.now
+    c.in-Ok.name (c.in-Ok.ensures.value ∙ c.in_ok-from_slice.ensures.items)
+    (subst IsName c.in_ok-from_slice.ensures.items (c.in-Ok.ensures.valid.0 refl))
+    c.in_ok-add-in-Ok.ensures.added
+
+pub returns-in-Err-clause-added : goal.returns-in-Err-clause-added
+returns-in-Err-clause-added c =
+    object_left_out c.args.names.now.names.items c.args.name.now
+    (λ named. absurd (cc (c.in-Err.ensures.valid.1
+    (subst IsName (sym c.in_ok-from_slice.ensures.items) named))))
+
+pub returns-in-Err-clause-told : goal.returns-in-Err-clause-told
+returns-in-Err-clause-told c =
+    tells_unread c.args.report.now c.refused.new.self c.args.name.now _ c.refused.ensures.told
+
+pub returns-in_err-from_slice-clause-told : goal.returns-in_err-from_slice-clause-told
+returns-in_err-from_slice-clause-told c = tells_same c.args.report.now
+
+pub returns-in_err-add-in-Ok-clause-told : goal.returns-in_err-add-in-Ok-clause-told
+returns-in_err-add-in-Ok-clause-told c = tells_same c.args.report.now
+
+pub returns-in_ok-add-in-Ok-clause-told : goal.returns-in_ok-add-in-Ok-clause-told
+returns-in_ok-add-in-Ok-clause-told c = tells_same c.args.report.now

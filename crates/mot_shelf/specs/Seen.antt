@@ -1,0 +1,12 @@
+-- What the folder of a path on the system gave.
+use Rattle.mot_shelf.specs.Given.{Given}
+use Rattle.mot_shelf.specs.declared.system.Seen.{Seen}
+
+abbrev pub given_of : Seen → Given
+given_of seen = record {
+  listed = seen.listed.all;
+  files = seen.files.all;
+  others = seen.others.all;
+  read = seen.read.all;
+  missed = seen.missed.all;
+}

@@ -1,0 +1,10 @@
+//! A folder of files as a program sees it: clauses can say what was listed and read of it.
+#![tactic(auto)]
+
+mod pairs;
+mod shelf;
+mod system;
+
+pub use pairs::Pairs;
+pub use shelf::Shelf;
+pub use system::{Seen, SystemShelf, open_folder};

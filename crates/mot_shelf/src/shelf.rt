@@ -1,0 +1,58 @@
+//! What a program has to come to the files of one folder by.
+ghost use Rattle.std.specs.Prelude.{◌≡◌, ◌≤◌, ℕ, List, IfOk, MatchResult, length, take};
+ghost use Rattle.mot_shelf.specs.Given.{Given, and_asked, and_listed, and_missed, and_read};
+ghost use Rattle.mot_shelf.specs.Given.{nothing};
+
+use std::alloc::Global;
+use std::io;
+
+/// One folder. Nothing else is listed or read through it, and what it gave since a look began is
+/// noted for clauses.
+pub trait Shelf {
+    // Its path.
+    ghost path: { Self → List ℕ };
+
+    // What it gave since the look began.
+    ghost gave: { Self → Given };
+
+    /// Its path, to be shown.
+    fn shown(&self) -> &str
+        ensures { result.now ≡ path self.now };
+
+    /// A look begins.
+    fn begin(&mut self)
+        ensures same { path self.new ≡ path self.old }
+        ensures gave { gave self.new ≡ nothing };
+
+    /// Opens it, or the folder that it is a link to, so that its names are listed from the first
+    /// on.
+    fn open(&mut self, alloc: Global) -> io::Result<()>
+        ensures same { path self.new ≡ path self.old }
+        ensures gave { MatchResult result
+            (λ _. gave self.new ≡ and_listed (gave self.old) (path self.old))
+            (λ _. gave self.new ≡ gave self.old) };
+
+    /// The next of its names, each ended by a zero byte, and how many bytes they are: 0 where there
+    /// are no further ones.
+    fn names(&mut self, room: &mut [u8]) -> io::Result<usize>
+        ensures same { path self.new ≡ path self.old }
+        ensures fits { IfOk result (λ count. count ≤ length room.new) }
+        ensures gave { MatchResult result
+            (λ count. gave self.new ≡ and_listed (gave self.old) (take count room.new))
+            (λ _. gave self.new ≡ gave self.old) };
+
+    /// Whether there is a regular file of this name in it. A link is none.
+    fn is_file(&mut self, alloc: Global, name: &[u8]) -> io::Result<bool>
+        ensures same { path self.new ≡ path self.old }
+        ensures gave { MatchResult result
+            (λ is_file. gave self.new ≡ and_asked (gave self.old) name.now is_file)
+            (λ _. gave self.new ≡ gave self.old) };
+
+    /// The bytes of the regular file of this name, and of more than `most` so many first ones. An
+    /// error where it was exchanged or changed meanwhile.
+    fn read(&mut self, alloc: Global, name: &[u8], most: u64) -> io::Result<Vec<u8>>
+        ensures same { path self.new ≡ path self.old }
+        ensures gave { MatchResult result
+            (λ bytes. gave self.new ≡ and_read (gave self.old) name.now bytes.items)
+            (λ _. gave self.new ≡ and_missed (gave self.old) name.now) };
+}
