@@ -1,14 +1,14 @@
 -- Playing goes on from what was done in the lives before.
-use Rattle.std.proofs.Common.{◌≡◌, ◌∙◌, ℕ, ◌≤◌, Bool, true, false, List, [], ◌∷◌, ◌++◌, ap}
+use Rattle.std.proofs.Common.{◌≡◌, ◌∙◌, ℕ, ◌≤◌, Bool, true, false, List, [], ◌∷◌, ◌++◌}
 use Rattle.std.proofs.Common.{append_assoc}
 use Rattle.std.proofs.Common.{append-nil, arith, drop, length, refl, subst, sym, take}
-use Rattle.std.proofs.Common.{◌⊎◌, Option, Some, None, Result, Ok, Err, inl, inr}
+use Rattle.std.proofs.Common.{◌⊎◌, Option, None, inl, inr}
 use Rattle.std.specs.Prelude.{IsFalse, if◌then◌else◌}
 use Rattle.std.specs.Option.{option_map_or}
-use Rattle.disk_model.specs.Disk.{IsHonestDisk, OnlySyncs, State, Throughout}
+use Rattle.disk_model.specs.Disk.{IsHonestDisk, OnlySyncs, State}
 use Rattle.disk_model.proofs.Laws.{weakens}
 use Rattle.mot_air.specs.Lives.{KeepsDone, PlaysOn, StopsOn}
-use Rattle.mot_air.specs.Playing.{Plays, StopsPlaying, WritesPart, stopped, unopened}
+use Rattle.mot_air.specs.Playing.{Manner, Plays, StopsPlaying, WritesPart, stopped, unopened}
 use Rattle.mot_feed.specs.Feeding.{commands_among}
 use Rattle.mot_journal.specs.Image.{Standing}
 use Rattle.mot_journal.specs.Journal.{standing_from}
@@ -23,7 +23,6 @@ use Rattle.mot_server.specs.Lives.{HasDone}
 use Rattle.mot_server.specs.Server.{ServerView}
 use Rattle.mot_server.specs.Runs.{IsAfter, StandsAfterSome, accepted_commands, commands_in_flight}
 use Rattle.mot_server.proofs.Laws.{after_both, none_of}
-use Rattle.mot_update.specs.Between.{When}
 
 -- more that was done before
 behind : (s mid : Standing) (done sure others : List Command) (image : List ℕ)
@@ -64,12 +63,12 @@ few_of true commands = take_one commands
 few_of false commands = omega arith
 
 -- playing goes on from what was done
-pub plays_on : (g : Geometry) (first : ℕ) (done : List Command) (when : When) (turns : ℕ)
+pub plays_on : (g : Geometry) (first : ℕ) (done : List Command) (how : Manner) (turns : ℕ)
     (before after : Option (List (List ℕ))) (start now : State)
     (was : KeepsDone g first done start)
-    → now.IsHonest → Plays when turns before after start now
-    → PlaysOn g first done when turns before after start now
-plays_on g first done when turns before after start now was honest plays =
+    → now.IsHonest → Plays how turns before after start now
+    → PlaysOn g first done how turns before after start now
+plays_on g first done how turns before after start now was honest plays =
     let s = was.standing in
     let writes = plays.writes s honest was.each in
     let aired = writes.played in
@@ -95,12 +94,12 @@ plays_on g first done when turns before after start now was honest plays =
     }
 
 -- and so does what it had come to where a refusal ended it
-pub stops_on : (g : Geometry) (first : ℕ) (done : List Command) (refusal : Refusal) (when : When)
+pub stops_on : (g : Geometry) (first : ℕ) (done : List Command) (refusal : Refusal) (how : Manner)
     (before after : Option (List (List ℕ))) (start now : State)
     (was : KeepsDone g first done start)
-    → WritesPart refusal when before after start now was.standing
-    → StopsOn g first done refusal when before after start now
-stops_on g first done refusal when before after start now was part =
+    → WritesPart refusal how before after start now was.standing
+    → StopsOn g first done refusal how before after start now
+stops_on g first done refusal how before after start now was part =
     let s = was.standing in
     let aired = part.played in
     let accepted = accepted_commands aired.commands aired.marks in
@@ -134,14 +133,14 @@ stops_on g first done refusal when before after start now was part =
 
 -- an end before the last turn, told of the lives
 pub lives_stopped : (g : Geometry) (first : ℕ) (done : List Command) (refusal : Refusal)
-    (when : When) (before after : Option (List (List ℕ))) (start now : State)
+    (how : Manner) (before after : Option (List (List ℕ))) (start now : State)
     → KeepsDone g first done start
-    → now.IsHonest → StopsPlaying refusal when before after start now
-    → IsUnopened refusal start now ⊎ StopsOn g first done refusal when before after start now
-lives_stopped g first done refusal when before after start now was honest (unopened why none) =
+    → now.IsHonest → StopsPlaying refusal how before after start now
+    → IsUnopened refusal start now ⊎ StopsOn g first done refusal how before after start now
+lives_stopped g first done refusal how before after start now was honest (unopened why none) =
     inl why
-lives_stopped g first done refusal when before after start now was honest (stopped keeps why part) =
-    inr (stops_on g first done refusal when before after start now was
+lives_stopped g first done refusal how before after start now was honest (stopped keeps why part) =
+    inr (stops_on g first done refusal how before after start now was
     (part was.standing honest was.each))
 
 -- what a server has done its disk keeps

@@ -1,16 +1,17 @@
 -- Playing a disk, from its opening on.
-use Rattle.std.proofs.Common.{◌≡◌, ◌∙◌, ◌<◌, ap, arith, ℕ, Bool, true, List, Option, Some, None}
+use Rattle.std.proofs.Common.{◌≡◌, ◌∙◌, ◌<◌, arith, ℕ, Bool, true, List, Option, Some, None}
 use Rattle.std.proofs.Common.{Result, Ok, Err, inr, refl, subst}
 use Rattle.std.specs.Prelude.{IsFalse, OnOk, IfErr, is_none}
 use Rattle.std.proofs.lemmas.Bool.Decides.{nat_tests}
 use Rattle.disk_model.proofs.Laws.{keeps_on}
 use Rattle.disk_model.specs.Disk.{State, IsHonestDisk, KeepsLength, OnlySyncs}
-use Rattle.mot_air.specs.Playing.{HasAired, Plays, PlaysBy, StopsBy, StopsPlaying, WritesPart}
-use Rattle.mot_air.specs.Playing.{stopped, when_followed}
+use Rattle.mot_air.specs.Playing.{HasAired, Manner, Plays, PlaysBy, StopsBy, StopsPlaying}
+use Rattle.mot_air.specs.Playing.{WritesPart, look_of_feed, stopped, when_followed}
 use Rattle.mot_air.specs.Program.{when_changed}
 use Rattle.mot_air.proofs.Opened.{breaks_off, opened_leaves}
 use Rattle.mot_feed.specs.Feeding.{AreOf, AreTimely, CallsPart, Event, FedPacketsAreContinuous}
 use Rattle.mot_feed.specs.Feeding.{Feeds, FeedsPart, Happen, HasFed, IsFeedFault}
+use Rattle.mot_feed.specs.Often.{place_for, server_for}
 use Rattle.mot_journal.specs.Image.{Standing}
 use Rattle.mot_numbers.specs.Geometry.{packet_room}
 use Rattle.mot_numbers.specs.declared.geometry.Geometry.{Geometry}
@@ -23,7 +24,6 @@ use Rattle.mot_reading.specs.Opening.{OfStanding, first_place}
 use Rattle.mot_repository.specs.Opening.{IsOpened}
 use Rattle.mot_repository.specs.Repository.{Agrees, Holds}
 use Rattle.mot_server.specs.Server.{ServerView, place_in}
-use Rattle.mot_update.specs.Between.{When}
 use Rattle.mot_update.specs.Faults.{StaysCalm}
 
 some_room : (g : Geometry) → is_valid g ≡ true → 0 < packet_room g
@@ -56,18 +56,19 @@ module _ {D : Type 0} (state : D → State) (disk : D) (server new : ServerView 
       subst (λ (g : Geometry). 0 < packet_room g) agrees.geometry
       (some_room server.view.journal.geometry valid)
 
-  has_played : (s : Standing) (when : When) (fault : Option Refusal) (events : List Event)
+  has_played : (s : Standing) (how : Manner) (fault : Option Refusal) (events : List Event)
       (packets : List (List ℕ)) → (state new.disk).IsHonest → AllAre s (state disk)
-      → (fed : HasFed server new (state server.disk) (state new.disk) s fault events)
-      → AreOf events packets → AreTimely when fed.commands events
-      → HasAired s when fault events packets (state disk) (state new.disk)
-  has_played s when fault events packets honest all fed are timely =
+      → (fed : HasFed (server_for how.directory server) new (state server.disk) (state new.disk) s fault
+      events)
+      → AreOf events packets → AreTimely (look_of_feed how) how.when fed.commands events
+      → HasAired s how fault events packets (state disk) (state new.disk)
+  has_played s how fault events packets honest all fed are timely =
       let was = keeps.was_honest honest in
       let holds = holds_opened s honest all in
       let last : Standing = fed.leaves.last in
       let happened = subst (λ (p : Place). Happen s.geometry.objects s.geometry.segment_size
-      s.carousel p events last.carousel (place_in new last)) (at_start s holds.agrees)
-      fed.happened in
+      s.carousel (place_for how.directory p) events last.carousel (place_in new last))
+      (at_start s holds.agrees) fed.happened in
       record {
         last = last;
         place = place_in new last;
@@ -83,26 +84,27 @@ module _ {D : Type 0} (state : D → State) (disk : D) (server new : ServerView 
         are = are;
         continuous = continuous s.geometry.objects s.geometry.segment_size s.carousel last.carousel
             s.geometry.address (packet_room s.geometry)
-            (turn_of_carousel s.carousel s.geometry.segment_size) events (place_in new last) packets
+            (turn_of_carousel s.carousel s.geometry.segment_size)
+            (place_for how.directory (first_place s)).follows events (place_in new last) packets
             (room s holds.agrees) happened are;
         timely = timely;
       }
 
   -- what is fed of an open server plays the disk, from its opening on, with these calls
-  pub plays_by : (when : When) (turns : ℕ) (before after : Option (List (List ℕ)))
+  pub plays_by : (how : Manner) (turns : ℕ) (before after : Option (List (List ℕ)))
       (earlier later : Option (List Bool)) (result : Result Unit Refusal)
       → ((s : Standing) → Holds server.view s (state server.disk) → (state new.disk).IsHonest
-      → OnOk result (Feeds server new (state server.disk) (state new.disk) s when turns before
-      after earlier later))
+      → OnOk result (Feeds (look_of_feed how) (server_for how.directory server) new
+      (state server.disk) (state new.disk) s how.when turns before after earlier later))
       → OnOk result
-      (PlaysBy when turns before after earlier later (state disk) (state new.disk))
-  plays_by when turns before after earlier later (Err refusal) feeds = tt
-  plays_by when turns before after earlier later (Ok done) feeds = λ s honest all.
+      (PlaysBy how turns before after earlier later (state disk) (state new.disk))
+  plays_by how turns before after earlier later (Err refusal) feeds = tt
+  plays_by how turns before after earlier later (Ok done) feeds = λ s honest all.
       let fed = feeds s (holds_opened s honest all) honest in (
         record {
           events = fed.events;
           packets = fed.packets;
-          played = has_played s when None fed.events fed.packets honest all fed.fed fed.are
+          played = has_played s how None fed.events fed.packets honest all fed.fed fed.are
               fed.timely;
           written = fed.written;
           ended = fed.ended;
@@ -111,34 +113,34 @@ module _ {D : Type 0} (state : D → State) (disk : D) (server new : ServerView 
       )
 
   -- so it plays the disk
-  pub plays : (when : When) (turns : ℕ) (before after : Option (List (List ℕ)))
+  pub plays : (how : Manner) (turns : ℕ) (before after : Option (List (List ℕ)))
       (earlier later : Option (List Bool)) (result : Result Unit Refusal)
       → OnOk result (StaysCalm server new (state server.disk) (state new.disk))
-      → OnOk result (PlaysBy when turns before after earlier later (state disk) (state new.disk))
-      → OnOk result (Plays when turns before after (state disk) (state new.disk))
-  plays when turns before after earlier later (Err refusal) stays by = tt
-  plays when turns before after earlier later (Ok done) stays by = record {
+      → OnOk result (PlaysBy how turns before after earlier later (state disk) (state new.disk))
+      → OnOk result (Plays how turns before after (state disk) (state new.disk))
+  plays how turns before after earlier later (Err refusal) stays by = tt
+  plays how turns before after earlier later (Ok done) stays by = record {
     keeps = keeps_from;
     calm = stays.failures ∙ calm;
     writes = λ s honest all. (by s honest all).0;
   }
 
-  writes_part : (when : When) (before after : Option (List (List ℕ)))
+  writes_part : (how : Manner) (before after : Option (List (List ℕ)))
       (earlier later : Option (List Bool)) (refusal : Refusal)
       → ((s : Standing) → Holds server.view s (state server.disk) → (state new.disk).IsHonest
-      → FeedsPart refusal server new (state server.disk) (state new.disk) s when before after
-      earlier later)
+      → FeedsPart (look_of_feed how) refusal (server_for how.directory server) new
+      (state server.disk) (state new.disk) s how.when before after earlier later)
       → OfStanding (λ s.
-      (writes : WritesPart refusal when before after (state disk) (state new.disk) s)
-      × CallsPart refusal writes.events earlier later) (state disk) (state new.disk)
-  writes_part when before after earlier later refusal feeds = λ s honest all.
+      (writes : WritesPart refusal how before after (state disk) (state new.disk) s)
+      × CallsPart (look_of_feed how) refusal writes.events earlier later) (state disk) (state new.disk)
+  writes_part how before after earlier later refusal feeds = λ s honest all.
       let fed = feeds s (holds_opened s honest all) honest in (
         record {
           fault = fed.fault;
           told = fed.told;
           events = fed.events;
           packets = fed.packets;
-          played = has_played s when fed.fault fed.events fed.packets honest all fed.fed fed.are
+          played = has_played s how fed.fault fed.events fed.packets honest all fed.fed fed.are
               fed.timely;
           written = fed.written;
         },
@@ -146,30 +148,30 @@ module _ {D : Type 0} (state : D → State) (disk : D) (server new : ServerView 
       )
 
   -- a fault of the feed stops the playing, from the disk's opening on, with these calls
-  pub stops_by : (when : When) (before after : Option (List (List ℕ)))
+  pub stops_by : (how : Manner) (before after : Option (List (List ℕ)))
       (earlier later : Option (List Bool)) (result : Result Unit Refusal)
       → ((s : Standing) → Holds server.view s (state server.disk) → (state new.disk).IsHonest
-      → IfErr result (λ r. FeedsPart r server new (state server.disk) (state new.disk) s when
-      before after earlier later))
-      → IfErr result (λ r. StopsBy r when before after earlier later (state disk)
+      → IfErr result (λ r. FeedsPart (look_of_feed how) r (server_for how.directory server) new
+      (state server.disk) (state new.disk) s how.when before after earlier later))
+      → IfErr result (λ r. StopsBy r how before after earlier later (state disk)
       (state new.disk))
-  stops_by when before after earlier later (Ok done) feeds = tt
-  stops_by when before after earlier later (Err refusal) feeds =
-      inr (writes_part when before after earlier later refusal feeds)
+  stops_by how before after earlier later (Ok done) feeds = tt
+  stops_by how before after earlier later (Err refusal) feeds =
+      inr (writes_part how before after earlier later refusal feeds)
 
   -- so it stops
-  pub stops : (when : When) (before after : Option (List (List ℕ)))
+  pub stops : (how : Manner) (before after : Option (List (List ℕ)))
       (earlier later : Option (List Bool)) (result : Result Unit Refusal)
       → IfErr result (λ r. IsFeedFault server (state server.disk) (state new.disk) r)
       → ((s : Standing) → Holds server.view s (state server.disk) → (state new.disk).IsHonest
-      → IfErr result (λ r. FeedsPart r server new (state server.disk) (state new.disk) s when
-      before after earlier later))
-      → IfErr result (λ r. StopsPlaying r when before after (state disk) (state new.disk))
-  stops when before after earlier later (Ok done) why feeds = tt
-  stops when before after earlier later (Err refusal) why feeds = stopped keeps_from
+      → IfErr result (λ r. FeedsPart (look_of_feed how) r (server_for how.directory server) new
+      (state server.disk) (state new.disk) s how.when before after earlier later))
+      → IfErr result (λ r. StopsPlaying r how before after (state disk) (state new.disk))
+  stops how before after earlier later (Ok done) why feeds = tt
+  stops how before after earlier later (Err refusal) why feeds = stopped keeps_from
       (breaks_off server (state disk) (state server.disk) (state new.disk) refusal going calm why)
       (λ s honest all.
-      (writes_part when before after earlier later refusal feeds s honest all).0)
+      (writes_part how before after earlier later refusal feeds s honest all).0)
 
 -- ---- when the carousel may change
 

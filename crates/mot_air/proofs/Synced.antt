@@ -3,7 +3,7 @@ use Rattle.std.proofs.Common.{◌≡◌, ◌∙◌, ◌≤◌, ℕ, Bool, true, 
 use Rattle.std.proofs.Common.{Option, Some, None, Result, Ok, Err, not, refl, sym, ap, subst, arith}
 use Rattle.std.proofs.Common.{append-nil}
 use Rattle.std.specs.Io.KnownBytes.{Appends}
-use Rattle.std.specs.Prelude.{◌⊎◌, IfErr, IfOk, IsFalse, OnOk}
+use Rattle.std.specs.Prelude.{IfErr, IfOk, IsFalse, OnOk}
 use Rattle.disk_model.proofs.Laws.{keeps_on}
 use Rattle.disk_model.specs.Disk.{State, IsHonestDisk, KeepsLength, OnlySyncs}
 use Rattle.mot_air.specs.Inner.Looked.{LooksAndTells}

@@ -1,3 +1,2 @@
 pub mod Directory
 pub mod Looked
-pub mod Told

@@ -1,8 +1,8 @@
 -- Lives with playing in them: a disk that was formatted is played, perhaps a crash comes, what it
 -- left is played again, and so on.
-use Rattle.std.specs.Prelude.{◌≡◌, ℕ, ◌≤◌, List, ◌++◌, length, Option, None}
+use Rattle.std.specs.Prelude.{ℕ, ◌≤◌, List, ◌++◌, length, Option}
 use Rattle.disk_model.specs.Disk.{State, Throughout}
-use Rattle.mot_air.specs.Playing.{HasAired, WritesTurns}
+use Rattle.mot_air.specs.Playing.{HasAired, Manner, WritesTurns}
 use Rattle.mot_feed.specs.Feeding.{Event, commands_among}
 use Rattle.mot_feed.specs.Writing.{GrowsPart}
 use Rattle.mot_journal.specs.Image.{Standing}
@@ -12,7 +12,6 @@ use Rattle.mot_numbers.specs.declared.refusal.Refusal.{Refusal}
 use Rattle.mot_objects.specs.declared.command.Command.{Command}
 use Rattle.mot_repository.specs.Repository.{IsOf}
 use Rattle.mot_server.specs.Runs.{IsAfter, StandsAfterSome}
-use Rattle.mot_update.specs.Between.{When}
 
 -- All of these commands are done since the formatting, and nothing else is: what they make of the
 -- new carousel, whose directory has this id, stands on each image that a crash now may leave.
@@ -25,24 +24,24 @@ pub record KeepsDone (g : Geometry) (first : ℕ) (done : List Command) (now : S
 -- A disk on which these commands were done was played. At each moment since then a crash leaves all
 -- of them, and a beginning of those that were accepted between packets; and now it leaves them all,
 -- so that the next life goes on from there.
-pub record PlaysOn (g : Geometry) (first : ℕ) (done : List Command) (when : When) (turns : ℕ)
+pub record PlaysOn (g : Geometry) (first : ℕ) (done : List Command) (how : Manner) (turns : ℕ)
     (before after : Option (List (List ℕ))) (start now : State) : Type 0 where
   pub standing : Standing
   pub was : IsAfter (standing_from g first) done standing
-  pub writes : WritesTurns when turns before after start now standing
+  pub writes : WritesTurns how turns before after start now standing
   pub any_moment : Throughout start now
       (StandsAfterSome (standing_from g first) done (commands_among writes.events))
   pub keeps : KeepsDone g first (done ++ commands_among writes.events) now
 
 -- The same where this refusal ended it: with at most one command in flight.
 pub record StopsOn (g : Geometry) (first : ℕ) (done : List Command) (refusal : Refusal)
-    (when : When) (before after : Option (List (List ℕ))) (start now : State) : Type 0 where
+    (how : Manner) (before after : Option (List (List ℕ))) (start now : State) : Type 0 where
   pub standing : Standing
   pub was : IsAfter (standing_from g first) done standing
   pub fault : Option Refusal
   pub events : List Event
   pub packets : List (List ℕ)
-  pub aired : HasAired standing when fault events packets start now
+  pub aired : HasAired standing how fault events packets start now
   pub written : GrowsPart refusal packets before after
   pub in_flight : List Command
   pub few : length in_flight ≤ 1

@@ -2,18 +2,18 @@
 //! folder; and those that print it as lines, and print its sizes.
 #![tactic(auto)]
 
+mod answered;
 mod lives;
+mod missing;
 mod on_air;
 mod playing;
 mod program;
-mod subject;
-mod used;
 mod watched;
 
 pub use lives::{keep_done, open_done};
 pub use mot_files::{LineFolder, Target};
+pub use mot_outcome::{Exit, UsedDisk};
 pub use mot_reading::Ended;
 pub use mot_words::{AirTask as Task, PlayTask};
 pub use playing::{Aired, Followed, play_and_answer, play_disk, play_with, sync_disk};
 pub use program::{is_air, run_air_on};
-pub use used::{AirDisk, AirExit};

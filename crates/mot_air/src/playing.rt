@@ -3,7 +3,8 @@ ghost use Rattle.std.specs.Prelude.{◌≡◌, ◌⊎◌, ℕ, IfErr, IfOk, List
 ghost use Rattle.std.specs.Io.KnownBytes.{Appends};
 ghost use Rattle.disk_model.specs.Disk.{KeepsLength};
 ghost use Rattle.mot_air.specs.Lives.{KeepsDone, PlaysOn, StopsOn};
-ghost use Rattle.mot_air.specs.Playing.{Plays, PlaysBy, StopsBy, StopsPlaying, when_followed};
+ghost use Rattle.mot_air.specs.Playing.{Plays, PlaysBy, StopsBy, StopsPlaying, manner};
+ghost use Rattle.mot_air.specs.Playing.{when_followed};
 ghost use Rattle.mot_air.specs.Syncing.{StopsSyncing, Syncs};
 ghost use Rattle.mot_air.specs.Inner.Looked.{LooksAndTells};
 ghost use Rattle.mot_feed.specs.Feeding.{IsFeedFault};
@@ -52,8 +53,9 @@ pub struct Aired<D: Disk> {
     pub any_refused: bool,
 }
 
-/// Opens the disk and plays it into the outlet, so many turns, with looks at the folder between
-/// turns if there is one. The directory is sent again after so many packets, as `feed_every` does.
+/// Opens the disk and plays it into the outlet, so many turns, with looks at the folder if there is
+/// one. The directory is sent again after so many packets, and a look may come after so many, as
+/// `feed_every` does.
 /// The lines of the looks are written to the log.
 pub fn play_disk<S: Shelf + Drop, D: Disk, O: Outlet, L: Write + Drop>(
     alloc: Global,
@@ -63,24 +65,28 @@ pub fn play_disk<S: Shelf + Drop, D: Disk, O: Outlet, L: Write + Drop>(
     log: L,
     turns: u64,
     directory: u32,
+    look: u32,
 ) -> Aired<D>
     ensures keeps { KeepsLength (D.state disk) (D.state result.ended.disk) }
-    ensures done { OnOk result.ended.result (Plays (when_followed folder.entry) turns
+    ensures done { OnOk result.ended.result (Plays
+        (manner (when_followed folder.entry) directory look) turns
         (O.writes outlet.old) (O.writes outlet.new) (D.state disk) (D.state result.ended.disk)) }
-    ensures refused { IfErr result.ended.result (λ r. StopsPlaying r (when_followed folder.entry)
+    ensures refused { IfErr result.ended.result (λ r. StopsPlaying r
+        (manner (when_followed folder.entry) directory look)
         (O.writes outlet.old) (O.writes outlet.new) (D.state disk) (D.state result.ended.disk)) }
 {
     match folder {
         Some(Followed { shelf, types }) => {
-            let mut looks = WatchedLooks::new(Looks::new(alloc, shelf, types, log));
-            let ended = play_with(alloc, disk, &mut looks, outlet, turns, directory);
+            let looks = looks_of(Looks::new(alloc, shelf, types, log), directory, look);
+            let mut looks = WatchedLooks::new(looks);
+            let ended = play_with(alloc, disk, &mut looks, outlet, turns, directory, look);
             Aired {
                 ended,
                 any_refused: looks.any_refused,
             }
         }
         None => Aired {
-            ended: play_with(alloc, disk, &mut NoUpdate, outlet, turns, directory),
+            ended: play_with(alloc, disk, &mut NoUpdate, outlet, turns, directory, look),
             any_refused: false,
         },
     }
@@ -99,19 +105,21 @@ pub fn play_and_answer<T: Files<File = File>, S: Shelf + Drop, D: Disk, O: Outle
     log: L,
     turns: u64,
     directory: u32,
+    look: u32,
 ) -> Aired<D>
     ensures keeps { KeepsLength (D.state disk) (D.state result.ended.disk) }
-    ensures done { OnOk result.ended.result (Plays Always turns
+    ensures done { OnOk result.ended.result (Plays (manner Always directory look) turns
         (O.writes outlet.old) (O.writes outlet.new) (D.state disk) (D.state result.ended.disk)) }
-    ensures refused { IfErr result.ended.result (λ r. StopsPlaying r Always
+    ensures refused { IfErr result.ended.result (λ r. StopsPlaying r (manner Always directory look)
         (O.writes outlet.old) (O.writes outlet.new) (D.state disk) (D.state result.ended.disk)) }
 {
     let log = RefCell::new(log);
     match folder {
         Some(Followed { shelf, types }) => {
             let looks = Looks::new(alloc, shelf, types, SharedLog::new(&log));
+            let looks = looks_of(looks, directory, look);
             let mut lines = lines_between(rt, alloc, lines, &log, WatchedLooks::new(looks));
-            let ended = play_with(alloc, disk, &mut lines, outlet, turns, directory);
+            let ended = play_with(alloc, disk, &mut lines, outlet, turns, directory, look);
             Aired {
                 ended,
                 any_refused: lines.update.any_refused,
@@ -120,11 +128,24 @@ pub fn play_and_answer<T: Files<File = File>, S: Shelf + Drop, D: Disk, O: Outle
         None => {
             let mut lines = lines_between(rt, alloc, lines, &log, NoUpdate);
             Aired {
-                ended: play_with(alloc, disk, &mut lines, outlet, turns, directory),
+                ended: play_with(alloc, disk, &mut lines, outlet, turns, directory, look),
                 any_refused: false,
             }
         }
     }
+}
+
+/// These looks; with so many packets between two, if a look may come after so many within a turn.
+fn looks_of<'a, S: Shelf + Drop, W: Write + Drop>(
+    looks: Looks<'a, S, W>,
+    directory: u32,
+    look: u32,
+) -> Looks<'a, S, W> {
+    let mut looks = looks;
+    if directory > 0 && look > 0 {
+        looks.every = u64::from(look);
+    }
+    looks
 }
 
 /// The lines of the files in a folder, answered with these updates. The replies are written to the
@@ -142,7 +163,8 @@ fn lines_between<'a, T: Files<File = File>, L: Write + Drop, U: Update + Drop>(
 }
 
 /// Opens the disk and plays it into the outlet, so many turns, with these updates before the first
-/// packet and after each. The directory is sent again after so many packets, as `feed_every` does.
+/// packet and after each. The directory is sent again after so many packets, and a look may
+/// come after so many, as `feed_every` does.
 pub fn play_with<D: Disk, U: Update, O: Outlet>(
     alloc: Global,
     disk: D,
@@ -150,30 +172,33 @@ pub fn play_with<D: Disk, U: Update, O: Outlet>(
     outlet: &mut O,
     turns: u64,
     directory: u32,
+    look: u32,
 ) -> Ended<D, ()>
     ensures keeps { KeepsLength (D.state disk) (D.state result.disk) }
-    ensures done { OnOk result.result (Plays U.when turns
+    ensures done { OnOk result.result (Plays (manner U.when directory look) turns
         (O.writes outlet.old) (O.writes outlet.new) (D.state disk) (D.state result.disk)) }
-    ensures refused { IfErr result.result (λ r. StopsPlaying r U.when
+    ensures refused { IfErr result.result (λ r. StopsPlaying r (manner U.when directory look)
         (O.writes outlet.old) (O.writes outlet.new) (D.state disk) (D.state result.disk)) }
 
     // The update was called once in front of each packet.
-    ensures called { OnOk result.result (PlaysBy U.when turns
+    ensures called { OnOk result.result (PlaysBy (manner U.when directory look) turns
         (O.writes outlet.old) (O.writes outlet.new) (U.moments update.old) (U.moments update.new)
         (D.state disk) (D.state result.disk)) }
-    ensures called_before { IfErr result.result (λ r. StopsBy r U.when
+    ensures called_before { IfErr result.result (λ r. StopsBy r (manner U.when directory look)
         (O.writes outlet.old) (O.writes outlet.new) (U.moments update.old) (U.moments update.new)
         (D.state disk) (D.state result.disk)) }
 
     // If commands were done in the lives before, it goes on from them.
     ensures lives { (g : Geometry) (first : ℕ) (done : List Command)
         → KeepsDone g first done (D.state disk)
-        → (D.state result.disk).IsHonest → OnOk result.result (PlaysOn g first done U.when turns
+        → (D.state result.disk).IsHonest → OnOk result.result (PlaysOn g first done
+        (manner U.when directory look) turns
         (O.writes outlet.old) (O.writes outlet.new) (D.state disk) (D.state result.disk)) }
     ensures lives_stopped { (g : Geometry) (first : ℕ) (done : List Command)
         → KeepsDone g first done (D.state disk)
         → (D.state result.disk).IsHonest → IfErr result.result (λ r.
-        IsUnopened r (D.state disk) (D.state result.disk) ⊎ StopsOn g first done r U.when
+        IsUnopened r (D.state disk) (D.state result.disk) ⊎ StopsOn g first done r
+        (manner U.when directory look)
         (O.writes outlet.old) (O.writes outlet.new) (D.state disk) (D.state result.disk)) }
 {
     let mut server = match Server::open(alloc, disk) {
@@ -182,7 +207,7 @@ pub fn play_with<D: Disk, U: Update, O: Outlet>(
     };
     // Its sizes are in their ranges: each packet has room. (The line is there for the proof.)
     let _ = server.geometry();
-    let result = feed_every(&mut server, alloc, update, outlet, turns, directory);
+    let result = feed_every(&mut server, alloc, update, outlet, turns, directory, look);
     Ended {
         disk: server.into_disk(),
         result,

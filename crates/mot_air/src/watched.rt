@@ -5,7 +5,7 @@ ghost use Rattle.mot_journal.specs.Image.{Standing};
 ghost use Rattle.mot_packets.specs.Outlet.{Grows};
 ghost use Rattle.mot_repository.specs.Repository.{Holds};
 ghost use Rattle.mot_server.specs.Attempts.{fault_of};
-ghost use Rattle.mot_update.specs.Between.{BetweenTurns, IsUpdating, may_change};
+ghost use Rattle.mot_update.specs.Between.{AtLooks, IsUpdating, may_change};
 ghost use Rattle.mot_update.specs.Faults.{TellsFaults};
 
 use disk_model::Disk;
@@ -36,13 +36,13 @@ impl<'a, S: Shelf + Drop, W: Write + Drop> WatchedLooks<'a, S, W> {
 }
 
 impl<'a, S: Shelf + Drop, W: Write + Drop> Update for WatchedLooks<'a, S, W> {
-    ghost when = { BetweenTurns };
+    ghost when = { AtLooks };
 
     fn update<D: Disk>(
         &mut self,
         server: &mut Server<D>,
         alloc: Global,
-        between_turns: bool,
+        may_look: bool,
     ) -> Result<(), Refusal>
         ensures keeps { KeepsLength (D.state server.old.disk) (D.state server.new.disk) }
         ensures faults { TellsFaults server.old server.new
@@ -50,10 +50,10 @@ impl<'a, S: Shelf + Drop, W: Write + Drop> Update for WatchedLooks<'a, S, W> {
         ensures run { (s : Standing) → Holds server.old.view s (D.state server.old.disk)
             → (D.state server.new.disk).IsHonest
             → IsUpdating server.old server.new (D.state server.old.disk)
-            (D.state server.new.disk) s (may_change BetweenTurns between_turns) (fault_of result) }
-        ensures called { Grows None None (between_turns ∷ []) }
+            (D.state server.new.disk) s (may_change AtLooks may_look) (fault_of result) }
+        ensures called { Grows None None (may_look ∷ []) }
     {
-        let result = self.looks.update(server, alloc, between_turns);
+        let result = self.looks.update(server, alloc, may_look);
         self.any_refused = self.any_refused || self.looks.folder.report.any_refused;
         result
     }

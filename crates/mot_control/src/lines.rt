@@ -72,7 +72,7 @@ impl<R: Read + Drop, W: Write + Drop, U: Update + Drop> Update for Lines<R, W, U
         &mut self,
         server: &mut Server<D>,
         alloc: Global,
-        between_turns: bool,
+        may_look: bool,
     ) -> Result<(), Refusal>
         ensures keeps { KeepsLength (D.state server.old.disk) (D.state server.new.disk) }
         ensures faults { TellsFaults server.old server.new
@@ -84,7 +84,7 @@ impl<R: Read + Drop, W: Write + Drop, U: Update + Drop> Update for Lines<R, W, U
 
         // The other update is called once, at the same moment.
         ensures called { Grows (U.moments self.old.update) (U.moments self.new.update)
-            (between_turns ∷ []) }
+            (may_look ∷ []) }
 
         // It reads if a read is due, and else it only counts.
         ensures counts { 0 < self.old.left → (self.new.reader ≡ self.old.reader)
@@ -94,12 +94,12 @@ impl<R: Read + Drop, W: Write + Drop, U: Update + Drop> Update for Lines<R, W, U
 
         // What was taken from the reader was answered, and nothing else was.
         ensures lines { (input : List ℕ) → self.old.hand ≡ bytes_in_hand (rest_of input)
-            → TakesBetween D.state server.old server.new input (may_change U.when between_turns)
+            → TakesBetween D.state server.old server.new input (may_change U.when may_look)
             (R.remaining self.old.reader) (R.remaining self.new.reader) self.new.hand
             self.old.log.is_told self.new.log.is_told
             (W.contents self.old.log.writer) (W.contents self.new.log.writer) }
     {
-        self.update.update(server, alloc, between_turns)?;
+        self.update.update(server, alloc, may_look)?;
         if self.left > 0 {
             self.left -= 1;
             return Ok(());

@@ -5,11 +5,13 @@ use Rattle.std.proofs.Common.{sym, ap}
 use Rattle.std.proofs.Common.{◌∙◌, subst, arith, length-append, append-nil, inl, inr}
 use Rattle.std.proofs.lemmas.List.{map-append}
 use Rattle.std.specs.Prelude.{◌⊎◌, ◌≢◌, if◌then◌else◌}
+use Rattle.std.specs.Option.{option_map_or}
 use Rattle.disk_model.specs.Disk.{State, IsHonestDisk, IsUnchanged}
 use Rattle.mot_feed.specs.Feeding.{AreOf, AreTimely, Event, FedPacketsAreContinuous}
 use Rattle.mot_feed.specs.Feeding.{Feeds, FeedsPart, Happen, HasFed}
-use Rattle.mot_feed.specs.Feeding.{commands_among, are_uncut, has_ended, moments_of}
-use Rattle.mot_feed.specs.Feeding.{sents_in, turns_in, unmade, unwritten}
+use Rattle.mot_feed.specs.Feeding.{are_at_looks, commands_among, has_ended, left_after, left_behind}
+use Rattle.mot_feed.specs.Feeding.{looks_behind, may_look, moments_in, moments_of, sents_in}
+use Rattle.mot_feed.specs.Feeding.{turns_in, unmade, unwritten}
 use Rattle.mot_feed.specs.Feeding.Event.{Accepted, Asked, Played}
 use Rattle.mot_feed.specs.Often.{FeedsOften, FeedsPartOften, IsOften, is_due, pause}
 use Rattle.mot_feed.specs.Sending.{SendsPacket}
@@ -33,18 +35,18 @@ use Rattle.mot_packets.specs.Packet.{PacketFields, read_packet}
 use Rattle.mot_packets.specs.Written.{bytes_of_packet}
 use Rattle.mot_player.proofs.Laws.{steps-are-continuous}
 use Rattle.mot_player.specs.Laws.{AreSent, IsStep}
-use Rattle.mot_player.specs.Place.{Place, Sent, Step, Request, NewTurn, Directory, change_turn}
-use Rattle.mot_player.specs.Place.{hear_directory, opened_place}
+use Rattle.mot_player.specs.Place.{Place, Sent, Step, Request, NewTurn, Directory, Follow}
+use Rattle.mot_player.specs.Place.{change_turn, changed, follow, hear_directory, opened_place}
 use Rattle.mot_player.specs.Place.{sent_by}
-use Rattle.mot_player.specs.Turn.{turn_of_carousel}
+use Rattle.mot_player.specs.Turn.{Turn, turn_of_carousel}
 use Rattle.mot_repository.specs.Repository.{Holds, RepositoryView}
-use Rattle.mot_server.specs.RunEnds.{place_behind}
+use Rattle.mot_server.specs.RunEnds.{place_after}
 use Rattle.mot_server.specs.Runs.{accepted_commands}
 use Rattle.mot_server.specs.Server.{ServerView, place_in}
 use Rattle.mot_server.proofs.Laws.{accepted-join, reads_leave, runs_join}
 use Rattle.mot_update.specs.Between.{IsUpdating, When}
 use Rattle.mot_update.specs.Between.{may_change}
-use Rattle.mot_update.specs.Between.{Always, BetweenTurns, Never}
+use Rattle.mot_update.specs.Between.{Always, AtLooks, Never}
 use Rattle.mot_update.specs.HasRun.{HasRun}
 
 -- ---- events in a row
@@ -61,7 +63,7 @@ happen-join limit size c mid last place between new (Played sent ∷ events) oth
 happen-join limit size c mid last place between new (Accepted command ∷ events) others one two = (
   one.0,
   one.1,
-  happen-join limit size one.0 mid last (change_turn (turn_of_carousel one.0 size) place) between
+  happen-join limit size one.0 mid last (changed (turn_of_carousel one.0 size) place) between
       new events others one.2 two,
 )
 happen-join limit size c mid last place between new (Asked ∷ events) others one two =
@@ -89,29 +91,47 @@ ended-append ended (Played sent ∷ events) others = ended-append sent.ends_turn
 ended-append ended (Accepted command ∷ events) others = ended-append ended events others
 ended-append ended (Asked ∷ events) others = ended-append ended events others
 
-uncut-cases : (ended rest all : Bool) → (ended && rest) ≡ true → (rest ≡ true → all ≡ true)
-    → (ended && all) ≡ true
-uncut-cases true rest all is f = f is
-uncut-cases false rest all is f = is
+left-append : (look : ℕ) (ended : Bool) (left : ℕ) (events others : List Event)
+    → left_after look ended left (events ++ others)
+    ≡ left_after look (has_ended ended events) (left_after look ended left events) others
+left-append look ended left [] others = refl
+left-append look ended left (Played sent ∷ events) others =
+    left-append look sent.ends_turn (left_behind look ended left sent) events others
+left-append look ended left (Accepted command ∷ events) others =
+    left-append look ended left events others
+left-append look ended left (Asked ∷ events) others = left-append look ended left events others
 
-uncut-append : (ended : Bool) (events others : List Event) → are_uncut ended events ≡ true
-    → are_uncut (has_ended ended events) others ≡ true → are_uncut ended (events ++ others) ≡ true
-uncut-append ended [] others one two = two
-uncut-append ended (Played sent ∷ events) others one two =
-    uncut-append sent.ends_turn events others one two
-uncut-append ended (Accepted command ∷ events) others one two =
-    uncut-cases ended (are_uncut ended events) (are_uncut ended (events ++ others)) one
-    (λ is. uncut-append ended events others is two)
-uncut-append ended (Asked ∷ events) others one two = uncut-append ended events others one two
+looks-cases : (may rest all : Bool) → (may && rest) ≡ true → (rest ≡ true → all ≡ true)
+    → (may && all) ≡ true
+looks-cases true rest all is f = f is
+looks-cases false rest all is f = is
 
-moments-append : (ended : Bool) (events others : List Event)
-    → moments_of ended (events ++ others)
-    ≡ moments_of ended events ++ moments_of (has_ended ended events) others
-moments-append ended [] others = refl
-moments-append ended (Played sent ∷ events) others =
-    ap (λ l. ended ∷ l) (moments-append sent.ends_turn events others)
-moments-append ended (Accepted command ∷ events) others = moments-append ended events others
-moments-append ended (Asked ∷ events) others = moments-append ended events others
+looks-append : (look : ℕ) (ended : Bool) (left : ℕ) (events others : List Event)
+    → are_at_looks look ended left events ≡ true
+    → are_at_looks look (has_ended ended events) (left_after look ended left events) others ≡ true
+    → are_at_looks look ended left (events ++ others) ≡ true
+looks-append look ended left [] others one two = two
+looks-append look ended left (Played sent ∷ events) others one two =
+    looks-append look sent.ends_turn (left_behind look ended left sent) events others one two
+looks-append look ended left (Accepted command ∷ events) others one two =
+    looks-cases (may_look look ended left) (are_at_looks look ended left events)
+    (are_at_looks look ended left (events ++ others)) one
+    (λ is. looks-append look ended left events others is two)
+looks-append look ended left (Asked ∷ events) others one two =
+    looks-append look ended left events others one two
+
+moments-append : (look : ℕ) (ended : Bool) (left : ℕ) (events others : List Event)
+    → moments_of look ended left (events ++ others)
+    ≡ moments_of look ended left events
+    ++ moments_of look (has_ended ended events) (left_after look ended left events) others
+moments-append look ended left [] others = refl
+moments-append look ended left (Played sent ∷ events) others =
+    ap (λ l. may_look look ended left ∷ l)
+    (moments-append look sent.ends_turn (left_behind look ended left sent) events others)
+moments-append look ended left (Accepted command ∷ events) others =
+    moments-append look ended left events others
+moments-append look ended left (Asked ∷ events) others =
+    moments-append look ended left events others
 
 turns-append : (events others : List Event)
     → turns_in (events ++ others) ≡ turns_in events + turns_in others
@@ -155,52 +175,30 @@ not_there c e = subst IsThere (sym e) tt
 same_carousel : (c d : Carousel) → Some c ≡ Some d → c ≡ d
 same_carousel c d e = cc
 
--- where the player stands behind commands that were accepted
-abbrev behind : ℕ → List Command → Carousel → Place → Place
-behind size [] last place = place
-behind size (command ∷ commands) last place = change_turn (turn_of_carousel last size) place
-
-behind_next : (limit size : ℕ) (commands : List Command) (next last : Carousel) (place : Place)
-    → carousel_after next limit commands ≡ Some last
-    → behind size commands last (change_turn (turn_of_carousel next size) place)
-    ≡ change_turn (turn_of_carousel last size) place
-unfolding carousel_after change_turn
-behind_next limit size [] next last place e =
-    ap (λ (c : Carousel). change_turn (turn_of_carousel c size) place) (same_carousel next last e)
-behind_next limit size (command ∷ commands) next last place e = refl
-
 happen-cases : (limit size : ℕ) (command : Command) (commands : List Command) (c last : Carousel)
     (place : Place) (o : Option Carousel) → carousel_if_accepted (change c limit command) ≡ o
     → (o >>= λ next. carousel_after next limit commands) ≡ Some last
     → ((next : Carousel) (p : Place) → carousel_after next limit commands ≡ Some last
-    → Happen limit size next p (map Accepted commands) last (behind size commands last p))
+    → Happen limit size next p (map Accepted commands) last
+    (place_after limit size next commands p))
     → Happen limit size c place (Accepted command ∷ map Accepted commands) last
-    (change_turn (turn_of_carousel last size) place)
+    (option_map_or (λ next.
+    place_after limit size next commands (changed (turn_of_carousel next size) place)) o place)
 happen-cases limit size command commands c last place None is rest tail =
     absurd (not_there last rest)
-happen-cases limit size command commands c last place (Some next) is rest tail = (
-  next,
-  is,
-  subst (λ (p : Place). Happen limit size next (change_turn (turn_of_carousel next size) place)
-      (map Accepted commands) last p) (behind_next limit size commands next last place rest)
-      (tail next (change_turn (turn_of_carousel next size) place) rest),
-)
+happen-cases limit size command commands c last place (Some next) is rest tail =
+    (next, is, tail next (changed (turn_of_carousel next size) place) rest)
 
 happen-commands : (limit size : ℕ) (commands : List Command) (c last : Carousel) (place : Place)
     → carousel_after c limit commands ≡ Some last
-    → Happen limit size c place (map Accepted commands) last (behind size commands last place)
+    → Happen limit size c place (map Accepted commands) last
+    (place_after limit size c commands place)
 unfolding carousel_after
 happen-commands limit size [] c last place e = (same_carousel c last e, refl)
 happen-commands limit size (command ∷ commands) c last place e =
     happen-cases limit size command commands c last place
     (carousel_if_accepted (change c limit command)) refl e
     (λ next p rest. happen-commands limit size commands next last p rest)
-
-behind-is : (commands : List Command) (last : Standing) (place : Place)
-    → place_behind commands last place
-    ≡ behind last.geometry.segment_size commands last.carousel place
-behind-is [] last place = refl
-behind-is (command ∷ commands) last place = refl
 
 accepted-map : (commands : List Command) → commands_among (map Accepted commands) ≡ commands
 accepted-map [] = refl
@@ -215,68 +213,82 @@ ended-map : (ended : Bool) (commands : List Command)
 ended-map ended [] = refl
 ended-map ended (command ∷ commands) = ended-map ended commands
 
-moments-map : (ended : Bool) (commands : List Command)
-    → moments_of ended (map Accepted commands) ≡ []
-moments-map ended [] = refl
-moments-map ended (command ∷ commands) = moments-map ended commands
+left-map : (look : ℕ) (ended : Bool) (left : ℕ) (commands : List Command)
+    → left_after look ended left (map Accepted commands) ≡ left
+left-map look ended left [] = refl
+left-map look ended left (command ∷ commands) = left-map look ended left commands
+
+moments-map : (look : ℕ) (ended : Bool) (left : ℕ) (commands : List Command)
+    → moments_of look ended left (map Accepted commands) ≡ []
+moments-map look ended left [] = refl
+moments-map look ended left (command ∷ commands) = moments-map look ended left commands
 
 turns-map : (commands : List Command) → turns_in (map Accepted commands) ≡ 0
 turns-map [] = refl
 turns-map (command ∷ commands) = turns-map commands
 
-uncut-map : (commands : List Command) → are_uncut true (map Accepted commands) ≡ true
-uncut-map [] = refl
-uncut-map (command ∷ commands) = uncut-map commands
+looks-map : (look : ℕ) (ended : Bool) (left : ℕ) (commands : List Command)
+    → may_look look ended left ≡ true → are_at_looks look ended left (map Accepted commands) ≡ true
+looks-map look ended left [] may = refl
+looks-map look ended left (command ∷ commands) may =
+    ap (λ b. b && are_at_looks look ended left (map Accepted commands)) may
+    ∙ looks-map look ended left commands may
 
 none-accepted : (marks : List Bool) → accepted_commands [] marks ≡ []
 none-accepted [] = refl
 none-accepted (mark ∷ marks) = refl
 
--- one that waits runs no command within a turn
-uncut-update : (between : Bool) (commands : List Command) (marks : List Bool)
-    → (between ≡ false → commands ≡ [])
-    → are_uncut between (map Accepted (accepted_commands commands marks)) ≡ true
-uncut-update true commands marks waits = uncut-map (accepted_commands commands marks)
-uncut-update false commands marks waits =
+-- one that waits runs no command where no look may come
+looks-update : (look : ℕ) (ended : Bool) (left : ℕ) (may : Bool) (commands : List Command)
+    (marks : List Bool) → may_look look ended left ≡ may → (may ≡ false → commands ≡ [])
+    → are_at_looks look ended left (map Accepted (accepted_commands commands marks)) ≡ true
+looks-update look ended left true commands marks is waits =
+    looks-map look ended left (accepted_commands commands marks) is
+looks-update look ended left false commands marks is waits =
     let none : accepted_commands commands marks ≡ [] =
     ap (λ l. accepted_commands l marks) (waits refl) ∙ none-accepted marks in
-    ap (λ l. are_uncut false (map Accepted l)) none
+    ap (λ l. are_at_looks look ended left (map Accepted l)) none
 
 -- an update more runs its commands when it may
-timely-update : (when : When) (between : Bool) (commands others : List Command)
-    (marks : List Bool) (events : List Event) → has_ended true events ≡ between
-    → (may_change when between ≡ false → others ≡ []) → AreTimely when commands events
-    → AreTimely when (commands ++ others)
+timely-update : (look : ℕ) (when : When) (ended : Bool) (left : ℕ) (commands others : List Command)
+    (marks : List Bool) (events : List Event) → has_ended true events ≡ ended
+    → left_after look true 0 events ≡ left
+    → (may_change when (may_look look ended left) ≡ false → others ≡ [])
+    → AreTimely look when commands events
+    → AreTimely look when (commands ++ others)
     (events ++ map Accepted (accepted_commands others marks))
-timely-update Never between commands others marks events ended waits so_far =
+timely-update look Never ended left commands others marks events is behind waits so_far =
     ap (λ l. l ++ others) so_far ∙ waits refl
-timely-update BetweenTurns between commands others marks events ended waits so_far =
+timely-update look AtLooks ended left commands others marks events is behind waits so_far =
     let done : List Command = accepted_commands others marks in
-    uncut-append true events (map Accepted done) so_far
-    (subst (λ e. are_uncut e (map Accepted done) ≡ true) (sym ended)
-    (uncut-update between others marks waits))
-timely-update Always between commands others marks events ended waits so_far = tt
+    looks-append look true 0 events (map Accepted done) so_far
+    (subst (λ e. are_at_looks look e (left_after look true 0 events) (map Accepted done) ≡ true)
+    (sym is)
+    (subst (λ n. are_at_looks look ended n (map Accepted done) ≡ true) (sym behind)
+    (looks-update look ended left (may_look look ended left) others marks refl waits)))
+timely-update look Always ended left commands others marks events is behind waits so_far = tt
 
 -- a packet more runs none
-timely-sent : (when : When) (commands : List Command) (events : List Event) (sent : Sent)
-    → AreTimely when commands events → AreTimely when (commands ++ []) (events ++ Played sent ∷ [])
-timely-sent Never commands events sent so_far = append-nil commands ∙ so_far
-timely-sent BetweenTurns commands events sent so_far =
-    uncut-append true events (Played sent ∷ []) so_far refl
-timely-sent Always commands events sent so_far = tt
+timely-sent : (look : ℕ) (when : When) (commands : List Command) (events : List Event)
+    (sent : Sent) → AreTimely look when commands events
+    → AreTimely look when (commands ++ []) (events ++ Played sent ∷ [])
+timely-sent look Never commands events sent so_far = append-nil commands ∙ so_far
+timely-sent look AtLooks commands events sent so_far =
+    looks-append look true 0 events (Played sent ∷ []) so_far refl
+timely-sent look Always commands events sent so_far = tt
 
 -- where nothing was done
-timely-none : (when : When) → AreTimely when [] []
-timely-none Never = refl
-timely-none BetweenTurns = refl
-timely-none Always = tt
+timely-none : (look : ℕ) (when : When) → AreTimely look when [] []
+timely-none look Never = refl
+timely-none look AtLooks = refl
+timely-none look Always = tt
 
 -- where nothing more was done
-timely-kept : (when : When) (commands : List Command) (events : List Event)
-    → AreTimely when commands events → AreTimely when (commands ++ []) (events ++ [])
-timely-kept when commands events so_far =
-    subst (λ l. AreTimely when l (events ++ [])) (sym (append-nil commands))
-    (subst (AreTimely when commands) (sym (append-nil events)) so_far)
+timely-kept : (look : ℕ) (when : When) (commands : List Command) (events : List Event)
+    → AreTimely look when commands events → AreTimely look when (commands ++ []) (events ++ [])
+timely-kept look when commands events so_far =
+    subst (λ l. AreTimely look when l (events ++ [])) (sym (append-nil commands))
+    (subst (AreTimely look when commands) (sym (append-nil events)) so_far)
 
 -- commands bring no packet
 are-more : (events : List Event) (commands : List Command) (packets : List (List ℕ))
@@ -308,20 +320,28 @@ turns-asked : (due : Bool) → turns_in (asks due) ≡ 0
 turns-asked true = refl
 turns-asked false = refl
 
-uncut-asked : (ended due : Bool) → are_uncut ended (asks due) ≡ true
-uncut-asked ended true = refl
-uncut-asked ended false = refl
+looks-asked : (look : ℕ) (ended : Bool) (left : ℕ) (due : Bool)
+    → are_at_looks look ended left (asks due) ≡ true
+looks-asked look ended left true = refl
+looks-asked look ended left false = refl
 
-moments-asked_only : (ended due : Bool) → moments_of ended (asks due) ≡ []
-moments-asked_only ended true = refl
-moments-asked_only ended false = refl
+left-asked : (look : ℕ) (ended : Bool) (left : ℕ) (due : Bool)
+    → left_after look ended left (asks due) ≡ left
+left-asked look ended left true = refl
+left-asked look ended left false = refl
 
-moments-asked : (events : List Event) (due : Bool)
-    → moments_of true (events ++ asks due) ≡ moments_of true events
-moments-asked events due =
-    moments-append true events (asks due)
-    ∙ ap (λ l. moments_of true events ++ l) (moments-asked_only (has_ended true events) due)
-    ∙ append-nil (moments_of true events)
+moments-asked_only : (look : ℕ) (ended : Bool) (left : ℕ) (due : Bool)
+    → moments_of look ended left (asks due) ≡ []
+moments-asked_only look ended left true = refl
+moments-asked_only look ended left false = refl
+
+moments-asked : (look : ℕ) (events : List Event) (due : Bool)
+    → moments_in look (events ++ asks due) ≡ moments_in look events
+moments-asked look events due =
+    moments-append look true 0 events (asks due)
+    ∙ ap (λ l. moments_in look events ++ l)
+    (moments-asked_only look (has_ended true events) (left_after look true 0 events) due)
+    ∙ append-nil (moments_in look events)
 
 happen-asked : (limit size : ℕ) (c : Carousel) (place new : Place) (due : Bool)
     → new ≡ (if due then hear_directory place else place)
@@ -329,12 +349,14 @@ happen-asked : (limit size : ℕ) (c : Carousel) (place new : Place) (due : Bool
 happen-asked limit size c place new true e = (refl, sym e)
 happen-asked limit size c place new false e = (refl, sym e)
 
-timely-asked : (when : When) (commands : List Command) (events : List Event) (due : Bool)
-    → AreTimely when commands events → AreTimely when (commands ++ []) (events ++ asks due)
-timely-asked Never commands events due so_far = append-nil commands ∙ so_far
-timely-asked BetweenTurns commands events due so_far =
-    uncut-append true events (asks due) so_far (uncut-asked (has_ended true events) due)
-timely-asked Always commands events due so_far = tt
+timely-asked : (look : ℕ) (when : When) (commands : List Command) (events : List Event)
+    (due : Bool) → AreTimely look when commands events
+    → AreTimely look when (commands ++ []) (events ++ asks due)
+timely-asked look Never commands events due so_far = append-nil commands ∙ so_far
+timely-asked look AtLooks commands events due so_far =
+    looks-append look true 0 events (asks due) so_far
+    (looks-asked look (has_ended true events) (left_after look true 0 events) due)
+timely-asked look Always commands events due so_far = tt
 
 are-asked : (events : List Event) (due : Bool) (packets : List (List ℕ))
     → AreOf events packets → AreOf (events ++ asks due) packets
@@ -350,25 +372,35 @@ are-asked events due packets are =
 -- ---- the moments of calls
 
 -- commands come at none, and then there is a call
-moments-update : (between : Bool) (commands : List Command) (events : List Event)
-    (earlier since later : Option (List Bool)) → Grows earlier since (moments_of true events)
-    → Grows since later (between ∷ [])
-    → Grows earlier later (moments_of true (events ++ map Accepted commands) ++ between ∷ [])
-moments-update between commands events earlier since later so_far call =
-    let same : moments_of true (events ++ map Accepted commands) ≡ moments_of true events =
-    moments-append true events (map Accepted commands)
-    ∙ ap (λ l. moments_of true events ++ l) (moments-map (has_ended true events) commands)
-    ∙ append-nil (moments_of true events) in
-    subst (λ l. Grows earlier later (l ++ between ∷ [])) (sym same)
-    (grows_trans earlier since later (moments_of true events) (between ∷ []) so_far call)
+moments-update : (look : ℕ) (may : Bool) (commands : List Command) (events : List Event)
+    (earlier since later : Option (List Bool)) → Grows earlier since (moments_in look events)
+    → Grows since later (may ∷ [])
+    → Grows earlier later (moments_in look (events ++ map Accepted commands) ++ may ∷ [])
+moments-update look may commands events earlier since later so_far call =
+    let same : moments_in look (events ++ map Accepted commands) ≡ moments_in look events =
+    moments-append look true 0 events (map Accepted commands)
+    ∙ ap (λ l. moments_in look events ++ l)
+    (moments-map look (has_ended true events) (left_after look true 0 events) commands)
+    ∙ append-nil (moments_in look events) in
+    subst (λ l. Grows earlier later (l ++ may ∷ [])) (sym same)
+    (grows_trans earlier since later (moments_in look events) (may ∷ []) so_far call)
+
+-- whether a look may come behind these
+behind-is : (look : ℕ) (ended : Bool) (left : ℕ) (events : List Event)
+    → has_ended true events ≡ ended → left_after look true 0 events ≡ left
+    → looks_behind look events ≡ may_look look ended left
+behind-is look ended left events is behind =
+    ap (λ e. may_look look e (left_after look true 0 events)) is
+    ∙ ap (may_look look ended) behind
 
 -- a packet comes at that of the call in front of it
-moments-sent : (between : Bool) (events : List Event) (sent : Sent)
-    → has_ended true events ≡ between
-    → moments_of true events ++ between ∷ [] ≡ moments_of true (events ++ Played sent ∷ [])
-moments-sent between events sent ended =
-    ap (λ e. moments_of true events ++ e ∷ []) (sym ended)
-    ∙ sym (moments-append true events (Played sent ∷ []))
+moments-sent : (look : ℕ) (ended : Bool) (left : ℕ) (events : List Event) (sent : Sent)
+    → has_ended true events ≡ ended → left_after look true 0 events ≡ left
+    → moments_in look events ++ may_look look ended left ∷ []
+    ≡ moments_in look (events ++ Played sent ∷ [])
+moments-sent look ended left events sent is behind =
+    ap (λ e. moments_in look events ++ e ∷ []) (sym (behind-is look ended left events is behind))
+    ∙ sym (moments-append look true 0 events (Played sent ∷ []))
 
 -- ---- counting turns
 
@@ -466,11 +498,6 @@ module _ {D : Type 0} where
   fed-run old new start now s fault commands marks run =
       let done : List Command = accepted_commands commands marks in
       let last : Standing = run.leaves.last in
-      let placed : place_in new last
-      ≡ behind s.geometry.segment_size done last.carousel (place_in old s) =
-      run.place ∙ behind-is done last (place_in old s)
-      ∙ ap (λ (g : Geometry). behind g.segment_size done last.carousel (place_in old s))
-      run.leaves.after.geometry in
       record {
         commands = commands;
         marks = marks;
@@ -479,7 +506,7 @@ module _ {D : Type 0} where
         layout = run.layout;
         accepted = accepted-map done;
         happened = subst (λ (p : Place). Happen s.geometry.objects s.geometry.segment_size
-            s.carousel (place_in old s) (map Accepted done) last.carousel p) (sym placed)
+            s.carousel (place_in old s) (map Accepted done) last.carousel p) (sym run.place)
             (happen-commands s.geometry.objects s.geometry.segment_size done s.carousel
             last.carousel (place_in old s) run.leaves.after.carousel);
       }
@@ -508,8 +535,8 @@ module _ {D : Type 0} where
   -- ---- feeding
 
   -- what was fed so far: so many turns are left, and so many packets were sent
-  pub record SoFar (old new : ServerView D) (start now : State) (s : Standing) (when : When)
-      (turns left : ℕ) (between_turns : Bool) (count : ℕ)
+  pub record SoFar (look : ℕ) (old new : ServerView D) (start now : State) (s : Standing)
+      (when : When) (turns left : ℕ) (between_turns : Bool) (rest count : ℕ)
       (before after : Option (List (List ℕ))) (earlier later : Option (List Bool))
       (more : List Bool) : Type 0 where
     -- what happened so far
@@ -523,11 +550,13 @@ module _ {D : Type 0} where
     -- each was written in one write
     pub written : Grows before after packets
     -- the update was called in front of each, and then at these moments
-    pub called : Grows earlier later (moments_of true events ++ more)
+    pub called : Grows earlier later (moments_in look events ++ more)
     -- commands came only when the carousel may be changed
-    pub timely : AreTimely when fed.commands events
+    pub timely : AreTimely look when fed.commands events
     -- whether a turn has ended behind them, or none was begun
     pub ended : has_ended true events ≡ between_turns
+    -- how many packets of the rest go out before a look may come
+    pub behind : left_after look true 0 events ≡ rest
     -- the turns to come and those that ended are all
     pub counted : left + turns_in events ≡ turns
     -- how many packets were sent
@@ -536,54 +565,66 @@ module _ {D : Type 0} where
     pub done : left ≡ 0 → between_turns ≡ true
 
   -- feeding that begins has sent nothing
-  pub fed_none : (old : ServerView D) (start : State) (s : Standing) (when : When) (turns : ℕ)
-      (contents : Option (List (List ℕ))) (moments : Option (List Bool)) → IsHonestDisk start
-      → start.IsHonest → IsUnchanged start start → Holds old.view s start
-      → SoFar old old start start s when turns turns true 0 contents contents moments moments []
+  pub fed_none : (look : ℕ) (old mid : ServerView D) (start now : State) (s : Standing)
+      (when : When) (turns : ℕ) (contents : Option (List (List ℕ))) (moments : Option (List Bool))
+      → mid.view ≡ old.view → place_in mid s ≡ place_in old s → IsHonestDisk start
+      → now.IsHonest → IsUnchanged start now → Holds old.view s start
+      → SoFar look old mid start now s when turns turns true 0 0 contents contents moments moments
+      []
   unfolding fed-read
-  fed_none old start s when turns contents moments sound honest still holds = record {
-    events = [];
-    fed = fed-read old old start start s None [] sound refl honest still holds refl (refl, refl);
-    packets = [];
-    are = are-none;
-    written = grows_nil contents;
-    called = grows_nil moments;
-    timely = timely-none when;
-    ended = refl;
-    counted = omega arith;
-    many = refl;
-    done = λ e. refl;
-  }
+  fed_none look old mid start now s when turns contents moments view same sound honest still holds =
+      record {
+        events = [];
+        fed = fed-read old mid start now s None [] sound view honest still holds refl
+            (refl, sym same);
+        packets = [];
+        are = are-none;
+        written = grows_nil contents;
+        called = grows_nil moments;
+        timely = timely-none look when;
+        ended = refl;
+        behind = refl;
+        counted = omega arith;
+        many = refl;
+        done = λ e. refl;
+      }
 
-  pub none_often : (every : ℕ) (old : ServerView D) (start : State) (s : Standing) (when : When)
-      (turns : ℕ) (contents : Option (List (List ℕ))) (moments : Option (List Bool))
-      (sound : IsHonestDisk start) (honest : start.IsHonest) (still : IsUnchanged start start)
+  pub none_often : (every look : ℕ) (old mid : ServerView D) (start now : State) (s : Standing)
+      (when : When) (turns : ℕ) (contents : Option (List (List ℕ))) (moments : Option (List Bool))
+      (view : mid.view ≡ old.view) (same : place_in mid s ≡ place_in old s)
+      (sound : IsHonestDisk start) (honest : now.IsHonest) (still : IsUnchanged start now)
       (holds : Holds old.view s start) → OftenUpTo every true (Some 0)
-      (fed_none old start s when turns contents moments sound honest still holds).events
+      (fed_none look old mid start now s when turns contents moments view same sound honest still
+      holds).events
   unfolding fed_none
-  none_often every old start s when turns contents moments sound honest still holds =
-      often-none every
+  none_often every look old mid start now s when turns contents moments view same sound honest
+      still holds = often-none every
 
   module _ {old mid : ServerView D} {start between : State} {s : Standing} {when : When}
-      {turns left : ℕ} {between_turns : Bool} {count : ℕ} {before after : Option (List (List ℕ))}
-      {earlier since : Option (List Bool)} {more : List Bool}
-      (so_far : SoFar old mid start between s when turns left between_turns count before after
-      earlier since more)
+      {look turns left : ℕ} {between_turns : Bool} {rest count : ℕ}
+      {before after : Option (List (List ℕ))} {earlier since : Option (List Bool)}
+      {more : List Bool}
+      (so_far : SoFar look old mid start between s when turns left between_turns rest count before
+      after earlier since more)
     where
+      -- whether a look may come now
+      abbrev may : Bool
+      may = may_look look between_turns rest
+
       -- the update was called in front of each packet, and then at these moments
       so_far_called : (moments : List Bool) → more ≡ moments
-          → Grows earlier since (moments_of true so_far.events ++ moments)
+          → Grows earlier since (moments_in look so_far.events ++ moments)
       so_far_called moments is =
-          subst (λ l. Grows earlier since (moments_of true so_far.events ++ l)) is so_far.called
+          subst (λ l. Grows earlier since (moments_in look so_far.events ++ l)) is so_far.called
 
       -- and then at none
-      all_called : more ≡ [] → Grows earlier since (moments_of true so_far.events)
-      all_called none = subst (Grows earlier since) (append-nil (moments_of true so_far.events))
+      all_called : more ≡ [] → Grows earlier since (moments_in look so_far.events)
+      all_called none = subst (Grows earlier since) (append-nil (moments_in look so_far.events))
           (so_far_called [] none)
 
       -- all turns were fed, or too many packets
       pub fed_all : more ≡ [] → (left ≡ 0) ⊎ (count ≡ 18446744073709551615)
-          → Feeds old mid start between s when turns before after earlier since
+          → Feeds look old mid start between s when turns before after earlier since
       fed_all none end = record {
         events = so_far.events;
         fed = so_far.fed;
@@ -608,7 +649,7 @@ module _ {D : Type 0} where
       pub fed_often : (every : ℕ) (until : Option ℕ)
           → OftenUpTo every between_turns until so_far.events
           → more ≡ [] → (left ≡ 0) ⊎ (count ≡ 18446744073709551615)
-          → FeedsOften every old mid start between s when turns before after earlier since
+          → FeedsOften every look old mid start between s when turns before after earlier since
       unfolding fed_all
       fed_often every until often none end = record {
         feeds = fed_all none end;
@@ -618,7 +659,7 @@ module _ {D : Type 0} where
       -- an update more
       module _ {up : ServerView D} {then_state : State} {fault : Option Refusal}
           (update : IsUpdating mid up between then_state so_far.fed.leaves.last
-          (may_change when between_turns) fault) where
+          (may_change when may) fault) where
         abbrev done_by : List Command
         done_by = accepted_commands update.commands update.marks
 
@@ -637,22 +678,28 @@ module _ {D : Type 0} where
         updated_are = are-more so_far.events done_by so_far.packets so_far.are
 
         -- it runs commands only when it may
-        updated_timely : AreTimely when updated_fed.commands updated_events
+        updated_timely : AreTimely look when updated_fed.commands updated_events
         unfolding updated_fed fed-join fed-run
-        updated_timely = timely-update when between_turns so_far.fed.commands update.commands
-            update.marks so_far.events so_far.ended update.waits so_far.timely
+        updated_timely = timely-update look when between_turns rest so_far.fed.commands
+            update.commands update.marks so_far.events so_far.ended so_far.behind update.waits
+            so_far.timely
 
         -- it is called once, and comes at no packet
         updated_called : (later : Option (List Bool)) → more ≡ []
-            → Grows since later (between_turns ∷ [])
-            → Grows earlier later (moments_of true updated_events ++ between_turns ∷ [])
+            → Grows since later (may ∷ [])
+            → Grows earlier later (moments_in look updated_events ++ may ∷ [])
         updated_called later none call =
-            moments-update between_turns done_by so_far.events earlier since later
+            moments-update look may done_by so_far.events earlier since later
             (all_called none) call
 
         updated_ended : has_ended true updated_events ≡ between_turns
         updated_ended = ended-append true so_far.events (map Accepted done_by)
             ∙ ended-map (has_ended true so_far.events) done_by ∙ so_far.ended
+
+        updated_behind : left_after look true 0 updated_events ≡ rest
+        updated_behind = left-append look true 0 so_far.events (map Accepted done_by)
+            ∙ left-map look (has_ended true so_far.events) (left_after look true 0 so_far.events)
+            done_by ∙ so_far.behind
 
         -- it ends no turn
         updated_turns : left + turns_in updated_events ≡ turns
@@ -667,9 +714,9 @@ module _ {D : Type 0} where
       pub update_fault : {up : ServerView D} {then_state : State} {refusal : Refusal}
           {later : Option (List Bool)} → more ≡ []
           → IsUpdating mid up between then_state so_far.fed.leaves.last
-          (may_change when between_turns) (Some refusal) → Grows since later (between_turns ∷ [])
+          (may_change when may) (Some refusal) → Grows since later (may ∷ [])
           → refusal ≢ WriteFault
-          → FeedsPart refusal old up start then_state s when before after earlier later
+          → FeedsPart look refusal old up start then_state s when before after earlier later
       update_fault {up} {then_state} {refusal} {later} none update call other = record {
         fault = Some refusal;
         told = inl refl;
@@ -679,7 +726,9 @@ module _ {D : Type 0} where
         are = updated_are update;
         written = part.whole other so_far.written;
         called = unmade other (subst (λ e. Grows earlier later
-            (moments_of true (updated_events update) ++ e ∷ [])) (sym (updated_ended update))
+            (moments_in look (updated_events update) ++ e ∷ []))
+            (sym (behind-is look between_turns rest (updated_events update)
+            (updated_ended update) (updated_behind update)))
             (updated_called update later none call));
         timely = updated_timely update;
       }
@@ -687,9 +736,9 @@ module _ {D : Type 0} where
       -- what was fed so far, with an update that had no fault
       pub updated : {up : ServerView D} {then_state : State} {later : Option (List Bool)}
           → more ≡ [] → IsUpdating mid up between then_state so_far.fed.leaves.last
-          (may_change when between_turns) None → Grows since later (between_turns ∷ [])
-          → SoFar old up start then_state s when turns left between_turns count before after
-          earlier later (between_turns ∷ [])
+          (may_change when may) None → Grows since later (may ∷ [])
+          → SoFar look old up start then_state s when turns left between_turns rest count before
+          after earlier later (may ∷ [])
       updated {up} {then_state} {later} none update call = record {
         events = updated_events update;
         fed = updated_fed update;
@@ -699,6 +748,7 @@ module _ {D : Type 0} where
         called = updated_called update later none call;
         timely = updated_timely update;
         ended = updated_ended update;
+        behind = updated_behind update;
         counted = updated_turns update;
         many = so_far.many;
         done = so_far.done;
@@ -709,8 +759,8 @@ module _ {D : Type 0} where
           (later : Option (List Bool)) (every : ℕ) (until : Option ℕ)
           → OftenUpTo every between_turns until so_far.events
           → (none : more ≡ []) (update : IsUpdating mid up between then_state
-          so_far.fed.leaves.last (may_change when between_turns) None)
-          (call : Grows since later (between_turns ∷ []))
+          so_far.fed.leaves.last (may_change when may) None)
+          (call : Grows since later (may ∷ []))
           → OftenUpTo every between_turns until (updated none update call).events
       unfolding updated
       updated_often later every until often none update call =
@@ -721,9 +771,9 @@ module _ {D : Type 0} where
           {later : Option (List Bool)} (every : ℕ) (until : Option ℕ)
           → OftenUpTo every between_turns until so_far.events → more ≡ []
           → IsUpdating mid up between then_state so_far.fed.leaves.last
-          (may_change when between_turns) (Some refusal) → Grows since later (between_turns ∷ [])
+          (may_change when may) (Some refusal) → Grows since later (may ∷ [])
           → refusal ≢ WriteFault
-          → FeedsPartOften every refusal old up start then_state s when before after earlier later
+          → FeedsPartOften every look refusal old up start then_state s when before after earlier later
       unfolding update_fault
       update_fault_often every until often none update call other = record {
         feeds = update_fault none update call other;
@@ -757,16 +807,17 @@ module _ {D : Type 0} where
           sent_are = are-append so_far.events (Played step.sent ∷ []) so_far.packets (packet ∷ [])
               so_far.are (are-one (place_in mid t) (place_in new t) packet ends step)
 
-          sent_called : more ≡ between_turns ∷ []
-              → Grows earlier since (moments_of true sent_events)
+          sent_called : more ≡ may ∷ []
+              → Grows earlier since (moments_in look sent_events)
           sent_called once = subst (Grows earlier since)
-              (moments-sent between_turns so_far.events step.sent so_far.ended)
-              (so_far_called (between_turns ∷ []) once)
+              (moments-sent look between_turns rest so_far.events step.sent so_far.ended
+              so_far.behind)
+              (so_far_called (may ∷ []) once)
 
-          sent_timely : AreTimely when sent_fed.commands sent_events
+          sent_timely : AreTimely look when sent_fed.commands sent_events
           unfolding sent_fed fed-join fed-read
           sent_timely =
-              timely-sent when so_far.fed.commands so_far.events step.sent so_far.timely
+              timely-sent look when so_far.fed.commands so_far.events step.sent so_far.timely
 
         -- the directory asked for, or not
         module _ (due : Bool) (asked : place_in new t
@@ -782,12 +833,12 @@ module _ {D : Type 0} where
               (happen-asked t.geometry.objects t.geometry.segment_size t.carousel
               (place_in mid t) (place_in new t) due asked))
 
-          asked_timely : AreTimely when asked_fed.commands (so_far.events ++ asked_for)
+          asked_timely : AreTimely look when asked_fed.commands (so_far.events ++ asked_for)
           unfolding asked_fed fed-join fed-read
-          asked_timely = timely-asked when so_far.fed.commands so_far.events due so_far.timely
+          asked_timely = timely-asked look when so_far.fed.commands so_far.events due so_far.timely
 
-          pub asked_on : SoFar old new start now s when turns left between_turns count before
-              after earlier since more
+          pub asked_on : SoFar look old new start now s when turns left between_turns rest count
+              before after earlier since more
           asked_on = record {
             events = so_far.events ++ asked_for;
             fed = asked_fed;
@@ -795,10 +846,13 @@ module _ {D : Type 0} where
             are = are-asked so_far.events due so_far.packets so_far.are;
             written = so_far.written;
             called = subst (λ l. Grows earlier since (l ++ more))
-                (sym (moments-asked so_far.events due)) so_far.called;
+                (sym (moments-asked look so_far.events due)) so_far.called;
             timely = asked_timely;
             ended = ended-append true so_far.events asked_for
                 ∙ ended-asked (has_ended true so_far.events) due ∙ so_far.ended;
+            behind = left-append look true 0 so_far.events asked_for
+                ∙ left-asked look (has_ended true so_far.events)
+                (left_after look true 0 so_far.events) due ∙ so_far.behind;
             counted = omega (
               arith,
               turns-append so_far.events asked_for,
@@ -824,24 +878,25 @@ module _ {D : Type 0} where
             (refl, sym same))
 
         unsent_timely : (same : place_in new t ≡ place_in mid t)
-            → AreTimely when (unsent_fed same).commands (so_far.events ++ [])
+            → AreTimely look when (unsent_fed same).commands (so_far.events ++ [])
         unfolding unsent_fed fed-join fed-read
-        unsent_timely same = timely-kept when so_far.fed.commands so_far.events so_far.timely
+        unsent_timely same = timely-kept look when so_far.fed.commands so_far.events so_far.timely
 
         -- and there is no packet behind the last call
-        unsent_called : more ≡ between_turns ∷ []
-            → Grows earlier since (moments_of true (so_far.events ++ [])
-            ++ has_ended true (so_far.events ++ []) ∷ [])
+        unsent_called : more ≡ may ∷ []
+            → Grows earlier since (moments_in look (so_far.events ++ [])
+            ++ looks_behind look (so_far.events ++ []) ∷ [])
         unsent_called once = subst (λ (l : List Event).
-            Grows earlier since (moments_of true l ++ has_ended true l ∷ []))
+            Grows earlier since (moments_in look l ++ looks_behind look l ∷ []))
             (sym (append-nil so_far.events))
-            (subst (λ e. Grows earlier since (moments_of true so_far.events ++ e ∷ []))
-            (sym so_far.ended) (so_far_called (between_turns ∷ []) once))
+            (subst (λ e. Grows earlier since (moments_in look so_far.events ++ e ∷ []))
+            (sym (behind-is look between_turns rest so_far.events so_far.ended so_far.behind))
+            (so_far_called (may ∷ []) once))
 
         send_fault-cases : {last : Option (List (List ℕ))} (refusal : Refusal)
-            → more ≡ between_turns ∷ []
+            → more ≡ may ∷ []
             → SendsPacket (Err refusal) (place_in mid t) (place_in new t) after last
-            → FeedsPart refusal old new start now s when before last earlier since
+            → FeedsPart look refusal old new start now s when before last earlier since
         send_fault-cases {last} refusal once (one.whole packet e is step w) =
             absurd (not_fine e refusal (sym is))
         send_fault-cases {last} refusal once (one.short packet e n is step lt w) = record {
@@ -871,9 +926,9 @@ module _ {D : Type 0} where
 
         -- feeding that a fault of a packet or of its write ends
         pub send_fault : {last : Option (List (List ℕ))} (refusal : Refusal)
-            → more ≡ between_turns ∷ [] → ((d : Standing) → Holds mid.view d between
+            → more ≡ may ∷ [] → ((d : Standing) → Holds mid.view d between
             → SendsPacket (Err refusal) (place_in mid d) (place_in new d) after last)
-            → FeedsPart refusal old new start now s when before last earlier since
+            → FeedsPart look refusal old new start now s when before last earlier since
         send_fault refusal once sends = send_fault-cases refusal once (sends t held)
 
         -- the same, with the directory often
@@ -881,7 +936,7 @@ module _ {D : Type 0} where
             (often : OftenUpTo every between_turns (left_for due until) so_far.events)
             (is_so : due ≡ is_due between_turns until) where
           fault_often-cases : {last : Option (List (List ℕ))} (refusal : Refusal)
-              (once : more ≡ between_turns ∷ [])
+              (once : more ≡ may ∷ [])
               (one : SendsPacket (Err refusal) (place_in mid t) (place_in new t) after last)
               → IsOften every (send_fault-cases refusal once one).events
           unfolding send_fault-cases
@@ -892,9 +947,9 @@ module _ {D : Type 0} where
           fault_often-cases {last} refusal once (one.none r other is same w) = often []
 
           pub send_fault_often : {last : Option (List (List ℕ))} (refusal : Refusal)
-              → more ≡ between_turns ∷ [] → ((d : Standing) → Holds mid.view d between
+              → more ≡ may ∷ [] → ((d : Standing) → Holds mid.view d between
               → SendsPacket (Err refusal) (place_in mid d) (place_in new d) after last)
-              → FeedsPartOften every refusal old new start now s when before last earlier since
+              → FeedsPartOften every look refusal old new start now s when before last earlier since
           unfolding send_fault
           send_fault_often refusal once sends = record {
             feeds = send_fault refusal once sends;
@@ -902,11 +957,14 @@ module _ {D : Type 0} where
           }
 
         -- one that was written whole
-        module _ (once : more ≡ between_turns ∷ []) (some : left ≡ 0 → ⊥) (ends : Bool) (rest : ℕ)
-            (is_rest : rest + (if ends then 1 else 0) ≡ left) {last : Option (List (List ℕ))} where
+        module _ (once : more ≡ may ∷ []) (some : left ≡ 0 → ⊥) (ends : Bool) (fewer : ℕ)
+            (is_fewer : fewer + (if ends then 1 else 0) ≡ left) (then_rest : ℕ)
+            (is_rest : (sent : Sent) → place_in new t ≡ sent.place
+            → left_behind look between_turns rest sent ≡ then_rest)
+            {last : Option (List (List ℕ))} where
           sent_on-cases : SendsPacket (Ok ends) (place_in mid t) (place_in new t) after last
-              → SoFar old new start now s when turns rest ends (count + 1) before last
-              earlier since []
+              → SoFar look old new start now s when turns fewer ends then_rest (count + 1) before
+              last earlier since []
           sent_on-cases (one.whole packet e is step w) =
               let same : step.sent.ends_turn ≡ ends = sym step.ends ∙ sym (same_ends ends e is) in
               record {
@@ -917,13 +975,18 @@ module _ {D : Type 0} where
                 written = grows_trans before after last so_far.packets (packet ∷ [])
                     so_far.written w;
                 called = subst (Grows earlier since)
-                    (sym (append-nil (moments_of true (sent_events step)))) (sent_called step once);
+                    (sym (append-nil (moments_in look (sent_events step)))) (sent_called step once);
                 timely = sent_timely step;
                 ended = ended-append true so_far.events (Played step.sent ∷ []) ∙ same;
-                counted = more_turns so_far.events step.sent ends rest left turns same is_rest
+                behind = left-append look true 0 so_far.events (Played step.sent ∷ [])
+                    ∙ ap (λ e. left_behind look e (left_after look true 0 so_far.events) step.sent)
+                    so_far.ended
+                    ∙ ap (λ n. left_behind look between_turns n step.sent) so_far.behind
+                    ∙ is_rest step.sent step.place;
+                counted = more_turns so_far.events step.sent ends fewer left turns same is_fewer
                     so_far.counted;
                 many = length-append so_far.packets (packet ∷ []) ∙ omega (arith, so_far.many);
-                done = λ none. done-cases ends rest left none is_rest some;
+                done = λ none. done-cases ends fewer left none is_fewer some;
               }
           sent_on-cases (one.short packet e n is step lt w) = absurd (not_fine ends _ is)
           sent_on-cases (one.none refusal other is same w) = absurd (not_fine ends refusal is)
@@ -931,8 +994,8 @@ module _ {D : Type 0} where
           -- one more packet, which was made and written
           pub sent_on : ((d : Standing) → Holds mid.view d between
               → SendsPacket (Ok ends) (place_in mid d) (place_in new d) after last)
-              → SoFar old new start now s when turns rest ends (count + 1) before last
-              earlier since []
+              → SoFar look old new start now s when turns fewer ends then_rest (count + 1) before
+              last earlier since []
           sent_on sends = sent_on-cases (sends t held)
 
           -- the same, with the directory often
@@ -960,6 +1023,22 @@ module _ {D : Type 0} where
 
 -- ---- continuity
 
+-- a changed turn is a step
+abbrev change_step : Turn → Place → Step
+change_step turn place = if place.follows then Follow turn else NewTurn turn
+
+change-cases : (turn : Turn) (place : Place) (steps : List Step) (b : Bool)
+    → sent_by place ((if b then Follow turn else NewTurn turn) ∷ steps)
+    ≡ sent_by (if b then follow turn place else change_turn turn place) steps
+unfolding sent_by
+change-cases turn place steps true = refl
+change-cases turn place steps false = refl
+
+change_sent : (turn : Turn) (place : Place) (steps : List Step)
+    → sent_by place (change_step turn place ∷ steps) ≡ sent_by (changed turn place) steps
+unfolding changed
+change_sent turn place steps = change-cases turn place steps place.follows
+
 steps-of : (limit size : ℕ) (c last : Carousel) (place new : Place) (events : List Event)
     → Happen limit size c place events last new
     → (steps : List Step) × (sent_by place steps ≡ Some (sents_in events, new))
@@ -970,16 +1049,16 @@ steps-of limit size c last place new (Played sent ∷ events) is =
     (Request ∷ rest.0, rw (is.0, rest.1) refl)
 steps-of limit size c last place new (Accepted command ∷ events) is =
     let turn = turn_of_carousel is.0 size in
-    let rest = steps-of limit size is.0 last (change_turn turn place) new events is.2 in
-    (NewTurn turn ∷ rest.0, rest.1)
+    let rest = steps-of limit size is.0 last (changed turn place) new events is.2 in
+    (change_step turn place ∷ rest.0, change_sent turn place rest.0 ∙ rest.1)
 steps-of limit size c last place new (Asked ∷ events) is =
     let rest = steps-of limit size c last (hear_directory place) new events is in
     (Directory ∷ rest.0, rest.1)
 
 -- of a server just opened all packets that are fed have their continuity indexes
 pub continuous : FedPacketsAreContinuous
-continuous limit size c last address room turn events new packets some happened are =
-    let steps = steps-of limit size c last (opened_place address room size turn) new events
-    happened in
-    steps-are-continuous address room size turn steps.0 (sents_in events) new packets some steps.1
-    are.read
+continuous limit size c last address room turn follows events new packets some happened are =
+    let steps = steps-of limit size c last
+    (record (opened_place address room size turn) { follows = follows }) new events happened in
+    steps-are-continuous address room size turn follows steps.0 (sents_in events) new packets some
+    steps.1 are.read

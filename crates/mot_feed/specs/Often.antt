@@ -1,5 +1,6 @@
 -- The directory asked for often, while a server is fed from.
-use Rattle.std.specs.Prelude.{◌≡◌, ℕ, ◌*◌, ◌-◌, max, nat_eq, Bool, true, false, not, ◌||◌, ◌&&◌}
+use Rattle.std.specs.Prelude.{◌≡◌, ◌==◌, ℕ, ◌*◌, ◌-◌, max, nat_eq, Bool, true, false, not, ◌||◌}
+use Rattle.std.specs.Prelude.{◌&&◌, if◌then◌else◌}
 use Rattle.std.specs.Prelude.{List, [], ◌∷◌, Option, Some, None}
 use Rattle.disk_model.specs.Disk.{State}
 use Rattle.mot_feed.specs.Feeding.{Accepted, Asked, Event, Feeds, FeedsPart, Played}
@@ -38,15 +39,30 @@ abbrev pub IsOften : ℕ → List Event → Type 0
 IsOften every events = is_often every true (Some 0) events ≡ true
 
 -- turns were fed, and the directory was asked for often
-pub record FeedsOften {D : Type 0} (every : ℕ) (old new : ServerView D) (start now : State)
+pub record FeedsOften {D : Type 0} (every look : ℕ) (old new : ServerView D) (start now : State)
     (s : Standing) (when : When) (turns : ℕ) (before after : Option (List (List ℕ)))
     (earlier later : Option (List Bool)) : Type 0 where
-  pub feeds : Feeds old new start now s when turns before after earlier later
+  pub feeds : Feeds look old new start now s when turns before after earlier later
   pub often : IsOften every feeds.events
 
 -- this refusal came, and up to it the directory was asked for often
-pub record FeedsPartOften {D : Type 0} (every : ℕ) (refusal : Refusal) (old new : ServerView D)
-    (start now : State) (s : Standing) (when : When) (before after : Option (List (List ℕ)))
+pub record FeedsPartOften {D : Type 0} (every look : ℕ) (refusal : Refusal)
+    (old new : ServerView D) (start now : State) (s : Standing) (when : When) (before after : Option (List (List ℕ)))
     (earlier later : Option (List Bool)) : Type 0 where
-  pub feeds : FeedsPart refusal old new start now s when before after earlier later
+  pub feeds : FeedsPart look refusal old new start now s when before after earlier later
   pub often : IsOften every feeds.events
+
+-- after how many packets a look may come within a turn, where the directory is sent again after so
+-- many: where that is 0, changes begin the turn anew, and looks come between turns
+abbrev pub look_in : (every look : ℕ) → ℕ
+look_in every look = if every == 0 then 0 else look
+
+-- and the server as it is fed then: one that follows, or as it was
+abbrev pub server_for : {D : Type 0} → (every : ℕ) → ServerView D → ServerView D
+server_for every server = record server {
+  player = record server.player { follows = not (every == 0) || server.player.follows };
+}
+
+-- and where it stands then
+abbrev pub place_for : (every : ℕ) → Place → Place
+place_for every place = record place { follows = not (every == 0) || place.follows }

@@ -31,12 +31,12 @@ pub fn feed<D: Disk, O: Outlet, U: Update>(
         (D.state server.old.disk) (D.state server.new.disk) refusal) }
     ensures fed { (s : Standing) → Holds server.old.view s (D.state server.old.disk)
         → (D.state server.new.disk).IsHonest
-        → OnOk result (Feeds server.old server.new (D.state server.old.disk)
+        → OnOk result (Feeds 0 server.old server.new (D.state server.old.disk)
         (D.state server.new.disk) s U.when turns (O.writes outlet.old) (O.writes outlet.new)
         (U.moments update.old) (U.moments update.new)) }
     ensures part { (s : Standing) → Holds server.old.view s (D.state server.old.disk)
         → (D.state server.new.disk).IsHonest
-        → IfErr result (λ refusal. FeedsPart refusal server.old server.new
+        → IfErr result (λ refusal. FeedsPart 0 refusal server.old server.new
         (D.state server.old.disk) (D.state server.new.disk) s U.when
         (O.writes outlet.old) (O.writes outlet.new)
         (U.moments update.old) (U.moments update.new)) }

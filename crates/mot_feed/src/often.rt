@@ -1,12 +1,13 @@
-//! Feeding with the directory often.
-ghost use Rattle.std.specs.Prelude.{◌≡◌, ◌<◌, if◌then◌else◌, IfErr, OnOk};
+//! Feeding with the directory often, changes next, and looks within a turn.
+ghost use Rattle.std.specs.Prelude.{◌≡◌, ◌==◌, ◌-◌, ◌<◌, if◌then◌else◌, IfErr, OnOk};
 ghost use Rattle.disk_model.specs.Disk.{KeepsLength};
 ghost use Rattle.mot_feed.specs.Feeding.{FedPacketsAreContinuous, Feeds, FeedsPart, IsFeedFault};
-ghost use Rattle.mot_feed.specs.Often.{FeedsOften, FeedsPartOften, pause};
+ghost use Rattle.mot_feed.specs.Feeding.{may_look};
+ghost use Rattle.mot_feed.specs.Often.{FeedsOften, FeedsPartOften, look_in, pause, server_for};
 ghost use Rattle.mot_journal.specs.Image.{Standing};
 ghost use Rattle.mot_player.specs.Place.{hear_directory};
 ghost use Rattle.mot_repository.specs.Repository.{Agrees, Holds};
-ghost use Rattle.mot_server.specs.Server.{place_in};
+ghost use Rattle.mot_server.specs.Server.{following_server, place_in};
 ghost use Rattle.mot_update.specs.Faults.{StaysCalm};
 
 use crate::Outlet;
@@ -18,10 +19,15 @@ use mot_server::Server;
 use mot_update::Update;
 use std::alloc::Global;
 
-/// As `feed`, and the directory is asked for in front of each turn, which changes nothing there,
-/// and then again and again: after the packet that follows, `every` packets go out until the next
-/// time, or ten times as many as the directory takes, if these are more. It is asked for at no
-/// other time.
+/// As `feed`, but an accepted command does not begin the turn anew: what it changed comes next, and
+/// then the turn goes on.
+///
+/// The directory is asked for in front of each turn, which changes nothing there, and then again and
+/// again: after the packet that follows, `every` packets go out until the next time, or ten times as
+/// many as the directory takes, if these are more. It is asked for at no other time.
+///
+/// A look may come between turns, and within a turn after `look` packets since one might come last,
+/// without those after which changed bodies wait; if `look` is 0, only between turns.
 pub fn feed_often<D: Disk, O: Outlet, U: Update>(
     server: &mut Server<D>,
     alloc: Global,
@@ -29,6 +35,7 @@ pub fn feed_often<D: Disk, O: Outlet, U: Update>(
     outlet: &mut O,
     turns: u64,
     every: u64,
+    look: u64,
 ) -> Result<(), Refusal>
     ensures keeps { KeepsLength (D.state server.old.disk) (D.state server.new.disk) }
     ensures calm { OnOk result
@@ -37,29 +44,35 @@ pub fn feed_often<D: Disk, O: Outlet, U: Update>(
         (D.state server.old.disk) (D.state server.new.disk) refusal) }
     ensures fed { (s : Standing) → Holds server.old.view s (D.state server.old.disk)
         → (D.state server.new.disk).IsHonest
-        → OnOk result (FeedsOften every server.old server.new (D.state server.old.disk)
-        (D.state server.new.disk) s U.when turns (O.writes outlet.old) (O.writes outlet.new)
+        → OnOk result (FeedsOften every look (following_server server.old) server.new
+        (D.state server.old.disk) (D.state server.new.disk) s U.when turns
+        (O.writes outlet.old) (O.writes outlet.new)
         (U.moments update.old) (U.moments update.new)) }
     ensures part { (s : Standing) → Holds server.old.view s (D.state server.old.disk)
         → (D.state server.new.disk).IsHonest
-        → IfErr result (λ refusal. FeedsPartOften every refusal server.old server.new
+        → IfErr result (λ refusal. FeedsPartOften every look refusal
+        (following_server server.old) server.new
         (D.state server.old.disk) (D.state server.new.disk) s U.when
         (O.writes outlet.old) (O.writes outlet.new)
         (U.moments update.old) (U.moments update.new)) }
     ensures continuous { FedPacketsAreContinuous }
 {
+    server.follow_changes();
     let mut left = turns;
     let mut between_turns = true;
     let mut until = 0;
+    let mut rest = 0;
     for _ in 0..u64::MAX {
         if left == 0 {
             return Ok(());
         }
-        update.update(server, alloc, between_turns)?;
+        let may = may_look(look, between_turns, rest);
+        update.update(server, alloc, may)?;
         let due = between_turns || until == 0;
         ask(server, due);
         between_turns = send_one(server, outlet)?;
         until = if due { pause(server, every) } else { until - 1 };
+        rest = rest_after(server, look, may, rest);
         if between_turns {
             left -= 1;
         }
@@ -75,6 +88,7 @@ pub fn feed_every<D: Disk, O: Outlet, U: Update>(
     outlet: &mut O,
     turns: u64,
     every: u32,
+    look: u32,
 ) -> Result<(), Refusal>
     ensures keeps { KeepsLength (D.state server.old.disk) (D.state server.new.disk) }
     ensures calm { OnOk result
@@ -83,28 +97,60 @@ pub fn feed_every<D: Disk, O: Outlet, U: Update>(
         (D.state server.old.disk) (D.state server.new.disk) refusal) }
     ensures fed { (s : Standing) → Holds server.old.view s (D.state server.old.disk)
         → (D.state server.new.disk).IsHonest
-        → OnOk result (Feeds server.old server.new (D.state server.old.disk)
-        (D.state server.new.disk) s U.when turns (O.writes outlet.old) (O.writes outlet.new)
+        → OnOk result (Feeds (look_in every look) (server_for every server.old) server.new
+        (D.state server.old.disk) (D.state server.new.disk) s U.when turns
+        (O.writes outlet.old) (O.writes outlet.new)
         (U.moments update.old) (U.moments update.new)) }
     ensures part { (s : Standing) → Holds server.old.view s (D.state server.old.disk)
         → (D.state server.new.disk).IsHonest
-        → IfErr result (λ refusal. FeedsPart refusal server.old server.new
+        → IfErr result (λ refusal. FeedsPart (look_in every look) refusal
+        (server_for every server.old) server.new
         (D.state server.old.disk) (D.state server.new.disk) s U.when
         (O.writes outlet.old) (O.writes outlet.new)
         (U.moments update.old) (U.moments update.new)) }
     ensures continuous { FedPacketsAreContinuous }
 
-    // The directory is asked for often, if it is to be.
+    // The directory is asked for often, and changes are followed, if it is to be.
     ensures often { (s : Standing) → Holds server.old.view s (D.state server.old.disk)
         → (D.state server.new.disk).IsHonest → 0 < every
-        → OnOk result (FeedsOften every server.old server.new (D.state server.old.disk)
-        (D.state server.new.disk) s U.when turns (O.writes outlet.old) (O.writes outlet.new)
+        → OnOk result (FeedsOften every look (following_server server.old) server.new
+        (D.state server.old.disk) (D.state server.new.disk) s U.when turns
+        (O.writes outlet.old) (O.writes outlet.new)
         (U.moments update.old) (U.moments update.new)) }
 {
     if every == 0 {
         return feed(server, alloc, update, outlet, turns);
     }
-    feed_often(server, alloc, update, outlet, turns, u64::from(every))
+    feed_often(
+        server,
+        alloc,
+        update,
+        outlet,
+        turns,
+        u64::from(every),
+        u64::from(look),
+    )
+}
+
+/// Whether a look may come: between turns, or if no more packets go out before one within a turn.
+fn may_look(look: u64, between_turns: bool, rest: u64) -> bool
+    ensures { result ≡ may_look look between_turns rest }
+{
+    (look > 0 && rest == 0) || between_turns
+}
+
+/// How many packets go out before a look may come within a turn, after a packet in front of which
+/// one might or not: it does not count if changed bodies wait.
+fn rest_after<D: Disk>(server: &Server<D>, look: u64, may: bool, rest: u64) -> u64
+    ensures { (s : Standing) → Agrees server.now.view s → result
+        ≡ (if may then look else rest) - (if (place_in server.now s).early == 0 then 1 else 0) }
+{
+    let rest = if may { look } else { rest };
+    if server.has_early() {
+        rest
+    } else {
+        rest.saturating_sub(1)
+    }
 }
 
 /// How many packets go out before the directory is asked for again.

@@ -41,6 +41,6 @@ pub data HasLookedAtFolder {D : Type 0} (old new : ServerView D) (start now : St
       → TellsOf types given report seen looked.runs.answers looked.wanted
       → HasLookedAtFolder old new start now s types path given report fault
 
--- whether a look is due: between turns, where this packet was the last that was to come before it
+-- whether a look is due: where one may come, and this packet was the last that was to come before it
 abbrev pub is_due : ℕ → Bool → Bool
-is_due left between_turns = between_turns && nat_le left 1
+is_due left may_look = may_look && nat_le left 1

@@ -1,8 +1,8 @@
-//! A look at a folder, and looks between the turns of a feed.
+//! A look at a folder, and looks between the packets of a feed.
 ghost use Rattle.std.specs.Prelude.{◌≡◌, ◌-◌, ◌∷◌, [], None, OnOk, true, false};
 ghost use Rattle.disk_model.specs.Disk.{KeepsLength};
 ghost use Rattle.mot_packets.specs.Outlet.{Grows};
-ghost use Rattle.mot_update.specs.Between.{BetweenTurns, IsUpdating, may_change};
+ghost use Rattle.mot_update.specs.Between.{AtLooks, IsUpdating, may_change};
 ghost use Rattle.mot_folder.specs.Looked.{HasLookedAtFolder, is_due};
 ghost use Rattle.mot_journal.specs.Image.{Standing};
 ghost use Rattle.mot_repository.specs.Repository.{Holds};
@@ -22,7 +22,8 @@ use std::alloc::Global;
 use std::io::Write;
 use std::mem::swap;
 
-/// How many packets come between two looks, and then those up to the end of a turn.
+/// How many packets come between two looks, and then those up to where one may come, if no other
+/// number is set.
 const PACKETS: u64 = 1_000;
 
 /// Makes the carousel equal to the files of the folder that have one of the suffixes. A folder that
@@ -60,8 +61,8 @@ pub fn look_at_folder<S: Shelf + Drop, D: Disk>(
     folder.report.end()
 }
 
-/// Looks at a folder before the first packet, and then at the first end of a turn after 1,000
-/// packets. The lines of a look are written to the log and flushed after it, except those that the
+/// Looks at a folder before the first packet, and then where one may come, at the first such place
+/// after 1,000 packets, or after as many as `every` is set to. The lines of a look are written to the log and flushed after it, except those that the
 /// look before had, too. If that fails, the look counts all the same.
 #[derive(Drop)]
 pub struct Looks<'a, S: Shelf + Drop, W: Write + Drop> {
@@ -70,6 +71,8 @@ pub struct Looks<'a, S: Shelf + Drop, W: Write + Drop> {
     log: W,
     /// The lines of the look before it.
     before: Vec<u8>,
+    /// How many packets come between two looks, and then those up to where one may come.
+    pub every: u64,
     /// How many packets come before the next look.
     pub left: u64,
 }
@@ -78,6 +81,7 @@ impl<'a, S: Shelf + Drop, W: Write + Drop> Looks<'a, S, W> {
     /// No look yet.
     pub fn new(alloc: Global, shelf: S, types: &'a FileTypes, log: W) -> Looks<'a, S, W>
         ensures due { result.left ≡ 0 }
+        ensures every { result.every ≡ PACKETS }
         ensures shelf { result.folder.shelf ≡ shelf }
         ensures types { result.folder.types.now ≡ types.now }
     {
@@ -85,19 +89,20 @@ impl<'a, S: Shelf + Drop, W: Write + Drop> Looks<'a, S, W> {
             folder: Folder::new(alloc, shelf, types),
             log,
             before: Vec::new(alloc),
+            every: PACKETS,
             left: 0,
         }
     }
 }
 
 impl<'a, S: Shelf + Drop, W: Write + Drop> Update for Looks<'a, S, W> {
-    ghost when = { BetweenTurns };
+    ghost when = { AtLooks };
 
     fn update<D: Disk>(
         &mut self,
         server: &mut Server<D>,
         alloc: Global,
-        between_turns: bool,
+        may_look: bool,
     ) -> Result<(), Refusal>
         ensures keeps { KeepsLength (D.state server.old.disk) (D.state server.new.disk) }
         ensures faults { TellsFaults server.old server.new
@@ -105,14 +110,15 @@ impl<'a, S: Shelf + Drop, W: Write + Drop> Update for Looks<'a, S, W> {
         ensures run { (s : Standing) → Holds server.old.view s (D.state server.old.disk)
             → (D.state server.new.disk).IsHonest
             → IsUpdating server.old server.new (D.state server.old.disk)
-            (D.state server.new.disk) s (may_change BetweenTurns between_turns) (fault_of result) }
-        ensures called { Grows None None (between_turns ∷ []) }
+            (D.state server.new.disk) s (may_change AtLooks may_look) (fault_of result) }
+        ensures called { Grows None None (may_look ∷ []) }
 
         // It looks if a look is due, and else it only counts.
-        ensures counts { is_due self.old.left between_turns ≡ false
+        ensures counts { is_due self.old.left may_look ≡ false
             → (server.new ≡ server.old) × (self.new.left ≡ self.old.left - 1) }
-        ensures looks { is_due self.old.left between_turns ≡ true → self.new.left ≡ PACKETS }
-        ensures looked { is_due self.old.left between_turns ≡ true
+        ensures looks { is_due self.old.left may_look ≡ true → self.new.left ≡ self.old.every }
+        ensures pace { self.new.every ≡ self.old.every }
+        ensures looked { is_due self.old.left may_look ≡ true
             → (s : Standing) → Holds server.old.view s (D.state server.old.disk)
             → (D.state server.new.disk).IsHonest
             → HasLookedAtFolder server.old server.new (D.state server.old.disk)
@@ -120,10 +126,10 @@ impl<'a, S: Shelf + Drop, W: Write + Drop> Update for Looks<'a, S, W> {
             (S.path self.old.folder.shelf) (S.gave self.new.folder.shelf) self.new.folder.report
             (fault_of result) }
     {
-        if !look_is_due(&mut self.left, between_turns) {
+        if !look_is_due(&mut self.left, may_look) {
             return Ok(());
         }
-        self.left = PACKETS;
+        self.left = self.every;
         swap(&mut self.before, &mut self.folder.report.lines);
         let result = look_at_folder(alloc, server, &mut self.folder);
         tell_new(
@@ -136,12 +142,12 @@ impl<'a, S: Shelf + Drop, W: Write + Drop> Update for Looks<'a, S, W> {
 }
 
 /// Counts a packet of those that come before the next look; whether that is due.
-fn look_is_due(left: &mut u64, between_turns: bool) -> bool
-    ensures due { result ≡ is_due left.old between_turns }
+fn look_is_due(left: &mut u64, may_look: bool) -> bool
+    ensures due { result ≡ is_due left.old may_look }
     ensures counts { left.new ≡ left.old - 1 }
 {
     *left = left.saturating_sub(1);
-    between_turns && *left == 0
+    may_look && *left == 0
 }
 
 /// Writes the lines that are not among those before, and flushes. Most of them stand there in the

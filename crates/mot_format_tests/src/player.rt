@@ -157,6 +157,7 @@ fn played(
 /// Changes to the scene, whose packets have these headers.
 fn play_on(
     rt: &impl Abort,
+    alloc: Global,
     player: &mut Player,
     scene: Scene,
     rows: &[(&[u8], bool)],
@@ -164,7 +165,8 @@ fn play_on(
     requires { AreBodiesFor scene.turn scene.bodies.items }
 {
     let Scene { turn, mut bodies } = scene;
-    player.changed(turn);
+    let spare = player.spare(alloc)?;
+    player.changed(turn, spare);
     expect_packets(rt, player, &mut bodies, rows)
 }
 
@@ -223,7 +225,7 @@ const ONE: [(&[u8], bool); 4] = [
 fn first_object(rt: HostRuntime) -> Result<(), Fail> {
     let alloc = rt.alloc();
     let mut player = played(&rt, alloc, 24, 1024, no_object(alloc, 1024)?, &EMPTY)?;
-    play_on(&rt, &mut player, image(alloc)?, &ONE)?;
+    play_on(&rt, alloc, &mut player, image(alloc)?, &ONE)?;
     Ok(())
 }
 
@@ -262,7 +264,120 @@ const AFTER: [(&[u8], bool); 4] = [
 fn change_inside_a_group(rt: HostRuntime) -> Result<(), Fail> {
     let alloc = rt.alloc();
     let mut player = played(&rt, alloc, 24, 1024, long_object(alloc, 3, 2)?, &BEFORE)?;
-    play_on(&rt, &mut player, long_object(alloc, 5, 4)?, &AFTER)?;
+    play_on(&rt, alloc, &mut player, long_object(alloc, 5, 4)?, &AFTER)?;
+    Ok(())
+}
+
+/// An object of a body in two segments of 64 bytes, with these ids.
+fn two_parts(alloc: Global, directory: u16, tid: u16) -> Result<Scene, Refusal>
+    ensures { IfOk result (λ scene. AreBodiesFor scene.turn scene.bodies.items) }
+{
+    one_object(alloc, directory, tid, None, &[9; 65], 64)
+}
+
+/// Plays these packets of the first scene, and behind the change, which is followed, those of the
+/// other.
+fn follow(
+    rt: &impl Abort,
+    alloc: Global,
+    first: Scene,
+    before: &[(&[u8], bool)],
+    other: Scene,
+    after: &[(&[u8], bool)],
+) -> Result<(), Refusal>
+    requires first { AreBodiesFor first.turn first.bodies.items }
+    requires other { AreBodiesFor other.turn other.bodies.items }
+{
+    let mut player = played(rt, alloc, 96, 64, first, before)?;
+    player.follow_changes();
+    play_on(rt, alloc, &mut player, other, after)
+}
+
+// A body that is replaced before its place comes next, and again in its place.
+#[test]
+fn replaced_before_its_place(rt: HostRuntime) -> Result<(), Fail> {
+    let alloc = rt.alloc();
+    let before = [(b"\x4C\x01\x27\x76\x00".as_slice(), false)];
+    let after = [
+        (b"\x5C\x01\x27\x76\x10".as_slice(), false),
+        (b"\xEC\x01\x4B\x74\x00\x00\x00".as_slice(), false),
+        (b"\x3C\x01\x0C\x74\x10\x80\x01".as_slice(), false),
+        (b"\xCC\x01\x4B\x74\x20\x00\x00".as_slice(), false),
+        (b"\x1C\x01\x0C\x74\x30\x80\x01".as_slice(), true),
+    ];
+    follow(
+        &rt,
+        alloc,
+        two_parts(alloc, 3, 2)?,
+        &before,
+        two_parts(alloc, 5, 4)?,
+        &after,
+    )?;
+    Ok(())
+}
+
+// The rest of a body that is replaced in the middle is dropped.
+#[test]
+fn replaced_in_the_middle(rt: HostRuntime) -> Result<(), Fail> {
+    let alloc = rt.alloc();
+    let before = [
+        (b"\x4C\x01\x27\x76\x00".as_slice(), false),
+        (b"\xDC\x01\x4B\x74\x00\x00\x00".as_slice(), false),
+    ];
+    let after = [
+        (b"\x6C\x01\x27\x76\x10".as_slice(), false),
+        (b"\xFC\x01\x4B\x74\x10\x00\x00".as_slice(), false),
+        (b"\x0C\x01\x0C\x74\x20\x80\x01".as_slice(), true),
+        (b"\x5C\x01\x27\x76\x10".as_slice(), false),
+    ];
+    follow(
+        &rt,
+        alloc,
+        two_parts(alloc, 3, 2)?,
+        &before,
+        two_parts(alloc, 5, 4)?,
+        &after,
+    )?;
+    Ok(())
+}
+
+// Of a body that is withdrawn in the middle no more comes.
+#[test]
+fn withdrawn_in_the_middle(rt: HostRuntime) -> Result<(), Fail> {
+    let alloc = rt.alloc();
+    let before = [
+        (b"\x4C\x01\x27\x76\x00".as_slice(), false),
+        (b"\xDC\x01\x4B\x74\x00\x00\x00".as_slice(), false),
+    ];
+    let after = [(b"\x6C\x01\x18\x76\x10\x80\x00".as_slice(), true)];
+    follow(
+        &rt,
+        alloc,
+        two_parts(alloc, 3, 2)?,
+        &before,
+        no_object(alloc, 64)?,
+        &after,
+    )?;
+    Ok(())
+}
+
+// A body that is put at the end of a turn comes once.
+#[test]
+fn put_at_the_end(rt: HostRuntime) -> Result<(), Fail> {
+    let alloc = rt.alloc();
+    let after = [
+        (b"\x4C\x01\x27\x76\x00".as_slice(), false),
+        (b"\xDC\x01\x4B\x74\x00\x00\x00".as_slice(), false),
+        (b"\x2C\x01\x0C\x74\x10\x80\x01".as_slice(), true),
+    ];
+    follow(
+        &rt,
+        alloc,
+        no_object(alloc, 64)?,
+        &[],
+        two_parts(alloc, 3, 2)?,
+        &after,
+    )?;
     Ok(())
 }
 

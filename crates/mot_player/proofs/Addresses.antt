@@ -75,5 +75,5 @@ steps-address (NewTurn turn ∷ steps) place sents new h =
     steps-address steps (change_turn turn place) sents new h
 steps-address (Directory ∷ steps) place sents new h =
     steps-address steps (hear_directory place) sents new h
-steps-address (Follow turn fresh ∷ steps) place sents new h =
-    steps-address steps (follow turn fresh place) sents new h
+steps-address (Follow turn ∷ steps) place sents new h =
+    steps-address steps (follow turn place) sents new h

@@ -4,14 +4,13 @@ use Rattle.std.proofs.Common.{Some, None, ◌⊎◌, inl, inr, refl, sym, subst,
 use Rattle.std.proofs.Common.{arith, ap, ◌∙◌, append-nil, eq-eqb}
 use Rattle.std.proofs.lemmas.Bool.{and_parts, eqb-true, ne_eqb}
 use Rattle.std.proofs.lemmas.Option.{none-some, same_Some}
-use Rattle.std.specs.Prelude.{◌==◌, ◌&&◌, not, filter, if◌then◌else◌, slice_index}
+use Rattle.std.specs.Prelude.{◌==◌, filter, if◌then◌else◌, slice_index}
 use Rattle.std.specs.List.{list_all, AllByRecursion}
 use Rattle.mot_groups.proofs.Laws.{content_of-bytes_of_group}
 use Rattle.mot_groups.specs.Entity.{numbered_segments, pieces, segments_of}
 use Rattle.mot_groups.specs.Group.{Segment, GroupFields, content_of, segment_content}
 use Rattle.mot_groups.specs.Group.{bytes_of_group}
 use Rattle.mot_numbers.specs.Reading.{◌>>=◌, read_each, is_empty}
-use Rattle.mot_objects.specs.Ids.{contains}
 use Rattle.mot_packets.specs.Cut.{piece_at}
 use Rattle.mot_packets.specs.Gather.{groups_after, have_one_address, gather_front}
 use Rattle.mot_packets.specs.Packet.{PacketFields, read_packet}
@@ -20,13 +19,13 @@ use Rattle.mot_player.specs.Continuity.{kind_of, group_index, contents, changes,
 use Rattle.mot_player.specs.Continuity.{indexes_after, packet_index, packet_indexes_from}
 use Rattle.mot_player.specs.Laws.{StepsAreContinuous}
 use Rattle.mot_player.specs.Place.{Last, UnderWay, Place, Sent, Step, Request, NewTurn, Directory}
-use Rattle.mot_player.specs.Place.{Follow}
+use Rattle.mot_player.specs.Place.{Change, Follow, change_between, early_after}
 use Rattle.mot_player.specs.Place.{next_index, hear_directory, follow, directory_segments}
 use Rattle.mot_player.specs.Place.{of_bodies}
-use Rattle.mot_player.specs.Place.{bodies_among, that_stay, ids_of, left_of, left_with}
 use Rattle.mot_player.specs.Place.{group_for, with_begun, packet_sent, first_sent, to_send}
 use Rattle.mot_player.specs.Place.{next_sent, request, change_turn, sent_by, opened_place}
 use Rattle.mot_player.specs.Turn.{Turn, segments_of_turn, segments_of_bodies}
+use Rattle.mot_player.proofs.Followed.{AreBodies, bodies-early_after, bodies-renewed, renewed}
 use Rattle.mot_player.proofs.Indexes.{IsLast, IsLast-next, contents-append, kind_of-group}
 use Rattle.mot_player.proofs.Indexes.{group_index-group, some_bytes-group}
 use Rattle.mot_player.proofs.Requests.{>>=-some, FirstRequest, first_request, no_steps, packets_of}
@@ -87,11 +86,10 @@ AreKinds-to_send place k =
     kinds-of_cases (is_empty place.waiting) (segments_of_turn place.turn place.segment_size)
     place.waiting (AreKinds-turn place.turn place.segment_size) k
 
--- and those that are left
-AreKinds-left : (place : Place) (u : Option UnderWay) → AllByRecursion IsKind place.waiting →
-    AllByRecursion IsKind (left_with place u)
-AreKinds-left place None k = AreKinds-to_send place k
-AreKinds-left place (Some u) k = k
+-- and those of bodies
+AreKinds-of_bodies : (xs : List Segment) → AreBodies xs → AllByRecursion IsKind xs
+AreKinds-of_bodies [] k = tt
+AreKinds-of_bodies (x ∷ xs) k = (inr k.0, AreKinds-of_bodies xs k.1)
 
 AreKinds-directory : (turn : Turn) (size : ℕ)
     → AllByRecursion IsKind (directory_segments turn size)
@@ -412,24 +410,18 @@ steps-continue (Directory ∷ steps) before n place sents new st h =
       index = st.index;
       room = st.room;
     }) h
-steps-continue (Follow turn fresh ∷ steps) before n place sents new st h =
-    steps-continue steps before n (follow turn fresh place) sents new (record {
+steps-continue (Follow turn ∷ steps) before n place sents new st h =
+    let change : Change = change_between place.turn.bodies turn.bodies in
+    let directory : List Segment = directory_segments turn place.segment_size in
+    let early : List Segment = early_after change place in
+    steps-continue steps before n (follow turn place) sents new (record {
       inside = st.inside;
       directory = st.directory;
       body = st.body;
-      kinds = AreKinds-append
-          (directory_segments turn place.segment_size
-          ++ segments_of_bodies place.segment_size (bodies_among fresh turn))
-          (that_stay fresh turn (left_of place))
-          (AreKinds-append (directory_segments turn place.segment_size)
-          (segments_of_bodies place.segment_size (bodies_among fresh turn))
-          (AreKinds-directory turn place.segment_size)
-          (AreKinds-bodies place.segment_size (bodies_among fresh turn)))
-          (AreKinds-filter
-          (λ (s : Segment). contains (ids_of turn) s.tid && not (contains fresh s.tid))
-          (of_bodies (left_of place))
-          (AreKinds-filter (λ (s : Segment). s.kind == 4) (left_of place)
-          (AreKinds-left place place.under_way st.kinds)));
+      kinds = AreKinds-append (directory ++ early) (renewed change place)
+          (AreKinds-append directory early (AreKinds-directory turn place.segment_size)
+          (AreKinds-of_bodies early (bodies-early_after change place)))
+          (AreKinds-of_bodies (renewed change place) (bodies-renewed change place));
       index = st.index;
       room = st.room;
     }) h
@@ -466,8 +458,9 @@ packets-counted n (p ∷ packets) fields e i =
 -- whatever turns come between requests, the packets have their continuity indexes
 pub steps-are-continuous : StepsAreContinuous
 unfolding gather_front
-steps-are-continuous address room size turn steps sents new packets r h sent =
-    let c = steps-continue steps [] 0 (opened_place address room size turn) sents new
+steps-are-continuous address room size turn follows steps sents new packets r h sent =
+    let c = steps-continue steps [] 0
+    (record (opened_place address room size turn) { follows = follows }) sents new
     (record { inside = tt; directory = refl; body = refl; kinds = tt; index = refl; room = r }) h in
     record {
       groups = c.groups;

@@ -27,8 +27,8 @@ one-more_request (NewTurn turn ∷ steps) place mid sents s h r =
     one-more_request steps (change_turn turn place) mid sents s h r
 one-more_request (Directory ∷ steps) place mid sents s h r =
     one-more_request steps (hear_directory place) mid sents s h r
-one-more_request (Follow turn fresh ∷ steps) place mid sents s h r =
-    one-more_request steps (follow turn fresh place) mid sents s h r
+one-more_request (Follow turn ∷ steps) place mid sents s h r =
+    one-more_request steps (follow turn place) mid sents s h r
 
 one-more_change : (steps : List Step) (place mid : Place) (sents : List Sent) (turn : Turn) →
     sent_by place steps ≡ Some (sents, mid) →
@@ -46,8 +46,8 @@ one-more_change (NewTurn next ∷ steps) place mid sents turn h =
     one-more_change steps (change_turn next place) mid sents turn h
 one-more_change (Directory ∷ steps) place mid sents turn h =
     one-more_change steps (hear_directory place) mid sents turn h
-one-more_change (Follow next fresh ∷ steps) place mid sents turn h =
-    one-more_change steps (follow next fresh place) mid sents turn h
+one-more_change (Follow next ∷ steps) place mid sents turn h =
+    one-more_change steps (follow next place) mid sents turn h
 
 -- one more request goes on where the steps before left off
 pub requests-go_on : RequestsGoOn
@@ -74,5 +74,5 @@ steps-go_on (NewTurn turn ∷ steps) more place mid new sents others h r =
     steps-go_on steps more (change_turn turn place) mid new sents others h r
 steps-go_on (Directory ∷ steps) more place mid new sents others h r =
     steps-go_on steps more (hear_directory place) mid new sents others h r
-steps-go_on (Follow turn fresh ∷ steps) more place mid new sents others h r =
-    steps-go_on steps more (follow turn fresh place) mid new sents others h r
+steps-go_on (Follow turn ∷ steps) more place mid new sents others h r =
+    steps-go_on steps more (follow turn place) mid new sents others h r

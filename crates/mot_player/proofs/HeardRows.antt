@@ -4,8 +4,7 @@ use Rattle.std.proofs.Common.{◌≡◌, ℕ, List, [], ◌∷◌, ◌++◌, Boo
 use Rattle.std.specs.Prelude.{Option, Some, None}
 use Rattle.mot_groups.specs.Group.{Segment}
 use Rattle.mot_player.specs.Place.{Place, Sent, Step, Request, Directory, Follow}
-use Rattle.mot_player.specs.Place.{opened_place, request, sent_by, hear_directory}
-use Rattle.mot_player.specs.Place.{follow}
+use Rattle.mot_player.specs.Place.{opened_place, request, sent_by, hear_directory, follow}
 use Rattle.mot_player.specs.Staying.{begun_by}
 use Rattle.mot_player.specs.Turn.{Turn}
 use Rattle.mot_groups.specs.Group.{bytes_of_group}
@@ -36,16 +35,40 @@ old_turn = record {
   bodies = (2, 1 ∷ 2 ∷ 3 ∷ []) ∷ (4, 5 ∷ []) ∷ [];
 }
 
--- body 4 is gone, and 6 has come in front
-abbrev new_turn : Turn
-new_turn = record {
-  tid = 11;
-  directory = 1 ∷ 3 ∷ [];
-  bodies = (6, 7 ∷ []) ∷ (2, 1 ∷ 2 ∷ 3 ∷ []) ∷ [];
-}
+-- a body of two segments and one of one are put behind; the second is replaced, and the first; the
+-- second is gone; only the directory is another
+abbrev turn_of : ℕ → List (ℕ × List ℕ) → Turn
+turn_of tid bodies = record { tid = tid; directory = 1 ∷ 3 ∷ []; bodies = bodies }
+
+abbrev put_turn : Turn
+put_turn = turn_of 11 ((2, 1 ∷ 2 ∷ 3 ∷ []) ∷ (4, 5 ∷ []) ∷ (6, 7 ∷ 8 ∷ 9 ∷ []) ∷ [])
+
+abbrev second_turn : Turn
+second_turn = turn_of 11 ((2, 1 ∷ 2 ∷ 3 ∷ []) ∷ (6, 7 ∷ 8 ∷ 9 ∷ []) ∷ [])
+
+abbrev first_turn : Turn
+first_turn = turn_of 11 ((6, 7 ∷ 8 ∷ 9 ∷ []) ∷ (4, 5 ∷ []) ∷ [])
+
+abbrev gone_turn : Turn
+gone_turn = turn_of 11 ((2, 1 ∷ 2 ∷ 3 ∷ []) ∷ [])
+
+abbrev same_turn : Turn
+same_turn = turn_of 11 ((2, 1 ∷ 2 ∷ 3 ∷ []) ∷ (4, 5 ∷ []) ∷ [])
 
 abbrev start : Place
 start = opened_place 1 91 2 old_turn
+
+-- and with short packets, of which a group takes two
+abbrev short_start : Place
+short_start = opened_place 1 10 2 old_turn
+
+-- so many packets, the one that ends a turn, and so many more
+abbrev one_end : ℕ → ℕ → List Bool
+one_end before behind = replicate before false ++ true ∷ replicate behind false
+
+-- which segments' groups are begun, and where turns end
+abbrev played : Place → List Step → List Seen × List Bool
+played place steps = (seen (begun_by place steps), ends (sent_by place steps))
 
 -- the directory between two segments of one body: the body goes on, and the turn ends as before
 between-begun : seen (begun_by start (requests 2 ++ Directory ∷ requests 4))
@@ -75,22 +98,185 @@ unfolding sent_by request hear_directory bytes_of_group crc_of bits_of bits_of_b
     number_of_bits added_to_front remainder
 late-ends = refl
 
--- a changed turn: its directory, the fresh body, and then the old body goes on where it was
-followed-begun : seen (begun_by start (requests 2 ++ Follow new_turn (6 ∷ []) ∷ requests 5))
-    ≡ (6, 9, 0) ∷ (4, 2, 0) ∷ (6, 11, 0) ∷ (4, 6, 0) ∷ (4, 2, 1) ∷ (6, 11, 0) ∷ (4, 6, 0) ∷ []
-unfolding begun_by request follow bytes_of_group crc_of bits_of bits_of_bytes
-    number_of_bits added_to_front remainder
-followed-begun = refl
+-- the directory alone has changed: it comes, and the turn goes on
+same-row : played start
+    (requests 2 ++ Follow same_turn ∷ requests 4)
+    ≡ (
+      (6, 9, 0) ∷ (4, 2, 0) ∷ (6, 11, 0) ∷ (4, 2, 1) ∷ (4, 4, 0) ∷ (6, 11, 0) ∷ [],
+      one_end 4 1,
+    )
+unfolding begun_by sent_by request hear_directory follow bytes_of_group crc_of bits_of
+    bits_of_bytes number_of_bits added_to_front remainder
+same-row = refl
 
-followed-ends : ends (sent_by start (requests 2 ++ Follow new_turn (6 ∷ []) ∷ requests 5))
-    ≡ false ∷ false ∷ false ∷ false ∷ true ∷ false ∷ false ∷ []
-unfolding sent_by request follow bytes_of_group crc_of bits_of bits_of_bytes
-    number_of_bits added_to_front remainder
-followed-ends = refl
+-- a body that was put comes next and at the turn's end
+put-row : played start
+    (requests 2 ++ Follow put_turn ∷ requests 8)
+    ≡ (
+      (6, 9, 0) ∷ (4, 2, 0) ∷ (6, 11, 0) ∷ (4, 6, 0) ∷ (4, 6, 1) ∷ (4, 2, 1) ∷ (4, 4, 0) ∷
+          (4, 6, 0) ∷ (4, 6, 1) ∷ (6, 11, 0) ∷ [],
+      one_end 8 1,
+    )
+unfolding begun_by sent_by request hear_directory follow bytes_of_group crc_of bits_of
+    bits_of_bytes number_of_bits added_to_front remainder
+put-row = refl
 
--- where no packet of the turn was sent, each body comes once
-first-begun : seen (begun_by start (Follow new_turn (6 ∷ []) ∷ requests 5))
-    ≡ (6, 11, 0) ∷ (4, 6, 0) ∷ (4, 2, 0) ∷ (4, 2, 1) ∷ (6, 11, 0) ∷ []
-unfolding begun_by request follow bytes_of_group crc_of bits_of bits_of_bytes
-    number_of_bits added_to_front remainder
-first-begun = refl
+-- a replaced body whose place is to come comes next and in its place
+second-row : played start
+    (requests 2 ++ Follow second_turn ∷ requests 7)
+    ≡ (
+      (6, 9, 0) ∷ (4, 2, 0) ∷ (6, 11, 0) ∷ (4, 6, 0) ∷ (4, 6, 1) ∷ (4, 2, 1) ∷ (4, 6, 0) ∷
+          (4, 6, 1) ∷ (6, 11, 0) ∷ [],
+      one_end 7 1,
+    )
+unfolding begun_by sent_by request hear_directory follow bytes_of_group crc_of bits_of
+    bits_of_bytes number_of_bits added_to_front remainder
+second-row = refl
+
+-- of one that was begun the rest goes
+inside-row : played start
+    (requests 2 ++ Follow first_turn ∷ requests 6)
+    ≡ (
+      (6, 9, 0) ∷ (4, 2, 0) ∷ (6, 11, 0) ∷ (4, 6, 0) ∷ (4, 6, 1) ∷ (4, 4, 0) ∷ (6, 11, 0) ∷
+          (4, 6, 0) ∷ [],
+      one_end 5 2,
+    )
+unfolding begun_by sent_by request hear_directory follow bytes_of_group crc_of bits_of
+    bits_of_bytes number_of_bits added_to_front remainder
+inside-row = refl
+
+-- and where its place is passed it comes next alone
+passed-row : played start
+    (requests 3 ++ Follow first_turn ∷ requests 6)
+    ≡ (
+      (6, 9, 0) ∷ (4, 2, 0) ∷ (4, 2, 1) ∷ (6, 11, 0) ∷ (4, 6, 0) ∷ (4, 6, 1) ∷ (4, 4, 0) ∷
+          (6, 11, 0) ∷ (4, 6, 0) ∷ [],
+      one_end 6 2,
+    )
+unfolding begun_by sent_by request hear_directory follow bytes_of_group crc_of bits_of
+    bits_of_bytes number_of_bits added_to_front remainder
+passed-row = refl
+
+-- a body that is gone comes no more
+gone-row : played start
+    (requests 2 ++ Follow gone_turn ∷ requests 3)
+    ≡ (
+      (6, 9, 0) ∷ (4, 2, 0) ∷ (6, 11, 0) ∷ (4, 2, 1) ∷ (6, 11, 0) ∷ [],
+      one_end 3 1,
+    )
+unfolding begun_by sent_by request hear_directory follow bytes_of_group crc_of bits_of
+    bits_of_bytes number_of_bits added_to_front remainder
+gone-row = refl
+
+-- nor where it was to come early, and had begun to
+gone_early-row : played start
+    (requests 2 ++ Follow put_turn ∷ requests 2 ++ Follow same_turn ∷ requests 4)
+    ≡ (
+      (6, 9, 0) ∷ (4, 2, 0) ∷ (6, 11, 0) ∷ (4, 6, 0) ∷ (6, 11, 0) ∷ (4, 2, 1) ∷ (4, 4, 0) ∷
+          (6, 11, 0) ∷ [],
+      one_end 6 1,
+    )
+unfolding begun_by sent_by request hear_directory follow bytes_of_group crc_of bits_of
+    bits_of_bytes number_of_bits added_to_front remainder
+gone_early-row = refl
+
+-- of two changes running the first that stays comes before the second
+two_changes-row : played start
+    (requests 2 ++ Follow put_turn ∷ Follow (turn_of 12 ((2, 1 ∷ 2 ∷ 3 ∷ []) ∷ (8, 5 ∷ []) ∷ (
+      6,
+      7
+          ∷ 8 ∷ 9 ∷ [],
+    ) ∷ [])) ∷ requests 9)
+    ≡ (
+      (6, 9, 0) ∷ (4, 2, 0) ∷ (6, 12, 0) ∷ (4, 6, 0) ∷ (4, 6, 1) ∷ (4, 8, 0) ∷ (4, 2, 1) ∷
+          (4, 8, 0) ∷ (4, 6, 0) ∷ (4, 6, 1) ∷ (6, 12, 0) ∷ [],
+      one_end 9 1,
+    )
+unfolding begun_by sent_by request hear_directory follow bytes_of_group crc_of bits_of
+    bits_of_bytes number_of_bits added_to_front remainder
+two_changes-row = refl
+
+-- a body that is replaced twice running comes once, and keeps its place
+again-row : played start
+    (requests 2 ++ Follow second_turn ∷ requests 2 ++ Follow (turn_of 12 ((2, 1 ∷ 2 ∷ 3 ∷ []) ∷ (
+      8,
+      5 ∷ [],
+    ) ∷ [])) ∷ requests 5)
+    ≡ (
+      (6, 9, 0) ∷ (4, 2, 0) ∷ (6, 11, 0) ∷ (4, 6, 0) ∷ (6, 12, 0) ∷ (4, 8, 0) ∷ (4, 2, 1) ∷
+          (4, 8, 0) ∷ (6, 12, 0) ∷ [],
+      one_end 7 1,
+    )
+unfolding begun_by sent_by request hear_directory follow bytes_of_group crc_of bits_of
+    bits_of_bytes number_of_bits added_to_front remainder
+again-row = refl
+
+-- a directory that is asked for while a changed body comes
+heard_early-row : played start
+    (requests 2 ++ Follow second_turn ∷ requests 2 ++ Directory ∷ requests 5)
+    ≡ (
+      (6, 9, 0) ∷ (4, 2, 0) ∷ (6, 11, 0) ∷ (4, 6, 0) ∷ (6, 11, 0) ∷ (4, 6, 1) ∷ (4, 2, 1) ∷
+          (4, 6, 0) ∷ (4, 6, 1) ∷ [],
+      one_end 8 0,
+    )
+unfolding begun_by sent_by request hear_directory follow bytes_of_group crc_of bits_of
+    bits_of_bytes number_of_bits added_to_front remainder
+heard_early-row = refl
+
+-- before the first packet
+first-row : played start
+    (Follow put_turn ∷ requests 9)
+    ≡ (
+      (6, 11, 0) ∷ (4, 6, 0) ∷ (4, 6, 1) ∷ (4, 2, 0) ∷ (4, 2, 1) ∷ (4, 4, 0) ∷ (4, 6, 0) ∷
+          (4, 6, 1) ∷ (6, 11, 0) ∷ [],
+      one_end 7 1,
+    )
+unfolding begun_by sent_by request hear_directory follow bytes_of_group crc_of bits_of
+    bits_of_bytes number_of_bits added_to_front remainder
+first-row = refl
+
+-- where a turn has ended
+turn_end-row : played start
+    (requests 4 ++ Follow second_turn ∷ requests 8)
+    ≡ (
+      (6, 9, 0) ∷ (4, 2, 0) ∷ (4, 2, 1) ∷ (4, 4, 0) ∷ (6, 11, 0) ∷ (4, 6, 0) ∷ (4, 6, 1) ∷
+          (4, 2, 0) ∷ (4, 2, 1) ∷ (4, 6, 0) ∷ (4, 6, 1) ∷ (6, 11, 0) ∷ [],
+      one_end 3 6 ++ one_end 0 1,
+    )
+unfolding begun_by sent_by request hear_directory follow bytes_of_group crc_of bits_of
+    bits_of_bytes number_of_bits added_to_front remainder
+turn_end-row = refl
+
+-- While the last group of a turn is under way: what was put or replaced comes behind the directory,
+-- and then the turn ends.
+late_put-row : played short_start
+    (requests 7 ++ Follow put_turn ∷ requests 9)
+    ≡ (
+      (6, 9, 0) ∷ (4, 2, 0) ∷ (4, 2, 1) ∷ (4, 4, 0) ∷ (6, 11, 0) ∷ (4, 6, 0) ∷ (4, 6, 1) ∷
+          (6, 11, 0) ∷ [],
+      one_end 13 2,
+    )
+unfolding begun_by sent_by request hear_directory follow bytes_of_group crc_of bits_of
+    bits_of_bytes number_of_bits added_to_front remainder
+late_put-row = refl
+
+late_second-row : played short_start
+    (requests 7 ++ Follow second_turn ∷ requests 9)
+    ≡ (
+      (6, 9, 0) ∷ (4, 2, 0) ∷ (4, 2, 1) ∷ (4, 4, 0) ∷ (6, 11, 0) ∷ (4, 6, 0) ∷ (4, 6, 1) ∷
+          (6, 11, 0) ∷ [],
+      one_end 13 2,
+    )
+unfolding begun_by sent_by request hear_directory follow bytes_of_group crc_of bits_of
+    bits_of_bytes number_of_bits added_to_front remainder
+late_second-row = refl
+
+late_gone-row : played short_start
+    (requests 7 ++ Follow gone_turn ∷ requests 5)
+    ≡ (
+      (6, 9, 0) ∷ (4, 2, 0) ∷ (4, 2, 1) ∷ (4, 4, 0) ∷ (6, 11, 0) ∷ (6, 11, 0) ∷ [],
+      one_end 9 2,
+    )
+unfolding begun_by sent_by request hear_directory follow bytes_of_group crc_of bits_of
+    bits_of_bytes number_of_bits added_to_front remainder
+late_gone-row = refl

@@ -11,6 +11,8 @@ pub use Rattle.mot_player.proofs.GoesOn.{requests-go_on, changes-go_on}
 -- and so do further steps
 pub use Rattle.mot_player.proofs.GoesOn.{steps-go_on}
 -- a directory that is asked for comes next, changes come next, and bodies that stay go on
-pub use Rattle.mot_player.proofs.Staying.{bodies-go_on, changes-come-next, directory-comes}
+pub use Rattle.mot_player.proofs.Staying.{bodies-go_on, directory-comes, requests-take-in-order}
+pub use Rattle.mot_player.proofs.Followed.{changes-come-next, put-comes-at_the_end}
+pub use Rattle.mot_player.proofs.Followed.{replaced-keeps-its_place, rest-goes_on}
 -- each request brings the end of the turn nearer
 pub use Rattle.mot_player.proofs.Ending.{turns-end}

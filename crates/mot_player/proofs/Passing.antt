@@ -4,10 +4,10 @@ use Rattle.std.proofs.Common.{drop}
 use Rattle.std.proofs.Common.{take, refl, sym, ap, ◌∙◌, subst, arith, Bool, true, false, Option}
 use Rattle.std.proofs.Common.{Some}
 use Rattle.std.proofs.Common.{None, inl, inr, map, min, add-one}
-use Rattle.std.proofs.lemmas.Bool.{cases_lt, eqb-true, eqb-false, ne_eqb}
+use Rattle.std.proofs.lemmas.Bool.{cases_lt, eqb-true, eqb-false, lt-ltb, ne_eqb}
 use Rattle.std.proofs.lemmas.List.{append_assoc}
 use Rattle.std.proofs.lemmas.List.Elements.{filter-append}
-use Rattle.std.specs.Prelude.{◌==◌, if◌then◌else◌, flat_map, IfSome}
+use Rattle.std.specs.Prelude.{◌==◌, if◌then◌else◌, flat_map, nat_lt, not, IfSome}
 use Rattle.std.specs.List.{AllByRecursion}
 use Rattle.mot_groups.specs.Entity.{numbered_segments, pieces, segments_of}
 use Rattle.mot_groups.specs.Group.{Segment}
@@ -395,6 +395,117 @@ ended-with plan bodies size None (w ∷ q) e g some are on =
 ended-with plan bodies size None [] e g some are on =
     waits-none plan bodies size e g some are on.within
 
+not-none : (xs : List Segment) → is_empty xs ≡ false → (length xs == 0) ≡ false
+not-none [] e = absurd (let f : true ≡ false = e in cc)
+not-none (x ∷ xs) e = ne_eqb (suc (length xs)) 0 (λ z. omega (arith, z))
+
+-- segments of a queue wait exactly where an entity is queued
+pub queue-early : (plan : TurnPlan) (bodies : List (List ℕ)) (size : ℕ) (q : List Waiting) →
+    0 < size → AreBodiesFor plan bodies →
+    AllByRecursion (λ (w : Waiting). (0 < w.entity) × IsInside plan size w) q →
+    nat_lt 0 (length q)
+    ≡ not (length (queued size (entities_of (turn_with plan bodies)) q) == 0)
+queue-early plan bodies size [] some are on = refl
+queue-early plan bodies size (w ∷ q) some are on =
+    let entities : List Entity = entities_of (turn_with plan bodies) in
+    let first : List Segment = drop w.segment (segments_in size (entity_in entities w.entity)) in
+    let qs : List Segment = queued size entities q in
+    lt-ltb 0 (suc (length q)) (omega arith)
+    ∙ sym (ap not (not-none (first ++ qs)
+    (ap (λ (x : Entity). is_empty (drop w.segment (segments_in size x) ++ qs))
+    (entities-at plan bodies w.entity (record { kind = 4; tid = 0; bytes = [] }) are on.0.1.0)
+    ∙ first-some plan bodies size w qs some are on.0.1)))
+
+-- of a directory's part
+early-directory : (early : ℕ) (p : Part) → p.entity ≡ 0 →
+    early ≡ (if (if p.entity == 0 then 6 else 4) == 6 then early else early - 1)
+early-directory early p e = rw e refl
+
+early-body : (early next : ℕ) (p : Part) (k : ℕ) → p.entity ≡ k → 0 < k → early ≡ suc next →
+    next ≡ (if (if p.entity == 0 then 6 else 4) == 6 then early else early - 1)
+early-body early next p k e body one =
+    rw (e, ne_eqb k 0 (λ z. absurd (omega (arith, z, body)))) (omega (arith, one))
+
+early-behind : (size : ℕ) (plan : TurnPlan) (bodies : List (List ℕ)) (w : Waiting)
+    (q : List Waiting) (p : Part) (last : Bool) → AreBodiesFor plan bodies →
+    w.entity < length plan.bodies + 1 → p.entity ≡ w.entity →
+    p.next_segment ≡ (if last then 0 else w.segment + 1) →
+    (if last then queued size (entities_of (turn_with plan bodies)) q
+    else drop (w.segment + 1) (segments_in size (entity_at plan bodies w.entity))
+    ++ queued size (entities_of (turn_with plan bodies)) q)
+    ≡ queued size (entities_of (turn_with plan bodies))
+    (if last then q else record { entity = p.entity; segment = p.next_segment } ∷ q)
+early-behind size plan bodies w q p true are l same next = refl
+early-behind size plan bodies w q p false are l same next =
+    let entities : List Entity = entities_of (turn_with plan bodies) in
+    rw (same, next)
+    (ap (λ (x : Entity). drop (w.segment + 1) (segments_in size x) ++ queued size entities q)
+    (sym (entities-at plan bodies w.entity (record { kind = 4; tid = 0; bytes = [] }) are l)))
+
+-- of a queued body's part
+early-queued : (plan : TurnPlan) (bodies : List (List ℕ)) (size : ℕ) (w : Waiting)
+    (q : List Waiting) (p : Part) → 0 < size → AreBodiesFor plan bodies → 0 < w.entity →
+    IsInside plan size w → IsPartAt plan size w p →
+    length (queued size (entities_of (turn_with plan bodies))
+    (if p.is_last then q else record { entity = p.entity; segment = p.next_segment } ∷ q))
+    ≡ (if (if p.entity == 0 then 6 else 4) == 6
+    then length (queued size (entities_of (turn_with plan bodies)) (w ∷ q))
+    else length (queued size (entities_of (turn_with plan bodies)) (w ∷ q)) - 1)
+early-queued plan bodies size w q p some are body inside at =
+    let entities : List Entity = entities_of (turn_with plan bodies) in
+    let qs : List Segment = queued size entities q in
+    let next : List Waiting =
+    if p.is_last then q else record { entity = p.entity; segment = p.next_segment } ∷ q in
+    let first : Entity = entity_at plan bodies w.entity in
+    let behind : List Segment =
+    if p.is_last then qs else drop (w.segment + 1) (segments_in size first) ++ qs in
+    let whole : queued size entities (w ∷ q) ≡ segment_of plan bodies p ∷ behind =
+    ap (λ (x : Entity). drop w.segment (segments_in size x) ++ qs)
+    (entities-at plan bodies w.entity (record { kind = 4; tid = 0; bytes = [] }) are inside.0)
+    ∙ entity-part plan bodies size w p qs some are inside at in
+    let rest : behind ≡ queued size entities next =
+    early-behind size plan bodies w q p p.is_last are inside.0 at.entity at.next_segment in
+    let one : length (queued size entities (w ∷ q)) ≡ suc (length (queued size entities next)) =
+    ap length whole ∙ ap (λ (ss : List Segment). suc (length ss)) rest in
+    early-body (length (queued size entities (w ∷ q))) (length (queued size entities next)) p
+    w.entity at.entity body one
+
+early-none : (early : ℕ) (b : Bool) → early ≡ 0 → early ≡ (if b then early else early - 1)
+early-none early true e = refl
+early-none early false e = omega (arith, e)
+
+early-with : (plan : TurnPlan) (bodies : List (List ℕ)) (size : ℕ) (d : Option ℕ)
+    (q : List Waiting) (e g : ℕ) (t : Bool) (p : Part) → (e == length plan.bodies + 1) ≡ t →
+    0 < size → AreBodiesFor plan bodies →
+    IsOnCourse plan size (record { directory = d; queue = q; entity = e; segment = g }) →
+    IsPartAt plan size (due_with (length plan.bodies + 1) d q e g) p →
+    length (queued size (entities_of (turn_with plan bodies))
+    (passed_with (length plan.bodies + 1) p d q e g).queue)
+    ≡ (if (segment_of plan bodies p).kind == 6
+    then length (queued size (entities_of (turn_with plan bodies)) q)
+    else length (queued size (entities_of (turn_with plan bodies)) q) - 1)
+early-with plan bodies size (Some s) q e g t p test some are on at =
+    early-directory (length (queued size (entities_of (turn_with plan bodies)) q)) p at.entity
+early-with plan bodies size None (w ∷ q) e g t p test some are on at =
+    early-queued plan bodies size w q p some are on.queue.0.0 on.queue.0.1 at
+early-with plan bodies size None [] e g true p test some are on at =
+    rw test (early-none 0 ((segment_of plan bodies p).kind == 6) refl)
+early-with plan bodies size None [] e g false p test some are on at =
+    rw test (early-none 0 ((segment_of plan bodies p).kind == 6) refl)
+
+-- how many come early behind the part that is due
+pub course-early : (plan : TurnPlan) (bodies : List (List ℕ)) (size : ℕ) (c : CourseView)
+    (p : Part) → 0 < size → AreBodiesFor plan bodies → IsOnCourse plan size c →
+    IsPartAt plan size (due_of (length plan.bodies + 1) c) p →
+    length (queued size (entities_of (turn_with plan bodies))
+    (passed (length plan.bodies + 1) p c).queue)
+    ≡ (if (segment_of plan bodies p).kind == 6
+    then length (queued size (entities_of (turn_with plan bodies)) c.queue)
+    else length (queued size (entities_of (turn_with plan bodies)) c.queue) - 1)
+course-early plan bodies size c p some are on at =
+    early-with plan bodies size c.directory c.queue c.entity c.segment
+    (c.entity == length plan.bodies + 1) p refl some are on at
+
 -- nothing waits exactly where the course has ended
 pub course-ended : (plan : TurnPlan) (bodies : List (List ℕ)) (size : ℕ) (c : CourseView) →
     0 < size → AreBodiesFor plan bodies → IsOnCourse plan size c →
@@ -438,6 +549,15 @@ heard-cases plan size c false p on = record {
   body = on.body;
   within = on.within;
 }
+
+heard-queue-cases : (c : CourseView) (b : Bool) →
+    (if b then c else record c { directory = Some 0 }).queue ≡ c.queue
+heard-queue-cases c true = refl
+heard-queue-cases c false = refl
+
+-- a directory that is asked for leaves the queue
+pub heard-queue : (count : ℕ) (c : CourseView) → (heard_course count c).queue ≡ c.queue
+heard-queue count c = heard-queue-cases c (has_ended count c)
 
 pub on-heard : (plan : TurnPlan) (size count : ℕ) (c : CourseView) → IsPlannable plan →
     IsOnCourse plan size c → IsOnCourse plan size (heard_course count c)
@@ -529,7 +649,7 @@ none-from size turn None = refl
 none-from size turn (Some s) = none-of_directory turn.tid 0 s (pieces size turn.directory)
 
 -- the bodies' segments that wait
-bodies-waiting : (plan : TurnPlan) (bodies : List (List ℕ)) (size : ℕ) (c : CourseView) →
+pub bodies-waiting : (plan : TurnPlan) (bodies : List (List ℕ)) (size : ℕ) (c : CourseView) →
     AreBodiesFor plan bodies → IsOnCourse plan size c →
     of_bodies (waiting_of size (turn_with plan bodies) c)
     ≡ queued size (entities_of (turn_with plan bodies)) c.queue

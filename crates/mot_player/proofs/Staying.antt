@@ -1,132 +1,25 @@
 -- Bodies that stay go on, whatever directories and changes come between the requests.
-use Rattle.std.proofs.Common.{◌≡◌, ℕ, suc, zero, ◌+◌, ◌*◌, ◌<◌, ◌≤◌, Bool, true, false, List, []}
-use Rattle.std.proofs.Common.{◌∷◌}
-use Rattle.std.proofs.Common.{◌++◌, length, take, Option, Some, None, refl, sym, ap, ◌∙◌}
-use Rattle.std.proofs.Common.{subst, arith, replicate}
-use Rattle.std.proofs.lemmas.Bool.{and_parts, eqb-true}
-use Rattle.std.proofs.lemmas.Grind.{div_ceil_times}
+use Rattle.std.proofs.Common.{◌≡◌, ℕ, suc, zero, ◌+◌, ◌<◌, Bool, true, false, List, [], ◌∷◌, ◌++◌}
+use Rattle.std.proofs.Common.{take, Option, Some, None, refl, sym, ap, ◌∙◌, subst, replicate}
+use Rattle.std.proofs.lemmas.Bool.{and_parts, not-true}
 use Rattle.std.proofs.lemmas.List.{append_assoc}
 use Rattle.std.proofs.lemmas.List.Elements.{filter-append}
 use Rattle.std.proofs.lemmas.Option.{none-some, same_Some}
-use Rattle.std.specs.Int.{div_ceil}
-use Rattle.std.specs.Prelude.{◌==◌, ◌&&◌, not, filter, if◌then◌else◌}
-use Rattle.mot_groups.specs.Entity.{first_pieces, numbered_segments, own_segments, pieces}
-use Rattle.mot_groups.specs.Entity.{segments_of}
+use Rattle.std.specs.Prelude.{◌&&◌, not, if◌then◌else◌}
+use Rattle.mot_groups.specs.Entity.{own_segments, pieces}
 use Rattle.mot_groups.specs.Group.{GroupFields, Segment, bytes_of_group}
 use Rattle.mot_numbers.specs.Reading.{◌>>=◌, is_empty}
-use Rattle.mot_objects.specs.Ids.{contains}
 use Rattle.mot_player.specs.Place.{Place, Sent, Step, Request, NewTurn, Directory, Follow, UnderWay}
-use Rattle.mot_player.specs.Place.{bodies_among, directory_segments, first_sent, follow, group_for}
-use Rattle.mot_player.specs.Place.{hear_directory, ids_of, left_of, left_with, next_sent, of_bodies}
-use Rattle.mot_player.specs.Place.{packet_sent, request, sent_by, that_stay, to_send, with_begun}
-use Rattle.mot_player.specs.Staying.{ChangesComeNext, RequestsTakeInOrder}
+use Rattle.mot_player.specs.Place.{directory_segments, first_sent, follow, group_for}
+use Rattle.mot_player.specs.Place.{hear_directory, left_of, left_with, next_sent, of_bodies}
+use Rattle.mot_player.specs.Place.{packet_sent, request, sent_by, to_send, with_begun}
 use Rattle.mot_player.specs.Staying.{BodiesGoOn, DirectoryComes, HasDirectory, Stays, begun_by}
-use Rattle.mot_player.specs.Staying.{begun_with, none_ends}
+use Rattle.mot_player.specs.Staying.{RequestsTakeInOrder, begun_with, none_ends}
 use Rattle.mot_player.specs.Turn.{Turn, segments_of_bodies}
+use Rattle.mot_player.proofs.Followed.{own-followed}
+use Rattle.mot_player.proofs.Left.{is_empty-append, left-some, own, own-directory, own-of_bodies}
+use Rattle.mot_player.proofs.Left.{some-directory}
 use Rattle.mot_player.proofs.Requests.{>>=-some, FirstRequest, first_request}
-
--- a test behind a wider one
-within-cases : (p : Segment → Bool) (x : Segment) (ys zs : List Segment) (b c : Bool) →
-    p x ≡ c → (c ≡ true → b ≡ true) → filter p ys ≡ zs →
-    filter p (if b then x ∷ ys else ys) ≡ (if c then x ∷ zs else zs)
-within-cases p x ys zs true true e w h = rw (e, h) refl
-within-cases p x ys zs true false e w h = rw (e, h) refl
-within-cases p x ys zs false true e w h = absurd (let f : false ≡ true = w refl in cc)
-within-cases p x ys zs false false e w h = h
-
-filter-within : (p q : Segment → Bool) → ((s : Segment) → p s ≡ true → q s ≡ true) →
-    (xs : List Segment) → filter p (filter q xs) ≡ filter p xs
-filter-within p q w [] = refl
-filter-within p q w (x ∷ xs) =
-    within-cases p x (filter q xs) (filter p xs) (q x) (p x) refl (w x) (filter-within p q w xs)
-
--- the test of a body's own segments
-abbrev own : ℕ → Segment → Bool
-own id = λ (s : Segment). s.kind == 4 && s.tid == id
-
-own-of_bodies : (id : ℕ) (xs : List Segment) → own_segments 4 id (of_bodies xs)
-    ≡ own_segments 4 id xs
-own-of_bodies id xs =
-    filter-within (own id) (λ (s : Segment). s.kind == 4)
-    (λ s e. (and_parts (s.kind == 4) (s.tid == id) e).0) xs
-
-own-directory : (id tid n : ℕ) (ps : List (List ℕ)) →
-    own_segments 4 id (numbered_segments 6 tid n ps) ≡ []
-own-directory id tid n [] = refl
-own-directory id tid n (p ∷ ps) = own-directory id tid (n + 1) ps
-
-own-other : (id tid n : ℕ) (ps : List (List ℕ)) → (tid == id) ≡ false →
-    own_segments 4 id (numbered_segments 4 tid n ps) ≡ []
-own-other id tid n [] e = refl
-own-other id tid n (p ∷ ps) e = rw e (own-other id tid (n + 1) ps e)
-
--- an id that is not among others is none of them
-other-id : (fresh : List ℕ) (id tid : ℕ) (b : Bool) → contains fresh id ≡ false →
-    contains fresh tid ≡ true → (tid == id) ≡ b → b ≡ false
-other-id fresh id tid true none some e =
-    let same : tid ≡ id = eqb-true tid id e in
-    let both : contains fresh id ≡ true = ap (contains fresh) (sym same) ∙ some in
-    cc
-other-id fresh id tid false none some e = refl
-
-own-fresh-cases : (id size : ℕ) (fresh : List ℕ) (b : ℕ × List ℕ) (rest : List (ℕ × List ℕ))
-    (t : Bool) → contains fresh b.0 ≡ t → contains fresh id ≡ false →
-    own_segments 4 id (segments_of_bodies size rest) ≡ [] →
-    own_segments 4 id (segments_of_bodies size (if t then b ∷ rest else rest)) ≡ []
-own-fresh-cases id size fresh b rest true e none h =
-    filter-append (own id) (segments_of 4 b.0 size b.1) (segments_of_bodies size rest)
-    ∙ ap (λ ss. ss ++ own_segments 4 id (segments_of_bodies size rest))
-    (own-other id b.0 0 (pieces size b.1) (other-id fresh id b.0 (b.0 == id) none e refl))
-    ∙ h
-own-fresh-cases id size fresh b rest false e none h = h
-
-own-fresh : (id size : ℕ) (fresh : List ℕ) (bodies : List (ℕ × List ℕ)) →
-    contains fresh id ≡ false →
-    own_segments 4 id (segments_of_bodies size
-    (filter (λ (b : ℕ × List ℕ). contains fresh b.0) bodies)) ≡ []
-own-fresh id size fresh [] none = refl
-own-fresh id size fresh (b ∷ bodies) none =
-    own-fresh-cases id size fresh b (filter (λ (b : ℕ × List ℕ). contains fresh b.0) bodies)
-    (contains fresh b.0) refl none (own-fresh id size fresh bodies none)
-
-both-true : (a b : Bool) → a ≡ true → b ≡ false → (a && not b) ≡ true
-both-true a b e f = rw (e, f) refl
-
-own-that_stay : (id : ℕ) (fresh : List ℕ) (turn : Turn) (xs : List Segment) →
-    contains (ids_of turn) id ≡ true → contains fresh id ≡ false →
-    own_segments 4 id (that_stay fresh turn xs) ≡ own_segments 4 id xs
-own-that_stay id fresh turn xs has none =
-    filter-within (own id)
-    (λ (s : Segment). contains (ids_of turn) s.tid && not (contains fresh s.tid))
-    (λ s e. let same : s.tid ≡ id =
-    eqb-true s.tid id (and_parts (s.kind == 4) (s.tid == id) e).1 in
-    both-true (contains (ids_of turn) s.tid) (contains fresh s.tid)
-    (ap (contains (ids_of turn)) same ∙ has) (ap (contains fresh) same ∙ none))
-    (of_bodies xs)
-    ∙ own-of_bodies id xs
-
--- a directory that is not empty has segments
-some-pieces : (count size : ℕ) (bytes : List ℕ) (tid : ℕ) → 0 < length bytes →
-    length bytes ≤ count * size →
-    is_empty (numbered_segments 6 tid 0 (first_pieces count size bytes)) ≡ false
-some-pieces zero size bytes tid some enough = absurd (omega (arith, some, enough))
-some-pieces (suc count) size bytes tid some enough = refl
-
-some-directory : (turn : Turn) (size : ℕ) → 0 < size → HasDirectory turn →
-    is_empty (directory_segments turn size) ≡ false
-some-directory turn size some has =
-    let all = div_ceil_times (length turn.directory) size some in
-    some-pieces (div_ceil (length turn.directory) size) size turn.directory turn.tid has all.0
-
-is_empty-append : (xs ys : List Segment) → is_empty xs ≡ false → is_empty (xs ++ ys) ≡ false
-is_empty-append [] ys e = absurd (let f : true ≡ false = e in cc)
-is_empty-append (x ∷ xs) ys e = refl
-
--- where some wait, those are left
-left-some : (place : Place) (u : Option UnderWay) → is_empty place.waiting ≡ false →
-    left_with place u ≡ place.waiting
-left-some place None e = rw e refl
-left-some place (Some u) e = refl
 
 -- behind a directory that is asked for
 own-heard-cases : (id : ℕ) (place : Place) (u : Option UnderWay) (b : Bool)
@@ -155,29 +48,6 @@ own-heard : (id : ℕ) (place : Place) → 0 < place.segment_size → HasDirecto
 unfolding hear_directory
 own-heard id place some has =
     own-heard-cases id place place.under_way (is_empty place.waiting) place.waiting some has refl
-
--- behind a turn that is followed
-own-followed : (id : ℕ) (turn : Turn) (fresh : List ℕ) (place : Place) → 0 < place.segment_size →
-    HasDirectory turn → contains (ids_of turn) id ≡ true → contains fresh id ≡ false →
-    own_segments 4 id (left_of (follow turn fresh place)) ≡ own_segments 4 id (left_of place)
-unfolding follow
-own-followed id turn fresh place some has_directory has none =
-    let size : ℕ = place.segment_size in
-    let directory : List Segment = directory_segments turn size in
-    let bodies : List Segment = segments_of_bodies size (bodies_among fresh turn) in
-    let stay : List Segment = that_stay fresh turn (left_of place) in
-    let new : Place = follow turn fresh place in
-    let some_left : is_empty (directory ++ bodies ++ stay) ≡ false =
-    is_empty-append (directory ++ bodies) stay
-    (is_empty-append directory bodies (some-directory turn size some has_directory)) in
-    ap (own_segments 4 id) (left-some new place.under_way some_left)
-    ∙ filter-append (own id) (directory ++ bodies) stay
-    ∙ ap (λ ss. ss ++ own_segments 4 id stay)
-    (filter-append (own id) directory bodies
-    ∙ ap (λ ss. ss ++ own_segments 4 id bodies)
-    (own-directory id turn.tid 0 (pieces size turn.directory))
-    ∙ own-fresh id size fresh turn.bodies none)
-    ∙ own-that_stay id fresh turn (left_of place) has none
 
 -- what is left behind a packet that does not end the turn
 left-behind : (place : Place) (group : List ℕ) (at : ℕ) (last : Bool) →
@@ -265,10 +135,6 @@ begun_none : (place : Place) (begun : List Segment) → begun_by place [] ≡ So
 unfolding begun_by
 begun_none place begun e = same_Some [] begun e
 
-not-true : (b : Bool) → not b ≡ true → b ≡ false
-not-true true e = absurd (let f : false ≡ true = e in cc)
-not-true false e = refl
-
 no_steps-place : (place : Place) (sents : List Sent) (new : Place) →
     sent_by place [] ≡ Some (sents, new) → place ≡ new
 unfolding sent_by
@@ -285,20 +151,23 @@ kept-directory : (place : Place) → HasDirectory place.turn →
 unfolding hear_directory
 kept-directory place has = has
 
-followed-size : (turn : Turn) (fresh : List ℕ) (place : Place) → 0 < place.segment_size →
-    0 < (follow turn fresh place).segment_size
+followed-size : (turn : Turn) (place : Place) → 0 < place.segment_size →
+    0 < (follow turn place).segment_size
 unfolding follow
-followed-size turn fresh place some = some
+followed-size turn place some = some
 
-followed-directory : (turn : Turn) (fresh : List ℕ) (place : Place) → HasDirectory turn →
-    HasDirectory (follow turn fresh place).turn
+followed-turn : (turn : Turn) (place : Place) → turn ≡ (follow turn place).turn
 unfolding follow
-followed-directory turn fresh place has = has
+followed-turn turn place = refl
+
+heard-turn : (place : Place) → place.turn ≡ (hear_directory place).turn
+unfolding hear_directory
+heard-turn place = refl
 
 pub bodies-go_on-steps : (steps : List Step) (place new : Place) (sents : List Sent)
     (begun : List Segment) (id : ℕ) → 0 < place.segment_size → HasDirectory place.turn →
     sent_by place steps ≡ Some (sents, new) → begun_by place steps ≡ Some begun →
-    none_ends sents ≡ true → Stays id steps →
+    none_ends sents ≡ true → Stays id place.turn steps →
     own_segments 4 id begun ++ own_segments 4 id (left_of new)
     ≡ own_segments 4 id (left_of place)
 unfolding sent_by begun_by request
@@ -318,7 +187,8 @@ bodies-go_on-steps (Request ∷ steps) place new sents begun id some has h b end
     ap (λ (s : Sent). begun_by s.place steps) (sym same) ∙ r.rest in
     let later = bodies-go_on-steps steps q.first.place new q.others r.others id
     (subst (λ n. 0 < n) (sym keeps.0) some)
-    (subst HasDirectory (sym keeps.1) has) q.rest rest tests.1 stays in
+    (subst HasDirectory (sym keeps.1) has) q.rest rest tests.1
+    (subst (λ (t : Turn). Stays id t steps) (sym keeps.1) stays) in
     let first : List Segment = begun_with place place.under_way in
     ap (λ bs. own_segments 4 id bs ++ own_segments 4 id (left_of new)) r.all
     ∙ ap (λ ss. ss ++ own_segments 4 id (left_of new)) (filter-append (own id) first r.others)
@@ -331,13 +201,15 @@ bodies-go_on-steps (NewTurn turn ∷ steps) place new sents begun id some has h 
     absurd stays
 bodies-go_on-steps (Directory ∷ steps) place new sents begun id some has h b ends stays =
     bodies-go_on-steps steps (hear_directory place) new sents begun id (kept-size place some)
-    (kept-directory place has) h b ends stays
+    (kept-directory place has) h b ends
+    (subst (λ (t : Turn). Stays id t steps) (heard-turn place) stays)
     ∙ own-heard id place some has
-bodies-go_on-steps (Follow turn fresh ∷ steps) place new sents begun id some has h b ends stays =
-    bodies-go_on-steps steps (follow turn fresh place) new sents begun id
-    (followed-size turn fresh place some)
-    (followed-directory turn fresh place stays.0) h b ends stays.3
-    ∙ own-followed id turn fresh place some stays.0 stays.1 stays.2
+bodies-go_on-steps (Follow turn ∷ steps) place new sents begun id some has h b ends stays =
+    bodies-go_on-steps steps (follow turn place) new sents begun id
+    (followed-size turn place some)
+    (subst HasDirectory (followed-turn turn place) stays.0) h b ends
+    (subst (λ (t : Turn). Stays id t steps) (followed-turn turn place) stays.2)
+    ∙ own-followed id turn place some stays.0 stays.1
 
 -- bodies that stay go on
 pub bodies-go_on : BodiesGoOn
@@ -364,43 +236,6 @@ heard-next place false e some has =
 pub directory-comes : DirectoryComes
 unfolding hear_directory
 directory-comes place some has = heard-next place (is_empty place.waiting) refl some has
-
--- of those that fail a test, none is left where only others pass the first
-outside-cases : (p : Segment → Bool) (x : Segment) (ys : List Segment) (b c : Bool) →
-    p x ≡ c → (c ≡ true → b ≡ false) → filter p ys ≡ [] →
-    filter p (if b then x ∷ ys else ys) ≡ []
-outside-cases p x ys true true e w h = absurd (let f : true ≡ false = w refl in cc)
-outside-cases p x ys true false e w h = rw e h
-outside-cases p x ys false c e w h = h
-
-filter-outside : (p q : Segment → Bool) → ((s : Segment) → p s ≡ true → q s ≡ false) →
-    (xs : List Segment) → filter p (filter q xs) ≡ []
-filter-outside p q w [] = refl
-filter-outside p q w (x ∷ xs) =
-    outside-cases p x (filter q xs) (q x) (p x) refl (w x) (filter-outside p q w xs)
-
-none-first : (a b : Bool) → a ≡ false → (a && b) ≡ false
-none-first a b e = rw e refl
-
--- a changed turn that is followed comes next
-pub changes-come-next : ChangesComeNext
-unfolding follow
-changes-come-next place turn fresh some has =
-    let size : ℕ = place.segment_size in
-    let directory : List Segment = directory_segments turn size in
-    let bodies : List Segment = segments_of_bodies size (bodies_among fresh turn) in
-    let stay : List Segment = that_stay fresh turn (left_of place) in
-    record {
-      others = stay;
-      next = rw (is_empty-append (directory ++ bodies) stay
-          (is_empty-append directory bodies (some-directory turn size some has))) refl;
-      gone = λ id none. filter-outside (own id)
-          (λ (s : Segment). contains (ids_of turn) s.tid && not (contains fresh s.tid))
-          (λ s e. none-first (contains (ids_of turn) s.tid) (not (contains fresh s.tid))
-          (ap (contains (ids_of turn)) (eqb-true s.tid id (and_parts (s.kind == 4) (s.tid == id)
-          e).1)
-          ∙ none)) (of_bodies (left_of place));
-    }
 
 requests-take : (n : ℕ) (place new : Place) (sents : List Sent) (begun : List Segment) →
     sent_by place (replicate n Request) ≡ Some (sents, new) →

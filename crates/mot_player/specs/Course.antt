@@ -1,8 +1,11 @@
 -- The course of a turn: what waits of it, and what is due.
-use Rattle.std.specs.Prelude.{ℕ, Bool, false, ◌==◌, if◌then◌else◌}
-use Rattle.std.specs.Prelude.{List, [], ◌∷◌, drop, Option, Some, None}
+use Rattle.std.specs.Prelude.{ℕ, ◌+◌, ◌-◌, Bool, false, ◌==◌, nat_lt, if◌then◌else◌}
+use Rattle.std.specs.Prelude.{List, [], ◌∷◌, ◌++◌, drop, Option, Some, None}
 use Rattle.mot_player.specs.declared.course.Course.{Course}
 use Rattle.mot_player.specs.declared.course.Waiting.{Waiting}
+use Rattle.mot_player.specs.declared.difference.Difference.{Difference}
+use Rattle.mot_player.specs.declared.difference.Difference.TheVariants.{Nothing, Added, Changed}
+use Rattle.mot_player.specs.declared.difference.Difference.TheVariants.{Removed}
 use Rattle.mot_player.specs.declared.part.Part.{Part}
 
 -- What waits of a turn, in this order: the directory from a segment on, the queue, and the bodies
@@ -82,3 +85,64 @@ passed_with count p None [] entity segment =
 
 abbrev pub passed : ℕ → Part → CourseView → CourseView
 passed count p c = passed_with count p c.directory c.queue c.entity c.segment
+
+-- what waits of an entity, by its number in the turn that comes; none of one that went
+abbrev pub kept : Difference → Waiting → Option Waiting
+kept Nothing w = Some w
+kept Added w = Some w
+kept (Changed n) w = if w.entity == n then None else Some w
+kept (Removed n) w =
+    if w.entity == n then None
+    else if nat_lt n w.entity then Some (record { entity = w.entity - 1; segment = w.segment })
+    else Some w
+
+-- the body that came, whole; a turn with one more has it behind so many entities
+abbrev pub fresh_of : Difference → ℕ → Option Waiting
+fresh_of Nothing count = None
+fresh_of Added count = Some (record { entity = count; segment = 0 })
+fresh_of (Changed n) count = Some (record { entity = n; segment = 0 })
+fresh_of (Removed n) count = None
+
+abbrev pub one_more : Option Waiting → List Waiting → List Waiting
+one_more None queue = queue
+one_more (Some w) queue = w ∷ queue
+
+abbrev pub kept_of : Difference → List Waiting → List Waiting
+kept_of difference [] = []
+kept_of difference (w ∷ queue) = one_more (kept difference w) (kept_of difference queue)
+
+-- From which segment on the bodies come, of a turn that had so many entities. What was sent of a
+-- body that went is not sent again, and what was not sent of it is dropped.
+abbrev pub rest_from : Difference → ℕ → Waiting → Waiting
+rest_from Nothing count w = w
+rest_from Added count w =
+    if w.entity == count then record { entity = count + 1; segment = 0 } else w
+rest_from (Changed n) count w =
+    if w.entity == n then
+    if w.segment == 0 then w else record { entity = w.entity + 1; segment = 0 }
+    else w
+rest_from (Removed n) count w =
+    if w.entity == n then record { entity = n; segment = 0 }
+    else if nat_lt n w.entity then record { entity = w.entity - 1; segment = w.segment }
+    else w
+
+-- the course of a turn that is followed
+abbrev pub followed : Difference → ℕ → CourseView → CourseView
+followed difference count c =
+    let rest = rest_from difference count (record { entity = c.entity; segment = c.segment }) in
+    record {
+      directory = Some 0;
+      queue = kept_of difference c.queue ++ one_more (fresh_of difference count) [];
+      entity = rest.entity;
+      segment = rest.segment;
+    }
+
+-- where no group is under way and nothing waits, the turn begins
+abbrev pub left_course : Bool → ℕ → CourseView → CourseView
+left_course idle count c = if idle then if has_ended count c then whole_course else c else c
+
+-- the course of a changed turn; where it cannot be followed, it begins
+abbrev pub changed_course : Option Difference → Bool → ℕ → CourseView → CourseView
+changed_course None idle count c = whole_course
+changed_course (Some difference) idle count c =
+    followed difference count (left_course idle count c)

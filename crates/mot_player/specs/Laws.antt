@@ -82,13 +82,14 @@ TurnsReadAsTheirCarousels =
     map (λ (s : Sent). s.ends_turn) sents ≡ replicate n false ++ true ∷ [] →
     AreSent sents packets → ReadsAs packets c old.segment_size
 
--- Whatever turns come between the requests, the packets of an opened player have their continuity
--- indexes.
+-- Whatever comes between the requests, the packets of an opened player, whether it follows or not,
+-- have their continuity indexes.
 abbrev pub StepsAreContinuous : Type 0
 StepsAreContinuous =
-    (address room size : ℕ) (turn : Turn) (steps : List Step) (sents : List Sent) (new : Place)
-    (packets : List (List ℕ)) → 0 < room →
-    sent_by (opened_place address room size turn) steps ≡ Some (sents, new) →
+    (address room size : ℕ) (turn : Turn) (follows : Bool) (steps : List Step) (sents : List Sent)
+    (new : Place) (packets : List (List ℕ)) → 0 < room →
+    sent_by (record (opened_place address room size turn) { follows = follows }) steps
+    ≡ Some (sents, new) →
     AreSent sents packets → IsContinuous packets
 
 -- One more request, and one more change, go on where the steps before left off.

@@ -2,6 +2,8 @@ pub mod AnyBodies
 pub mod Bodies
 pub mod Continuity
 pub mod Course
+pub mod Difference
+pub mod Followable
 pub mod Inner
 pub mod LastGroup
 pub mod Laws

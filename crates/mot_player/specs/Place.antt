@@ -1,17 +1,16 @@
 -- The order of sending (own rules): where a player stands, and what a request and a change of the
 -- turn make of that.
-use Rattle.std.specs.Prelude.{ℕ, ◌+◌, ◌%◌, Bool, ◌&&◌, ◌==◌, not, if◌then◌else◌, List, [], ◌∷◌}
-use Rattle.std.specs.Prelude.{◌++◌}
-use Rattle.std.specs.Prelude.{Option, Some, None, bytes_eq, filter, length, map}
+use Rattle.std.specs.Prelude.{ℕ, ◌+◌, ◌-◌, ◌%◌, Bool, true, false, ◌&&◌, ◌==◌, not, if◌then◌else◌}
+use Rattle.std.specs.Prelude.{List, [], ◌∷◌, ◌++◌, Option, Some, None, bytes_eq, drop, filter}
+use Rattle.std.specs.Prelude.{flat_map, length, take}
 use Rattle.std.specs.Int.{div_ceil}
 use Rattle.std.specs.List.{sum_by}
 use Rattle.mot_groups.specs.Entity.{segments_of}
 use Rattle.mot_groups.specs.Group.{Segment, GroupFields, segment_content, bytes_of_group}
 use Rattle.mot_numbers.specs.Reading.{◌>>=◌, is_empty}
-use Rattle.mot_objects.specs.Ids.{contains}
 use Rattle.mot_packets.specs.Cut.{piece_at}
 use Rattle.mot_packets.specs.Packet.{PacketFields}
-use Rattle.mot_player.specs.Turn.{Turn, segments_of_bodies, segments_of_turn}
+use Rattle.mot_player.specs.Turn.{Turn, segments_of_turn}
 
 -- a group's continuity index and content
 pub record Last : Type 0 where
@@ -25,14 +24,19 @@ pub record UnderWay : Type 0 where
   pub sent : ℕ
 
 -- Where a player stands: the group under way, the segments that wait behind it, the turn, the next
--- packet's continuity index, and of each type the group that was begun last. Address, data length
--- and segment size never change.
+-- packet's continuity index, and of each type the group that was begun last. Of the bodies' segments
+-- that wait, those that come early stand before the rest of the turn. Address, data length and
+-- segment size never change.
 pub record Place : Type 0 where
   pub address : ℕ
   pub room : ℕ
   pub segment_size : ℕ
   pub under_way : Option UnderWay
   pub waiting : List Segment
+  -- how many of the bodies' segments that wait come early
+  pub early : ℕ
+  -- whether a changed turn is followed, or begins anew
+  pub follows : Bool
   pub turn : Turn
   pub index : ℕ
   pub last_directory : Option Last
@@ -46,6 +50,8 @@ opened_place address room size turn = record {
   segment_size = size;
   under_way = None;
   waiting = [];
+  early = 0;
+  follows = false;
   turn = turn;
   index = 0;
   last_directory = None;
@@ -73,6 +79,7 @@ with_begun place group others =
     let last = Some (record { index = group.index; content = segment_content group.segment }) in
     record place {
       waiting = others;
+      early = if group.segment.kind == 6 then place.early else place.early - 1;
       last_directory = if group.segment.kind == 6 then last else place.last_directory;
       last_body = if group.segment.kind == 6 then place.last_body else last;
     }
@@ -122,7 +129,7 @@ request place = next_sent place place.under_way
 -- a new turn: the group under way stays, the others go, and the new turn follows
 unfoldable pub change_turn : Turn → Place → Place
 change_turn turn place =
-    record place { turn = turn; waiting = segments_of_turn turn place.segment_size }
+    record place { turn = turn; waiting = segments_of_turn turn place.segment_size; early = 0 }
 
 -- the directory of a turn, whole
 abbrev pub directory_segments : Turn → ℕ → List Segment
@@ -160,36 +167,94 @@ hear_directory place = record place {
       else directory_segments place.turn place.segment_size ++ of_bodies place.waiting;
 }
 
--- the ids of a turn's bodies
-abbrev pub ids_of : Turn → List ℕ
-ids_of turn = map (λ (b : ℕ × List ℕ). b.0) turn.bodies
+-- What changed of a turn's bodies: nothing, a body was put behind the others, one came in the place
+-- of another, or one is gone. A body that came is told with its id and bytes, one that went by its
+-- id.
+pub data Change : Type 0 where
+  Same : Change
+  Put : ℕ × List ℕ → Change
+  Replaced : ℕ → ℕ × List ℕ → Change
+  Withdrawn : ℕ → Change
 
--- the bodies of a turn with these ids, in the turn's order
-abbrev pub bodies_among : List ℕ → Turn → List (ℕ × List ℕ)
-bodies_among ids turn = filter (λ (b : ℕ × List ℕ). contains ids b.0) turn.bodies
+-- by the first place where the ids of old and new bodies differ
+abbrev pub change_between : List (ℕ × List ℕ) → List (ℕ × List ℕ) → Change
+change_between [] [] = Same
+change_between [] (new ∷ news) = Put new
+change_between (old ∷ olds) [] = Withdrawn old.0
+change_between (old ∷ olds) (new ∷ news) =
+    if old.0 == new.0 then change_between olds news
+    else if length olds == length news then Replaced old.0 new else Withdrawn old.0
 
--- of these segments, those of bodies that this turn has still, but for the fresh ones
-abbrev pub that_stay : List ℕ → Turn → List Segment → List Segment
-that_stay fresh turn segments =
-    filter (λ (s : Segment). contains (ids_of turn) s.tid && not (contains fresh s.tid))
-    (of_bodies segments)
+-- the segments of the body that came
+abbrev pub fresh_segments : ℕ → Change → List Segment
+fresh_segments size Same = []
+fresh_segments size (Put new) = segments_of 4 new.0 size new.1
+fresh_segments size (Replaced old new) = segments_of 4 new.0 size new.1
+fresh_segments size (Withdrawn old) = []
 
--- A changed turn is followed: behind the group under way come its directory, then its fresh bodies,
--- and then what was left and stays.
-unfoldable pub follow : Turn → List ℕ → Place → Place
-follow turn fresh place = record place {
+-- of segments of bodies, all but those of this id
+abbrev pub without : ℕ → List Segment → List Segment
+without id segments = filter (λ (s : Segment). not (s.tid == id)) segments
+
+-- of segments of bodies, all but those of the body that went
+abbrev pub that_stay : Change → List Segment → List Segment
+that_stay Same segments = segments
+that_stay (Put new) segments = segments
+that_stay (Replaced old new) segments = without old segments
+that_stay (Withdrawn old) segments = without old segments
+
+-- the body that came in the place of the first segment of the one that went
+abbrev pub in_its_place : ℕ → List Segment → Segment → List Segment
+in_its_place old fresh s =
+    if s.tid == old then if s.number == 0 then fresh else [] else s ∷ []
+
+-- The rest of a turn after a change: a body that was put comes at its end, unless the rest has
+-- ended, and one that was replaced in its place, unless that was begun.
+abbrev pub rest_after : Change → List Segment → List Segment → List Segment
+rest_after Same fresh rest = rest
+rest_after (Put new) fresh rest = if is_empty rest then [] else rest ++ fresh
+rest_after (Replaced old new) fresh rest = flat_map (in_its_place old fresh) rest
+rest_after (Withdrawn old) fresh rest = without old rest
+
+-- the bodies' segments that come early, and the rest of the turn
+abbrev pub early_of : Place → List Segment
+early_of place = take place.early (of_bodies (left_of place))
+
+abbrev pub rest_of : Place → List Segment
+rest_of place = drop place.early (of_bodies (left_of place))
+
+-- what comes early after a change: what did so before it and stays, and then the body that came
+abbrev pub early_after : Change → Place → List Segment
+early_after change place =
+    that_stay change (early_of place) ++ fresh_segments place.segment_size change
+
+abbrev pub followed_by : Change → Turn → Place → Place
+followed_by change turn place = record place {
   turn = turn;
-  waiting = directory_segments turn place.segment_size
-      ++ segments_of_bodies place.segment_size (bodies_among fresh turn)
-      ++ that_stay fresh turn (left_of place);
+  waiting = directory_segments turn place.segment_size ++ early_after change place
+      ++ rest_after change (fresh_segments place.segment_size change) (rest_of place);
+  early = length (early_after change place);
 }
+
+-- A changed turn is followed: behind the group under way come its directory, then the changed
+-- bodies, and then the rest of the turn goes on.
+unfoldable pub follow : Turn → Place → Place
+follow turn place = followed_by (change_between place.turn.bodies turn.bodies) turn place
+
+-- from now on changed turns are followed
+unfoldable pub following : Place → Place
+following place = record place { follows = true }
+
+-- what a changed turn makes of a place
+unfoldable pub changed : Turn → Place → Place
+changed turn place = if place.follows then follow turn place else change_turn turn place
 
 -- what happens to a player
 pub data Step : Type 0 where
   Request : Step
   NewTurn : Turn → Step
   Directory : Step
-  Follow : Turn → List ℕ → Step
+  Follow : Turn → Step
 
 -- what the requests among steps send, and where the player stands then
 unfoldable pub sent_by : Place → List Step → Option (List Sent × Place)
@@ -200,4 +265,4 @@ sent_by place (Request ∷ steps) = do
   Some (sent ∷ others.0, others.1)
 sent_by place (NewTurn turn ∷ steps) = sent_by (change_turn turn place) steps
 sent_by place (Directory ∷ steps) = sent_by (hear_directory place) steps
-sent_by place (Follow turn fresh ∷ steps) = sent_by (follow turn fresh place) steps
+sent_by place (Follow turn ∷ steps) = sent_by (follow turn place) steps

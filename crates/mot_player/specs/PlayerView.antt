@@ -1,6 +1,6 @@
 -- Where the code of a player stands: the turn but for its bodies, and which of its segments comes
 -- next.
-use Rattle.std.specs.Prelude.{◌≡◌, ℕ, zero, suc, List}
+use Rattle.std.specs.Prelude.{◌≡◌, ℕ, zero, suc, Bool, List}
 use Rattle.std.specs.Prelude.{[], ◌∷◌, ◌++◌, length, drop, map, flat_map, Option, Some, None}
 use Rattle.std.specs.Prelude.{slice_index_or}
 use Rattle.mot_groups.specs.Entity.{segments_of}
@@ -85,6 +85,7 @@ pub record PlayerView : Type 0 where
   pub under_way : Option UnderWay
   pub turn : TurnPlan
   pub course : CourseView
+  pub follows : Bool
   pub index : ℕ
   pub last_directory : Option Last
   pub last_body : Option Last
@@ -97,6 +98,8 @@ place_of s bodies = record {
   segment_size = s.segment_size;
   under_way = s.under_way;
   waiting = waiting_of s.segment_size (turn_with s.turn bodies) s.course;
+  early = length (queued s.segment_size (entities_of (turn_with s.turn bodies)) s.course.queue);
+  follows = s.follows;
   turn = turn_with s.turn bodies;
   index = s.index;
   last_directory = s.last_directory;

@@ -14,6 +14,7 @@ view_of p = record {
   under_way = if p.sent == 0 then None else Some (record { group = p.group.items; sent = p.sent });
   turn = p.turn;
   course = course_of p.course;
+  follows = p.follows;
   index = p.index;
   last_directory = kept_last p.last_directory;
   last_body = kept_last p.last_body;

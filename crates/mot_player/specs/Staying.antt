@@ -1,18 +1,16 @@
 -- Bodies that stay go on, whatever directories and changes come between the requests.
-use Rattle.std.specs.Prelude.{◌≡◌, ℕ, ◌<◌, Bool, not, true, false, List, [], ◌∷◌, ◌++◌, length}
-use Rattle.std.specs.Prelude.{take}
-use Rattle.std.specs.Prelude.{replicate}
+use Rattle.std.specs.Prelude.{◌≡◌, ◌==◌, if◌then◌else◌, ℕ, ◌<◌, Bool, ◌||◌, not, true, false}
+use Rattle.std.specs.Prelude.{List, [], ◌∷◌, ◌++◌, drop, filter, length, replicate, take}
 use Rattle.std.specs.Prelude.{Option, Some, None, ⊤}
 use Rattle.std.specs.List.{list_all}
 use Rattle.mot_groups.specs.Entity.{own_segments, segments_of}
 use Rattle.mot_groups.specs.Group.{Segment}
-use Rattle.mot_numbers.specs.Reading.{◌>>=◌}
-use Rattle.mot_objects.specs.Ids.{contains}
+use Rattle.mot_numbers.specs.Reading.{◌>>=◌, is_empty}
 use Rattle.mot_player.specs.Place.{Place, Sent, Step, Request, NewTurn, Directory, Follow, UnderWay}
-use Rattle.mot_player.specs.Place.{bodies_among, change_turn, follow, hear_directory, ids_of}
-use Rattle.mot_player.specs.Place.{left_of, request}
-use Rattle.mot_player.specs.Place.{sent_by, to_send}
-use Rattle.mot_player.specs.Turn.{Turn, segments_of_bodies}
+use Rattle.mot_player.specs.Place.{Change, Same, Put, Replaced, Withdrawn, change_between}
+use Rattle.mot_player.specs.Place.{change_turn, early_of, follow, fresh_segments, hear_directory}
+use Rattle.mot_player.specs.Place.{left_of, request, rest_of, sent_by, that_stay, to_send}
+use Rattle.mot_player.specs.Turn.{Turn}
 
 -- the segment whose group a request begins; none where it goes on with the group under way
 abbrev pub begun_with : Place → Option UnderWay → List Segment
@@ -28,7 +26,7 @@ begun_by place (Request ∷ steps) = do
   Some (begun_with place place.under_way ++ others)
 begun_by place (NewTurn turn ∷ steps) = begun_by (change_turn turn place) steps
 begun_by place (Directory ∷ steps) = begun_by (hear_directory place) steps
-begun_by place (Follow turn fresh ∷ steps) = begun_by (follow turn fresh place) steps
+begun_by place (Follow turn ∷ steps) = begun_by (follow turn place) steps
 
 -- no turn ended with these
 abbrev pub none_ends : List Sent → Bool
@@ -38,16 +36,30 @@ none_ends sents = list_all (λ (s : Sent). not s.ends_turn) sents
 abbrev pub HasDirectory : Turn → Type 0
 HasDirectory turn = 0 < length turn.directory
 
--- A body of this id stays: no turn begins anew, and each turn that is followed has it, and not as a
--- fresh one.
-abbrev pub Stays : ℕ → List Step → Type 0
-Stays id [] = ⊤
-Stays id (Request ∷ steps) = Stays id steps
-Stays id (NewTurn turn ∷ steps) = ⊥
-Stays id (Directory ∷ steps) = Stays id steps
-Stays id (Follow turn fresh ∷ steps) =
-    HasDirectory turn × (contains (ids_of turn) id ≡ true) × (contains fresh id ≡ false)
-    × Stays id steps
+-- the body of this id came or went with a change
+abbrev pub touches : Change → ℕ → Bool
+touches Same id = false
+touches (Put new) id = id == new.0
+touches (Replaced old new) id = id == old || id == new.0
+touches (Withdrawn old) id = id == old
+
+-- the body of this id went with a change
+abbrev pub takes_away : Change → ℕ → Bool
+takes_away Same id = false
+takes_away (Put new) id = false
+takes_away (Replaced old new) id = id == old
+takes_away (Withdrawn old) id = id == old
+
+-- From this turn on a body of this id stays: no turn begins anew, and it neither comes nor goes with
+-- a turn that is followed.
+abbrev pub Stays : ℕ → Turn → List Step → Type 0
+Stays id old [] = ⊤
+Stays id old (Request ∷ steps) = Stays id old steps
+Stays id old (NewTurn turn ∷ steps) = ⊥
+Stays id old (Directory ∷ steps) = Stays id old steps
+Stays id old (Follow turn ∷ steps) =
+    HasDirectory turn × (touches (change_between old.bodies turn.bodies) id ≡ false)
+    × Stays id turn steps
 
 -- As long as no turn ends, the segments of a body that stays are begun in their order, each once,
 -- and those not begun are left: none is passed over, none comes twice, and a body that was cut goes
@@ -57,7 +69,7 @@ BodiesGoOn =
     (place new : Place) (steps : List Step) (sents : List Sent) (begun : List Segment) (id : ℕ) →
     0 < place.segment_size → HasDirectory place.turn →
     sent_by place steps ≡ Some (sents, new) → begun_by place steps ≡ Some begun →
-    none_ends sents ≡ true → Stays id steps →
+    none_ends sents ≡ true → Stays id place.turn steps →
     own_segments 4 id begun ++ own_segments 4 id (left_of new)
     ≡ own_segments 4 id (left_of place)
 
@@ -70,20 +82,57 @@ DirectoryComes =
     × (to_send (hear_directory place)
     ≡ segments_of 6 place.turn.tid place.segment_size place.turn.directory ++ others)
 
--- A changed turn that is followed: behind the group under way come its whole directory and its
--- fresh
--- bodies, whole, and behind them no segment of a body that is gone.
-pub record IsFollowed (place : Place) (turn : Turn) (fresh : List ℕ) : Type 0 where
+-- A changed turn that is followed: behind the group under way come its whole directory, the bodies
+-- that came early before and stay, and the body that came with it, whole; and behind them the rest
+-- of the turn. No segment comes of a body that is gone.
+pub record IsFollowed (place : Place) (turn : Turn) (change : Change) : Type 0 where
   pub others : List Segment
-  pub next : to_send (follow turn fresh place)
+  pub next : to_send (follow turn place)
       ≡ segments_of 6 turn.tid place.segment_size turn.directory
-      ++ segments_of_bodies place.segment_size (bodies_among fresh turn) ++ others
-  pub gone : (id : ℕ) → contains (ids_of turn) id ≡ false → own_segments 4 id others ≡ []
+      ++ that_stay change (early_of place) ++ fresh_segments place.segment_size change ++ others
+  pub early : early_of (follow turn place)
+      ≡ that_stay change (early_of place) ++ fresh_segments place.segment_size change
+  pub rest : rest_of (follow turn place) ≡ others
+  pub gone : (id : ℕ) → takes_away change id ≡ true →
+      own_segments 4 id (left_of (follow turn place)) ≡ []
 
 abbrev pub ChangesComeNext : Type 0
 ChangesComeNext =
-    (place : Place) (turn : Turn) (fresh : List ℕ) → 0 < place.segment_size → HasDirectory turn →
-    IsFollowed place turn fresh
+    (place : Place) (turn : Turn) → 0 < place.segment_size → HasDirectory turn →
+    IsFollowed place turn (change_between place.turn.bodies turn.bodies)
+
+-- of segments, those of bodies that neither came nor went
+abbrev pub untouched : Change → List Segment → List Segment
+untouched change segments = filter (λ (s : Segment). not (touches change s.tid)) segments
+
+-- The rest of a turn that is followed goes on in its order.
+abbrev pub RestGoesOn : Type 0
+RestGoesOn =
+    (place : Place) (turn : Turn) (change : Change) → 0 < place.segment_size → HasDirectory turn →
+    change_between place.turn.bodies turn.bodies ≡ change →
+    untouched change (rest_of (follow turn place)) ≡ untouched change (rest_of place)
+
+-- A body that is replaced keeps its place: where the old one's segments stood in the rest, the new
+-- one's come; and where the old one was begun, what was left of it goes.
+abbrev pub ReplacedKeepsItsPlace : Type 0
+ReplacedKeepsItsPlace =
+    (place : Place) (turn : Turn) (old : ℕ) (bytes : List ℕ) (new : ℕ × List ℕ) (begun : ℕ)
+    (before after : List Segment) → 0 < place.segment_size → HasDirectory turn → 0 < length bytes →
+    change_between place.turn.bodies turn.bodies ≡ Replaced old new →
+    rest_of place
+    ≡ before ++ drop begun (segments_of 4 old place.segment_size bytes) ++ after →
+    own_segments 4 old before ≡ [] → own_segments 4 old after ≡ [] →
+    rest_of (follow turn place)
+    ≡ before ++ (if begun == 0 then segments_of 4 new.0 place.segment_size new.1 else []) ++ after
+
+-- A body that is put comes at the turn's end too, unless the rest of the turn has ended.
+abbrev pub PutComesAtTheEnd : Type 0
+PutComesAtTheEnd =
+    (place : Place) (turn : Turn) (new : ℕ × List ℕ) → 0 < place.segment_size → HasDirectory turn →
+    change_between place.turn.bodies turn.bodies ≡ Put new →
+    rest_of (follow turn place)
+    ≡ (if is_empty (rest_of place) then []
+    else rest_of place ++ segments_of 4 new.0 place.segment_size new.1)
 
 -- As long as no turn ends, requests begin the segments that are left, in their order.
 abbrev pub RequestsTakeInOrder : Type 0

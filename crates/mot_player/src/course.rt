@@ -1,7 +1,10 @@
 //! Which segments of a turn come next.
-ghost use Rattle.std.specs.Prelude.{◌≡◌, ◌≤◌, vec_len, length, None, Some, true};
+ghost use Rattle.std.specs.Prelude.{◌≡◌, ◌^◌, ◌<◌, ◌≤◌, vec_capacity, vec_len, length};
+ghost use Rattle.std.specs.Prelude.{None, OnSome, Some, true};
 
 use crate::Turn;
+use crate::difference::Difference;
+use crate::following::{fresh, keep, rest_from};
 use crate::part::Part;
 use std::alloc::Global;
 
@@ -28,7 +31,8 @@ pub(crate) struct Course {
 impl Course {
     ghost use Rattle.mot_player.specs.Course.{course_of, ended_course, due_of, passed};
     ghost use Rattle.mot_player.specs.Course.{whole_course};
-    ghost use Rattle.mot_player.specs.Course.{has_ended, heard_course};
+    ghost use Rattle.mot_player.specs.Course.{changed_course, followed, has_ended, heard_course};
+    ghost use Rattle.mot_player.specs.Course.{left_course};
 
     /// Nothing waits of a turn of so many entities.
     pub fn ended(alloc: Global, entity_count: usize) -> Self
@@ -126,5 +130,79 @@ impl Course {
         }
         self.entity = part.next_entity;
         self.segment = part.next_segment;
+    }
+
+    /// How many segments' entities are queued.
+    pub fn queued(&self) -> usize
+        ensures count { result ≡ length (course_of self.now).queue }
+    {
+        self.queue.len() - self.at
+    }
+
+    /// Another turn comes, behind a turn of so many entities. If it can be followed, what is left
+    /// goes on; where no group is under way and nothing waits, that is the turn that begins. Else
+    /// the other turn begins.
+    pub fn change(
+        &mut self,
+        difference: Option<Difference>,
+        is_idle: bool,
+        entity_count: usize,
+        room: Vec<Waiting>,
+    )
+        requires empty { vec_len room ≡ 0 }
+        requires room { OnSome difference
+            (length (course_of self.old).queue < vec_capacity room) }
+        requires within { (0 < (course_of self.old).entity)
+            × ((course_of self.old).entity ≤ entity_count) }
+        requires few { entity_count < 2 ^ 32 }
+        ensures course { course_of self.new ≡ changed_course difference is_idle entity_count
+            (course_of self.old) }
+    {
+        let Some(difference) = difference else {
+            return self.begin_turn();
+        };
+        self.begin_next(is_idle, entity_count);
+        self.follow(difference, entity_count, room);
+    }
+
+    /// The turn begins, where no group is under way and nothing waits.
+    fn begin_next(&mut self, is_idle: bool, entity_count: usize)
+        ensures course { course_of self.new ≡ left_course is_idle entity_count
+            (course_of self.old) }
+        ensures few { length (course_of self.new).queue ≤ length (course_of self.old).queue }
+        ensures within { 0 < (course_of self.old).entity
+            → (course_of self.old).entity ≤ entity_count
+            → (course_of self.new).entity ≤ entity_count }
+    {
+        if is_idle && self.has_ended(entity_count) {
+            self.begin_turn();
+        }
+    }
+
+    /// Goes on in a turn that differs so: its directory comes, what is queued and stays, the body
+    /// that came, and then the rest. The queue is kept in the room for it.
+    fn follow(&mut self, difference: Difference, entity_count: usize, room: Vec<Waiting>)
+        requires empty { vec_len room ≡ 0 }
+        requires room { length (course_of self.old).queue < vec_capacity room }
+        requires within { (course_of self.old).entity ≤ entity_count }
+        requires few { entity_count < 2 ^ 32 }
+        ensures course { course_of self.new ≡ followed difference entity_count
+            (course_of self.old) }
+    {
+        let mut queue = room;
+        keep(&mut queue, &self.queue.as_slice()[self.at..], difference);
+        if let Some(waiting) = fresh(difference, entity_count) {
+            queue.push_reserved(waiting);
+        }
+        let here = Waiting {
+            entity: self.entity,
+            segment: self.segment,
+        };
+        let rest = rest_from(difference, entity_count, here);
+        self.directory = Some(0);
+        self.at = 0;
+        self.queue = queue;
+        self.entity = rest.entity;
+        self.segment = rest.segment;
     }
 }

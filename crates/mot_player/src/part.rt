@@ -2,7 +2,7 @@
 ghost use Rattle.std.specs.Prelude.{◌≡◌, ℕ, ◌+◌, ◌*◌, ◌^◌, ◌<◌, ◌≤◌, ◌==◌, List, length};
 ghost use Rattle.std.specs.Prelude.{if◌then◌else◌};
 ghost use Rattle.mot_numbers.specs.declared.numbers.TheConstants.{MAX_SEGMENT};
-ghost use Rattle.mot_player.specs.Inner.Next.{IsNext};
+ghost use Rattle.mot_player.specs.Inner.Next.{IsNext, TakesEarly};
 ghost use Rattle.mot_player.specs.Course.{course_of, passed};
 ghost use Rattle.mot_player.specs.Inner.Entities.{IsOnCourse, IsPlannable, entity_length};
 
@@ -34,6 +34,7 @@ pub(crate) fn part_at(turn: &Turn, size: SegmentSize, course: &Course) -> Part
     ensures on_course { IsOnCourse turn.now size
         (passed (length turn.now.bodies + 1) result (course_of course.now)) }
     ensures next { IsNext turn.now size (course_of course.now) result }
+    ensures early { TakesEarly turn.now size (course_of course.now) result }
 {
     let due = course.due(turn.entity_count());
     segment_at(turn, size, due.entity, due.segment)

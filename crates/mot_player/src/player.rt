@@ -1,6 +1,6 @@
 //! The player of a carousel.
-ghost use Rattle.std.specs.Prelude.{◌≡◌, ◌^◌, ◌<◌, ℕ, List, false, Some, None, IfOk};
-ghost use Rattle.std.specs.Prelude.{IfErr, OnOk, OnErr};
+ghost use Rattle.std.specs.Prelude.{◌≡◌, ◌==◌, ◌^◌, ◌<◌, ℕ, List, length, not, true, false, Some};
+ghost use Rattle.std.specs.Prelude.{None, IfOk, IfErr, IsOk, OnOk, OnErr};
 ghost use Rattle.mot_numbers.specs.PacketLength.{room_of};
 ghost use Rattle.mot_numbers.specs.declared.refusal.Refusal.TheVariants.{OutOfMemory};
 ghost use Rattle.mot_packets.specs.Packet.{read_packet};
@@ -10,16 +10,19 @@ ghost use Rattle.mot_player.specs.AnyBodies.{IsStepOfSome};
 ghost use Rattle.mot_player.specs.Laws.{ChangesGoOn, IsPlace, IsStep, RequestsGoOn};
 ghost use Rattle.mot_player.specs.Laws.{StepsAreContinuous, bytes_left};
 ghost use Rattle.mot_player.specs.Laws.{TurnsEnd, TurnsReadAsTheirCarousels};
-ghost use Rattle.mot_player.specs.Place.{Sent, change_turn, directory_packets, hear_directory};
-ghost use Rattle.mot_player.specs.Place.{opened_place, request};
+ghost use Rattle.mot_player.specs.Followable.{IsFollowable};
+ghost use Rattle.mot_player.specs.Place.{Sent, change_turn, changed, directory_packets};
+ghost use Rattle.mot_player.specs.Place.{following, hear_directory, opened_place, request};
 ghost use Rattle.mot_player.specs.Staying.{BodiesGoOn, ChangesComeNext, DirectoryComes};
+ghost use Rattle.mot_player.specs.Staying.{PutComesAtTheEnd, ReplacedKeepsItsPlace};
+ghost use Rattle.mot_player.specs.Staying.{RequestsTakeInOrder, RestGoesOn};
 ghost use Rattle.mot_player.specs.Rounds.{RoundsAreContinuous};
 
 use crate::course::Course;
 use crate::groups::LastGroup;
 use crate::lengths::packets_of_entity;
 use crate::state::State;
-use crate::{Bodies, Played, Turn};
+use crate::{Bodies, Played, Spare, Turn};
 use mot_numbers::{Address, PacketLength, Refusal, SegmentSize};
 use mot_packets::Packet;
 use std::alloc::Global;
@@ -79,6 +82,13 @@ impl Player {
         ensures directory_comes { OnOk result DirectoryComes }
         ensures changes_next { OnOk result ChangesComeNext }
         ensures bodies_go_on { OnOk result BodiesGoOn }
+
+        // The rest of a turn that is followed goes on in its order: a replaced body keeps its
+        // place, and one that was put comes at the end.
+        ensures rest_goes_on { OnOk result RestGoesOn }
+        ensures replaced_in_place { OnOk result ReplacedKeepsItsPlace }
+        ensures put_at_the_end { OnOk result PutComesAtTheEnd }
+        ensures in_order { OnOk result RequestsTakeInOrder }
     {
         let size = usize::from(segment_size.get());
         let course = Course::ended(alloc, turn.entity_count());
@@ -92,6 +102,7 @@ impl Player {
             segment_size,
             turn,
             course,
+            follows: false,
             group,
             sent: 0,
             index: 0,
@@ -102,17 +113,59 @@ impl Player {
         Ok(Player { state })
     }
 
-    /// The group under way stays; then the new turn begins.
-    pub fn changed(&mut self, turn: Turn)
-        ensures place { (bodies changed : List (List ℕ)) → place_of self.new changed
-            ≡ change_turn (turn_with turn changed) (place_of self.old bodies) }
+    /// From now on it follows changed turns.
+    pub fn follow_changes(&mut self)
+        ensures place { (bodies : List (List ℕ))
+            → place_of self.new bodies ≡ following (place_of self.old bodies) }
+        ensures turn { self.new.turn ≡ self.old.turn }
+        ensures size { self.new.segment_size ≡ self.old.segment_size }
+    {
+        self.state.follows = true;
+    }
+
+    /// The room that it takes to follow a changed turn. A player that does not follow needs none, and
+    /// takes no memory. The only refusal is `OutOfMemory`.
+    pub fn spare(&self, alloc: Global) -> Result<Spare, Refusal>
+        ensures room { IfOk result (λ spare. self.now.follows ≡ true
+            → length self.now.course.queue < spare) }
+        ensures none { self.now.follows ≡ false → IsOk result }
+        ensures refused { IfErr result (λ refusal. refusal ≡ OutOfMemory) }
+    {
+        let count = if self.state.follows {
+            self.state.course.queued() + 1
+        } else {
+            0
+        };
+        Ok(Spare::of(alloc, count)?)
+    }
+
+    /// Whether changed bodies wait, which come before the turn goes on.
+    pub fn has_early(&self) -> bool
+        ensures { (bodies : List (List ℕ)) → AreBodiesFor self.now.turn bodies
+            → result ≡ not ((place_of self.now bodies).early == 0) }
+    {
+        self.state.course.queued() > 0
+    }
+
+    /// The group under way stays; then the new turn begins. A player that follows goes on instead:
+    /// behind the new directory come the bodies that came, the last one whole, and then the rest of
+    /// the turn. The room for that is this player's, as it stands. It takes no memory.
+    pub fn changed(&mut self, turn: Turn, spare: Spare)
+        ensures begun { (bodies next : List (List ℕ)) → self.old.follows ≡ false
+            → place_of self.new next
+            ≡ change_turn (turn_with turn next) (place_of self.old bodies) }
+
+        // Turns are followed that differ by one change.
+        ensures place { (bodies next : List (List ℕ)) → AreBodiesFor self.old.turn bodies
+            → AreBodiesFor turn next
+            → (self.old.follows ≡ true → (length self.old.course.queue < spare)
+            × IsFollowable (turn_with self.old.turn bodies) (turn_with turn next))
+            → place_of self.new next
+            ≡ changed (turn_with turn next) (place_of self.old bodies) }
         ensures turn { self.new.turn ≡ turn }
         ensures size { self.new.segment_size ≡ self.old.segment_size }
     {
-        // A turn has a directory and its bodies. (The line is there for the proof.)
-        let _ = turn.entity_count();
-        self.state.turn = turn;
-        self.state.course.begin_turn();
+        self.state.change(turn, spare.into_queue());
     }
 
     /// The whole directory comes after the group under way, and then the bodies go on. If nothing

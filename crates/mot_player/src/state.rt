@@ -1,8 +1,9 @@
 //! The state of a player, and its buffers.
 ghost use Rattle.std.specs.Prelude.{◌≡◌, ℕ, ◌+◌, ◌^◌, ◌<◌, ◌≤◌, List, length, take, drop};
-ghost use Rattle.std.specs.Prelude.{vec_len, Some, OnOk, OnErr};
+ghost use Rattle.std.specs.Prelude.{vec_capacity, vec_len, true, false, Some, OnSome, OnOk, OnErr};
 
-use crate::course::Course;
+use crate::course::{Course, Waiting};
+use crate::difference::Difference;
 use crate::groups::LastGroup;
 use crate::part::{Part, part_at};
 use crate::reading::read_front;
@@ -19,6 +20,8 @@ pub(crate) struct State {
     pub turn: Turn,
     /// Which segments come next.
     pub course: Course,
+    /// Whether a changed turn is followed, or begins anew.
+    pub follows: bool,
     /// The group under way, and how many of its bytes were sent; 0 if none is under way.
     pub group: Vec<u8>,
     pub sent: usize,
@@ -45,10 +48,14 @@ impl State {
     ghost use Rattle.mot_player.specs.Place.{packet_sent};
     ghost use Rattle.mot_player.specs.Inner.Ready.{HasBegun, HasTaken, IsFitted, place_with};
     ghost use Rattle.mot_player.specs.State.{view_of};
-    ghost use Rattle.mot_player.specs.Inner.Next.{IsNext};
+    ghost use Rattle.mot_player.specs.Inner.Next.{IsNext, TakesEarly};
     ghost use Rattle.mot_player.specs.PlayerView.{AreBodiesFor};
     ghost use Rattle.mot_player.specs.Course.{course_of, passed};
     ghost use Rattle.mot_player.specs.Inner.Entities.{IsOnCourse, entity_bytes, entity_length};
+    ghost use Rattle.mot_player.specs.Difference.{difference_in};
+    ghost use Rattle.mot_player.specs.Followable.{IsFollowable};
+    ghost use Rattle.mot_player.specs.Place.{change_turn, follow};
+    ghost use Rattle.mot_player.specs.PlayerView.{turn_with};
 
     /// Begins the group of the next segment, of which no packet is sent yet. If a read of the
     /// bodies fails, all stays as it was.
@@ -99,6 +106,8 @@ impl State {
             (passed (length self.old.turn.bodies + 1) part (course_of self.old.course)) }
         requires next { IsNext self.old.turn self.old.segment_size (course_of self.old.course)
             part }
+        requires early { TakesEarly self.old.turn self.old.segment_size
+            (course_of self.old.course) part }
         ensures fitted { IsFitted self.new }
         ensures begun { (bodies : List (List ℕ)) → AreBodiesFor self.old.turn bodies
             → take part.len self.old.buffer.items
@@ -133,6 +142,45 @@ impl State {
             );
         }
         self.course.pass(self.turn.entity_count(), part);
+    }
+
+    /// A changed turn is followed, or begins, behind the group under way.
+    pub fn change(&mut self, turn: Turn, room: Vec<Waiting>)
+        requires fitted { IsFitted self.old }
+        requires empty { vec_len room ≡ 0 }
+        ensures fitted { IsFitted self.new }
+        ensures begun { (bodies next : List (List ℕ)) → self.old.follows ≡ false
+            → place_with self.new next
+            ≡ change_turn (turn_with turn next) (place_with self.old bodies) }
+        ensures followed { (bodies next : List (List ℕ)) → AreBodiesFor self.old.turn bodies
+            → AreBodiesFor turn next → self.old.follows ≡ true
+            → length (course_of self.old.course).queue < vec_capacity room
+            → IsFollowable (turn_with self.old.turn bodies) (turn_with turn next)
+            → place_with self.new next
+            ≡ follow (turn_with turn next) (place_with self.old bodies) }
+        ensures turn { self.new.turn ≡ turn }
+        ensures size { self.new.segment_size ≡ self.old.segment_size }
+        ensures sent { (self.new.sent ≡ self.old.sent) × (self.new.group ≡ self.old.group) }
+    {
+        // A turn has a directory and its bodies. (The line is there for the proof.)
+        let _ = turn.entity_count();
+        let difference = self.difference(&turn, room.capacity());
+        let count = self.turn.entity_count();
+        self.course.change(difference, self.sent == 0, count, room);
+        self.turn = turn;
+    }
+
+    /// The one change that a turn to be followed makes, if the queue has room for it.
+    fn difference(&self, turn: &Turn, room: usize) -> Option<Difference>
+        ensures difference { result ≡ difference_in self.now.follows room
+            (course_of self.now.course) self.now.turn.bodies turn.now.bodies }
+        ensures room { OnSome result (length (course_of self.now.course).queue < room) }
+    {
+        if self.follows && self.course.queued() < room {
+            self.turn.difference(turn)
+        } else {
+            None
+        }
     }
 
     /// Sends the next packet of the group that was begun, by `packet`; whether it ends the turn.

@@ -6,6 +6,7 @@ ghost use Rattle.mot_objects.specs.Stands.{AreBodiesOf, carousel_of};
 ghost use Rattle.mot_objects.specs.declared.object.Object.{Object};
 ghost use Rattle.mot_player.specs.declared.planned_body.PlannedBody.{PlannedBody};
 
+use crate::difference::{Difference, difference_between};
 use crate::planned_body::PlannedBody;
 use mot_directory::directory_bytes;
 use mot_numbers::{Refusal, SegmentSize, TransportId};
@@ -42,6 +43,7 @@ impl Turn {
     ghost use Rattle.mot_player.specs.PlayerView.{turn_with};
     ghost use Rattle.mot_player.specs.Inner.Entities.{entity_tid};
     ghost use Rattle.mot_player.specs.Turn.{IsTurnOf, turn_of_carousel};
+    ghost use Rattle.mot_player.specs.Difference.{difference_from};
 
     /// The turn of a carousel, in segments of this size. The only refusal is `OutOfMemory`.
     pub fn of(
@@ -100,6 +102,13 @@ impl Turn {
         } else {
             self.bodies[entity - 1].length
         }
+    }
+
+    /// The one change between its bodies and those of the next turn; `None` if there were more.
+    pub(crate) fn difference(&self, next: &Turn) -> Option<Difference>
+        ensures { result ≡ difference_from 1 self.now.bodies next.now.bodies }
+    {
+        difference_between(&self.bodies, &next.bodies)
     }
 
     /// The directory's bytes.

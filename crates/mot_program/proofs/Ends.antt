@@ -4,7 +4,7 @@ use Rattle.std.proofs.Common.{arith}
 use Rattle.std.proofs.Common.{subst, sym}
 use Rattle.std.proofs.Math.Logic.{⊎_elim}
 use Rattle.std.proofs.Math.Nat.{eq-or-lt_of_le}
-use Rattle.std.specs.Prelude.{IfErr, OnErr}
+use Rattle.std.specs.Prelude.{OnErr}
 use Rattle.disk_model.specs.Disk.{Elapses, IsStill, IsUnchanged, Nothing, State}
 use Rattle.disk_model.specs.Failures.{Rises}
 use Rattle.mot_numbers.specs.declared.refusal.Refusal.{Refusal}
@@ -16,12 +16,6 @@ use Rattle.mot_session.specs.Served.{EndsServing}
 pub OnErr-always : {T E P : Type 0} (r : Result T E) → P → OnErr r P
 OnErr-always (Ok x) p = tt
 OnErr-always (Err e) p = p
-
--- what follows from a fact of an error
-pub IfErr-one : {T E : Type 0} {P Q : E → Type 0} (r : Result T E) → ((e : E) → P e → Q e)
-    → IfErr r P → IfErr r Q
-IfErr-one (Ok x) f p = tt
-IfErr-one (Err e) f p = f e p
 
 -- a fault that ends serving is want of memory, a read's or a write's
 pub fault-cases : (P : Type 0) (fault : Option Refusal) (r : Refusal) → fault ≡ Some r

@@ -1,27 +1,25 @@
 -- What the program does.
-use Rattle.std.specs.Prelude.{ℕ, ◌≡◌, ◌⊎◌, List, [], ◌∷◌, ◌++◌, Option}
-use Rattle.std.specs.Io.KnownBytes.{Appends, Keeps}
+use Rattle.std.specs.Prelude.{ℕ, ◌≡◌, ◌⊎◌, List, [], ◌∷◌, ◌++◌, Option, Some, None}
 use Rattle.clap.specs.Words.{Text}
 use Rattle.disk_model.specs.Disk.{State}
 use Rattle.disk_store.specs.Ram.{ram_state}
 use Rattle.disk_store.specs.declared.file.start.Start.{Ghosts}
-use Rattle.disk_store.specs.declared.file.FileDiskFrom.{FileDiskFrom}
 use Rattle.disk_store.specs.declared.memory.ram.RamDisk.{RamDisk}
 use Rattle.mot_journal.specs.Journal.{new_standing}
 use Rattle.mot_numbers.specs.Geometry.{IsValid, length_of}
 use Rattle.mot_numbers.specs.declared.geometry.Geometry.{Geometry}
 use Rattle.mot_numbers.specs.declared.refusal.Refusal.{Refusal}
 use Rattle.mot_numbers.specs.declared.refusal.Refusal.TheVariants.{BadGeometry, DeviceFault}
-use Rattle.mot_numbers.specs.declared.refusal.Refusal.TheVariants.{OutOfMemory, WriteFault}
-use Rattle.mot_program.specs.declared.ended.UsedDisk.{UsedDisk}
-use Rattle.mot_program.specs.declared.ended.UsedDisk.TheVariants.{InMemory, OfFile, Untouched}
+use Rattle.mot_numbers.specs.declared.refusal.Refusal.TheVariants.{OutOfMemory}
+use Rattle.mot_outcome.specs.Outcome.{IsUntouched, OnFile, OnOpened}
+use Rattle.mot_outcome.specs.declared.used.UsedDisk.{UsedDisk}
+use Rattle.mot_outcome.specs.declared.used.UsedDisk.TheVariants.{InMemory, OfFile, Untouched}
 use Rattle.disk_store.specs.Beginning.{SinceMade, SinceOpened}
 use Rattle.mot_program.specs.Report.{Checks, Formats, Migrates, StopsChecking, StopsFormatting}
 use Rattle.mot_program.specs.Report.{StopsMigrating}
 use Rattle.mot_program.specs.Serving.{ServesInput, StopsServing}
 use Rattle.mot_repository.specs.Repository.{IsOf}
-use Rattle.mot_session.specs.Served.{WritesFront}
-use Rattle.mot_words.specs.Asked.{AskFor, AskForHelp}
+use Rattle.mot_words.specs.Asked.{AskFor}
 use Rattle.mot_words.specs.Command.{motcar_app}
 use Rattle.mot_words.specs.Program.Task.{IsTask}
 use Rattle.mot_words.specs.declared.program.task.Task.{Task}
@@ -41,34 +39,17 @@ pub record SinceNew (geometry : Geometry) (P : State → State → Type 0) (disk
   pub begun : IsNewInMemory geometry first
   pub since : P (ram_state first) (ram_state disk)
 
--- The disk that is handed out is of a file that held the bytes of `start` as it was opened. These
--- are words of contracts alone: what holds for each `start` holds for what the file really held.
 module _ {S : Type 0} {start : Ghosts S} where
-  -- no file was opened or made
-  abbrev pub IsUntouched : UsedDisk S start → Type 0
-  IsUntouched (Untouched value) = Unit {0}
-  IsUntouched (InMemory disk value) = ⊥
-  IsUntouched (OfFile disk) = ⊥
-
   -- a disk in memory was made, with this fact
   abbrev pub OnMemory : (RamDisk → Type 0) → UsedDisk S start → Type 0
   OnMemory P (Untouched value) = ⊥
   OnMemory P (InMemory disk value) = P disk
-  OnMemory P (OfFile disk) = ⊥
+  OnMemory P (OfFile disk beside) = ⊥
 
-  -- a file was opened or made, and its disk has this fact
-  abbrev pub OnFile : (FileDiskFrom S start → Type 0) → UsedDisk S start → Type 0
-  OnFile P (Untouched value) = ⊥
-  OnFile P (InMemory disk value) = ⊥
-  OnFile P (OfFile disk) = P disk
-
-  -- a file was opened, and this holds between what its disk was then and what it is
-  abbrev pub OnOpened : (State → State → Type 0) → UsedDisk S start → Type 0
-  OnOpened P = OnFile (SinceOpened P)
-
-  -- the same of a file that was opened or else made, so long
+  -- a file was opened or else made, so long, and this holds between what its disk was then and what
+  -- it is
   abbrev pub OnOpenedOrMade : Geometry → (State → State → Type 0) → UsedDisk S start → Type 0
-  OnOpenedOrMade g P = OnFile (λ disk.
+  OnOpenedOrMade g P = OnFile (λ disk beside.
       IsValid g × (SinceOpened P disk ⊎ SinceMade (length_of g) P disk))
 
   -- In these the paths of the files that were opened or made as disks were before and are after.
@@ -78,7 +59,7 @@ module _ {S : Type 0} {start : Ghosts S} where
   abbrev pub Opens : Text → UsedDisk S start → (before after : List Text) → Type 0
   Opens path (Untouched value) before after = after ≡ before
   Opens path (InMemory disk value) before after = after ≡ before
-  Opens path (OfFile disk) before after = after ≡ before ++ path ∷ []
+  Opens path (OfFile disk beside) before after = after ≡ before ++ path ∷ []
 
   -- the same of the path that the task names
   abbrev pub OpensFor : Task → UsedDisk S start → (before after : List Text) → Type 0
@@ -102,21 +83,19 @@ module _ {S : Type 0} {start : Ghosts S} where
   Does (Migrate path) used unread left old new = OnOpened (Migrates old new) used
 
   -- the task was begun, and this refusal ended it
-  abbrev pub DoesInPart : Task → Refusal → UsedDisk S start
+  abbrev pub DoesInPart : Task → Option Refusal → UsedDisk S start
       → (unread left old new : Option (List ℕ)) → Type 0
-  DoesInPart (Memory g) r used unread left old new =
+  DoesInPart task None used unread left old new = ⊥
+  DoesInPart (Memory g) (Some r) used unread left old new =
       OnMemory (SinceNew g (StopsServing r unread left old new)) used
-  DoesInPart (Format path g directory) r used unread left old new =
+  DoesInPart (Format path g directory) (Some r) used unread left old new =
       OnOpenedOrMade g (StopsFormatting g directory r old new) used
-  DoesInPart (Serve path) r used unread left old new =
+  DoesInPart (Serve path) (Some r) used unread left old new =
       OnOpened (StopsServing r unread left old new) used
-  DoesInPart (Check path) r used unread left old new = OnOpened (StopsChecking r old new) used
-  DoesInPart (Migrate path) r used unread left old new = OnOpened (StopsMigrating r old new) used
-
-  -- no file was opened or made, and nothing was printed
-  pub record IsUntold (used : UsedDisk S start) (old new : Option (List ℕ)) : Type 0 where
-    pub untouched : IsUntouched used
-    pub silent : Keeps old new
+  DoesInPart (Check path) (Some r) used unread left old new =
+      OnOpened (StopsChecking r old new) used
+  DoesInPart (Migrate path) (Some r) used unread left old new =
+      OnOpened (StopsMigrating r old new) used
 
 -- In these the paths of the files that were taken away were before and are after.
 
@@ -148,50 +127,13 @@ IsBeginningRefusal (Serve path) r = r ≡ DeviceFault
 IsBeginningRefusal (Check path) r = r ≡ DeviceFault
 IsBeginningRefusal (Migrate path) r = r ≡ DeviceFault
 
--- A text was printed, or some first bytes of it. What help says no clause tells.
-abbrev pub Prints : (old new : Option (List ℕ)) → Type 0
-Prints old new = (text : List ℕ) × Appends old new text
-
-abbrev pub PrintsFront : (old new : Option (List ℕ)) → Type 0
-PrintsFront old new = (text : List ℕ) × WritesFront text old new
-
--- what a run came to, on this disk
-module _ {S : Type 0} {start : Ghosts S} (words : List Text) where
-  -- the task that the words ask for was done; or they ask for help, which was printed, and nothing
-  -- was read
-  abbrev pub Succeeds : UsedDisk S start → (unread left old new : Option (List ℕ)) → Type 0
-  Succeeds used unread left old new =
-      ((task : Task) × AskFor motcar_app IsTask words task × Does task used unread left old new)
-      ⊎ (AskForHelp motcar_app words × Prints old new × IsUntouched used × Keeps unread left)
-
-  -- Which files were used: none, or the one that the task of the words names. The paths of those
-  -- that were opened or made as disks were before and are after, and of those that were taken away
-  -- they were gone and are left.
-  pub data UsesFiles (used : UsedDisk S start) (before after gone left : List Text) :
-      Type 0 where
-    none : IsUntouched used → after ≡ before → left ≡ gone → UsesFiles used before after gone left
-    asked : (task : Task) → AskFor motcar_app IsTask words task
-        → OpensFor task used before after → TakesAwayFor task gone left
-        → UsesFiles used before after gone left
-
-  -- why it was refused
-  pub data IsRefused (refusal : Refusal) (used : UsedDisk S start)
-      (unread left old new : Option (List ℕ)) : Type 0 where
-    -- before it could be told what the words ask for
-    no_memory : refusal ≡ OutOfMemory → IsUntold used old new → Keeps unread left
-        → IsRefused refusal used unread left old new
-    -- a number of theirs fits no field of a geometry, so that they ask for none of these tasks
-    no_task : refusal ≡ BadGeometry → ((task : Task) → AskFor motcar_app IsTask words task → ⊥)
-        → IsUntold used old new → Keeps unread left
-        → IsRefused refusal used unread left old new
-    -- the help could not be printed
-    no_help : AskForHelp motcar_app words → refusal ≡ WriteFault → PrintsFront old new
-        → IsUntouched used → Keeps unread left → IsRefused refusal used unread left old new
-    -- the task was not begun
-    unbegun : (task : Task) → AskFor motcar_app IsTask words task
-        → IsBeginningRefusal task refusal → IsUntold used old new → Keeps unread left
-        → IsRefused refusal used unread left old new
-    -- the task was begun
-    begun : (task : Task) → AskFor motcar_app IsTask words task
-        → DoesInPart task refusal used unread left old new
-        → IsRefused refusal used unread left old new
+-- Which files were used: none, or the one that the task of the words names. The paths of those that
+-- were opened or made as disks were before and are after, and of those that were taken away they
+-- were gone and are left.
+pub data UsesFiles {S : Type 0} {start : Ghosts S} (words : List Text) (used : UsedDisk S start)
+    (before after gone left : List Text) : Type 0 where
+  none : IsUntouched used → after ≡ before → left ≡ gone
+      → UsesFiles words used before after gone left
+  asked : (task : Task) → AskFor motcar_app IsTask words task
+      → OpensFor task used before after → TakesAwayFor task gone left
+      → UsesFiles words used before after gone left

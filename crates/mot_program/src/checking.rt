@@ -4,17 +4,18 @@ ghost use Rattle.std.specs.Io.KnownBytes.{Appends};
 ghost use Rattle.disk_model.specs.Disk.{KeepsLength};
 ghost use Rattle.mot_lines.specs.Listing.{listing_text_beside};
 ghost use Rattle.mot_numbers.specs.declared.refusal.Refusal.TheVariants.{DeviceFault, WriteFault};
-ghost use Rattle.mot_program.specs.Program.{IsUntold, OnOpened, Opens};
+ghost use Rattle.mot_outcome.specs.Outcome.{IsUntold, OnOpened};
+ghost use Rattle.mot_program.specs.Program.{Opens};
 ghost use Rattle.mot_program.specs.Report.{Checks, StopsChecking, clean_line, layout_line};
 ghost use Rattle.mot_session.specs.Served.{WritesFront};
 
-use crate::ended::{Ended, Finished};
-use crate::printing::{write_bytes, write_last};
 use disk_model::Disk;
 use disk_store::{DiskFiles, Start};
 use mot_journal::Layout;
 use mot_numbers::Refusal;
 use mot_objects::Carousel;
+use mot_outcome::{Beside, Finished, write_bytes, write_last};
+use mot_reading::Ended;
 use mot_repository::Repository;
 use mot_session::write_listing;
 use std::alloc::Global;
@@ -27,7 +28,7 @@ pub(crate) fn check_file<F: DiskFiles, S: Start, W: Write>(
     path: &str,
     start: S,
     writer: &mut W,
-) -> Finished<S>
+) -> Finished<S, ()>
     ensures done { OnOk result.result (OnOpened
         (Checks (W.contents writer.old) (W.contents writer.new)) result.disk) }
     ensures refused { IfErr result.result (λ r. ((r ≡ DeviceFault)
@@ -37,14 +38,17 @@ pub(crate) fn check_file<F: DiskFiles, S: Start, W: Write>(
     ensures stays { F.taken_away files.new ≡ F.taken_away files.old }
 {
     match files.open_disk(path, start) {
-        Ok(disk) => Finished::of_file(check_disk(alloc, disk, writer)),
+        Ok(disk) => {
+            let ended = check_disk(alloc, disk, writer);
+            Finished::of_file(ended, Beside::nothing(), None)
+        }
         Err(unopened) => Finished::unopened(unopened),
     }
 }
 
 /// Prints what a disk keeps, whether it is clean, and its layout. Nothing on it changes, but that
 /// it is synced.
-pub(crate) fn check_disk<D: Disk, W: Write>(alloc: Global, disk: D, writer: &mut W) -> Ended<D>
+pub(crate) fn check_disk<D: Disk, W: Write>(alloc: Global, disk: D, writer: &mut W) -> Ended<D, ()>
     ensures keeps { KeepsLength (D.state disk) (D.state result.disk) }
     ensures done { OnOk result.result (Checks (W.contents writer.old) (W.contents writer.new)
         (D.state disk) (D.state result.disk)) }

@@ -4,18 +4,19 @@ ghost use Rattle.std.specs.Io.KnownBytes.{Appends};
 ghost use Rattle.disk_model.specs.Disk.{KeepsLength};
 ghost use Rattle.mot_numbers.specs.Geometry.{IsValid};
 ghost use Rattle.mot_numbers.specs.declared.refusal.Refusal.TheVariants.{WriteFault};
-ghost use Rattle.mot_program.specs.Program.{IsMakingRefusal, IsUntold, MayTakeAway};
+ghost use Rattle.mot_outcome.specs.Outcome.{IsUntold};
+ghost use Rattle.mot_program.specs.Program.{IsMakingRefusal, MayTakeAway};
 ghost use Rattle.mot_program.specs.Program.{OnOpenedOrMade, Opens};
 ghost use Rattle.mot_program.specs.Report.{Formats, StopsFormatting, formatted_line};
 ghost use Rattle.mot_session.specs.Served.{WritesFront};
 
-use crate::ended::{Ended, Finished};
-use crate::printing::{write_bytes, write_last};
 use disk_model::Disk;
 use disk_store::{DiskFiles, Start, Unopened};
 use itoa::Buffer;
 use mot_journal::format_from;
 use mot_numbers::{Geometry, Refusal, TransportId};
+use mot_outcome::{Beside, Finished, write_bytes, write_last};
+use mot_reading::Ended;
 use std::io::Write;
 
 /// Makes a disk of the file at the path. The file is made if it can't be opened, and removed again
@@ -27,7 +28,7 @@ pub(crate) fn format_file<F: DiskFiles, S: Start, W: Write>(
     geometry: Geometry,
     directory: TransportId,
     writer: &mut W,
-) -> Finished<S>
+) -> Finished<S, ()>
     ensures done { OnOk result.result (OnOpenedOrMade geometry (Formats geometry directory
         (W.contents writer.old) (W.contents writer.new)) result.disk) }
     ensures refused { IfErr result.result (λ r.
@@ -39,12 +40,12 @@ pub(crate) fn format_file<F: DiskFiles, S: Start, W: Write>(
     ensures takes { MayTakeAway path.now (F.taken_away files.old) (F.taken_away files.new) }
 {
     if !geometry.is_valid() {
-        return Finished::untouched(Refusal::BadGeometry, start);
+        return Finished::unbegun(Refusal::BadGeometry, None, start);
     }
     match files.open_disk(path, start) {
         Ok(mut disk) => {
             let result = format_disk(&mut disk, &geometry, directory, writer);
-            Finished::of_file(Ended { disk, result })
+            Finished::of_file(Ended { disk, result }, Beside::nothing(), None)
         }
         Err(unopened) => format_new_file(files, path, unopened, geometry, directory, writer),
     }
@@ -58,7 +59,7 @@ fn format_new_file<F: DiskFiles, S: Start, W: Write>(
     geometry: Geometry,
     directory: TransportId,
     writer: &mut W,
-) -> Finished<S>
+) -> Finished<S, ()>
     requires { IsValid geometry }
     ensures done { OnOk result.result (OnOpenedOrMade geometry (Formats geometry directory
         (W.contents writer.old) (W.contents writer.new)) result.disk) }
@@ -78,7 +79,7 @@ fn format_new_file<F: DiskFiles, S: Start, W: Write>(
     if is_unformatted(&result) {
         files.take_away(path);
     }
-    Finished::of_file(Ended { disk, result })
+    Finished::of_file(Ended { disk, result }, Beside::nothing(), None)
 }
 
 /// Whether formatting failed, and not only the telling of it.

@@ -2,13 +2,14 @@
 ghost use Rattle.std.specs.Prelude.{◌≡◌, OnOk, IfErr, ◌⊎◌};
 ghost use Rattle.disk_model.specs.Disk.{KeepsLength};
 ghost use Rattle.mot_numbers.specs.declared.refusal.Refusal.TheVariants.{DeviceFault};
-ghost use Rattle.mot_program.specs.Program.{IsUntold, OnOpened, Opens};
+ghost use Rattle.mot_outcome.specs.Outcome.{IsUntold, OnOpened};
+ghost use Rattle.mot_program.specs.Program.{Opens};
 ghost use Rattle.mot_program.specs.Report.{Migrates, StopsMigrating, migrated_line};
 
-use crate::ended::{Ended, Finished};
-use crate::printing::write_last;
 use disk_model::Disk;
 use disk_store::{DiskFiles, Start};
+use mot_outcome::{Beside, Finished, write_last};
+use mot_reading::Ended;
 use mot_repository::Repository;
 use std::alloc::Global;
 use std::io::Write;
@@ -21,7 +22,7 @@ pub(crate) fn migrate_file<F: DiskFiles, S: Start, W: Write>(
     path: &str,
     start: S,
     writer: &mut W,
-) -> Finished<S>
+) -> Finished<S, ()>
     ensures done { OnOk result.result (OnOpened
         (Migrates (W.contents writer.old) (W.contents writer.new)) result.disk) }
     ensures refused { IfErr result.result (λ r. ((r ≡ DeviceFault)
@@ -31,14 +32,21 @@ pub(crate) fn migrate_file<F: DiskFiles, S: Start, W: Write>(
     ensures stays { F.taken_away files.new ≡ F.taken_away files.old }
 {
     match files.open_disk(path, start) {
-        Ok(disk) => Finished::of_file(migrate_disk(alloc, disk, writer)),
+        Ok(disk) => {
+            let ended = migrate_disk(alloc, disk, writer);
+            Finished::of_file(ended, Beside::nothing(), None)
+        }
         Err(unopened) => Finished::unopened(unopened),
     }
 }
 
 /// Rewrites a disk of layout 1 into layout 2, and prints whether there was anything to do. What it
 /// stands for stays.
-pub(crate) fn migrate_disk<D: Disk, W: Write>(alloc: Global, disk: D, writer: &mut W) -> Ended<D>
+pub(crate) fn migrate_disk<D: Disk, W: Write>(
+    alloc: Global,
+    disk: D,
+    writer: &mut W,
+) -> Ended<D, ()>
     ensures keeps { KeepsLength (D.state disk) (D.state result.disk) }
     ensures done { OnOk result.result (Migrates (W.contents writer.old) (W.contents writer.new)
         (D.state disk) (D.state result.disk)) }

@@ -2,26 +2,23 @@
 ghost use Rattle.std.specs.Prelude.{◌≡◌, ◌⊎◌, List, map, IfErr, OnOk, Some};
 ghost use Rattle.std.specs.Io.KnownBytes.{Keeps};
 ghost use Rattle.clap.specs.Words.{Text, found_of, rows_of};
-ghost use Rattle.mot_numbers.specs.declared.refusal.Refusal.{Refusal};
-ghost use Rattle.mot_program.specs.Program.{Does, DoesInPart, IsBeginningRefusal, IsUntold};
-ghost use Rattle.mot_program.specs.Program.{IsRefused, IsUntouched, OpensFor, Succeeds};
+ghost use Rattle.mot_numbers.specs.declared.refusal.Refusal.TheVariants.{BadGeometry};
+ghost use Rattle.mot_outcome.specs.Outcome.{IsRefused, IsUntold, IsUntouched, Succeeds};
+ghost use Rattle.mot_program.specs.Program.{Does, DoesInPart, IsBeginningRefusal, OpensFor};
 ghost use Rattle.mot_program.specs.Program.{TakesAwayFor, UsesFiles};
-ghost use Rattle.mot_program.specs.declared.ended.UsedDisk.{UsedDisk};
 ghost use Rattle.mot_words.specs.Asked.{AreWrong, AskBy};
 ghost use Rattle.mot_words.specs.Command.{motcar_app};
 ghost use Rattle.mot_words.specs.Program.Task.{IsTask};
 
 use crate::Task;
 use crate::checking::check_file;
-use crate::ended::{Exit, Finished, UsedDisk};
 use crate::formatting::format_file;
 use crate::migrating::migrate_file;
-use crate::printing::{explain, refuse};
 use crate::serving::{serve_file, serve_memory};
-use crate::subject::{Subject, subject_of};
 use clap::ArgMatches;
 use disk_store::{DiskFiles, Start};
 use mot_numbers::Refusal;
+use mot_outcome::{Exit, Finished, UsedDisk, explain, refuse, subject_of};
 use mot_words::{motcar_matches, program_task};
 use std::alloc::Global;
 use std::convert::AsStr;
@@ -43,13 +40,13 @@ pub fn run_on<F: DiskFiles, S: AsStr, B: Start, R: Read, W: Write, E: Write>(
     ensures status { (result.status ≡ 0) ⊎ (result.status ≡ 1) ⊎ (result.status ≡ 2) }
 
     // The words asked for a task, and it was done; or they asked for help, and nothing was read.
-    ensures done { result.status ≡ 0 → Succeeds (map S.text words.now) result.disk
+    ensures done { result.status ≡ 0 → Succeeds IsTask Does (map S.text words.now) result.disk
         (R.remaining reader.old) (R.remaining reader.new)
         (W.contents writer.old) (W.contents writer.new) }
 
     // What this refusal left of the disk that is handed out.
-    ensures refused { result.status ≡ 1 → (refusal : Refusal) × (result.refusal ≡ Some refusal)
-        × IsRefused (map S.text words.now) refusal result.disk
+    ensures refused { result.status ≡ 1 → IsRefused IsTask BadGeometry IsBeginningRefusal DoesInPart
+        (map S.text words.now) result.refusal result.disk
         (R.remaining reader.old) (R.remaining reader.new)
         (W.contents writer.old) (W.contents writer.new) }
     ensures usage { result.status ≡ 2 → AreWrong motcar_app (map S.text words.now)
@@ -86,13 +83,13 @@ fn run_command<F: DiskFiles, B: Start, R: Read, W: Write, E: Write>(
     ensures status { (result.status ≡ 0) ⊎ (result.status ≡ 1) }
     ensures done { (all : List Text)
         → AskBy motcar_app IsTask name.now (rows_of (found_of words.now)) all
-        → result.status ≡ 0 → Succeeds all result.disk
+        → result.status ≡ 0 → Succeeds IsTask Does all result.disk
         (R.remaining reader.old) (R.remaining reader.new)
         (W.contents writer.old) (W.contents writer.new) }
     ensures refused { (all : List Text)
         → AskBy motcar_app IsTask name.now (rows_of (found_of words.now)) all
-        → result.status ≡ 1 → (refusal : Refusal) × (result.refusal ≡ Some refusal)
-        × IsRefused all refusal result.disk
+        → result.status ≡ 1
+        → IsRefused IsTask BadGeometry IsBeginningRefusal DoesInPart all result.refusal result.disk
         (R.remaining reader.old) (R.remaining reader.new)
         (W.contents writer.old) (W.contents writer.new) }
     ensures files { (all : List Text)
@@ -112,11 +109,11 @@ fn run_command<F: DiskFiles, B: Start, R: Read, W: Write, E: Write>(
     let Finished {
         result,
         disk,
-        fault,
+        cause,
     } = execute(files, alloc, task, start, reader, writer);
     match result {
         Ok(()) => Exit::unrefused(0, disk),
-        Err(refusal) => refuse(errors, refusal, subject_of(refusal, words, fault), disk),
+        Err(refusal) => refuse(errors, refusal, subject_of(refusal, words, cause), disk),
     }
 }
 
@@ -128,14 +125,14 @@ fn execute<F: DiskFiles, B: Start, R: Read, W: Write>(
     start: B,
     reader: &mut R,
     writer: &mut W,
-) -> Finished<B>
+) -> Finished<B, ()>
     ensures done { OnOk result.result (Does task.entry result.disk
         (R.remaining reader.old) (R.remaining reader.new)
         (W.contents writer.old) (W.contents writer.new)) }
     ensures refused { IfErr result.result (λ r. (IsBeginningRefusal task.entry r
         × IsUntold result.disk (W.contents writer.old) (W.contents writer.new)
         × Keeps (R.remaining reader.old) (R.remaining reader.new))
-        ⊎ DoesInPart task.entry r result.disk
+        ⊎ DoesInPart task.entry (Some r) result.disk
         (R.remaining reader.old) (R.remaining reader.new)
         (W.contents writer.old) (W.contents writer.new)) }
     ensures opens { OpensFor task.entry result.disk (F.opened files.old) (F.opened files.new) }

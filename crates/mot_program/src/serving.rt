@@ -1,17 +1,19 @@
 //! What `memory` and `serve` do.
-ghost use Rattle.std.specs.Prelude.{◌≡◌, ◌⊎◌, OnOk, IfErr};
+ghost use Rattle.std.specs.Prelude.{◌≡◌, ◌⊎◌, IfErr, None, OnOk, Some};
 ghost use Rattle.std.specs.Io.KnownBytes.{Keeps};
 ghost use Rattle.disk_model.specs.Disk.{KeepsLength};
 ghost use Rattle.mot_numbers.specs.declared.refusal.Refusal.TheVariants.{DeviceFault};
-ghost use Rattle.mot_program.specs.Program.{IsMemoryRefusal, IsUntold, OnMemory, OnOpened};
+ghost use Rattle.mot_outcome.specs.Outcome.{IsUntold, OnOpened};
+ghost use Rattle.mot_program.specs.Program.{IsMemoryRefusal, OnMemory};
 ghost use Rattle.mot_program.specs.Program.{Opens, SinceNew};
 ghost use Rattle.mot_program.specs.Serving.{ServesInput, StopsServing};
 
-use crate::ended::{Ended, Finished, UsedDisk};
 use disk_model::Disk;
 use disk_store::{DiskFiles, RamDisk, Start};
 use mot_journal::format;
 use mot_numbers::{Geometry, Refusal};
+use mot_outcome::{Beside, Finished, UsedDisk};
+use mot_reading::Ended;
 use mot_server::Server;
 use mot_session::{MAX_READS, serve};
 use std::alloc::Global;
@@ -25,7 +27,7 @@ pub(crate) fn serve_memory<S: Start, R: Read, W: Write>(
     start: S,
     reader: &mut R,
     writer: &mut W,
-) -> Finished<S>
+) -> Finished<S, ()>
     ensures done { OnOk result.result (OnMemory (SinceNew geometry (ServesInput
         (R.remaining reader.old) (R.remaining reader.new)
         (W.contents writer.old) (W.contents writer.new))) result.disk) }
@@ -37,20 +39,20 @@ pub(crate) fn serve_memory<S: Start, R: Read, W: Write>(
         (W.contents writer.old) (W.contents writer.new))) result.disk) }
 {
     if !geometry.is_valid() {
-        return Finished::untouched(Refusal::BadGeometry, start);
+        return Finished::unbegun(Refusal::BadGeometry, None, start);
     }
     let Some(mut disk) = RamDisk::new(alloc, geometry.length()) else {
-        return Finished::untouched(Refusal::OutOfMemory, start);
+        return Finished::unbegun(Refusal::OutOfMemory, None, start);
     };
     // A disk of zeros that is long enough fails for nothing else.
     let Ok(()) = format(&mut disk, &geometry) else {
-        return Finished::untouched(Refusal::OutOfMemory, start);
+        return Finished::unbegun(Refusal::OutOfMemory, None, start);
     };
     let ended = serve_disk(alloc, disk, reader, writer);
     Finished {
         result: ended.result,
         disk: UsedDisk::InMemory(ended.disk, start),
-        fault: None,
+        cause: None,
     }
 }
 
@@ -63,7 +65,7 @@ pub(crate) fn serve_file<F: DiskFiles, S: Start, R: Read, W: Write>(
     start: S,
     reader: &mut R,
     writer: &mut W,
-) -> Finished<S>
+) -> Finished<S, ()>
     ensures done { OnOk result.result (OnOpened (ServesInput
         (R.remaining reader.old) (R.remaining reader.new)
         (W.contents writer.old) (W.contents writer.new)) result.disk) }
@@ -77,7 +79,10 @@ pub(crate) fn serve_file<F: DiskFiles, S: Start, R: Read, W: Write>(
     ensures stays { F.taken_away files.new ≡ F.taken_away files.old }
 {
     match files.open_disk(path, start) {
-        Ok(disk) => Finished::of_file(serve_disk(alloc, disk, reader, writer)),
+        Ok(disk) => {
+            let ended = serve_disk(alloc, disk, reader, writer);
+            Finished::of_file(ended, Beside::nothing(), None)
+        }
         Err(unopened) => Finished::unopened(unopened),
     }
 }
@@ -88,7 +93,7 @@ fn serve_disk<R: Read, W: Write, D: Disk>(
     disk: D,
     reader: &mut R,
     writer: &mut W,
-) -> Ended<D>
+) -> Ended<D, ()>
     ensures keeps { KeepsLength (D.state disk) (D.state result.disk) }
     ensures done { OnOk result.result (ServesInput
         (R.remaining reader.old) (R.remaining reader.new)
@@ -104,5 +109,19 @@ fn serve_disk<R: Read, W: Write, D: Disk>(
         Err(refused) => return Ended::unopened(refused),
     };
     let fault = serve(alloc, reader, writer, &mut server, MAX_READS).fault;
-    Ended::after(server.into_disk(), fault)
+    Ended {
+        disk: server.into_disk(),
+        result: result_of(fault),
+    }
+}
+
+/// What serving came to, that this fault ended, or the input's end.
+fn result_of(fault: Option<Refusal>) -> Result<(), Refusal>
+    ensures done { OnOk result (fault ≡ None) }
+    ensures refused { IfErr result (λ r. fault ≡ Some r) }
+{
+    match fault {
+        None => Ok(()),
+        Some(refusal) => Err(refusal),
+    }
 }

@@ -22,6 +22,8 @@ pub use Rattle.mot_numbers.proofs.Laws.{valid_is}
 pub use Rattle.mot_server.proofs.Answered.{not_halted}
 -- runs one after the other, and calls that only read
 pub use Rattle.mot_server.proofs.Joins.{runs_join, reads_leave, reads_leave_of, accepted-join}
+-- where a player stands behind accepted commands, in parts, and where it does not follow
+pub use Rattle.mot_server.proofs.Places.{after-both, behind_both, begins_anew}
 -- the packets of a turn, up to the one that ends it
 pub use Rattle.mot_server.proofs.Going.{IsGoing-none, IsGoing-more, HasPlayedTurn-ended}
 -- packets, request by request

@@ -8,6 +8,7 @@ mod LifeRows
 pub mod Lives
 pub mod Marked
 pub mod Numbered
+pub mod OneChange
 pub mod Openings
 pub mod Places
 pub mod Read

@@ -1,5 +1,5 @@
 -- A server's player plays what its repository keeps.
-use Rattle.std.proofs.Common.{◌≡◌, ℕ, List, [], ◌∷◌, length, map, refl, sym, ap, ◌∙◌, subst}
+use Rattle.std.proofs.Common.{◌≡◌, ℕ, true, List, [], ◌∷◌, length, map, refl, sym, ap, ◌∙◌, subst}
 use Rattle.std.specs.Prelude.{Result, Ok, Err, IfOk}
 use Rattle.mot_journal.specs.Image as journal
 use Rattle.mot_numbers.specs.Geometry.{packet_room}
@@ -8,7 +8,8 @@ use Rattle.mot_objects.specs.Carousel as whole
 use Rattle.mot_objects.specs.Stands.{AreBodiesOf, carousel_of, objects_of}
 use Rattle.mot_objects.specs.declared.carousel.Carousel.{Carousel}
 use Rattle.mot_objects.specs.declared.object.Object.{Object}
-use Rattle.mot_player.specs.Place.{change_turn, opened_place}
+use Rattle.mot_player.specs.Followable.{IsFollowable}
+use Rattle.mot_player.specs.Place.{change_turn, changed, opened_place}
 use Rattle.mot_player.specs.PlayerView.{AreBodiesFor, PlayerView, TurnPlan, place_of, turn_with}
 use Rattle.mot_player.specs.Turn.{IsTurnOf, Turn, turn_of_carousel}
 use Rattle.mot_repository.specs.Repository.{Agrees, RepositoryView}
@@ -110,23 +111,66 @@ start_in view s player agrees opened =
     ∙ ap (λ (g : Geometry). opened_place g.address (packet_room g) g.segment_size
     (turn_of_carousel s.carousel g.segment_size)) agrees.geometry
 
--- after a change the turn of what is kept then comes next
-pub place_after : (view' : RepositoryView) (s next : journal.Standing) (old new : PlayerView)
+-- the turn of what is kept, with its bodies
+turn_kept : (view : RepositoryView) (s : journal.Standing) (player : PlayerView) → Agrees view s
+    → PlaysCarousel view.carousel view.journal.geometry.segment_size player
+    → turn_with player.turn (bodies_of s.carousel)
+    ≡ turn_of_carousel s.carousel s.geometry.segment_size
+turn_kept view s player agrees plays =
+    let kept = bodies_kept view s agrees in
+    plays.turn_is (bodies_of s.carousel) kept.0
+    ∙ ap (λ (k : whole.Carousel). turn_of_carousel k view.journal.geometry.segment_size)
+    (sym kept.1)
+    ∙ ap (λ (g : Geometry). turn_of_carousel s.carousel g.segment_size) agrees.geometry
+
+-- whatever came before, after a change the turn of what is kept then begins
+pub begins_after : (view' : RepositoryView) (s next : journal.Standing) (old new : PlayerView)
     (plan : TurnPlan)
     → Agrees view' next → new.turn ≡ plan
     → PlaysCarousel view'.carousel view'.journal.geometry.segment_size new
-    → ((bodies changed : List (List ℕ))
-    → place_of new changed ≡ change_turn (turn_with plan changed) (place_of old bodies))
+    → ((bodies came : List (List ℕ))
+    → place_of new came ≡ change_turn (turn_with plan came) (place_of old bodies))
     → place_of new (bodies_of next.carousel)
     ≡ change_turn (turn_of_carousel next.carousel next.geometry.segment_size)
     (place_of old (bodies_of s.carousel))
-place_after view' s next old new plan agrees same plays place =
-    let kept = bodies_kept view' next agrees in
+begins_after view' s next old new plan agrees same plays place =
     let bodies : List (List ℕ) = bodies_of next.carousel in
     let turn : turn_with plan bodies ≡ turn_of_carousel next.carousel next.geometry.segment_size =
-    ap (λ (t : TurnPlan). turn_with t bodies) (sym same) ∙ plays.turn_is bodies kept.0
-    ∙ ap (λ (k : whole.Carousel). turn_of_carousel k view'.journal.geometry.segment_size)
-    (sym kept.1)
-    ∙ ap (λ (g : Geometry). turn_of_carousel next.carousel g.segment_size) agrees.geometry in
+    ap (λ (t : TurnPlan). turn_with t bodies) (sym same) ∙ turn_kept view' next new agrees plays in
     place (bodies_of s.carousel) bodies
     ∙ ap (λ (t : Turn). change_turn t (place_of old (bodies_of s.carousel))) turn
+
+-- after a change that can be followed the turn of what is kept then comes as it should
+pub comes_after : (view view' : RepositoryView) (s next : journal.Standing) (old new : PlayerView)
+    (plan : TurnPlan) (HasRoom : Type 0)
+    → Agrees view s → PlaysCarousel view.carousel view.journal.geometry.segment_size old
+    → Agrees view' next → new.turn ≡ plan
+    → PlaysCarousel view'.carousel view'.journal.geometry.segment_size new
+    → IsFollowable (turn_of_carousel s.carousel s.geometry.segment_size)
+    (turn_of_carousel next.carousel next.geometry.segment_size)
+    → (old.follows ≡ true → HasRoom)
+    → ((bodies came : List (List ℕ)) → AreBodiesFor old.turn bodies → AreBodiesFor plan came
+    → (old.follows ≡ true
+    → HasRoom × IsFollowable (turn_with old.turn bodies) (turn_with plan came))
+    → place_of new came ≡ changed (turn_with plan came) (place_of old bodies))
+    → place_of new (bodies_of next.carousel)
+    ≡ changed (turn_of_carousel next.carousel next.geometry.segment_size)
+    (place_of old (bodies_of s.carousel))
+comes_after view view' s next old new plan HasRoom was was_plays agrees same plays can room place =
+    let bodies : List (List ℕ) = bodies_of s.carousel in
+    let came : List (List ℕ) = bodies_of next.carousel in
+    let first = turn_kept view s old was was_plays in
+    let then_turn : turn_with plan came
+    ≡ turn_of_carousel next.carousel next.geometry.segment_size =
+    ap (λ (t : TurnPlan). turn_with t came) (sym same) ∙ turn_kept view' next new agrees plays in
+    let sized : AreBodiesFor plan came =
+    subst (λ (t : TurnPlan). AreBodiesFor t came) same
+    (plays.sized came (bodies_kept view' next agrees).0) in
+    place bodies came (was_plays.sized bodies (bodies_kept view s was).0) sized
+    (λ follows. (
+      room follows,
+      subst (λ (t : Turn). IsFollowable t (turn_with plan came)) (sym first)
+          (subst (IsFollowable (turn_of_carousel s.carousel s.geometry.segment_size))
+          (sym then_turn) can),
+    ))
+    ∙ ap (λ (t : Turn). changed t (place_of old bodies)) then_turn

@@ -4,6 +4,7 @@ use Rattle.disk_model.specs.Disk.{State, IsHonestDisk}
 use Rattle.mot_journal.specs.Image as journal
 use Rattle.mot_numbers.specs.declared.geometry.Geometry.{Geometry}
 use Rattle.mot_objects.specs.Carousel as whole
+use Rattle.mot_objects.specs.Carousel.{IsSound}
 use Rattle.mot_player.specs.Laws.{IsAtTurnsBeginning, IsPlace}
 use Rattle.mot_player.specs.Place.{Place}
 use Rattle.mot_player.specs.Reading.{ReadsAs}
@@ -18,6 +19,13 @@ use Rattle.mot_server.specs.Server.{bodies_of}
 use Rattle.mot_server.proofs.Going.{HasPlayedTurn-read, HasPlayedTurn-steps}
 use Rattle.mot_server.proofs.Turns.{bodies_kept}
 
+-- what the disk stands for is sound
+pub sound_carousel : (view : RepositoryView) (s : journal.Standing) (state : State)
+    → IsHonestDisk state → Holds view s state → IsSound s.carousel
+sound_carousel view s state sound holds =
+    (standings-are_sound state.bytes s (sound.images state.bytes sound.bytes).are_bytes
+    (holds.each state.bytes sound.bytes).stands).0
+
 -- a whole turn, played from its beginning, reads as the carousel that the disk stands for
 pub turn_reads : (view : RepositoryView) (s : journal.Standing) (state : State)
     (player : PlayerView) (packets : List (List ℕ)) (new : Place)
@@ -31,9 +39,7 @@ pub turn_reads : (view : RepositoryView) (s : journal.Standing) (state : State)
 turn_reads view s state player packets new sound holds plays place turn begins =
     let bodies : List (List ℕ) = bodies_of s.carousel in
     let kept = bodies_kept view s holds.agrees in
-    let image = sound.images state.bytes sound.bytes in
-    let whole_carousel = (standings-are_sound state.bytes s image.are_bytes
-    (holds.each state.bytes sound.bytes).stands).0 in
+    let whole_carousel = sound_carousel view s state sound holds in
     let is : IsTurnOf (turn_with player.turn bodies) s.carousel view.journal.geometry.segment_size =
     subst (λ (k : whole.Carousel).
     IsTurnOf (turn_with player.turn bodies) k view.journal.geometry.segment_size) (sym kept.1)

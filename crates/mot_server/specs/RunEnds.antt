@@ -7,7 +7,8 @@ use Rattle.mot_journal.specs.Image.{Standing}
 use Rattle.mot_numbers.specs.declared.refusal.Refusal.{Refusal}
 use Rattle.mot_numbers.specs.declared.refusal.Refusal.TheVariants.{OutOfMemory, DeviceFault, Halted}
 use Rattle.mot_objects.specs.declared.command.Command.{Command}
-use Rattle.mot_player.specs.Place.{Place, change_turn}
+use Rattle.mot_objects.specs.Carousel.{Carousel, carousel_if_accepted, change}
+use Rattle.mot_player.specs.Place.{Place, change_turn, changed}
 use Rattle.mot_player.specs.Turn.{turn_of_carousel}
 use Rattle.mot_repository.specs.Repository.{RepositoryView, Agrees, Holds}
 use Rattle.mot_server.specs.Marks.{AreMarks}
@@ -51,9 +52,29 @@ pub record RunLeaves (old new : RepositoryView) (start now : State) (s : Standin
       → StandsAfterSome s (accepted_commands commands marks)
       (commands_in_flight commands marks fault) image
 
--- where the player stands behind accepted commands: the group under way stays, and then the turn of
--- the last carousel begins
-abbrev pub place_behind : List Command → Standing → Place → Place
-place_behind [] last place = place
-place_behind (command ∷ commands) last place =
+-- where the player stands behind commands that are accepted, each where it stands, with so many
+-- objects at most and segments of this size: the turn of each carousel comes behind the group under
+-- way, and is followed or begins anew
+abbrev pub place_after : (limit size : ℕ) → Carousel → List Command → Place → Place
+place_after limit size c [] place = place
+place_after limit size c (command ∷ commands) place =
+    option_map_or (λ next.
+    place_after limit size next commands (changed (turn_of_carousel next size) place))
+    (carousel_if_accepted (change c limit command)) place
+
+-- the same of what a disk stands for
+abbrev pub place_behind : Standing → List Command → Place → Place
+place_behind s commands place =
+    place_after s.geometry.objects s.geometry.segment_size s.carousel commands place
+
+-- where it stands, if it does not follow: the turn of the last carousel begins
+abbrev pub place_anew : List Command → Standing → Place → Place
+place_anew [] last place = place
+place_anew (command ∷ commands) last place =
     change_turn (turn_of_carousel last.carousel last.geometry.segment_size) place
+
+-- Where a player does not follow, only the last carousel's turn counts.
+abbrev pub TurnsBeginAnew : Type 0
+TurnsBeginAnew =
+    (s last : Standing) (commands : List Command) (place : Place) → place.follows ≡ false
+    → IsAfter s commands last → place_behind s commands place ≡ place_anew commands last place

@@ -35,7 +35,7 @@ impl<D: Disk> Server<D> {
     ghost use Rattle.mot_repository.specs.Answers.{IsAnswered};
     ghost use Rattle.mot_server.specs.Attempts.{answer_of, fault_of, marks_of};
     ghost use Rattle.mot_server.specs.Run.{IsRun};
-    ghost use Rattle.mot_server.specs.RunEnds.{IsRunFault, RunLeaves, place_behind};
+    ghost use Rattle.mot_server.specs.RunEnds.{IsRunFault, RunLeaves, TurnsBeginAnew, place_behind};
     ghost use Rattle.mot_server.specs.Runs.{accepted_commands, IsAfter};
     ghost use Rattle.mot_server.specs.Server.{place_in};
 
@@ -53,12 +53,14 @@ impl<D: Disk> Server<D> {
         ensures in_flight { result.fault ≡ Some DeviceFault
             → vec_len result.done < length commands.now }
 
-        // Only accepted commands change what is played.
+        // Only accepted commands change what is played; and of a server that does not follow, the
+        // last one alone.
         ensures place { (s last : Standing) → Holds self.old.view s (D.state self.old.disk)
             → IsAfter s (accepted_commands commands.now result.done.items) last
             → place_in self.new last
-            ≡ place_behind (accepted_commands commands.now result.done.items) last
+            ≡ place_behind s (accepted_commands commands.now result.done.items)
             (place_in self.old s) }
+        ensures anew { TurnsBeginAnew }
     {
         if self.halted() {
             return RunEnd {
@@ -114,7 +116,7 @@ impl<D: Disk> Server<D> {
         ensures place { (s last : Standing) → Holds self.old.view s (D.state self.old.disk)
             → IsAfter s (accepted_commands (command.now ∷ []) (marks_of result)) last
             → place_in self.new last
-            ≡ place_behind (accepted_commands (command.now ∷ []) (marks_of result)) last
+            ≡ place_behind s (accepted_commands (command.now ∷ []) (marks_of result))
             (place_in self.old s) }
     {
         match self.execute(alloc, command) {

@@ -1,5 +1,6 @@
 //! The server: a repository, and a player of what it keeps.
-ghost use Rattle.std.specs.Prelude.{◌≡◌, ◌<◌, ◌≤◌, ◌↔◌, ℕ, List, true, false, Ok, OnOk, OnErr};
+ghost use Rattle.std.specs.Prelude.{◌≡◌, ◌<◌, ◌≤◌, ◌==◌, ◌↔◌, ℕ, List, true, false, not};
+ghost use Rattle.std.specs.Prelude.{Ok, OnOk, OnErr};
 ghost use Rattle.std.specs.Prelude.{◌+◌, ◌^◌, ◌⊎◌, length, slice_range, vec_len, IfOk, IfErr};
 ghost use Rattle.std.specs.Prelude.{IsFalse, IsTrue, MatchResult};
 ghost use Rattle.disk_model.specs.Disk.{Keeps, Costs, OnlyReads, OnlySyncs};
@@ -7,8 +8,8 @@ ghost use Rattle.disk_model.specs.Disk.{Throughout};
 ghost use Rattle.mot_journal.specs.Image as journal;
 ghost use Rattle.mot_numbers.specs.declared.refusal.Refusal.TheVariants.{DeviceFault};
 ghost use Rattle.mot_numbers.specs.Geometry.{packet_room};
-ghost use Rattle.mot_player.specs.Place.{change_turn, directory_packets, hear_directory};
-ghost use Rattle.mot_player.specs.Place.{opened_place};
+ghost use Rattle.mot_player.specs.Place.{change_turn, changed, directory_packets, following};
+ghost use Rattle.mot_player.specs.Place.{hear_directory, opened_place};
 ghost use Rattle.mot_player.specs.Turn.{turn_of_carousel};
 ghost use Rattle.mot_repository.specs.OnDisk.{extent_at};
 ghost use Rattle.mot_repository.specs.Outcome.{after_command};
@@ -206,18 +207,48 @@ impl<D: Disk> Server<D> {
             × (after_command self.old.view.journal.layout s command.now ≡ Ok (next, done))
             × Holds self.new.view next (D.state self.new.disk)) }
 
-        // The group under way stays; then the turn of the carousel after it begins.
-        ensures place { (s next : journal.Standing) → Agrees self.old.view s
-            → Agrees self.new.view next → OnOk result (place_in self.new next
+        // The turn of the carousel after it comes after the group under way: it begins, or if the
+        // server follows it goes on from where the turn stood.
+        ensures place { (s next : journal.Standing)
+            → Holds self.old.view s (D.state self.old.disk) → Agrees self.new.view next
+            → IfOk result (λ done.
+            after_command self.old.view.journal.layout s command.now ≡ Ok (next, done)
+            → place_in self.new next
+            ≡ changed (turn_of_carousel next.carousel next.geometry.segment_size)
+            (place_in self.old s)) }
+        ensures anew { (s next : journal.Standing) → self.old.player.follows ≡ false
+            → Agrees self.old.view s → Agrees self.new.view next → OnOk result
+            (place_in self.new next
             ≡ change_turn (turn_of_carousel next.carousel next.geometry.segment_size)
             (place_in self.old s)) }
         ensures stays { OnErr result (self.new.player ≡ self.old.player) }
     {
         let prepared = self.bodies.repository.prepare(alloc, command)?;
         let turn = Turn::of(alloc, prepared.next(), self.player.segment_size())?;
+        let spare = self.player.spare(alloc)?;
         let done = self.bodies.repository.commit(prepared)?;
-        self.player.changed(turn);
+        self.player.changed(turn, spare);
         Ok(done)
+    }
+
+    /// From now on a command that is accepted does not begin the turn anew: the new directory and
+    /// the changed body come next, and then the turn goes on. It takes no memory, and does not call
+    /// the disk; each command then takes memory for a few more numbers.
+    pub fn follow_changes(&mut self)
+        ensures disk { self.new.disk ≡ self.old.disk }
+        ensures view { self.new.view ≡ self.old.view }
+        ensures place { (s : journal.Standing)
+            → place_in self.new s ≡ following (place_in self.old s) }
+    {
+        self.player.follow_changes();
+    }
+
+    /// Whether changed bodies wait, which come before the turn goes on.
+    pub fn has_early(&self) -> bool
+        ensures { (s : journal.Standing) → Agrees self.now.view s
+            → result ≡ not ((place_in self.now s).early == 0) }
+    {
+        self.player.has_early()
     }
 
     /// The whole directory comes after the group under way, and then the turn goes on; if a turn

@@ -16,7 +16,7 @@ use Rattle.mot_numbers.specs.declared.refusal.Refusal.{Refusal}
 use Rattle.mot_numbers.specs.declared.refusal.Refusal.TheVariants.{OutOfMemory, DeviceFault, Halted}
 use Rattle.mot_objects.specs.declared.command.Command.{Command}
 use Rattle.mot_objects.specs.declared.command.Done.{Done}
-use Rattle.mot_player.specs.Place.{change_turn}
+use Rattle.mot_player.specs.Place.{changed}
 use Rattle.mot_player.specs.PlayerView as player
 use Rattle.mot_player.specs.Turn.{turn_of_carousel}
 use Rattle.mot_repository.specs.Answers.{IsAnswered, IsChanged, IsRefusal, accepted, failed}
@@ -73,31 +73,31 @@ module _ {D : Type 0} (old new : ServerView D) (s : Standing) (start now : State
     (any_moment : Holds old.view s start
     → Throughout start now (IsBeforeOrAfter old.view.journal.layout s c)) where
   -- it was accepted
-  changed_of : (done : Done) → IsAnswered old.view new.view start now c (Ok done)
+  change_of : (done : Done) → IsAnswered old.view new.view start now c (Ok done)
       → IsChanged old.view c done new.view
-  changed_of done (accepted d e changed) =
-      subst (λ x. IsChanged old.view c x new.view) (sym (same_done done d e)) changed
-  changed_of done (refused refusal e why same still) = absurd (not_ok done refusal (sym e))
-  changed_of done (failed e going rises halts) = absurd (not_ok done DeviceFault (sym e))
+  change_of done (accepted d e change) =
+      subst (λ x. IsChanged old.view c x new.view) (sym (same_done done d e)) change
+  change_of done (refused refusal e why same still) = absurd (not_ok done refusal (sym e))
+  change_of done (failed e going rises halts) = absurd (not_ok done DeviceFault (sym e))
 
   -- an accepted command's ids answer it, on a server that stands for what it makes
   pub Answers-accepted : (done : Done) → IsAnswered old.view new.view start now c (Ok done)
       → IsFalse old.view.halted → (next : Standing)
       → after_command old.view.journal.layout s c ≡ Ok (next, done) → Holds new.view next now
-      → place_in new next ≡ change_turn (turn_of_carousel next.carousel next.geometry.segment_size)
+      → place_in new next ≡ changed (turn_of_carousel next.carousel next.geometry.segment_size)
       (place_in old s)
       → (last : Standing) × StandsFor new.view last now
       × Answers (state_of old s start) (Ok (asks.Command c)) (session.accepted done)
       (state_of new last now)
   unfolding IsAnswer
   Answers-accepted done answer going next step holds place =
-      let changed = changed_of done answer in (
+      let change = change_of done answer in (
         next,
         record { agrees = holds.agrees; holds = λ is. holds },
         decided (λ needs. going) (accepts done refl (record {
           outcome = step;
-          layout = changed.layout;
-          halted = changed.halted;
+          layout = change.layout;
+          halted = change.halted;
           place = place;
           later = record { moment = (any_moment (stands.holds going)).later; failures = later };
         })),
@@ -133,7 +133,7 @@ module _ {D : Type 0} (old new : ServerView D) (s : Standing) (start now : State
       × Answers (state_of old s start) (Ok (asks.Command c)) (session.refused r)
       (state_of new last now)
   unfolding IsAnswer
-  Answers-refused_command r (accepted d e changed) still_player honest = absurd (not_ok d r e)
+  Answers-refused_command r (accepted d e change) still_player honest = absurd (not_ok d r e)
   Answers-refused_command r (refused x e why same still) still_player honest = (
     s,
     record {
@@ -201,7 +201,7 @@ pub crosses-refused : (view view' : RepositoryView) (s : Standing) (start now : 
     → IsHonestDisk start → Holds view s start → IsAnswered view view' start now c (Err r)
     → Throughout start now (IsBeforeOrAfter view.journal.layout s c)
     → Throughout start now (StandsAfterSome s [] (written_by (Refused r) (Ok (asks.Command c))))
-crosses-refused view view' s start now c r sound holds (accepted d e changed) time =
+crosses-refused view view' s start now c r sound holds (accepted d e change) time =
     absurd (not_ok d r e)
 crosses-refused view view' s start now c r sound holds (refused x e why same still) time =
     crosses-unchanged view s start now
@@ -215,7 +215,7 @@ crosses-refused view view' s start now c r sound holds (failed e going rises hal
 pub stays_halted : (view view' : RepositoryView) (start now : State) (c : Command) (r : Refusal)
     → IsTrue view.halted → IsAnswered view view' start now c (Err r)
     → (view' ≡ view) × IsUnchanged start now
-stays_halted view view' start now c r is (accepted d e changed) = absurd (not_ok d r e)
+stays_halted view view' start now c r is (accepted d e change) = absurd (not_ok d r e)
 stays_halted view view' start now c r is (refused x e why same still) = (same, still)
 stays_halted view view' start now c r is (failed e going rises halts) =
     absurd (not_halted view.halted is going)

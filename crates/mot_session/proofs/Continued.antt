@@ -1,5 +1,7 @@
 -- The packets of a session, in order.
-use Rattle.std.proofs.Common.{◌≡◌, ℕ, ◌+◌, ◌-◌, ◌<◌, List, [], ◌∷◌, ◌++◌, Some, Result, Ok, Err}
+use Rattle.std.proofs.Common.{◌≡◌, ℕ, ◌+◌, ◌-◌, ◌<◌, Bool, true, false, List, [], ◌∷◌, ◌++◌, Some}
+use Rattle.std.proofs.Common.{Result, Ok, Err}
+use Rattle.std.specs.Prelude.{if◌then◌else◌}
 use Rattle.std.proofs.Common.{refl, sym, ap}
 use Rattle.std.proofs.Common.{◌∙◌, subst, inl, inr, arith, map}
 use Rattle.std.proofs.lemmas.List.{map-append}
@@ -16,9 +18,10 @@ use Rattle.mot_objects.specs.declared.command.Command.{Command}
 use Rattle.mot_packets.specs.Packet.{PacketFields, read_packet}
 use Rattle.mot_player.specs.Continuity.{IsContinuous}
 use Rattle.mot_player.specs.Laws.{AreSent}
-use Rattle.mot_player.specs.Place.{Place, Sent, Step, Request, NewTurn, change_turn, sent_by}
+use Rattle.mot_player.specs.Place.{Place, Sent, Step, Request, NewTurn, Follow, change_turn}
+use Rattle.mot_player.specs.Place.{changed, follow, sent_by}
 use Rattle.mot_player.specs.Sending.{packets_sent}
-use Rattle.mot_player.specs.Turn.{turn_of_carousel}
+use Rattle.mot_player.specs.Turn.{Turn, turn_of_carousel}
 use Rattle.mot_player.proofs.Laws.{steps-are-continuous, steps-go_on}
 use Rattle.std.specs.Prelude.{replicate}
 use Rattle.mot_session.specs.Laws.{SessionsAreContinuous, StoppedSessionsAreContinuous}
@@ -47,15 +50,25 @@ Leads-none : (place : Place) → Leads place place []
 unfolding sent_by
 Leads-none place = record { steps = []; sents = []; taken = refl; read = refl }
 
-Leads-change : (place : Place) (c : Carousel) (size : ℕ)
-    → Leads place (change_turn (turn_of_carousel c size) place) []
+Leads-anew : (place : Place) (turn : Turn) → Leads place (change_turn turn place) []
 unfolding sent_by
-Leads-change place c size = record {
-  steps = NewTurn (turn_of_carousel c size) ∷ [];
-  sents = [];
-  taken = refl;
-  read = refl;
-}
+Leads-anew place turn =
+    record { steps = NewTurn turn ∷ []; sents = []; taken = refl; read = refl }
+
+Leads-follow : (place : Place) (turn : Turn) → Leads place (follow turn place) []
+unfolding sent_by
+Leads-follow place turn =
+    record { steps = Follow turn ∷ []; sents = []; taken = refl; read = refl }
+
+Leads-cases : (place : Place) (turn : Turn) (b : Bool)
+    → Leads place (if b then follow turn place else change_turn turn place) []
+Leads-cases place turn true = Leads-follow place turn
+Leads-cases place turn false = Leads-anew place turn
+
+Leads-change : (place : Place) (c : Carousel) (size : ℕ)
+    → Leads place (changed (turn_of_carousel c size) place) []
+unfolding changed
+Leads-change place c size = Leads-cases place (turn_of_carousel c size) place.follows
 
 Leads-on : (before mid after : Place) (ps qs : List (List ℕ)) → Leads before mid ps
     → Leads mid after qs
@@ -164,7 +177,8 @@ continuous : (before : ServerState) (after : Place) (sent : List (List ℕ))
 continuous before after sent v opened l =
     let g = before.standing.geometry in
     let turn = turn_of_carousel before.standing.carousel g.segment_size in
-    steps-are-continuous g.address (packet_room g) g.segment_size turn l.steps l.sents after sent
+    steps-are-continuous g.address (packet_room g) g.segment_size turn false l.steps l.sents after
+    sent
     (some_room g.packet_length v.8)
     (subst (λ (p : Place). sent_by p l.steps ≡ Some (l.sents, after)) opened l.taken) l.read
 

@@ -13,7 +13,7 @@ use Rattle.mot_numbers.specs.declared.refusal.Refusal.TheVariants.{OutOfMemory, 
 use Rattle.mot_objects.specs.declared.command.Command as command
 use Rattle.mot_objects.specs.declared.command.Done.{Done}
 use Rattle.mot_objects.specs.Carousel.{Carousel}
-use Rattle.mot_player.specs.Place.{Sent, change_turn}
+use Rattle.mot_player.specs.Place.{Sent, changed}
 use Rattle.mot_player.specs.Sending.{packets_sent}
 use Rattle.mot_player.specs.Turn.{turn_of_carousel}
 use Rattle.mot_repository.specs.Outcome.{after_command}
@@ -39,14 +39,15 @@ text_of (packets ps) = flat_map packet_line ps
 text_of (played sents) = sent_lines sents
 text_of (cut_short sents) = sent_lines sents ++ refusal_line DeviceFault
 
--- a command is accepted: the disk stands for what it comes to, and the new carousel's turn follows
--- the group under way
+-- a command is accepted: the disk stands for what it comes to, and the new carousel's turn comes
+-- behind the group under way: on a server that was told to follow changes the turn goes on, and on
+-- every other one it begins
 pub record Accepts (s : ServerState) (c : command.Command) (done : Done) (after : ServerState) :
     Type 0 where
   pub outcome : after_command s.layout s.standing c ≡ Ok (after.standing, done)
   pub layout : after.layout ≡ s.layout
   pub halted : after.halted ≡ s.halted
-  pub place : after.place ≡ change_turn (turn_of_carousel after.standing.carousel
+  pub place : after.place ≡ changed (turn_of_carousel after.standing.carousel
       after.standing.geometry.segment_size) s.place
   pub later : IsLater s after
 

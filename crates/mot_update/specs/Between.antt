@@ -7,17 +7,17 @@ use Rattle.mot_objects.specs.declared.command.Command.{Command}
 use Rattle.mot_server.specs.Server.{ServerView}
 use Rattle.mot_update.specs.HasRun.{HasRun}
 
--- when an update may change the carousel
+-- when an update may change the carousel: never, only where a look may come, or always
 pub data When : Type 0 where
   Never : When
-  BetweenTurns : When
+  AtLooks : When
   Always : When
 
 -- whether it may now
-abbrev pub may_change : When → (between_turns : Bool) → Bool
-may_change Never between_turns = false
-may_change BetweenTurns between_turns = between_turns
-may_change Always between_turns = true
+abbrev pub may_change : When → (may_look : Bool) → Bool
+may_change Never may_look = false
+may_change AtLooks may_look = may_look
+may_change Always may_look = true
 
 -- an update ran some commands, and none where it may not
 pub record IsUpdating {D : Type 0} (old new : ServerView D) (start now : State) (s : Standing)

@@ -18,17 +18,17 @@ pub trait Update {
     // When it may change the carousel.
     ghost when: { When };
 
-    // Each call so far, in order, by whether it came between turns, if that is known.
+    // Each call so far, in order, by whether a look might come there, if that is known.
     ghost moments: { Self → Option (List Bool) } = { λ _. None };
 
-    /// Does what is to be done now: before the first packet, and then after each packet, which
-    /// ended a turn or not. The error is what would end a run of commands, or that a body can't be
-    /// read.
+    /// Does what is to be done now: before the first packet, and then after each packet. A look may
+    /// come before the first packet and after one that ended a turn, and perhaps within a turn. The
+    /// error is what would end a run of commands, or that a body can't be read.
     fn update<D: Disk>(
         &mut self,
         server: &mut Server<D>,
         alloc: Global,
-        between_turns: bool,
+        may_look: bool,
     ) -> Result<(), Refusal>
         ensures keeps { KeepsLength (D.state server.old.disk) (D.state server.new.disk) }
         ensures faults { TellsFaults server.old server.new
@@ -36,8 +36,8 @@ pub trait Update {
         ensures run { (s : Standing) → Holds server.old.view s (D.state server.old.disk)
             → (D.state server.new.disk).IsHonest
             → IsUpdating server.old server.new (D.state server.old.disk)
-            (D.state server.new.disk) s (may_change when between_turns) (fault_of result) }
-        ensures called { Grows (moments self.old) (moments self.new) (between_turns ∷ []) };
+            (D.state server.new.disk) s (may_change when may_look) (fault_of result) }
+        ensures called { Grows (moments self.old) (moments self.new) (may_look ∷ []) };
 }
 
 /// No updates: the carousel is played as it is.
@@ -51,7 +51,7 @@ impl Update for NoUpdate {
         &mut self,
         server: &mut Server<D>,
         _alloc: Global,
-        between_turns: bool,
+        may_look: bool,
     ) -> Result<(), Refusal>
         ensures keeps { KeepsLength (D.state server.old.disk) (D.state server.new.disk) }
         ensures faults { TellsFaults server.old server.new
@@ -59,8 +59,8 @@ impl Update for NoUpdate {
         ensures run { (s : Standing) → Holds server.old.view s (D.state server.old.disk)
             → (D.state server.new.disk).IsHonest
             → IsUpdating server.old server.new (D.state server.old.disk)
-            (D.state server.new.disk) s (may_change Never between_turns) (fault_of result) }
-        ensures called { Grows None None (between_turns ∷ []) }
+            (D.state server.new.disk) s (may_change Never may_look) (fault_of result) }
+        ensures called { Grows None None (may_look ∷ []) }
 
         // Nothing is done, and nothing refused.
         ensures ok { IsOk result }

@@ -19,10 +19,11 @@ format_app = with_rule (with_options (disk_app (codes "format"))) (number_rule (
 
 abbrev pub play_app : App
 play_app =
-    with_rule (with_rule (with_rule (with_rule (with_rule (with_rule (with_rule
+    with_rule (with_rule (with_rule (with_rule (with_rule (with_rule (with_rule (with_rule
     (disk_app (codes "play")) (word_rule (codes "PACKETS")))
     (path_rule (codes "folder"))) (path_rule (codes "types"))) (path_rule (codes "lines")))
-    (number_rule (codes "every"))) (number_rule (codes "turns"))) (number_rule (codes "directory"))
+    (number_rule (codes "every"))) (number_rule (codes "turns"))) (number_rule (codes "directory")))
+    (number_rule (codes "look"))
 
 abbrev pub sync_app : App
 sync_app =

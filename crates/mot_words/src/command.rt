@@ -28,7 +28,9 @@ const VERBS: &[Verb] = &[
     Verb {
         name: "play",
         about: "Play a disk into a pipe, a device or a file, each packet in one write",
-        arguments: &[DISK, PACKETS, FOLDER, TYPES, LINES, EVERY, TURNS, DIRECTORY],
+        arguments: &[
+            DISK, PACKETS, FOLDER, TYPES, LINES, EVERY, TURNS, DIRECTORY, LOOK,
+        ],
     },
     Verb {
         name: "sync",
@@ -115,7 +117,7 @@ const PACKETS: Argument = Argument {
 const FOLDER: Argument = Argument {
     name: "folder",
     kind: Kind::Path("DIR"),
-    help: "Make the carousel equal to this folder, at the start and then between turns",
+    help: "Make the carousel equal to this folder, at the start and then again and again",
 };
 
 const TYPES: Argument = Argument {
@@ -147,6 +149,13 @@ const DIRECTORY: Argument = Argument {
     kind: Kind::Number,
     help: "Send the directory again after so many packets; 0: at each turn's beginning \
         [default: 340 without end, else 0]",
+};
+
+const LOOK: Argument = Argument {
+    name: "look",
+    kind: Kind::Number,
+    help: "Look at the folder after so many packets of a turn, too; 0: between turns \
+        [default: 700 without end, else 0]",
 };
 
 /// The folder of `sync`.

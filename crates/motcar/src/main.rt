@@ -6,6 +6,7 @@ mod version;
 use disk_store::{SystemFiles, Unknown};
 use mot_air::{is_air, run_air_on};
 use mot_numbers::Refusal;
+use mot_outcome::{Exit, Subject, UsedDisk, refuse};
 use mot_program::run_on;
 use std::fs::File;
 use std::io::{BufWriter, ErrorKind, Write};
@@ -41,12 +42,18 @@ fn run_on_streams(rt: &HostRuntime) -> io::Result<u8> {
 
 /// Does what these words ask for, and answers the exit status.
 fn run_words<W: Write>(rt: &HostRuntime, words: &[String], writer: &mut W) -> u8 {
-    let alloc = rt.alloc();
-    let mut errors = rt.stderr();
     match words {
         [word] if word.as_str() == "--version" || word.as_str() == "-V" => show_version(rt, writer),
+        _ => run_command(rt, words, writer).status,
+    }
+}
+
+/// Does the command that these words ask for.
+fn run_command<W: Write>(rt: &HostRuntime, words: &[String], writer: &mut W) -> Exit<Unknown> {
+    let (alloc, mut errors) = (rt.alloc(), rt.stderr());
+    match words {
         [word, ..] if is_air(word.as_str()) => {
-            run_air_on(rt, alloc, words, Unknown, writer, &mut errors).status
+            run_air_on(rt, alloc, words, Unknown, writer, &mut errors)
         }
         _ => {
             let (mut files, mut reader) = (SystemFiles::new(rt), rt.reader());
@@ -59,7 +66,6 @@ fn run_words<W: Write>(rt: &HostRuntime, words: &[String], writer: &mut W) -> u8
                 writer,
                 &mut errors,
             )
-            .status
         }
     }
 }
@@ -83,16 +89,15 @@ fn hold_streams(rt: &HostRuntime) -> io::Result<(File, File, File)> {
 }
 
 /// Prints the refusal, and answers its status.
-fn refused(rt: &impl Eprint, refusal: Refusal) -> u8 {
-    let _ = eprintln!(rt; "motcar: {}", refusal);
-    1
+fn refused(rt: &HostRuntime, refusal: Refusal) -> u8 {
+    let disk = UsedDisk::Untouched(Unknown);
+    refuse(&mut rt.stderr(), refusal, Subject::Nothing, disk).status
 }
 
 /// Prints why the program did not begin: there was no memory, or a word was no UTF-8.
-fn explain(rt: &impl Eprint, error: &io::Error) -> ExitCode {
+fn explain(rt: &HostRuntime, error: &io::Error) -> ExitCode {
     if error.kind() == ErrorKind::OutOfMemory {
-        let _ = eprintln!(rt; "motcar: {}", Refusal::OutOfMemory);
-        return ExitCode::from(1);
+        return ExitCode::from(refused(rt, Refusal::OutOfMemory));
     }
     let _ = eprintln!(rt; "motcar: a word of the command line is no UTF-8 text");
     ExitCode::from(2)

@@ -1,10 +1,11 @@
 -- The segment that comes next of a turn.
-use Rattle.std.specs.Prelude.{◌≡◌, ℕ, ◌+◌, ◌==◌, if◌then◌else◌, List, ◌∷◌, length, take, drop}
+use Rattle.std.specs.Prelude.{◌≡◌, ℕ, ◌+◌, ◌-◌, ◌==◌, if◌then◌else◌, List, ◌∷◌, length, take, drop}
 use Rattle.mot_groups.specs.Group.{Segment}
 use Rattle.mot_numbers.specs.Reading.{is_empty}
 use Rattle.mot_player.specs.Course.{CourseView, passed}
 use Rattle.mot_player.specs.declared.part.Part.{Part}
-use Rattle.mot_player.specs.PlayerView.{AreBodiesFor, TurnPlan, turn_with, waiting_of}
+use Rattle.mot_player.specs.PlayerView.{AreBodiesFor, TurnPlan, entities_of, queued, turn_with}
+use Rattle.mot_player.specs.PlayerView.{waiting_of}
 use Rattle.mot_player.specs.Inner.Entities.{entity_bytes, entity_tid}
 use Rattle.mot_player.specs.Turn.{segments_of_turn}
 
@@ -33,3 +34,13 @@ IsNext plan size course p =
     due_from plan bodies size course
     ≡ segment_of plan bodies p
     ∷ waiting_of size (turn_with plan bodies) (passed (length plan.bodies + 1) p course)
+
+-- whatever the bodies, the part is one of those that come early if it is a body's and some do
+abbrev pub TakesEarly : TurnPlan → ℕ → CourseView → Part → Type 0
+TakesEarly plan size course p =
+    (bodies : List (List ℕ)) → AreBodiesFor plan bodies →
+    length (queued size (entities_of (turn_with plan bodies))
+    (passed (length plan.bodies + 1) p course).queue)
+    ≡ (if (segment_of plan bodies p).kind == 6
+    then length (queued size (entities_of (turn_with plan bodies)) course.queue)
+    else length (queued size (entities_of (turn_with plan bodies)) course.queue) - 1)

@@ -16,11 +16,12 @@ NameOption rows name word =
 abbrev pub goes_with : List Row → Text → Text → Bool
 goes_with rows name other = is_none (first_of name rows) || is_some (first_of other rows)
 
--- behind how many packets lines are read is said of lines, and suffixes of a folder
+-- behind how many packets lines are read is said of lines, and suffixes and looks of a folder
 abbrev pub is_whole : List Row → Bool
 is_whole rows =
-    goes_with rows (codes "every") (codes "lines") && goes_with rows (codes "types")
-    (codes "folder")
+    goes_with rows (codes "every") (codes "lines")
+    && goes_with rows (codes "types") (codes "folder")
+    && goes_with rows (codes "look") (codes "folder")
 
 -- a sub-channel has this rate in kbit/s, if one is given (EN 300 401, clause 6.2.1: 864 capacity
 -- units, and at best 15 of them for each 32 kbit/s)
@@ -36,7 +37,8 @@ IsAirTask name rows (Play p) =
     × NameOption rows (codes "folder") p.folder × NameOption rows (codes "types") p.types
     × NameOption rows (codes "lines") p.lines × IsGiven (first_of (codes "every") rows) p.every
     × IsGiven (first_of (codes "turns") rows) p.turns
-    × IsGiven (first_of (codes "directory") rows) p.directory × (is_whole rows ≡ true)
+    × IsGiven (first_of (codes "directory") rows) p.directory
+    × IsGiven (first_of (codes "look") rows) p.look × (is_whole rows ≡ true)
 IsAirTask name rows (Sync disk folder types) =
     (name ≡ codes "sync") × NameWord rows (codes "DISK") disk.now
     × NameWord rows (codes "DIR") folder.now × NameOption rows (codes "types") types

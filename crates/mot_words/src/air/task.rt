@@ -29,6 +29,9 @@ pub struct PlayTask<'a> {
     /// After how many packets the directory is sent again; 0: at each turn's beginning alone. If no
     /// number is given: 340 without end, and else 0.
     pub directory: Option<u32>,
+    /// After how many packets of a turn the folder is looked at; 0: between turns alone. If no
+    /// number is given: 700 without end, and else 0.
+    pub look: Option<u32>,
 }
 
 /// What a command on air is to do.
@@ -93,6 +96,7 @@ fn play_of<'a>(disk: &'a str, words: &ArgMatches<'a>) -> Option<AirTask<'a>>
         every: number_of(words, "every")?,
         turns: number_of(words, "turns")?,
         directory: number_of(words, "directory")?,
+        look: number_of(words, "look")?,
     }))
 }
 
@@ -137,11 +141,13 @@ fn is_rate(rate: Option<u32>) -> bool
 }
 
 /// Whether each option is given with the other of which it says more: `--every` with `--lines`, and
-/// `--types` with `--folder`.
+/// `--types` and `--look` with `--folder`.
 fn is_whole(words: &ArgMatches<'_>) -> bool
     ensures { result ≡ is_whole (rows_of (found_of words.now)) }
 {
-    goes_with(words, "every", "lines") && goes_with(words, "types", "folder")
+    goes_with(words, "every", "lines")
+        && goes_with(words, "types", "folder")
+        && goes_with(words, "look", "folder")
 }
 
 /// Whether an option is given with another one, or is not given.

@@ -4,7 +4,6 @@ use Rattle.mot_air.specs.Inner.Looked.{broken, told, untold}
 use Rattle.mot_air.proofs.playing.look_and_tell.Goals as goal
 use Rattle.mot_feed.specs.Sending.{unwritten}
 use Rattle.mot_numbers.proofs.Laws.{same_error}
-use Rattle.mot_update.specs.Faults.{no_memory}
 
 pub returns-in_err-looked-clause-looked : goal.returns-in_err-looked-clause-looked
 returns-in_err-looked-clause-looked g c = λ s holds honest.

@@ -1,8 +1,9 @@
 use Rattle.std.proofs.Common.{◌≡◌, ◌∙◌, ◌⊎◌, ℕ, List, ap, inr, subst, sym}
 use Rattle.std.specs.Prelude.{IfErr, IfOk}
 use Rattle.disk_store.specs.Begun.{begun_state}
-use Rattle.mot_air.proofs.Begun.{IfErr-one, IfOk-one}
-use Rattle.mot_air.specs.Program.{IsUntold, OnSynced}
+use Rattle.mot_outcome.proofs.Laws.{IfErr-one, IfOk-one}
+use Rattle.mot_air.specs.Program.{OnSynced}
+use Rattle.mot_outcome.specs.Outcome.{IsUntold}
 use Rattle.mot_air.specs.Syncing.{StopsSyncing, Syncs}
 use Rattle.disk_store.proofs.Laws.{since_opened}
 use Rattle.mot_air.proofs.program.sync_file.Goals as goal
@@ -25,13 +26,13 @@ returns-in-Ok-clause-done g c =
     let opens = c.in-Ok.ensures in
     let ended = c.sync_disk-ended.result in
     let folder = c.new-folder.result in
-    let seen = c.into_seen.result in
+    let seen = c.folder.result.seen in
     let types = c.args.types.now in
     let path = c.args.folder.now in
     let old = g.W.Write.contents c.args.log.now in
     let new = g.W.Write.contents c.sync_disk-ended.new.log in
     subst (λ (f : _). IfOk f.result (λ all.
-    OnSynced (λ given. Syncs all types path given old new) f.disk)) (sym c.synced.ensures)
+    OnSynced (λ given. Syncs all types path given old new) f.disk)) (sym c.of_file.ensures)
     (IfOk-one ended.result (λ all p. since_opened c.in-Ok.disk.disk ended.disk.disk
     (Syncs all types path (given_of seen) old new)
     opens.first ended.disk.begins c.sync_disk-ended.ensures.keeps
@@ -39,20 +40,20 @@ returns-in-Ok-clause-done g c =
     (begun_state ended.disk)) folder.types.now types folder.shelf.path.now path
     c.sync_disk-ended.new.folder.shelf.seen seen c.new-folder.ensures.types
     (ap (λ (s : _). s.path.now) c.new-folder.ensures.shelf ∙ c.new.ensures.path)
-    c.into_seen.ensures p)) c.sync_disk-ended.ensures.done)
+    (c.folder.ensures ∙ c.into_seen-seen.ensures) p)) c.sync_disk-ended.ensures.done)
 
 pub returns-in-Ok-clause-refused : goal.returns-in-Ok-clause-refused
 returns-in-Ok-clause-refused g c =
     let opens = c.in-Ok.ensures in
     let ended = c.sync_disk-ended.result in
     let folder = c.new-folder.result in
-    let seen = c.into_seen.result in
+    let seen = c.folder.result.seen in
     let types = c.args.types.now in
     let path = c.args.folder.now in
     let old = g.W.Write.contents c.args.log.now in
     let new = g.W.Write.contents c.sync_disk-ended.new.log in
     subst (λ (f : _). IfErr f.result (λ r. ((r ≡ DeviceFault) × IsUntold f.disk old new)
-    ⊎ OnSynced (StopsSyncing r types path) f.disk)) (sym c.synced.ensures)
+    ⊎ OnSynced (StopsSyncing r types path) f.disk)) (sym c.of_file.ensures)
     (IfErr-one ended.result (λ r p. inr (since_opened c.in-Ok.disk.disk ended.disk.disk
     (StopsSyncing r types path (given_of seen))
     opens.first ended.disk.begins c.sync_disk-ended.ensures.keeps
@@ -60,4 +61,4 @@ returns-in-Ok-clause-refused g c =
     (begun_state ended.disk)) folder.types.now types folder.shelf.path.now path
     c.sync_disk-ended.new.folder.shelf.seen seen c.new-folder.ensures.types
     (ap (λ (s : _). s.path.now) c.new-folder.ensures.shelf ∙ c.new.ensures.path)
-    c.into_seen.ensures p))) c.sync_disk-ended.ensures.refused)
+    (c.folder.ensures ∙ c.into_seen-seen.ensures) p))) c.sync_disk-ended.ensures.refused)

@@ -1,8 +1,10 @@
-use Rattle.std.proofs.Common.{◌≡◌, ◌+◌, ◌∷◌, [], refl, arith, inl, inr}
+use Rattle.std.proofs.Common.{◌≡◌, ◌+◌, ◌∷◌, [], Bool, true, false, refl, arith, inl, inr}
 use Rattle.std.specs.Prelude.{if◌then◌else◌}
 use Rattle.disk_model.proofs.Laws.{keeps_none, keeps_on, unchanged_none}
 use Rattle.mot_feed.proofs.Fed.{SoFar, continuous, fed_all, fed_none, rest_else, rest_then}
 use Rattle.mot_feed.proofs.Fed.{send_fault, sent_on, update_fault, updated}
+use Rattle.mot_feed.specs.Feeding.{left_behind}
+use Rattle.mot_player.specs.Place.{Sent}
 use Rattle.mot_feed.proofs.Sent.{not_of_writing, send_fault_behind, sent_calm}
 use Rattle.mot_feed.proofs.feeding.feed.Given as given
 use Rattle.mot_feed.proofs.feeding.feed.Goals as goal
@@ -19,8 +21,9 @@ loop-init g c =
     record {
       keeps = keeps_none state;
       calm = calm_here c.args.server.now state;
-      fed = λ s holds honest. fed_none c.args.server.now state s g.U.Update.when c.args.turns
-          (g.O.Outlet.writes c.args.outlet.now) (g.U.Update.moments c.args.update.now)
+      fed = λ s holds honest. fed_none 0 c.args.server.now c.args.server.now state state s
+          g.U.Update.when c.args.turns
+          (g.O.Outlet.writes c.args.outlet.now) (g.U.Update.moments c.args.update.now) refl refl
           (g.met.D.Disk.sound c.args.server.now.disk honest) honest (unchanged_none state) holds;
     }
 
@@ -76,9 +79,9 @@ returns-in_err-between_turns-clause-fault g c =
 found : (g : given.Over) (c : After-send_one g) (s : Standing)
     → Holds c.args.server.now.view s (g.D.Disk.state c.args.server.now.disk)
     → (g.D.Disk.state c.update.new.server.disk).IsHonest
-    → SoFar c.args.server.now c.update.new.server (g.D.Disk.state c.args.server.now.disk)
+    → SoFar 0 c.args.server.now c.update.new.server (g.D.Disk.state c.args.server.now.disk)
     (g.D.Disk.state c.update.new.server.disk) s g.U.Update.when c.args.turns c.loop.left
-    c.loop.between_turns c.loop.counter (g.O.Outlet.writes c.args.outlet.now)
+    c.loop.between_turns 0 c.loop.counter (g.O.Outlet.writes c.args.outlet.now)
     (g.O.Outlet.writes c.loop.outlet) (g.U.Update.moments c.args.update.now)
     (g.U.Update.moments c.update.new.self) (c.loop.between_turns ∷ [])
 found g c s holds honest =
@@ -98,6 +101,11 @@ returns-in_err-between_turns-clause-part g c = λ s holds honest.
     (g.met.D.Disk.sound c.update.new.server.disk then_honest) two.view honest
     (two.only_reads.unchanged honest) c.in_err-between_turns.field-0.0 refl
     (λ d held. two.sent d held honest))
+
+-- no packets are counted where no look comes within a turn
+none_left : (ended : Bool) (sent : Sent) → left_behind 0 ended 0 sent ≡ 0
+none_left true sent = omega arith
+none_left false sent = omega arith
 
 pub loop-preserved : goal.loop-preserved
 loop-preserved g c =
@@ -129,7 +137,8 @@ loop-preserved g c =
           let then_honest = two.only_reads.keeps.was_honest honest in
           sent_on (found g from s holds then_honest) new (g.met.D.Disk.sound up.disk then_honest)
           two.view honest (two.only_reads.unchanged honest) refl c.if-left-eq0.false ends rest
-          is_rest (λ d held. two.sent d held honest);
+          is_rest 0 (λ sent same. none_left c.loop.between_turns sent)
+          (λ d held. two.sent d held honest);
     }
 
 pub returns-clause-continuous : goal.returns-clause-continuous

@@ -13,8 +13,8 @@ invariant-loop g l = record {
       (g.D.Disk.state l.server.disk);
   fed : (s : Standing) → Holds l.initial.server.view s (g.D.Disk.state l.initial.server.disk)
       → (g.D.Disk.state l.server.disk).IsHonest
-      → SoFar l.initial.server l.server (g.D.Disk.state l.initial.server.disk)
-      (g.D.Disk.state l.server.disk) s g.U.Update.when l.turns l.left l.between_turns l.counter
+      → SoFar 0 l.initial.server l.server (g.D.Disk.state l.initial.server.disk)
+      (g.D.Disk.state l.server.disk) s g.U.Update.when l.turns l.left l.between_turns 0 l.counter
       (g.O.Outlet.writes l.initial.outlet) (g.O.Outlet.writes l.outlet)
       (g.U.Update.moments l.initial.update) (g.U.Update.moments l.update) [];
 }

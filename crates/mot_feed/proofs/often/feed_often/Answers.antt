@@ -1,12 +1,13 @@
-use Rattle.std.proofs.Common.{◌≡◌, ℕ, zero, suc, ◌+◌, ◌-◌, Bool, true, false, ◌∷◌, [], Some, refl}
+use Rattle.std.proofs.Common.{◌≡◌, ℕ, zero, suc, ◌+◌, ◌-◌, Bool, true, false, ◌∷◌, [], Some, None, refl}
 use Rattle.std.proofs.Common.{ap, ◌∙◌, arith, inl, inr, subst, sym}
-use Rattle.std.specs.Prelude.{if◌then◌else◌}
+use Rattle.std.specs.Prelude.{◌==◌, if◌then◌else◌}
 use Rattle.disk_model.specs.Disk.{IsUnchanged, KeepsLength}
 use Rattle.disk_model.proofs.Laws.{keeps_none, keeps_on, unchanged_none}
 use Rattle.mot_feed.proofs.Fed.{SoFar, asked_often, asked_on, continuous, fed_none, fed_often}
 use Rattle.mot_feed.proofs.Fed.{none_often, rest_else, rest_then, send_fault_often, sent_often}
 use Rattle.mot_feed.proofs.Fed.{sent_on, update_fault_often, updated, updated_often}
 use Rattle.mot_feed.proofs.Hearing.{OftenUpTo, left_for}
+use Rattle.mot_feed.specs.Feeding.{left_behind, may_look}
 use Rattle.mot_feed.specs.Often.{is_due, pause}
 use Rattle.mot_feed.proofs.Sent.{not_of_writing, send_fault_behind, sent_calm}
 use Rattle.mot_feed.proofs.often.feed_often.Given as given
@@ -17,25 +18,44 @@ use Rattle.mot_feed.proofs.often.feed_often.Goals.{then-between_turns, then-betw
 use Rattle.mot_feed.proofs.often.feed_often.Goals.{then-due}
 use Rattle.mot_journal.specs.Image.{Standing}
 use Rattle.mot_numbers.proofs.Laws.{same_error}
-use Rattle.mot_repository.specs.Repository.{Holds}
-use Rattle.mot_server.specs.Server.{place_in}
-use Rattle.mot_update.proofs.Laws.{calm_here, calm_on, fault_on}
+use Rattle.mot_packets.specs.Outlet.{Grows}
+use Rattle.mot_player.specs.Place.{Place, Sent, following}
+use Rattle.mot_repository.specs.Repository.{Agrees, Holds, RepositoryView}
+use Rattle.mot_server.specs.Server.{ServerView, following_server, place_in}
+use Rattle.mot_update.specs.Between.{IsUpdating, may_change}
+use Rattle.mot_update.proofs.Laws.{calm_on, fault_on}
+
+-- a server that was told to follow stands where one stands that follows
+told : {D : Type 0} (old mid : ServerView D) (s : Standing)
+    → place_in mid s ≡ following (place_in old s)
+    → place_in mid s ≡ place_in (following_server old) s
+unfolding following
+told old mid s is = is
 
 pub loop-init : goal.loop-init
 loop-init g c =
-    let state = g.D.Disk.state c.args.server.now.disk in
+    let state = g.D.Disk.state in
+    let old = c.args.server.now in
+    let mid = c.follow_changes.new.self in
+    let told_to = c.follow_changes.ensures in
     record {
-      keeps = keeps_none state;
-      calm = calm_here c.args.server.now state;
+      keeps = subst (λ d. KeepsLength (state old.disk) (state d)) (sym told_to.disk)
+          (keeps_none (state old.disk));
+      calm = sent_calm old mid (state old.disk) (state mid.disk)
+          (ap (λ d. (state d).failures) told_to.disk) told_to.view;
       fed = λ s holds honest.
-          let server = c.args.server.now in
           let writes = g.O.Outlet.writes c.args.outlet.now in
           let moments = g.U.Update.moments c.args.update.now in
-          let sound = g.met.D.Disk.sound server.disk honest in
-          let still = unchanged_none state in (
-            fed_none server state s g.U.Update.when c.args.turns writes moments sound honest still
+          let was = subst (λ d. (state d).IsHonest) told_to.disk honest in
+          let sound = g.met.D.Disk.sound old.disk was in
+          let still = subst (λ d. IsUnchanged (state old.disk) (state d)) (sym told_to.disk)
+          (unchanged_none (state old.disk)) in
+          let place = told old mid s (told_to.place s) in (
+            fed_none c.args.look (following_server old) mid (state old.disk) (state mid.disk) s
+                g.U.Update.when c.args.turns writes moments told_to.view place sound honest still
                 holds,
-            none_often c.args.every server state s g.U.Update.when c.args.turns writes moments
+            none_often c.args.every c.args.look (following_server old) mid (state old.disk)
+                (state mid.disk) s g.U.Update.when c.args.turns writes moments told_to.view place
                 sound honest still holds,
           );
     }
@@ -62,7 +82,12 @@ returns-in_err-update-clause-part g c = λ s holds honest.
     let refusal = c.in_err-update.field-0.0 in
     rw (same_error c.from_residual.result refusal c.from_residual.ensures.1)
     (update_fault_often so_far c.args.every (Some c.loop.until) is.1 refl
-    (one.run so_far.fed.leaves.last (so_far.fed.leaves.going refl) honest) one.called
+    (subst (λ b. IsUpdating mid c.update.new.server (state mid.disk)
+    (state c.update.new.server.disk) so_far.fed.leaves.last (may_change g.U.Update.when b)
+    (Some refusal)) c.may_look-may.ensures
+    (one.run so_far.fed.leaves.last (so_far.fed.leaves.going refl) honest))
+    (subst (λ b. Grows (g.U.Update.moments c.loop.update) (g.U.Update.moments c.update.new.self)
+    (b ∷ [])) c.may_look-may.ensures one.called)
     (not_of_writing mid (state mid.disk) (state c.update.new.server.disk) refusal one.faults))
 
 pub returns-in_err-update-clause-fault : goal.returns-in_err-update-clause-fault
@@ -115,11 +140,13 @@ due_is g c = elim c.if-between_turns.branch [
 found : (g : given.Over) (c : After-send_one g) (s : Standing)
     → Holds c.args.server.now.view s (g.D.Disk.state c.args.server.now.disk)
     → (g.D.Disk.state c.ask.new.server.disk).IsHonest
-    → (so_far : SoFar c.args.server.now c.ask.new.server (g.D.Disk.state c.args.server.now.disk)
+    → (so_far : SoFar c.args.look (following_server c.args.server.now) c.ask.new.server
+    (g.D.Disk.state c.args.server.now.disk)
     (g.D.Disk.state c.ask.new.server.disk) s g.U.Update.when c.args.turns c.loop.left
-    c.loop.between_turns c.loop.counter (g.O.Outlet.writes c.args.outlet.now)
+    c.loop.between_turns c.loop.rest c.loop.counter (g.O.Outlet.writes c.args.outlet.now)
     (g.O.Outlet.writes c.loop.outlet) (g.U.Update.moments c.args.update.now)
-    (g.U.Update.moments c.update.new.self) (c.loop.between_turns ∷ []))
+    (g.U.Update.moments c.update.new.self)
+    (may_look c.args.look c.loop.between_turns c.loop.rest ∷ []))
     × OftenUpTo c.args.every c.loop.between_turns (left_for (due_in g c) c.loop.until) so_far.events
 found g c s holds honest =
     let state = g.D.Disk.state in
@@ -132,8 +159,13 @@ found g c s holds honest =
     subst (λ d. (state d).IsHonest) c.ask.ensures.disk honest in
     let is = c.loop.invariant.fed s holds (one.keeps.was_honest then_honest) in
     let so_far = is.0 in
-    let run = one.run so_far.fed.leaves.last (so_far.fed.leaves.going refl) then_honest in
-    let behind = updated so_far refl run one.called in
+    let mid = c.loop.server in
+    let run = subst (λ b. IsUpdating mid up (state mid.disk) (state up.disk)
+    so_far.fed.leaves.last (may_change g.U.Update.when b) None) c.may_look-may.ensures
+    (one.run so_far.fed.leaves.last (so_far.fed.leaves.going refl) then_honest) in
+    let called = subst (λ b. Grows (g.U.Update.moments c.loop.update)
+    (g.U.Update.moments c.update.new.self) (b ∷ [])) c.may_look-may.ensures one.called in
+    let behind = updated so_far refl run called in
     let sound = g.met.D.Disk.sound up.disk then_honest in
     let still = subst (λ d. IsUnchanged (state up.disk) (state d)) (sym c.ask.ensures.disk)
     (unchanged_none (state up.disk)) in
@@ -143,7 +175,7 @@ found g c s holds honest =
       asked_often behind heard sound c.ask.ensures.view honest still (due_in g c) heard_by every
           until (due_is g c)
           (updated_often so_far
-          (g.U.Update.moments c.update.new.self) every (Some until) is.1 refl run one.called),
+          (g.U.Update.moments c.update.new.self) every (Some until) is.1 refl run called),
     )
 
 -- where it is not due, more packets are sent
@@ -167,6 +199,16 @@ returns-in_err-between_turns-clause-part g c = λ s holds honest.
     (due_is g from) c.in_err-between_turns.field-0.0 refl
     (λ d held. two.sent d held honest))
 
+-- how many packets more come before a look within a turn
+rest_is : (look : ℕ) (ended : Bool) (rest : ℕ) (may : Bool) (then_rest : ℕ) (place : Place)
+    (sent : Sent) → place ≡ sent.place → may ≡ may_look look ended rest
+    → then_rest ≡ (if may then look else rest) - (if place.early == 0 then 1 else 0)
+    → left_behind look ended rest sent ≡ then_rest
+rest_is look ended rest may then_rest place sent same is less =
+    ap (λ (p : Place). (if may_look look ended rest then look else rest)
+    - (if p.early == 0 then 1 else 0)) (sym same)
+    ∙ ap (λ b. (if b then look else rest) - (if place.early == 0 then 1 else 0)) (sym is) ∙ sym less
+
 pub loop-preserved : goal.loop-preserved
 loop-preserved g c =
     let state = g.D.Disk.state in
@@ -180,12 +222,12 @@ loop-preserved g c =
     let one = c.in_ok-update.ensures in
     let two = c.in_ok-between_turns.ensures in
     let left = c.loop.left in
-    let rest = c.if-between_turns-2.left in
+    let fewer = c.if-between_turns-2.left in
     let ends = c.in_ok-between_turns.between_turns in
-    let is_rest : rest + (if ends then 1 else 0) ≡ left = elim c.if-between_turns-2.branch [
+    let is_fewer : fewer + (if ends then 1 else 0) ≡ left = elim c.if-between_turns-2.branch [
       | then-between_turns-2 w ↦
-          rest_then ends rest left w.if-between_turns-2.true w.left-is c.if-left-eq0.false
-      | else-between_turns-2 w ↦ rest_else ends rest left w.if-between_turns-2.false w.left-is
+          rest_then ends fewer left w.if-between_turns-2.true w.left-is c.if-left-eq0.false
+      | else-between_turns-2 w ↦ rest_else ends fewer left w.if-between_turns-2.false w.left-is
     ] in
     record {
       keeps = keeps_on (state old.disk) (state heard.disk) (state new.disk)
@@ -204,6 +246,15 @@ loop-preserved g c =
           let sound = g.met.D.Disk.sound heard.disk then_honest in
           let still = two.only_reads.unchanged honest in
           let next = c.if-due.until in
+          let then_rest = c.rest_after-rest.result in
+          let last : Standing = is.0.fed.leaves.last in
+          let agrees = subst (λ (v : RepositoryView). Agrees v last) (sym two.view)
+          (is.0.fed.leaves.going refl).agrees in
+          let is_rest : (sent : Sent) → place_in new last ≡ sent.place
+          → left_behind c.args.look c.loop.between_turns c.loop.rest sent ≡ then_rest =
+          λ sent same. rest_is c.args.look c.loop.between_turns c.loop.rest c.may_look-may.result
+          then_rest (place_in new last) sent same c.may_look-may.ensures
+          (c.rest_after-rest.ensures last agrees) in
           let anew : c.if-between_turns.due ≡ true → (d : Standing)
           → next ≡ pause c.args.every (place_in new d) = λ due d. elim c.if-due.branch [
             | then-due w ↦ w.until-is ∙ w.pause-until.ensures d
@@ -215,10 +266,10 @@ loop-preserved g c =
             | else-due w ↦
                 less_one c.loop.between_turns c.loop.until next (sym (due_is g from) ∙ not) w.until-is
           ] in (
-            sent_on is.0 new sound two.view honest still refl c.if-left-eq0.false ends rest is_rest
-                (λ d held. two.sent d held honest),
-            sent_often is.0 new sound two.view honest still refl c.if-left-eq0.false ends rest
-                is_rest c.args.every c.loop.until next (due_in g from) is.1 (due_is g from) anew
+            sent_on is.0 new sound two.view honest still refl c.if-left-eq0.false ends fewer
+                is_fewer then_rest is_rest (λ d held. two.sent d held honest),
+            sent_often is.0 new sound two.view honest still refl c.if-left-eq0.false ends fewer
+                is_fewer then_rest is_rest c.args.every c.loop.until next (due_in g from) is.1 (due_is g from) anew
                 less
                 (λ d held. two.sent d held honest),
           );

@@ -4,19 +4,21 @@ use Rattle.mot_feed.proofs.Fed.{SoFar}
 use Rattle.mot_feed.proofs.Hearing.{OftenUpTo}
 use Rattle.mot_journal.specs.Image.{Standing}
 use Rattle.mot_repository.specs.Repository.{Holds}
+use Rattle.mot_server.specs.Server.{following_server}
 use Rattle.mot_update.specs.Faults.{StaysCalm}
 use Rattle.mot_feed.proofs.often.feed_often.Given as goal
 
 abbrev pub invariant-loop : goal.invariant-loop
 invariant-loop g l = record {
-  keeps : KeepsLength (g.D.Disk.state l.initial.server.disk) (g.D.Disk.state l.server.disk);
-  calm : StaysCalm l.initial.server l.server (g.D.Disk.state l.initial.server.disk)
+  keeps : KeepsLength (g.D.Disk.state l.fn.server.disk) (g.D.Disk.state l.server.disk);
+  calm : StaysCalm l.fn.server l.server (g.D.Disk.state l.fn.server.disk)
       (g.D.Disk.state l.server.disk);
-  fed : (s : Standing) → Holds l.initial.server.view s (g.D.Disk.state l.initial.server.disk)
+  fed : (s : Standing) → Holds l.fn.server.view s (g.D.Disk.state l.fn.server.disk)
       → (g.D.Disk.state l.server.disk).IsHonest
-      → (so_far : SoFar l.initial.server l.server (g.D.Disk.state l.initial.server.disk)
-      (g.D.Disk.state l.server.disk) s g.U.Update.when l.turns l.left l.between_turns l.counter
-      (g.O.Outlet.writes l.initial.outlet) (g.O.Outlet.writes l.outlet)
-      (g.U.Update.moments l.initial.update) (g.U.Update.moments l.update) [])
+      → (so_far : SoFar l.look (following_server l.fn.server) l.server
+      (g.D.Disk.state l.fn.server.disk)
+      (g.D.Disk.state l.server.disk) s g.U.Update.when l.turns l.left l.between_turns l.rest
+      l.counter (g.O.Outlet.writes l.fn.outlet) (g.O.Outlet.writes l.outlet)
+      (g.U.Update.moments l.fn.update) (g.U.Update.moments l.update) [])
       × OftenUpTo l.every l.between_turns (Some l.until) so_far.events;
 }

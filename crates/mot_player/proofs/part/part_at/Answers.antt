@@ -3,7 +3,7 @@ use Rattle.mot_player.specs.Course.{course_of, due_of}
 use Rattle.mot_player.specs.Inner.Entities.{IsInside}
 use Rattle.mot_player.specs.PlayerView.{TurnPlan}
 use Rattle.mot_player.specs.declared.course.Waiting.{Waiting}
-use Rattle.mot_player.proofs.Passing.{IsPartAt, course-next, due-inside, on-course}
+use Rattle.mot_player.proofs.Passing.{IsPartAt, course-early, course-next, due-inside, on-course}
 use Rattle.mot_player.proofs.part.part_at.Goals as goal
 
 -- what is due, as the clauses name it
@@ -47,3 +47,8 @@ returns-clause-next c = λ bodies are.
     c.segment_at.result (omega (arith, c.segment_at.ensures.size.0)) are c.requires
     (due-inside c.args.turn.now c.args.size (course_of c.args.course.now)
     c.segment_at.ensures.plannable c.requires) (part_of c)
+
+pub returns-clause-early : goal.returns-clause-early
+returns-clause-early c = λ bodies are.
+    course-early c.args.turn.now bodies c.args.size (course_of c.args.course.now)
+    c.segment_at.result (omega (arith, c.segment_at.ensures.size.0)) are c.requires (part_of c)

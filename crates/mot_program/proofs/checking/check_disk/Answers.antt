@@ -11,7 +11,8 @@ use Rattle.mot_lines.specs.Listing.{listing_text}
 use Rattle.mot_lines.proofs.Laws.{listing_text-beside}
 use Rattle.mot_program.specs.Report.{IsReport, StopsChecking, clean_line, layout_line}
 use Rattle.mot_program.specs.Report.IsUnreported.{unprinted, unread}
-use Rattle.mot_program.proofs.Ends.{IfErr-one, calm_refused, rises_later}
+use Rattle.mot_outcome.proofs.Laws.{IfErr-one}
+use Rattle.mot_program.proofs.Ends.{calm_refused, rises_later}
 use Rattle.mot_program.proofs.Ends.{still_unchanged}
 use Rattle.mot_program.proofs.checking.check_disk.Given as given
 use Rattle.mot_program.proofs.checking.check_disk.Goals as goal

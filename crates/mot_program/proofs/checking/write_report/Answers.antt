@@ -4,7 +4,7 @@ use Rattle.std.specs.Io.KnownBytes.{Appends}
 use Rattle.std.proofs.lemmas.Result.{err_from_is_err_and, on_ok_weaker}
 use Rattle.mot_lines.specs.Listing.{listing_text_beside}
 use Rattle.mot_program.specs.Report.{clean_line, layout_line}
-use Rattle.mot_program.proofs.Ends.{IfErr-one}
+use Rattle.mot_outcome.proofs.Laws.{IfErr-one}
 use Rattle.mot_program.proofs.checking.write_report.Goals as goal
 use Rattle.mot_program.proofs.checking.write_report.Given as given
 use Rattle.mot_session.specs.Served.{WritesFront}

@@ -4,7 +4,7 @@ use Rattle.std.proofs.lemmas.Result.{on_ok_weaker}
 use Rattle.mot_program.specs.Report.{IsFormatted, IsUnderFormat}
 use Rattle.mot_program.specs.Report.IsFormattingRefusal.{already, device, too_small}
 use Rattle.mot_program.specs.Report.StopsFormatting.{refused, unprinted}
-use Rattle.mot_program.proofs.Ends.{IfErr-one}
+use Rattle.mot_outcome.proofs.Laws.{IfErr-one}
 use Rattle.mot_program.proofs.formatting.format_disk.Given as given
 use Rattle.mot_program.proofs.formatting.format_disk.Goals as goal
 

@@ -1,9 +1,10 @@
 use Rattle.std.proofs.Common.{◌⊎◌, IfErr, OnOk, inl, inr, refl, subst, sym}
 use Rattle.std.proofs.KnownBytes.{Keeps-refl}
 use Rattle.std.proofs.lemmas.Result.{on_ok_weaker}
-use Rattle.mot_program.specs.Program.{IsMakingRefusal, IsUntold, OnOpenedOrMade}
+use Rattle.mot_outcome.specs.Outcome.{IsUntold}
+use Rattle.mot_program.specs.Program.{IsMakingRefusal, OnOpenedOrMade}
 use Rattle.mot_program.specs.Report.{Formats, StopsFormatting}
-use Rattle.mot_program.proofs.Ends.{IfErr-one}
+use Rattle.mot_outcome.proofs.Laws.{IfErr-one}
 use Rattle.disk_store.proofs.Laws.{since_opened}
 use Rattle.mot_program.proofs.formatting.format_file.Goals as goal
 
@@ -48,7 +49,7 @@ returns-then-not-is_valid-clause-refused g c =
     let old = g.W.Write.contents c.args.writer.now in
     subst (λ (f : _). IfErr f.result (λ r. (IsMakingRefusal geometry r × IsUntold f.disk old old)
     ⊎ OnOpenedOrMade geometry (StopsFormatting geometry directory r old old) f.disk))
-    (sym c.untouched.ensures)
+    (sym c.unbegun.ensures)
     (inl (
       inr (refl, λ v. let e = c.if-not-is_valid.ensures.1 v in absurd (cc (e))),
       record { untouched = tt; silent = Keeps-refl _ },

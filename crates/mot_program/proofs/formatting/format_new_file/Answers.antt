@@ -2,9 +2,10 @@ use Rattle.std.proofs.Common.{◌⊎◌, ◌∙◌, IfErr, OnOk, inl, inr, refl,
 use Rattle.std.proofs.KnownBytes.{Keeps-refl}
 use Rattle.std.proofs.lemmas.Result.{on_ok_weaker}
 use Rattle.mot_numbers.specs.Geometry.{length_of}
-use Rattle.mot_program.specs.Program.{IsMakingRefusal, IsUntold, OnOpenedOrMade}
+use Rattle.mot_outcome.specs.Outcome.{IsUntold}
+use Rattle.mot_program.specs.Program.{IsMakingRefusal, OnOpenedOrMade}
 use Rattle.mot_program.specs.Report.{Formats, StopsFormatting}
-use Rattle.mot_program.proofs.Ends.{IfErr-one}
+use Rattle.mot_outcome.proofs.Laws.{IfErr-one}
 use Rattle.disk_store.proofs.Laws.{since_made}
 use Rattle.mot_program.proofs.formatting.format_new_file.Goals as goal
 

@@ -5,7 +5,7 @@ use Rattle.std.specs.Fmt.{decimal}
 use Rattle.std.specs.Io.KnownBytes.{Appends}
 use Rattle.std.proofs.lemmas.Result.{err_from_is_err_and}
 use Rattle.mot_numbers.specs.Geometry.{length_of}
-use Rattle.mot_program.proofs.Ends.{IfErr-one}
+use Rattle.mot_outcome.proofs.Laws.{IfErr-one}
 use Rattle.mot_program.proofs.formatting.write_formatted.Goals as goal
 use Rattle.mot_session.specs.Served.{WritesFront}
 use Rattle.mot_session.proofs.Laws.{WritesFront-after, WritesFront-before}

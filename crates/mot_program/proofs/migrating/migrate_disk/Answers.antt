@@ -9,7 +9,8 @@ use Rattle.mot_repository.specs.Opening.IsOpeningRefusal.{device, no_memory as n
 use Rattle.mot_repository.specs.Repository.{IsOf}
 use Rattle.mot_program.specs.Report.{IsCalm, IsMigrated, StopsMigrating}
 use Rattle.mot_program.specs.Report.StopsMigrating.{refused, unprinted}
-use Rattle.mot_program.proofs.Ends.{IfErr-one, calm_refused, rises_later}
+use Rattle.mot_outcome.proofs.Laws.{IfErr-one}
+use Rattle.mot_program.proofs.Ends.{calm_refused, rises_later}
 use Rattle.mot_program.proofs.Ends.{still_unchanged}
 use Rattle.mot_program.proofs.Opened.{migrates_held, migrates_under, opened_throughout}
 use Rattle.mot_program.proofs.migrating.migrate_disk.Given as given

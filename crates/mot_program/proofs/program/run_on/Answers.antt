@@ -2,50 +2,38 @@ use Rattle.std.proofs.Common.{◌≡◌, ◌∙◌, arith, inl, inr, map, refl, 
 use Rattle.std.proofs.KnownBytes.{Keeps-refl}
 use Rattle.std.specs.Io.KnownBytes.{Keeps}
 use Rattle.clap.specs.Words.{found_of, rows_of}
-use Rattle.mot_numbers.specs.declared.refusal.Refusal.TheVariants.{OutOfMemory, WriteFault}
-use Rattle.mot_program.specs.Program.{IsUntouched}
-use Rattle.mot_program.specs.Program.IsRefused.{no_help, no_memory}
+use Rattle.mot_outcome.specs.Outcome.{IsUntouched}
+use Rattle.mot_outcome.proofs.Laws.{helped, unexplained, wrong_words}
+use Rattle.mot_numbers.specs.declared.refusal.Refusal.TheVariants.{BadGeometry}
+use Rattle.mot_program.specs.Program.{Does, DoesInPart, IsBeginningRefusal}
 use Rattle.mot_program.proofs.program.run_on.Goals as goal
-use Rattle.mot_words.proofs.Laws.{AreWrong-fault, AreWrong-none, AskBy-matched, AskForHelp-shown}
+use Rattle.mot_words.proofs.Laws.{AreWrong-none, AskBy-matched}
 use Rattle.mot_words.proofs.Laws.{motcar_simple}
 use Rattle.mot_words.specs.Asked.{AreWrong}
 use Rattle.mot_words.specs.Command.{motcar_app}
 use Rattle.mot_words.specs.Program.Task.{IsTask}
 
 pub returns-in-Err-clause-done : goal.returns-in-Err-clause-done
-returns-in-Err-clause-done g c = λ z. inr (
-  AskForHelp-shown motcar_app (map g.S.AsStr.text c.args.words.now) c.in-Err.error
-      c.in-Err.ensures.kinds (c.explain.ensures.help z).0,
-  (c.explain.ensures.help z).1,
-  subst (λ (d : _). IsUntouched d) (sym c.explain.ensures.untouched) tt,
-  Keeps-refl _,
-)
+returns-in-Err-clause-done g c = λ z.
+    helped (map g.S.AsStr.text c.args.words.now) c.in-Err.error c.in-Err.ensures.kinds c.args.start
+    c.explain.result.disk c.explain.ensures.untouched (g.W.Write.contents c.args.writer.now)
+    (g.W.Write.contents c.explain.new.writer) IsTask (g.R.Read.remaining c.args.reader.now) Does
+    (c.explain.ensures.help z)
 
 pub returns-in-Err-clause-refused : goal.returns-in-Err-clause-refused
 returns-in-Err-clause-refused g c = λ z.
-    let untouched = subst (λ (d : _). IsUntouched d) (sym c.explain.ensures.untouched) tt in
-    elim (c.explain.ensures.refused z) [
-      | inl why ↦ (
-        OutOfMemory,
-        why.0,
-        no_memory refl (record { untouched = untouched; silent = why.1 }) (Keeps-refl _),
-      )
-      | inr why ↦ (
-        WriteFault,
-        why.0,
-        no_help (AskForHelp-shown motcar_app (map g.S.AsStr.text c.args.words.now) c.in-Err.error
-            c.in-Err.ensures.kinds why.1) refl why.2 untouched (Keeps-refl _),
-      )
-    ]
+    unexplained (map g.S.AsStr.text c.args.words.now) c.in-Err.error c.in-Err.ensures.kinds
+    c.args.start c.explain.result.disk c.explain.ensures.untouched
+    (g.W.Write.contents c.args.writer.now) (g.W.Write.contents c.explain.new.writer) IsTask
+    (g.R.Read.remaining c.args.reader.now) BadGeometry IsBeginningRefusal DoesInPart
+    c.explain.result.refusal (c.explain.ensures.refused z)
 
 pub returns-in-Err-clause-usage : goal.returns-in-Err-clause-usage
-returns-in-Err-clause-usage g c = λ z. (
-  AreWrong-fault motcar_app (map g.S.AsStr.text c.args.words.now) c.in-Err.error
-      c.in-Err.ensures.kinds (c.explain.ensures.usage z).0 (c.explain.ensures.usage z).1,
-  subst (λ (d : _). IsUntouched d) (sym c.explain.ensures.untouched) tt,
-  Keeps-refl _,
-  (c.explain.ensures.usage z).2,
-)
+returns-in-Err-clause-usage g c = λ z.
+    let wrong = wrong_words (map g.S.AsStr.text c.args.words.now) c.in-Err.error
+    c.in-Err.ensures.kinds c.args.start c.explain.result.disk c.explain.ensures.untouched
+    (g.W.Write.contents c.args.writer.now) (g.W.Write.contents c.explain.new.writer)
+    (c.explain.ensures.usage z) in (wrong.0, wrong.1, Keeps-refl _, wrong.2)
 
 pub returns-in_default-clause-usage : goal.returns-in_default-clause-usage
 returns-in_default-clause-usage g c =

@@ -34,9 +34,9 @@ returns-clause-done g c =
     let left = g.R.Read.remaining c.serve-fault.new.reader in
     let old = g.W.Write.contents c.args.writer.now in
     let written = g.W.Write.contents c.serve-fault.new.writer in
-    on_ok_weaker c.after.result.result (λ is. let r = c.serve-fault.ensures.ended is in
+    on_ok_weaker c.result_of.result (λ is. let r = c.serve-fault.ensures.ended is in
     subst (λ d. ServesInput remains left old written (state c.args.disk) (state d))
-    (sym (c.after.ensures.disk ∙ c.into_disk.ensures)) (record {
+    (sym c.into_disk.ensures) (record {
       input = r.0;
       taken = r.1;
       at_end = r.2;
@@ -44,7 +44,7 @@ returns-clause-done g c =
           (λ before after. Served (state new.disk) before after (lines_of r.0) old written)
           g.met.D.Disk.sound opens.only_syncs opens.opened opens.going opens.at_start
           c.serve-fault.ensures.goes.keeps r.4;
-    })) c.after.ensures.done
+    })) c.result_of.ensures.done
 
 pub returns-clause-refused : goal.returns-clause-refused
 returns-clause-refused g c =
@@ -58,9 +58,9 @@ returns-clause-refused g c =
     let left = g.R.Read.remaining c.serve-fault.new.reader in
     let old = g.W.Write.contents c.args.writer.now in
     let written = g.W.Write.contents c.serve-fault.new.writer in
-    IfErr-weaker c.after.result.result _ _ (λ refusal some.
+    IfErr-weaker c.result_of.result _ _ (λ refusal some.
     subst (λ d. StopsServing refusal remains left old written (state c.args.disk) (state d))
-    (sym (c.after.ensures.disk ∙ c.into_disk.ensures))
+    (sym c.into_disk.ensures)
     (fault-cases _ c.serve-fault.result.fault refusal some calls.faults
     (λ is e. let r = calls.none e in
     no_memory is (λ other. subst (λ (d : _). (state d).failures ≡ (state c.args.disk).failures)
@@ -99,4 +99,4 @@ returns-clause-refused g c =
               calls.goes.keeps led.1,
         )
       ];
-    })))) c.after.ensures.refused
+    })))) c.result_of.ensures.refused

@@ -3,38 +3,39 @@ use Rattle.std.specs.Io.KnownBytes.{Keeps}
 use Rattle.std.proofs.KnownBytes.{Keeps-refl}
 use Rattle.std.proofs.lemmas.Result.{on_ok_weaker}
 use Rattle.mot_numbers.specs.declared.refusal.Refusal.TheVariants.{DeviceFault}
-use Rattle.mot_program.specs.Program.{IsUntold, OnOpened}
+use Rattle.mot_outcome.specs.Outcome.{IsUntold, OnOpened}
 use Rattle.mot_program.specs.Serving.{ServesInput, StopsServing}
-use Rattle.mot_program.proofs.Ends.{IfErr-one}
+use Rattle.mot_outcome.proofs.Laws.{IfErr-one}
 use Rattle.disk_store.proofs.Laws.{since_opened}
 use Rattle.mot_program.proofs.serving.serve_file.Goals as goal
 
 pub returns-in-Ok-clause-done : goal.returns-in-Ok-clause-done
 returns-in-Ok-clause-done g c =
     let remains = g.R.Read.remaining c.args.reader.now in
-    let left = g.R.Read.remaining c.serve_disk.new.reader in
+    let left = g.R.Read.remaining c.serve_disk-ended.new.reader in
     let old = g.W.Write.contents c.args.writer.now in
-    let new = g.W.Write.contents c.serve_disk.new.writer in
-    let ended = c.serve_disk.result in
+    let new = g.W.Write.contents c.serve_disk-ended.new.writer in
+    let ended = c.serve_disk-ended.result in
     subst (λ (f : _). OnOk f.result (OnOpened (ServesInput remains left old new) f.disk))
     (sym c.of_file.ensures)
     (on_ok_weaker ended.result (since_opened c.in-Ok.disk.disk ended.disk.disk
     (ServesInput remains left old new)
-    c.in-Ok.ensures.first ended.disk.begins c.serve_disk.ensures.keeps) c.serve_disk.ensures.done)
+    c.in-Ok.ensures.first ended.disk.begins c.serve_disk-ended.ensures.keeps)
+    c.serve_disk-ended.ensures.done)
 
 pub returns-in-Ok-clause-refused : goal.returns-in-Ok-clause-refused
 returns-in-Ok-clause-refused g c =
     let remains = g.R.Read.remaining c.args.reader.now in
-    let left = g.R.Read.remaining c.serve_disk.new.reader in
+    let left = g.R.Read.remaining c.serve_disk-ended.new.reader in
     let old = g.W.Write.contents c.args.writer.now in
-    let new = g.W.Write.contents c.serve_disk.new.writer in
-    let ended = c.serve_disk.result in
+    let new = g.W.Write.contents c.serve_disk-ended.new.writer in
+    let ended = c.serve_disk-ended.result in
     subst (λ (f : _). IfErr f.result
     (λ r. ((r ≡ DeviceFault) × IsUntold f.disk old new × Keeps remains left)
     ⊎ OnOpened (StopsServing r remains left old new) f.disk)) (sym c.of_file.ensures)
     (IfErr-one ended.result (λ r p. inr (since_opened c.in-Ok.disk.disk ended.disk.disk
     (StopsServing r remains left old new) c.in-Ok.ensures.first ended.disk.begins
-    c.serve_disk.ensures.keeps p)) c.serve_disk.ensures.refused)
+    c.serve_disk-ended.ensures.keeps p)) c.serve_disk-ended.ensures.refused)
 
 pub returns-in-Err-clause-refused : goal.returns-in-Err-clause-refused
 returns-in-Err-clause-refused g c =

@@ -1,7 +1,7 @@
 use Rattle.std.proofs.Common.{inr, refl}
 use Rattle.std.proofs.lemmas.Result.{on_ok_weaker}
 use Rattle.mot_program.specs.Program.{IsNewInMemory}
-use Rattle.mot_program.proofs.Ends.{IfErr-one}
+use Rattle.mot_outcome.proofs.Laws.{IfErr-one}
 use Rattle.mot_program.proofs.serving.serve_memory.Given as given
 use Rattle.mot_program.proofs.serving.serve_memory.Goals as goal
 

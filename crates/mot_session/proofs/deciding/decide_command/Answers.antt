@@ -14,7 +14,7 @@ returns-in-Ok-clause-decides g c = λ s stands honest.
     (state c.execute.new.self.disk) c.args.command.now stands
     run.keeps.frame.later (run.any_moment s) c.in-Ok.done run.answered run.going step.0 step.1
     step.2
-    (run.place s step.0 stands.agrees step.2.agrees)
+    (run.place s step.0 holds step.2.agrees step.1)
 
 pub returns-in-Ok-clause-crosses : goal.returns-in-Ok-clause-crosses
 returns-in-Ok-clause-crosses g c = λ s holds.

@@ -67,7 +67,7 @@ returns-clause-run g c = λ s holds honest.
     let new = c.look_at_folder-result.new.server in
     updating_by old new (state old.disk) (state new.disk) s _ _ _ _ _
     (fault_of c.look_at_folder-result.result)
-    (between_due c.args.self.now.left c.args.between_turns c.if-not-look_is_due.ensures.due)
+    (between_due c.args.self.now.left c.args.may_look c.if-not-look_is_due.ensures.due)
     (c.look_at_folder-result.ensures.looked s holds honest)
 
 pub returns-clause-looked : goal.returns-clause-looked

@@ -1,8 +1,9 @@
-use Rattle.std.proofs.Common.{ℕ, List, ap, ◌∙◌}
+use Rattle.std.proofs.Common.{ℕ, List, length, ap, ◌∙◌}
 use Rattle.mot_groups.specs.Group.{Segment}
 use Rattle.mot_numbers.specs.PacketLength.{room_of}
+use Rattle.mot_player.specs.Course.{CourseView}
 use Rattle.mot_player.specs.Place.{opened_place}
-use Rattle.mot_player.specs.PlayerView.{turn_with, waiting_of}
+use Rattle.mot_player.specs.PlayerView.{entities_of, queued, turn_with, waiting_of}
 use Rattle.mot_player.specs.Turn.{Turn}
 use Rattle.mot_player.proofs.Continuous.{steps-are-continuous}
 use Rattle.mot_player.proofs.Ending.{turns-end}
@@ -10,7 +11,9 @@ use Rattle.mot_player.proofs.GoesOn.{changes-go_on, requests-go_on}
 use Rattle.mot_player.proofs.WholeTurn.{turns_read_as_their_carousels}
 use Rattle.mot_player.proofs.Segments.{segments_from-end}
 use Rattle.mot_player.proofs.Rounds.{rounds_are_continuous}
-use Rattle.mot_player.proofs.Staying.{bodies-go_on, changes-come-next, directory-comes}
+use Rattle.mot_player.proofs.Followed.{changes-come-next, put-comes-at_the_end}
+use Rattle.mot_player.proofs.Followed.{replaced-keeps-its_place, rest-goes_on}
+use Rattle.mot_player.proofs.Staying.{bodies-go_on, directory-comes, requests-take-in-order}
 use Rattle.mot_player.proofs.player.Player.new.Goals as goal
 
 pub returns-clause-opened : goal.returns-clause-opened
@@ -18,10 +21,14 @@ returns-clause-opened c = λ bodies e.
     let turn : Turn = turn_with c.args.turn bodies in
     let size : ℕ = c.args.segment_size in
     rw (c.in_ok-last_directory.ensures.none, c.in_ok-last_body.ensures.none)
-    (ap (λ (w : List Segment).
+    (ap (λ (course : CourseView).
+    record (opened_place c.args.address (room_of c.args.full_length) size turn) {
+      waiting = waiting_of size turn course;
+      early = length (queued size (entities_of turn) course.queue);
+    }) c.ended-course.ensures.course
+    ∙ ap (λ (w : List Segment).
     record (opened_place c.args.address (room_of c.args.full_length) size turn) { waiting = w })
-    (ap (waiting_of size turn) c.ended-course.ensures.course
-    ∙ segments_from-end c.args.turn bodies size c.entity_count.result e
+    (segments_from-end c.args.turn bodies size c.entity_count.result e
     c.entity_count.ensures.count))
 
 pub returns-clause-continuous : goal.returns-clause-continuous
@@ -50,3 +57,15 @@ returns-clause-changes_next c = changes-come-next
 
 pub returns-clause-bodies_go_on : goal.returns-clause-bodies_go_on
 returns-clause-bodies_go_on c = bodies-go_on
+
+pub returns-clause-rest_goes_on : goal.returns-clause-rest_goes_on
+returns-clause-rest_goes_on c = rest-goes_on
+
+pub returns-clause-replaced_in_place : goal.returns-clause-replaced_in_place
+returns-clause-replaced_in_place c = replaced-keeps-its_place
+
+pub returns-clause-put_at_the_end : goal.returns-clause-put_at_the_end
+returns-clause-put_at_the_end c = put-comes-at_the_end
+
+pub returns-clause-in_order : goal.returns-clause-in_order
+returns-clause-in_order c = requests-take-in-order

@@ -123,7 +123,7 @@ returns-in-Ok-clause-place g c = λ s last holds after.
     let step = c.in-Ok.ensures.ok s holds in
     turns_there old new [] (command ∷ []) command c.in-Ok.done s s step.0 last (place_in old s) refl
     (after_none s) step.1 refl
-    (c.in-Ok.ensures.place s step.0 holds.agrees step.2.agrees) after
+    (c.in-Ok.ensures.place s step.0 holds step.2.agrees step.1) after
 
 pub returns-else-ends_run-clause-leaves : goal.returns-else-ends_run-clause-leaves
 returns-else-ends_run-clause-leaves g c = λ s holds.

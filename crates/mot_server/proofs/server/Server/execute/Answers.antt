@@ -1,15 +1,21 @@
-use Rattle.std.proofs.Common.{◌≡◌, ℕ, ◌+◌, ◌≤◌, Err, inl, inr, refl, sym, ap, ◌∙◌, arith}
+use Rattle.std.proofs.Common.{◌≡◌, ℕ, ◌+◌, ◌≤◌, ◌<◌, length, Err, inl, inr, refl, sym, ap, ◌∙◌, arith}
+use Rattle.std.proofs.Common.{subst}
 use Rattle.std.proofs.lemmas.Result.{IfOk-from_err, MatchResult-from_err}
 use Rattle.disk_model.proofs.Laws.{begins, keeps_none}
 use Rattle.disk_model.proofs.Laws.{unchanged_none}
 use Rattle.mot_numbers.specs.declared.geometry.Geometry.{Geometry}
 use Rattle.mot_numbers.proofs.Laws.{same_error}
-use Rattle.mot_player.specs.Place.{change_turn}
+use Rattle.mot_player.specs.Place.{change_turn, changed}
 use Rattle.mot_player.specs.PlayerView.{PlayerView, TurnPlan, place_of, turn_with}
-use Rattle.mot_repository.specs.Repository.{IsBeforeOrAfter}
+use Rattle.mot_player.specs.Turn.{turn_of_carousel}
+use Rattle.mot_repository.proofs.Laws.{accepted_parts}
+use Rattle.mot_repository.specs.Repository.{Agrees, IsBeforeOrAfter, RepositoryView}
+use Rattle.mot_server.specs.Server.{bodies_of}
 use Rattle.mot_repository.specs.Answers.{IsRefusal, accepted, refused, failed}
 use Rattle.mot_server.proofs.Going.{OnErr-always}
-use Rattle.mot_server.proofs.Turns.{place_after, plays_of, plays_same}
+use Rattle.mot_server.proofs.OneChange.{followable}
+use Rattle.mot_server.proofs.Turns.{begins_after, comes_after, plays_of, plays_same}
+use Rattle.mot_server.proofs.Whole.{sound_carousel}
 use Rattle.mot_server.proofs.server.Server.execute.Goals as goal
 
 no_less : (a n : ℕ) → a ≤ a + n
@@ -58,16 +64,40 @@ pub returns-clause-any_moment : goal.returns-clause-any_moment
 returns-clause-any_moment g c = rw (← c.self.view_is) (λ s holds.
     c.commit.ensures.any_moment c.args.command.now c.in_ok-prepared.ensures.prepared s holds)
 
-pub returns-clause-place : goal.returns-clause-place
-returns-clause-place g c = λ s next was agrees.
+pub returns-clause-anew : goal.returns-clause-anew
+returns-clause-anew g c = λ s next not was agrees.
     let new : PlayerView = c.changed.new.self in
     let plan : TurnPlan = c.in_ok-turn.turn in
     let old : PlayerView = c.args.self.now.player in
     let same : c.self.inside.player ≡ old = rw (← c.self.view_is) refl in
-    place_after c.commit.new.self.view s next old new plan agrees c.changed.ensures.turn
+    begins_after c.commit.new.self.view s next old new plan agrees c.changed.ensures.turn
     (invariant_of-self-2 g c)
-    (λ bodies changed. c.changed.ensures.place bodies changed
-    ∙ ap (λ (p : PlayerView). change_turn (turn_with plan changed) (place_of p bodies)) same)
+    (λ bodies came. c.changed.ensures.begun bodies came
+    (ap (λ (p : PlayerView). p.follows) same ∙ not)
+    ∙ ap (λ (p : PlayerView). change_turn (turn_with plan came) (place_of p bodies)) same)
+
+pub returns-clause-place : goal.returns-clause-place
+returns-clause-place g c = λ s next was agrees done.
+    let state = g.D.Disk.state c.args.self.now.disk in
+    let old : PlayerView = c.self.inside.player in
+    let view : RepositoryView = c.self.inside.bodies.repository.view in
+    let command = c.args.command.now in
+    let same : old ≡ c.args.self.now.player = rw (← c.self.view_is) refl in
+    let kept : view ≡ c.args.self.now.view = rw (← c.self.view_is) refl in
+    let parts = accepted_parts c.args.self.now.view.journal.layout s command c.in_ok-done.done next
+    done in
+    let sound = sound_carousel c.args.self.now.view s state
+    (g.met.D.Disk.sound c.args.self.now.disk was.journal.honest) was in
+    comes_after view c.commit.new.self.view s next old c.changed.new.self c.in_ok-turn.turn
+    (length old.course.queue < c.in_ok-spare.spare)
+    (subst (λ (v : RepositoryView). Agrees v s) (sym kept) was.agrees) c.self.invariant agrees
+    c.changed.ensures.turn (invariant_of-self-2 g c)
+    (followable s.carousel next.carousel s.geometry.objects s.geometry.segment_size
+    next.geometry.segment_size command c.in_ok-done.done sound parts.rules)
+    c.in_ok-spare.ensures.room c.changed.ensures.place
+    ∙ ap (λ (p : PlayerView).
+    changed (turn_of_carousel next.carousel next.geometry.segment_size)
+    (place_of p (bodies_of s.carousel))) same
 
 pub returns-clause-ok : goal.returns-clause-ok
 returns-clause-ok g c = rw (← c.self.view_is) (λ s holds.
@@ -111,6 +141,10 @@ returns-in_err-prepared-clause-ok g c =
 pub returns-in_err-prepared-clause-place : goal.returns-in_err-prepared-clause-place
 returns-in_err-prepared-clause-place g c =
     λ s next was agrees. IfOk-from_err c.from_residual.result _ c.from_residual.ensures.0
+
+pub returns-in_err-prepared-clause-anew : goal.returns-in_err-prepared-clause-anew
+returns-in_err-prepared-clause-anew g c =
+    λ s next not was agrees. IfOk-from_err c.from_residual.result _ c.from_residual.ensures.0
 
 pub returns-in_err-prepared-clause-stays : goal.returns-in_err-prepared-clause-stays
 returns-in_err-prepared-clause-stays g c =
@@ -158,9 +192,74 @@ returns-in_err-turn-clause-place g c =
     λ s next was agrees. IfOk-from_err c.from_residual-in_err-turn.result _
     c.from_residual-in_err-turn.ensures.0
 
+pub returns-in_err-turn-clause-anew : goal.returns-in_err-turn-clause-anew
+returns-in_err-turn-clause-anew g c =
+    λ s next not was agrees. IfOk-from_err c.from_residual-in_err-turn.result _
+    c.from_residual-in_err-turn.ensures.0
+
 pub returns-in_err-turn-clause-stays : goal.returns-in_err-turn-clause-stays
 returns-in_err-turn-clause-stays g c =
     OnErr-always c.from_residual-in_err-turn.result _ refl
+
+pub returns-in_err-spare-clause-answered : goal.returns-in_err-spare-clause-answered
+returns-in_err-spare-clause-answered g c =
+    let refusal = c.in_err-spare.field-0.0 in
+    refused refusal (same_error c.from_residual-in_err-spare.result refusal
+    c.from_residual-in_err-spare.ensures.1)
+    (rw (← c.self.view_is) (IsRefusal.no_memory c.in_ok-prepared.ensures.going
+    c.in_ok-prepared.ensures.prepared.change.prepared.short c.in_err-spare.ensures.refused))
+    refl (unchanged_none (g.D.Disk.state c.args.self.now.disk))
+
+pub returns-in_err-spare-clause-keeps : goal.returns-in_err-spare-clause-keeps
+returns-in_err-spare-clause-keeps g c =
+    record { frame = keeps_none (g.D.Disk.state c.args.self.now.disk); honest = λ is. is }
+
+pub returns-in_err-spare-clause-going : goal.returns-in_err-spare-clause-going
+returns-in_err-spare-clause-going g c =
+    IfOk-from_err c.from_residual-in_err-spare.result _ c.from_residual-in_err-spare.ensures.0
+
+pub returns-in_err-spare-clause-calm : goal.returns-in_err-spare-clause-calm
+returns-in_err-spare-clause-calm g c =
+    IfOk-from_err c.from_residual-in_err-spare.result _ c.from_residual-in_err-spare.ensures.0
+
+pub returns-in_err-spare-clause-cost : goal.returns-in_err-spare-clause-cost
+returns-in_err-spare-clause-cost g c =
+    record {
+      at_most = no_less _ _;
+      exact = IfOk-from_err c.from_residual-in_err-spare.result _ c.from_residual-in_err-spare.ensures.0;
+    }
+
+pub returns-in_err-spare-clause-untouched : goal.returns-in_err-spare-clause-untouched
+returns-in_err-spare-clause-untouched g c =
+    MatchResult-from_err c.from_residual-in_err-spare.result _ _
+    c.from_residual-in_err-spare.ensures.0 (λ refusal. inr refl)
+
+pub returns-in_err-spare-clause-any_moment : goal.returns-in_err-spare-clause-any_moment
+returns-in_err-spare-clause-any_moment g c =
+    λ s holds.
+    let old = c.args.self.now in
+    begins (g.D.Disk.state old.disk)
+    (IsBeforeOrAfter old.view.journal.layout s c.args.command.now)
+    (g.met.D.Disk.sound old.disk holds.journal.honest) (λ image left. inl (holds.each image left))
+
+pub returns-in_err-spare-clause-ok : goal.returns-in_err-spare-clause-ok
+returns-in_err-spare-clause-ok g c =
+    λ s holds. IfOk-from_err c.from_residual-in_err-spare.result _
+    c.from_residual-in_err-spare.ensures.0
+
+pub returns-in_err-spare-clause-place : goal.returns-in_err-spare-clause-place
+returns-in_err-spare-clause-place g c =
+    λ s next was agrees. IfOk-from_err c.from_residual-in_err-spare.result _
+    c.from_residual-in_err-spare.ensures.0
+
+pub returns-in_err-spare-clause-anew : goal.returns-in_err-spare-clause-anew
+returns-in_err-spare-clause-anew g c =
+    λ s next not was agrees. IfOk-from_err c.from_residual-in_err-spare.result _
+    c.from_residual-in_err-spare.ensures.0
+
+pub returns-in_err-spare-clause-stays : goal.returns-in_err-spare-clause-stays
+returns-in_err-spare-clause-stays g c =
+    OnErr-always c.from_residual-in_err-spare.result _ refl
 
 pub returns-in_err-done-clause-keeps : goal.returns-in_err-done-clause-keeps
 returns-in_err-done-clause-keeps g c =
@@ -205,6 +304,11 @@ returns-in_err-done-clause-ok g c =
 pub returns-in_err-done-clause-place : goal.returns-in_err-done-clause-place
 returns-in_err-done-clause-place g c =
     λ s next was agrees. IfOk-from_err c.from_residual-in_err-done.result _
+    c.from_residual-in_err-done.ensures.0
+
+pub returns-in_err-done-clause-anew : goal.returns-in_err-done-clause-anew
+returns-in_err-done-clause-anew g c =
+    λ s next not was agrees. IfOk-from_err c.from_residual-in_err-done.result _
     c.from_residual-in_err-done.ensures.0
 
 pub returns-in_err-done-clause-stays : goal.returns-in_err-done-clause-stays

@@ -9,7 +9,7 @@ use Rattle.mot_server.specs.RunEnds.{RunLeaves}
 use Rattle.mot_server.specs.RunEnds.{place_behind}
 use Rattle.mot_server.specs.Runs.{accepted_commands, IsAfter}
 use Rattle.mot_server.specs.Server.{place_in}
-use Rattle.mot_server.proofs.Places.{none_done, stays_there, turns_there}
+use Rattle.mot_server.proofs.Places.{begins_anew, none_done, stays_there, turns_there}
 use Rattle.mot_server.proofs.Runs.{Reached, begins, rests, one_longer, marks_after, accepted-true}
 use Rattle.mot_server.proofs.Runs.{accepted-false}
 use Rattle.mot_server.specs.RunAnswers.{AreAnswered}
@@ -168,7 +168,7 @@ loop-command-preserved g c =
                 (ap (accepted_commands commands) now
                 ∙ accepted-true commands marks c.command-item.result at)
                 accepted step.1 (c.loop-command.invariant.plays s so_far.last holds accepted)
-                (run.place so_far.last step.0 so_far.holds.agrees step.2.agrees) after;
+                (run.place so_far.last step.0 so_far.holds step.2.agrees step.1) after;
             reached = λ s holds.
                 let so_far = c.loop-command.invariant.reached s holds in
                 subst (λ l. Reached c.args.self.now.view.journal.layout c.execute.new.self.view
@@ -211,9 +211,9 @@ loop-command-preserved g c =
                 let same = ap (accepted_commands commands) now
                 ∙ accepted-false commands marks c.command-item.result at in
                 subst (λ l. place_in c.execute.new.self last
-                ≡ place_behind l last (place_in c.args.self.now s)) (sym same)
+                ≡ place_behind s l (place_in c.args.self.now s)) (sym same)
                 (stays_there c.loop-command.self c.execute.new.self last
-                (place_behind (accepted_commands commands marks) last
+                (place_behind s (accepted_commands commands marks)
                 (place_in c.args.self.now s)) run.stays
                 (c.loop-command.invariant.plays s last holds
                 (subst (λ l. IsAfter s l last) same after)));
@@ -240,7 +240,7 @@ pub returns-then-ends_run-clause-place : goal.returns-then-ends_run-clause-place
 returns-then-ends_run-clause-place g c = λ s last holds after.
     let accepted = accepted_commands c.args.commands.now c.loop-command.done.items in
     stays_there c.loop-command.self c.execute.new.self last
-    (place_behind accepted last (place_in c.args.self.now s)) c.in-Err.ensures.stays
+    (place_behind s accepted (place_in c.args.self.now s)) c.in-Err.ensures.stays
     (c.loop-command.invariant.plays s last holds after)
 
 pub returns-then-ends_run-clause-layout : goal.returns-then-ends_run-clause-layout
@@ -251,3 +251,15 @@ returns-then-ends_run-clause-layout g c = keeps_layout c.args.self.now.view
 pub returns-clause-layout : goal.returns-clause-layout
 returns-clause-layout g c = keeps_layout c.args.self.now.view c.loop-command.self.view
     c.args.commands.now c.loop-command.done.items None (returns-clause-runs g c).answers
+
+pub returns-then-halted-clause-anew : goal.returns-then-halted-clause-anew
+returns-then-halted-clause-anew g c = begins_anew
+
+pub returns-in_default-clause-anew : goal.returns-in_default-clause-anew
+returns-in_default-clause-anew g c = begins_anew
+
+pub returns-then-ends_run-clause-anew : goal.returns-then-ends_run-clause-anew
+returns-then-ends_run-clause-anew g c = begins_anew
+
+pub returns-clause-anew : goal.returns-clause-anew
+returns-clause-anew g c = begins_anew

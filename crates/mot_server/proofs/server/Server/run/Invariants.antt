@@ -21,7 +21,7 @@ invariant-loop-command g l =
       room : length l.commands ≤ vec_capacity l.done;
       plays : (s last : Standing) → Holds l.fn.self.view s (state l.fn.self.disk)
           → IsAfter s (accepted_commands l.commands l.done.items) last
-          → place_in l.self last ≡ place_behind (accepted_commands l.commands l.done.items) last
+          → place_in l.self last ≡ place_behind s (accepted_commands l.commands l.done.items)
           (place_in l.fn.self s);
       reached : (s : Standing) → Holds l.fn.self.view s (state l.fn.self.disk)
           → Reached l.fn.self.view.journal.layout l.self.view (state l.fn.self.disk)

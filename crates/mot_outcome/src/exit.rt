@@ -1,51 +1,48 @@
-//! What the program prints of its own.
-ghost use Rattle.std.specs.Prelude.{◌≡◌, ◌≢◌, ◌⊎◌, OnOk, IfErr, Some};
-ghost use Rattle.std.specs.Io.KnownBytes.{Appends, Keeps};
+//! How a run of the program ends, and what it prints of that.
+ghost use Rattle.std.specs.Prelude.{◌≡◌, ◌≢◌, ◌⊎◌, None, Some};
+ghost use Rattle.std.specs.Io.KnownBytes.{Keeps};
 ghost use Rattle.clap.specs.Words.{kind_of};
 ghost use Rattle.mot_numbers.specs.declared.refusal.Refusal.TheVariants.{OutOfMemory, WriteFault};
-ghost use Rattle.mot_program.specs.Program.{Prints, PrintsFront};
-ghost use Rattle.mot_program.specs.declared.ended.UsedDisk.TheVariants.{Untouched};
-ghost use Rattle.mot_session.specs.Served.{WritesFront};
+ghost use Rattle.mot_outcome.specs.Outcome.{Prints, PrintsFront};
+ghost use Rattle.mot_outcome.specs.declared.used.UsedDisk.TheVariants.{Untouched};
 
-use crate::ended::{Exit, UsedDisk};
+use crate::printing::write_last;
 use crate::subject::{Subject, tell};
+use crate::used::UsedDisk;
 use clap::Error;
 use clap::error::ErrorKind;
 use disk_store::Start;
 use mot_numbers::Refusal;
-use mot_session::write_whole;
 use std::alloc::Global;
 use std::io::Write;
 
-/// Writes all of the bytes; after a fault some first of them were written.
-pub(crate) fn write_bytes<W: Write>(writer: &mut W, bytes: &[u8]) -> Result<(), Refusal>
-    ensures written { OnOk result
-        (Appends (W.contents writer.old) (W.contents writer.new) bytes.now) }
-    ensures front { IfErr result (λ refusal. (refusal ≡ WriteFault)
-        × WritesFront bytes.now (W.contents writer.old) (W.contents writer.new)) }
-{
-    match write_whole(writer, bytes) {
-        Ok(()) => Ok(()),
-        Err(_) => Err(Refusal::WriteFault),
-    }
+/// How a run of the program ended.
+#[derive(Drop)]
+pub struct Exit<S: Start> {
+    /// The exit status: 0 if the task was done or help was asked for, 1 after a refusal that is no
+    /// line's reply, 2 after a fault of the words.
+    pub status: u8,
+    /// The refusal of status 1; none if files of a folder were refused: the log says which.
+    pub refusal: Option<Refusal>,
+    /// The disk that was worked on, as it stands.
+    pub disk: UsedDisk<S>,
 }
 
-/// Writes the end of what is printed, and hands all of it on.
-pub(crate) fn write_last<W: Write>(writer: &mut W, bytes: &[u8]) -> Result<(), Refusal>
-    ensures written { OnOk result
-        (Appends (W.contents writer.old) (W.contents writer.new) bytes.now) }
-    ensures front { IfErr result (λ refusal. (refusal ≡ WriteFault)
-        × WritesFront bytes.now (W.contents writer.old) (W.contents writer.new)) }
-{
-    write_bytes(writer, bytes)?;
-    match writer.flush() {
-        Ok(()) => Ok(()),
-        Err(_) => Err(Refusal::WriteFault),
+impl<S: Start> Exit<S> {
+    /// The end of a run that no refusal ended.
+    pub fn unrefused(status: u8, disk: UsedDisk<S>) -> Self
+        ensures { result ≡ record { status = status; refusal = None; disk = disk } }
+    {
+        Exit {
+            status,
+            refusal: None,
+            disk,
+        }
     }
 }
 
 /// Prints what is wrong with the words, or the help that they ask for.
-pub(crate) fn explain<S: Start, W: Write, E: Write>(
+pub fn explain<S: Start, W: Write, E: Write>(
     alloc: Global,
     writer: &mut W,
     errors: &mut E,
@@ -85,7 +82,7 @@ pub(crate) fn explain<S: Start, W: Write, E: Write>(
 
 /// Ends a run by a refusal that is no line's reply, and prints it, and on a second line what it is
 /// about.
-pub(crate) fn refuse<S: Start, E: Write>(
+pub fn refuse<S: Start, E: Write>(
     errors: &mut E,
     refusal: Refusal,
     subject: Subject<'_>,

@@ -1,0 +1,42 @@
+//! What is told of words that ask for no task, and of a folder that was not listed.
+use clap::ArgMatches;
+use disk_store::OpenFault;
+use mot_shelf::open_folder;
+use std::io::Write;
+
+/// The option that is missing among the words, as help shows it, if another one that qualifies it
+/// was given.
+pub(crate) fn missing_option(words: &ArgMatches<'_>) -> Option<&'static str> {
+    if is_alone(words, "every", "lines") {
+        Some("--lines <DIR>")
+    } else if is_alone(words, "types", "folder") || is_alone(words, "look", "folder") {
+        Some("--folder <DIR>")
+    } else {
+        None
+    }
+}
+
+/// Whether an option was given, and another one was not.
+fn is_alone(words: &ArgMatches<'_>, name: &str, other: &str) -> bool {
+    words.get_str(name).is_some() && words.get_str(other).is_none()
+}
+
+/// Prints that an option is missing, as the parser prints it of a word.
+pub(crate) fn tell_missing<E: Write>(errors: &mut E, option: &str) {
+    let fault = "error: the following required arguments were not provided:";
+    let _ = writeln!(
+        errors,
+        "{fault}\n  {option}\n\nFor more information, try '--help'."
+    );
+}
+
+/// Prints why the folder that these words name can't be listed, if it can't.
+pub(crate) fn tell_folder<E: Write>(rt: &HostRuntime, errors: &mut E, words: &ArgMatches<'_>) {
+    let Some(path) = words.get_str("DIR").or(words.get_str("folder")) else {
+        return;
+    };
+    if let Err(error) = open_folder(rt, rt.alloc(), path) {
+        let fault = OpenFault::System(error);
+        let _ = writeln!(errors, "motcar: {path}: {fault}");
+    }
+}

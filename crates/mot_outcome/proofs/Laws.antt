@@ -1,0 +1,6 @@
+-- What holds of the definitions, for the crates above.
+
+-- what a run came to that only explained its words
+pub use Rattle.mot_outcome.proofs.Explained.{helped, unexplained, wrong_words}
+-- what follows from a fact of a result
+pub use Rattle.mot_outcome.proofs.Results.{IfErr-one, IfOk-one}

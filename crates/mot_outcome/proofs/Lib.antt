@@ -1,0 +1,3 @@
+mod Explained
+pub mod Laws
+mod Results

@@ -1,0 +1,13 @@
+//! What a run of the program comes to, whatever its task is: the exit status, the refusal and what
+//! it is about, the disk as it is left, and what is printed of them.
+#![tactic(auto)]
+
+mod exit;
+mod printing;
+mod subject;
+mod used;
+
+pub use exit::{Exit, explain, refuse};
+pub use printing::{write_bytes, write_last};
+pub use subject::{Subject, subject_of};
+pub use used::{Beside, Finished, UsedDisk};

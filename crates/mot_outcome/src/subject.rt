@@ -1,0 +1,126 @@
+//! What a refusal is about: the file that was not opened, made or written, or the option whose
+//! number is out of its range. It is printed, and nothing is decided by it.
+use clap::ArgMatches;
+use mot_files::{Cause, OUTPUT, SUFFIX};
+use mot_numbers::Refusal;
+use std::io::Write;
+
+/// What a refusal is about.
+#[derive(Clone, Copy)]
+pub enum Subject<'a> {
+    /// What the refusal itself says.
+    Nothing,
+    /// The file at this path, for this cause.
+    File {
+        /// The path.
+        path: &'a str,
+        /// The cause.
+        cause: Cause,
+    },
+    /// The number that was given to an option, and those that it takes.
+    Number {
+        /// The option.
+        option: &'static str,
+        /// The number.
+        number: &'a str,
+        /// Those that it takes, in words.
+        range: &'static str,
+    },
+}
+
+/// The numbers that an option takes: from the least to the most, the multiples of a step; and how
+/// they are told.
+type Range = (&'static str, u32, u32, u32, &'static str);
+
+const RANGES: [Range; 11] = [
+    ("objects", 1, 250, 1, "1 to 250"),
+    ("data", 1, 268_435_456, 1, "1 to 268435456"),
+    ("segment", 64, 8_189, 1, "64 to 8189"),
+    ("address", 1, 1_023, 1, "1 to 1023"),
+    ("packet", 24, 96, 24, "24, 48, 72 or 96"),
+    ("after", 0, 65_535, 1, "0 to 65535"),
+    ("rate", 8, 1_824, 8, "a multiple of 8, 8 to 1824"),
+    ("every", 0, u32::MAX, 1, "0 to 4294967295"),
+    ("turns", 0, u32::MAX, 1, "0 to 4294967295"),
+    ("directory", 0, u32::MAX, 1, "0 to 4294967295"),
+    ("look", 0, u32::MAX, 1, "0 to 4294967295"),
+];
+
+/// What this refusal of a command with these words is about.
+pub fn subject_of<'a>(
+    refusal: Refusal,
+    words: &ArgMatches<'a>,
+    cause: Option<Cause>,
+) -> Subject<'a> {
+    match cause {
+        Some(cause) => match words.get_str(word_of_cause(cause)) {
+            Some(path) => Subject::File { path, cause },
+            None => Subject::Nothing,
+        },
+        None if refusal == Refusal::BadGeometry || refusal == Refusal::BadNumber => {
+            number_in(words)
+        }
+        None => Subject::Nothing,
+    }
+}
+
+/// The word that names what the cause is about.
+fn word_of_cause(cause: Cause) -> &'static str {
+    match cause {
+        Cause::Disk(_) => "DISK",
+        Cause::Types(_) => "types",
+        Cause::Lines(_) => "lines",
+        Cause::Packets(_) | Cause::NewFile(_) => "PACKETS",
+    }
+}
+
+/// The first option that has a number out of its range.
+fn number_in<'a>(words: &ArgMatches<'a>) -> Subject<'a> {
+    for (option, least, most, step, range) in RANGES {
+        if let Some(number) = words.get_str(option)
+            && !is_within(number, least, most, step)
+        {
+            return Subject::Number {
+                option,
+                number,
+                range,
+            };
+        }
+    }
+    Subject::Nothing
+}
+
+/// Whether the text is a number from the least to the most, and a multiple of the step.
+fn is_within(text: &str, least: u32, most: u32, step: u32) -> bool {
+    match text.parse::<u32>() {
+        Ok(number) => number >= least && number <= most && number.is_multiple_of(step),
+        Err(_) => false,
+    }
+}
+
+/// Prints what a refusal is about, if there is more to say.
+pub(crate) fn tell<E: Write>(errors: &mut E, subject: Subject<'_>) {
+    match subject {
+        Subject::Nothing => {}
+        Subject::File { path, cause } => {
+            let (name, suffix) = shown(path, cause);
+            let _ = writeln!(errors, "motcar: {name}{suffix}: {cause}");
+        }
+        Subject::Number {
+            option,
+            number,
+            range,
+        } => {
+            let _ = writeln!(errors, "motcar: --{option} {number}: {range}");
+        }
+    }
+}
+
+/// The name that a file is shown by, and what is added to it.
+fn shown(path: &str, cause: Cause) -> (&str, &'static str) {
+    match cause {
+        Cause::Packets(_) if path == OUTPUT => ("standard output", ""),
+        Cause::NewFile(_) => (path, SUFFIX),
+        _ => (path, ""),
+    }
+}

@@ -1,0 +1,118 @@
+//! The disk that a task worked on, as it is left.
+ghost use Rattle.std.specs.Prelude.{◌≡◌, Err, Some};
+ghost use Rattle.mot_files.specs.declared.fault.Cause.TheVariants.{Disk};
+ghost use Rattle.mot_numbers.specs.declared.refusal.Refusal.TheVariants.{DeviceFault};
+ghost use Rattle.mot_outcome.specs.declared.used.UsedDisk.TheVariants.{OfFile, Untouched};
+
+use disk_store::{Beginning, BegunFile, FileDiskFrom, RamDisk, Start, Unopened};
+use mot_files::{Cause, Taken};
+use mot_numbers::Refusal;
+use mot_reading::Ended;
+use mot_shelf::Seen;
+
+/// The disk that a task worked on. The value of `S` is used up if a file is opened or made, so that
+/// whoever still has it has opened none.
+#[derive(Drop)]
+pub enum UsedDisk<S: Start> {
+    /// No file was opened or made.
+    Untouched(S),
+    /// A disk in memory was served, and no file opened or made.
+    InMemory(RamDisk, S),
+    /// The disk of the file that was opened or made, and what was done beside it.
+    OfFile(FileDiskFrom<S>, Beside),
+}
+
+/// What a task did beside its disk, as lists that only clauses read.
+#[derive(Drop)]
+pub struct Beside {
+    /// What each write of packets took.
+    pub taken: Taken,
+    /// What the folder gave that the carousel was to be made equal to.
+    pub seen: Seen,
+}
+
+impl Beside {
+    /// Nothing.
+    pub fn nothing() -> Beside {
+        Beside::packets(Taken::nothing())
+    }
+
+    /// Packets were written.
+    pub fn packets(taken: Taken) -> Beside
+        ensures { result.taken ≡ taken }
+    {
+        Beside {
+            taken,
+            seen: Seen::nothing(),
+        }
+    }
+
+    /// A folder was looked at.
+    pub fn folder(seen: Seen) -> Beside
+        ensures { result.seen ≡ seen }
+    {
+        Beside {
+            taken: Taken::nothing(),
+            seen,
+        }
+    }
+}
+
+/// What a task came to, and the disk after it.
+#[derive(Drop)]
+pub struct Finished<S: Start, T> {
+    /// What it came to.
+    pub result: Result<T, Refusal>,
+    /// The disk that it worked on.
+    pub disk: UsedDisk<S>,
+    /// Why it was refused, if more is known than the refusal says.
+    pub cause: Option<Cause>,
+}
+
+impl<S: Start, T> Finished<S, T> {
+    /// Refused before a disk's file was opened or made.
+    pub fn unbegun(refusal: Refusal, cause: Option<Cause>, start: S) -> Self
+        ensures { result ≡ record {
+          result = Err refusal;
+          disk = Untouched start;
+          cause = cause;
+        } }
+    {
+        Finished {
+            result: Err(refusal),
+            disk: UsedDisk::Untouched(start),
+            cause,
+        }
+    }
+
+    /// The disk's file was not opened or made.
+    pub fn unopened(unopened: Unopened<S>) -> Self
+        ensures { result ≡ record {
+          result = Err DeviceFault;
+          disk = Untouched unopened.start;
+          cause = Some (Disk unopened.fault);
+        } }
+    {
+        let cause = Cause::Disk(unopened.fault);
+        Finished::unbegun(Refusal::DeviceFault, Some(cause), unopened.start)
+    }
+
+    /// On the disk of a file that was opened or made.
+    pub fn of_file<K: Beginning>(
+        ended: Ended<BegunFile<S, K>, T>,
+        beside: Beside,
+        cause: Option<Cause>,
+    ) -> Self
+        ensures { result ≡ record {
+          result = ended.result;
+          disk = OfFile ended.disk.disk beside;
+          cause = cause;
+        } }
+    {
+        Finished {
+            result: ended.result,
+            disk: UsedDisk::OfFile(ended.disk.disk, beside),
+            cause,
+        }
+    }
+}

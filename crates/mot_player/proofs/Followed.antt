@@ -1,0 +1,545 @@
+-- A changed turn that is followed: what comes early, and how the rest goes on.
+use Rattle.std.proofs.Common.{◌≡◌, ℕ, suc, zero, ◌+◌, ◌*◌, ◌<◌, ◌≤◌, Bool, true, false, List, []}
+use Rattle.std.proofs.Common.{◌∷◌, ◌++◌, length, refl, sym, ap, ◌∙◌, arith, append-nil, eq-eqb}
+use Rattle.std.proofs.Common.{take, drop, subst}
+use Rattle.std.proofs.Math.Seq.{take-append_seam, drop-append_seam}
+use Rattle.std.proofs.lemmas.Bool.{and_parts, eqb-true, ne_eqb, not-true, not_from_false}
+use Rattle.std.proofs.lemmas.Bool.{not_from_true, or_parts}
+use Rattle.std.proofs.lemmas.Grind.{div_ceil_times, flat_map-append}
+use Rattle.std.proofs.lemmas.List.{append_assoc, take-append-drop}
+use Rattle.std.proofs.lemmas.List.Elements.{filter-append}
+use Rattle.std.specs.Int.{div_ceil}
+use Rattle.std.specs.List.{AllByRecursion}
+use Rattle.std.specs.Prelude.{◌==◌, ◌&&◌, not, filter, flat_map, if◌then◌else◌}
+use Rattle.mot_groups.specs.Entity.{first_pieces, numbered_segments, own_segments, pieces}
+use Rattle.mot_groups.specs.Entity.{segments_of}
+use Rattle.mot_groups.specs.Group.{Segment}
+use Rattle.mot_numbers.specs.Reading.{is_empty}
+use Rattle.mot_player.specs.Place.{Place, Change, Same, Put, Replaced, Withdrawn, change_between}
+use Rattle.mot_player.specs.Place.{directory_segments, early_after, early_of, follow, followed_by}
+use Rattle.mot_player.specs.Place.{fresh_segments, in_its_place, left_of, of_bodies, rest_after}
+use Rattle.mot_player.specs.Place.{rest_of, that_stay, to_send, without}
+use Rattle.mot_player.specs.Staying.{ChangesComeNext, HasDirectory, PutComesAtTheEnd}
+use Rattle.mot_player.specs.Staying.{ReplacedKeepsItsPlace, RestGoesOn, takes_away, touches}
+use Rattle.mot_player.specs.Staying.{untouched}
+use Rattle.mot_player.specs.Turn.{Turn}
+use Rattle.mot_player.proofs.Left.{filter-within, is_empty-append, left-some, own}
+use Rattle.mot_player.proofs.Left.{own-of_bodies, some-directory}
+
+-- segments of bodies
+abbrev pub AreBodies : List Segment → Type 0
+AreBodies segments = AllByRecursion (λ (s : Segment). s.kind ≡ 4) segments
+
+bodies-kept : (b : Bool) (s : Segment) (xs : List Segment) → (b ≡ true → s.kind ≡ 4) →
+    AreBodies xs → AreBodies (if b then s ∷ xs else xs)
+bodies-kept true s xs k r = (k refl, r)
+bodies-kept false s xs k r = r
+
+bodies-of_bodies : (xs : List Segment) → AreBodies (of_bodies xs)
+bodies-of_bodies [] = tt
+bodies-of_bodies (x ∷ xs) =
+    bodies-kept (x.kind == 4) x (of_bodies xs) (λ e. eqb-true x.kind 4 e) (bodies-of_bodies xs)
+
+bodies-filter : (p : Segment → Bool) (xs : List Segment) → AreBodies xs → AreBodies (filter p xs)
+bodies-filter p [] k = tt
+bodies-filter p (x ∷ xs) k =
+    bodies-kept (p x) x (filter p xs) (λ e. k.0) (bodies-filter p xs k.1)
+
+bodies-append : (xs ys : List Segment) → AreBodies xs → AreBodies ys → AreBodies (xs ++ ys)
+bodies-append [] ys j k = k
+bodies-append (x ∷ xs) ys j k = (j.0, bodies-append xs ys j.1 k)
+
+bodies-front : (xs ys : List Segment) → AreBodies (xs ++ ys) → AreBodies xs
+bodies-front [] ys k = tt
+bodies-front (x ∷ xs) ys k = (k.0, bodies-front xs ys k.1)
+
+bodies-behind : (xs ys : List Segment) → AreBodies (xs ++ ys) → AreBodies ys
+bodies-behind [] ys k = k
+bodies-behind (x ∷ xs) ys k = bodies-behind xs ys k.1
+
+bodies-take : (n : ℕ) (xs : List Segment) → AreBodies xs → AreBodies (take n xs)
+bodies-take zero xs k = tt
+bodies-take (suc n) [] k = tt
+bodies-take (suc n) (x ∷ xs) k = (k.0, bodies-take n xs k.1)
+
+bodies-drop : (n : ℕ) (xs : List Segment) → AreBodies xs → AreBodies (drop n xs)
+bodies-drop zero xs k = k
+bodies-drop (suc n) [] k = tt
+bodies-drop (suc n) (x ∷ xs) k = bodies-drop n xs k.1
+
+bodies-numbered : (tid n : ℕ) (ps : List (List ℕ)) → AreBodies (numbered_segments 4 tid n ps)
+bodies-numbered tid n [] = tt
+bodies-numbered tid n (p ∷ ps) = (refl, bodies-numbered tid (n + 1) ps)
+
+of_bodies-same : (xs : List Segment) → AreBodies xs → of_bodies xs ≡ xs
+of_bodies-same [] k = refl
+of_bodies-same (x ∷ xs) k =
+    rw (eq-eqb x.kind 4 k.0) (ap (λ (ss : List Segment). x ∷ ss) (of_bodies-same xs k.1))
+
+of_bodies-directory : (tid n : ℕ) (ps : List (List ℕ)) →
+    of_bodies (numbered_segments 6 tid n ps) ≡ []
+of_bodies-directory tid n [] = refl
+of_bodies-directory tid n (p ∷ ps) = of_bodies-directory tid (n + 1) ps
+
+-- what comes early and what is left of the rest are segments of bodies
+bodies-early_of : (place : Place) → AreBodies (early_of place)
+bodies-early_of place =
+    bodies-take place.early (of_bodies (left_of place)) (bodies-of_bodies (left_of place))
+
+bodies-rest_of : (place : Place) → AreBodies (rest_of place)
+bodies-rest_of place =
+    bodies-drop place.early (of_bodies (left_of place)) (bodies-of_bodies (left_of place))
+
+bodies-fresh : (size : ℕ) (change : Change) → AreBodies (fresh_segments size change)
+bodies-fresh size Same = tt
+bodies-fresh size (Put new) = bodies-numbered new.0 0 (pieces size new.1)
+bodies-fresh size (Replaced old new) = bodies-numbered new.0 0 (pieces size new.1)
+bodies-fresh size (Withdrawn old) = tt
+
+bodies-that_stay : (change : Change) (xs : List Segment) → AreBodies xs →
+    AreBodies (that_stay change xs)
+bodies-that_stay Same xs k = k
+bodies-that_stay (Put new) xs k = k
+bodies-that_stay (Replaced old new) xs k = bodies-filter (λ (s : Segment). not (s.tid == old)) xs k
+bodies-that_stay (Withdrawn old) xs k = bodies-filter (λ (s : Segment). not (s.tid == old)) xs k
+
+bodies-one_place : (fresh : List Segment) (s : Segment) (b c : Bool) → AreBodies fresh →
+    s.kind ≡ 4 → AreBodies (if b then if c then fresh else [] else s ∷ [])
+bodies-one_place fresh s true true f k = f
+bodies-one_place fresh s true false f k = tt
+bodies-one_place fresh s false c f k = (k, tt)
+
+bodies-in_place : (old : ℕ) (fresh xs : List Segment) → AreBodies fresh → AreBodies xs →
+    AreBodies (flat_map (in_its_place old fresh) xs)
+bodies-in_place old fresh [] f k = tt
+bodies-in_place old fresh (x ∷ xs) f k =
+    bodies-append (in_its_place old fresh x) (flat_map (in_its_place old fresh) xs)
+    (bodies-one_place fresh x (x.tid == old) (x.number == 0) f k.0)
+    (bodies-in_place old fresh xs f k.1)
+
+bodies-put : (fresh rest : List Segment) (b : Bool) → AreBodies fresh → AreBodies rest →
+    AreBodies (if b then [] else rest ++ fresh)
+bodies-put fresh rest true f k = tt
+bodies-put fresh rest false f k = bodies-append rest fresh k f
+
+bodies-rest_after : (change : Change) (fresh rest : List Segment) → AreBodies fresh →
+    AreBodies rest → AreBodies (rest_after change fresh rest)
+bodies-rest_after Same fresh rest f k = k
+bodies-rest_after (Put new) fresh rest f k = bodies-put fresh rest (is_empty rest) f k
+bodies-rest_after (Replaced old new) fresh rest f k = bodies-in_place old fresh rest f k
+bodies-rest_after (Withdrawn old) fresh rest f k =
+    bodies-filter (λ (s : Segment). not (s.tid == old)) rest k
+
+pub bodies-early_after : (change : Change) (place : Place) → AreBodies (early_after change place)
+bodies-early_after change place =
+    bodies-append (that_stay change (early_of place)) (fresh_segments place.segment_size change)
+    (bodies-that_stay change (early_of place) (bodies-early_of place))
+    (bodies-fresh place.segment_size change)
+
+-- the rest of the turn of a place after a change
+abbrev pub renewed : Change → Place → List Segment
+renewed change place =
+    rest_after change (fresh_segments place.segment_size change) (rest_of place)
+
+pub bodies-renewed : (change : Change) (place : Place) → AreBodies (renewed change place)
+bodies-renewed change place =
+    bodies-rest_after change (fresh_segments place.segment_size change) (rest_of place)
+    (bodies-fresh place.segment_size change) (bodies-rest_of place)
+
+-- the new directory waits, and so something is left
+followed-waits : (change : Change) (turn : Turn) (place : Place) → 0 < place.segment_size →
+    HasDirectory turn → is_empty (followed_by change turn place).waiting ≡ false
+followed-waits change turn place some has =
+    let directory : List Segment = directory_segments turn place.segment_size in
+    is_empty-append (directory ++ early_after change place) (renewed change place)
+    (is_empty-append directory (early_after change place)
+    (some-directory turn place.segment_size some has))
+
+followed-to_send : (change : Change) (turn : Turn) (place : Place) → 0 < place.segment_size →
+    HasDirectory turn →
+    to_send (followed_by change turn place) ≡ (followed_by change turn place).waiting
+followed-to_send change turn place some has =
+    rw (followed-waits change turn place some has) refl
+
+followed-left : (change : Change) (turn : Turn) (place : Place) → 0 < place.segment_size →
+    HasDirectory turn →
+    left_of (followed_by change turn place) ≡ (followed_by change turn place).waiting
+followed-left change turn place some has =
+    left-some (followed_by change turn place) place.under_way
+    (followed-waits change turn place some has)
+
+-- of bodies, those that come early are left, and the rest
+followed-bodies : (change : Change) (turn : Turn) (place : Place) → 0 < place.segment_size →
+    HasDirectory turn →
+    of_bodies (left_of (followed_by change turn place))
+    ≡ early_after change place ++ renewed change place
+followed-bodies change turn place some has =
+    let directory : List Segment = directory_segments turn place.segment_size in
+    let early : List Segment = early_after change place in
+    let rest : List Segment = renewed change place in
+    let is_body : Segment → Bool = λ (s : Segment). s.kind == 4 in
+    ap of_bodies (followed-left change turn place some has)
+    ∙ filter-append is_body (directory ++ early) rest
+    ∙ ap (λ (ss : List Segment). ss ++ of_bodies rest)
+    (filter-append is_body directory early
+    ∙ ap (λ (ss : List Segment). ss ++ of_bodies early)
+    (of_bodies-directory turn.tid 0 (pieces place.segment_size turn.directory))
+    ∙ of_bodies-same early (bodies-early_after change place))
+    ∙ ap (λ (ss : List Segment). early ++ ss)
+    (of_bodies-same rest (bodies-renewed change place))
+
+followed-early : (change : Change) (turn : Turn) (place : Place) → 0 < place.segment_size →
+    HasDirectory turn → early_of (followed_by change turn place) ≡ early_after change place
+followed-early change turn place some has =
+    let early : List Segment = early_after change place in
+    ap (take (length early)) (followed-bodies change turn place some has)
+    ∙ take-append_seam early (renewed change place)
+
+followed-rest : (change : Change) (turn : Turn) (place : Place) → 0 < place.segment_size →
+    HasDirectory turn → rest_of (followed_by change turn place) ≡ renewed change place
+followed-rest change turn place some has =
+    let early : List Segment = early_after change place in
+    ap (drop (length early)) (followed-bodies change turn place some has)
+    ∙ drop-append_seam early (renewed change place)
+
+-- a test that fails where another holds
+other-test : (a b : Bool) → (a ≡ true → b ≡ false) → b ≡ true → a ≡ false
+other-test true b w e = absurd (let f : b ≡ false = w refl in cc)
+other-test false b w e = refl
+
+-- of segments of one entity, none passes that its id forbids
+none-numbered : (p : Segment → Bool) (kind tid n : ℕ) (ps : List (List ℕ)) →
+    ((s : Segment) → s.tid ≡ tid → p s ≡ false) →
+    filter p (numbered_segments kind tid n ps) ≡ []
+none-numbered p kind tid n [] w = refl
+none-numbered p kind tid n (b ∷ ps) w =
+    rw (w (record { kind = kind; tid = tid; number = n; last = is_empty ps; bytes = b }) refl)
+    (none-numbered p kind tid (n + 1) ps w)
+
+none-of : (p : Segment → Bool) (size : ℕ) (body : ℕ × List ℕ) →
+    ((s : Segment) → p s ≡ true → (s.tid == body.0) ≡ false) →
+    filter p (segments_of 4 body.0 size body.1) ≡ []
+none-of p size body w =
+    none-numbered p 4 body.0 0 (pieces size body.1)
+    (λ s same. other-test (p s) (s.tid == body.0) (w s) (eq-eqb s.tid body.0 same))
+
+-- a test that passes none of the body that went, where another came in its place
+other-place : (p : Segment → Bool) (fresh : List Segment) (x : Segment) (t z q : Bool) →
+    p x ≡ q → (q ≡ true → t ≡ false) → filter p fresh ≡ [] →
+    filter p (if t then if z then fresh else [] else x ∷ []) ≡ filter p (x ∷ [])
+other-place p fresh x true z true e w f = absurd (let g : true ≡ false = w refl in cc)
+other-place p fresh x true true false e w f = rw e f
+other-place p fresh x true false false e w f = rw e refl
+other-place p fresh x false z q e w f = refl
+
+others-in_place : (p : Segment → Bool) (old : ℕ) (fresh xs : List Segment) →
+    ((s : Segment) → p s ≡ true → (s.tid == old) ≡ false) → filter p fresh ≡ [] →
+    filter p (flat_map (in_its_place old fresh) xs) ≡ filter p xs
+others-in_place p old fresh [] w f = refl
+others-in_place p old fresh (x ∷ xs) w f =
+    filter-append p (in_its_place old fresh x) (flat_map (in_its_place old fresh) xs)
+    ∙ ap (λ (ss : List Segment). ss ++ filter p (flat_map (in_its_place old fresh) xs))
+    (other-place p fresh x (x.tid == old) (x.number == 0) (p x) refl (w x) f)
+    ∙ ap (λ (ss : List Segment). filter p (x ∷ []) ++ ss) (others-in_place p old fresh xs w f)
+    ∙ sym (filter-append p (x ∷ []) xs)
+
+-- and one that passes no other
+own-place : (p : Segment → Bool) (fresh : List Segment) (x : Segment) (t z q : Bool) →
+    p x ≡ q → (q ≡ true → t ≡ true) → filter p fresh ≡ [] →
+    filter p (if t then if z then fresh else [] else x ∷ []) ≡ []
+own-place p fresh x true true q e w f = f
+own-place p fresh x true false q e w f = refl
+own-place p fresh x false z true e w f = absurd (let g : false ≡ true = w refl in cc)
+own-place p fresh x false z false e w f = rw e refl
+
+own-in_place : (p : Segment → Bool) (old : ℕ) (fresh xs : List Segment) →
+    ((s : Segment) → p s ≡ true → (s.tid == old) ≡ true) → filter p fresh ≡ [] →
+    filter p (flat_map (in_its_place old fresh) xs) ≡ []
+own-in_place p old fresh [] w f = refl
+own-in_place p old fresh (x ∷ xs) w f =
+    filter-append p (in_its_place old fresh x) (flat_map (in_its_place old fresh) xs)
+    ∙ ap (λ (ss : List Segment). ss ++ filter p (flat_map (in_its_place old fresh) xs))
+    (own-place p fresh x (x.tid == old) (x.number == 0) (p x) refl (w x) f)
+    ∙ own-in_place p old fresh xs w f
+
+-- a test passes only bodies that neither came nor went
+abbrev pub IsOfOthers : (Segment → Bool) → Change → Type 0
+IsOfOthers p change = (s : Segment) → p s ≡ true → touches change s.tid ≡ false
+
+-- of what comes early, and of the rest, those that pass are as they were
+others-early : (p : Segment → Bool) (change : Change) (place : Place) → IsOfOthers p change →
+    filter p (early_after change place) ≡ filter p (early_of place)
+others-early p Same place w = ap (filter p) (append-nil (early_of place))
+others-early p (Put new) place w =
+    let early : List Segment = early_of place in
+    filter-append p early (segments_of 4 new.0 place.segment_size new.1)
+    ∙ ap (λ (ss : List Segment). filter p early ++ ss) (none-of p place.segment_size new w)
+    ∙ append-nil (filter p early)
+others-early p (Replaced old new) place w =
+    let early : List Segment = early_of place in
+    let stays : List Segment = without old early in
+    filter-append p stays (segments_of 4 new.0 place.segment_size new.1)
+    ∙ ap (λ (ss : List Segment). filter p stays ++ ss)
+    (none-of p place.segment_size new
+    (λ s e. (or_parts (s.tid == old) (s.tid == new.0) (w s e)).1))
+    ∙ append-nil (filter p stays)
+    ∙ filter-within p (λ (s : Segment). not (s.tid == old))
+    (λ s e. not_from_false (s.tid == old) (or_parts (s.tid == old) (s.tid == new.0) (w s e)).0) early
+others-early p (Withdrawn old) place w =
+    let early : List Segment = early_of place in
+    ap (filter p) (append-nil (without old early))
+    ∙ filter-within p (λ (s : Segment). not (s.tid == old))
+    (λ s e. not_from_false (s.tid == old) (w s e)) early
+
+others-put : (p : Segment → Bool) (fresh rest : List Segment) → filter p fresh ≡ [] →
+    filter p (if is_empty rest then [] else rest ++ fresh) ≡ filter p rest
+others-put p fresh [] f = refl
+others-put p fresh (x ∷ rest) f =
+    filter-append p (x ∷ rest) fresh
+    ∙ ap (λ (ss : List Segment). filter p (x ∷ rest) ++ ss) f
+    ∙ append-nil (filter p (x ∷ rest))
+
+others-rest : (p : Segment → Bool) (change : Change) (size : ℕ) (rest : List Segment) →
+    IsOfOthers p change →
+    filter p (rest_after change (fresh_segments size change) rest) ≡ filter p rest
+others-rest p Same size rest w = refl
+others-rest p (Put new) size rest w =
+    others-put p (segments_of 4 new.0 size new.1) rest (none-of p size new w)
+others-rest p (Replaced old new) size rest w =
+    others-in_place p old (segments_of 4 new.0 size new.1) rest
+    (λ s e. (or_parts (s.tid == old) (s.tid == new.0) (w s e)).0)
+    (none-of p size new (λ s e. (or_parts (s.tid == old) (s.tid == new.0) (w s e)).1))
+others-rest p (Withdrawn old) size rest w =
+    filter-within p (λ (s : Segment). not (s.tid == old))
+    (λ s e. not_from_false (s.tid == old) (w s e)) rest
+
+own-id : (id : ℕ) (s : Segment) → own id s ≡ true → s.tid ≡ id
+own-id id s e = eqb-true s.tid id (and_parts (s.kind == 4) (s.tid == id) e).1
+
+-- a body that neither came nor went goes on behind a turn that is followed
+pub own-followed : (id : ℕ) (turn : Turn) (place : Place) → 0 < place.segment_size →
+    HasDirectory turn → touches (change_between place.turn.bodies turn.bodies) id ≡ false →
+    own_segments 4 id (left_of (follow turn place)) ≡ own_segments 4 id (left_of place)
+unfolding follow
+own-followed id turn place some has stays =
+    let change : Change = change_between place.turn.bodies turn.bodies in
+    let left : List Segment = of_bodies (left_of place) in
+    let others : IsOfOthers (own id) change =
+    λ s e. ap (touches change) (own-id id s e) ∙ stays in
+    sym (own-of_bodies id (left_of (followed_by change turn place)))
+    ∙ ap (own_segments 4 id) (followed-bodies change turn place some has)
+    ∙ filter-append (own id) (early_after change place) (renewed change place)
+    ∙ ap (λ (ss : List Segment). ss ++ own_segments 4 id (renewed change place))
+    (others-early (own id) change place others)
+    ∙ ap (λ (ss : List Segment). own_segments 4 id (early_of place) ++ ss)
+    (others-rest (own id) change place.segment_size (rest_of place) others)
+    ∙ sym (filter-append (own id) (early_of place) (rest_of place))
+    ∙ ap (own_segments 4 id) (take-append-drop place.early left)
+    ∙ own-of_bodies id (left_of place)
+
+-- the rest goes on in its order
+pub rest-goes_on : RestGoesOn
+unfolding follow
+rest-goes_on place turn change some has is =
+    let p : Segment → Bool = λ (s : Segment). not (touches change s.tid) in
+    ap (λ (c : Change). untouched change (rest_of (followed_by c turn place))) is
+    ∙ ap (untouched change) (followed-rest change turn place some has)
+    ∙ others-rest p change place.segment_size (rest_of place)
+    (λ s e. not-true (touches change s.tid) e)
+
+-- a body that was put comes at the end
+pub put-comes-at_the_end : PutComesAtTheEnd
+unfolding follow
+put-comes-at_the_end place turn new some has is =
+    ap (λ (c : Change). rest_of (followed_by c turn place)) is
+    ∙ followed-rest (Put new) turn place some has
+
+-- a body comes in the place of another one
+abbrev IsApart : Change → Type 0
+IsApart Same = Unit {0}
+IsApart (Put new) = Unit {0}
+IsApart (Replaced old new) = (old == new.0) ≡ false
+IsApart (Withdrawn old) = Unit {0}
+
+apart-cases : (old : ℕ) (new : ℕ × List ℕ) (later : Change) (same level : Bool) →
+    (old == new.0) ≡ same → IsApart later →
+    IsApart (if same then later else if level then Replaced old new else Withdrawn old)
+apart-cases old new later true level e ih = ih
+apart-cases old new later false true e ih = e
+apart-cases old new later false false e ih = tt
+
+change_between-apart : (olds news : List (ℕ × List ℕ)) → IsApart (change_between olds news)
+change_between-apart [] [] = tt
+change_between-apart [] (new ∷ news) = tt
+change_between-apart (old ∷ olds) [] = tt
+change_between-apart (old ∷ olds) (new ∷ news) =
+    apart-cases old.0 new (change_between olds news) (old.0 == new.0) (length olds == length news)
+    refl (change_between-apart olds news)
+
+-- of those that fail a test, none is left where only others pass the first
+outside-cases : (p : Segment → Bool) (x : Segment) (ys : List Segment) (b c : Bool) →
+    p x ≡ c → (c ≡ true → b ≡ false) → filter p ys ≡ [] →
+    filter p (if b then x ∷ ys else ys) ≡ []
+outside-cases p x ys true true e w h = absurd (let f : true ≡ false = w refl in cc)
+outside-cases p x ys true false e w h = rw e h
+outside-cases p x ys false c e w h = h
+
+filter-outside : (p q : Segment → Bool) → ((s : Segment) → p s ≡ true → q s ≡ false) →
+    (xs : List Segment) → filter p (filter q xs) ≡ []
+filter-outside p q w [] = refl
+filter-outside p q w (x ∷ xs) =
+    outside-cases p x (filter q xs) (q x) (p x) refl (w x) (filter-outside p q w xs)
+
+without-none : (id old : ℕ) (xs : List Segment) → id ≡ old →
+    own_segments 4 id (without old xs) ≡ []
+without-none id old xs same =
+    filter-outside (own id) (λ (s : Segment). not (s.tid == old))
+    (λ s e. not_from_true (s.tid == old) (eq-eqb s.tid old (own-id id s e ∙ same))) xs
+
+fresh-none : (id size old : ℕ) (new : ℕ × List ℕ) → id ≡ old → (old == new.0) ≡ false →
+    own_segments 4 id (segments_of 4 new.0 size new.1) ≡ []
+fresh-none id size old new same apart =
+    none-of (own id) size new
+    (λ s e. ap (λ (n : ℕ). n == new.0) (own-id id s e ∙ same) ∙ apart)
+
+-- of a body that is gone nothing is left
+gone-early : (change : Change) (id : ℕ) (place : Place) → IsApart change →
+    takes_away change id ≡ true → own_segments 4 id (early_after change place) ≡ []
+gone-early Same id place apart e = absurd (let f : false ≡ true = e in cc)
+gone-early (Put new) id place apart e = absurd (let f : false ≡ true = e in cc)
+gone-early (Replaced old new) id place apart e =
+    let fresh : List Segment = segments_of 4 new.0 place.segment_size new.1 in
+    filter-append (own id) (without old (early_of place)) fresh
+    ∙ ap (λ (ss : List Segment). ss ++ own_segments 4 id fresh)
+    (without-none id old (early_of place) (eqb-true id old e))
+    ∙ fresh-none id place.segment_size old new (eqb-true id old e) apart
+gone-early (Withdrawn old) id place apart e =
+    ap (own_segments 4 id) (append-nil (without old (early_of place)))
+    ∙ without-none id old (early_of place) (eqb-true id old e)
+
+gone-rest : (change : Change) (id size : ℕ) (rest : List Segment) → IsApart change →
+    takes_away change id ≡ true →
+    own_segments 4 id (rest_after change (fresh_segments size change) rest) ≡ []
+gone-rest Same id size rest apart e = absurd (let f : false ≡ true = e in cc)
+gone-rest (Put new) id size rest apart e = absurd (let f : false ≡ true = e in cc)
+gone-rest (Replaced old new) id size rest apart e =
+    own-in_place (own id) old (segments_of 4 new.0 size new.1) rest
+    (λ s f. eq-eqb s.tid old (own-id id s f ∙ eqb-true id old e))
+    (fresh-none id size old new (eqb-true id old e) apart)
+gone-rest (Withdrawn old) id size rest apart e =
+    without-none id old rest (eqb-true id old e)
+
+own-gone : (change : Change) (id : ℕ) (turn : Turn) (place : Place) → 0 < place.segment_size →
+    HasDirectory turn → IsApart change → takes_away change id ≡ true →
+    own_segments 4 id (left_of (followed_by change turn place)) ≡ []
+own-gone change id turn place some has apart e =
+    sym (own-of_bodies id (left_of (followed_by change turn place)))
+    ∙ ap (own_segments 4 id) (followed-bodies change turn place some has)
+    ∙ filter-append (own id) (early_after change place) (renewed change place)
+    ∙ ap (λ (ss : List Segment). ss ++ own_segments 4 id (renewed change place))
+    (gone-early change id place apart e)
+    ∙ gone-rest change id place.segment_size (rest_of place) apart e
+
+-- changes come next
+pub changes-come-next : ChangesComeNext
+unfolding follow
+changes-come-next place turn some has =
+    let change : Change = change_between place.turn.bodies turn.bodies in
+    let size : ℕ = place.segment_size in
+    let directory : List Segment = directory_segments turn size in
+    let stay : List Segment = that_stay change (early_of place) in
+    let fresh : List Segment = fresh_segments size change in
+    record {
+      others = renewed change place;
+      next = followed-to_send change turn place some has
+          ∙ ap (λ (ss : List Segment). ss ++ renewed change place)
+          (sym (append_assoc directory stay fresh));
+      early = followed-early change turn place some has;
+      rest = followed-rest change turn place some has;
+      gone = λ id e. own-gone change id turn place some has
+          (change_between-apart place.turn.bodies turn.bodies) e;
+    }
+
+-- where none of the old body stood, all stays
+kept-place : (fresh : List Segment) (x : Segment) (rest : List Segment) (t z k : Bool) →
+    (x.kind == 4) ≡ k → k ≡ true → (if k && t then x ∷ rest else rest) ≡ [] →
+    (if t then if z then fresh else [] else x ∷ []) ≡ x ∷ []
+kept-place fresh x rest true z true e f h = absurd (let g : x ∷ rest ≡ [] = h in cc)
+kept-place fresh x rest true z false e f h = absurd (let g : false ≡ true = f in cc)
+kept-place fresh x rest false z k e f h = refl
+
+others-none : (x : Segment) (rest : List Segment) (t : Bool) →
+    (if t then x ∷ rest else rest) ≡ [] → rest ≡ []
+others-none x rest true h = absurd (let g : x ∷ rest ≡ [] = h in cc)
+others-none x rest false h = h
+
+kept-in_place : (old : ℕ) (fresh xs : List Segment) → AreBodies xs →
+    own_segments 4 old xs ≡ [] → flat_map (in_its_place old fresh) xs ≡ xs
+kept-in_place old fresh [] k h = refl
+kept-in_place old fresh (x ∷ xs) k h =
+    ap (λ (ss : List Segment). ss ++ flat_map (in_its_place old fresh) xs)
+    (kept-place fresh x (own_segments 4 old xs) (x.tid == old) (x.number == 0) (x.kind == 4) refl
+    (eq-eqb x.kind 4 k.0) h)
+    ∙ ap (λ (ss : List Segment). x ∷ ss)
+    (kept-in_place old fresh xs k.1
+    (others-none x (own_segments 4 old xs) (own old x) h))
+
+-- the later segments of the old body go
+later-go : (old n k : ℕ) (fresh : List Segment) (ps : List (List ℕ)) →
+    flat_map (in_its_place old fresh) (drop k (numbered_segments 4 old (n + 1) ps)) ≡ []
+later-go old n zero fresh [] = refl
+later-go old n (suc k) fresh [] = refl
+later-go old n zero fresh (p ∷ ps) =
+    rw (
+      eq-eqb old old refl,
+      ne_eqb (n + 1) 0 (λ e. absurd (omega (arith, e))),
+    ) (later-go old (n + 1) zero fresh ps)
+later-go old n (suc k) fresh (p ∷ ps) = later-go old (n + 1) k fresh ps
+
+first-goes : (old k size count : ℕ) (bytes : List ℕ) (fresh : List Segment) → 0 < length bytes →
+    length bytes ≤ count * size →
+    flat_map (in_its_place old fresh)
+    (drop k (numbered_segments 4 old 0 (first_pieces count size bytes)))
+    ≡ (if k == 0 then fresh else [])
+first-goes old k size zero bytes fresh some enough = absurd (omega (arith, some, enough))
+first-goes old zero size (suc count) bytes fresh some enough =
+    rw (eq-eqb old old refl)
+    (ap (λ (ss : List Segment). fresh ++ ss)
+    (later-go old 0 zero fresh (first_pieces count size (drop size bytes)))
+    ∙ append-nil fresh)
+first-goes old (suc k) size (suc count) bytes fresh some enough =
+    rw (ne_eqb (suc k) 0 (λ e. absurd (omega (arith, e))))
+    (later-go old 0 k fresh (first_pieces count size (drop size bytes)))
+
+-- Of the body that went the first segment stands for the one that came, and the others go.
+pub place-of_gone : (old k size : ℕ) (bytes : List ℕ) (fresh : List Segment) → 0 < size →
+    0 < length bytes →
+    flat_map (in_its_place old fresh) (drop k (segments_of 4 old size bytes))
+    ≡ (if k == 0 then fresh else [])
+place-of_gone old k size bytes fresh some body =
+    first-goes old k size (div_ceil (length bytes) size) bytes fresh body
+    (div_ceil_times (length bytes) size some).0
+
+-- a replaced body keeps its place
+pub replaced-keeps-its_place : ReplacedKeepsItsPlace
+unfolding follow
+replaced-keeps-its_place place turn old bytes new begun before after some has body is rest none none_later =
+    let size : ℕ = place.segment_size in
+    let fresh : List Segment = segments_of 4 new.0 size new.1 in
+    let old_ones : List Segment = drop begun (segments_of 4 old size bytes) in
+    let f : Segment → List Segment = in_its_place old fresh in
+    let all : AreBodies (before ++ old_ones ++ after) = subst AreBodies rest (bodies-rest_of place) in
+    let front : AreBodies before =
+    bodies-front before old_ones (bodies-front (before ++ old_ones) after all) in
+    let behind : AreBodies after = bodies-behind (before ++ old_ones) after all in
+    ap (λ (c : Change). rest_of (followed_by c turn place)) is
+    ∙ followed-rest (Replaced old new) turn place some has
+    ∙ ap (flat_map f) rest
+    ∙ flat_map-append f (before ++ old_ones) after
+    ∙ ap (λ (ss : List Segment). ss ++ flat_map f after) (flat_map-append f before old_ones)
+    ∙ ap (λ (ss : List Segment). flat_map f before ++ flat_map f old_ones ++ ss)
+    (kept-in_place old fresh after behind none_later)
+    ∙ ap (λ (ss : List Segment). ss ++ flat_map f old_ones ++ after)
+    (kept-in_place old fresh before front none)
+    ∙ ap (λ (ss : List Segment). before ++ ss ++ after)
+    (place-of_gone old begun size bytes fresh some body)
