@@ -15,7 +15,7 @@ use Rattle.mot_air.specs.Syncing as synced
 use Rattle.mot_air.proofs.Opened.{breaks_off, opened_leaves}
 use Rattle.mot_feed.specs.Feeding.{IsFeedFault}
 use Rattle.mot_folder.specs.Log.{LogEntry, ReportTells}
-use Rattle.mot_folder.specs.Looked.{HasLookedAtFolder, listed, unlisted}
+use Rattle.mot_folder.specs.Looked.{HasLookedAtFolder, kept, listed, unlisted}
 use Rattle.mot_folder.specs.declared.report.Report.{Report}
 use Rattle.mot_journal.specs.Image.{Standing}
 use Rattle.mot_numbers.specs.declared.geometry.Geometry.{Geometry}
@@ -107,15 +107,15 @@ module _ {D : Type 0} (state : D → State) (disk : D) (server new : ServerView 
         stands = (run.leaves.going refl).each;
       }
 
-  has_synced : (s : Standing) (types : List SuffixType) (path : List ℕ) (given : Given)
+  has_synced : (s : Standing) (types : List SuffixType) (allows : Bool) (path : List ℕ) (given : Given)
       (report : Report) (fault : Option Refusal) → (state new.disk).IsHonest
       → AllAre s (state disk)
-      → HasLookedAtFolder server new (state server.disk) (state new.disk) s types path given report
+      → HasLookedAtFolder server new (state server.disk) (state new.disk) s types allows path given report
       fault
       → (entries : List LogEntry)
-      × HasSynced (not report.any_refused) fault types path given entries (state disk)
+      × HasSynced (not report.any_refused) fault types allows path given entries (state disk)
       (state new.disk) s × ReportTells report entries
-  has_synced s types path given report fault honest all (unlisted refusal why refused ends run
+  has_synced s types allows path given report fault honest all (unlisted refusal why refused ends run
       entries told are) =
       let was = keeps.was_honest honest in (
         entries,
@@ -124,11 +124,20 @@ module _ {D : Type 0} (state : D → State) (disk : D) (server new : ServerView 
             (sound disk (opens.keeps.was_honest was)) all (opens.still was) run.leaves) are,
         told,
       )
-  has_synced s types path given report fault honest all (listed names shown listing looked seen
-      whole tells) =
+  has_synced s types allows path given report fault honest all (kept listing stays refused ends run
+      entries told are) =
+      let was = keeps.was_honest honest in (
+        entries,
+        synced.kept listing stays (ap not refused) (opened_leaves (state disk) (state server.disk)
+            (state new.disk) server.view new.view s [] [] fault
+            (sound disk (opens.keeps.was_honest was)) all (opens.still was) run.leaves) are,
+        told,
+      )
+  has_synced s types allows path given report fault honest all (listed names shown listing updates
+      looked seen whole tells) =
       let was = keeps.was_honest honest in (
         tells.entries,
-        synced.listed names looked.wanted shown listing (record {
+        synced.listed names looked.wanted shown listing updates (record {
           is_update = looked.is_update;
           commands = looked.runs.commands;
           others = looked.runs.others;
@@ -168,16 +177,16 @@ module _ {D : Type 0} (state : D → State) (disk : D) (server new : ServerView 
   IsFine (Ok x) = Unit {0}
   IsFine (Err e) = ⊥
 
-  module _ (types : List SuffixType) (path : List ℕ) (given : Given)
+  module _ (types : List SuffixType) (allows : Bool) (path : List ℕ) (given : Given)
       (before after : Option (List ℕ)) where
     synced-cases : (s : Standing) (all : Bool) → (state new.disk).IsHonest → AllAre s (state disk)
-        → LooksAndTells server new (state server.disk) (state new.disk) s types path given before after (Ok all)
-        → SyncsAndTells all types path given before after (state disk) (state new.disk) s
+        → LooksAndTells server new (state server.disk) (state new.disk) s types allows path given before after (Ok all)
+        → SyncsAndTells all types allows path given before after (state disk) (state new.disk) s
     synced-cases s all honest each (looks.told report is whole written look) =
-        let done = has_synced s types path given report None honest each look in
+        let done = has_synced s types allows path given report None honest each look in
         record {
           entries = done.0;
-          synced = subst (λ b. HasSynced b None types path given done.0 (state disk) (state new.disk) s)
+          synced = subst (λ b. HasSynced b None types allows path given done.0 (state disk) (state new.disk) s)
               (sym (same_ok all (not report.any_refused) is)) done.1;
           written = subst (Appends before after) (done.2 whole) written;
         }
@@ -190,8 +199,8 @@ module _ {D : Type 0} (state : D → State) (disk : D) (server new : ServerView 
     pub syncs : (result : Result Bool Refusal)
         → OnOk result (StaysCalm server new (state server.disk) (state new.disk))
         → ((s : Standing) → Holds server.view s (state server.disk) → (state new.disk).IsHonest
-        → LooksAndTells server new (state server.disk) (state new.disk) s types path given before after result)
-        → IfOk result (λ all. Syncs all types path given before after (state disk) (state new.disk))
+        → LooksAndTells server new (state server.disk) (state new.disk) s types allows path given before after result)
+        → IfOk result (λ all. Syncs all types allows path given before after (state disk) (state new.disk))
     syncs (Err refusal) stays looked = tt
     syncs (Ok all) stays looked = record {
       keeps = keeps_from;
@@ -202,24 +211,24 @@ module _ {D : Type 0} (state : D → State) (disk : D) (server new : ServerView 
 
     broken-cases : (s : Standing) (r : Refusal) → (state new.disk).IsHonest
         → AllAre s (state disk)
-        → LooksAndTells server new (state server.disk) (state new.disk) s types path given before after (Err r)
-        → IsBrokenOff r types path given (state disk) (state new.disk) s
+        → LooksAndTells server new (state server.disk) (state new.disk) s types allows path given before after (Err r)
+        → IsBrokenOff r types allows path given (state disk) (state new.disk) s
     broken-cases s r honest each (looks.told report is whole written look) =
         absurd (subst IsFine (sym is) tt)
     broken-cases s r honest each (looks.broken report refusal is look) =
-        let done = has_synced s types path given report (Some refusal) honest each look in
+        let done = has_synced s types allows path given report (Some refusal) honest each look in
         broken (not report.any_refused) done.0 (subst (λ e. HasSynced (not report.any_refused)
-        (Some e) types path given done.0 (state disk) (state new.disk) s) (sym (same_err r refusal is)) done.1)
+        (Some e) types allows path given done.0 (state disk) (state new.disk) s) (sym (same_err r refusal is)) done.1)
     broken-cases s r honest each (looks.untold report is look) =
-        let done = has_synced s types path given report None honest each look in
+        let done = has_synced s types allows path given report None honest each look in
         untold (not report.any_refused) done.0 (same_err r WriteFault is) done.1
 
     -- a look that broke off, or could not be told, stops the sync, from the disk's opening on
     pub stops : (result : Result Bool Refusal)
         → IfErr result (λ r. IsFeedFault server (state server.disk) (state new.disk) r)
         → ((s : Standing) → Holds server.view s (state server.disk) → (state new.disk).IsHonest
-        → LooksAndTells server new (state server.disk) (state new.disk) s types path given before after result)
-        → IfErr result (λ r. StopsSyncing r types path given (state disk) (state new.disk))
+        → LooksAndTells server new (state server.disk) (state new.disk) s types allows path given before after result)
+        → IfErr result (λ r. StopsSyncing r types allows path given (state disk) (state new.disk))
     stops (Ok all) why looked = tt
     stops (Err r) why looked = stopped keeps_from
         (breaks_off server (state disk) (state server.disk) (state new.disk) r going calm why)

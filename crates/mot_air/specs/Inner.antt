@@ -1,2 +1,1 @@
-pub mod Directory
 pub mod Looked

@@ -1,3 +1,4 @@
+pub mod Directory
 pub mod Inner
 pub mod Lives
 pub mod Opening

@@ -4,7 +4,7 @@ use Rattle.clap.specs.Words.{Text}
 use Rattle.disk_model.specs.Disk.{State}
 use Rattle.disk_store.specs.Beginning.{SinceOpened}
 use Rattle.disk_store.specs.declared.file.start.Start.{Ghosts}
-use Rattle.mot_air.specs.Inner.Directory.{directory_of, look_of}
+use Rattle.mot_air.specs.Directory.{directory_of, look_of}
 use Rattle.mot_air.specs.Playing.{Manner, Plays, StopsPlaying, manner, when_followed}
 use Rattle.mot_air.specs.Syncing.{StopsSyncing, Syncs}
 use Rattle.mot_files.specs.declared.packets.Target.{Target}
@@ -27,6 +27,7 @@ use Rattle.mot_words.specs.Air.Task.{IsAirTask}
 use Rattle.mot_words.specs.Asked.{AreWrong, AskFor}
 use Rattle.mot_words.specs.declared.air.task.AirTask.{AirTask}
 use Rattle.mot_words.specs.declared.air.task.AirTask.TheVariants.{Play, Sync, Export, Inspect}
+use Rattle.mot_words.specs.declared.air.task.LookRules.{LookRules}
 
 -- how many turns are played, where so many are asked for; and else sixteen into a file, behind
 -- which its packets can begin anew, and as good as without end into all else
@@ -83,19 +84,19 @@ module _ {S : Type 0} {start : Ghosts S} where
       (target : Target) × IsTarget path target
       × OnPlayed (λ taken. FailsPlaying target when turns directory look r (path ∷ []) taken) used
 
-  -- the disk's carousel was made equal to the folder of this path, by the table of suffixes that
-  -- is asked for; or was not
-  abbrev pub SyncsTo : {A : Type 0} → (types : Option A) → Text → Bool
+  -- the disk's carousel was made equal to the folder of this path, by the table of suffixes and the
+  -- rules that are asked for; or was not
+  abbrev pub SyncsTo : {A : Type 0} → (types : Option A) → LookRules → Text → (all : Bool)
       → (old new : Option (List ℕ)) → UsedDisk S start → Type 0
-  SyncsTo types path all old new used =
+  SyncsTo types rules path all old new used =
       (table : List SuffixType) × IsTyped types table
-      × OnSynced (λ given. Syncs all table path given old new) used
+      × OnSynced (λ given. Syncs all table rules.allow_empty path given old new) used
 
-  abbrev pub StopsSyncingTo : {A : Type 0} → (types : Option A) → Text → Refusal
+  abbrev pub StopsSyncingTo : {A : Type 0} → (types : Option A) → LookRules → Text → Refusal
       → UsedDisk S start → Type 0
-  StopsSyncingTo types path r used =
+  StopsSyncingTo types rules path r used =
       (table : List SuffixType) × IsTyped types table
-      × OnSynced (StopsSyncing r table path) used
+      × OnSynced (StopsSyncing r table rules.allow_empty path) used
 
   -- In these the writer's known bytes were old and are new. Standard input is not read. Of what a
   -- pipe, a device or a file takes no contract tells.
@@ -105,8 +106,8 @@ module _ {S : Type 0} {start : Ghosts S} where
   abbrev pub Does : AirTask → UsedDisk S start → (unread left old new : Option (List ℕ)) → Type 0
   Does (Play p) used unread left old new =
       PlaysTo p.packets.now (when_changed p.lines p.folder) p.turns p.directory p.look used
-  Does (Sync disk folder types) used unread left old new =
-      SyncsTo types folder.now true old new used
+  Does (Sync disk folder types rules) used unread left old new =
+      SyncsTo types rules folder.now true old new used
   Does (Export disk) used unread left old new = OnOpened (Exports old new) used
   Does (Inspect disk rate) used unread left old new = OnOpened (Inspects rate old new) used
 
@@ -118,10 +119,10 @@ module _ {S : Type 0} {start : Ghosts S} where
       PlaysTo p.packets.now (when_changed p.lines p.folder) p.turns p.directory p.look used
   DoesInPart (Play p) (Some r) used unread left old new =
       StopsPlayingTo p.packets.now (when_changed p.lines p.folder) p.turns p.directory p.look r used
-  DoesInPart (Sync disk folder types) None used unread left old new =
-      SyncsTo types folder.now false old new used
-  DoesInPart (Sync disk folder types) (Some r) used unread left old new =
-      StopsSyncingTo types folder.now r used
+  DoesInPart (Sync disk folder types rules) None used unread left old new =
+      SyncsTo types rules folder.now false old new used
+  DoesInPart (Sync disk folder types rules) (Some r) used unread left old new =
+      StopsSyncingTo types rules folder.now r used
   DoesInPart (Export disk) None used unread left old new = ⊥
   DoesInPart (Export disk) (Some r) used unread left old new =
       OnOpened (StopsExporting r old new) used
@@ -134,7 +135,7 @@ module _ {S : Type 0} {start : Ghosts S} where
 abbrev pub IsBeginningRefusal : AirTask → Refusal → Type 0
 IsBeginningRefusal (Play p) r =
     IsUntyped p.types r ⊎ IsUnlined p.lines r ⊎ (r ≡ DeviceFault) ⊎ (r ≡ WriteFault)
-IsBeginningRefusal (Sync disk folder types) r = IsUntyped types r ⊎ (r ≡ DeviceFault)
+IsBeginningRefusal (Sync disk folder types rules) r = IsUntyped types r ⊎ (r ≡ DeviceFault)
 IsBeginningRefusal (Export disk) r = r ≡ DeviceFault
 IsBeginningRefusal (Inspect disk rate) r = r ≡ DeviceFault
 

@@ -16,5 +16,6 @@ pub(crate) fn answered<D: Disk>(ended: Ended<D, ()>, answer: bool) -> Ended<D, b
             Ok(()) => Ok(answer),
             Err(refusal) => Err(refusal),
         },
+        reason: ended.reason,
     }
 }

@@ -8,6 +8,7 @@ mod missing;
 mod on_air;
 mod playing;
 mod program;
+mod reported;
 mod watched;
 
 pub use lives::{keep_done, open_done};
@@ -17,3 +18,4 @@ pub use mot_reading::Ended;
 pub use mot_words::{AirTask as Task, PlayTask};
 pub use playing::{Aired, Followed, play_and_answer, play_disk, play_with, sync_disk};
 pub use program::{is_air, run_air_on};
+pub use reported::Telling;

@@ -9,7 +9,11 @@ use std::io::Write;
 pub(crate) fn missing_option(words: &ArgMatches<'_>) -> Option<&'static str> {
     if is_alone(words, "every", "lines") {
         Some("--lines <DIR>")
-    } else if is_alone(words, "types", "folder") || is_alone(words, "look", "folder") {
+    } else if is_alone(words, "types", "folder")
+        || is_alone(words, "look", "folder")
+        || is_flag_alone(words, "allow-empty", "folder")
+        || is_flag_alone(words, "at-once", "folder")
+    {
         Some("--folder <DIR>")
     } else {
         None
@@ -19,6 +23,11 @@ pub(crate) fn missing_option(words: &ArgMatches<'_>) -> Option<&'static str> {
 /// Whether an option was given, and another one was not.
 fn is_alone(words: &ArgMatches<'_>, name: &str, other: &str) -> bool {
     words.get_str(name).is_some() && words.get_str(other).is_none()
+}
+
+/// Whether a flag was given, and an option was not.
+fn is_flag_alone(words: &ArgMatches<'_>, name: &str, other: &str) -> bool {
+    words.get_str(name) == Some("true") && words.get_str(other).is_none()
 }
 
 /// Prints that an option is missing, as the parser prints it of a word.

@@ -1,7 +1,7 @@
 //! Playing the disk of a file into what a path names.
 ghost use Rattle.std.specs.Prelude.{◌≡◌, ◌≢◌, ◌⊎◌, [], ◌∷◌, Some, Ok, true, false, IfErr, OnOk};
 ghost use Rattle.disk_model.specs.Disk.{KeepsLength};
-ghost use Rattle.mot_air.specs.Inner.Directory.{directory_of, look_of};
+ghost use Rattle.mot_air.specs.Directory.{directory_of, look_of};
 ghost use Rattle.mot_air.specs.Playing.{Plays, StopsPlaying};
 ghost use Rattle.mot_air.specs.Program.{FailsPlaying, PlaysTo, StopsPlayingTo, turns_of};
 ghost use Rattle.mot_air.specs.Program.{played_as, when_changed};
@@ -12,6 +12,7 @@ ghost use Rattle.mot_outcome.specs.Outcome.{IsUntold};
 use crate::Ended;
 use crate::answered::answered;
 use crate::playing::{Aired, Followed, play_and_answer, play_disk};
+use crate::reported::Telling;
 use disk_model::Disk;
 use disk_store::{Start, open_file};
 use mot_files::{
@@ -32,10 +33,6 @@ const FILE_TURNS: u64 = 16;
 /// After how many packets the directory is sent again if playing has no end. So many of 96 bytes
 /// take 8.2 seconds at 32 kbit/s: with the group under way and itself it is there within ten.
 const DIRECTORY_PACKETS: u32 = 340;
-
-/// After how many packets of a turn the folder is looked at if playing has no end. So many of 96
-/// bytes take 17 seconds at 32 kbit/s.
-const LOOK_PACKETS: u32 = 700;
 
 /// How a disk is played: what the words ask for, and what may change the carousel.
 #[derive(Drop)]
@@ -199,6 +196,7 @@ fn play_writer<D: Disk, F: Shelf + Drop, P: Write + Drop, L: Write>(
     let directory = directory_of(target, task.turns, task.directory);
     let look = look_of(target, task.turns, task.look);
     let turns = turns_of(target, task.turns);
+    let telling = Telling::of(rt, &task);
     let Aired { ended, any_refused } = match lines {
         Some(lines) => play_and_answer(
             rt,
@@ -207,12 +205,23 @@ fn play_writer<D: Disk, F: Shelf + Drop, P: Write + Drop, L: Write>(
             &mut outlet,
             folder,
             lines,
+            telling,
             log,
             turns,
             directory,
             look,
         ),
-        None => play_disk(alloc, disk, &mut outlet, folder, log, turns, directory, look),
+        None => play_disk(
+            alloc,
+            disk,
+            &mut outlet,
+            folder,
+            telling,
+            log,
+            turns,
+            directory,
+            look,
+        ),
     };
     let cause = match outlet.fault {
         Some(fault) => Some(Cause::Packets(fault)),
@@ -249,7 +258,11 @@ fn play_new_file<D: Disk, F: Shelf + Drop, L: Write>(
         (D.state result.ended.disk)) }
 {
     let played = play_writer(rt, alloc, disk, new.writer(), Target::File, airing, log);
-    let Ended { disk, result } = played.ended;
+    let Ended {
+        disk,
+        result,
+        reason,
+    } = played.ended;
     let (result, cause) = match result {
         Ok(()) => take_place(rt, &new),
         Err(refusal) => {
@@ -259,7 +272,11 @@ fn play_new_file<D: Disk, F: Shelf + Drop, L: Write>(
         }
     };
     Played {
-        ended: Ended { disk, result },
+        ended: Ended {
+            disk,
+            result,
+            reason,
+        },
         is_fine: played.is_fine,
         taken: played.taken,
         cause,
@@ -312,13 +329,14 @@ fn directory_of(target: Target, turns: Option<u32>, directory: Option<u32>) -> u
 }
 
 /// After how many packets of a turn a look may come, 0 for between turns alone; if no number is
-/// given, 700 without end, and else 0.
+/// given, it may after each without end, and else between turns.
 fn look_of(target: Target, turns: Option<u32>, look: Option<u32>) -> u32
     ensures { result ≡ look_of target turns look }
 {
     match (look, turns, target) {
-        (Some(packets), _, _) => packets,
-        (None, None, Target::Output) | (None, None, Target::Stream) => LOOK_PACKETS,
+        (Some(0), _, _) => 0,
+        (Some(_), _, _) => 1,
+        (None, None, Target::Output) | (None, None, Target::Stream) => 1,
         (None, _, _) => 0,
     }
 }

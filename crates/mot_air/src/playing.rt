@@ -18,14 +18,16 @@ ghost use Rattle.mot_update.specs.Between.{Always};
 ghost use Rattle.mot_update.specs.Faults.{StaysCalm};
 
 use crate::Ended;
+use crate::reported::{Reported, Reporter, Telling};
 use crate::watched::WatchedLooks;
 use disk_model::Disk;
 use mot_control::Lines;
 use mot_feed::feed_every;
-use mot_files::{LineFolder, SharedLog, Spool};
+use mot_files::{Asked, LineFolder, LineLog, Replies, SharedLog, Spool};
 use mot_folder::{FileTypes, Folder, Looks, look_at_folder};
 use mot_numbers::Refusal;
 use mot_packets::Outlet;
+use mot_reason::open_server;
 use mot_server::Server;
 use mot_shelf::Shelf;
 use mot_update::{NoUpdate, Update};
@@ -42,6 +44,10 @@ pub struct Followed<'a, S: Shelf + Drop> {
     pub shelf: S,
     /// The suffixes.
     pub types: &'a FileTypes,
+    /// Whether all objects go where none of its files is one.
+    pub allows_empty: bool,
+    /// How many packets come between two looks, if looks come within turns.
+    pub every: u32,
 }
 
 /// What playing came to.
@@ -56,12 +62,14 @@ pub struct Aired<D: Disk> {
 /// Opens the disk and plays it into the outlet, so many turns, with looks at the folder if there is
 /// one. The directory is sent again after so many packets, and a look may come after so many, as
 /// `feed_every` does.
-/// The lines of the looks are written to the log.
+/// The lines of the looks, of the start and of the end are written to the log, and the status to its
+/// file.
 pub fn play_disk<S: Shelf + Drop, D: Disk, O: Outlet, L: Write + Drop>(
     alloc: Global,
     disk: D,
     outlet: &mut O,
     folder: Option<Followed<'_, S>>,
+    telling: Telling<'_>,
     log: L,
     turns: u64,
     directory: u32,
@@ -75,20 +83,46 @@ pub fn play_disk<S: Shelf + Drop, D: Disk, O: Outlet, L: Write + Drop>(
         (manner (when_followed folder.entry) directory look)
         (O.writes outlet.old) (O.writes outlet.new) (D.state disk) (D.state result.ended.disk)) }
 {
+    let log = RefCell::new(LineLog::new(alloc, log, telling.levels));
     match folder {
-        Some(Followed { shelf, types }) => {
-            let looks = looks_of(Looks::new(alloc, shelf, types, log), directory, look);
-            let mut looks = WatchedLooks::new(looks);
+        Some(
+            Followed {
+                shelf,
+                types,
+                allows_empty,
+                every,
+            },
+        ) => {
+            let folder = Folder::new(alloc, shelf, types, allows_empty);
+            let within = directory > 0 && look > 0;
+            let looks = Looks::new(alloc, folder, SharedLog::new(&log));
+            let mut looks = Reported {
+                update: WatchedLooks::new(looks_of(looks, within, every)),
+                reporter: Reporter::new(alloc, &log, telling),
+            };
             let ended = play_with(alloc, disk, &mut looks, outlet, turns, directory, look);
+            if ended.result.is_ok() {
+                looks.reporter.tell_end(turns);
+            }
             Aired {
                 ended,
-                any_refused: looks.any_refused,
+                any_refused: looks.update.any_refused,
             }
         }
-        None => Aired {
-            ended: play_with(alloc, disk, &mut NoUpdate, outlet, turns, directory, look),
-            any_refused: false,
-        },
+        None => {
+            let mut none = Reported {
+                update: NoUpdate,
+                reporter: Reporter::new(alloc, &log, telling),
+            };
+            let ended = play_with(alloc, disk, &mut none, outlet, turns, directory, look);
+            if ended.result.is_ok() {
+                none.reporter.tell_end(turns);
+            }
+            Aired {
+                ended,
+                any_refused: false,
+            }
+        }
     }
 }
 
@@ -102,6 +136,7 @@ pub fn play_and_answer<T: Files<File = File>, S: Shelf + Drop, D: Disk, O: Outle
     outlet: &mut O,
     folder: Option<Followed<'_, S>>,
     lines: LineFolder<'_>,
+    telling: Telling<'_>,
     log: L,
     turns: u64,
     directory: u32,
@@ -113,37 +148,62 @@ pub fn play_and_answer<T: Files<File = File>, S: Shelf + Drop, D: Disk, O: Outle
     ensures refused { IfErr result.ended.result (λ r. StopsPlaying r (manner Always directory look)
         (O.writes outlet.old) (O.writes outlet.new) (D.state disk) (D.state result.ended.disk)) }
 {
-    let log = RefCell::new(log);
+    let log = RefCell::new(LineLog::new(alloc, log, telling.levels));
+    let asked = RefCell::new(Asked::new(alloc));
     match folder {
-        Some(Followed { shelf, types }) => {
-            let looks = Looks::new(alloc, shelf, types, SharedLog::new(&log));
-            let looks = looks_of(looks, directory, look);
-            let mut lines = lines_between(rt, alloc, lines, &log, WatchedLooks::new(looks));
+        Some(
+            Followed {
+                shelf,
+                types,
+                allows_empty,
+                every,
+            },
+        ) => {
+            let folder = Folder::new(alloc, shelf, types, allows_empty);
+            let within = directory > 0 && look > 0;
+            let looks = Looks::new(alloc, folder, SharedLog::new(&log));
+            let looks = Reported {
+                update: WatchedLooks::new(looks_of(looks, within, every)),
+                reporter: Reporter::new(alloc, &log, telling),
+            };
+            let mut lines = lines_between(rt, alloc, lines, &log, &asked, looks);
             let ended = play_with(alloc, disk, &mut lines, outlet, turns, directory, look);
+            if ended.result.is_ok() {
+                lines.update.reporter.tell_end(turns);
+            }
             Aired {
                 ended,
-                any_refused: lines.update.any_refused,
+                any_refused: lines.update.update.any_refused,
             }
         }
         None => {
-            let mut lines = lines_between(rt, alloc, lines, &log, NoUpdate);
+            let none = Reported {
+                update: NoUpdate,
+                reporter: Reporter::new(alloc, &log, telling),
+            };
+            let mut lines = lines_between(rt, alloc, lines, &log, &asked, none);
+            let ended = play_with(alloc, disk, &mut lines, outlet, turns, directory, look);
+            if ended.result.is_ok() {
+                lines.update.reporter.tell_end(turns);
+            }
             Aired {
-                ended: play_with(alloc, disk, &mut lines, outlet, turns, directory, look),
+                ended,
                 any_refused: false,
             }
         }
     }
 }
 
-/// These looks; with so many packets between two, if a look may come after so many within a turn.
+/// These looks; with so many packets between two, if they come within turns.
 fn looks_of<'a, S: Shelf + Drop, W: Write + Drop>(
     looks: Looks<'a, S, W>,
-    directory: u32,
-    look: u32,
+    within: bool,
+    every: u32,
 ) -> Looks<'a, S, W> {
     let mut looks = looks;
-    if directory > 0 && look > 0 {
-        looks.every = u64::from(look);
+    if within {
+        looks.every = u64::from(every);
+        looks.within = true;
     }
     looks
 }
@@ -155,11 +215,13 @@ fn lines_between<'a, T: Files<File = File>, L: Write + Drop, U: Update + Drop>(
     alloc: Global,
     lines: LineFolder<'a>,
     log: &'a RefCell<L>,
+    asked: &'a RefCell<Asked>,
     update: U,
-) -> Lines<Spool<'a, T, SharedLog<'a, L>>, SharedLog<'a, L>, U> {
+) -> Lines<Spool<'a, T, SharedLog<'a, L>>, Replies<'a, L>, U> {
     let LineFolder { path, hand, every } = lines;
-    let spool = Spool::new(rt, alloc, path, SharedLog::new(log));
-    Lines::new(spool, hand, SharedLog::new(log), every, update)
+    let spool = Spool::new(rt, alloc, path, SharedLog::new(log), asked);
+    let replies = Replies::new(SharedLog::new(log), asked);
+    Lines::new(spool, hand, replies, every, update)
 }
 
 /// Opens the disk and plays it into the outlet, so many turns, with these updates before the first
@@ -201,7 +263,7 @@ pub fn play_with<D: Disk, U: Update, O: Outlet>(
         (manner U.when directory look)
         (O.writes outlet.old) (O.writes outlet.new) (D.state disk) (D.state result.disk)) }
 {
-    let mut server = match Server::open(alloc, disk) {
+    let mut server = match open_server(alloc, disk) {
         Ok(server) => server,
         Err(refused) => return Ended::unopened(refused),
     };
@@ -211,6 +273,7 @@ pub fn play_with<D: Disk, U: Update, O: Outlet>(
     Ended {
         disk: server.into_disk(),
         result,
+        reason: None,
     }
 }
 
@@ -224,13 +287,13 @@ pub fn sync_disk<S: Shelf + Drop, D: Disk, L: Write>(
 ) -> Ended<D, bool>
     ensures keeps { KeepsLength (D.state disk) (D.state result.disk) }
     ensures done { IfOk result.result (λ all. Syncs all folder.old.types.now
-        (S.path folder.old.shelf) (S.gave folder.new.shelf)
+        folder.old.allows_empty (S.path folder.old.shelf) (S.gave folder.new.shelf)
         (L.contents log.old) (L.contents log.new) (D.state disk) (D.state result.disk)) }
     ensures refused { IfErr result.result (λ r. StopsSyncing r folder.old.types.now
-        (S.path folder.old.shelf) (S.gave folder.new.shelf)
+        folder.old.allows_empty (S.path folder.old.shelf) (S.gave folder.new.shelf)
         (D.state disk) (D.state result.disk)) }
 {
-    let mut server = match Server::open(alloc, disk) {
+    let mut server = match open_server(alloc, disk) {
         Ok(server) => server,
         Err(refused) => return Ended::unopened(refused),
     };
@@ -240,6 +303,7 @@ pub fn sync_disk<S: Shelf + Drop, D: Disk, L: Write>(
     Ended {
         disk: server.into_disk(),
         result,
+        reason: None,
     }
 }
 
@@ -259,8 +323,8 @@ fn look_and_tell<S: Shelf + Drop, D: Disk, L: Write>(
     ensures looked { (s : Standing) → Holds server.old.view s (D.state server.old.disk)
         → (D.state server.new.disk).IsHonest
         → LooksAndTells server.old server.new (D.state server.old.disk)
-        (D.state server.new.disk) s folder.old.types.now (S.path folder.old.shelf)
-        (S.gave folder.new.shelf) (L.contents log.old) (L.contents log.new) result }
+        (D.state server.new.disk) s folder.old.types.now folder.old.allows_empty
+        (S.path folder.old.shelf) (S.gave folder.new.shelf) (L.contents log.old) (L.contents log.new) result }
 {
     let looked = look_at_folder(alloc, server, folder);
     let told = write_lines(log, folder.report.lines.as_slice());

@@ -32,7 +32,7 @@ use mot_numbers::Refusal;
 use mot_outcome::{Beside, Exit, Finished, UsedDisk, explain, refuse, subject_of};
 use mot_reading::{export_disk, inspect_disk};
 use mot_shelf::SystemShelf;
-use mot_words::{AirTask, PlayTask, air_task, motcar_matches};
+use mot_words::{AirTask, LookRules, PlayTask, air_task, motcar_matches};
 use std::alloc::Global;
 use std::convert::AsStr;
 use std::io::Write;
@@ -114,6 +114,7 @@ fn run_command<B: Start, W: Write, E: Write>(
         result,
         disk,
         cause,
+        reason,
     } = execute(rt, alloc, task, start, writer, errors);
     match result {
         Ok(true) => Exit::unrefused(0, disk),
@@ -121,7 +122,12 @@ fn run_command<B: Start, W: Write, E: Write>(
             tell_folder(rt, errors, words);
             Exit::unrefused(1, disk)
         }
-        Err(refusal) => refuse(errors, refusal, subject_of(refusal, words, cause), disk),
+        Err(refusal) => refuse(
+            errors,
+            refusal,
+            subject_of(refusal, words, cause, reason),
+            disk,
+        ),
     }
 }
 
@@ -139,7 +145,12 @@ fn tell_no_task<B: Start, E: Write>(errors: &mut E, words: &ArgMatches<'_>, star
         }
         None => {
             let refusal = Refusal::BadNumber;
-            refuse(errors, refusal, subject_of(refusal, words, None), disk)
+            refuse(
+                errors,
+                refusal,
+                subject_of(refusal, words, None, None),
+                disk,
+            )
         }
     }
 }
@@ -168,7 +179,8 @@ fn execute<B: Start, W: Write, E: Write>(
             disk,
             folder,
             types,
-        } => sync(rt, alloc, disk, folder, types, start, writer),
+            rules,
+        } => sync(rt, alloc, disk, folder, types, rules, start, writer),
         AirTask::Export(disk) => export_file(rt, alloc, disk, start, writer),
         AirTask::Inspect { disk, rate } => inspect_file(rt, alloc, disk, rate, start, writer),
     }
@@ -212,7 +224,7 @@ fn play<B: Start, W: Write, E: Write>(
         Ok(lines) => lines,
         Err(unbegun) => return Finished::unbegun(unbegun.refusal, unbegun.cause, start),
     };
-    let folder = followed(rt, task.folder, &types);
+    let folder = followed(rt, task.folder, &types, task.rules, task.look);
     let airing = Airing {
         task,
         folder,
@@ -221,11 +233,17 @@ fn play<B: Start, W: Write, E: Write>(
     play_file(rt, alloc, airing, start, writer, errors)
 }
 
+/// How many packets come between two looks, if no other number is asked for and looks come within
+/// turns. So many of 96 bytes take 17 seconds at 32 kbit/s.
+const LOOK_PACKETS: u32 = 700;
+
 /// The folder, if one is given, with what is known of suffixes.
 fn followed<'a>(
     rt: &'a HostRuntime,
     folder: Option<&'a str>,
     types: &'a FileTypes,
+    rules: LookRules,
+    look: Option<u32>,
 ) -> Option<Followed<'a, SystemShelf<'a, HostRuntime>>>
     ensures given { is_none folder.entry ≡ is_none result }
     ensures path { IfSome result (λ followed. IfSome folder.entry
@@ -233,8 +251,10 @@ fn followed<'a>(
 {
     match folder {
         Some(path) => Some(Followed {
-            shelf: SystemShelf::new(rt, path),
+            shelf: SystemShelf::new(rt, path, rules.at_once),
             types,
+            allows_empty: rules.allow_empty,
+            every: look.unwrap_or(LOOK_PACKETS),
         }),
         None => None,
     }
@@ -248,17 +268,18 @@ fn sync<B: Start, W: Write>(
     path: &str,
     folder: &str,
     types: Option<&str>,
+    rules: LookRules,
     start: B,
     log: &mut W,
 ) -> Finished<B, bool>
-    ensures done { IfOk result.result (λ all. SyncsTo types.entry folder.now all
+    ensures done { IfOk result.result (λ all. SyncsTo types.entry rules folder.now all
         (W.contents log.old) (W.contents log.new) result.disk) }
     ensures refused { IfErr result.result (λ r. ((IsUntyped types.entry r ⊎ (r ≡ DeviceFault))
         × IsUntold result.disk (W.contents log.old) (W.contents log.new))
-        ⊎ StopsSyncingTo types.entry folder.now r result.disk) }
+        ⊎ StopsSyncingTo types.entry rules folder.now r result.disk) }
 {
     match file_types(rt, alloc, types) {
-        Ok(types) => sync_file(rt, alloc, path, folder, &types, start, log),
+        Ok(types) => sync_file(rt, alloc, path, folder, &types, rules, start, log),
         Err(unbegun) => Finished::unbegun(unbegun.refusal, unbegun.cause, start),
     }
 }
@@ -270,18 +291,20 @@ fn sync_file<B: Start, W: Write>(
     path: &str,
     folder: &str,
     types: &FileTypes,
+    rules: LookRules,
     start: B,
     log: &mut W,
 ) -> Finished<B, bool>
-    ensures done { IfOk result.result (λ all. OnSynced (λ given. Syncs all types.now folder.now
-        given (W.contents log.old) (W.contents log.new)) result.disk) }
+    ensures done { IfOk result.result (λ all. OnSynced (λ given. Syncs all types.now
+        rules.allow_empty folder.now given (W.contents log.old) (W.contents log.new)) result.disk) }
     ensures refused { IfErr result.result (λ r. ((r ≡ DeviceFault)
         × IsUntold result.disk (W.contents log.old) (W.contents log.new))
-        ⊎ OnSynced (StopsSyncing r types.now folder.now) result.disk) }
+        ⊎ OnSynced (StopsSyncing r types.now rules.allow_empty folder.now) result.disk) }
 {
     match open_file(rt, path, start) {
         Ok(disk) => {
-            let mut folder = Folder::new(alloc, SystemShelf::new(rt, folder), types);
+            let shelf = SystemShelf::new(rt, folder, rules.at_once);
+            let mut folder = Folder::new(alloc, shelf, types, rules.allow_empty);
             let ended = sync_disk(alloc, disk, &mut folder, log);
             let seen = folder.shelf.into_seen();
             Finished::of_file(ended, Beside::folder(seen), None)

@@ -13,7 +13,7 @@ use mot_folder::Looks;
 use mot_numbers::Refusal;
 use mot_server::Server;
 use mot_shelf::Shelf;
-use mot_update::Update;
+use mot_update::{NoUpdate, Update};
 use std::alloc::Global;
 use std::io::Write;
 
@@ -23,6 +23,37 @@ pub(crate) struct WatchedLooks<'a, S: Shelf + Drop, W: Write + Drop> {
     looks: Looks<'a, S, W>,
     /// Whether a file was refused in any look, or the folder not listed.
     pub(crate) any_refused: bool,
+    /// How many looks there were.
+    count: u64,
+}
+
+/// What is known of the looks of updates.
+pub(crate) trait Facts {
+    /// How many looks there were.
+    fn looks(&self) -> u64;
+
+    /// The lines of the last look.
+    fn lines(&self) -> &[u8];
+}
+
+impl Facts for NoUpdate {
+    fn looks(&self) -> u64 {
+        0
+    }
+
+    fn lines(&self) -> &[u8] {
+        &[]
+    }
+}
+
+impl<'a, S: Shelf + Drop, W: Write + Drop> Facts for WatchedLooks<'a, S, W> {
+    fn looks(&self) -> u64 {
+        self.count
+    }
+
+    fn lines(&self) -> &[u8] {
+        self.looks.folder.report.lines.as_slice()
+    }
 }
 
 impl<'a, S: Shelf + Drop, W: Write + Drop> WatchedLooks<'a, S, W> {
@@ -31,6 +62,7 @@ impl<'a, S: Shelf + Drop, W: Write + Drop> WatchedLooks<'a, S, W> {
         WatchedLooks {
             looks,
             any_refused: false,
+            count: 0,
         }
     }
 }
@@ -53,7 +85,11 @@ impl<'a, S: Shelf + Drop, W: Write + Drop> Update for WatchedLooks<'a, S, W> {
             (D.state server.new.disk) s (may_change AtLooks may_look) (fault_of result) }
         ensures called { Grows None None (may_look ∷ []) }
     {
+        let is_due = may_look && self.looks.left <= 1;
         let result = self.looks.update(server, alloc, may_look);
+        if is_due {
+            self.count = self.count.saturating_add(1);
+        }
         self.any_refused = self.any_refused || self.looks.folder.report.any_refused;
         result
     }

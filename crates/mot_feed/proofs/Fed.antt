@@ -773,7 +773,8 @@ module _ {D : Type 0} where
           → IsUpdating mid up between then_state so_far.fed.leaves.last
           (may_change when may) (Some refusal) → Grows since later (may ∷ [])
           → refusal ≢ WriteFault
-          → FeedsPartOften every look refusal old up start then_state s when before after earlier later
+          → FeedsPartOften every look refusal old up start then_state s when before after earlier
+          later
       unfolding update_fault
       update_fault_often every until often none update call other = record {
         feeds = update_fault none update call other;

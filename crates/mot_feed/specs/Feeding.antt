@@ -69,8 +69,8 @@ abbrev pub may_look : (look : ℕ) → (ended : Bool) → (left : ℕ) → Bool
 may_look look ended left = (nat_lt 0 look && nat_eq left 0) || ended
 
 -- How many packets of the rest go out before a look may come within a turn, behind this one: from
--- where one may come they are counted anew, and a packet is one of the rest if no changed body waits
--- behind it.
+-- where one may come they are counted anew, and a packet is one of the rest if no changed body
+-- waits behind it.
 abbrev pub left_behind : (look : ℕ) → (ended : Bool) → (left : ℕ) → Sent → ℕ
 left_behind look ended left sent =
     (if may_look look ended left then look else left) - (if sent.place.early == 0 then 1 else 0)
@@ -102,7 +102,8 @@ moments_of look ended left [] = []
 moments_of look ended left (Accepted command ∷ events) = moments_of look ended left events
 moments_of look ended left (Asked ∷ events) = moments_of look ended left events
 moments_of look ended left (Played sent ∷ events) =
-    may_look look ended left ∷ moments_of look sent.ends_turn (left_behind look ended left sent) events
+    may_look look ended left
+    ∷ moments_of look sent.ends_turn (left_behind look ended left sent) events
 
 -- from the beginning of a turn on
 abbrev pub moments_in : ℕ → List Event → List Bool

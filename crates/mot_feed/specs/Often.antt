@@ -47,7 +47,8 @@ pub record FeedsOften {D : Type 0} (every look : ℕ) (old new : ServerView D) (
 
 -- this refusal came, and up to it the directory was asked for often
 pub record FeedsPartOften {D : Type 0} (every look : ℕ) (refusal : Refusal)
-    (old new : ServerView D) (start now : State) (s : Standing) (when : When) (before after : Option (List (List ℕ)))
+    (old new : ServerView D) (start now : State) (s : Standing) (when : When)
+    (before after : Option (List (List ℕ)))
     (earlier later : Option (List Bool)) : Type 0 where
   pub feeds : FeedsPart look refusal old new start now s when before after earlier later
   pub often : IsOften every feeds.events

@@ -22,9 +22,9 @@ use std::alloc::Global;
 /// As `feed`, but an accepted command does not begin the turn anew: what it changed comes next, and
 /// then the turn goes on.
 ///
-/// The directory is asked for in front of each turn, which changes nothing there, and then again and
-/// again: after the packet that follows, `every` packets go out until the next time, or ten times as
-/// many as the directory takes, if these are more. It is asked for at no other time.
+/// The directory is asked for in front of each turn, which changes nothing there, and then again
+/// and again: after the packet that follows, `every` packets go out until the next time, or ten
+/// times as many as the directory takes, if these are more. It is asked for at no other time.
 ///
 /// A look may come between turns, and within a turn after `look` packets since one might come last,
 /// without those after which changed bodies wait; if `look` is 0, only between turns.

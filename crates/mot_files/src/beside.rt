@@ -97,7 +97,7 @@ impl<'a> NewFile<'a> {
 
 /// Takes away what a run left at the path that was killed. A link and what is no regular file stay,
 /// and so do the disk and what another program writes.
-fn clear(rt: &HostRuntime, path: &str, disk: &str) -> Result<(), PacketsFault> {
+pub(crate) fn clear(rt: &HostRuntime, path: &str, disk: &str) -> Result<(), PacketsFault> {
     let named = match rt.symlink_metadata(path) {
         Ok(named) => named,
         Err(error) if error.kind() == ErrorKind::NotFound => return Ok(()),
@@ -115,8 +115,8 @@ fn clear(rt: &HostRuntime, path: &str, disk: &str) -> Result<(), PacketsFault> {
     Ok(())
 }
 
-/// Takes the lock of a file, which shows whether another program of ours writes it.
-fn lock(file: &File) -> Result<(), PacketsFault> {
+/// Takes the lock of a file or a pipe, which shows whether another program of ours writes it.
+pub(crate) fn lock(file: &File) -> Result<(), PacketsFault> {
     match file.try_lock() {
         Ok(()) => Ok(()),
         Err(TryLockError::WouldBlock) => Err(PacketsFault::InUse),

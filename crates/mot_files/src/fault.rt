@@ -23,6 +23,12 @@ pub enum PacketsFault {
     Cut,
     /// No turn is asked for, and the file would be empty.
     NoTurns,
+    /// Nothing is there, and no number of turns is given, with which a file is made.
+    NoPipe,
+    /// It is a regular file, and no number of turns is given.
+    EndlessFile,
+    /// It is a terminal.
+    Terminal,
 }
 
 /// What is wrong with a file that adds suffixes.
@@ -131,6 +137,9 @@ impl Display for PacketsFault {
             PacketsFault::NoFile => f.pad("a link, or not a regular file"),
             PacketsFault::Cut => f.pad("a packet was cut"),
             PacketsFault::NoTurns => f.pad("no turns to write"),
+            PacketsFault::NoPipe => f.pad("no pipe is there; a file is written with --turns"),
+            PacketsFault::EndlessFile => f.pad("a regular file, which is written with --turns"),
+            PacketsFault::Terminal => f.pad("a terminal"),
         }
     }
 }

@@ -2,23 +2,31 @@
 //! suffixes one adds, and why one of them can't be used.
 #![tactic(auto)]
 
+mod asked;
 mod beside;
 mod fault;
 mod line_file;
+mod line_log;
 mod lines;
 mod log;
 mod names;
 mod packets;
+mod replies;
 mod said;
 mod spool;
+mod status_file;
 mod taken;
 mod types;
 
+pub use asked::Asked;
 pub use beside::{NewFile, SUFFIX};
 pub use fault::{Cause, LinesFault, PacketsFault, TypesFault, Unbegun};
+pub use line_log::LineLog;
 pub use lines::{LineFolder, Others, line_folder};
-pub use log::SharedLog;
+pub use log::{SharedLog, Shown};
 pub use packets::{OUTPUT, OpenPackets, PacketWriter, Target, open_packets};
+pub use replies::Replies;
 pub use spool::Spool;
+pub use status_file::StatusFile;
 pub use taken::Taken;
 pub use types::file_types;

@@ -9,7 +9,7 @@ use std::os::unix::fs::FileExt;
 use std::rt::Files;
 
 /// The first words of lines.
-const WORDS: [&str; 8] = [
+pub(crate) const WORDS: [&str; 8] = [
     "put", "replace", "withdraw", "period", "list", "next", "turn", "raw",
 ];
 
@@ -25,7 +25,7 @@ pub(crate) struct LineFile {
     /// Its path.
     pub(crate) path: String,
     /// Whether what was read last of it is no line end.
-    is_cut: bool,
+    pub(crate) is_cut: bool,
 }
 
 impl LineFile {
@@ -36,6 +36,14 @@ impl LineFile {
             name,
             path,
             is_cut: false,
+        }
+    }
+
+    /// What distinguishes it, if the system tells.
+    pub(crate) fn stamp(&self) -> Option<Stamp> {
+        match self.file.metadata() {
+            Ok(held) => Some(Stamp::of(&held)),
+            Err(_) => None,
         }
     }
 

@@ -36,13 +36,13 @@ impl<'a, W: Write> Write for SharedLog<'a, W> {
 /// A name in a line of the log: `?` for each byte of it that would end the line or move what
 /// follows, and if it is not text, for each byte above ASCII.
 #[derive(Clone, Copy)]
-pub(crate) struct Shown<'a> {
+pub struct Shown<'a> {
     name: &'a [u8],
 }
 
 impl<'a> Shown<'a> {
     /// This name.
-    pub(crate) fn new(name: &'a [u8]) -> Shown<'a> {
+    pub fn new(name: &'a [u8]) -> Shown<'a> {
         Shown { name }
     }
 }
@@ -59,7 +59,7 @@ impl Display for Shown<'_> {
 /// Shows a text.
 fn show_text<W: fmt::Write>(f: &mut Formatter<W>, text: &str) -> fmt::Result {
     for letter in text.chars() {
-        let is_shown = letter >= ' ' && letter != '\u{7f}';
+        let is_shown = letter >= ' ' && (letter < '\u{7f}' || letter > '\u{9f}');
         f.write_char(if is_shown { letter } else { '?' })?;
     }
     Ok(())

@@ -8,13 +8,13 @@ ghost use Rattle.mot_files.specs.Packets.{IsTarget, begun_of, target_of};
 ghost use Rattle.mot_files.specs.declared.packets.Target.{Target};
 ghost use Rattle.mot_packets.specs.Outlet.{Grows};
 
-use crate::beside::{NewFile, is_file_at};
+use crate::beside::{NewFile, is_file_at, lock};
 use crate::fault::{Cause, PacketsFault};
 use crate::taken::Taken;
 use mot_packets::Outlet;
 use std::fs::{File, OpenOptions};
-use std::io::{self, ErrorKind, Write};
-use std::os::unix::fs::MetadataExt;
+use std::io::{self, ErrorKind, IsTerminal, Write};
+use std::os::unix::fs::{FileTypeExt, MetadataExt};
 use std::rt::{Files, Stdout};
 
 /// The word that names standard output.
@@ -27,8 +27,19 @@ pub enum Target {
     Output,
     /// A named pipe or a device: what is there and is no regular file.
     Stream,
-    /// A regular file, or nothing yet: it is written whole or not at all.
+    /// A regular file, or nothing yet: it is written whole or not at all, in so many turns.
     File,
+}
+
+/// What is at a path.
+#[derive(Clone, Copy)]
+enum Place {
+    /// What is no regular file.
+    Stream,
+    /// A regular file.
+    File,
+    /// Nothing.
+    Nothing,
 }
 
 /// What was opened to take packets.
@@ -52,8 +63,10 @@ impl<'a> OpenPackets<'a> {
 }
 
 /// Opens what the path names, to write packets to it. A pipe or a device is opened for reading and
-/// writing: so a pipe's opening waits for no reader, and its reader may go and come back. The disk
-/// itself is refused, and so is a file that no turn is asked for.
+/// writing: so a pipe's opening waits for no reader, and its reader may go and come back. The pipe
+/// is locked, so that no other program of ours writes to it. A file is written only if some turns
+/// are asked for: so a pipe that is not there is refused. The disk itself is refused, and so is a
+/// terminal.
 pub fn open_packets<'a>(
     rt: &HostRuntime,
     path: &'a str,
@@ -62,46 +75,58 @@ pub fn open_packets<'a>(
 ) -> Result<OpenPackets<'a>, Cause>
     ensures target { IfOk result (λ opened. IsTarget path.now (target_of opened)) }
     ensures begun { IfOk result (λ opened. begun_of opened ≡ path.now ∷ []) }
-    ensures turns { IfOk result (λ opened. target_of opened ≡ Target.File → turns ≢ Some 0) }
+    ensures turns { IfOk result (λ opened. target_of opened ≡ Target.File
+        → (turns ≢ None) × (turns ≢ Some 0)) }
 {
     if path == OUTPUT {
-        return Ok(OpenPackets::Standard(PacketWriter::of(rt.stdout(), path)));
+        return Ok(OpenPackets::Standard(open_output(rt, path)?));
     }
-    if is_stream(rt, path, disk)? {
-        return Ok(OpenPackets::Through(open_stream(rt, path)?));
-    }
-    if turns == Some(0) {
-        return Err(Cause::Packets(PacketsFault::NoTurns));
-    }
-    match NewFile::begin(rt, path, disk) {
-        Ok(new) => Ok(OpenPackets::Beside(new)),
-        Err(fault) => Err(Cause::NewFile(fault)),
-    }
+    let fault = match (place_at(rt, path, disk)?, turns) {
+        (Place::Stream, _) => return Ok(OpenPackets::Through(open_stream(rt, path)?)),
+        (Place::Nothing, None) => PacketsFault::NoPipe,
+        (Place::File, None) => PacketsFault::EndlessFile,
+        (_, Some(0)) => PacketsFault::NoTurns,
+        (_, Some(_)) => match NewFile::begin(rt, path, disk) {
+            Ok(new) => return Ok(OpenPackets::Beside(new)),
+            Err(fault) => return Err(Cause::NewFile(fault)),
+        },
+    };
+    Err(Cause::Packets(fault))
 }
 
-/// Opens a pipe or a device for reading and writing.
+/// Standard output, if it is no terminal.
+fn open_output(rt: &HostRuntime, path: &str) -> Result<PacketWriter<Stdout>, PacketsFault>
+    ensures { IfOk result (λ writer. writer.taken.notes.all ≡ path.now ∷ []) }
+{
+    let output = rt.stdout();
+    if output.is_terminal() {
+        return Err(PacketsFault::Terminal);
+    }
+    Ok(PacketWriter::of(output, path))
+}
+
+/// Opens a pipe or a device for reading and writing. A pipe is locked.
 fn open_stream(rt: &HostRuntime, path: &str) -> Result<PacketWriter<File>, PacketsFault>
     ensures { IfOk result (λ writer. writer.taken.notes.all ≡ path.now ∷ []) }
 {
     let file = OpenOptions::new().read(true).write(true).open(rt, path)?;
+    if file.is_terminal() {
+        return Err(PacketsFault::Terminal);
+    }
+    if file.metadata()?.file_type().is_fifo() {
+        lock(&file)?;
+    }
     Ok(PacketWriter::of(file, path))
 }
 
-/// Whether something is there that is no regular file. The disk itself is refused.
-fn is_stream(rt: &HostRuntime, path: &str, disk: &str) -> Result<bool, PacketsFault> {
+/// What is at the path, to which a link may lead. The disk itself is refused.
+fn place_at(rt: &HostRuntime, path: &str, disk: &str) -> Result<Place, PacketsFault> {
     match rt.metadata(path) {
-        Ok(found) => {
-            if is_file_at(rt, disk, found.dev(), found.ino()) {
-                return Err(PacketsFault::IsDisk);
-            }
-            Ok(!found.is_file())
-        }
-        Err(error) => {
-            if error.kind() == ErrorKind::NotFound {
-                return Ok(false);
-            }
-            Err(PacketsFault::System(error))
-        }
+        Ok(found) if is_file_at(rt, disk, found.dev(), found.ino()) => Err(PacketsFault::IsDisk),
+        Ok(found) if found.is_file() => Ok(Place::File),
+        Ok(_) => Ok(Place::Stream),
+        Err(error) if error.kind() == ErrorKind::NotFound => Ok(Place::Nothing),
+        Err(error) => Err(PacketsFault::System(error)),
     }
 }
 

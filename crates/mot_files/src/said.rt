@@ -33,6 +33,8 @@ struct Told {
     stamp: Option<Stamp>,
     /// Whether it was met since names were forgotten last.
     is_met: bool,
+    /// Whether a read of the file failed once its lines were answered.
+    is_unread: bool,
 }
 
 /// The names about which the log has a line.
@@ -59,6 +61,7 @@ impl Said {
                 let is_new = told.stamp != stamp;
                 told.stamp = stamp;
                 told.is_met = true;
+                told.is_unread = false;
                 return Ok(is_new);
             }
         }
@@ -69,8 +72,34 @@ impl Said {
             name: Vec::from_slice(self.alloc, name)?,
             stamp,
             is_met: true,
+            is_unread: false,
         })?;
         Ok(true)
+    }
+
+    /// Notes that a read of this file failed; whether it will be known again.
+    pub(crate) fn keep_unread(&mut self, name: &[u8], stamp: Option<Stamp>) -> bool {
+        if stamp.is_none() || self.is_new(name, stamp).is_err() {
+            return false;
+        }
+        for told in self.names.iter_mut() {
+            if told.name.as_slice() == name {
+                told.is_unread = true;
+                return true;
+            }
+        }
+        false
+    }
+
+    /// Whether a read of this file failed, and it is as it was then.
+    pub(crate) fn is_unread(&mut self, name: &[u8], stamp: Option<Stamp>) -> bool {
+        for told in self.names.iter_mut() {
+            if told.is_unread && told.name.as_slice() == name && told.stamp == stamp {
+                told.is_met = true;
+                return true;
+            }
+        }
+        false
     }
 
     /// Forgets the names that were not met since the last call.

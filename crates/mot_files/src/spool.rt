@@ -1,13 +1,15 @@
 //! Files of lines in a folder, read one after the other. No contract says what these calls do to
 //! files.
-ghost use Rattle.std.specs.Prelude.{◌≡◌, false};
+ghost use Rattle.std.specs.Prelude.{◌≡◌, ◌≤◌, false, length};
 
+use crate::asked::Asked;
 use crate::line_file::{Found, LineFile, find};
 use crate::log::Shown;
 use crate::names::{Names, is_of_lines, plain_text};
 use crate::said::{Said, Stamp};
 use mot_numbers::Refusal;
 use std::alloc::Global;
+use std::cell::RefCell;
 use std::fs::File;
 use std::io::{self, ErrorKind, Read, Write};
 use std::rt::Files;
@@ -21,12 +23,17 @@ const READS: u32 = 2;
 /// How many names are looked at in one call, at most.
 const LOOKS: u32 = 16;
 
+/// The end of a line that was not read to its end: with it no line asks for anything, since a
+/// carriage return belongs to the last word.
+const TORN: [u8; 2] = [b'\r', b'\n'];
+
 /// The regular files directly in a folder whose names end in `.lines` and do not begin with a dot,
 /// in the order of their names, as one input that waits for nothing. Each file is removed once it
 /// was read to its end. So its lines come again after a crash, and none is lost. A file whose first
-/// line does not begin with a word of lines, or that can't be opened, is left and logged once. One
-/// whose reading fails, or that can't be removed, is logged, and is the last: else its lines would
-/// come again and again.
+/// line does not begin with a word of lines, or that can't be opened, is left and logged once. So is
+/// one whose reading fails, until it is another one or was changed; if that can't be remembered, it
+/// is the last. One that can't be removed is the last, too: else its lines would come again and
+/// again.
 ///
 /// A call reads a part of the folder at most, and looks at a few names: so whatever lies there, it
 /// comes back soon.
@@ -48,13 +55,23 @@ pub struct Spool<'a, T: Files<File = File>, W: Write + Drop> {
     is_unread: bool,
     /// The file that is read.
     open: Option<LineFile>,
+    /// Whether the reading of a file failed within a line.
+    is_torn: bool,
+    /// The lines whose replies come next.
+    asked: &'a RefCell<Asked>,
     /// Whether no more is read.
     pub is_stopped: bool,
 }
 
 impl<'a, T: Files<File = File>, W: Write + Drop> Spool<'a, T, W> {
     /// No file was read.
-    pub fn new(rt: &'a T, alloc: Global, folder: &'a str, log: W) -> Spool<'a, T, W>
+    pub fn new(
+        rt: &'a T,
+        alloc: Global,
+        folder: &'a str,
+        log: W,
+        asked: &'a RefCell<Asked>,
+    ) -> Spool<'a, T, W>
         ensures folder { result.folder.now ≡ folder.now }
         ensures log { result.log ≡ log }
         ensures goes { result.is_stopped ≡ false }
@@ -69,6 +86,8 @@ impl<'a, T: Files<File = File>, W: Write + Drop> Spool<'a, T, W> {
             said: Said::new(alloc),
             is_unread: false,
             open: None,
+            is_torn: false,
+            asked,
             is_stopped: false,
         }
     }
@@ -99,7 +118,11 @@ impl<'a, T: Files<File = File>, W: Write + Drop> Spool<'a, T, W> {
         let path = format!(in self.alloc; "{}/{}", self.folder, name)?;
         match find(self.rt, path.as_str()) {
             Found::Lines(file) => {
-                self.open = Some(LineFile::new(file, name, path));
+                let lines = LineFile::new(file, name, path);
+                if !self.said.is_unread(bytes, lines.stamp()) {
+                    self.begin(bytes);
+                    self.open = Some(lines);
+                }
                 Ok(())
             }
             Found::Left(refusal, stamp) => self.leave(bytes, refusal, stamp),
@@ -218,9 +241,50 @@ impl<'a, T: Files<File = File>, W: Write + Drop> Spool<'a, T, W> {
         }
     }
 
+    /// Notes that the lines of the file of this name are read.
+    fn begin(&mut self, name: &[u8]) {
+        if let Ok(mut asked) = self.asked.try_borrow_mut() {
+            asked.begin(name);
+        }
+    }
+
+    /// Notes that these bytes of it were read.
+    fn note(&mut self, bytes: &[u8]) {
+        if let Ok(mut asked) = self.asked.try_borrow_mut() {
+            asked.read(bytes);
+        }
+    }
+
+    /// Leaves a file of which a read failed, and reads no more if it would not be known again.
+    fn leave_unread(&mut self, lines: &LineFile) {
+        self.is_torn = lines.is_cut;
+        let is_known = self.said.keep_unread(lines.name.as_bytes(), lines.stamp());
+        self.is_stopped = !is_known;
+        self.tell_fault(lines.name.as_str());
+    }
+
+    /// Ends the line within which the reading of a file failed, so that none of its words counts.
+    fn end_torn(&mut self, buf: &mut [u8]) -> usize
+        ensures { result ≤ length buf.new }
+    {
+        if buf.len() < TORN.len() {
+            return 0;
+        }
+        self.is_torn = false;
+        buf[0] = TORN[0];
+        buf[1] = TORN[1];
+        self.note(&TORN);
+        TORN.len()
+    }
+
     /// Reads no more, for this file's sake.
     fn stop(&mut self, name: &str) {
         self.is_stopped = true;
+        self.tell_fault(name);
+    }
+
+    /// Tells that a file can't be read, or not be removed.
+    fn tell_fault(&mut self, name: &str) {
         let refusal = Refusal::ReadFault;
         let _ = writeln!(self.log, "lines {name} refused {refusal}");
         let _ = self.log.flush();
@@ -229,6 +293,9 @@ impl<'a, T: Files<File = File>, W: Write + Drop> Spool<'a, T, W> {
 
 impl<'a, T: Files<File = File>, W: Write + Drop> Read for Spool<'a, T, W> {
     fn read(&mut self, buf: &mut [u8]) -> io::Result<usize> {
+        if self.is_torn {
+            return Ok(self.end_torn(buf));
+        }
         if self.is_stopped || buf.is_empty() {
             return Ok(0);
         }
@@ -245,10 +312,11 @@ impl<'a, T: Files<File = File>, W: Write + Drop> Read for Spool<'a, T, W> {
             }
             Ok(count) => {
                 self.open = Some(lines);
+                self.note(&buf[..count]);
                 Ok(count)
             }
             Err(error) => {
-                self.stop(lines.name.as_str());
+                self.leave_unread(&lines);
                 Err(error)
             }
         }

@@ -1,6 +1,6 @@
 pub mod Cut
 pub mod Log
+pub mod Order
 pub mod Rows
 pub mod Seen
-pub mod Shown
 pub mod Taken

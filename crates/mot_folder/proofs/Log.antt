@@ -1,9 +1,10 @@
 -- What is told of a look, one thing after the other.
-use Rattle.std.proofs.Common.{◌∙◌, ◌++◌, ℕ, List, [], ◌∷◌, append-nil, codes, refl, subst, sym}
+use Rattle.std.proofs.Common.{◌≡◌, ◌∙◌, ◌++◌, ℕ, List, [], ◌∷◌, ap, append-nil, codes, refl, subst}
+use Rattle.std.proofs.Common.{sym}
 use Rattle.std.proofs.lemmas.List.Elements.{filter-append}
-use Rattle.mot_folder.specs.Log.{ReportTells, TellsAnswers, TellsOne, entry, is_of_look, of_look}
+use Rattle.mot_folder.specs.Log.{LogEntry, ReportTells, TellsAnswers, TellsOne, entry_with}
+use Rattle.mot_folder.specs.Log.{is_of_look, of_look}
 use Rattle.mot_folder.specs.declared.report.Report.{Report}
-use Rattle.mot_server.specs.declared.running.Attempt.{Attempt}
 use Rattle.mot_update.specs.Told.{TellsMore}
 
 -- a look that begins tells nothing
@@ -14,15 +15,35 @@ tells_none report told = record { entries = []; told = told; are = refl }
 pub tells_same : (report : Report) → TellsMore (TellsAnswers report) (TellsAnswers report) []
 tells_same report = λ answers told. subst (TellsAnswers report) (sym (append-nil answers)) told
 
--- a file that was not taken is told, and no answer to a command
-pub tells_unread : (old new : Report) (name : List ℕ) (came : Attempt)
-    → TellsOne old new (entry (codes "read") name came)
-    → TellsMore (TellsAnswers old) (TellsAnswers new) []
-tells_unread old new name came one = λ answers told.
-    let last = entry (codes "read") name came in
+-- what is told beside the answers to commands is none
+tells_beside : (old new : Report) (last : LogEntry) → of_look (last ∷ []) ≡ []
+    → TellsOne old new last → TellsMore (TellsAnswers old) (TellsAnswers new) []
+tells_beside old new last none one = λ answers told.
     subst (TellsAnswers new) (sym (append-nil answers)) (record {
       entries = told.entries ++ last ∷ [];
       told = one told.entries told.told;
       are = filter-append is_of_look told.entries (last ∷ [])
+          ∙ ap (λ l. of_look told.entries ++ l) none
           ∙ append-nil (of_look told.entries) ∙ told.are;
     })
+
+-- a file that was not taken is told
+pub tells_unread : (old new : Report) (name rest : List ℕ)
+    → TellsOne old new (entry_with (codes "read") name rest)
+    → TellsMore (TellsAnswers old) (TellsAnswers new) []
+tells_unread old new name rest one =
+    tells_beside old new (entry_with (codes "read") name rest) refl one
+
+-- a note is told
+pub tells_note : (old new : Report) (name rest : List ℕ)
+    → TellsOne old new (entry_with (codes "note") name rest)
+    → TellsMore (TellsAnswers old) (TellsAnswers new) []
+tells_note old new name rest one =
+    tells_beside old new (entry_with (codes "note") name rest) refl one
+
+-- and that a name is left out
+pub tells_skipped : (old new : Report) (name rest : List ℕ)
+    → TellsOne old new (entry_with (codes "skip") name rest)
+    → TellsMore (TellsAnswers old) (TellsAnswers new) []
+tells_skipped old new name rest one =
+    tells_beside old new (entry_with (codes "skip") name rest) refl one

@@ -4,11 +4,11 @@ use Rattle.std.specs.Prelude.{codes}
 use Rattle.std.specs.Fmt.{digits}
 use Rattle.std.specs.Str.{chars, is_utf8}
 use lib.Utf8.{encode}
-use Rattle.mot_folder.specs.Listed.{names_in, object_names, with_type}
-use Rattle.mot_folder.specs.Log.{entry, log_entry_of, log_line, of_look}
-use Rattle.mot_folder.specs.Looked.{is_due}
+use Rattle.mot_folder.specs.Listed.{and_in_order, names_in, object_names, with_type}
+use Rattle.mot_folder.specs.Log.{entry, entry_with, kept_entry, log_entry_of, log_line}
+use Rattle.mot_folder.specs.Log.{of_look}
+use Rattle.mot_folder.specs.Looked.{is_due, is_kept, left_behind, packets_left}
 use Rattle.mot_folder.specs.declared.listing.TheConstants.{MAX_NAMES}
-use Rattle.mot_folder.specs.declared.looking.TheConstants.{PACKETS}
 use Rattle.mot_numbers.specs.declared.refusal.Refusal.TheVariants.{EmptyBody, NoRoom}
 use Rattle.mot_numbers.specs.declared.refusal.Refusal.TheVariants.{ReadFault}
 use Rattle.mot_server.specs.declared.running.Attempt.TheVariants.{Accepted, Refused}
@@ -37,6 +37,10 @@ unread_line : log_line (entry (codes "read") (codes "b.xml") (Refused EmptyBody)
 unfolding digits
 unread_line = refl
 
+young_line : log_line (entry_with (codes "read") (codes "b.xml") (codes "too young, next look\n"))
+    ≡ codes "read b.xml too young, next look\n"
+young_line = refl
+
 line_ends_in_a_name : log_line (entry (codes "read") (codes "a\nb\tc") (Refused EmptyBody))
     ≡ codes "read a?b?c refused 6 EmptyBody\n"
 unfolding digits
@@ -46,6 +50,26 @@ unlisted_line : log_line (entry (codes "look") (codes "d") (Refused ReadFault))
     ≡ codes "look d refused 22 ReadFault\n"
 unfolding digits
 unlisted_line = refl
+
+kept_line : log_line (kept_entry (codes "d")) ≡ codes "look d empty, kept\n"
+kept_line = refl
+
+-- an empty folder leaves two objects where they are, but for who allows it
+stay : is_kept false [] 2 ≡ true
+stay = refl
+
+go : is_kept true [] 2 ≡ false
+go = refl
+
+some_stay : is_kept false (codes "a.png" ∷ []) 2 ≡ false
+some_stay = refl
+
+none_there : is_kept false [] 0 ≡ false
+none_there = refl
+
+-- a note is told of no command
+note_beside : of_look (entry_with (codes "note") (codes "d") (codes "2 of 3 objects go\n") ∷ []) ≡ []
+note_beside = refl
 
 -- a file that was not taken is told of no command
 beside : of_look (entry (codes "read") (codes "b") (Refused EmptyBody)
@@ -66,8 +90,20 @@ not_due_within = refl
 not_due_before : is_due 2 true ≡ false
 not_due_before = refl
 
-packets : PACKETS ≡ 1000
+packets : packets_left false 700 ≡ 700
 packets = refl
+
+soon : packets_left true 700 ≡ 100
+soon = refl
+
+soon_enough : packets_left true 50 ≡ 50
+soon_enough = refl
+
+early_not_counted : left_behind true false 7 ≡ 7
+early_not_counted = refl
+
+each_counted : left_behind false false 7 ≡ 6
+each_counted = refl
 
 most_names : MAX_NAMES ≡ 1000
 most_names = refl
@@ -87,6 +123,11 @@ suffixes = refl
 
 -- of these names of files those of objects: one with a space is none
 objects : object_names (codes "b.png" ∷ codes "a b.png" ∷ codes "a.png" ∷ codes "b.png" ∷ [])
-    ≡ codes "b.png" ∷ codes "a.png" ∷ []
+    ≡ codes "a.png" ∷ codes "b.png" ∷ []
 unfolding is_utf8 chars encode
 objects = refl
+
+-- capital letters stand before small ones, and a beginning before what it begins
+in_order : and_in_order (codes "B" ∷ codes "a" ∷ codes "b" ∷ []) (codes "ab")
+    ≡ codes "B" ∷ codes "a" ∷ codes "ab" ∷ codes "b" ∷ []
+in_order = refl

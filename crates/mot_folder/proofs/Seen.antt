@@ -6,7 +6,9 @@ use Rattle.std.specs.List.{flat_map}
 use Rattle.std.proofs.lemmas.Grind.{flat_map-append}
 use Rattle.std.proofs.lemmas.List.Elements.{filter-append}
 use Rattle.mot_folder.specs.Inner.Listing.{GivesAll, GivesSome, GoesOn, IsSoFar, IsUnread, WereAsked}
-use Rattle.mot_folder.specs.Listed.{AreEither, IsListing, and_object, and_objects, has_type}
+use Rattle.mot_folder.proofs.Order.{stays_in_order}
+use Rattle.mot_folder.specs.Listed.{AreEither, IsListing, and_in_order, and_object, and_objects}
+use Rattle.mot_folder.specs.Listed.{are_in_order, has_type}
 use Rattle.mot_folder.specs.Listed.{names_in, with_type}
 use Rattle.mot_folder.specs.Listed.AreEither.{no_name, one_first, one_other}
 use Rattle.mot_objects.proofs.Laws.{name_is, name_true}
@@ -28,20 +30,33 @@ flipped false a b = refl
 
 -- a name of an object is added, where it is none of them
 pub object_added : (names after : List (List ℕ)) (n m : List ℕ) → m ≡ n → IsName n
-    → after ≡ cond (is_known names m) names (names ++ m ∷ []) → after ≡ and_object names n
+    → after ≡ cond (is_known names m) names (and_in_order names m) → after ≡ and_object names n
 object_added names after n m same named added =
-    added ∙ ap (λ x. cond (is_known names x) names (names ++ x ∷ [])) same
-    ∙ flipped (is_known names n) names (names ++ n ∷ [])
-    ∙ ap (λ t. cond (t && not (is_known names n)) (names ++ n ∷ []) names)
+    added ∙ ap (λ x. cond (is_known names x) names (and_in_order names x)) same
+    ∙ flipped (is_known names n) names (and_in_order names n)
+    ∙ ap (λ t. cond (t && not (is_known names n)) (and_in_order names n) names)
     (sym (name_true MAX_NAME n named named.short))
 
 -- and another one is left out
 pub object_left_out : (names : List (List ℕ)) (n : List ℕ) → (IsName n → ⊥)
     → names ≡ and_object names n
 object_left_out names n none =
-    ap (λ t. cond (t && not (is_known names n)) (names ++ n ∷ []) names)
+    ap (λ t. cond (t && not (is_known names n)) (and_in_order names n) names)
     (sym (false_from_ne_true (is_name MAX_NAME n)
     (λ is. none (name_is MAX_NAME n (omega arith) is))))
+
+one_in_order : (b : Bool) (names : List (List ℕ)) (file : List ℕ) → are_in_order names ≡ true
+    → are_in_order (cond b (and_in_order names file) names) ≡ true
+one_in_order true names file ordered = stays_in_order names file ordered
+one_in_order false names file ordered = ordered
+
+-- names of objects are in their order
+objects-ordered : (names files : List (List ℕ)) → are_in_order names ≡ true
+    → are_in_order (and_objects names files) ≡ true
+objects-ordered names [] ordered = ordered
+objects-ordered names (file ∷ files) ordered =
+    objects-ordered (and_object names file) files
+    (one_in_order (is_name MAX_NAME file && not (is_known names file)) names file ordered)
 
 module _ (types : List SuffixType) (name : List ℕ) where
   one_typed : (t : Bool) → has_type types name ≡ t → with_type types (name ∷ []) ≡ cond t (name ∷ []) []
@@ -181,4 +196,6 @@ module _ (types : List SuffixType) where
             ∙ ap (λ (n : Given). n.listed ++ (all.pieces ++ [] ∷ [])) opened;
         asked = last.asked;
         are = last.are;
+        ordered = subst (λ l. are_in_order l ≡ true) (sym last.are)
+            (objects-ordered [] k.files refl);
       }

@@ -1,26 +1,26 @@
 -- Names that were gone over, each of an object that was given or of a file that is told.
 use Rattle.std.proofs.Common.{◌≡◌, ◌∙◌, ℕ, ◌+◌, ◌<◌, length, zero, suc, List, [], ◌∷◌, ◌++◌, ap}
 use Rattle.std.proofs.Common.{append_assoc}
-use Rattle.std.proofs.Common.{append-nil, codes, map, not, refl, subst, sym, take, arith}
-use Rattle.std.proofs.Common.{Err, Ok, Result, Some, Option}
-use Rattle.std.specs.Prelude.{IfOk, MatchResult, slice_get, filter}
+use Rattle.std.proofs.Common.{append-nil, codes, map, refl, subst, sym, take, arith}
+use Rattle.std.proofs.Common.{Some, Option}
+use Rattle.std.specs.Prelude.{slice_get, filter}
 use Rattle.std.proofs.lemmas.List.{length-map, map-append}
 use Rattle.std.proofs.lemmas.List.Elements.{filter-append}
 use Rattle.mot_folder.specs.Inner.Names.{name_or_none}
-use Rattle.mot_folder.specs.Inner.Reading.{Misses, Takes, TellsLook, as_wanted, heading}
+use Rattle.mot_folder.specs.Inner.Reading.{Misses, Takes, TellsFile, TellsLook, as_wanted}
+use Rattle.mot_folder.specs.Inner.Reading.{heading}
 use Rattle.mot_folder.specs.Inner.Reading.Misses.{was_refused, was_unread}
 use Rattle.mot_folder.specs.Listed.{IsListing}
 use Rattle.mot_folder.specs.Log.{LogEntry, TellsAnswers, TellsOf, TellsOne}
-use Rattle.mot_folder.specs.Log.{entry, is_of_look, log_entry_of, names_read, of_look}
-use Rattle.mot_folder.specs.Taken.{AreTaken, wanted_file}
+use Rattle.mot_folder.specs.Log.{entry_with, is_of_look, is_read, log_entry_of, names_read}
+use Rattle.mot_folder.specs.Log.{of_look}
+use Rattle.mot_folder.specs.Taken.{AreTaken}
 use Rattle.mot_folder.specs.Taken.AreTaken.{no_file, one_refused, one_unread, one_wanted}
 use Rattle.mot_folder.specs.declared.report.Report.{Report}
-use Rattle.mot_numbers.specs.declared.refusal.Refusal.{Refusal}
 use Rattle.mot_objects.specs.Content.{ContentNumbers}
-use Rattle.mot_server.specs.declared.running.Attempt.{Attempt}
 use Rattle.mot_server.specs.declared.running.Attempt.TheVariants.{Accepted, Refused}
 use Rattle.mot_shelf.specs.Given.{Given, and_missed, and_read}
-use Rattle.mot_suffixes.specs.Types.{SuffixType, type_of_name}
+use Rattle.mot_suffixes.specs.Types.{SuffixType}
 use Rattle.mot_update.specs.Told.{Answer, Put, Replaced, TellsBoth, Withdrew}
 use Rattle.mot_update.specs.declared.wanted.Wanted.{Wanted}
 
@@ -29,9 +29,8 @@ read-more : (entries more : List LogEntry)
     → names_read (entries ++ more) ≡ names_read entries ++ names_read more
 read-more entries more =
     ap (λ (l : List LogEntry). map (λ (e : LogEntry). e.name) l)
-    (filter-append (λ (e : LogEntry). not (is_of_look e)) entries more)
-    ∙ map-append (λ (e : LogEntry). e.name) (filter (λ (e : LogEntry). not (is_of_look e)) entries)
-    (filter (λ (e : LogEntry). not (is_of_look e)) more)
+    (filter-append is_read entries more)
+    ∙ map-append (λ (e : LogEntry). e.name) (filter is_read entries) (filter is_read more)
 
 -- two lists that nothing was added to
 pub plain : (P : List Answer → List Wanted → Type 0) (answers : List Answer) (given : List Wanted)
@@ -117,16 +116,16 @@ module _ (types : List SuffixType) where
 
   -- a file that could not be taken is told
   pub of_missed : (g h : Given) (old new : Report) (names : List (List ℕ)) (name : List ℕ)
-      (came : Attempt) → Misses name g h → TellsOne old new (entry (codes "read") name came)
+      → Misses name g h → TellsFile old new name
       → TellsBoth (TellsOf types g old names) (TellsOf types h new (names ++ name ∷ [])) [] []
-  of_missed g h old new names name came is one = λ given answers was.
-      let last = entry (codes "read") name came in
+  of_missed g h old new names name is one = λ given answers was.
+      let last = entry_with (codes "read") name one.0 in
       subst (λ (l : List Wanted). TellsOf types h new (names ++ name ∷ []) (answers ++ []) l)
       (sym (append-nil given))
       (subst (λ (l : List Answer). TellsOf types h new (names ++ name ∷ []) l given)
       (sym (append-nil answers)) (record {
         entries = was.entries ++ last ∷ [];
-        told = one was.entries was.told;
+        told = one.1 was.entries was.told;
         are = filter-append is_of_look was.entries (last ∷ [])
             ∙ append-nil (of_look was.entries) ∙ was.are;
         before = was.before;
@@ -153,6 +152,24 @@ module _ (types : List SuffixType) where
         read = was.read;
         taken = more_taken g h names was.missed given name w is was.taken;
       })
+
+  -- a note is told
+  pub of_note : (g : Given) (old new : Report) (names : List (List ℕ)) (name rest : List ℕ)
+      (answers : List Answer) (given : List Wanted)
+      → TellsOne old new (entry_with (codes "note") name rest)
+      → TellsOf types g old names answers given → TellsOf types g new names answers given
+  of_note g old new names name rest answers given one was =
+      let last = entry_with (codes "note") name rest in
+      record {
+        entries = was.entries ++ last ∷ [];
+        told = one was.entries was.told;
+        are = filter-append is_of_look was.entries (last ∷ [])
+            ∙ append-nil (of_look was.entries) ∙ was.are;
+        before = was.before;
+        missed = was.missed;
+        read = read-more was.entries (last ∷ []) ∙ append-nil (names_read was.entries) ∙ was.read;
+        taken = was.taken;
+      }
 
   -- no name was gone over
   pub of_none : (g : Given) (report : Report) → g.read ≡ [] → g.missed ≡ []
@@ -203,12 +220,24 @@ module _ (types : List SuffixType) (path : List ℕ) (names : List (List ℕ)) w
   still_read : (g : Given) (name bytes : List ℕ) → IsListing types path g names
       → IsListing types path (and_read g name bytes) names
   still_read g name bytes is =
-      record { pieces = is.pieces; whole = is.whole; asked = is.asked; are = is.are }
+      record {
+        pieces = is.pieces;
+        whole = is.whole;
+        asked = is.asked;
+        are = is.are;
+        ordered = is.ordered;
+      }
 
   still_missed : (g : Given) (name : List ℕ) → IsListing types path g names
       → IsListing types path (and_missed g name) names
   still_missed g name is =
-      record { pieces = is.pieces; whole = is.whole; asked = is.asked; are = is.are }
+      record {
+        pieces = is.pieces;
+        whole = is.whole;
+        asked = is.asked;
+        are = is.are;
+        ordered = is.ordered;
+      }
 
   listing_misses : (g h : Given) (name : List ℕ) → Misses name g h → IsListing types path g names
       → IsListing types path h names
@@ -235,33 +264,18 @@ module _ (types : List SuffixType) (path : List ℕ) (names : List (List ℕ)) w
 
   -- or it is told as that of a file that could not be taken
   pub then_missed : (P : List Answer → List Wanted → Type 0) (g h : Given) (place : ℕ)
-      (old new : Report) (name : List ℕ) (came : Attempt)
+      (old new : Report) (name : List ℕ)
       → TellsBoth P (TellsLook types path g names place old) [] []
       → place < length names → slice_get names place ≡ Some name → Misses name g h
-      → TellsOne old new (entry (codes "read") name came)
+      → TellsFile old new name
       → TellsBoth P (TellsLook types path h names (place + 1) new) [] []
-  then_missed P g h place old new name came told lt at is one =
+  then_missed P g h place old new name told lt at is one =
       behind P (TellsLook types path g names place old)
       (TellsLook types path h names (place + 1) new) [] told
       (look_on g h place (place + 1) old new [] [] (listing_misses g h name is)
       (subst (λ l. TellsBoth (TellsOf types g old (take place names)) (TellsOf types h new l) [] [])
       (sym (take-named names place name lt at))
-      (of_missed types g h old new (take place names) name came is one)))
-
--- what came of a file that was read
-pub took : (types : List SuffixType) (name bytes : List ℕ) (old new : Given)
-    (result : Result Wanted Refusal) → new ≡ and_read old name bytes
-    → IfOk result (λ w. (type : SuffixType) × (type_of_name types name ≡ Some type)
-    × (w ≡ wanted_file type name bytes))
-    → MatchResult result (Takes types name old new) (λ r. Misses name old new)
-took types name bytes old new (Ok w) is made = record {
-  bytes = bytes;
-  type = made.0;
-  typed = made.1;
-  read = is;
-  made = made.2;
-}
-took types name bytes old new (Err r) is made = was_refused bytes is
+      (of_missed types g h old new (take place names) name is one)))
 
 -- ---- what a look is of
 
@@ -276,7 +290,7 @@ cut_front (x ∷ xs) (y ∷ ys) vs ws len e =
     let rest = cut_front xs ys vs ws (omega (arith, len)) tail in
     (cc (head, rest.0), rest.1)
 
-type_with : List ℕ → ContentNumbers → List ℕ → SuffixType
+type_with : List ℕ → ContentNumbers → Option (List ℕ) → SuffixType
 type_with suffix content mime = record { suffix = suffix; content = content; mime = mime }
 
 rebuilt : (t o : SuffixType) → t.suffix ≡ o.suffix → t.content ≡ o.content → t.mime ≡ o.mime
@@ -297,12 +311,9 @@ same_types (t ∷ types) (o ∷ others) e =
     let same = same_types types others rest in
     let suffix : t.suffix ≡ o.suffix = ap (λ (w : Wanted). w.name) one in
     let content : t.content ≡ o.content = ap (λ (w : Wanted). w.content) one in
-    let mime : t.mime ≡ o.mime = some_is t.mime o.mime (ap (λ (w : Wanted). w.mime) one) in
+    let mime : t.mime ≡ o.mime = ap (λ (w : Wanted). w.mime) one in
     ap (λ (x : SuffixType). x ∷ types) (rebuilt t o suffix content mime)
     ∙ ap (λ l. o ∷ l) same
-  where
-    some_is : (a b : List ℕ) → ◌≡◌ {A = Option (List ℕ)} (Some a) (Some b) → a ≡ b
-    some_is a b e = cc
 
 -- a look that began with these goes on with these, and with what was given and told in it
 pub record IsLook (types : List SuffixType) (path : List ℕ) (g : Given) (names : List (List ℕ))

@@ -1,5 +1,5 @@
 -- The files of a folder that are objects, as it is listed.
-use Rattle.std.specs.Prelude.{◌≡◌, ◌==◌, ◌&&◌, ℕ, Bool, not, if◌then◌else◌, List, [], ◌∷◌, ◌++◌}
+use Rattle.std.specs.Prelude.{◌≡◌, ◌==◌, ◌&&◌, ℕ, nat_eq, nat_lt, Bool, not, if◌then◌else◌, List, [], ◌∷◌, ◌++◌}
 use Rattle.std.specs.Prelude.{filter, true, false}
 use Rattle.std.specs.List.{flat_map, slice_split}
 use Rattle.std.specs.Option.{option_map_or}
@@ -21,16 +21,38 @@ has_type types name = option_map_or (λ (type : SuffixType). true) (type_of_name
 abbrev pub with_type : List SuffixType → List (List ℕ) → List (List ℕ)
 with_type types names = filter (has_type types) names
 
+-- a name stands before another one, byte by byte; a beginning of it stands before it
+abbrev pub stands_before : List ℕ → List ℕ → Bool
+stands_before [] [] = false
+stands_before [] (y ∷ ys) = true
+stands_before (x ∷ xs) [] = false
+stands_before (x ∷ xs) (y ∷ ys) = if nat_eq x y then stands_before xs ys else nat_lt x y
+
+-- names, and this one in front of the first that it stands before
+abbrev pub and_in_order : List (List ℕ) → List ℕ → List (List ℕ)
+and_in_order [] name = name ∷ []
+and_in_order (other ∷ names) name =
+    if stands_before name other then name ∷ other ∷ names else other ∷ and_in_order names name
+
+-- no name stands before the one in front of it
+abbrev pub begins_behind : List ℕ → List (List ℕ) → Bool
+begins_behind name [] = true
+begins_behind name (other ∷ names) = not (stands_before other name)
+
+abbrev pub are_in_order : List (List ℕ) → Bool
+are_in_order [] = true
+are_in_order (name ∷ names) = begins_behind name names && are_in_order names
+
 -- the names of objects, and this one, if it is the name of an object and none of them
 abbrev pub and_object : List (List ℕ) → List ℕ → List (List ℕ)
 and_object names name =
-    if is_name MAX_NAME name && not (is_known names name) then names ++ name ∷ [] else names
+    if is_name MAX_NAME name && not (is_known names name) then and_in_order names name else names
 
 abbrev pub and_objects : List (List ℕ) → List (List ℕ) → List (List ℕ)
 and_objects names [] = names
 and_objects names (file ∷ files) = and_objects (and_object names file) files
 
--- those of these names of files that are names of objects, in order, each once
+-- those of these names of files that are names of objects, each once, in the order of names
 abbrev pub object_names : List (List ℕ) → List (List ℕ)
 object_names files = and_objects [] files
 
@@ -43,10 +65,11 @@ pub data AreEither : List (List ℕ) → List (List ℕ) → List (List ℕ) →
       → AreEither names firsts others → AreEither (names ++ name ∷ []) firsts (others ++ name ∷ [])
 
 -- The folder of this path was opened once, and gave all its names. Each with one of the suffixes
--- was asked for; and of those that are regular files' these are the names of objects.
+-- was asked for; and of those that are regular files' these are the names of objects, in their order.
 pub record IsListing (types : List SuffixType) (path : List ℕ) (given : Given)
     (names : List (List ℕ)) : Type 0 where
   pub pieces : List (List ℕ)
   pub whole : given.listed ≡ path ∷ pieces ++ [] ∷ []
   pub asked : AreEither (with_type types (flat_map names_in pieces)) given.files given.others
   pub are : names ≡ object_names given.files
+  pub ordered : are_in_order names ≡ true

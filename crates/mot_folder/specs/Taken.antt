@@ -6,7 +6,7 @@ use Rattle.mot_update.specs.declared.wanted.Wanted.{Wanted}
 -- what is wanted of a file of this name with these bytes, and of what its suffix says
 abbrev pub wanted_file : SuffixType → List ℕ → List ℕ → Wanted
 wanted_file type name bytes =
-    record { name = name; content = type.content; mime = Some type.mime; body = bytes }
+    record { name = name; content = type.content; mime = type.mime; body = bytes }
 
 -- The files of these names, in order: they were read, or missed, of the folder; and each is wanted
 -- with the bytes that were read, or its name is told as that of one that could not be taken.

@@ -2,9 +2,8 @@
 ghost use Rattle.std.specs.Prelude.{◌≡◌, ◌-◌, ℕ, List, [], true, false, not, IfOk};
 ghost use Rattle.std.specs.Prelude.{MatchResult, codes, slice_get};
 ghost use Rattle.mot_folder.specs.Inner.Names.{name_or_none};
-ghost use Rattle.mot_folder.specs.Inner.Reading.{Misses, Takes, TellsLook};
-ghost use Rattle.mot_folder.specs.Log.{TellsOf, TellsOne, entry};
-ghost use Rattle.mot_server.specs.declared.running.Attempt.TheVariants.{Refused};
+ghost use Rattle.mot_folder.specs.Inner.Reading.{Misses, Takes, TellsFile, TellsLook};
+ghost use Rattle.mot_folder.specs.Log.{TellsOf};
 ghost use Rattle.mot_shelf.specs.Given.{Given, nothing};
 ghost use Rattle.mot_suffixes.specs.Types.{SuffixType, type_of_name};
 ghost use Rattle.mot_update.specs.Looking.{was_settled};
@@ -13,13 +12,16 @@ ghost use Rattle.mot_update.specs.Told.{TellsBoth, answers_of};
 
 use crate::listing::{FileNames, read_refusal};
 use crate::report::Report;
+use disk_store::OpenFault;
+use mot_lines::TextLine;
 use mot_numbers::Refusal;
 use mot_objects::{Body, MAX_BODY, Name};
 use mot_server::Attempt;
-use mot_shelf::Shelf;
+use mot_shelf::{Shelf, Unread};
 use mot_suffixes::{FileType, FileTypes};
 use mot_update::{Settled, Source, Wanted};
 use std::alloc::{AllocError, Global};
+use std::io::{self, Write};
 
 /// A folder that a carousel is made equal to, look by look. In a look its files are listed, and each
 /// is read when its turn comes; one that can't be taken is logged, and its object stays as it is.
@@ -29,6 +31,8 @@ pub struct Folder<'a, S: Shelf + Drop> {
     pub shelf: S,
     /// Which of its files are objects.
     pub types: &'a FileTypes,
+    /// Whether all objects go where none of its files is one.
+    pub allows_empty: bool,
     /// The names of the last look.
     pub(crate) names: FileNames,
     /// How many of them were gone over.
@@ -39,13 +43,15 @@ pub struct Folder<'a, S: Shelf + Drop> {
 
 impl<'a, S: Shelf + Drop> Folder<'a, S> {
     /// No look yet.
-    pub fn new(alloc: Global, shelf: S, types: &'a FileTypes) -> Folder<'a, S>
+    pub fn new(alloc: Global, shelf: S, types: &'a FileTypes, allows_empty: bool) -> Folder<'a, S>
         ensures shelf { result.shelf ≡ shelf }
         ensures types { result.types.now ≡ types.now }
+        ensures allows { result.allows_empty ≡ allows_empty }
     {
         Folder {
             shelf,
             types,
+            allows_empty,
             names: FileNames::new(alloc),
             place: 0,
             report: Report::new(alloc),
@@ -77,7 +83,7 @@ impl<'a, S: Shelf + Drop> Source for Folder<'a, S> {
             let name = &names.names[place];
             match read(&mut self.shelf, alloc, self.types, name) {
                 Ok(wanted) => return Some(wanted),
-                Err(refusal) => tell_refused(&mut self.report, name, refusal),
+                Err(untaken) => tell_untaken(&mut self.report, name.as_bytes(), untaken),
             }
         }
         None
@@ -92,13 +98,60 @@ impl<'a, S: Shelf + Drop> Source for Folder<'a, S> {
     }
 }
 
-/// Tells that the file of this name could not be taken.
-fn tell_refused(report: &mut Report, name: &Name, refusal: Refusal)
+/// Why a file is not taken.
+#[derive(Clone, Copy)]
+enum Untaken {
+    /// It was not read.
+    Unread(Unread),
+    /// What was read of it makes no object.
+    Refused(Refusal),
+}
+
+/// Tells that the file of this name could not be taken, and why.
+fn tell_untaken(report: &mut Report, name: &[u8], untaken: Untaken)
     ensures any { report.new.any_refused ≡ true }
-    ensures told { TellsOne report.old report.new
-        (entry (codes "read") name.now (Refused refusal)) }
+    ensures told { TellsFile report.old report.new name.now }
 {
-    report.refused("read", name.as_bytes(), refusal);
+    match untaken {
+        Untaken::Refused(refusal) => report.refused("read", name, refusal),
+        Untaken::Unread(Unread::Young) => report.left(name, b"too young, next look\n"),
+        Untaken::Unread(Unread::Changed) => report.left(name, b"changed, next look\n"),
+        Untaken::Unread(Unread::TooLong(length)) => {
+            report.missed(name, long_text(length).as_slice());
+        }
+        Untaken::Unread(Unread::System(error)) => tell_fault(report, name, error),
+    }
+}
+
+/// Tells that the system refused to read the file of this name.
+fn tell_fault(report: &mut Report, name: &[u8], error: io::Error)
+    ensures any { report.new.any_refused ≡ true }
+    ensures told { TellsFile report.old report.new name.now }
+{
+    match read_refusal(error) {
+        Refusal::ReadFault => report.missed(name, fault_text(error).as_slice()),
+        refusal => report.refused("read", name, refusal),
+    }
+}
+
+/// What is told of a file of so many bytes.
+fn long_text(length: u64) -> TextLine {
+    let mut text = TextLine::new();
+    let refusal = Refusal::BodyTooLong;
+    let _ = writeln!(
+        text,
+        "refused {refusal}: {length} bytes, at most {MAX_BODY}"
+    );
+    text
+}
+
+/// What is told of a file that the system did not read, for this reason.
+fn fault_text(error: io::Error) -> TextLine {
+    let mut text = TextLine::new();
+    let refusal = Refusal::ReadFault;
+    let fault = OpenFault::System(error);
+    let _ = writeln!(text, "refused {refusal}: {fault}");
+    text
 }
 
 /// The bytes of the name at this place; `None` if there is no such place.
@@ -134,18 +187,20 @@ fn read<S: Shelf + Drop>(
     alloc: Global,
     types: &FileTypes,
     name: &Name,
-) -> Result<Wanted, Refusal>
+) -> Result<Wanted, Untaken>
     ensures same { S.path shelf.new ≡ S.path shelf.old }
     ensures took { MatchResult result
         (Takes types.now name.now (S.gave shelf.old) (S.gave shelf.new))
         (λ _. Misses name.now (S.gave shelf.old) (S.gave shelf.new)) }
 {
-    let most = u64::from(MAX_BODY) + 1;
-    let bytes = match shelf.read(alloc, name.as_bytes(), most) {
+    let bytes = match shelf.read(alloc, name.as_bytes(), u64::from(MAX_BODY)) {
         Ok(bytes) => bytes,
-        Err(error) => return Err(read_refusal(error)),
+        Err(unread) => return Err(Untaken::Unread(unread)),
     };
-    wanted_of_file(types, name, bytes)
+    match wanted_of_file(types, name, bytes) {
+        Ok(wanted) => Ok(wanted),
+        Err(refusal) => Err(Untaken::Refused(refusal)),
+    }
 }
 
 /// What is wanted of a file of this name with these bytes.
@@ -168,7 +223,7 @@ fn wanted(name: &Name, file_type: &FileType, body: Body) -> Result<Wanted, Alloc
     Ok(Wanted {
         name: name.clone()?,
         content: file_type.content,
-        mime: Some(file_type.mime.clone()?),
+        mime: file_type.mime.clone()?,
         body,
     })
 }

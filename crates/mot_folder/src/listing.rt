@@ -1,9 +1,11 @@
 //! The files of a folder that are objects.
-ghost use Rattle.std.specs.Prelude.{◌≡◌, ◌↔◌, ◌<◌, ◌∷◌, ◌++◌, [], true, false, length};
+ghost use Rattle.std.specs.List.{insert};
+ghost use Rattle.std.specs.Prelude.{◌≡◌, ◌↔◌, ◌<◌, ◌≤◌, ◌∷◌, [], true, false, length};
 ghost use Rattle.std.specs.Prelude.{if◌then◌else◌, IfErr, IfOk, IfNone, IfSome, IsOk, IsTrue};
 ghost use Rattle.std.specs.Prelude.{OnErr, OnOk};
 ghost use Rattle.mot_folder.specs.Inner.Listing.{GivesAll, GoesOn, IsUnread, WereAsked};
-ghost use Rattle.mot_folder.specs.Listed.{IsListing, and_object, has_type, names_in};
+ghost use Rattle.mot_folder.specs.Listed.{IsListing, and_in_order, and_object, has_type};
+ghost use Rattle.mot_folder.specs.Listed.{names_in};
 ghost use Rattle.mot_folder.specs.Log.{TellsAnswers};
 ghost use Rattle.mot_folder.specs.Looked.{IsUnlisted};
 ghost use Rattle.mot_numbers.specs.declared.refusal.Refusal.TheVariants.{TooManyObjects};
@@ -15,12 +17,13 @@ ghost use Rattle.mot_update.specs.Updating.{is_known};
 
 use crate::report::Report;
 use memchr::memchr;
+use mot_lines::TextLine;
 use mot_numbers::Refusal;
 use mot_objects::Name;
-use mot_shelf::Shelf;
+use mot_shelf::{Kind, Shelf};
 use mot_suffixes::FileTypes;
 use std::alloc::{AllocError, Global};
-use std::io::{self, ErrorKind};
+use std::io::{self, ErrorKind, Write};
 
 /// Room for the names that one read of a folder gives.
 const ROOM: usize = 16_384;
@@ -31,7 +34,7 @@ const MAX_NAMES: u32 = 1_000;
 /// Names of files, each once.
 #[derive(Drop)]
 pub struct FileNames {
-    /// The names, as the folder gave them.
+    /// The names, in their order.
     pub names: Vec<Name>,
     /// How many names were counted.
     counted: u32,
@@ -71,18 +74,32 @@ impl FileNames {
         self.names.iter().any(|other| name == other.as_bytes())
     }
 
-    /// One more, if it is not one of them already.
+    /// One more, in its place, if it is not one of them already.
     pub fn add(&mut self, name: Name) -> Result<(), AllocError>
         ensures added { OnOk result (self.new.names.items
             ≡ (if is_known self.old.names.items name then self.old.names.items
-            else self.old.names.items ++ name ∷ [])) }
+            else and_in_order self.old.names.items name)) }
         ensures kept { OnErr result (self.new.names.items ≡ self.old.names.items) }
     {
         if !self.has(&name) {
-            self.names.push(name)?;
+            let place = place_in(&self.names, name.as_bytes());
+            self.names.insert(place, name)?;
         }
         Ok(())
     }
+}
+
+/// The place of the first of the names that this one stands before, or of the end.
+fn place_in(names: &[Name], name: &[u8]) -> usize
+    ensures within { result ≤ length names.now }
+    ensures ordered { insert names.now result name.now ≡ and_in_order names.now name.now }
+{
+    for place in 0..names.len() {
+        if name < names[place].as_bytes() {
+            return place;
+        }
+    }
+    names.len()
 }
 
 /// The names of the regular files directly in the folder that have one of the suffixes and do not
@@ -192,15 +209,39 @@ fn add_one<S: Shelf + Drop>(
     ensures why { IfErr result IsUnlisted }
 {
     if !is_object(types, name) {
+        tell_skipped(shelf, alloc, name, false, report);
         return Ok(());
     }
     names.count()?;
     match shelf.is_file(alloc, name) {
         Ok(true) => add_file(alloc, name, names, report)?,
-        Ok(false) => {}
+        Ok(false) => tell_skipped(shelf, alloc, name, true, report),
         Err(error) => return Err(read_refusal(error)),
     }
     Ok(())
+}
+
+/// Tells why this name is left out, which has one of the suffixes or none, but for one that begins
+/// with a dot.
+fn tell_skipped<S: Shelf + Drop>(
+    shelf: &S,
+    alloc: Global,
+    name: &[u8],
+    has_suffix: bool,
+    report: &mut Report,
+)
+    ensures told { TellsMore (TellsAnswers report.old) (TellsAnswers report.new) [] }
+{
+    if name.first() == Some(&b'.') || report.is_full() {
+        return;
+    }
+    match shelf.kind(alloc, name) {
+        Some(Kind::Folder) => report.skipped(name, b"folder\n"),
+        Some(Kind::Link) => report.skipped(name, b"link\n"),
+        Some(Kind::Special) => report.skipped(name, b"special\n"),
+        Some(Kind::File) if !has_suffix => report.skipped(name, b"suffix\n"),
+        _ => {}
+    }
 }
 
 /// Whether the name has one of the suffixes.
@@ -225,9 +266,22 @@ fn add_file(
 {
     match Name::new(Vec::from_slice(alloc, name)?) {
         Ok(name) => names.add(name)?,
-        Err(refusal) => report.refused("read", name, refusal),
+        Err(_) => report.missed(name, name_text(name).as_slice()),
     }
     Ok(())
+}
+
+/// What is told of a file whose name can't be an object's.
+fn name_text(name: &[u8]) -> TextLine {
+    let mut text = TextLine::new();
+    let refusal = Refusal::BadName;
+    let why = if name.contains(&b' ') {
+        "a space"
+    } else {
+        "a control character"
+    };
+    let _ = writeln!(text, "refused {refusal}: {why}");
+    text
 }
 
 /// Why something could not be read.

@@ -1,19 +1,28 @@
 //! A look at a folder, and looks between the packets of a feed.
-ghost use Rattle.std.specs.Prelude.{◌≡◌, ◌-◌, ◌∷◌, [], None, OnOk, true, false};
+ghost use Rattle.std.specs.Prelude.{◌≡◌, ◌∷◌, [], None, OnOk, true, false, ℕ, List, length};
 ghost use Rattle.disk_model.specs.Disk.{KeepsLength};
 ghost use Rattle.mot_packets.specs.Outlet.{Grows};
 ghost use Rattle.mot_update.specs.Between.{AtLooks, IsUpdating, may_change};
-ghost use Rattle.mot_folder.specs.Looked.{HasLookedAtFolder, is_due};
+ghost use Rattle.mot_folder.specs.Log.{TellsAnswers, TellsOf};
+ghost use Rattle.mot_folder.specs.Looked.{HasLookedAtFolder, is_due, is_kept, left_behind};
+ghost use Rattle.mot_folder.specs.Looked.{packets_left};
 ghost use Rattle.mot_journal.specs.Image.{Standing};
 ghost use Rattle.mot_repository.specs.Repository.{Holds};
 ghost use Rattle.mot_update.specs.Faults.{TellsFaults};
+ghost use Rattle.mot_shelf.specs.Given.{Given};
+ghost use Rattle.mot_suffixes.specs.Types.{SuffixType};
+ghost use Rattle.mot_update.specs.Told.{Answer, TellsMore};
+ghost use Rattle.mot_update.specs.declared.wanted.Wanted.{Wanted};
 ghost use Rattle.mot_server.specs.Attempts.{fault_of};
 
 use crate::folder::Folder;
-use crate::listing::list;
+use crate::listing::{FileNames, list};
+use crate::report::Report;
+use arrayvec::ArrayVec;
 use disk_model::Disk;
 use mot_lines::cut_at_line_end;
 use mot_numbers::Refusal;
+use mot_objects::Carousel;
 use mot_server::Server;
 use mot_shelf::Shelf;
 use mot_suffixes::FileTypes;
@@ -26,8 +35,15 @@ use std::mem::swap;
 /// number is set.
 const PACKETS: u64 = 1_000;
 
+/// How many packets come before a look that may take what the one before it left.
+const SOON: u64 = 100;
+
+/// Room for what is noted of a folder.
+const REST: usize = 64;
+
 /// Makes the carousel equal to the files of the folder that have one of the suffixes. A folder that
-/// can't be listed, or has too many of them, is logged, and changes nothing. The errors are those
+/// can't be listed, has too many of them, or has no object and may not be empty while the carousel
+/// has some, is logged, and changes nothing. The errors are those
 /// of `look`, and `OutOfMemory` if memory ran out for a line, or for the subject of a line.
 pub fn look_at_folder<S: Shelf + Drop, D: Disk>(
     alloc: Global,
@@ -40,8 +56,8 @@ pub fn look_at_folder<S: Shelf + Drop, D: Disk>(
     ensures looked { (s : Standing) → Holds server.old.view s (D.state server.old.disk)
         → (D.state server.new.disk).IsHonest
         → HasLookedAtFolder server.old server.new (D.state server.old.disk)
-        (D.state server.new.disk) s folder.old.types.now (S.path folder.old.shelf)
-        (S.gave folder.new.shelf) folder.new.report (fault_of result) }
+        (D.state server.new.disk) s folder.old.types.now folder.old.allows_empty
+        (S.path folder.old.shelf) (S.gave folder.new.shelf) folder.new.report (fault_of result) }
 
     // If it came to its end, a line was written for everything that is logged.
     ensures whole { OnOk result (folder.new.report.any_left_out ≡ false) }
@@ -56,13 +72,70 @@ pub fn look_at_folder<S: Shelf + Drop, D: Disk>(
             return folder.report.end();
         }
     }
+    if is_kept(folder.allows_empty, &folder.names, server.carousel()) {
+        let path = folder.shelf.shown().as_bytes();
+        folder.report.kept(path);
+        return folder.report.end();
+    }
+    note_most(
+        &mut folder.report,
+        folder.shelf.shown(),
+        &folder.names,
+        server.carousel(),
+    );
     folder.place = 0;
     look(server, alloc, folder)?;
+    note_gap(
+        &mut folder.report,
+        folder.shelf.shown(),
+        server.longest_gap(),
+    );
     folder.report.end()
 }
 
-/// Looks at a folder before the first packet, and then where one may come, at the first such place
-/// after 1,000 packets, or after as many as `every` is set to. The lines of a look are written to the log and flushed after it, except those that the
+/// Whether the objects of the carousel stay, since the folder has none.
+fn is_kept(allows_empty: bool, names: &FileNames, carousel: &Carousel) -> bool
+    ensures { result ≡ is_kept allows_empty names.now.names.items
+        (length carousel.now.objects.items) }
+{
+    !allows_empty && names.names.is_empty() && !carousel.objects.is_empty()
+}
+
+/// Notes how many objects are not known, if they are more than half of them.
+fn note_most(report: &mut Report, path: &str, names: &FileNames, carousel: &Carousel)
+    ensures told { TellsMore (TellsAnswers report.old) (TellsAnswers report.new) [] }
+{
+    let all = carousel.objects.len();
+    let unknown = carousel
+        .objects
+        .iter()
+        .filter(|object| !names.has(&object.name))
+        .count();
+    if unknown > all / 2 {
+        let mut rest = ArrayVec::<u8, REST>::new();
+        let _ = writeln!(rest, "{unknown} of {all} objects go");
+        report.noted(path.as_bytes(), rest.as_slice());
+    }
+}
+
+/// Notes how many bytes an object may have now, if there was no room for one.
+fn note_gap(report: &mut Report, path: &str, gap: u32)
+    ensures told { (types : List SuffixType) (given : Given) (names : List (List ℕ))
+        (answers : List Answer) (wanted : List Wanted)
+        → TellsOf types given report.old names answers wanted
+        → TellsOf types given report.new names answers wanted }
+    ensures same { report.new.any_refused ≡ report.old.any_refused }
+{
+    if report.any_without_room {
+        let mut rest = ArrayVec::<u8, REST>::new();
+        let _ = writeln!(rest, "{gap} bytes in the longest gap");
+        report.noted(path.as_bytes(), rest.as_slice());
+    }
+}
+
+/// Looks at a folder before the first packet, and then where one may come, after 1,000 packets, or
+/// after as many as `every` is set to; or after 100, if a file is left that may be taken then. The
+/// lines of a look are written to the log and flushed after it, except those that the
 /// look before had, too. If that fails, the look counts all the same.
 #[derive(Drop)]
 pub struct Looks<'a, S: Shelf + Drop, W: Write + Drop> {
@@ -73,23 +146,26 @@ pub struct Looks<'a, S: Shelf + Drop, W: Write + Drop> {
     before: Vec<u8>,
     /// How many packets come between two looks, and then those up to where one may come.
     pub every: u64,
+    /// Whether looks come within turns: then only the packets count in front of which one may come.
+    pub within: bool,
     /// How many packets come before the next look.
     pub left: u64,
 }
 
 impl<'a, S: Shelf + Drop, W: Write + Drop> Looks<'a, S, W> {
     /// No look yet.
-    pub fn new(alloc: Global, shelf: S, types: &'a FileTypes, log: W) -> Looks<'a, S, W>
+    pub fn new(alloc: Global, folder: Folder<'a, S>, log: W) -> Looks<'a, S, W>
         ensures due { result.left ≡ 0 }
         ensures every { result.every ≡ PACKETS }
-        ensures shelf { result.folder.shelf ≡ shelf }
-        ensures types { result.folder.types.now ≡ types.now }
+        ensures within { result.within ≡ false }
+        ensures folder { result.folder ≡ folder.entry }
     {
         Looks {
-            folder: Folder::new(alloc, shelf, types),
+            folder,
             log,
             before: Vec::new(alloc),
             every: PACKETS,
+            within: false,
             left: 0,
         }
     }
@@ -115,23 +191,25 @@ impl<'a, S: Shelf + Drop, W: Write + Drop> Update for Looks<'a, S, W> {
 
         // It looks if a look is due, and else it only counts.
         ensures counts { is_due self.old.left may_look ≡ false
-            → (server.new ≡ server.old) × (self.new.left ≡ self.old.left - 1) }
-        ensures looks { is_due self.old.left may_look ≡ true → self.new.left ≡ self.old.every }
-        ensures pace { self.new.every ≡ self.old.every }
+            → (server.new ≡ server.old)
+            × (self.new.left ≡ left_behind self.old.within may_look self.old.left) }
+        ensures looks { is_due self.old.left may_look ≡ true
+            → self.new.left ≡ packets_left self.new.folder.report.any_left self.old.every }
+        ensures pace { (self.new.every ≡ self.old.every) × (self.new.within ≡ self.old.within) }
         ensures looked { is_due self.old.left may_look ≡ true
             → (s : Standing) → Holds server.old.view s (D.state server.old.disk)
             → (D.state server.new.disk).IsHonest
             → HasLookedAtFolder server.old server.new (D.state server.old.disk)
-            (D.state server.new.disk) s self.old.folder.types.now
+            (D.state server.new.disk) s self.old.folder.types.now self.old.folder.allows_empty
             (S.path self.old.folder.shelf) (S.gave self.new.folder.shelf) self.new.folder.report
             (fault_of result) }
     {
-        if !look_is_due(&mut self.left, may_look) {
+        if !look_is_due(&mut self.left, self.within, may_look) {
             return Ok(());
         }
-        self.left = self.every;
         swap(&mut self.before, &mut self.folder.report.lines);
         let result = look_at_folder(alloc, server, &mut self.folder);
+        self.left = packets_left(self.folder.report.any_left, self.every);
         tell_new(
             &mut self.log,
             self.folder.report.lines.as_slice(),
@@ -141,12 +219,25 @@ impl<'a, S: Shelf + Drop, W: Write + Drop> Update for Looks<'a, S, W> {
     }
 }
 
-/// Counts a packet of those that come before the next look; whether that is due.
-fn look_is_due(left: &mut u64, may_look: bool) -> bool
-    ensures due { result ≡ is_due left.old may_look }
-    ensures counts { left.new ≡ left.old - 1 }
+/// How many packets come before the next look, after one that left a file for it, or none.
+fn packets_left(any_left: bool, every: u64) -> u64
+    ensures { result ≡ packets_left any_left every }
 {
-    *left = left.saturating_sub(1);
+    if any_left && SOON <= every {
+        SOON
+    } else {
+        every
+    }
+}
+
+/// Counts a packet of those that come before the next look; whether that is due.
+fn look_is_due(left: &mut u64, within: bool, may_look: bool) -> bool
+    ensures due { result ≡ is_due left.old may_look }
+    ensures counts { left.new ≡ left_behind within may_look left.old }
+{
+    if may_look || !within {
+        *left = left.saturating_sub(1);
+    }
     may_look && *left == 0
 }
 

@@ -1,15 +1,24 @@
 //! What a refusal is about: the file that was not opened, made or written, or the option whose
 //! number is out of its range. It is printed, and nothing is decided by it.
 use clap::ArgMatches;
+use disk_store::OpenFault;
 use mot_files::{Cause, OUTPUT, SUFFIX};
 use mot_numbers::Refusal;
-use std::io::Write;
+use mot_reason::Reason;
+use std::io::{ErrorKind, Write};
 
 /// What a refusal is about.
 #[derive(Clone, Copy)]
 pub enum Subject<'a> {
     /// What the refusal itself says.
     Nothing,
+    /// The disk at this path, for this reason.
+    Disk {
+        /// The path.
+        path: &'a str,
+        /// The reason.
+        reason: Reason,
+    },
     /// The file at this path, for this cause.
     File {
         /// The path.
@@ -51,7 +60,11 @@ pub fn subject_of<'a>(
     refusal: Refusal,
     words: &ArgMatches<'a>,
     cause: Option<Cause>,
+    reason: Option<Reason>,
 ) -> Subject<'a> {
+    if let (Some(path), Some(reason)) = (words.get_str("DISK"), reason) {
+        return Subject::Disk { path, reason };
+    }
     match cause {
         Some(cause) => match words.get_str(word_of_cause(cause)) {
             Some(path) => Subject::File { path, cause },
@@ -102,9 +115,13 @@ fn is_within(text: &str, least: u32, most: u32, step: u32) -> bool {
 pub(crate) fn tell<E: Write>(errors: &mut E, subject: Subject<'_>) {
     match subject {
         Subject::Nothing => {}
+        Subject::Disk { path, reason } => {
+            let _ = writeln!(errors, "motcar: {path}: {reason}");
+        }
         Subject::File { path, cause } => {
             let (name, suffix) = shown(path, cause);
-            let _ = writeln!(errors, "motcar: {name}{suffix}: {cause}");
+            let hint = hint_of(cause);
+            let _ = writeln!(errors, "motcar: {name}{suffix}: {cause}{hint}");
         }
         Subject::Number {
             option,
@@ -121,6 +138,44 @@ fn shown(path: &str, cause: Cause) -> (&str, &'static str) {
     match cause {
         Cause::Packets(_) if path == OUTPUT => ("standard output", ""),
         Cause::NewFile(_) => (path, SUFFIX),
+        Cause::Disk(fault) => (path, suffix_beside(fault)),
         _ => (path, ""),
+    }
+}
+
+/// What is added to a disk's path for the file beside it that stood in the way of its opening. The
+/// opening answers that by a kind of its own, which no call of the system has given.
+fn suffix_beside(fault: OpenFault) -> &'static str {
+    match fault {
+        OpenFault::System(error) if error.raw_os_error().is_none() => match error.kind() {
+            ErrorKind::Unsupported => "-wal",
+            ErrorKind::AlreadyExists => "-journal",
+            _ => "",
+        },
+        _ => "",
+    }
+}
+
+/// What to do about a disk that was not opened or made.
+fn hint_of(cause: Cause) -> &'static str {
+    match cause {
+        Cause::Disk(OpenFault::System(error)) => match error.kind() {
+            ErrorKind::NotFound | ErrorKind::NotADirectory | ErrorKind::IsADirectory => {
+                "; check the path"
+            }
+            ErrorKind::PermissionDenied => {
+                "; motcar has to read and write it, and the file -wal beside it"
+            }
+            ErrorKind::ReadOnlyFilesystem => "; the disk has to be written",
+            ErrorKind::StorageFull | ErrorKind::QuotaExceeded => "; make room",
+            ErrorKind::ResourceBusy => "; another program has it: end that",
+            ErrorKind::Unsupported => "; it has to be a regular file of one name: move it away",
+            ErrorKind::AlreadyExists => "; move it away",
+            _ => "",
+        },
+        Cause::Disk(OpenFault::InUse) => "; end that program first",
+        Cause::Disk(OpenFault::NoDisk) => "; check the path",
+        Cause::Disk(OpenFault::SecondName) => "; remove the other name",
+        _ => "",
     }
 }

@@ -1,5 +1,5 @@
 //! The disk that a task worked on, as it is left.
-ghost use Rattle.std.specs.Prelude.{◌≡◌, Err, Some};
+ghost use Rattle.std.specs.Prelude.{◌≡◌, Err, None, Some};
 ghost use Rattle.mot_files.specs.declared.fault.Cause.TheVariants.{Disk};
 ghost use Rattle.mot_numbers.specs.declared.refusal.Refusal.TheVariants.{DeviceFault};
 ghost use Rattle.mot_outcome.specs.declared.used.UsedDisk.TheVariants.{OfFile, Untouched};
@@ -8,6 +8,7 @@ use disk_store::{Beginning, BegunFile, FileDiskFrom, RamDisk, Start, Unopened};
 use mot_files::{Cause, Taken};
 use mot_numbers::Refusal;
 use mot_reading::Ended;
+use mot_reason::Reason;
 use mot_shelf::Seen;
 
 /// The disk that a task worked on. The value of `S` is used up if a file is opened or made, so that
@@ -67,6 +68,8 @@ pub struct Finished<S: Start, T> {
     pub disk: UsedDisk<S>,
     /// Why it was refused, if more is known than the refusal says.
     pub cause: Option<Cause>,
+    /// Why its disk was refused, if that is known.
+    pub reason: Option<Reason>,
 }
 
 impl<S: Start, T> Finished<S, T> {
@@ -76,12 +79,14 @@ impl<S: Start, T> Finished<S, T> {
           result = Err refusal;
           disk = Untouched start;
           cause = cause;
+          reason = None;
         } }
     {
         Finished {
             result: Err(refusal),
             disk: UsedDisk::Untouched(start),
             cause,
+            reason: None,
         }
     }
 
@@ -91,6 +96,7 @@ impl<S: Start, T> Finished<S, T> {
           result = Err DeviceFault;
           disk = Untouched unopened.start;
           cause = Some (Disk unopened.fault);
+          reason = None;
         } }
     {
         let cause = Cause::Disk(unopened.fault);
@@ -107,12 +113,14 @@ impl<S: Start, T> Finished<S, T> {
           result = ended.result;
           disk = OfFile ended.disk.disk beside;
           cause = cause;
+          reason = ended.reason;
         } }
     {
         Finished {
             result: ended.result,
             disk: UsedDisk::OfFile(ended.disk.disk, beside),
             cause,
+            reason: ended.reason,
         }
     }
 }

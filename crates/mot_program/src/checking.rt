@@ -16,7 +16,7 @@ use mot_numbers::Refusal;
 use mot_objects::Carousel;
 use mot_outcome::{Beside, Finished, write_bytes, write_last};
 use mot_reading::Ended;
-use mot_repository::Repository;
+use mot_reason::open_repository;
 use mot_session::write_listing;
 use std::alloc::Global;
 use std::io::Write;
@@ -55,7 +55,7 @@ pub(crate) fn check_disk<D: Disk, W: Write>(alloc: Global, disk: D, writer: &mut
     ensures refused { IfErr result.result (λ r. StopsChecking r
         (W.contents writer.old) (W.contents writer.new) (D.state disk) (D.state result.disk)) }
 {
-    let mut repository = match Repository::open(alloc, disk) {
+    let mut repository = match open_repository(alloc, disk) {
         Ok(repository) => repository,
         Err(refused) => return Ended::unopened(refused),
     };
@@ -63,10 +63,12 @@ pub(crate) fn check_disk<D: Disk, W: Write>(alloc: Global, disk: D, writer: &mut
         Ok(is_clean) => Ended {
             result: write_report(writer, repository.carousel(), is_clean, repository.layout()),
             disk: repository.into_disk(),
+            reason: None,
         },
         Err(refusal) => Ended {
             result: Err(refusal),
             disk: repository.into_disk(),
+            reason: None,
         },
     }
 }

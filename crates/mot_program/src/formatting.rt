@@ -17,6 +17,7 @@ use mot_journal::format_from;
 use mot_numbers::{Geometry, Refusal, TransportId};
 use mot_outcome::{Beside, Finished, write_bytes, write_last};
 use mot_reading::Ended;
+use mot_reason::Reason;
 use std::io::Write;
 
 /// Makes a disk of the file at the path. The file is made if it can't be opened, and removed again
@@ -45,7 +46,12 @@ pub(crate) fn format_file<F: DiskFiles, S: Start, W: Write>(
     match files.open_disk(path, start) {
         Ok(mut disk) => {
             let result = format_disk(&mut disk, &geometry, directory, writer);
-            Finished::of_file(Ended { disk, result }, Beside::nothing(), None)
+            let ended = Ended {
+                reason: reason_of(&result, &disk, &geometry),
+                disk,
+                result,
+            };
+            Finished::of_file(ended, Beside::nothing(), None)
         }
         Err(unopened) => format_new_file(files, path, unopened, geometry, directory, writer),
     }
@@ -79,7 +85,20 @@ fn format_new_file<F: DiskFiles, S: Start, W: Write>(
     if is_unformatted(&result) {
         files.take_away(path);
     }
-    Finished::of_file(Ended { disk, result }, Beside::nothing(), None)
+    let ended = Ended {
+        disk,
+        result,
+        reason: None,
+    };
+    Finished::of_file(ended, Beside::nothing(), None)
+}
+
+/// Why a disk that was there was not formatted.
+fn reason_of<D: Disk>(made: &Result<(), Refusal>, disk: &D, geometry: &Geometry) -> Option<Reason> {
+    match made {
+        Ok(()) => None,
+        Err(refusal) => Reason::of_formatting(*refusal, disk.len(), geometry),
+    }
 }
 
 /// Whether formatting failed, and not only the telling of it.

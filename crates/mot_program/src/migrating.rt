@@ -10,7 +10,7 @@ use disk_model::Disk;
 use disk_store::{DiskFiles, Start};
 use mot_outcome::{Beside, Finished, write_last};
 use mot_reading::Ended;
-use mot_repository::Repository;
+use mot_reason::open_repository;
 use std::alloc::Global;
 use std::io::Write;
 
@@ -53,7 +53,7 @@ pub(crate) fn migrate_disk<D: Disk, W: Write>(
     ensures refused { IfErr result.result (λ r. StopsMigrating r
         (W.contents writer.old) (W.contents writer.new) (D.state disk) (D.state result.disk)) }
 {
-    let mut repository = match Repository::open(alloc, disk) {
+    let mut repository = match open_repository(alloc, disk) {
         Ok(repository) => repository,
         Err(refused) => return Ended::unopened(refused),
     };
@@ -61,10 +61,12 @@ pub(crate) fn migrate_disk<D: Disk, W: Write>(
         Ok(is_rewritten) => Ended {
             result: write_last(writer, migrated_text(is_rewritten)),
             disk: repository.into_disk(),
+            reason: None,
         },
         Err(refusal) => Ended {
             result: Err(refusal),
             disk: repository.into_disk(),
+            reason: None,
         },
     }
 }

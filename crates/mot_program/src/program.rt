@@ -98,7 +98,7 @@ fn run_command<F: DiskFiles, B: Start, R: Read, W: Write, E: Write>(
         (F.taken_away files.old) (F.taken_away files.new) }
 {
     let Some(task) = program_task(name, words) else {
-        let subject = subject_of(Refusal::BadGeometry, words, None);
+        let subject = subject_of(Refusal::BadGeometry, words, None, None);
         return refuse(
             errors,
             Refusal::BadGeometry,
@@ -110,10 +110,16 @@ fn run_command<F: DiskFiles, B: Start, R: Read, W: Write, E: Write>(
         result,
         disk,
         cause,
+        reason,
     } = execute(files, alloc, task, start, reader, writer);
     match result {
         Ok(()) => Exit::unrefused(0, disk),
-        Err(refusal) => refuse(errors, refusal, subject_of(refusal, words, cause), disk),
+        Err(refusal) => refuse(
+            errors,
+            refusal,
+            subject_of(refusal, words, cause, reason),
+            disk,
+        ),
     }
 }
 

@@ -14,7 +14,7 @@ use mot_journal::format;
 use mot_numbers::{Geometry, Refusal};
 use mot_outcome::{Beside, Finished, UsedDisk};
 use mot_reading::Ended;
-use mot_server::Server;
+use mot_reason::open_server;
 use mot_session::{MAX_READS, serve};
 use std::alloc::Global;
 use std::io::{Read, Write};
@@ -53,6 +53,7 @@ pub(crate) fn serve_memory<S: Start, R: Read, W: Write>(
         result: ended.result,
         disk: UsedDisk::InMemory(ended.disk, start),
         cause: None,
+        reason: None,
     }
 }
 
@@ -104,7 +105,7 @@ fn serve_disk<R: Read, W: Write, D: Disk>(
         (W.contents writer.old) (W.contents writer.new)
         (D.state disk) (D.state result.disk)) }
 {
-    let mut server = match Server::open(alloc, disk) {
+    let mut server = match open_server(alloc, disk) {
         Ok(server) => server,
         Err(refused) => return Ended::unopened(refused),
     };
@@ -112,6 +113,7 @@ fn serve_disk<R: Read, W: Write, D: Disk>(
     Ended {
         disk: server.into_disk(),
         result: result_of(fault),
+        reason: None,
     }
 }
 

@@ -16,6 +16,7 @@ use crate::Ended;
 use disk_model::Disk;
 use mot_lines::{period_text, put_text};
 use mot_numbers::Refusal;
+use mot_reason::open_server;
 use mot_server::Server;
 use mot_session::write_whole;
 use std::alloc::Global;
@@ -34,7 +35,7 @@ pub fn export_disk<D: Disk, W: Write>(alloc: Global, disk: D, writer: &mut W) ->
     ensures refused { IfErr result.result (λ r. StopsExporting r
         (W.contents writer.old) (W.contents writer.new) (D.state disk) (D.state result.disk)) }
 {
-    let mut server = match Server::open(alloc, disk) {
+    let mut server = match open_server(alloc, disk) {
         Ok(server) => server,
         Err(refused) => return Ended::unopened(refused),
     };
@@ -42,6 +43,7 @@ pub fn export_disk<D: Disk, W: Write>(alloc: Global, disk: D, writer: &mut W) ->
     Ended {
         disk: server.into_disk(),
         result,
+        reason: None,
     }
 }
 

@@ -27,6 +27,7 @@ use mot_journal::Layout;
 use mot_numbers::{Geometry, Refusal};
 use mot_objects::Object;
 use mot_player::Played;
+use mot_reason::open_server;
 use mot_server::Server;
 use mot_session::write_whole;
 use std::alloc::Global;
@@ -57,7 +58,7 @@ pub fn inspect_disk<D: Disk, W: Write>(
     // The lengths that are told of the disk's own packets are those of the turn that is played.
     ensures lengths { TurnsHaveTheirLengths }
 {
-    let mut server = match Server::open(alloc, disk) {
+    let mut server = match open_server(alloc, disk) {
         Ok(server) => server,
         Err(refused) => return Ended::unopened(refused),
     };
@@ -65,6 +66,7 @@ pub fn inspect_disk<D: Disk, W: Write>(
     Ended {
         disk: server.into_disk(),
         result,
+        reason: None,
     }
 }
 

@@ -10,8 +10,8 @@ use Rattle.mot_numbers.specs.declared.refusal.Refusal.TheVariants.{NameTaken, To
 use Rattle.mot_objects.specs.declared.command.Command.{Command}
 use Rattle.mot_objects.specs.declared.command.Command.TheVariants.{Put, Replace, Withdraw, Period}
 use Rattle.mot_objects.specs.declared.command.Done.{Done}
-use Rattle.mot_objects.specs.Carousel.{Carousel, IsSound, Object, change, change_if_named, change_to}
-use Rattle.mot_objects.specs.Carousel.{free_object_id, has_name, new_object, objects_with}
+use Rattle.mot_objects.specs.Carousel.{Carousel, IsSound, Object, change, change_if_named}
+use Rattle.mot_objects.specs.Carousel.{change_to, free_object_id, has_name, new_object, objects_with}
 use Rattle.mot_objects.specs.Carousel.{objects_without, renewed_object, used_ids}
 use Rattle.mot_objects.specs.Ids.{contains, is_distinct}
 use Rattle.mot_objects.proofs.Laws.{next_free_id-nearest}

@@ -4,7 +4,9 @@
 mod pairs;
 mod shelf;
 mod system;
+mod unread;
 
 pub use pairs::Pairs;
-pub use shelf::Shelf;
+pub use shelf::{Kind, Shelf};
 pub use system::{Seen, SystemShelf, open_folder};
+pub use unread::Unread;

@@ -3,8 +3,22 @@ ghost use Rattle.std.specs.Prelude.{◌≡◌, ◌≤◌, ℕ, List, IfOk, Match
 ghost use Rattle.mot_shelf.specs.Given.{Given, and_asked, and_listed, and_missed, and_read};
 ghost use Rattle.mot_shelf.specs.Given.{nothing};
 
+use crate::Unread;
 use std::alloc::Global;
 use std::io;
+
+/// What a name in a folder names.
+#[derive(Clone, Copy)]
+pub enum Kind {
+    /// A regular file.
+    File,
+    /// A folder.
+    Folder,
+    /// A symbolic link.
+    Link,
+    /// Anything else: a pipe, a socket or a device.
+    Special,
+}
 
 /// One folder. Nothing else is listed or read through it, and what it gave since a look began is
 /// noted for clauses.
@@ -48,9 +62,12 @@ pub trait Shelf {
             (λ is_file. gave self.new ≡ and_asked (gave self.old) name.now is_file)
             (λ _. gave self.new ≡ gave self.old) };
 
-    /// The bytes of the regular file of this name, and of more than `most` so many first ones. An
-    /// error where it was exchanged or changed meanwhile.
-    fn read(&mut self, alloc: Global, name: &[u8], most: u64) -> io::Result<Vec<u8>>
+    /// What this name in it names, to be told; `None` if the system does not say.
+    fn kind(&self, alloc: Global, name: &[u8]) -> Option<Kind>;
+
+    /// The bytes of the regular file of this name, which has so many at most. The error says why
+    /// it was not read.
+    fn read(&mut self, alloc: Global, name: &[u8], most: u64) -> Result<Vec<u8>, Unread>
         ensures same { path self.new ≡ path self.old }
         ensures gave { MatchResult result
             (λ bytes. gave self.new ≡ and_read (gave self.old) name.now bytes.items)

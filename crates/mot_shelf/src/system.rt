@@ -3,15 +3,19 @@
 ghost use Rattle.std.specs.Prelude.{◌≡◌, []};
 ghost use Rattle.mot_shelf.specs.Seen.{given_of};
 
-use crate::Shelf;
 use crate::pairs::Pairs;
+use crate::{Kind, Shelf, Unread};
 use disk_store::Notes;
 use std::alloc::{AllocError, Global};
 use std::fs::{File, Metadata, OpenOptions};
 use std::io::{self, ErrorKind, Read};
 use std::os::unix::fs::MetadataExt;
-use std::rt::Files;
+use std::rt::{Clock, Files};
 use std::str::from_utf8;
+use std::time::{Duration, SystemTime};
+
+/// How many seconds ago the last change of a file has to be.
+const OLD_SECONDS: u64 = 2;
 
 /// What a folder gave since a look began, as lists that only clauses read. It takes no memory, and
 /// only this file adds to it.
@@ -48,19 +52,23 @@ impl Seen {
 pub struct SystemShelf<'a, T: Files<File = File>> {
     rt: &'a T,
     path: &'a str,
+    /// Whether a file is read however young it is.
+    at_once: bool,
     /// The open folder, while its names are listed.
     folder: Option<T::Dir>,
     seen: Seen,
 }
 
 impl<'a, T: Files<File = File>> SystemShelf<'a, T> {
-    /// The folder at this path, which gave nothing yet.
-    pub fn new(rt: &'a T, path: &'a str) -> SystemShelf<'a, T>
+    /// The folder at this path, which gave nothing yet. Files are read `at_once`, or once their last
+    /// change is two seconds ago.
+    pub fn new(rt: &'a T, path: &'a str, at_once: bool) -> SystemShelf<'a, T>
         ensures path { result.path.now ≡ path.now }
     {
         SystemShelf {
             rt,
             path,
+            at_once,
             folder: None,
             seen: Seen::nothing(),
         }
@@ -74,7 +82,7 @@ impl<'a, T: Files<File = File>> SystemShelf<'a, T> {
     }
 }
 
-impl<'a, T: Files<File = File>> Shelf for SystemShelf<'a, T> {
+impl<'a, T: Files<File = File> + Clock> Shelf for SystemShelf<'a, T> {
     ghost path = { λ shelf. shelf.path.now };
 
     ghost gave = { λ shelf. given_of shelf.seen };
@@ -117,8 +125,12 @@ impl<'a, T: Files<File = File>> Shelf for SystemShelf<'a, T> {
         Ok(is_file)
     }
 
-    fn read(&mut self, alloc: Global, name: &[u8], most: u64) -> io::Result<Vec<u8>> {
-        match read_file(self.rt, alloc, self.path, name, most) {
+    fn kind(&self, alloc: Global, name: &[u8]) -> Option<Kind> {
+        kind_of(self.rt, alloc, self.path, name)
+    }
+
+    fn read(&mut self, alloc: Global, name: &[u8], most: u64) -> Result<Vec<u8>, Unread> {
+        match read_file(self.rt, alloc, self.path, name, most, self.at_once) {
             Ok(bytes) => {
                 self.seen.read.note(name, bytes.as_slice());
                 Ok(bytes)
@@ -159,40 +171,72 @@ fn is_regular<T: Files<File = File>>(
     }
 }
 
-/// The bytes of the regular file of this name in the folder, so many at most.
-fn read_file<T: Files<File = File>>(
+/// What this name in the folder names, if the system says it.
+fn kind_of<T: Files<File = File>>(rt: &T, alloc: Global, path: &str, name: &[u8]) -> Option<Kind> {
+    let Ok(name) = from_utf8(name) else {
+        return None;
+    };
+    let Ok(path) = joined(alloc, path, name) else {
+        return None;
+    };
+    match rt.symlink_metadata(path.as_str()) {
+        Ok(found) if found.is_file() => Some(Kind::File),
+        Ok(found) if found.is_dir() => Some(Kind::Folder),
+        Ok(found) if found.is_symlink() => Some(Kind::Link),
+        Ok(_) => Some(Kind::Special),
+        Err(_) => None,
+    }
+}
+
+/// The bytes of the regular file of this name in the folder, if it has so many at most. One that is
+/// young is read only `at_once`.
+fn read_file<T: Files<File = File> + Clock>(
     rt: &T,
     alloc: Global,
     path: &str,
     name: &[u8],
     most: u64,
-) -> io::Result<Vec<u8>> {
+    at_once: bool,
+) -> Result<Vec<u8>, Unread> {
     let Ok(name) = from_utf8(name) else {
-        return Err(exchanged());
+        return Err(Unread::Changed);
     };
     let path = joined(alloc, path, name)?;
     let named = rt.symlink_metadata(path.as_str())?;
     // What is none is not opened: a pipe would wait for its writer.
     if !named.is_file() {
-        return Err(exchanged());
+        return Err(Unread::Changed);
     }
     let file = OpenOptions::new().read(true).open(rt, path.as_str())?;
     let before = file.metadata()?;
-    if before.dev() != named.dev() || before.ino() != named.ino() {
-        return Err(exchanged());
+    if !before.is_file() || before.dev() != named.dev() || before.ino() != named.ino() {
+        return Err(Unread::Changed);
+    }
+    if !at_once && is_young(rt, &before) {
+        return Err(Unread::Young);
+    }
+    if before.len() > most {
+        return Err(Unread::TooLong(before.len()));
     }
     let mut bytes = Vec::new(alloc);
     let count = (&file).take(most).read_to_end(&mut bytes)?;
     let after = file.metadata()?;
-    if !is_unchanged(&before, &after) || count as u64 != after.len().min(most) {
-        return Err(exchanged());
+    if !is_unchanged(&before, &after) || count as u64 != after.len() {
+        return Err(Unread::Changed);
     }
     Ok(bytes)
 }
 
-/// What is told of a file that is no regular one, or was exchanged or changed.
-fn exchanged() -> io::Error {
-    io::Error::from(ErrorKind::InvalidData)
+/// Whether the last change of a file is less than two seconds ago. One of the future is not, nor is
+/// one if the time of it, or of now, is not known.
+fn is_young<T: Clock>(rt: &T, file: &Metadata) -> bool {
+    match (file.modified(), SystemTime::now(rt)) {
+        (Ok(changed), Ok(now)) => match now.duration_since(changed) {
+            Ok(age) => age < Duration::from_secs(OLD_SECONDS),
+            Err(_) => false,
+        },
+        _ => false,
+    }
 }
 
 /// Whether a file was not written between the two.
@@ -200,6 +244,8 @@ fn is_unchanged(before: &Metadata, after: &Metadata) -> bool {
     before.len() == after.len()
         && before.mtime() == after.mtime()
         && before.mtime_nsec() == after.mtime_nsec()
+        && before.ctime() == after.ctime()
+        && before.ctime_nsec() == after.ctime_nsec()
 }
 
 /// The path of a file in the folder.

@@ -1,6 +1,6 @@
 -- What the words of a line say of a suffix.
 use Rattle.std.proofs.Common.{◌≡◌, ◌≢◌, ◌∙◌, inl, inr, ℕ, true, false, List, [], ◌∷◌}
-use Rattle.std.proofs.Common.{Result, Ok, Err, ap, length, refl, sym}
+use Rattle.std.proofs.Common.{Option, Result, Ok, Err, ap, length, refl, sym}
 use Rattle.std.proofs.lemmas.Bool.{false_from_ne_true}
 use Rattle.std.specs.Prelude.{◌↔◌, IfErr, IfOk, IsOk, is_ok}
 use Rattle.mot_lines.specs.Fields.{content_in}
@@ -13,7 +13,7 @@ use Rattle.mot_objects.specs.Content.{ContentNumbers}
 use Rattle.mot_objects.specs.Mime.{IsMime, is_mime}
 use Rattle.mot_suffixes.specs.Inner.Types.{MayRefuse}
 use Rattle.mot_suffixes.specs.Types.{SuffixType, suffix_in}
-use Rattle.mot_suffixes.specs.Types.{type_mime_in, type_of_words}
+use Rattle.mot_suffixes.specs.Types.{some_mime_in, type_mime_in, type_of_words}
 
 -- an answer that is right, or why it is refused
 pub answer-ok : {A : Type 0} (result answer : Result A Refusal) → result ≡ answer
@@ -29,7 +29,7 @@ answer-why (Err refusal) answer e = inl (sym e)
 
 -- a text that is taken just where its bytes are a MIME type is what they are read as
 pub mime-answer : (bytes : List ℕ) (r : Result (List ℕ) Refusal) → (IsOk r ↔ IsMime bytes)
-    → IfOk r (λ m. m ≡ bytes) → IfErr r (λ e. e ≡ BadMime) → r ≡ type_mime_in bytes
+    → IfOk r (λ m. m ≡ bytes) → IfErr r (λ e. e ≡ BadMime) → r ≡ some_mime_in bytes
 mime-answer bytes (Ok m) v i e = rw (mime_true bytes (v.0 refl)) (ap (λ x. Ok x) i)
 mime-answer bytes (Err r) v i e =
     let other : is_mime bytes ≡ false = false_from_ne_true (is_mime bytes)
@@ -95,6 +95,6 @@ module _ (words : List (List ℕ)) (suffix kind subtype mime : List ℕ)
       said-mime r (inr e) = inr e
 
       -- the line is right
-      pub said-all : (m : List ℕ) → type_mime_in mime ≡ Ok m
+      pub said-all : (m : Option (List ℕ)) → type_mime_in mime ≡ Ok m
           → type_of_words words ≡ Ok (record { suffix = s; content = c; mime = m })
       said-all m e = to_mime ∙ bind _ e

@@ -1,6 +1,6 @@
 -- Which files of a folder are objects, and what they are.
 use Rattle.std.specs.Prelude.{◌≡◌, ◌==◌, ◌⊎◌, ◌||◌, ◌+◌, ℕ, Bool, true, false, not, if◌then◌else◌}
-use Rattle.std.specs.Prelude.{List, [], ◌∷◌, ◌++◌, codes, filter, length}
+use Rattle.std.specs.Prelude.{List, [], ◌∷◌, ◌++◌, bytes_eq, codes, filter, length}
 use Rattle.std.specs.Prelude.{Option, Some, None, Result, Ok, Err}
 use Rattle.std.specs.List.{AllByRecursion, list_any}
 use Rattle.std.specs.Option.{option_or}
@@ -21,13 +21,13 @@ use Rattle.mot_objects.specs.Mime.{is_mime}
 pub record SuffixType : Type 0 where
   pub suffix : List ℕ
   pub content : ContentNumbers
-  pub mime : List ℕ
+  pub mime : Option (List ℕ)
 
 abbrev pub suffix_type : List ℕ → ℕ → ℕ → List ℕ → SuffixType
 suffix_type suffix kind subtype mime = record {
   suffix = suffix;
   content = record { content_type = kind; subtype = subtype };
-  mime = mime;
+  mime = Some mime;
 }
 
 -- the known ones (TS 101 756, table 17)
@@ -36,7 +36,7 @@ known_types =
     suffix_type (codes "txt") 1 0 (codes "text/plain")
     ∷ suffix_type (codes "html") 1 2 (codes "text/html")
     ∷ suffix_type (codes "htm") 1 2 (codes "text/html")
-    ∷ suffix_type (codes "xml") 1 0 (codes "text/xml")
+    ∷ suffix_type (codes "xml") 0 1 (codes "text/xml")
     ∷ suffix_type (codes "gif") 2 0 (codes "image/gif")
     ∷ suffix_type (codes "jpg") 2 1 (codes "image/jpeg")
     ∷ suffix_type (codes "jpeg") 2 1 (codes "image/jpeg")
@@ -49,9 +49,16 @@ abbrev pub suffix_in : List ℕ → Result (List ℕ) Refusal
 suffix_in word =
     if reading.is_empty word || list_any (λ b. b == 46) word then Err BadName else Ok word
 
--- MIME: 1 to 64 bytes 0x21 to 0x7E, and not `-` alone
-abbrev pub type_mime_in : List ℕ → Result (List ℕ) Refusal
-type_mime_in word = if is_mime word then Ok word else Err BadMime
+-- MIME: 1 to 64 bytes 0x21 to 0x7E, and `-` alone for none
+abbrev pub some_mime_in : List ℕ → Result (List ℕ) Refusal
+some_mime_in word = if is_mime word then Ok word else Err BadMime
+
+abbrev pub or_none : Result (List ℕ) Refusal → Result (Option (List ℕ)) Refusal
+or_none (Ok mime) = Ok (Some mime)
+or_none (Err refusal) = Err refusal
+
+abbrev pub type_mime_in : List ℕ → Result (Option (List ℕ)) Refusal
+type_mime_in word = if bytes_eq word (codes "-") then Ok None else or_none (some_mime_in word)
 
 -- the words of a line: SUFFIX TYPE SUBTYPE MIME
 unfoldable pub type_of_words : List (List ℕ) → Result SuffixType Refusal

@@ -6,7 +6,7 @@ ghost use Rattle.mot_numbers.specs.declared.refusal.Refusal.TheVariants.{OutOfMe
 ghost use Rattle.mot_suffixes.specs.Inner.Types.{AddsLine, MayRefuse, RefusesLine};
 ghost use Rattle.mot_suffixes.specs.Types.{IsTypesRefusal, StopsAtLine, SuffixType, is_hidden};
 ghost use Rattle.mot_suffixes.specs.Types.{known_types, last_of_suffix, refusal_in, says_nothing};
-ghost use Rattle.mot_suffixes.specs.Types.{suffix_in};
+ghost use Rattle.mot_suffixes.specs.Types.{some_mime_in, suffix_in};
 ghost use Rattle.mot_suffixes.specs.Types.{suffix_of, type_in, type_mime_in, type_of_name};
 ghost use Rattle.mot_suffixes.specs.Types.{types_in};
 
@@ -22,7 +22,7 @@ const KNOWN: &str = "\
 txt 1 0 text/plain
 html 1 2 text/html
 htm 1 2 text/html
-xml 1 0 text/xml
+xml 0 1 text/xml
 gif 2 0 image/gif
 jpg 2 1 image/jpeg
 jpeg 2 1 image/jpeg
@@ -37,8 +37,8 @@ pub struct FileType {
     suffix: Vec<u8>,
     /// The content type and the subtype.
     pub content: Content,
-    /// The MIME type.
-    pub mime: Mime,
+    /// The MIME type, if they have one.
+    pub mime: Option<Mime>,
 }
 
 impl Model for FileType {
@@ -218,10 +218,25 @@ fn suffix_of_word(alloc: Global, word: &[u8]) -> Result<Vec<u8>, Refusal>
     Ok(Vec::from_slice(alloc, word)?)
 }
 
-/// The MIME type that a word is, or `BadMime`; or `OutOfMemory`.
-fn mime_of_word(alloc: Global, word: &[u8]) -> Result<Mime, Refusal>
+/// The MIME type that a word is, with `-` for none, or `BadMime`; or `OutOfMemory`.
+fn mime_of_word(alloc: Global, word: &[u8]) -> Result<Option<Mime>, Refusal>
     ensures taken { IfOk result (λ mime. type_mime_in word.now ≡ Ok mime) }
     ensures why { IfErr result (MayRefuse (type_mime_in word.now)) }
+    ensures refused { IfErr result (λ r. (r ≡ BadMime) ⊎ (r ≡ OutOfMemory)) }
+{
+    if word == b"-".as_slice() {
+        return Ok(None);
+    }
+    match some_mime_of_word(alloc, word) {
+        Ok(mime) => Ok(Some(mime)),
+        Err(refusal) => Err(refusal),
+    }
+}
+
+/// The MIME type that a word is, or `BadMime`; or `OutOfMemory`.
+fn some_mime_of_word(alloc: Global, word: &[u8]) -> Result<Mime, Refusal>
+    ensures taken { IfOk result (λ mime. some_mime_in word.now ≡ Ok mime) }
+    ensures why { IfErr result (MayRefuse (some_mime_in word.now)) }
     ensures refused { IfErr result (λ r. (r ≡ BadMime) ⊎ (r ≡ OutOfMemory)) }
 {
     let bytes = Vec::from_slice(alloc, word)?;

@@ -4,6 +4,7 @@ use crate::expecting::expect;
 use crate::shelf::MemoryShelf;
 use mot_base::{Geometry, Refusal};
 use mot_folder::{FileTypes, Folder, Report, look_at_folder};
+use mot_objects::Mime;
 use mot_server::Attempt;
 use mot_shelf::SystemShelf;
 use std::alloc::Global;
@@ -18,10 +19,18 @@ fn are_so(types: &FileTypes, name: &[u8], told: Told) -> bool {
         (Some(it), Some((content_type, subtype, mime))) => {
             it.content.content_type() == content_type
                 && it.content.subtype() == subtype
-                && it.mime.as_bytes() == mime.as_bytes()
+                && shown(&it.mime) == mime.as_bytes()
         }
         (None, None) => true,
         _ => false,
+    }
+}
+
+/// The MIME type, with nothing for none.
+fn shown(mime: &Option<Mime>) -> &[u8] {
+    match mime {
+        Some(mime) => mime.as_bytes(),
+        None => b"",
     }
 }
 
@@ -45,7 +54,7 @@ const FIRST: [(&[u8], Told); 17] = [
     (b"a.txt", Some((1, 0, "text/plain"))),
     (b"a.html", Some((1, 2, "text/html"))),
     (b"a.htm", Some((1, 2, "text/html"))),
-    (b"a.xml", Some((1, 0, "text/xml"))),
+    (b"a.xml", Some((0, 1, "text/xml"))),
     (b"a.gif", Some((2, 0, "image/gif"))),
     (b"a.jpg", Some((2, 1, "image/jpeg"))),
     (b"a.b.jpeg", Some((2, 1, "image/jpeg"))),
@@ -71,8 +80,9 @@ fn suffixes_tell_types(rt: HostRuntime) {
 
 #[test]
 fn suffixes_are_added(rt: HostRuntime) {
-    let lines = b"# of our own\n\nsvg 2 0 image/svg+xml\npng 2 9 a/b\nPNG 2 8 c/d";
-    let rows: [(&[u8], Told); 2] = [
+    let lines = b"# of our own\n\nsvg 2 0 image/svg+xml\npng 2 9 a/b\nPNG 2 8 c/d\nspi 7 0 -";
+    let rows: [(&[u8], Told); 3] = [
+        (b"a.spi", Some((7, 0, ""))),
         (b"a.SVG", Some((2, 0, "image/svg+xml"))),
         (b"a.png", Some((2, 8, "c/d"))),
     ];
@@ -91,8 +101,8 @@ fn wrong_suffixes_are_refused(rt: HostRuntime) {
         (b"a.b 2 0 a/b", 1, Refusal::BadName),
         (b"svg 64 0 a/b", 1, Refusal::BadType),
         (b"svg 2 512 a/b", 1, Refusal::BadType),
-        (b"svg 2 0 -", 1, Refusal::BadMime),
-        (b"#\n\nsvg 2 0 -\nsvg", 3, Refusal::BadMime),
+        (b"svg 2 0 \x80", 1, Refusal::BadMime),
+        (b"#\n\nsvg 2 0 \x80\nsvg", 3, Refusal::BadMime),
     ];
     for (lines, number, refusal) in wrong {
         let added = are_so_behind(rt.alloc(), lines, b"", None);
@@ -119,7 +129,12 @@ fn lines_are_told(rt: HostRuntime) {
 /// What is told of a look at a folder that is not there.
 fn missing(rt: &HostRuntime, alloc: Global, server: &mut Server) -> Result<Vec<u8>, Refusal> {
     let types = FileTypes::new(alloc)?;
-    let mut folder = Folder::new(alloc, SystemShelf::new(rt, "none/such"), &types);
+    let mut folder = Folder::new(
+        alloc,
+        SystemShelf::new(rt, "none/such", true),
+        &types,
+        false,
+    );
     look_at_folder(alloc, server, &mut folder)?;
     Ok(folder.report.lines)
 }
@@ -148,8 +163,9 @@ const BOTH: [(&[u8], &[u8]); 2] = [(b"a.txt", b"one"), (b"b.txt", b"two")];
 const FIRST_OF_BOTH: [(&[u8], &[u8]); 1] = [(b"a.txt", b"one")];
 
 /// What is told of looks at a folder that has both files, then can't be read at the second of them,
-/// then can't be listed, and then has the first alone.
-fn told_of_changes(alloc: Global) -> Result<[Vec<u8>; 4], Refusal> {
+/// then can't be listed, then has the first alone,
+/// and then none.
+fn told_of_changes(alloc: Global) -> Result<[Vec<u8>; 5], Refusal> {
     let mut server = new_server(alloc, &Geometry::default())?;
     let both: Option<&'static [u8]> = Some(b"a.txt\0b.txt\0c.doc\0");
     let first = told_of(alloc, &mut server, MemoryShelf::new(both, &BOTH))?;
@@ -157,27 +173,35 @@ fn told_of_changes(alloc: Global) -> Result<[Vec<u8>; 4], Refusal> {
     let third = told_of(alloc, &mut server, MemoryShelf::new(None, &BOTH))?;
     let one: Option<&'static [u8]> = Some(b"a.txt\0");
     let fourth = told_of(alloc, &mut server, MemoryShelf::new(one, &FIRST_OF_BOTH))?;
-    Ok([first, second, third, fourth])
+    let fifth = told_of(
+        alloc,
+        &mut server,
+        MemoryShelf::new(Some(b""), &FIRST_OF_BOTH),
+    )?;
+    Ok([first, second, third, fourth, fifth])
 }
 
 /// What is told of a look at this folder.
 fn told_of(alloc: Global, server: &mut Server, shelf: MemoryShelf) -> Result<Vec<u8>, Refusal> {
     let types = FileTypes::new(alloc)?;
-    let mut folder = Folder::new(alloc, shelf, &types);
+    let mut folder = Folder::new(alloc, shelf, &types, false);
     look_at_folder(alloc, server, &mut folder)?;
     Ok(folder.report.lines)
 }
 
 #[test]
 fn a_folder_that_changes_is_told(rt: HostRuntime) -> Result<(), Fail> {
-    let [first, second, third, fourth] = told_of_changes(rt.alloc())?;
-    let put = b"put a.txt done object 2 directory 3\nput b.txt done object 4 directory 5\n";
+    let [first, second, third, fourth, fifth] = told_of_changes(rt.alloc())?;
+    let put =
+        b"skip c.doc suffix\nput a.txt done object 2 directory 3\nput b.txt done object 4 directory 5\n";
     expect(&rt, first.as_slice(), put.as_slice());
-    let unread = b"read b.txt refused 22 ReadFault\n";
+    let unread = b"skip c.doc suffix\nread b.txt refused 22 ReadFault: permission denied\n";
     expect(&rt, second.as_slice(), unread.as_slice());
     let unlisted = b"look memory refused 22 ReadFault\n";
     expect(&rt, third.as_slice(), unlisted.as_slice());
     let gone = b"withdraw b.txt done directory 6\n";
     expect(&rt, fourth.as_slice(), gone.as_slice());
+    let kept = b"look memory empty, kept\n";
+    expect(&rt, fifth.as_slice(), kept.as_slice());
     Ok(())
 }

@@ -3,7 +3,7 @@ ghost use Rattle.std.specs.Prelude.{◌≡◌, codes};
 ghost use Rattle.mot_shelf.specs.Given.{nothing};
 
 use disk_store::Notes;
-use mot_shelf::{Pairs, Shelf};
+use mot_shelf::{Kind, Pairs, Shelf, Unread};
 use std::alloc::Global;
 use std::io::{self, ErrorKind};
 
@@ -42,13 +42,13 @@ impl MemoryShelf {
     }
 
     /// The bytes of the file of this name.
-    fn bytes_of(&self, alloc: Global, name: &[u8]) -> io::Result<Vec<u8>> {
+    fn bytes_of(&self, alloc: Global, name: &[u8]) -> Result<Vec<u8>, Unread> {
         for (other, bytes) in self.files {
             if *other == name {
                 return Ok(Vec::from_slice(alloc, bytes)?);
             }
         }
-        Err(io::Error::from(ErrorKind::PermissionDenied))
+        Err(Unread::System(io::Error::from(ErrorKind::PermissionDenied)))
     }
 }
 
@@ -100,7 +100,11 @@ impl Shelf for MemoryShelf {
         Ok(true)
     }
 
-    fn read(&mut self, alloc: Global, name: &[u8], _most: u64) -> io::Result<Vec<u8>> {
+    fn kind(&self, _alloc: Global, _name: &[u8]) -> Option<Kind> {
+        Some(Kind::File)
+    }
+
+    fn read(&mut self, alloc: Global, name: &[u8], _most: u64) -> Result<Vec<u8>, Unread> {
         match self.bytes_of(alloc, name) {
             Ok(bytes) => {
                 self.read.note(name, bytes.as_slice());

@@ -1,7 +1,8 @@
 -- The command line, in the words of `clap`.
 use Rattle.std.specs.Prelude.{[], codes}
 use Rattle.clap.specs.Words.{App, new_app, with_rule, with_subcommand}
-use Rattle.mot_words.specs.Parts.{disk_app, motcar_top, number_rule, path_rule, word_rule}
+use Rattle.mot_words.specs.Parts.{disk_app, flag_rule, motcar_top, number_rule, path_rule}
+use Rattle.mot_words.specs.Parts.{word_rule}
 
 -- the five options of a geometry, behind what a command has
 abbrev pub with_options : App → App
@@ -17,18 +18,22 @@ memory_app = with_options (new_app (codes "memory"))
 abbrev pub format_app : App
 format_app = with_rule (with_options (disk_app (codes "format"))) (number_rule (codes "after"))
 
+-- how a folder is looked at, behind what a command has
+abbrev pub with_looks : App → App
+with_looks a =
+    with_rule (with_rule (with_rule a (path_rule (codes "types"))) (flag_rule (codes "allow-empty")))
+    (flag_rule (codes "at-once"))
+
 abbrev pub play_app : App
 play_app =
-    with_rule (with_rule (with_rule (with_rule (with_rule (with_rule (with_rule (with_rule
-    (disk_app (codes "play")) (word_rule (codes "PACKETS")))
-    (path_rule (codes "folder"))) (path_rule (codes "types"))) (path_rule (codes "lines")))
+    with_rule (with_rule (with_rule (with_rule (with_rule (with_rule (with_rule (with_looks
+    (with_rule (with_rule (disk_app (codes "play")) (word_rule (codes "PACKETS")))
+    (path_rule (codes "folder")))) (path_rule (codes "lines")))
     (number_rule (codes "every"))) (number_rule (codes "turns"))) (number_rule (codes "directory")))
-    (number_rule (codes "look"))
+    (number_rule (codes "look"))) (path_rule (codes "status"))) (flag_rule (codes "levels"))
 
 abbrev pub sync_app : App
-sync_app =
-    with_rule (with_rule (disk_app (codes "sync")) (word_rule (codes "DIR")))
-    (path_rule (codes "types"))
+sync_app = with_looks (with_rule (disk_app (codes "sync")) (word_rule (codes "DIR")))
 
 abbrev pub inspect_app : App
 inspect_app = with_rule (disk_app (codes "inspect")) (number_rule (codes "rate"))

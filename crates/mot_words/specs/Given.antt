@@ -1,5 +1,6 @@
 -- The words and numbers that were given.
-use Rattle.std.specs.Prelude.{ℕ, ◌≡◌, ◌<◌, ◌^◌, List, Option, Some, None}
+use Rattle.std.specs.Prelude.{ℕ, ◌≡◌, ◌<◌, ◌^◌, Bool, false, List, Option, Some, None}
+use Rattle.std.specs.Prelude.{bytes_eq, codes}
 use Rattle.std.specs.Str.Parse.{IsNumeral, digits_value, without_leading_plus}
 use Rattle.clap.specs.Words.{Row, Text, first_of}
 
@@ -17,3 +18,11 @@ abbrev pub IsGiven : Option (List ℕ) → Option ℕ → Type 0
 IsGiven None number = number ≡ None
 IsGiven (Some text) number =
     IsNumberOf32Bits text × (number ≡ Some (digits_value 10 (without_leading_plus text)))
+
+abbrev pub is_true : Option (List ℕ) → Bool
+is_true None = false
+is_true (Some word) = bytes_eq word (codes "true")
+
+-- a flag was given: its word is `true` then, and `false` else
+abbrev pub is_set : List Row → Text → Bool
+is_set rows name = is_true (first_of name rows)

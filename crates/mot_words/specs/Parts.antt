@@ -1,7 +1,7 @@
 -- What the command line is made with, in the words of `clap`.
 use Rattle.std.specs.Prelude.{pos, true, Some, codes}
 use Rattle.clap.specs.Words.{App, Rule, Shape, Text, new_app, new_rule, with_rule}
-use Rattle.clap.specs.declared.builder.ArgAction.TheVariants.{Set}
+use Rattle.clap.specs.declared.builder.ArgAction.TheVariants.{Set, SetTrue}
 use Rattle.clap.specs.declared.builder.value_parser.ValueParser.TheVariants.{Signed}
 
 -- a word that has to be there
@@ -24,6 +24,10 @@ number_rule name = record (new_rule name) {
   value_names = 1;
   parser = Some (Signed (pos 0) (pos 4294967295));
 }
+
+-- an option that is given alone
+abbrev pub flag_rule : Text → Rule
+flag_rule name = record (new_rule name) { long = Some name; action = Some SetTrue }
 
 -- a command on the file of a disk
 abbrev pub disk_app : Text → App

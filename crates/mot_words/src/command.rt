@@ -29,13 +29,25 @@ const VERBS: &[Verb] = &[
         name: "play",
         about: "Play a disk into a pipe, a device or a file, each packet in one write",
         arguments: &[
-            DISK, PACKETS, FOLDER, TYPES, LINES, EVERY, TURNS, DIRECTORY, LOOK,
+            DISK,
+            PACKETS,
+            FOLDER,
+            TYPES,
+            ALLOW_EMPTY,
+            AT_ONCE,
+            LINES,
+            EVERY,
+            TURNS,
+            DIRECTORY,
+            LOOK,
+            STATUS,
+            LEVELS,
         ],
     },
     Verb {
         name: "sync",
         about: "Make the carousel of a disk equal to a folder",
-        arguments: &[DISK, DIR, TYPES],
+        arguments: &[DISK, DIR, TYPES, ALLOW_EMPTY, AT_ONCE],
     },
     Verb {
         name: "serve",
@@ -111,7 +123,7 @@ const AFTER: Argument = Argument {
 const PACKETS: Argument = Argument {
     name: "PACKETS",
     kind: Kind::Word,
-    help: "A named pipe, a device, a file, or - for standard output",
+    help: "A named pipe or a device, - for standard output, or a file if --turns is given",
 };
 
 const FOLDER: Argument = Argument {
@@ -124,6 +136,18 @@ const TYPES: Argument = Argument {
     name: "types",
     kind: Kind::Path("FILE"),
     help: "Take files of these suffixes, too: lines SUFFIX TYPE SUBTYPE MIME",
+};
+
+const ALLOW_EMPTY: Argument = Argument {
+    name: "allow-empty",
+    kind: Kind::Flag,
+    help: "Withdraw all objects if the folder has none",
+};
+
+const AT_ONCE: Argument = Argument {
+    name: "at-once",
+    kind: Kind::Flag,
+    help: "Take files that were changed less than two seconds ago, too",
 };
 
 const LINES: Argument = Argument {
@@ -141,7 +165,7 @@ const EVERY: Argument = Argument {
 const TURNS: Argument = Argument {
     name: "turns",
     kind: Kind::Number,
-    help: "End after so many whole turns [default: 16 into a file, else without end]",
+    help: "End after so many whole turns; a file is written only with it [default: without end]",
 };
 
 const DIRECTORY: Argument = Argument {
@@ -156,6 +180,19 @@ const LOOK: Argument = Argument {
     kind: Kind::Number,
     help: "Look at the folder after so many packets of a turn, too; 0: between turns \
         [default: 700 without end, else 0]",
+};
+
+const STATUS: Argument = Argument {
+    name: "status",
+    kind: Kind::Path("FILE"),
+    help: "Write what monitoring asks for into this file: at the start, at each look and every \
+        1,000 packets",
+};
+
+const LEVELS: Argument = Argument {
+    name: "levels",
+    kind: Kind::Flag,
+    help: "Put <4> before log lines that tell of a refusal, and <6> before others, for systemd",
 };
 
 /// The folder of `sync`.

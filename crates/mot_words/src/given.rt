@@ -1,7 +1,7 @@
 //! The words and numbers that were given.
-ghost use Rattle.std.specs.Prelude.{ℕ, Option, IfNone, IfSome};
+ghost use Rattle.std.specs.Prelude.{◌≡◌, ℕ, Option, IfNone, IfSome};
 ghost use Rattle.clap.specs.Words.{Text, first_of, found_of, rows_of};
-ghost use Rattle.mot_words.specs.Given.{IsGiven, NameWord};
+ghost use Rattle.mot_words.specs.Given.{IsGiven, NameWord, is_set};
 
 use clap::ArgMatches;
 
@@ -29,5 +29,16 @@ pub(crate) fn number_of(words: &ArgMatches<'_>, name: &str) -> Option<Option<u32
             Err(_) => None,
         },
         None => Some(None),
+    }
+}
+
+/// Whether a flag was given.
+#[tactic(auto, using(crate::proofs::Values::first_found))]
+pub(crate) fn is_set(words: &ArgMatches<'_>, name: &str) -> bool
+    ensures { result ≡ is_set (rows_of (found_of words.now)) name.now }
+{
+    match words.get_str(name) {
+        Some(word) => word == "true",
+        None => false,
     }
 }

@@ -34,6 +34,8 @@ pub(crate) enum Kind {
     Path(&'static str),
     /// An option that is a number of 32 bits.
     Number,
+    /// An option that is given alone.
+    Flag,
 }
 
 /// The disk of a command.
@@ -94,5 +96,6 @@ fn arg_of<'a>(alloc: Global, argument: &Argument) -> Arg<'a>
             .long(argument.name)
             .value_name("N")
             .value_parser(value_parser!(u32)),
+        Kind::Flag => arg.long(argument.name).action(ArgAction::SetTrue),
     }
 }

@@ -14,15 +14,15 @@ use Rattle.mot_suffixes.specs.Types.{SuffixType}
 
 -- it came to its end, and was told whole; or it broke off, or could not be told
 pub data LooksAndTells {D : Type 0} (old new : ServerView D) (start now : State) (s : Standing)
-    (types : List SuffixType) (path : List ℕ) (given : Given) (before after : Option (List ℕ))
+    (types : List SuffixType) (allows : Bool) (path : List ℕ) (given : Given) (before after : Option (List ℕ))
     (result : Result Bool Refusal) : Type 0 where
   told : (report : Report) → result ≡ Ok (not report.any_refused) → report.any_left_out ≡ false
       → Appends before after report.lines.items
-      → HasLookedAtFolder old new start now s types path given report None
-      → LooksAndTells old new start now s types path given before after result
+      → HasLookedAtFolder old new start now s types allows path given report None
+      → LooksAndTells old new start now s types allows path given before after result
   broken : (report : Report) (refusal : Refusal) → result ≡ Err refusal
-      → HasLookedAtFolder old new start now s types path given report (Some refusal)
-      → LooksAndTells old new start now s types path given before after result
+      → HasLookedAtFolder old new start now s types allows path given report (Some refusal)
+      → LooksAndTells old new start now s types allows path given before after result
   untold : (report : Report) → result ≡ Err WriteFault
-      → HasLookedAtFolder old new start now s types path given report None
-      → LooksAndTells old new start now s types path given before after result
+      → HasLookedAtFolder old new start now s types allows path given report None
+      → LooksAndTells old new start now s types allows path given before after result

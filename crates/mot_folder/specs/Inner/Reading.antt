@@ -1,7 +1,7 @@
 -- A folder while its files are read, and what a source of them was told.
-use Rattle.std.specs.Prelude.{◌≡◌, ℕ, List, [], ◌∷◌, ◌++◌, length, map, take, None, Some}
+use Rattle.std.specs.Prelude.{◌≡◌, ℕ, List, [], ◌∷◌, ◌++◌, codes, length, map, take, None, Some}
 use Rattle.mot_folder.specs.Listed.{IsListing}
-use Rattle.mot_folder.specs.Log.{TellsOf}
+use Rattle.mot_folder.specs.Log.{TellsOf, TellsOne, entry_with}
 use Rattle.mot_folder.specs.Taken.{wanted_file}
 use Rattle.mot_folder.specs.declared.report.Report.{Report}
 use Rattle.mot_server.specs.declared.running.Attempt.TheVariants.{Accepted}
@@ -24,6 +24,11 @@ pub data Misses (name : List ℕ) (old new : Given) : Type 0 where
   was_unread : new ≡ and_missed old name → Misses name old new
   was_refused : (bytes : List ℕ) → new ≡ and_read old name bytes → Misses name old new
 
+-- a file of this name is told as one that was not taken
+abbrev pub TellsFile : Report → Report → List ℕ → Type 0
+TellsFile old new name =
+    (rest : List ℕ) × TellsOne old new (entry_with (codes "read") name rest)
+
 -- Which path and types a look is of does not change: no clause of a source can say so, but what it
 -- was told and what it gave only go on. So they stand in front of these: the path with the number
 -- of the types, and the types.
@@ -32,7 +37,7 @@ heading path types = Withdrew path (Accepted (record { object = None; directory 
 
 abbrev pub as_wanted : SuffixType → Wanted
 as_wanted type =
-    record { name = type.suffix; content = type.content; mime = Some type.mime; body = [] }
+    record { name = type.suffix; content = type.content; mime = type.mime; body = [] }
 
 -- what was told, and given, in a look at the folder of this path, up to this place in the names
 pub record TellsLook (types : List SuffixType) (path : List ℕ) (given : Given)

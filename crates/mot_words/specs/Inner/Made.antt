@@ -3,9 +3,10 @@ use Rattle.std.specs.Prelude.{◌≡◌, ℕ, false, IfOk, List, [], ◌∷◌, 
 use Rattle.clap.specs.Words.{App, Rule, app_of, new_app, with_rule, with_subcommand}
 use Rattle.clap.specs.declared.builder.Command.{Command}
 use Rattle.clap.specs.declared.builder.Command.TheViews.{out-Command}
-use Rattle.mot_words.specs.Parts.{motcar_top, number_rule, path_rule, word_rule}
+use Rattle.mot_words.specs.Parts.{flag_rule, motcar_top, number_rule, path_rule}
+use Rattle.mot_words.specs.Parts.{word_rule}
 use Rattle.mot_words.specs.declared.parts.Argument.{Argument}
-use Rattle.mot_words.specs.declared.parts.Kind.TheVariants.{Word, Path, Number}
+use Rattle.mot_words.specs.declared.parts.Kind.TheVariants.{Word, Path, Number, Flag}
 use Rattle.mot_words.specs.declared.parts.Kind.{Kind}
 use Rattle.mot_words.specs.declared.parts.Verb.{Verb}
 
@@ -24,6 +25,7 @@ abbrev pub rule_of_kind : Kind → List ℕ → Rule
 rule_of_kind Word name = word_rule name
 rule_of_kind (Path value) name = path_rule name
 rule_of_kind Number name = number_rule name
+rule_of_kind Flag name = flag_rule name
 
 abbrev pub rule_for : Argument → Rule
 rule_for argument = rule_of_kind argument.kind argument.name.now

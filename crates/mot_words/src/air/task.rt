@@ -2,12 +2,22 @@
 ghost use Rattle.std.specs.Prelude.{◌≡◌, IfNone, IfSome, codes, is_none, option_map};
 ghost use Rattle.std.specs.Borrow.{Bor};
 ghost use Rattle.clap.specs.Words.{Text, first_of, found_of, rows_of};
-ghost use Rattle.mot_words.specs.Air.Task.{IsAirTask, goes_with, is_rate, is_whole};
+ghost use Rattle.mot_words.specs.Air.Task.{AreRules, IsAirTask, flag_goes_with, goes_with, is_rate};
+ghost use Rattle.mot_words.specs.Air.Task.{is_whole};
 ghost use Rattle.mot_words.specs.Given.{NameWord};
 ghost use Rattle.mot_words.specs.declared.air.task.AirTask.{AirTask};
 
-use crate::given::{number_of, word_of};
+use crate::given::{is_set, number_of, word_of};
 use clap::ArgMatches;
+
+/// How a folder is looked at.
+#[derive(Clone, Copy)]
+pub struct LookRules {
+    /// Whether all objects are withdrawn if the folder has none.
+    pub allow_empty: bool,
+    /// Whether files are taken that were changed less than two seconds ago.
+    pub at_once: bool,
+}
 
 /// What is played, and into what.
 #[derive(Clone, Copy)]
@@ -20,11 +30,13 @@ pub struct PlayTask<'a> {
     pub folder: Option<&'a str>,
     /// The path of the file that adds suffixes, if one is given.
     pub types: Option<&'a str>,
+    /// How the folder is looked at.
+    pub rules: LookRules,
     /// The path of the folder whose files are answered as lines, if one is given.
     pub lines: Option<&'a str>,
     /// After how many packets lines are read; 8, if no number is given.
     pub every: Option<u32>,
-    /// How many whole turns. If no number is given: 16 into a file, and else without end.
+    /// How many whole turns. If no number is given: without end, and into no file.
     pub turns: Option<u32>,
     /// After how many packets the directory is sent again; 0: at each turn's beginning alone. If no
     /// number is given: 340 without end, and else 0.
@@ -32,6 +44,10 @@ pub struct PlayTask<'a> {
     /// After how many packets of a turn the folder is looked at; 0: between turns alone. If no
     /// number is given: 700 without end, and else 0.
     pub look: Option<u32>,
+    /// The path of the file that the status is written to, if one is given.
+    pub status: Option<&'a str>,
+    /// Whether lines of the log begin with their level.
+    pub levels: bool,
 }
 
 /// What a command on air is to do.
@@ -47,6 +63,8 @@ pub enum AirTask<'a> {
         folder: &'a str,
         /// The path of the file that adds suffixes, if one is given.
         types: Option<&'a str>,
+        /// How the folder is looked at.
+        rules: LookRules,
     },
     /// Print the carousel of the disk of the file at this path.
     Export(&'a str),
@@ -92,11 +110,14 @@ fn play_of<'a>(disk: &'a str, words: &ArgMatches<'a>) -> Option<AirTask<'a>>
         packets: word_of(words, "PACKETS")?,
         folder: option_of(words, "folder"),
         types: option_of(words, "types"),
+        rules: rules_of(words),
         lines: option_of(words, "lines"),
         every: number_of(words, "every")?,
         turns: number_of(words, "turns")?,
         directory: number_of(words, "directory")?,
         look: number_of(words, "look")?,
+        status: option_of(words, "status"),
+        levels: is_set(words, "levels"),
     }))
 }
 
@@ -112,7 +133,18 @@ fn sync_of<'a>(disk: &'a str, words: &ArgMatches<'a>) -> Option<AirTask<'a>>
         disk,
         folder: word_of(words, "DIR")?,
         types: option_of(words, "types"),
+        rules: rules_of(words),
     })
+}
+
+/// How the folder of a command is looked at.
+fn rules_of(words: &ArgMatches<'_>) -> LookRules
+    ensures { AreRules (rows_of (found_of words.now)) result }
+{
+    LookRules {
+        allow_empty: is_set(words, "allow-empty"),
+        at_once: is_set(words, "at-once"),
+    }
 }
 
 /// The task of the command `inspect` on this disk.
@@ -141,13 +173,22 @@ fn is_rate(rate: Option<u32>) -> bool
 }
 
 /// Whether each option is given with the other of which it says more: `--every` with `--lines`, and
-/// `--types` and `--look` with `--folder`.
+/// `--types`, `--look`, `--allow-empty` and `--at-once` with `--folder`.
 fn is_whole(words: &ArgMatches<'_>) -> bool
     ensures { result ≡ is_whole (rows_of (found_of words.now)) }
 {
     goes_with(words, "every", "lines")
         && goes_with(words, "types", "folder")
         && goes_with(words, "look", "folder")
+        && flag_goes_with(words, "allow-empty", "folder")
+        && flag_goes_with(words, "at-once", "folder")
+}
+
+/// Whether a flag is given with an option, or is not given.
+fn flag_goes_with(words: &ArgMatches<'_>, name: &str, other: &str) -> bool
+    ensures { result ≡ flag_goes_with (rows_of (found_of words.now)) name.now other.now }
+{
+    !is_set(words, name) || !is_absent(words, other)
 }
 
 /// Whether an option is given with another one, or is not given.

@@ -1,5 +1,5 @@
-use Rattle.std.proofs.Common.{◌≡◌, ℕ, zero, suc, ◌+◌, ◌-◌, Bool, true, false, ◌∷◌, [], Some, None, refl}
-use Rattle.std.proofs.Common.{ap, ◌∙◌, arith, inl, inr, subst, sym}
+use Rattle.std.proofs.Common.{◌≡◌, ℕ, zero, suc, ◌+◌, ◌-◌, Bool, true, false, ◌∷◌, [], Some, None}
+use Rattle.std.proofs.Common.{refl, ap, ◌∙◌, arith, inl, inr, subst, sym}
 use Rattle.std.specs.Prelude.{◌==◌, if◌then◌else◌}
 use Rattle.disk_model.specs.Disk.{IsUnchanged, KeepsLength}
 use Rattle.disk_model.proofs.Laws.{keeps_none, keeps_on, unchanged_none}
@@ -264,14 +264,14 @@ loop-preserved g c =
           λ not. elim c.if-due.branch [
             | then-due w ↦ absurd (two_ways c.if-between_turns.due w.if-due.true not)
             | else-due w ↦
-                less_one c.loop.between_turns c.loop.until next (sym (due_is g from) ∙ not) w.until-is
+                less_one c.loop.between_turns c.loop.until next (sym (due_is g from) ∙ not)
+                w.until-is
           ] in (
             sent_on is.0 new sound two.view honest still refl c.if-left-eq0.false ends fewer
                 is_fewer then_rest is_rest (λ d held. two.sent d held honest),
             sent_often is.0 new sound two.view honest still refl c.if-left-eq0.false ends fewer
-                is_fewer then_rest is_rest c.args.every c.loop.until next (due_in g from) is.1 (due_is g from) anew
-                less
-                (λ d held. two.sent d held honest),
+                is_fewer then_rest is_rest c.args.every c.loop.until next (due_in g from) is.1
+                (due_is g from) anew less (λ d held. two.sent d held honest),
           );
     }
 

@@ -19,7 +19,7 @@ returns-in-Err-clause-added c =
 
 pub returns-in-Err-clause-told : goal.returns-in-Err-clause-told
 returns-in-Err-clause-told c =
-    tells_unread c.args.report.now c.refused.new.self c.args.name.now _ c.refused.ensures.told
+    tells_unread c.args.report.now c.missed.new.self c.args.name.now _ c.missed.ensures.told
 
 pub returns-in_err-from_slice-clause-told : goal.returns-in_err-from_slice-clause-told
 returns-in_err-from_slice-clause-told c = tells_same c.args.report.now

@@ -1,14 +1,20 @@
 use Rattle.std.proofs.Common.{◌≡◌, ◌∙◌, ◌++◌, ℕ, None, [], ◌∷◌, ap, codes, not, refl, subst, sym}
-use Rattle.std.proofs.Common.{◌≤◌, Bool, Err, IfErr, List, Ok, Result, Some, inl, inr, length, map, take}
+use Rattle.std.proofs.Common.{◌≤◌, Bool, true, false, suc, arith, nat_eq, nat_lt, Err, IfErr, List, Ok, Result, Some, inl, inr, length, map, take}
+use Rattle.std.proofs.lemmas.Bool.{and_parts, eqb-true}
 use Rattle.std.proofs.lemmas.List.{take_all}
 use Rattle.std.proofs.lemmas.List.Elements.{filter-append}
 use Rattle.disk_model.proofs.Laws.{unchanged_none}
 use Rattle.mot_folder.specs.Inner.Listing.{IsUnread}
 use Rattle.mot_folder.specs.Inner.Reading.{TellsLook, as_wanted, heading}
 use Rattle.mot_folder.specs.Listed.{IsListing}
-use Rattle.mot_folder.specs.Log.{TellsAnswers, TellsOf, entry, is_of_look}
+use Rattle.mot_folder.specs.Log.{TellsAnswers, TellsOf, entry, is_of_look, kept_entry}
 use Rattle.mot_folder.specs.declared.report.Report.{Report}
-use Rattle.mot_folder.specs.Looked.{HasLookedAtFolder, listed, unlisted}
+use Rattle.mot_folder.specs.Looked.{HasLookedAtFolder, is_kept, kept, listed, unlisted}
+use Rattle.mot_objects.specs.Stands.{objects_of}
+use Rattle.mot_objects.specs.Carousel.{Carousel}
+use Rattle.mot_objects.specs.declared.carousel.Carousel as memory
+use Rattle.mot_objects.specs.declared.object.Object.{Object}
+use Rattle.mot_repository.specs.Repository.{Agrees, RepositoryView}
 use Rattle.mot_folder.proofs.Taken.{IsLook, look_begins, look_is}
 use Rattle.mot_folder.proofs.Log.{tells_none}
 use Rattle.mot_folder.proofs.looking.look_at_folder.Goals as goal
@@ -82,22 +88,52 @@ without_memory old new start now s names fine looked = record {
 
 -- names that were gone over to the last, where memory may have been wanting for a line
 listed_whole : {D : Type 0} (old new : ServerView D) (start now : State) (s : Standing)
-    (types : List SuffixType) (path : List ℕ) (given : Given) (report : Report)
+    (types : List SuffixType) (allows : Bool) (path : List ℕ) (given : Given) (report : Report)
     (names : List (List ℕ)) → AreShown names → IsListing types path given names
+    → is_kept allows names (length s.carousel.objects) ≡ false
     → (looked : HasLooked old new start now s names 0 None None (not report.any_refused) None)
     → TellsOf types given report names looked.runs.answers looked.wanted
     → (r : Result Unit Refusal) → IfErr r (λ e. e ≡ OutOfMemory)
-    → HasLookedAtFolder old new start now s types path given report (fault_of r)
+    → HasLookedAtFolder old new start now s types allows path given report (fault_of r)
 unfolding without_memory
-listed_whole old new start now s types path given report names shown listing looked told (Ok x)
-    is =
-    listed names shown listing looked names (λ e. refl) told
-listed_whole old new start now s types path given report names shown listing looked told (Err e)
-    is =
-    subst (λ f. HasLookedAtFolder old new start now s types path given report (Some f)) (sym is)
-    (listed names shown listing
+listed_whole old new start now s types allows path given report names shown listing updates looked
+    told (Ok x) is =
+    listed names shown listing updates looked names (λ e. refl) told
+listed_whole old new start now s types allows path given report names shown listing updates looked
+    told (Err e) is =
+    subst (λ f. HasLookedAtFolder old new start now s types allows path given report (Some f))
+    (sym is)
+    (listed names shown listing updates
     (without_memory old new start now s names (not report.any_refused) looked) names
     (λ none. absurd (cc (none))) told)
+
+-- a carousel has as many objects as are kept of it
+objects_counted : (os : List Object) (bodies : List (List ℕ))
+    → map length bodies ≡ map (λ (o : Object). o.length) os
+    → length (objects_of os bodies) ≡ length os
+objects_counted [] bodies e = refl
+objects_counted (o ∷ os) [] e = cc
+objects_counted (o ∷ os) (b ∷ bodies) e =
+    let tail : map length bodies ≡ map (λ (x : Object). x.length) os = cc in
+    ap suc (objects_counted os bodies tail)
+
+kept_as_counted : (allows : Bool) (names : List (List ℕ)) (view : RepositoryView) (s : Standing)
+    → Agrees view s → is_kept allows names (length s.carousel.objects)
+    ≡ is_kept allows names (length view.carousel.objects.items)
+kept_as_counted allows names view s agrees =
+    ap (λ (c : Carousel). is_kept allows names (length c.objects)) agrees.carousel
+    ∙ ap (is_kept allows names) (objects_counted view.carousel.objects.items agrees.bodies
+    agrees.are_bodies)
+
+-- where it stays there is no name
+none_named : (allows : Bool) (names : List (List ℕ)) (objects : ℕ)
+    → is_kept allows names objects ≡ true → names ≡ []
+none_named true names objects e = absurd (cc (e))
+none_named false [] objects e = refl
+none_named false (name ∷ names) objects e =
+    let parts = and_parts (nat_eq (length (name ∷ names)) 0) (nat_lt 0 objects) e in
+    let none : length (name ∷ names) ≡ 0 = eqb-true _ 0 parts.0 in
+    absurd (omega (arith, none))
 
 -- what is known behind a look, of one that began so
 behind : (types others : List SuffixType) (path begun other : List ℕ) (first last : Given)
@@ -108,8 +144,8 @@ behind : (types others : List SuffixType) (path begun other : List ℕ) (first l
     (TellsLook others other last after place report) answers wanted
     → IsLook types path last names place report answers wanted
 behind types others path begun other first last names after place start report answers wanted same
-    kept listing unread told looks =
-    subst (λ n. IsLook types path last n place report answers wanted) kept
+    stays listing unread told looks =
+    subst (λ n. IsLook types path last n place report answers wanted) stays
     (subst (λ p. IsLook types p last after place report answers wanted) same
     (look_is types others begun other last after place report answers wanted
     (looks (map as_wanted types ++ []) (heading begun types ∷ [])
@@ -135,6 +171,37 @@ returns-in-Err-clause-looked g c = λ s holds honest.
     (c.as_bytes-path.ensures.value ∙ c.shown.ensures ∙ c.in-Err.ensures.same
     ∙ c.begin.ensures.same))
 
+pub returns-then-is_kept-clause-looked : goal.returns-then-is_kept-clause-looked
+returns-then-is_kept-clause-looked g c = λ s holds honest.
+    let old = c.args.server.now in
+    let state = g.D.Disk.state old.disk in
+    let allows = c.args.folder.now.allows_empty in
+    let types = c.args.folder.now.types.now in
+    let given = g.S.Shelf.gave c.list.new.shelf in
+    let path = c.as_bytes-path-then-is_kept.result.now in
+    let names = c.in-Ok.names.names.items in
+    let told = c.list.ensures.told [] (tells_none c.begin-2.new.self c.begin-2.ensures.told) in
+    let same = c.as_bytes-path-then-is_kept.ensures.value ∙ c.shown-then-is_kept.ensures ∙ c.in-Ok.ensures.same
+    ∙ c.begin.ensures.same in
+    let is : is_kept allows names (length s.carousel.objects) ≡ true =
+    kept_as_counted allows names old.view s holds.agrees
+    ∙ ap (λ (k : memory.Carousel). is_kept allows names (length k.objects.items))
+    (sym c.carousel.ensures.value)
+    ∙ sym c.if-is_kept.ensures in
+    let none = none_named allows names (length s.carousel.objects) is in
+    kept
+    (subst (λ n. IsListing types (g.S.Shelf.path c.args.folder.now.shelf) given n) none
+    (subst (λ p. IsListing types p given names) c.begin.ensures.same c.in-Ok.ensures.listed))
+    (subst (λ n. is_kept allows n (length s.carousel.objects) ≡ true) none is)
+    c.kept.ensures.any
+    (ended c.end-then-is_kept.result c.end-then-is_kept.ensures.fault)
+    (has_read old old state state s (fault_of c.end-then-is_kept.result)
+    (g.met.D.Disk.sound old.disk honest) refl refl honest (unchanged_none state) holds).0
+    (told.entries ++ kept_entry path ∷ []) (c.kept.ensures.told told.entries told.told)
+    (filter-append is_of_look told.entries (kept_entry path ∷ [])
+    ∙ ap (λ l. l ++ kept_entry path ∷ []) told.are
+    ∙ ap (λ n. kept_entry n ∷ []) same)
+
 pub returns-in_err-look-clause-looked : goal.returns-in_err-look-clause-looked
 returns-in_err-look-clause-looked g c = λ s holds honest.
     let state = g.D.Disk.state in
@@ -143,6 +210,12 @@ returns-in_err-look-clause-looked g c = λ s holds honest.
     let types = c.args.folder.now.types.now in
     let path = g.S.Shelf.path c.args.folder.now.shelf in
     let names = c.in-Ok.names.names.items in
+    let allows = c.args.folder.now.allows_empty in
+    let updates : is_kept allows names (length s.carousel.objects) ≡ false =
+    kept_as_counted allows names old.view s holds.agrees
+    ∙ ap (λ (k : memory.Carousel). is_kept allows names (length k.objects.items))
+    (sym c.carousel.ensures.value)
+    ∙ sym c.if-is_kept.ensures in
     let source = c.look.new.source in
     let given = g.S.Shelf.gave source.shelf in
     let seen = take source.place names in
@@ -150,15 +223,16 @@ returns-in_err-look-clause-looked g c = λ s holds honest.
     let fault = Some c.in_err-look.field-0.0 in
     let is = behind types source.types.now path (g.S.Shelf.path c.list.new.shelf)
     (g.S.Shelf.path source.shelf) (g.S.Shelf.gave c.list.new.shelf) given names
-    source.names.names.items source.place c.list.new.report source.report looks.0.runs.answers
+    source.names.names.items source.place c.note_most.new.report source.report looks.0.runs.answers
     looks.0.wanted (c.in-Ok.ensures.same ∙ c.begin.ensures.same) c.in_err-look.ensures.same
     (subst (λ p. IsListing types p (g.S.Shelf.gave c.list.new.shelf) names) c.begin.ensures.same
     c.in-Ok.ensures.listed) c.in-Ok.ensures.unread
-    (c.list.ensures.told [] (tells_none c.begin-2.new.self c.begin-2.ensures.told)) looks.1 in
+    (c.note_most.ensures.told []
+    (c.list.ensures.told [] (tells_none c.begin-2.new.self c.begin-2.ensures.told))) looks.1 in
     subst (λ (r : Result Unit Refusal). HasLookedAtFolder old new (state old.disk) (state new.disk)
-    s types path given source.report (fault_of r))
+    s types allows path given source.report (fault_of r))
     (sym (same_error c.from_residual.result c.in_err-look.field-0.0 c.from_residual.ensures.1))
-    (listed names c.in-Ok.ensures.shown is.listing looks.0 seen (λ none. absurd (cc (none)))
+    (listed names c.in-Ok.ensures.shown is.listing updates looks.0 seen (λ none. absurd (cc (none)))
     is.tells)
 
 pub returns-clause-looked : goal.returns-clause-looked
@@ -169,20 +243,37 @@ returns-clause-looked g c = λ s holds honest.
     let types = c.args.folder.now.types.now in
     let path = g.S.Shelf.path c.args.folder.now.shelf in
     let names = c.in-Ok.names.names.items in
+    let allows = c.args.folder.now.allows_empty in
+    let updates : is_kept allows names (length s.carousel.objects) ≡ false =
+    kept_as_counted allows names old.view s holds.agrees
+    ∙ ap (λ (k : memory.Carousel). is_kept allows names (length k.objects.items))
+    (sym c.carousel.ensures.value)
+    ∙ sym c.if-is_kept.ensures in
     let source = c.look.new.source in
     let given = g.S.Shelf.gave source.shelf in
     let looks = c.in_ok-look.ensures.looked s holds honest in
     let is = behind types source.types.now path (g.S.Shelf.path c.list.new.shelf)
     (g.S.Shelf.path source.shelf) (g.S.Shelf.gave c.list.new.shelf) given names
-    source.names.names.items source.place c.list.new.report source.report looks.0.runs.answers
+    source.names.names.items source.place c.note_most.new.report source.report looks.0.runs.answers
     looks.0.wanted (c.in-Ok.ensures.same ∙ c.begin.ensures.same) c.in_ok-look.ensures.same
     (subst (λ p. IsListing types p (g.S.Shelf.gave c.list.new.shelf) names) c.begin.ensures.same
     c.in-Ok.ensures.listed) c.in-Ok.ensures.unread
-    (c.list.ensures.told [] (tells_none c.begin-2.new.self c.begin-2.ensures.told)) looks.1 in
+    (c.note_most.ensures.told []
+    (c.list.ensures.told [] (tells_none c.begin-2.new.self c.begin-2.ensures.told))) looks.1 in
     let seen : take source.place names ≡ names =
     take_all source.place names (subst (λ (n : List (List ℕ)). length n ≤ source.place)
     c.in_ok-look.ensures.same c.in_ok-look.ensures.ended) in
-    listed_whole old new (state old.disk) (state new.disk) s types path given source.report names
-    c.in-Ok.ensures.shown is.listing looks.0
-    (subst (λ l. TellsOf types given source.report l looks.0.runs.answers looks.0.wanted) seen
-    is.tells) c.end-2.result c.end-2.ensures.fault
+    let report = c.note_gap.new.report in
+    let fine : not source.report.any_refused ≡ not report.any_refused =
+    ap not (sym c.note_gap.ensures.same) in
+    let Looks = λ (f : Bool). (l : HasLooked old new (state old.disk) (state new.disk) s names 0 None
+    None f None) × TellsOf types given report names l.runs.answers l.wanted in
+    let last : Looks (not report.any_refused) =
+    subst Looks fine (
+      looks.0,
+      c.note_gap.ensures.told types given names looks.0.runs.answers
+          looks.0.wanted (subst (λ l. TellsOf types given source.report l looks.0.runs.answers
+          looks.0.wanted) seen is.tells),
+    ) in
+    listed_whole old new (state old.disk) (state new.disk) s types allows path given report
+    names c.in-Ok.ensures.shown is.listing updates last.0 last.1 c.end-2.result c.end-2.ensures.fault

@@ -2,9 +2,8 @@ use Rattle.std.proofs.Common.{◌≡◌, ◌∙◌, ◌+◌, ◌<◌, ◌∷◌,
 use Rattle.std.proofs.lemmas.Option.{slice_get_read}
 use Rattle.std.specs.Prelude.{slice_get}
 use Rattle.mot_folder.proofs.Taken.{then_given, then_missed}
-use Rattle.mot_folder.specs.Inner.Reading.{TellsLook}
+use Rattle.mot_folder.specs.Inner.Reading.{TellsFile, TellsLook}
 use Rattle.mot_folder.proofs.folder.FolderSource.next.Goals as goal
-use Rattle.mot_server.specs.declared.running.Attempt.TheVariants.{Refused}
 use Rattle.mot_update.specs.Told.{TellsBoth}
 
 pub returns-in-Ok-clause-told : goal.returns-in-Ok-clause-told
@@ -38,11 +37,13 @@ loop-self-preserved g c =
     let name = c.index-name.result.now in
     let path = g.S.Shelf.path in
     let gave = g.S.Shelf.gave in
-    let report = c.tell_refused.new.report in
+    let report = c.tell_untaken.new.report in
     let within : mid.place < length names =
     subst (λ n. mid.place < n) (c.len.ensures ∙ mid.names.names.ok.0) c.loop-self-test.true in
     let at : slice_get names mid.place ≡ Some name =
     slice_get_read names (length names) mid.place name refl within c.index-name.ensures in
+    let told : TellsFile mid.report report name =
+    subst (λ n. TellsFile mid.report report n) c.as_bytes.ensures.value c.tell_untaken.ensures.told in
     let first = TellsLook old.types.now (path old.shelf) (gave old.shelf) old.names.names.items
     old.place old.report in
     record {
@@ -53,7 +54,7 @@ loop-self-preserved g c =
       told = subst (λ p. TellsBoth first (TellsLook mid.types.now p (gave c.read.new.shelf) names
           (mid.place + 1) report) [] []) (sym c.in-Err.ensures.same)
           (then_missed mid.types.now (path mid.shelf) names first (gave mid.shelf)
-          (gave c.read.new.shelf) mid.place mid.report report name (Refused c.in-Err.refusal)
-          is.told within at c.in-Err.ensures.took c.tell_refused.ensures.told);
-      fine = λ e. let any = c.tell_refused.ensures.any in absurd (cc (e, any));
+          (gave c.read.new.shelf) mid.place mid.report report name
+          is.told within at c.in-Err.ensures.took told);
+      fine = λ e. let any = c.tell_untaken.ensures.any in absurd (cc (e, any));
     }

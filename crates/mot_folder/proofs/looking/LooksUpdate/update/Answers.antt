@@ -3,7 +3,7 @@ use Rattle.std.proofs.Common.{◌∙◌}
 use Rattle.disk_model.specs.Disk.{State}
 use Rattle.disk_model.proofs.Laws.{unchanged_none}
 use Rattle.mot_folder.specs.declared.report.Report.{Report}
-use Rattle.mot_folder.specs.Looked.{HasLookedAtFolder, is_due, listed, unlisted}
+use Rattle.mot_folder.specs.Looked.{HasLookedAtFolder, is_due, kept, listed, unlisted}
 use Rattle.mot_folder.proofs.looking.LooksUpdate.update.Goals as goal
 use Rattle.mot_journal.specs.Image.{Standing}
 use Rattle.mot_numbers.specs.declared.refusal.Refusal.{Refusal}
@@ -16,15 +16,18 @@ use Rattle.mot_update.proofs.Laws.{has_read}
 
 -- a look runs commands
 updating_by : {D : Type 0} (old new : ServerView D) (start now : State) (s : Standing)
-    (may : Bool) (types : List SuffixType) (path : List ℕ) (given : Given) (report : Report)
-    (fault : Option Refusal) → may ≡ true
-    → HasLookedAtFolder old new start now s types path given report fault
+    (may : Bool) (types : List SuffixType) (allows : Bool) (path : List ℕ) (given : Given)
+    (report : Report) (fault : Option Refusal) → may ≡ true
+    → HasLookedAtFolder old new start now s types allows path given report fault
     → IsUpdating old new start now s may fault
-updating_by old new start now s may types path given report fault is
+updating_by old new start now s may types allows path given report fault is
     (unlisted refusal why refused ends run entries told are) =
     record { commands = []; marks = []; run = run; waits = λ e. refl }
-updating_by old new start now s may types path given report fault is
-    (listed names shown listing looked seen all told) =
+updating_by old new start now s may types allows path given report fault is
+    (kept listing is_kept refused ends run entries told are) =
+    record { commands = []; marks = []; run = run; waits = λ e. refl }
+updating_by old new start now s may types allows path given report fault is
+    (listed names shown listing updates looked seen all told) =
     record {
       commands = looked.runs.commands;
       marks = looked.runs.marks;
@@ -65,7 +68,7 @@ returns-clause-run g c = λ s holds honest.
     let state = g.D.Disk.state in
     let old = c.args.server.now in
     let new = c.look_at_folder-result.new.server in
-    updating_by old new (state old.disk) (state new.disk) s _ _ _ _ _
+    updating_by old new (state old.disk) (state new.disk) s _ _ _ _ _ _
     (fault_of c.look_at_folder-result.result)
     (between_due c.args.self.now.left c.args.may_look c.if-not-look_is_due.ensures.due)
     (c.look_at_folder-result.ensures.looked s holds honest)

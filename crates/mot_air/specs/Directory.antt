@@ -1,5 +1,5 @@
 -- How often the directory is sent, and when a look may come.
-use Rattle.std.specs.Prelude.{ℕ, Option, Some, None}
+use Rattle.std.specs.Prelude.{ℕ, ◌==◌, if◌then◌else◌, Option, Some, None}
 use Rattle.mot_files.specs.declared.packets.Target.{Target}
 use Rattle.mot_files.specs.declared.packets.Target.TheVariants.{File, Output, Stream}
 
@@ -12,11 +12,11 @@ directory_of Output None None = 340
 directory_of Stream None None = 340
 directory_of File None None = 0
 
--- after how many packets of a turn a look may come, with 0 for between turns alone: where no number
--- is asked for, 700 without end, and 0 where there is an end
+-- After how many packets of a turn a look may come: behind each, or 0 for between turns alone. It
+-- is behind each where packets between looks are asked for; and, where nothing is, without end.
 abbrev pub look_of : Target → (turns packets : Option ℕ) → ℕ
-look_of target turns (Some packets) = packets
+look_of target turns (Some packets) = if packets == 0 then 0 else 1
 look_of target (Some turns) None = 0
-look_of Output None None = 700
-look_of Stream None None = 700
+look_of Output None None = 1
+look_of Stream None None = 1
 look_of File None None = 0

@@ -1,0 +1,11 @@
+-- The rows and labels of the program, as those of the text.
+use Rattle.std.specs.Prelude.{ℕ, List}
+use Rattle.mot_status.specs.Status as public
+use Rattle.mot_status.specs.declared.text.Label.{Label}
+use Rattle.mot_status.specs.declared.text.Row.{Row}
+
+abbrev pub row_of : Row → public.Row
+row_of r = public.row r.name.now r.kind.now r.help.now r.value
+
+abbrev pub label_of : Label → List ℕ
+label_of l = public.more_label l.name.now l.value.now

@@ -1,0 +1,377 @@
+//! The text of the status.
+ghost use Rattle.std.specs.Prelude.{◌≡◌, ◌++◌, List, OnOk, flat_map};
+ghost use Rattle.mot_status.specs.Status.{RefusedFile, head_text, label, label_byte};
+ghost use Rattle.mot_status.specs.Status.{refused_sample, refused_text, row_text, rows_text};
+ghost use Rattle.mot_status.specs.Status.{sample_text, status_text, version_text};
+ghost use Rattle.mot_status.specs.Inner.Rows.{label_of, row_of};
+
+use itoa::Buffer;
+use std::alloc::AllocError;
+
+/// What is between the name of a file and why it was refused, in a line of the log.
+const REFUSED: &[u8] = b" refused ";
+
+/// What is known of a carousel on air.
+#[derive(Clone, Copy)]
+pub struct Figures<'a> {
+    /// The path of its disk.
+    pub disk: &'a str,
+    /// The version of the program.
+    pub version: &'a str,
+    /// How many packets were taken.
+    pub packets: u64,
+    /// How often the folder was looked at.
+    pub looks: u64,
+    /// How many commands were done.
+    pub changes: u64,
+    /// How many refusals were logged.
+    pub refusals: u64,
+    /// How many objects there are.
+    pub objects: u64,
+    /// The transport id of the directory.
+    pub directory: u64,
+    /// How many packets a turn has.
+    pub turn_packets: u64,
+    /// How many bytes these have.
+    pub turn_bytes: u64,
+    /// How many bytes are free for bodies.
+    pub free: u64,
+    /// The longest body that has room in one piece.
+    pub gap: u64,
+    /// 1 if the last look listed the folder, or there is none to look at, and else 0.
+    pub listed: u64,
+}
+
+/// A family of one sample.
+#[derive(Clone, Copy)]
+struct Row {
+    name: &'static str,
+    kind: &'static str,
+    help: &'static str,
+    value: u64,
+}
+
+/// A label behind that of the disk.
+#[derive(Clone, Copy)]
+struct Label<'a> {
+    name: &'static str,
+    value: &'a [u8],
+}
+
+/// Makes the text that of these figures and of the files that are refused in the lines of a look:
+/// a sample for each of their lines `COMMAND NAME refused REASON`, and one for equal lines, but none
+/// for a line about the whole look.
+pub fn write_status(
+    text: &mut Vec<u8>,
+    figures: &Figures<'_>,
+    lines: &[u8],
+) -> Result<(), AllocError>
+    ensures { OnOk result ((files : List RefusedFile)
+        × (text.new.items ≡ status_text figures.now files)) }
+{
+    text.clear();
+    add_figures(text, figures.disk, figures)?;
+    add_version(text, figures.disk, figures.version.as_bytes())?;
+    add_refused(text, figures.disk, lines)
+}
+
+/// Adds the figures.
+fn add_figures(text: &mut Vec<u8>, disk: &str, figures: &Figures<'_>) -> Result<(), AllocError>
+    ensures { OnOk result (text.new.items ≡ text.old.items ++ rows_text disk.now figures.now) }
+{
+    let rows = [
+        Row {
+            name: "motcar_packets_total",
+            kind: "counter",
+            help: "Packets that were taken.",
+            value: figures.packets,
+        },
+        Row {
+            name: "motcar_looks_total",
+            kind: "counter",
+            help: "Looks at the folder.",
+            value: figures.looks,
+        },
+        Row {
+            name: "motcar_changes_total",
+            kind: "counter",
+            help: "Commands that were done.",
+            value: figures.changes,
+        },
+        Row {
+            name: "motcar_refusals_total",
+            kind: "counter",
+            help: "Refusals that were logged.",
+            value: figures.refusals,
+        },
+        Row {
+            name: "motcar_objects",
+            kind: "gauge",
+            help: "Objects of the carousel.",
+            value: figures.objects,
+        },
+        Row {
+            name: "motcar_directory_id",
+            kind: "gauge",
+            help: "Transport id of the directory.",
+            value: figures.directory,
+        },
+        Row {
+            name: "motcar_turn_packets",
+            kind: "gauge",
+            help: "Packets of a turn.",
+            value: figures.turn_packets,
+        },
+        Row {
+            name: "motcar_turn_bytes",
+            kind: "gauge",
+            help: "Bytes of the packets of a turn.",
+            value: figures.turn_bytes,
+        },
+        Row {
+            name: "motcar_free_bytes",
+            kind: "gauge",
+            help: "Bytes that are free for bodies.",
+            value: figures.free,
+        },
+        Row {
+            name: "motcar_gap_bytes",
+            kind: "gauge",
+            help: "The longest body that has room.",
+            value: figures.gap,
+        },
+        Row {
+            name: "motcar_folder_listed",
+            kind: "gauge",
+            help: "Whether the folder was listed.",
+            value: figures.listed,
+        },
+    ];
+    add_rows(text, disk, &rows)
+}
+
+/// Adds families of one sample each.
+fn add_rows(text: &mut Vec<u8>, disk: &str, rows: &[Row]) -> Result<(), AllocError>
+    ensures { OnOk result (text.new.items
+        ≡ text.old.items ++ flat_map (λ r. row_text disk.now (row_of r)) rows.now) }
+{
+    for row in rows {
+        add_row(text, disk, row)?;
+    }
+    Ok(())
+}
+
+/// Adds a family of one sample.
+fn add_row(text: &mut Vec<u8>, disk: &str, row: &Row) -> Result<(), AllocError>
+    ensures { OnOk result (text.new.items ≡ text.old.items ++ row_text disk.now (row_of row.now)) }
+{
+    add_head(text, row.name, row.kind, row.help)?;
+    add_sample(text, disk, row.name, &[], row.value)
+}
+
+/// Adds which program it is.
+fn add_version(text: &mut Vec<u8>, disk: &str, version: &[u8]) -> Result<(), AllocError>
+    ensures { OnOk result (text.new.items ≡ text.old.items ++ version_text disk.now version.now) }
+{
+    add_head(text, "motcar_info", "gauge", "The version of the program.")?;
+    add_sample(
+        text,
+        disk,
+        "motcar_info",
+        &[Label {
+            name: "version",
+            value: version,
+        }],
+        1,
+    )
+}
+
+/// Adds the files that are refused in these lines.
+fn add_refused(text: &mut Vec<u8>, disk: &str, lines: &[u8]) -> Result<(), AllocError>
+    ensures { OnOk result ((files : List RefusedFile)
+        × (text.new.items ≡ text.old.items ++ refused_text disk.now files)) }
+{
+    add_head(
+        text,
+        "motcar_file_refused",
+        "gauge",
+        "A file that the last look refused, and why.",
+    )?;
+    add_samples(text, disk, lines)
+}
+
+/// Adds a sample for each file that is refused in these lines.
+fn add_samples(text: &mut Vec<u8>, disk: &str, lines: &[u8]) -> Result<(), AllocError>
+    ensures { OnOk result ((files : List RefusedFile)
+        × (text.new.items ≡ text.old.items ++ flat_map (refused_sample disk.now) files)) }
+{
+    let mut number: usize = 0;
+    for line in lines.split(|byte| *byte == b'\n') {
+        if is_first(lines, number, line) {
+            add_line(text, disk, line)?;
+        }
+        number = number.saturating_add(1);
+    }
+    Ok(())
+}
+
+/// Whether none of so many first lines is this one.
+fn is_first(lines: &[u8], number: usize, line: &[u8]) -> bool {
+    for other in lines.split(|byte| *byte == b'\n').take(number) {
+        if other == line {
+            return false;
+        }
+    }
+    true
+}
+
+/// Adds a sample for the file that is refused in this line, if one is.
+fn add_line(text: &mut Vec<u8>, disk: &str, line: &[u8]) -> Result<(), AllocError>
+    ensures { OnOk result ((files : List RefusedFile)
+        × (text.new.items ≡ text.old.items ++ flat_map (refused_sample disk.now) files)) }
+{
+    match refused_in(line) {
+        Some((command, name, reason)) => add_file(text, disk, command, name, reason),
+        None => Ok(()),
+    }
+}
+
+/// The command, the name and the reason of a line about a file that was refused.
+fn refused_in(line: &[u8]) -> Option<(&[u8], &[u8], &[u8])> {
+    let space = line.iter().position(|byte| *byte == b' ')?;
+    let (command, rest) = line.split_at(space);
+    if command == b"look".as_slice() {
+        return None;
+    }
+    let at = rest
+        .windows(REFUSED.len())
+        .rposition(|part| part == REFUSED)?;
+    let (name, reason) = rest.split_at(at);
+    Some((command, name.get(1..)?, reason.get(REFUSED.len()..)?))
+}
+
+/// Adds the sample of a file.
+fn add_file(
+    text: &mut Vec<u8>,
+    disk: &str,
+    command: &[u8],
+    name: &[u8],
+    reason: &[u8],
+) -> Result<(), AllocError>
+    ensures { OnOk result (text.new.items ≡ text.old.items ++ refused_sample disk.now (record {
+      command = command.now;
+      name = name.now;
+      reason = reason.now;
+    })) }
+{
+    let labels = [
+        Label {
+            name: "command",
+            value: command,
+        },
+        Label {
+            name: "name",
+            value: name,
+        },
+        Label {
+            name: "reason",
+            value: reason,
+        },
+    ];
+    add_sample(text, disk, "motcar_file_refused", &labels, 1)
+}
+
+/// Adds a sample with these labels behind that of the disk.
+fn add_sample(
+    text: &mut Vec<u8>,
+    disk: &str,
+    name: &str,
+    labels: &[Label<'_>],
+    value: u64,
+) -> Result<(), AllocError>
+    ensures { OnOk result (text.new.items ≡ text.old.items ++ sample_text disk.now name.now
+        (flat_map label_of labels.now) value) }
+{
+    let mut buffer = Buffer::new();
+    add(text, name)?;
+    add(text, "{")?;
+    add_label(text, "disk", disk.as_bytes())?;
+    add_labels(text, labels)?;
+    add(text, "} ")?;
+    add(text, buffer.format(value))?;
+    add(text, "\n")
+}
+
+/// Adds further labels.
+fn add_labels(text: &mut Vec<u8>, labels: &[Label<'_>]) -> Result<(), AllocError>
+    ensures { OnOk result (text.new.items ≡ text.old.items
+        ++ flat_map label_of labels.now) }
+{
+    for label in labels {
+        add_more(text, label)?;
+    }
+    Ok(())
+}
+
+/// Adds a further label.
+fn add_more(text: &mut Vec<u8>, label: &Label<'_>) -> Result<(), AllocError>
+    ensures { OnOk result (text.new.items ≡ text.old.items ++ label_of label.now) }
+{
+    add(text, ",")?;
+    add_label(text, label.name, label.value)
+}
+
+/// Adds what a family of samples is.
+fn add_head(text: &mut Vec<u8>, name: &str, kind: &str, help: &str) -> Result<(), AllocError>
+    ensures { OnOk result (text.new.items ≡ text.old.items
+        ++ head_text name.now kind.now help.now) }
+{
+    add(text, "# HELP ")?;
+    add(text, name)?;
+    add(text, " ")?;
+    add(text, help)?;
+    add(text, "\n# TYPE ")?;
+    add(text, name)?;
+    add(text, " ")?;
+    add(text, kind)?;
+    add(text, "\n")
+}
+
+/// Adds a label and its value.
+fn add_label(text: &mut Vec<u8>, name: &str, value: &[u8]) -> Result<(), AllocError>
+    ensures { OnOk result (text.new.items ≡ text.old.items ++ label name.now value.now) }
+{
+    add(text, name)?;
+    add(text, "=\"")?;
+    add_value(text, value)?;
+    add(text, "\"")
+}
+
+/// Adds the value of a label.
+fn add_value(text: &mut Vec<u8>, value: &[u8]) -> Result<(), AllocError>
+    ensures { OnOk result (text.new.items ≡ text.old.items ++ flat_map label_byte value.now) }
+{
+    for byte in value {
+        add_byte(text, *byte)?;
+    }
+    Ok(())
+}
+
+/// Adds a byte of the value of a label.
+fn add_byte(text: &mut Vec<u8>, byte: u8) -> Result<(), AllocError>
+    ensures { OnOk result (text.new.items ≡ text.old.items ++ label_byte byte) }
+{
+    match byte {
+        b'\\' => text.extend_from_slice(b"\\\\"),
+        b'"' => text.extend_from_slice(b"\\\""),
+        b'\n' => text.extend_from_slice(b"\\n"),
+        _ => text.extend_from_slice(&[byte]),
+    }
+}
+
+/// Adds a text.
+fn add(text: &mut Vec<u8>, more: &str) -> Result<(), AllocError>
+    ensures { OnOk result (text.new.items ≡ text.old.items ++ more.now) }
+{
+    text.extend_from_slice(more.as_bytes())
+}
