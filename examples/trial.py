@@ -246,6 +246,8 @@ def judge(station, multiplexer, expect):
     last = {}
     for started, eti in multiplexer.files():
         timed = list(timed_packets(eti, station.address, station.number))
+        # (what a multiplexer's file begins with may be the rest of a group, whose beginning was taken before)
+        timed = timed[next((it for it, (_, packet) in enumerate(timed) if packet[0] & 8), len(timed)) :]
         packets = [packet for _, packet in timed]
         ended = started + len(eti) // LENGTH * FRAME
         starts = sum(started < it < ended for it in station.starts)
@@ -259,7 +261,10 @@ def judge(station, multiplexer, expect):
                 strange.append((name, len(body)))
             heard.setdefault((name, body), moment)
             last[name] = body
+    first = {}
     for given, name, body in station.changes:
+        first.setdefault((name, body), given)
+    for (name, body), given in first.items():
         if (name, body) in heard and given > station.starts[0] + 60:
             waits.append(heard[name, body] - given)
     print(f"{station.name}: {packets_all} packets of {station.length} bytes, {len(station.starts)} starts, {len(heard)} contents of files whole on air, "
