@@ -8,7 +8,8 @@ use Rattle.std.specs.Option.{option_map_or}
 use Rattle.disk_model.specs.Disk.{IsHonestDisk, OnlySyncs, State}
 use Rattle.disk_model.proofs.Laws.{weakens}
 use Rattle.mot_air.specs.Lives.{KeepsDone, PlaysOn, StopsOn}
-use Rattle.mot_air.specs.Playing.{Manner, Plays, StopsPlaying, WritesPart, stopped, unopened}
+use Rattle.mot_air.specs.Playing.{Manner, Plays, StopsPlaying, Tale, WritesPart, stopped}
+use Rattle.mot_air.specs.Playing.{unopened}
 use Rattle.mot_feed.specs.Feeding.{commands_among}
 use Rattle.mot_journal.specs.Image.{Standing}
 use Rattle.mot_journal.specs.Journal.{standing_from}
@@ -63,12 +64,13 @@ few_of true commands = take_one commands
 few_of false commands = omega arith
 
 -- playing goes on from what was done
-pub plays_on : (g : Geometry) (first : ℕ) (done : List Command) (how : Manner) (turns : ℕ)
+pub plays_on : (g : Geometry) (first : ℕ) (done : List Command) (tale : Tale)
+    (how : Manner) (turns : ℕ)
     (before after : Option (List (List ℕ))) (start now : State)
     (was : KeepsDone g first done start)
-    → now.IsHonest → Plays how turns before after start now
-    → PlaysOn g first done how turns before after start now
-plays_on g first done how turns before after start now was honest plays =
+    → now.IsHonest → Plays tale how turns before after start now
+    → PlaysOn g first done tale how turns before after start now
+plays_on g first done tale how turns before after start now was honest plays =
     let s = was.standing in
     let writes = plays.writes s honest was.each in
     let aired = writes.played in
@@ -94,12 +96,13 @@ plays_on g first done how turns before after start now was honest plays =
     }
 
 -- and so does what it had come to where a refusal ended it
-pub stops_on : (g : Geometry) (first : ℕ) (done : List Command) (refusal : Refusal) (how : Manner)
+pub stops_on : (g : Geometry) (first : ℕ) (done : List Command) (refusal : Refusal)
+    (tale : Tale) (how : Manner)
     (before after : Option (List (List ℕ))) (start now : State)
     (was : KeepsDone g first done start)
-    → WritesPart refusal how before after start now was.standing
-    → StopsOn g first done refusal how before after start now
-stops_on g first done refusal how before after start now was part =
+    → WritesPart refusal tale how before after start now was.standing
+    → StopsOn g first done refusal tale how before after start now
+stops_on g first done refusal tale how before after start now was part =
     let s = was.standing in
     let aired = part.played in
     let accepted = accepted_commands aired.commands aired.marks in
@@ -109,6 +112,7 @@ stops_on g first done refusal how before after start now was part =
       standing = s;
       was = was.after;
       fault = part.fault;
+      stage = part.stage;
       events = part.events;
       packets = part.packets;
       aired = aired;
@@ -133,14 +137,16 @@ stops_on g first done refusal how before after start now was part =
 
 -- an end before the last turn, told of the lives
 pub lives_stopped : (g : Geometry) (first : ℕ) (done : List Command) (refusal : Refusal)
-    (how : Manner) (before after : Option (List (List ℕ))) (start now : State)
+    (tale : Tale) (how : Manner) (before after : Option (List (List ℕ))) (start now : State)
     → KeepsDone g first done start
-    → now.IsHonest → StopsPlaying refusal how before after start now
-    → IsUnopened refusal start now ⊎ StopsOn g first done refusal how before after start now
-lives_stopped g first done refusal how before after start now was honest (unopened why none) =
+    → now.IsHonest → StopsPlaying refusal tale how before after start now
+    → IsUnopened refusal start now ⊎ StopsOn g first done refusal tale how before after start now
+lives_stopped g first done refusal tale how before after start now was honest
+    (unopened why none untold) =
     inl why
-lives_stopped g first done refusal how before after start now was honest (stopped keeps why part) =
-    inr (stops_on g first done refusal how before after start now was
+lives_stopped g first done refusal tale how before after start now was honest
+    (stopped keeps why part) =
+    inr (stops_on g first done refusal tale how before after start now was
     (part was.standing honest was.each))
 
 -- what a server has done its disk keeps

@@ -2,4 +2,6 @@ pub mod Begun
 pub mod Kept
 pub mod Opened
 pub mod Played
+pub mod Retold
 pub mod Synced
+pub mod Used

@@ -11,11 +11,10 @@ use Rattle.mot_air.specs.Inner.Looked as looks
 use Rattle.mot_air.specs.Syncing.{HasSynced, IsBrokenOff, IsEqual, StopsSyncing, Syncs}
 use Rattle.mot_air.specs.Syncing.{SyncsAndTells}
 use Rattle.mot_air.specs.Syncing.{broken, untold, stopped}
-use Rattle.mot_air.specs.Syncing as synced
 use Rattle.mot_air.proofs.Opened.{breaks_off, opened_leaves}
 use Rattle.mot_feed.specs.Feeding.{IsFeedFault}
 use Rattle.mot_folder.specs.Log.{LogEntry, ReportTells}
-use Rattle.mot_folder.specs.Looked.{HasLookedAtFolder, kept, listed, unlisted}
+use Rattle.mot_folder.specs.Looked.{HasLookedAtFolder, IsLook, kept, listed, unlisted}
 use Rattle.mot_folder.specs.declared.report.Report.{Report}
 use Rattle.mot_journal.specs.Image.{Standing}
 use Rattle.mot_numbers.specs.declared.geometry.Geometry.{Geometry}
@@ -36,7 +35,11 @@ use Rattle.mot_shelf.specs.Given.{Given}
 use Rattle.mot_suffixes.specs.Types.{SuffixType}
 use Rattle.mot_update.proofs.Laws.{made}
 use Rattle.mot_update.specs.Faults.{StaysCalm}
-use Rattle.mot_update.specs.Looking.{AreAccepted, HasLooked}
+use Rattle.mot_update.specs.HasRun.{HasRun}
+use Rattle.mot_update.specs.Looking.{AreAccepted}
+use Rattle.mot_update.specs.declared.wanted.Wanted.{Wanted}
+use Rattle.mot_numbers.specs.Refusal.{is_device_fault}
+use Rattle.std.specs.Option.{option_map_or}
 use Rattle.mot_update.specs.Updating.{updating}
 
 -- commands that were all accepted
@@ -81,91 +84,64 @@ module _ {D : Type 0} (state : D → State) (disk : D) (server new : ServerView 
       subst (λ (g : Geometry). g.objects ≤ MAX_OBJECTS) agrees.geometry
       (valid_is server.view.journal.geometry valid).1
 
-  is_equal : (s : Standing) (names : List (List ℕ)) → (state new.disk).IsHonest
+  -- what a look came to of the disk, from its opening on
+  has_synced : (s : Standing) (types : List SuffixType) (allows : Bool) (path : List ℕ)
+      (given : Given) (report : Report) (fault : Option Refusal) → (state new.disk).IsHonest
       → AllAre s (state disk)
-      → (looked : HasLooked server new (state server.disk) (state new.disk) s names 0 None None true
-      None)
-      → IsEqual s names looked.wanted (state new.disk)
-  is_equal s names honest all looked =
-      let runs = looked.runs in
-      let run = runs.run in
-      let whole : runs.commands ≡ updating s.carousel names looked.wanted =
-      sym (append-nil runs.commands) ∙ ap (λ l. runs.commands ++ l) (sym (runs.whole refl))
-      ∙ sym runs.split in
-      let done = all_accepted runs.commands runs.marks (runs.accepted refl refl) (run.whole refl)
-      ∙ whole in
-      let after = subst (λ l. carousel_after s.carousel s.geometry.objects l
-      ≡ Some run.leaves.last.carousel)
-      done run.leaves.after.carousel in
-      record {
-        every = looked.every refl refl;
-        last = run.leaves.last;
-        geometry = run.leaves.after.geometry;
-        updated = made s.carousel run.leaves.last.carousel s.geometry.objects names looked.wanted
-            (few_objects s (holds_opened s honest all).agrees) (sound_carousel s honest all)
-            looked.is_update after;
-        stands = (run.leaves.going refl).each;
-      }
-
-  has_synced : (s : Standing) (types : List SuffixType) (allows : Bool) (path : List ℕ) (given : Given)
-      (report : Report) (fault : Option Refusal) → (state new.disk).IsHonest
-      → AllAre s (state disk)
-      → HasLookedAtFolder server new (state server.disk) (state new.disk) s types allows path given report
-      fault
+      → HasLookedAtFolder server new (state server.disk) (state new.disk) s types allows path given
+      report fault
       → (entries : List LogEntry)
       × HasSynced (not report.any_refused) fault types allows path given entries (state disk)
       (state new.disk) s × ReportTells report entries
-  has_synced s types allows path given report fault honest all (unlisted refusal why refused ends run
-      entries told are) =
+  has_synced s types allows path given report fault honest all looked =
       let was = keeps.was_honest honest in (
-        entries,
-        synced.unlisted refusal why (ap not refused) (opened_leaves (state disk) (state server.disk)
-            (state new.disk) server.view new.view s [] [] fault
-            (sound disk (opens.keeps.was_honest was)) all (opens.still was) run.leaves) are,
-        told,
-      )
-  has_synced s types allows path given report fault honest all (kept listing stays refused ends run
-      entries told are) =
-      let was = keeps.was_honest honest in (
-        entries,
-        synced.kept listing stays (ap not refused) (opened_leaves (state disk) (state server.disk)
-            (state new.disk) server.view new.view s [] [] fault
-            (sound disk (opens.keeps.was_honest was)) all (opens.still was) run.leaves) are,
-        told,
-      )
-  has_synced s types allows path given report fault honest all (listed names shown listing updates
-      looked seen whole tells) =
-      let was = keeps.was_honest honest in (
-        tells.entries,
-        synced.listed names looked.wanted shown listing updates (record {
-          is_update = looked.is_update;
-          commands = looked.runs.commands;
-          others = looked.runs.others;
-          split = looked.runs.split;
-          whole = looked.runs.whole;
-          marks = looked.runs.marks;
+        looked.entries,
+        record {
+          commands = looked.commands;
+          marks = looked.marks;
           leaves = opened_leaves (state disk) (state server.disk) (state new.disk) server.view
-              new.view s looked.runs.commands looked.runs.marks fault
-              (sound disk (opens.keeps.was_honest was)) all (opens.still was)
-              looked.runs.run.leaves;
-          answers = looked.runs.answers;
-          answered = looked.runs.told;
-        }) (equal (not report.any_refused) fault looked) tells.are seen whole (record {
-          before = tells.before;
-          missed = tells.missed;
-          read = tells.read;
-          taken = tells.taken;
-        }),
-        tells.told,
+              new.view s looked.commands looked.marks fault
+              (sound disk (opens.keeps.was_honest was)) all (opens.still was) looked.run.leaves;
+          names = looked.names;
+          wanted = looked.wanted;
+          look = looked.look;
+          equal = equal (not report.any_refused) fault looked.commands looked.marks looked.names
+              looked.wanted looked.entries looked.run looked.look;
+        },
+        looked.told,
       )
     where
-      equal : (fine : Bool) (fault : Option Refusal)
-          → (l : HasLooked server new (state server.disk) (state new.disk) s names 0 None None fine
-          fault)
-          → fine ≡ true → fault ≡ None → IsEqual s names l.wanted (state new.disk)
-      equal true None l e n = is_equal s names honest all l
-      equal false fault l e n = absurd (cc)
-      equal true (Some refusal) l e n = absurd (cc)
+      equal : (fine : Bool) (fault : Option Refusal) (commands : List Command)
+          (marks : List Bool) (names : List (List ℕ)) (wanted : List Wanted)
+          (entries : List LogEntry)
+          → HasRun server new (state server.disk) (state new.disk) s commands marks fault
+          → IsLook types allows path given s.carousel commands marks fault names wanted fine entries
+          → fine ≡ true → fault ≡ None → IsEqual s names wanted (state new.disk)
+      equal fine fault commands marks names wanted entries run
+          (unlisted refusal why refused ends none are) e n =
+          absurd (let no : false ≡ true = sym refused ∙ e in cc)
+      equal fine fault commands marks names wanted entries run
+          (kept listing stays refused ends none are) e n =
+          absurd (let no : false ≡ true = sym refused ∙ e in cc)
+      equal fine fault commands marks names wanted entries run
+          (listed shown listing updates is_update others split whole exact answers told are seen
+          gone each) e n =
+          let fine_is = exact e n in
+          let all_run : commands ≡ updating s.carousel names wanted =
+          sym (append-nil commands) ∙ ap (λ l. commands ++ l) (sym (whole n)) ∙ sym split in
+          let done = all_accepted commands marks fine_is.1 (run.whole n) ∙ all_run in
+          let after = subst (λ l. carousel_after s.carousel s.geometry.objects l
+          ≡ Some run.leaves.last.carousel) done run.leaves.after.carousel in
+          record {
+            every = fine_is.0;
+            last = run.leaves.last;
+            geometry = run.leaves.after.geometry;
+            updated = made s.carousel run.leaves.last.carousel s.geometry.objects names wanted
+                (few_objects s (holds_opened s honest all).agrees) (sound_carousel s honest all)
+                is_update after;
+            stands = (run.leaves.going (ap (λ (f : Option Refusal). option_map_or is_device_fault f
+                false) n)).each;
+          }
 
   same_ok : (a b : Bool) → ◌≡◌ {A = Result Bool Refusal} (Ok a) (Ok b) → a ≡ b
   same_ok a b e = cc

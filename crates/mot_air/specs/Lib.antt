@@ -5,3 +5,4 @@ pub mod Opening
 pub mod Playing
 pub mod Program
 pub mod Syncing
+pub mod Telling

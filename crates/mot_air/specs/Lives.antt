@@ -2,8 +2,8 @@
 -- left is played again, and so on.
 use Rattle.std.specs.Prelude.{ℕ, ◌≤◌, List, ◌++◌, length, Option}
 use Rattle.disk_model.specs.Disk.{State, Throughout}
-use Rattle.mot_air.specs.Playing.{HasAired, Manner, WritesTurns}
-use Rattle.mot_feed.specs.Feeding.{Event, commands_among}
+use Rattle.mot_air.specs.Playing.{HasAired, Manner, Tale, WritesTurns}
+use Rattle.mot_feed.specs.Feeding.{Event, Stage, commands_among}
 use Rattle.mot_feed.specs.Writing.{GrowsPart}
 use Rattle.mot_journal.specs.Image.{Standing}
 use Rattle.mot_journal.specs.Journal.{standing_from}
@@ -24,24 +24,25 @@ pub record KeepsDone (g : Geometry) (first : ℕ) (done : List Command) (now : S
 -- A disk on which these commands were done was played. At each moment since then a crash leaves all
 -- of them, and a beginning of those that were accepted between packets; and now it leaves them all,
 -- so that the next life goes on from there.
-pub record PlaysOn (g : Geometry) (first : ℕ) (done : List Command) (how : Manner) (turns : ℕ)
-    (before after : Option (List (List ℕ))) (start now : State) : Type 0 where
+pub record PlaysOn (g : Geometry) (first : ℕ) (done : List Command) (tale : Tale)
+    (how : Manner) (turns : ℕ) (before after : Option (List (List ℕ))) (start now : State) : Type 0 where
   pub standing : Standing
   pub was : IsAfter (standing_from g first) done standing
-  pub writes : WritesTurns how turns before after start now standing
+  pub writes : WritesTurns tale how turns before after start now standing
   pub any_moment : Throughout start now
       (StandsAfterSome (standing_from g first) done (commands_among writes.events))
   pub keeps : KeepsDone g first (done ++ commands_among writes.events) now
 
 -- The same where this refusal ended it: with at most one command in flight.
 pub record StopsOn (g : Geometry) (first : ℕ) (done : List Command) (refusal : Refusal)
-    (how : Manner) (before after : Option (List (List ℕ))) (start now : State) : Type 0 where
+    (tale : Tale) (how : Manner) (before after : Option (List (List ℕ))) (start now : State) : Type 0 where
   pub standing : Standing
   pub was : IsAfter (standing_from g first) done standing
   pub fault : Option Refusal
+  pub stage : Stage
   pub events : List Event
   pub packets : List (List ℕ)
-  pub aired : HasAired standing how fault events packets start now
+  pub aired : HasAired standing tale how fault stage events packets start now
   pub written : GrowsPart refusal packets before after
   pub in_flight : List Command
   pub few : length in_flight ≤ 1

@@ -12,7 +12,7 @@ mod reported;
 mod watched;
 
 pub use lives::{keep_done, open_done};
-pub use mot_files::{LineFolder, Target};
+pub use mot_files::{LineFolder, Station, Target};
 pub use mot_outcome::{Exit, UsedDisk};
 pub use mot_reading::Ended;
 pub use mot_words::{AirTask as Task, PlayTask};

@@ -1,7 +1,7 @@
 //! What is told of words that ask for no task, and of a folder that was not listed.
 use clap::ArgMatches;
 use disk_store::OpenFault;
-use mot_shelf::open_folder;
+use mot_files::Cause;
 use std::io::Write;
 
 /// The option that is missing among the words, as help shows it, if another one that qualifies it
@@ -39,12 +39,12 @@ pub(crate) fn tell_missing<E: Write>(errors: &mut E, option: &str) {
     );
 }
 
-/// Prints why the folder that these words name can't be listed, if it can't.
-pub(crate) fn tell_folder<E: Write>(rt: &HostRuntime, errors: &mut E, words: &ArgMatches<'_>) {
+/// Prints why the folder that these words name was not opened, if that is the cause.
+pub(crate) fn tell_folder<E: Write>(errors: &mut E, words: &ArgMatches<'_>, cause: Option<Cause>) {
     let Some(path) = words.get_str("DIR").or(words.get_str("folder")) else {
         return;
     };
-    if let Err(error) = open_folder(rt, rt.alloc(), path) {
+    if let Some(Cause::Folder(error)) = cause {
         let fault = OpenFault::System(error);
         let _ = writeln!(errors, "motcar: {path}: {fault}");
     }

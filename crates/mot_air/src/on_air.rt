@@ -1,10 +1,13 @@
 //! Playing the disk of a file into what a path names.
-ghost use Rattle.std.specs.Prelude.{◌≡◌, ◌≢◌, ◌⊎◌, [], ◌∷◌, Some, Ok, true, false, IfErr, OnOk};
+ghost use Rattle.std.specs.Prelude.{◌≡◌, ◌⊎◌, [], ◌∷◌, Some, Err, Ok, true, false, IfErr, OnOk, codes};
+ghost use Rattle.std.specs.Prelude.{option_map};
 ghost use Rattle.disk_model.specs.Disk.{KeepsLength};
 ghost use Rattle.mot_air.specs.Directory.{directory_of, look_of};
 ghost use Rattle.mot_air.specs.Playing.{Plays, StopsPlaying};
-ghost use Rattle.mot_air.specs.Program.{FailsPlaying, PlaysTo, StopsPlayingTo, turns_of};
-ghost use Rattle.mot_air.specs.Program.{played_as, when_changed};
+ghost use Rattle.mot_air.specs.Program.{FailsPlaying, Opens, PlaysTo, StopsPlayingTo, turns_of};
+ghost use Rattle.mot_air.specs.Program.{played_as};
+ghost use Rattle.mot_air.specs.Telling.{tale_with, watch_in, watched};
+ghost use Rattle.mot_files.specs.declared.lines.LineFolder.{LineFolder};
 ghost use Rattle.mot_files.specs.Packets.{begun_of, target_of};
 ghost use Rattle.mot_numbers.specs.declared.refusal.Refusal.TheVariants.{DeviceFault, WriteFault};
 ghost use Rattle.mot_outcome.specs.Outcome.{IsUntold};
@@ -14,21 +17,18 @@ use crate::answered::answered;
 use crate::playing::{Aired, Followed, play_and_answer, play_disk};
 use crate::reported::Telling;
 use disk_model::Disk;
-use disk_store::{Start, open_file};
+use disk_store::Start;
 use mot_files::{
-    Cause, LineFolder, NewFile, OpenPackets, PacketWriter, PacketsFault, Taken, Target,
-    open_packets,
+    Cause, LineFolder, NewFile, OpenPackets, PacketWriter, PacketsFault, Station, StatusFile,
+    Taken, Target,
 };
 use mot_numbers::Refusal;
 use mot_outcome::{Beside, Finished};
-use mot_shelf::Shelf;
+use mot_packets::Outlet;
+use mot_shelf::{LookNotes, Shelf};
 use mot_words::PlayTask;
 use std::alloc::Global;
 use std::io::Write;
-
-/// The turns of a file. After so many all continuity indexes are as they began, so that the
-/// packets can be sent round and round.
-const FILE_TURNS: u64 = 16;
 
 /// After how many packets the directory is sent again if playing has no end. So many of 96 bytes
 /// take 8.2 seconds at 32 kbit/s: with the group under way and itself it is there within ten.
@@ -36,13 +36,15 @@ const DIRECTORY_PACKETS: u32 = 340;
 
 /// How a disk is played: what the words ask for, and what may change the carousel.
 #[derive(Drop)]
-pub(crate) struct Airing<'a, F: Shelf + Drop> {
+pub(crate) struct Airing<'a, 't, F: Shelf + Drop> {
     /// What the words ask for.
     pub(crate) task: PlayTask<'a>,
     /// The folder that the carousel is made equal to, if one is given.
-    pub(crate) folder: Option<Followed<'a, F>>,
+    pub(crate) folder: Option<Followed<'t, F>>,
     /// The folder whose files are answered as lines, if one is given.
     pub(crate) lines: Option<LineFolder<'a>>,
+    /// The file that the status is written to, if one is given.
+    pub(crate) status: Option<StatusFile<'a>>,
 }
 
 /// What playing came to, and why packets were not taken.
@@ -53,42 +55,50 @@ struct Played<D: Disk> {
     is_fine: bool,
     /// What each write of packets took.
     taken: Taken,
+    /// What the folder gave in each look.
+    looks: LookNotes,
     cause: Option<Cause>,
 }
 
 /// Plays the disk of the file that the words name into what they name for packets. The log goes to
 /// `writer`, and to `errors` if the packets go to `writer`.
-pub(crate) fn play_file<B: Start, F: Shelf + Drop, W: Write, E: Write>(
-    rt: &HostRuntime,
+pub(crate) fn play_file<'a, B: Start, F: Shelf + Drop, W: Write, E: Write>(
+    station: &mut Station<'a>,
     alloc: Global,
-    airing: Airing<'_, F>,
+    airing: Airing<'a, '_, F>,
     start: B,
     writer: &mut W,
     errors: &mut E,
 ) -> Finished<B, bool>
-    ensures done { result.result ≡ Ok true
-        → PlaysTo airing.entry.task.packets.now
-        (when_changed airing.entry.lines airing.entry.folder) airing.entry.task.turns
-        airing.entry.task.directory airing.entry.task.look result.disk }
-    ensures told { result.result ≡ Ok false
-        → PlaysTo airing.entry.task.packets.now
-        (when_changed airing.entry.lines airing.entry.folder) airing.entry.task.turns
-        airing.entry.task.directory airing.entry.task.look result.disk }
+    ensures done { result.result ≡ Ok true → PlaysTo airing.entry.task
+        (watched airing.entry.folder (λ followed. watch_in (played_as airing.entry.task)
+        (F.path followed.shelf) followed.types.now followed.allows_empty followed.every))
+        (option_map (λ (lines : LineFolder). lines.hand) airing.entry.lines)
+        result.disk }
+    ensures told { result.result ≡ Ok false → PlaysTo airing.entry.task
+        (watched airing.entry.folder (λ followed. watch_in (played_as airing.entry.task)
+        (F.path followed.shelf) followed.types.now followed.allows_empty followed.every))
+        (option_map (λ (lines : LineFolder). lines.hand) airing.entry.lines)
+        result.disk }
     ensures refused { IfErr result.result (λ r. (((r ≡ DeviceFault) ⊎ (r ≡ WriteFault))
         × IsUntold result.disk (W.contents writer.old) (W.contents writer.new))
-        ⊎ StopsPlayingTo airing.entry.task.packets.now
-        (when_changed airing.entry.lines airing.entry.folder)
-        airing.entry.task.turns airing.entry.task.directory airing.entry.task.look r result.disk) }
+        ⊎ StopsPlayingTo airing.entry.task
+        (watched airing.entry.folder (λ followed. watch_in (played_as airing.entry.task)
+        (F.path followed.shelf) followed.types.now followed.allows_empty followed.every))
+        (option_map (λ (lines : LineFolder). lines.hand) airing.entry.lines)
+        r result.disk) }
+    ensures opens { Opens ((codes "packets", airing.entry.task.packets.now) ∷ [])
+        airing.entry.task.disk.now result.disk station.old.opened.all station.new.opened.all }
 {
     let PlayTask { disk, packets, .. } = airing.task;
-    let opened = match open_packets(rt, packets, disk, airing.task.turns) {
+    let opened = match station.packets(packets, disk, airing.task.turns) {
         Ok(opened) => opened,
         Err(cause) => return Finished::unbegun(Refusal::WriteFault, Some(cause), start),
     };
-    let disk = match open_file(rt, disk, start) {
+    let disk = match station.disk(disk, start) {
         Ok(disk) => disk,
         Err(unopened) => {
-            opened.give_up(rt);
+            opened.give_up();
             return Finished::unopened(unopened);
         }
     };
@@ -96,201 +106,245 @@ pub(crate) fn play_file<B: Start, F: Shelf + Drop, W: Write, E: Write>(
         ended,
         is_fine,
         taken,
+        looks,
         cause,
-    } = play_into(rt, alloc, disk, opened, airing, writer, errors);
-    Finished::of_file(answered(ended, is_fine), Beside::packets(taken), cause)
+    } = play_into(alloc, disk, opened, airing, writer, errors);
+    let beside = Beside::played(taken, looks);
+    Finished::of_file(answered(ended, is_fine), beside, cause)
 }
 
 /// Plays the disk into what was opened.
 fn play_into<D: Disk, F: Shelf + Drop, W: Write, E: Write>(
-    rt: &HostRuntime,
     alloc: Global,
     disk: D,
     opened: OpenPackets<'_>,
-    airing: Airing<'_, F>,
+    airing: Airing<'_, '_, F>,
     writer: &mut W,
     errors: &mut E,
 ) -> Played<D>
     ensures keeps { KeepsLength (D.state disk) (D.state result.ended.disk) }
-    ensures done { OnOk result.ended.result (Plays (played_as (target_of opened.entry)
-        (when_changed airing.entry.lines airing.entry.folder) airing.entry.task.turns
-        airing.entry.task.directory airing.entry.task.look)
-        (turns_of (target_of opened.entry) airing.entry.task.turns) (Some (begun_of opened.entry))
-        (Some result.taken.notes.all)
+    ensures done { OnOk result.ended.result (Plays (tale_with
+        (watched airing.entry.folder (λ followed. watch_in (played_as airing.entry.task)
+        (F.path followed.shelf) followed.types.now followed.allows_empty followed.every))
+        (option_map (λ (lines : LineFolder). lines.hand) airing.entry.lines)
+        (played_as airing.entry.task) result.looks.all) (played_as airing.entry.task)
+        (turns_of airing.entry.task.turns) (Some (begun_of opened.entry))
+        (Some result.taken.notes.all) (D.state disk) (D.state result.ended.disk)) }
+    ensures refused { IfErr result.ended.result (λ r. FailsPlaying (target_of opened.entry) (tale_with
+        (watched airing.entry.folder (λ followed. watch_in (played_as airing.entry.task)
+        (F.path followed.shelf) followed.types.now followed.allows_empty followed.every))
+        (option_map (λ (lines : LineFolder). lines.hand) airing.entry.lines)
+        (played_as airing.entry.task) result.looks.all) (played_as airing.entry.task)
+        (turns_of airing.entry.task.turns) r (begun_of opened.entry) result.taken.notes.all
         (D.state disk) (D.state result.ended.disk)) }
-    ensures refused { IfErr result.ended.result (λ r. FailsPlaying (target_of opened.entry)
-        (when_changed airing.entry.lines airing.entry.folder) airing.entry.task.turns
-        airing.entry.task.directory airing.entry.task.look r
-        (begun_of opened.entry) result.taken.notes.all (D.state disk) (D.state result.ended.disk)) }
 {
     match opened {
-        OpenPackets::Standard(outlet) => {
-            play_stream(rt, alloc, disk, outlet, Target::Output, airing, errors)
-        }
-        OpenPackets::Through(outlet) => {
-            play_stream(rt, alloc, disk, outlet, Target::Stream, airing, writer)
-        }
-        OpenPackets::Beside(new) => play_new_file(rt, alloc, disk, new, airing, writer),
+        OpenPackets::Standard(outlet) => { play_stream(alloc, disk, outlet, airing, errors) }
+        OpenPackets::Through(outlet) => { play_stream(alloc, disk, outlet, airing, writer) }
+        OpenPackets::Beside(new) => play_new_file(alloc, disk, new, airing, writer),
     }
 }
 
 /// Plays the disk into a stream: the log alone says what was refused.
 fn play_stream<D: Disk, F: Shelf + Drop, P: Write + Drop, L: Write>(
-    rt: &HostRuntime,
     alloc: Global,
     disk: D,
     outlet: PacketWriter<P>,
-    target: Target,
-    airing: Airing<'_, F>,
+    airing: Airing<'_, '_, F>,
     log: &mut L,
 ) -> Played<D>
     ensures keeps { KeepsLength (D.state disk) (D.state result.ended.disk) }
-    ensures done { OnOk result.ended.result (Plays (played_as target
-        (when_changed airing.entry.lines airing.entry.folder) airing.entry.task.turns
-        airing.entry.task.directory airing.entry.task.look)
-        (turns_of target airing.entry.task.turns)
-        (Some outlet.taken.notes.all) (Some result.taken.notes.all) (D.state disk)
-        (D.state result.ended.disk)) }
-    ensures refused { IfErr result.ended.result (λ r. StopsPlaying r (played_as target
-        (when_changed airing.entry.lines airing.entry.folder) airing.entry.task.turns
-        airing.entry.task.directory airing.entry.task.look) (Some outlet.taken.notes.all)
-        (Some result.taken.notes.all)
+    ensures done { OnOk result.ended.result (Plays (tale_with
+        (watched airing.entry.folder (λ followed. watch_in (played_as airing.entry.task)
+        (F.path followed.shelf) followed.types.now followed.allows_empty followed.every))
+        (option_map (λ (lines : LineFolder). lines.hand) airing.entry.lines)
+        (played_as airing.entry.task) result.looks.all) (played_as airing.entry.task)
+        (turns_of airing.entry.task.turns) (Some outlet.taken.notes.all)
+        (Some result.taken.notes.all) (D.state disk) (D.state result.ended.disk)) }
+    ensures refused { IfErr result.ended.result (λ r. StopsPlaying r (tale_with
+        (watched airing.entry.folder (λ followed. watch_in (played_as airing.entry.task)
+        (F.path followed.shelf) followed.types.now followed.allows_empty followed.every))
+        (option_map (λ (lines : LineFolder). lines.hand) airing.entry.lines)
+        (played_as airing.entry.task) result.looks.all) (played_as airing.entry.task)
+        (Some outlet.taken.notes.all) (Some result.taken.notes.all)
         (D.state disk) (D.state result.ended.disk)) }
 {
-    let played = play_writer(rt, alloc, disk, outlet, target, airing, log);
+    let played = play_writer(alloc, disk, outlet, airing, log);
     Played {
         is_fine: true,
         ..played
     }
 }
 
-/// Plays the disk, each packet in one write to the writer.
-fn play_writer<D: Disk, F: Shelf + Drop, P: Write + Drop, L: Write>(
-    rt: &HostRuntime,
+/// Plays the disk into the outlet, with looks at the folder and answers to lines, if they are given.
+fn air<D: Disk, F: Shelf + Drop, O: Outlet, L: Write>(
     alloc: Global,
     disk: D,
-    outlet: PacketWriter<P>,
-    target: Target,
-    airing: Airing<'_, F>,
+    outlet: &mut O,
+    airing: Airing<'_, '_, F>,
     log: &mut L,
-) -> Played<D>
+) -> Aired<D>
     ensures keeps { KeepsLength (D.state disk) (D.state result.ended.disk) }
-    ensures done { OnOk result.ended.result (Plays (played_as target
-        (when_changed airing.entry.lines airing.entry.folder) airing.entry.task.turns
-        airing.entry.task.directory airing.entry.task.look)
-        (turns_of target airing.entry.task.turns)
-        (Some outlet.taken.notes.all) (Some result.taken.notes.all) (D.state disk)
-        (D.state result.ended.disk)) }
-    ensures refused { IfErr result.ended.result (λ r. StopsPlaying r (played_as target
-        (when_changed airing.entry.lines airing.entry.folder) airing.entry.task.turns
-        airing.entry.task.directory airing.entry.task.look) (Some outlet.taken.notes.all)
-        (Some result.taken.notes.all)
+    ensures done { OnOk result.ended.result (Plays (tale_with
+        (watched airing.entry.folder (λ followed. watch_in (played_as airing.entry.task)
+        (F.path followed.shelf) followed.types.now followed.allows_empty followed.every))
+        (option_map (λ (lines : LineFolder). lines.hand) airing.entry.lines)
+        (played_as airing.entry.task) result.looks.all) (played_as airing.entry.task)
+        (turns_of airing.entry.task.turns) (O.writes outlet.old)
+        (O.writes outlet.new) (D.state disk) (D.state result.ended.disk)) }
+    ensures refused { IfErr result.ended.result (λ r. StopsPlaying r (tale_with
+        (watched airing.entry.folder (λ followed. watch_in (played_as airing.entry.task)
+        (F.path followed.shelf) followed.types.now followed.allows_empty followed.every))
+        (option_map (λ (lines : LineFolder). lines.hand) airing.entry.lines)
+        (played_as airing.entry.task) result.looks.all) (played_as airing.entry.task)
+        (O.writes outlet.old) (O.writes outlet.new)
         (D.state disk) (D.state result.ended.disk)) }
 {
-    let mut outlet = outlet;
     let Airing {
         task,
         folder,
         lines,
+        status,
     } = airing;
-    let directory = directory_of(target, task.turns, task.directory);
-    let look = look_of(target, task.turns, task.look);
-    let turns = turns_of(target, task.turns);
-    let telling = Telling::of(rt, &task);
-    let Aired { ended, any_refused } = match lines {
+    let directory = directory_of(task.turns, task.directory);
+    let look = look_of(task.turns, task.look);
+    let turns = turns_of(task.turns);
+    let telling = Telling::of(&task, status);
+    match lines {
         Some(lines) => play_and_answer(
-            rt,
-            alloc,
-            disk,
-            &mut outlet,
-            folder,
-            lines,
-            telling,
-            log,
-            turns,
-            directory,
-            look,
+            alloc, disk, outlet, folder, lines, telling, log, turns, directory, look,
         ),
         None => play_disk(
-            alloc,
-            disk,
-            &mut outlet,
-            folder,
-            telling,
-            log,
-            turns,
-            directory,
-            look,
+            alloc, disk, outlet, folder, telling, log, turns, directory, look,
         ),
-    };
-    let cause = match outlet.fault {
-        Some(fault) => Some(Cause::Packets(fault)),
-        None => None,
+    }
+}
+
+/// Plays the disk, each packet in one write to the writer.
+fn play_writer<D: Disk, F: Shelf + Drop, P: Write + Drop, L: Write>(
+    alloc: Global,
+    disk: D,
+    outlet: PacketWriter<P>,
+    airing: Airing<'_, '_, F>,
+    log: &mut L,
+) -> Played<D>
+    ensures keeps { KeepsLength (D.state disk) (D.state result.ended.disk) }
+    ensures done { OnOk result.ended.result (Plays (tale_with
+        (watched airing.entry.folder (λ followed. watch_in (played_as airing.entry.task)
+        (F.path followed.shelf) followed.types.now followed.allows_empty followed.every))
+        (option_map (λ (lines : LineFolder). lines.hand) airing.entry.lines)
+        (played_as airing.entry.task) result.looks.all) (played_as airing.entry.task)
+        (turns_of airing.entry.task.turns) (Some outlet.taken.notes.all)
+        (Some result.taken.notes.all) (D.state disk) (D.state result.ended.disk)) }
+    ensures refused { IfErr result.ended.result (λ r. StopsPlaying r (tale_with
+        (watched airing.entry.folder (λ followed. watch_in (played_as airing.entry.task)
+        (F.path followed.shelf) followed.types.now followed.allows_empty followed.every))
+        (option_map (λ (lines : LineFolder). lines.hand) airing.entry.lines)
+        (played_as airing.entry.task) result.looks.all) (played_as airing.entry.task)
+        (Some outlet.taken.notes.all) (Some result.taken.notes.all)
+        (D.state disk) (D.state result.ended.disk)) }
+{
+    let mut outlet = outlet;
+    let Aired {
+        ended,
+        any_refused,
+        fault,
+        looks,
+    } = air(alloc, disk, &mut outlet, airing, log);
+    let cause = match (outlet.fault, fault) {
+        (Some(fault), _) => Some(Cause::Packets(fault)),
+        (None, Some(error)) => Some(Cause::Folder(error)),
+        (None, None) => None,
     };
     Played {
         ended,
         is_fine: !any_refused,
         taken: outlet.taken,
+        looks,
         cause,
     }
 }
 
 /// Plays the disk into a new file, which then takes its place. If that fails, it is removed again.
 fn play_new_file<D: Disk, F: Shelf + Drop, L: Write>(
-    rt: &HostRuntime,
     alloc: Global,
     disk: D,
     new: NewFile<'_>,
-    airing: Airing<'_, F>,
+    airing: Airing<'_, '_, F>,
     log: &mut L,
 ) -> Played<D>
     ensures keeps { KeepsLength (D.state disk) (D.state result.ended.disk) }
-    ensures done { OnOk result.ended.result (Plays (played_as Target.File
-        (when_changed airing.entry.lines airing.entry.folder) airing.entry.task.turns
-        airing.entry.task.directory airing.entry.task.look)
-        (turns_of Target.File airing.entry.task.turns)
-        (Some (new.entry.path.now ∷ [])) (Some result.taken.notes.all) (D.state disk)
-        (D.state result.ended.disk)) }
-    ensures refused { IfErr result.ended.result (λ r. FailsPlaying Target.File
-        (when_changed airing.entry.lines airing.entry.folder) airing.entry.task.turns
-        airing.entry.task.directory airing.entry.task.look r
-        (new.entry.path.now ∷ []) result.taken.notes.all (D.state disk)
-        (D.state result.ended.disk)) }
+    ensures done { OnOk result.ended.result (Plays (tale_with
+        (watched airing.entry.folder (λ followed. watch_in (played_as airing.entry.task)
+        (F.path followed.shelf) followed.types.now followed.allows_empty followed.every))
+        (option_map (λ (lines : LineFolder). lines.hand) airing.entry.lines)
+        (played_as airing.entry.task) result.looks.all) (played_as airing.entry.task)
+        (turns_of airing.entry.task.turns) (Some (new.entry.path.now ∷ []))
+        (Some result.taken.notes.all) (D.state disk) (D.state result.ended.disk)) }
+    ensures refused { IfErr result.ended.result (λ r. FailsPlaying Target.File (tale_with
+        (watched airing.entry.folder (λ followed. watch_in (played_as airing.entry.task)
+        (F.path followed.shelf) followed.types.now followed.allows_empty followed.every))
+        (option_map (λ (lines : LineFolder). lines.hand) airing.entry.lines)
+        (played_as airing.entry.task) result.looks.all) (played_as airing.entry.task)
+        (turns_of airing.entry.task.turns) r (new.entry.path.now ∷ []) result.taken.notes.all
+        (D.state disk) (D.state result.ended.disk)) }
 {
-    let played = play_writer(rt, alloc, disk, new.writer(), Target::File, airing, log);
+    let Played {
+        ended,
+        is_fine,
+        taken,
+        looks,
+        cause,
+    } = play_writer(alloc, disk, new.writer(), airing, log);
     let Ended {
         disk,
         result,
         reason,
-    } = played.ended;
-    let (result, cause) = match result {
-        Ok(()) => take_place(rt, &new),
-        Err(refusal) => {
-            let cause = of_new_file(&new, played.cause);
-            new.take_away(rt);
-            (Err(refusal), cause)
-        }
-    };
+    } = ended;
+    let (result, cause) = placed(&new, result, cause);
     Played {
         ended: Ended {
             disk,
             result,
             reason,
         },
-        is_fine: played.is_fine,
-        taken: played.taken,
+        is_fine,
+        taken,
+        looks,
         cause,
     }
 }
 
-/// Gives the new file its place, and removes it if that fails; answers the fault and its cause.
-fn take_place(rt: &HostRuntime, new: &NewFile<'_>) -> (Result<(), Refusal>, Option<Cause>)
+/// Gives the new file its place, if playing into it ended so, or takes it away; answers the fault
+/// and its cause.
+fn placed(
+    new: &NewFile<'_>,
+    ended: Result<(), Refusal>,
+    cause: Option<Cause>,
+) -> (Result<(), Refusal>, Option<Cause>)
+    ensures ok { OnOk result.0 (IfErr ended (λ _. ⊥)) }
+    ensures fault { IfErr result.0 (λ r. (ended ≡ Err r)
+        ⊎ ((r ≡ WriteFault) × IfErr ended (λ _. ⊥))) }
+{
+    match ended {
+        Ok(()) => take_place(new, cause),
+        Err(refusal) => {
+            let cause = of_new_file(new, cause);
+            new.take_away();
+            (Err(refusal), cause)
+        }
+    }
+}
+
+/// Gives the new file its place, and removes it if that fails; answers the fault and its cause, or
+/// else this cause.
+fn take_place(new: &NewFile<'_>, cause: Option<Cause>) -> (Result<(), Refusal>, Option<Cause>)
     ensures { IfErr result.0 (λ r. r ≡ WriteFault) }
 {
-    match new.take_place(rt) {
-        Ok(()) => (Ok(()), None),
+    match new.take_place() {
+        Ok(()) => (Ok(()), cause),
         Err(error) => {
-            new.take_away(rt);
+            new.take_away();
             let cause = Cause::NewFile(PacketsFault::System(error));
             (Err(Refusal::WriteFault), Some(cause))
         }
@@ -305,38 +359,37 @@ fn of_new_file(new: &NewFile<'_>, cause: Option<Cause>) -> Option<Cause> {
     }
 }
 
-/// So many turns; if no number is given, sixteen for a file, and else practically without end.
-fn turns_of(target: Target, turns: Option<u32>) -> u64
-    ensures { result ≡ turns_of target turns }
+/// So many turns; if no number is given, practically without end.
+fn turns_of(turns: Option<u32>) -> u64
+    ensures { result ≡ turns_of turns }
 {
-    match (turns, target) {
-        (Some(turns), _) => turns as u64,
-        (None, Target::File) => FILE_TURNS,
-        (None, _) => u64::MAX,
+    match turns {
+        Some(turns) => turns as u64,
+        None => u64::MAX,
     }
 }
 
 /// After how many packets the directory is sent again, 0 for at each turn's beginning alone; if no
 /// number is given, 340 without end, and else 0.
-fn directory_of(target: Target, turns: Option<u32>, directory: Option<u32>) -> u32
-    ensures { result ≡ directory_of target turns directory }
+fn directory_of(turns: Option<u32>, directory: Option<u32>) -> u32
+    ensures { result ≡ directory_of turns directory }
 {
-    match (directory, turns, target) {
-        (Some(packets), _, _) => packets,
-        (None, None, Target::Output) | (None, None, Target::Stream) => DIRECTORY_PACKETS,
-        (None, _, _) => 0,
+    match (directory, turns) {
+        (Some(packets), _) => packets,
+        (None, Some(_)) => 0,
+        (None, None) => DIRECTORY_PACKETS,
     }
 }
 
 /// After how many packets of a turn a look may come, 0 for between turns alone; if no number is
 /// given, it may after each without end, and else between turns.
-fn look_of(target: Target, turns: Option<u32>, look: Option<u32>) -> u32
-    ensures { result ≡ look_of target turns look }
+fn look_of(turns: Option<u32>, look: Option<u32>) -> u32
+    ensures { result ≡ look_of turns look }
 {
-    match (look, turns, target) {
-        (Some(0), _, _) => 0,
-        (Some(_), _, _) => 1,
-        (None, None, Target::Output) | (None, None, Target::Stream) => 1,
-        (None, _, _) => 0,
+    match (look, turns) {
+        (Some(0), _) => 0,
+        (Some(_), _) => 1,
+        (None, Some(_)) => 0,
+        (None, None) => 1,
     }
 }

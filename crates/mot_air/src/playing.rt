@@ -1,25 +1,24 @@
 //! Playing a disk, and making its carousel equal to a folder.
-ghost use Rattle.std.specs.Prelude.{◌≡◌, ◌⊎◌, ℕ, IfErr, IfOk, List, OnOk};
+ghost use Rattle.std.specs.Prelude.{◌≡◌, ◌⊎◌, ℕ, [], IfErr, IfOk, List, None, OnOk, Some};
 ghost use Rattle.std.specs.Io.KnownBytes.{Appends};
 ghost use Rattle.disk_model.specs.Disk.{KeepsLength};
 ghost use Rattle.mot_air.specs.Lives.{KeepsDone, PlaysOn, StopsOn};
-ghost use Rattle.mot_air.specs.Playing.{Plays, PlaysBy, StopsBy, StopsPlaying, manner};
-ghost use Rattle.mot_air.specs.Playing.{when_followed};
+ghost use Rattle.mot_air.specs.Playing.{Plays, StopsPlaying, manner, tale_of};
 ghost use Rattle.mot_air.specs.Syncing.{StopsSyncing, Syncs};
+ghost use Rattle.mot_air.specs.Telling.{tale_with, watch_in, watched};
 ghost use Rattle.mot_air.specs.Inner.Looked.{LooksAndTells};
 ghost use Rattle.mot_feed.specs.Feeding.{IsFeedFault};
+ghost use Rattle.mot_folder.specs.Looked.{watch};
 ghost use Rattle.mot_journal.specs.Image.{Standing};
 ghost use Rattle.mot_numbers.specs.declared.geometry.Geometry.{Geometry};
 ghost use Rattle.mot_numbers.specs.declared.refusal.Refusal.TheVariants.{WriteFault};
 ghost use Rattle.mot_objects.specs.declared.command.Command.{Command};
 ghost use Rattle.mot_reading.specs.Opening.{IsUnopened};
 ghost use Rattle.mot_repository.specs.Repository.{Holds};
-ghost use Rattle.mot_update.specs.Between.{Always};
 ghost use Rattle.mot_update.specs.Faults.{StaysCalm};
 
 use crate::Ended;
 use crate::reported::{Reported, Reporter, Telling};
-use crate::watched::WatchedLooks;
 use disk_model::Disk;
 use mot_control::Lines;
 use mot_feed::feed_every;
@@ -29,13 +28,11 @@ use mot_numbers::Refusal;
 use mot_packets::Outlet;
 use mot_reason::open_server;
 use mot_server::Server;
-use mot_shelf::Shelf;
+use mot_shelf::{LookNotes, Shelf};
 use mot_update::{NoUpdate, Update};
 use std::alloc::Global;
 use std::cell::RefCell;
-use std::fs::File;
-use std::io::Write;
-use std::rt::Files;
+use std::io::{self, Read, Write};
 
 /// A folder that a carousel is made equal to, and which of its files are objects.
 #[derive(Drop)]
@@ -57,6 +54,10 @@ pub struct Aired<D: Disk> {
     pub ended: Ended<D, ()>,
     /// Whether a look at the folder refused a file, or did not list it.
     pub any_refused: bool,
+    /// Why the folder was not opened at the last look, if it was not.
+    pub fault: Option<io::Error>,
+    /// What the folder gave in each look.
+    pub looks: LookNotes,
 }
 
 /// Opens the disk and plays it into the outlet, so many turns, with looks at the folder if there is
@@ -76,37 +77,35 @@ pub fn play_disk<S: Shelf + Drop, D: Disk, O: Outlet, L: Write + Drop>(
     look: u32,
 ) -> Aired<D>
     ensures keeps { KeepsLength (D.state disk) (D.state result.ended.disk) }
-    ensures done { OnOk result.ended.result (Plays
-        (manner (when_followed folder.entry) directory look) turns
+    ensures done { OnOk result.ended.result (Plays (tale_with
+        (watched folder.entry (λ followed. watch_in (manner directory look)
+        (S.path followed.shelf) followed.types.now followed.allows_empty followed.every))
+        None (manner directory look) result.looks.all) (manner directory look) turns
         (O.writes outlet.old) (O.writes outlet.new) (D.state disk) (D.state result.ended.disk)) }
-    ensures refused { IfErr result.ended.result (λ r. StopsPlaying r
-        (manner (when_followed folder.entry) directory look)
+    ensures refused { IfErr result.ended.result (λ r. StopsPlaying r (tale_with
+        (watched folder.entry (λ followed. watch_in (manner directory look)
+        (S.path followed.shelf) followed.types.now followed.allows_empty followed.every))
+        None (manner directory look) result.looks.all) (manner directory look)
         (O.writes outlet.old) (O.writes outlet.new) (D.state disk) (D.state result.ended.disk)) }
 {
     let log = RefCell::new(LineLog::new(alloc, log, telling.levels));
     match folder {
-        Some(
-            Followed {
-                shelf,
-                types,
-                allows_empty,
-                every,
-            },
-        ) => {
-            let folder = Folder::new(alloc, shelf, types, allows_empty);
-            let within = directory > 0 && look > 0;
-            let looks = Looks::new(alloc, folder, SharedLog::new(&log));
+        Some(followed) => {
+            let looks = looks_at(alloc, followed, SharedLog::new(&log), directory, look);
             let mut looks = Reported {
-                update: WatchedLooks::new(looks_of(looks, within, every)),
+                update: looks,
                 reporter: Reporter::new(alloc, &log, telling),
             };
             let ended = play_with(alloc, disk, &mut looks, outlet, turns, directory, look);
             if ended.result.is_ok() {
                 looks.reporter.tell_end(turns);
             }
+            let looks = looks.into_update();
             Aired {
                 ended,
-                any_refused: looks.update.any_refused,
+                any_refused: looks.any_refused,
+                fault: looks.folder.shelf.fault(),
+                looks: notes_of(looks),
             }
         }
         None => {
@@ -121,6 +120,8 @@ pub fn play_disk<S: Shelf + Drop, D: Disk, O: Outlet, L: Write + Drop>(
             Aired {
                 ended,
                 any_refused: false,
+                fault: None,
+                looks: LookNotes::new(),
             }
         }
     }
@@ -129,8 +130,7 @@ pub fn play_disk<S: Shelf + Drop, D: Disk, O: Outlet, L: Write + Drop>(
 /// Opens the disk and plays it into the outlet as `play_disk` does, and answers the lines of the
 /// files in a folder before the first packet and then after every so many, as `mot_control::Lines`
 /// does: a command may come within a turn. The lines about both are written to the log.
-pub fn play_and_answer<T: Files<File = File>, S: Shelf + Drop, D: Disk, O: Outlet, L: Write + Drop>(
-    rt: &T,
+pub fn play_and_answer<S: Shelf + Drop, D: Disk, O: Outlet, L: Write + Drop>(
     alloc: Global,
     disk: D,
     outlet: &mut O,
@@ -143,37 +143,37 @@ pub fn play_and_answer<T: Files<File = File>, S: Shelf + Drop, D: Disk, O: Outle
     look: u32,
 ) -> Aired<D>
     ensures keeps { KeepsLength (D.state disk) (D.state result.ended.disk) }
-    ensures done { OnOk result.ended.result (Plays (manner Always directory look) turns
+    ensures done { OnOk result.ended.result (Plays (tale_with
+        (watched folder.entry (λ followed. watch_in (manner directory look)
+        (S.path followed.shelf) followed.types.now followed.allows_empty followed.every))
+        (Some lines.entry.hand) (manner directory look) result.looks.all) (manner directory look) turns
         (O.writes outlet.old) (O.writes outlet.new) (D.state disk) (D.state result.ended.disk)) }
-    ensures refused { IfErr result.ended.result (λ r. StopsPlaying r (manner Always directory look)
+    ensures refused { IfErr result.ended.result (λ r. StopsPlaying r (tale_with
+        (watched folder.entry (λ followed. watch_in (manner directory look)
+        (S.path followed.shelf) followed.types.now followed.allows_empty followed.every))
+        (Some lines.entry.hand) (manner directory look) result.looks.all) (manner directory look)
         (O.writes outlet.old) (O.writes outlet.new) (D.state disk) (D.state result.ended.disk)) }
 {
     let log = RefCell::new(LineLog::new(alloc, log, telling.levels));
     let asked = RefCell::new(Asked::new(alloc));
     match folder {
-        Some(
-            Followed {
-                shelf,
-                types,
-                allows_empty,
-                every,
-            },
-        ) => {
-            let folder = Folder::new(alloc, shelf, types, allows_empty);
-            let within = directory > 0 && look > 0;
-            let looks = Looks::new(alloc, folder, SharedLog::new(&log));
+        Some(followed) => {
+            let looks = looks_at(alloc, followed, SharedLog::new(&log), directory, look);
             let looks = Reported {
-                update: WatchedLooks::new(looks_of(looks, within, every)),
+                update: looks,
                 reporter: Reporter::new(alloc, &log, telling),
             };
-            let mut lines = lines_between(rt, alloc, lines, &log, &asked, looks);
+            let mut lines = lines_between(alloc, lines, &log, &asked, looks);
             let ended = play_with(alloc, disk, &mut lines, outlet, turns, directory, look);
             if ended.result.is_ok() {
                 lines.update.reporter.tell_end(turns);
             }
+            let looks = update_of(lines).into_update();
             Aired {
                 ended,
-                any_refused: lines.update.update.any_refused,
+                any_refused: looks.any_refused,
+                fault: looks.folder.shelf.fault(),
+                looks: notes_of(looks),
             }
         }
         None => {
@@ -181,7 +181,7 @@ pub fn play_and_answer<T: Files<File = File>, S: Shelf + Drop, D: Disk, O: Outle
                 update: NoUpdate,
                 reporter: Reporter::new(alloc, &log, telling),
             };
-            let mut lines = lines_between(rt, alloc, lines, &log, &asked, none);
+            let mut lines = lines_between(alloc, lines, &log, &asked, none);
             let ended = play_with(alloc, disk, &mut lines, outlet, turns, directory, look);
             if ended.result.is_ok() {
                 lines.update.reporter.tell_end(turns);
@@ -189,37 +189,72 @@ pub fn play_and_answer<T: Files<File = File>, S: Shelf + Drop, D: Disk, O: Outle
             Aired {
                 ended,
                 any_refused: false,
+                fault: None,
+                looks: LookNotes::new(),
             }
         }
     }
 }
 
-/// These looks; with so many packets between two, if they come within turns.
-fn looks_of<'a, S: Shelf + Drop, W: Write + Drop>(
-    looks: Looks<'a, S, W>,
-    within: bool,
-    every: u32,
-) -> Looks<'a, S, W> {
-    let mut looks = looks;
-    if within {
+/// Looks at the folder while a disk is played so: behind so many packets, if looks come within
+/// turns.
+fn looks_at<'a, S: Shelf + Drop, W: Write + Drop>(
+    alloc: Global,
+    followed: Followed<'a, S>,
+    log: W,
+    directory: u32,
+    look: u32,
+) -> Looks<'a, S, W>
+    ensures watch { watch (S.path result.folder.shelf) result.folder.types.now
+        result.folder.allows_empty result.every result.within
+        ≡ watch_in (manner directory look) (S.path followed.entry.shelf)
+        followed.entry.types.now followed.entry.allows_empty followed.entry.every }
+    ensures due { result.left ≡ 0 }
+    ensures none { result.looks.all ≡ [] }
+{
+    let Followed {
+        shelf,
+        types,
+        allows_empty,
+        every,
+    } = followed;
+    let folder = Folder::new(alloc, shelf, types, allows_empty);
+    let mut looks = Looks::new(alloc, folder, log);
+    if directory > 0 && look > 0 {
         looks.every = u64::from(every);
         looks.within = true;
     }
     looks
 }
 
+/// What the folder gave in each of these looks.
+fn notes_of<S: Shelf + Drop, W: Write + Drop>(looks: Looks<'_, S, W>) -> LookNotes
+    ensures { result ≡ looks.entry.looks }
+{
+    looks.looks
+}
+
+/// The updates that these lines are answered with.
+fn update_of<R: Read + Drop, W: Write + Drop, U: Update + Drop>(lines: Lines<R, W, U>) -> U
+    ensures { result ≡ lines.update }
+{
+    lines.update
+}
+
 /// The lines of the files in a folder, answered with these updates. The replies are written to the
 /// log.
-fn lines_between<'a, T: Files<File = File>, L: Write + Drop, U: Update + Drop>(
-    rt: &'a T,
+fn lines_between<'a, L: Write + Drop, U: Update + Drop>(
     alloc: Global,
     lines: LineFolder<'a>,
     log: &'a RefCell<L>,
     asked: &'a RefCell<Asked>,
     update: U,
-) -> Lines<Spool<'a, T, SharedLog<'a, L>>, Replies<'a, L>, U> {
-    let LineFolder { path, hand, every } = lines;
-    let spool = Spool::new(rt, alloc, path, SharedLog::new(log), asked);
+) -> Lines<Spool<'a, HostRuntime, SharedLog<'a, L>>, Replies<'a, L>, U>
+    ensures hand { result.hand ≡ lines.entry.hand }
+    ensures update { result.update ≡ update }
+{
+    let LineFolder { place, hand, every } = lines;
+    let spool = place.spool(alloc, SharedLog::new(log), asked);
     let replies = Replies::new(SharedLog::new(log), asked);
     Lines::new(spool, hand, replies, every, update)
 }
@@ -237,30 +272,24 @@ pub fn play_with<D: Disk, U: Update, O: Outlet>(
     look: u32,
 ) -> Ended<D, ()>
     ensures keeps { KeepsLength (D.state disk) (D.state result.disk) }
-    ensures done { OnOk result.result (Plays (manner U.when directory look) turns
+    ensures done { OnOk result.result (Plays
+        (tale_of U.tells (manner directory look) update.old update.new) (manner directory look)
+        turns (O.writes outlet.old) (O.writes outlet.new) (D.state disk) (D.state result.disk)) }
+    ensures refused { IfErr result.result (λ r. StopsPlaying r
+        (tale_of U.tells (manner directory look) update.old update.new) (manner directory look)
         (O.writes outlet.old) (O.writes outlet.new) (D.state disk) (D.state result.disk)) }
-    ensures refused { IfErr result.result (λ r. StopsPlaying r (manner U.when directory look)
-        (O.writes outlet.old) (O.writes outlet.new) (D.state disk) (D.state result.disk)) }
-
-    // The update was called once in front of each packet.
-    ensures called { OnOk result.result (PlaysBy (manner U.when directory look) turns
-        (O.writes outlet.old) (O.writes outlet.new) (U.moments update.old) (U.moments update.new)
-        (D.state disk) (D.state result.disk)) }
-    ensures called_before { IfErr result.result (λ r. StopsBy r (manner U.when directory look)
-        (O.writes outlet.old) (O.writes outlet.new) (U.moments update.old) (U.moments update.new)
-        (D.state disk) (D.state result.disk)) }
 
     // If commands were done in the lives before, it goes on from them.
     ensures lives { (g : Geometry) (first : ℕ) (done : List Command)
         → KeepsDone g first done (D.state disk)
         → (D.state result.disk).IsHonest → OnOk result.result (PlaysOn g first done
-        (manner U.when directory look) turns
-        (O.writes outlet.old) (O.writes outlet.new) (D.state disk) (D.state result.disk)) }
+        (tale_of U.tells (manner directory look) update.old update.new) (manner directory look)
+        turns (O.writes outlet.old) (O.writes outlet.new) (D.state disk) (D.state result.disk)) }
     ensures lives_stopped { (g : Geometry) (first : ℕ) (done : List Command)
         → KeepsDone g first done (D.state disk)
         → (D.state result.disk).IsHonest → IfErr result.result (λ r.
         IsUnopened r (D.state disk) (D.state result.disk) ⊎ StopsOn g first done r
-        (manner U.when directory look)
+        (tale_of U.tells (manner directory look) update.old update.new) (manner directory look)
         (O.writes outlet.old) (O.writes outlet.new) (D.state disk) (D.state result.disk)) }
 {
     let mut server = match open_server(alloc, disk) {

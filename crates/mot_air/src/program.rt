@@ -1,37 +1,42 @@
 //! The commands on air, over any streams and files.
-ghost use Rattle.std.specs.Prelude.{◌≡◌, ◌≢◌, ◌⊎◌, ◌↔◌, Option, map, true, false, IfErr, IfOk};
-ghost use Rattle.std.specs.Prelude.{IsTrue};
-ghost use Rattle.std.specs.Prelude.{List, None, Ok, Some, IfSome, codes, is_none};
+ghost use Rattle.std.specs.Prelude.{◌≡◌, ◌≢◌, ◌⊎◌, ◌↔◌, ◌++◌, ◌∷◌, [], Option, map, true, false};
+ghost use Rattle.std.specs.Prelude.{IfErr, IfOk, IfSome, IsTrue, List, None, Ok, Some, codes};
+ghost use Rattle.std.specs.Prelude.{is_none, unwrap_or};
 ghost use Rattle.std.specs.Io.KnownBytes.{Keeps};
 ghost use Rattle.clap.specs.Words.{Text, found_of, rows_of};
 ghost use Rattle.mot_air.specs.Program.{AskForNothing, Does, DoesInPart, IsBeginningRefusal};
-ghost use Rattle.mot_air.specs.Program.{OnSynced, PlaysTo, StopsPlayingTo, StopsSyncingTo};
-ghost use Rattle.mot_air.specs.Program.{SyncsTo, when_changed};
+ghost use Rattle.mot_air.specs.Playing.{Manner};
+ghost use Rattle.mot_air.specs.Program.{OnSynced, Opens, OpensFor, PlaysAsked, StopsPlayingAsked};
+ghost use Rattle.mot_air.specs.Program.{StopsSyncingTo, SyncsTo};
 ghost use Rattle.mot_air.specs.Syncing.{StopsSyncing, Syncs};
+ghost use Rattle.mot_air.specs.Telling.{watch_in, watched};
 ghost use Rattle.mot_files.specs.Lines.{IsUnlined};
+ghost use Rattle.mot_files.specs.Opened.{named};
 ghost use Rattle.mot_files.specs.Types.{IsUntyped};
 ghost use Rattle.mot_numbers.specs.declared.refusal.Refusal.TheVariants.{BadNumber, DeviceFault};
 ghost use Rattle.mot_numbers.specs.declared.refusal.Refusal.TheVariants.{WriteFault};
 ghost use Rattle.mot_outcome.specs.Outcome.{IsRefused, IsUntold, IsUntouched, OnOpened, Succeeds};
+ghost use Rattle.mot_outcome.specs.Outcome.{UsesFiles};
 ghost use Rattle.mot_outcome.specs.declared.used.UsedDisk.TheVariants.{Untouched};
 ghost use Rattle.mot_reading.specs.Exporting.{Exports, StopsExporting};
 ghost use Rattle.mot_reading.specs.Inspecting.{Inspects, StopsInspecting};
 ghost use Rattle.mot_words.specs.Command.{motcar_app};
 ghost use Rattle.mot_words.specs.Air.Task.{IsAirTask};
 ghost use Rattle.mot_words.specs.Asked.{AskBy};
+ghost use Rattle.mot_words.specs.declared.air.task.AirTask.TheVariants.{Play};
 
 use crate::answered::answered;
 use crate::missing::{missing_option, tell_folder, tell_missing};
 use crate::on_air::{Airing, play_file};
 use crate::playing::{Followed, sync_disk};
 use clap::ArgMatches;
-use disk_store::{Start, open_file};
-use mot_files::{Others, file_types, line_folder};
+use disk_store::Start;
+use mot_files::{Cause, Others, Station, StatusFile, file_types, line_folder};
 use mot_folder::{FileTypes, Folder};
 use mot_numbers::Refusal;
 use mot_outcome::{Beside, Exit, Finished, UsedDisk, explain, refuse, subject_of};
 use mot_reading::{export_disk, inspect_disk};
-use mot_shelf::SystemShelf;
+use mot_shelf::{Shelf, SystemShelf};
 use mot_words::{AirTask, LookRules, PlayTask, air_task, motcar_matches};
 use std::alloc::Global;
 use std::convert::AsStr;
@@ -51,10 +56,10 @@ pub fn is_air(word: &str) -> bool
 ///
 /// `start` is for clauses alone: the content of the disk's file when it was opened. A program gives
 /// `Unknown`.
-pub fn run_air_on<S: AsStr, B: Start, W: Write, E: Write>(
-    rt: &HostRuntime,
+pub fn run_air_on<'a, S: AsStr, B: Start, W: Write, E: Write>(
+    station: &mut Station<'a>,
     alloc: Global,
-    words: &[S],
+    words: &'a [S],
     start: B,
     writer: &mut W,
     errors: &mut E,
@@ -71,6 +76,10 @@ pub fn run_air_on<S: AsStr, B: Start, W: Write, E: Write>(
         result.refusal result.disk None None (W.contents writer.old) (W.contents writer.new) }
     ensures usage { result.status ≡ 2 → AskForNothing (map S.text words.now)
         × IsUntouched result.disk × Keeps (W.contents writer.old) (W.contents writer.new) }
+
+    // Nothing was opened but what the words name, each at most once.
+    ensures files { UsesFiles IsAirTask OpensFor (map S.text words.now) result.disk
+        station.old.opened.all station.new.opened.all }
 {
     let matches = match motcar_matches(alloc, words) {
         Ok(matches) => matches,
@@ -79,15 +88,15 @@ pub fn run_air_on<S: AsStr, B: Start, W: Write, E: Write>(
     let Some((name, rest)) = matches.subcommand() else {
         return Exit::unrefused(2, UsedDisk::Untouched(start));
     };
-    run_command(rt, alloc, name, rest, start, writer, errors)
+    run_command(station, alloc, name, rest, start, writer, errors)
 }
 
 /// Does the task of a command of this name, with these words after it.
-fn run_command<B: Start, W: Write, E: Write>(
-    rt: &HostRuntime,
+fn run_command<'a, B: Start, W: Write, E: Write>(
+    station: &mut Station<'a>,
     alloc: Global,
     name: &str,
-    words: &ArgMatches<'_>,
+    words: &ArgMatches<'a>,
     start: B,
     writer: &mut W,
     errors: &mut E,
@@ -106,6 +115,10 @@ fn run_command<B: Start, W: Write, E: Write>(
         → AskBy motcar_app IsAirTask name.now (rows_of (found_of words.now)) all
         → result.status ≡ 2 → AskForNothing all × IsUntouched result.disk
         × Keeps (W.contents writer.old) (W.contents writer.new) }
+    ensures files { (all : List Text)
+        → AskBy motcar_app IsAirTask name.now (rows_of (found_of words.now)) all
+        → UsesFiles IsAirTask OpensFor all result.disk station.old.opened.all
+        station.new.opened.all }
 {
     let Some(task) = air_task(name, words) else {
         return tell_no_task(errors, words, start);
@@ -115,11 +128,11 @@ fn run_command<B: Start, W: Write, E: Write>(
         disk,
         cause,
         reason,
-    } = execute(rt, alloc, task, start, writer, errors);
+    } = execute(station, alloc, task, start, writer, errors);
     match result {
         Ok(true) => Exit::unrefused(0, disk),
         Ok(false) => {
-            tell_folder(rt, errors, words);
+            tell_folder(errors, words, cause);
             Exit::unrefused(1, disk)
         }
         Err(refusal) => refuse(
@@ -156,10 +169,10 @@ fn tell_no_task<B: Start, E: Write>(errors: &mut E, words: &ArgMatches<'_>, star
 }
 
 /// Does a task.
-fn execute<B: Start, W: Write, E: Write>(
-    rt: &HostRuntime,
+fn execute<'a, B: Start, W: Write, E: Write>(
+    station: &mut Station<'a>,
     alloc: Global,
-    task: AirTask<'_>,
+    task: AirTask<'a>,
     start: B,
     writer: &mut W,
     errors: &mut E,
@@ -172,45 +185,43 @@ fn execute<B: Start, W: Write, E: Write>(
         × IsUntold result.disk (W.contents writer.old) (W.contents writer.new))
         ⊎ DoesInPart task.entry (Some r) result.disk
         None None (W.contents writer.old) (W.contents writer.new)) }
+    ensures opens { OpensFor task.entry result.disk station.old.opened.all station.new.opened.all }
 {
     match task {
-        AirTask::Play(task) => play(rt, alloc, task, start, writer, errors),
+        AirTask::Play(task) => play(station, alloc, task, start, writer, errors),
         AirTask::Sync {
             disk,
             folder,
             types,
             rules,
-        } => sync(rt, alloc, disk, folder, types, rules, start, writer),
-        AirTask::Export(disk) => export_file(rt, alloc, disk, start, writer),
-        AirTask::Inspect { disk, rate } => inspect_file(rt, alloc, disk, rate, start, writer),
+        } => sync(station, alloc, disk, folder, types, rules, start, writer),
+        AirTask::Export(disk) => export_file(station, alloc, disk, start, writer),
+        AirTask::Inspect { disk, rate } => inspect_file(station, alloc, disk, rate, start, writer),
     }
 }
 
 /// Plays a disk, with looks at the folder of objects and answers to the lines of the other, if they
 /// are given, for files of the known suffixes and of those that a file adds.
-fn play<B: Start, W: Write, E: Write>(
-    rt: &HostRuntime,
+fn play<'a, B: Start, W: Write, E: Write>(
+    station: &mut Station<'a>,
     alloc: Global,
-    task: PlayTask<'_>,
+    task: PlayTask<'a>,
     start: B,
     writer: &mut W,
     errors: &mut E,
 ) -> Finished<B, bool>
-    ensures done { result.result ≡ Ok true
-        → PlaysTo task.entry.packets.now (when_changed task.entry.lines task.entry.folder)
-        task.entry.turns task.entry.directory task.entry.look result.disk }
-    ensures told { result.result ≡ Ok false
-        → PlaysTo task.entry.packets.now (when_changed task.entry.lines task.entry.folder)
-        task.entry.turns task.entry.directory task.entry.look result.disk }
+    ensures done { result.result ≡ Ok true → PlaysAsked task.entry result.disk }
+    ensures told { result.result ≡ Ok false → PlaysAsked task.entry result.disk }
     ensures refused { IfErr result.result (λ r.
         ((IsUntyped task.entry.types r ⊎ IsUnlined task.entry.lines r
         ⊎ (r ≡ DeviceFault) ⊎ (r ≡ WriteFault))
         × IsUntold result.disk (W.contents writer.old) (W.contents writer.new))
-        ⊎ StopsPlayingTo task.entry.packets.now (when_changed task.entry.lines task.entry.folder)
-        task.entry.turns task.entry.directory task.entry.look r result.disk) }
+        ⊎ StopsPlayingAsked task.entry r result.disk) }
+    ensures opens { OpensFor (Play task.entry) result.disk station.old.opened.all
+        station.new.opened.all }
 {
     let PlayTask { disk, packets, .. } = task;
-    let types = match file_types(rt, alloc, task.types) {
+    let types = match file_types(station, alloc, task.types) {
         Ok(types) => types,
         Err(unbegun) => return Finished::unbegun(unbegun.refusal, unbegun.cause, start),
     };
@@ -220,17 +231,19 @@ fn play<B: Start, W: Write, E: Write>(
         packets,
         types: task.types,
     };
-    let lines = match line_folder(rt, alloc, task.lines, task.every, others) {
+    let lines = match line_folder(station, alloc, task.lines, task.every, others) {
         Ok(lines) => lines,
         Err(unbegun) => return Finished::unbegun(unbegun.refusal, unbegun.cause, start),
     };
-    let folder = followed(rt, task.folder, &types, task.rules, task.look);
+    let folder = followed(station, task.folder, &types, task.rules, task.look);
+    let status = status_file(station, task.status, disk);
     let airing = Airing {
         task,
         folder,
         lines,
+        status,
     };
-    play_file(rt, alloc, airing, start, writer, errors)
+    play_file(station, alloc, airing, start, writer, errors)
 }
 
 /// How many packets come between two looks, if no other number is asked for and looks come within
@@ -238,20 +251,22 @@ fn play<B: Start, W: Write, E: Write>(
 const LOOK_PACKETS: u32 = 700;
 
 /// The folder, if one is given, with what is known of suffixes.
-fn followed<'a>(
-    rt: &'a HostRuntime,
+fn followed<'a, 't>(
+    station: &mut Station<'a>,
     folder: Option<&'a str>,
-    types: &'a FileTypes,
+    types: &'t FileTypes,
     rules: LookRules,
     look: Option<u32>,
-) -> Option<Followed<'a, SystemShelf<'a, HostRuntime>>>
-    ensures given { is_none folder.entry ≡ is_none result }
-    ensures path { IfSome result (λ followed. IfSome folder.entry
-        (λ path. followed.shelf.path.now ≡ path.now)) }
+) -> Option<Followed<'t, SystemShelf<'a, HostRuntime>>>
+    ensures given { (how : Manner) → watched result (λ followed. watch_in how
+        followed.shelf.path.now followed.types.now followed.allows_empty followed.every)
+        ≡ watched folder.entry (λ path. watch_in how path.now types.now rules.allow_empty
+        (unwrap_or look LOOK_PACKETS)) }
+    ensures opens { station.new.opened.all ≡ station.old.opened.all ++ named (codes "folder") folder.entry }
 {
     match folder {
         Some(path) => Some(Followed {
-            shelf: SystemShelf::new(rt, path, rules.at_once),
+            shelf: station.folder(path, rules.at_once),
             types,
             allows_empty: rules.allow_empty,
             every: look.unwrap_or(LOOK_PACKETS),
@@ -260,13 +275,31 @@ fn followed<'a>(
     }
 }
 
+/// The file that the status is written to, if one is given.
+fn status_file<'a>(
+    station: &mut Station<'a>,
+    path: Option<&'a str>,
+    disk: &'a str,
+) -> Option<StatusFile<'a>>
+    ensures given { is_none path.entry ≡ is_none result }
+    ensures path { IfSome result (λ status. IfSome path.entry
+        (λ path. status.path.now ≡ path.now)) }
+    ensures opens { station.new.opened.all
+        ≡ station.old.opened.all ++ named (codes "status") path.entry }
+{
+    match path {
+        Some(path) => Some(station.status(path, disk)),
+        None => None,
+    }
+}
+
 /// Makes the carousel of the disk of the file at the path equal to the files of a folder that have
 /// one of the known suffixes, or of those that a file adds.
-fn sync<B: Start, W: Write>(
-    rt: &HostRuntime,
+fn sync<'a, B: Start, W: Write>(
+    station: &mut Station<'a>,
     alloc: Global,
     path: &str,
-    folder: &str,
+    folder: &'a str,
     types: Option<&str>,
     rules: LookRules,
     start: B,
@@ -277,19 +310,21 @@ fn sync<B: Start, W: Write>(
     ensures refused { IfErr result.result (λ r. ((IsUntyped types.entry r ⊎ (r ≡ DeviceFault))
         × IsUntold result.disk (W.contents log.old) (W.contents log.new))
         ⊎ StopsSyncingTo types.entry rules folder.now r result.disk) }
+    ensures opens { Opens (named (codes "types") types.entry ++ (codes "folder", folder.now) ∷ [])
+        path.now result.disk station.old.opened.all station.new.opened.all }
 {
-    match file_types(rt, alloc, types) {
-        Ok(types) => sync_file(rt, alloc, path, folder, &types, rules, start, log),
+    match file_types(station, alloc, types) {
+        Ok(types) => sync_file(station, alloc, path, folder, &types, rules, start, log),
         Err(unbegun) => Finished::unbegun(unbegun.refusal, unbegun.cause, start),
     }
 }
 
 /// Makes the carousel of the disk of the file at the path equal to a folder.
-fn sync_file<B: Start, W: Write>(
-    rt: &HostRuntime,
+fn sync_file<'a, B: Start, W: Write>(
+    station: &mut Station<'a>,
     alloc: Global,
     path: &str,
-    folder: &str,
+    folder: &'a str,
     types: &FileTypes,
     rules: LookRules,
     start: B,
@@ -300,22 +335,33 @@ fn sync_file<B: Start, W: Write>(
     ensures refused { IfErr result.result (λ r. ((r ≡ DeviceFault)
         × IsUntold result.disk (W.contents log.old) (W.contents log.new))
         ⊎ OnSynced (StopsSyncing r types.now rules.allow_empty folder.now) result.disk) }
+    ensures opens { Opens ((codes "folder", folder.now) ∷ []) path.now result.disk
+        station.old.opened.all station.new.opened.all }
 {
-    match open_file(rt, path, start) {
+    let shelf = station.folder(folder, rules.at_once);
+    match station.disk(path, start) {
         Ok(disk) => {
-            let shelf = SystemShelf::new(rt, folder, rules.at_once);
             let mut folder = Folder::new(alloc, shelf, types, rules.allow_empty);
             let ended = sync_disk(alloc, disk, &mut folder, log);
+            let cause = cause_of(&folder.shelf);
             let seen = folder.shelf.into_seen();
-            Finished::of_file(ended, Beside::folder(seen), None)
+            Finished::of_file(ended, Beside::folder(seen), cause)
         }
         Err(unopened) => Finished::unopened(unopened),
     }
 }
 
+/// Why the folder was not opened, if it was not.
+fn cause_of<S: Shelf>(shelf: &S) -> Option<Cause> {
+    match shelf.fault() {
+        Some(error) => Some(Cause::Folder(error)),
+        None => None,
+    }
+}
+
 /// Prints the carousel of the disk of the file at the path as lines.
 fn export_file<B: Start, W: Write>(
-    rt: &HostRuntime,
+    station: &mut Station<'_>,
     alloc: Global,
     path: &str,
     start: B,
@@ -328,8 +374,9 @@ fn export_file<B: Start, W: Write>(
         × IsUntold result.disk (W.contents writer.old) (W.contents writer.new))
         ⊎ OnOpened (StopsExporting r (W.contents writer.old) (W.contents writer.new))
         result.disk) }
+    ensures opens { Opens [] path.now result.disk station.old.opened.all station.new.opened.all }
 {
-    match open_file(rt, path, start) {
+    match station.disk(path, start) {
         Ok(disk) => {
             let ended = export_disk(alloc, disk, writer);
             Finished::of_file(answered(ended, true), Beside::nothing(), None)
@@ -340,7 +387,7 @@ fn export_file<B: Start, W: Write>(
 
 /// Tells the sizes of the disk of the file at the path.
 fn inspect_file<B: Start, W: Write>(
-    rt: &HostRuntime,
+    station: &mut Station<'_>,
     alloc: Global,
     path: &str,
     rate: Option<u32>,
@@ -354,8 +401,9 @@ fn inspect_file<B: Start, W: Write>(
         × IsUntold result.disk (W.contents writer.old) (W.contents writer.new))
         ⊎ OnOpened (StopsInspecting rate r (W.contents writer.old) (W.contents writer.new))
         result.disk) }
+    ensures opens { Opens [] path.now result.disk station.old.opened.all station.new.opened.all }
 {
-    match open_file(rt, path, start) {
+    match station.disk(path, start) {
         Ok(disk) => {
             let ended = inspect_disk(alloc, disk, rate, writer);
             Finished::of_file(answered(ended, true), Beside::nothing(), None)

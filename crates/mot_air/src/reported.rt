@@ -1,11 +1,10 @@
 //! What is told of a disk while it is played: lines at the start and the end, and the status.
-ghost use Rattle.std.specs.Prelude.{◌∷◌, []};
+ghost use Rattle.std.specs.Prelude.{◌≡◌};
 ghost use Rattle.disk_model.specs.Disk.{KeepsLength};
 ghost use Rattle.mot_journal.specs.Image.{Standing};
-ghost use Rattle.mot_packets.specs.Outlet.{Grows};
 ghost use Rattle.mot_repository.specs.Repository.{Holds};
 ghost use Rattle.mot_server.specs.Attempts.{fault_of};
-ghost use Rattle.mot_update.specs.Between.{IsUpdating, may_change};
+ghost use Rattle.mot_update.specs.Between.{IsUpdating};
 ghost use Rattle.mot_update.specs.Faults.{TellsFaults};
 
 use crate::watched::Facts;
@@ -14,7 +13,7 @@ use mot_files::{LineLog, PacketsFault, SharedLog, Shown, StatusFile};
 use mot_numbers::Refusal;
 use mot_server::Server;
 use mot_status::{Figures, TurnSize, turn_size, write_status};
-use mot_update::Update;
+use mot_update::{Moment, Update};
 use mot_words::PlayTask;
 use std::alloc::{AllocError, Global};
 use std::cell::RefCell;
@@ -42,14 +41,9 @@ pub struct Telling<'a> {
 
 impl<'a> Telling<'a> {
     /// What these words ask to be told.
-    pub(crate) fn of(rt: &'a HostRuntime, task: &PlayTask<'a>) -> Telling<'a> {
-        let disk = task.disk;
-        let status = match task.status {
-            Some(path) => Some(StatusFile::new(rt, path, disk)),
-            None => None,
-        };
+    pub(crate) fn of(task: &PlayTask<'a>, status: Option<StatusFile<'a>>) -> Telling<'a> {
         Telling {
-            disk,
+            disk: task.disk,
             status,
             levels: task.levels,
         }
@@ -75,6 +69,8 @@ pub(crate) struct Reporter<'l, 'a, W: Write + Drop> {
     text: Vec<u8>,
     /// How many updates there were, one in front of each packet.
     calls: u64,
+    /// How many turns have ended.
+    turns: u64,
     /// How many looks the status that was written last tells of.
     looks: u64,
     /// After how many packets the status is written again.
@@ -83,6 +79,15 @@ pub(crate) struct Reporter<'l, 'a, W: Write + Drop> {
     size: Option<(u16, TurnSize)>,
     /// Whether the log says that the status is not written.
     is_unwritten: bool,
+}
+
+impl<'l, 'a, U: Update + Facts + Drop, W: Write + Drop> Reported<'l, 'a, U, W> {
+    /// The updates.
+    pub(crate) fn into_update(self) -> U
+        ensures { result ≡ self.entry.update }
+    {
+        self.update
+    }
 }
 
 impl<'l, 'a, W: Write + Drop> Reporter<'l, 'a, W> {
@@ -103,6 +108,7 @@ impl<'l, 'a, W: Write + Drop> Reporter<'l, 'a, W> {
             status,
             text,
             calls: 0,
+            turns: 0,
             looks: 0,
             next: 0,
             size: None,
@@ -112,10 +118,12 @@ impl<'l, 'a, W: Write + Drop> Reporter<'l, 'a, W> {
 
     /// Tells what is due before an update.
     #[inline(always)]
-    fn tell_before<D: Disk>(&mut self, server: &Server<D>, alloc: Global) {
+    fn tell_before<D: Disk>(&mut self, server: &Server<D>, alloc: Global, moment: Moment) {
         if self.calls == 0 {
             self.measure(server, alloc);
             self.tell_start(server);
+        } else if moment == Moment::BetweenTurns {
+            self.turns = self.turns.saturating_add(1);
         }
     }
 
@@ -216,6 +224,7 @@ impl<'l, 'a, W: Write + Drop> Reporter<'l, 'a, W> {
             disk: self.disk,
             version: VERSION,
             packets,
+            turns: self.turns,
             looks: self.looks,
             changes,
             refusals,
@@ -267,29 +276,25 @@ fn is_listed(lines: &[u8]) -> bool {
 }
 
 impl<'l, 'a, U: Update + Facts + Drop, W: Write + Drop> Update for Reported<'l, 'a, U, W> {
-    ghost when = { U.when };
-
-    // Those of the updates.
-    ghost moments = { λ reported. U.moments reported.update };
+    // What the updates tell.
+    ghost tells = { λ old new. U.tells old.update new.update };
 
     fn update<D: Disk>(
         &mut self,
         server: &mut Server<D>,
         alloc: Global,
-        may_look: bool,
+        moment: Moment,
     ) -> Result<(), Refusal>
         ensures keeps { KeepsLength (D.state server.old.disk) (D.state server.new.disk) }
         ensures faults { TellsFaults server.old server.new
             (D.state server.old.disk) (D.state server.new.disk) result }
         ensures run { (s : Standing) → Holds server.old.view s (D.state server.old.disk)
             → (D.state server.new.disk).IsHonest
-            → IsUpdating server.old server.new (D.state server.old.disk)
-            (D.state server.new.disk) s (may_change U.when may_look) (fault_of result) }
-        ensures called { Grows (U.moments self.old.update) (U.moments self.new.update)
-            (may_look ∷ []) }
+            → IsUpdating (U.tells self.old.update self.new.update moment) server.old server.new
+            (D.state server.old.disk) (D.state server.new.disk) s (fault_of result) }
     {
-        self.reporter.tell_before(server, alloc);
-        let result = self.update.update(server, alloc, may_look);
+        self.reporter.tell_before(server, alloc, moment);
+        let result = self.update.update(server, alloc, moment);
         let (looks, lines) = (self.update.looks(), self.update.lines());
         self.reporter.tell_after(server, alloc, looks, lines);
         result

@@ -112,13 +112,8 @@ module _ (old new : RepositoryView) (before now : ℕ) where
   unparsed_text text request wrong (anyhow.failed c e going rises halts t) = absurd (cc)
   unparsed_text text request wrong (anyhow.listed e going same t) = absurd (cc)
   unparsed_text text request wrong (anyhow.raw kind tid body e same t) = absurd (cc)
-  unparsed_text text request wrong (anyhow.next count shown e going same n t) = absurd (cc)
-  unparsed_text text request wrong (anyhow.next_cut count shown e going same n rises t) =
-      absurd (cc)
-  unparsed_text text request wrong (anyhow.turn count shown last e going same ends t) =
-      absurd (cc)
-  unparsed_text text request wrong (anyhow.turn_cut count shown e going same ends rises t) =
-      absurd (cc)
+  unparsed_text text request wrong (anyhow.played shown is_cut wants going same asked_so rises t) =
+      absurd (subst NeedsCarousel wrong wants)
   unparsed_text text request wrong (anyhow.halted is n same t) =
       absurd (subst NeedsCarousel wrong n)
   unparsed_text text request wrong (anyhow.no_memory n same t) = t

@@ -109,10 +109,12 @@ module _ {D : Type 0} (state : D → State) where
       → AnswersMore state server server before after None is_told is_told known known
   more_none server before after is_told known sound same = record {
     told = [];
-    unanswered = [];
-    lines = same ∙ sym (append-nil (whole_lines before))
-        ∙ sym (append-nil (whole_lines before ++ []));
-    whole = λ e. refl;
+    ended = record {
+      unanswered = [];
+      lines = same ∙ sym (append-nil (whole_lines before))
+          ∙ sym (append-nil (whole_lines before ++ []));
+      whole = λ e. refl;
+    };
     replies = refl;
     run = λ s holds honest. (
       [],
@@ -130,9 +132,11 @@ module _ {D : Type 0} (state : D → State) where
       → AnswersMore state old new before rest None was_told is_told written now
   more_rest old new before after rest was_told is_told written now same more = record {
     told = more.told;
-    unanswered = more.unanswered;
-    lines = same ∙ more.lines;
-    whole = more.whole;
+    ended = record {
+      unanswered = more.ended.unanswered;
+      lines = same ∙ more.ended.lines;
+      whole = more.ended.whole;
+    };
     replies = more.replies;
     run = more.run;
     log = more.log;
@@ -154,13 +158,15 @@ module _ {D : Type 0} (state : D → State) where
       let lines : List (List ℕ) =
       whole_lines before ++ map (λ (u : Told). u.line) more.told in
       let so_far : whole_lines until ≡ lines =
-      more.lines ∙ ap (λ l. lines ++ l) (more.whole refl) ∙ append-nil lines in
+      more.ended.lines ∙ ap (λ l. lines ++ l) (more.ended.whole refl) ∙ append-nil lines in
       record {
         told = more.told ++ t ∷ [];
-        unanswered = extra;
-        lines = same ∙ ap (λ l. l ++ line ∷ extra) so_far
-            ∙ lines-push (whole_lines before) extra more.told t;
-        whole = none;
+        ended = record {
+          unanswered = extra;
+          lines = same ∙ ap (λ l. l ++ line ∷ extra) so_far
+              ∙ lines-push (whole_lines before) extra more.told t;
+          whole = none;
+        };
         replies = replies-push old mid new more.told t more.replies one.reply;
         run = λ s holds honest.
             let first = more.run s holds (was honest) in

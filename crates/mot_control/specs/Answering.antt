@@ -1,5 +1,6 @@
 -- What lines are answered that come between the packets of a feed.
-use Rattle.std.specs.Prelude.{◌≡◌, ℕ, ◌≤◌, Bool, true, bytes_eq, if◌then◌else◌, List, [], ◌∷◌, ◌++◌}
+use Rattle.std.specs.Prelude.{◌≡◌, ◌≢◌, ◌⊎◌, ℕ, ◌<◌, ◌≤◌, Bool, true, bytes_eq, if◌then◌else◌}
+use Rattle.std.specs.Prelude.{List, [], ◌∷◌, ◌++◌}
 use Rattle.std.specs.Prelude.{length, map, Option, None, Result, Ok}
 use Rattle.std.specs.List.{flat_map}
 use Rattle.std.specs.Io.KnownBytes.{Appends, Consumes}
@@ -13,6 +14,7 @@ use Rattle.mot_lines.specs.declared.line.Line.{Line}
 use Rattle.mot_lines.specs.declared.line.Line.TheVariants.{Command}
 use Rattle.mot_numbers.specs.declared.refusal.Refusal.{Refusal}
 use Rattle.mot_numbers.specs.declared.refusal.Refusal.TheVariants.{OutOfMemory}
+use Rattle.mot_objects.specs.Carousel.{Carousel}
 use Rattle.mot_objects.specs.declared.command.Command as command
 use Rattle.mot_repository.specs.Repository.{Holds}
 use Rattle.mot_server.specs.Runs.{accepted_commands}
@@ -21,7 +23,7 @@ use Rattle.mot_session.specs.Life.{Told, commands_done}
 use Rattle.mot_session.specs.OnAnyDisk.{AnswersAnyhow, read_only}
 use Rattle.mot_session.specs.Stored.{command_in}
 use Rattle.mot_session.specs.declared.serving.TheConstants.{READ_SIZE}
-use Rattle.mot_update.specs.Between.{IsUpdating}
+use Rattle.mot_update.specs.Between.{IsUpdating, Telling}
 use Rattle.mot_update.specs.HasRun.{HasRun}
 
 -- what a request asks for here: a line that asks for packets is none, for these are the feed's
@@ -42,6 +44,53 @@ run_in t = run_of (asked_here (line_of t.line)) t.text
 abbrev pub commands_run : List Told → List command.Command
 commands_run told = flat_map run_in told
 
+-- of an input that was taken before, each of these lines has ended since and was answered, up to a
+-- fault
+pub record HaveEnded (before after : List ℕ) (told : List Told) (fault : Option Refusal) :
+    Type 0 where
+  pub unanswered : List (List ℕ)
+  pub lines : whole_lines after
+      ≡ whole_lines before ++ map (λ (t : Told). t.line) told ++ unanswered
+  pub whole : fault ≡ None → unanswered ≡ []
+
+-- a hand that has what comes behind a line end
+abbrev pub IsInHand : List ℕ → Type 0
+IsInHand hand = hand ≡ bytes_in_hand (rest_of hand)
+
+-- The reader gave so much more, and behind what was in hand these lines have ended with that: these
+-- are their commands, and those of them were accepted whose replies say so.
+pub record AreOfLines (hand then_hand : List ℕ) (unread left : Option (List ℕ))
+    (commands : List command.Command) (marks : List Bool) (fault : Option Refusal) :
+    Type 0 where
+  pub more : List ℕ
+  pub consumed : Consumes unread left more
+  pub told : List Told
+  pub ended : HaveEnded hand (hand ++ more) told fault
+  pub are : commands ≡ commands_run told
+  pub accepted : accepted_commands commands marks ≡ commands_done told
+  pub in_hand : fault ≡ None → then_hand ≡ bytes_in_hand (rest_of (hand ++ more))
+
+-- what is told of lines where the hand has what comes behind a line end
+abbrev pub TellsLines : (hand then_hand : List ℕ) → (unread left : Option (List ℕ))
+    → List command.Command → List Bool → Option Refusal → Type 0
+TellsLines hand then_hand unread left commands marks fault =
+    IsInHand hand → AreOfLines hand then_hand unread left commands marks fault
+
+-- What is told of a call before which so many more come: what the other update tells, where that
+-- broke off or none of the lines was due, and the hand stays; or that, and behind it what is told of
+-- the lines.
+pub data TellsBetween (left : ℕ) (hand then_hand : List ℕ) (unread then_left : Option (List ℕ))
+    (other : Telling) (c : Carousel) :
+    List command.Command → List Bool → Option Refusal → Type 0 where
+  other_alone : (commands : List command.Command) (marks : List Bool) (fault : Option Refusal)
+      → (0 < left) ⊎ (fault ≢ None) → then_hand ≡ hand → other c commands marks fault
+      → TellsBetween left hand then_hand unread then_left other c commands marks fault
+  then_lines : (commands others : List command.Command) (marks rest : List Bool)
+      (fault : Option Refusal) → left ≡ 0 → other c commands marks None
+      → TellsLines hand then_hand unread then_left others rest fault
+      → TellsBetween left hand then_hand unread then_left other c (commands ++ others)
+      (marks ++ rest) fault
+
 module _ {D : Type 0} (state : D → State) where
   -- one after the other each reply is, on every disk, right for what the server kept in memory
   abbrev pub AreReplies : ServerView D → List Told → ServerView D → Type 0
@@ -58,10 +107,7 @@ module _ {D : Type 0} (state : D → State) where
   pub record AnswersMore (old new : ServerView D) (before after : List ℕ) (fault : Option Refusal)
       (was_told is_told : Bool) (written now : Option (List ℕ)) : Type 0 where
     pub told : List Told
-    pub unanswered : List (List ℕ)
-    pub lines : whole_lines after
-        ≡ whole_lines before ++ map (λ (t : Told). t.line) told ++ unanswered
-    pub whole : fault ≡ None → unanswered ≡ []
+    pub ended : HaveEnded before after told fault
     pub replies : AreReplies old told new
     pub run : (s : Standing) → Holds old.view s (state old.disk) → (state new.disk).IsHonest
         → (marks : List Bool)
@@ -82,12 +128,12 @@ module _ {D : Type 0} (state : D → State) where
     pub in_hand : fault ≡ None → hand ≡ bytes_in_hand (rest_of (before ++ more))
 
   -- Another update was called, and then more was taken of the reader, or nothing.
-  pub record TakesBetween (old new : ServerView D) (before : List ℕ) (may : Bool)
+  pub record TakesBetween (other : Telling) (old new : ServerView D) (before : List ℕ)
       (unread left : Option (List ℕ)) (hand : List ℕ) (was_told is_told : Bool)
       (written now : Option (List ℕ)) : Type 0 where
     pub mid : ServerView D
     pub stopped : Option Refusal
     pub updated : (s : Standing) → Holds old.view s (state old.disk) → (state mid.disk).IsHonest
-        → IsUpdating old mid (state old.disk) (state mid.disk) s may stopped
+        → IsUpdating other old mid (state old.disk) (state mid.disk) s stopped
     pub fault : Option Refusal
     pub takes : TakesMore mid new before fault unread left hand was_told is_told written now

@@ -1,7 +1,7 @@
 //! Answering what there is of a reader that does not wait.
-ghost use Rattle.std.specs.Prelude.{◌≡◌, ◌++◌, ℕ, List, Ok, Err, None, IfNone, IfSome, true};
+ghost use Rattle.std.specs.Prelude.{◌≡◌, ◌++◌, ℕ, List, Ok, Err, None, IfNone, IfSome, ⊤};
 ghost use Rattle.disk_model.specs.Disk.{KeepsLength};
-ghost use Rattle.mot_control.specs.Answering.{AnswersMore, TakesMore, asked_here};
+ghost use Rattle.mot_control.specs.Answering.{AnswersMore, TakesMore, TellsLines, asked_here};
 ghost use Rattle.mot_control.specs.Inner.Request.{HasAnswered, end_of, reply_of};
 ghost use Rattle.mot_update.specs.Between.{IsUpdating};
 ghost use Rattle.mot_server.specs.Attempts.{fault_of};
@@ -42,8 +42,9 @@ pub fn answer_there<R: Read, W: Write + Drop, D: Disk>(
         (D.state server.old.disk) (D.state server.new.disk) result }
     ensures run { (s : Standing) → Holds server.old.view s (D.state server.old.disk)
         → (D.state server.new.disk).IsHonest
-        → IsUpdating server.old server.new (D.state server.old.disk) (D.state server.new.disk) s
-        true (fault_of result) }
+        → IsUpdating (λ _. TellsLines hand.old hand.new
+        (R.remaining reader.old) (R.remaining reader.new)) server.old server.new
+        (D.state server.old.disk) (D.state server.new.disk) s (fault_of result) }
     ensures answered { (input : List ℕ) → hand.old ≡ bytes_in_hand (rest_of input)
         → TakesMore D.state server.old server.new input (fault_of result)
         (R.remaining reader.old) (R.remaining reader.new) hand.new
@@ -70,8 +71,8 @@ fn answer_chunk<W: Write + Drop, D: Disk>(
         (D.state server.old.disk) (D.state server.new.disk) result }
     ensures run { (s : Standing) → Holds server.old.view s (D.state server.old.disk)
         → (D.state server.new.disk).IsHonest
-        → IsUpdating server.old server.new (D.state server.old.disk) (D.state server.new.disk) s
-        true (fault_of result) }
+        → IsUpdating (λ _ _ _ _. ⊤) server.old server.new
+        (D.state server.old.disk) (D.state server.new.disk) s (fault_of result) }
     ensures answered { (input : List ℕ) → hand.old ≡ bytes_in_hand (rest_of input)
         → AnswersMore D.state server.old server.new input (input ++ chunk.now) (fault_of result)
         log.old.is_told log.new.is_told
@@ -103,8 +104,8 @@ fn answer_line<W: Write + Drop, D: Disk>(
         (D.state server.old.disk) (D.state server.new.disk) result }
     ensures run { (s : Standing) → Holds server.old.view s (D.state server.old.disk)
         → (D.state server.new.disk).IsHonest
-        → IsUpdating server.old server.new (D.state server.old.disk) (D.state server.new.disk) s
-        true (fault_of result) }
+        → IsUpdating (λ _ _ _ _. ⊤) server.old server.new
+        (D.state server.old.disk) (D.state server.new.disk) s (fault_of result) }
     ensures answered { (line : List ℕ) → hand.now ≡ bytes_in_hand line
         → HasAnswered D.state server.old server.new (asked_here (line_of line)) (fault_of result)
         log.old.is_told log.new.is_told

@@ -1,9 +1,8 @@
 //! Lines between the packets of a feed.
-ghost use Rattle.std.specs.Prelude.{◌≡◌, ◌<◌, ◌-◌, ◌∷◌, ℕ, List, [], true, OnOk};
+ghost use Rattle.std.specs.Prelude.{◌≡◌, ◌<◌, ◌-◌, ℕ, List, true, OnOk};
 ghost use Rattle.disk_model.specs.Disk.{KeepsLength};
-ghost use Rattle.mot_control.specs.Answering.{TakesBetween};
-ghost use Rattle.mot_packets.specs.Outlet.{Grows};
-ghost use Rattle.mot_update.specs.Between.{Always, IsUpdating, may_change};
+ghost use Rattle.mot_control.specs.Answering.{TakesBetween, TellsBetween};
+ghost use Rattle.mot_update.specs.Between.{IsUpdating};
 ghost use Rattle.mot_server.specs.Attempts.{fault_of};
 ghost use Rattle.mot_journal.specs.Image.{Standing};
 ghost use Rattle.mot_lines.specs.Hand.{bytes_in_hand};
@@ -16,7 +15,7 @@ use disk_model::Disk;
 use mot_lines::Hand;
 use mot_numbers::Refusal;
 use mot_server::Server;
-use mot_update::Update;
+use mot_update::{Moment, Update};
 use std::alloc::Global;
 use std::io::{Read, Write};
 
@@ -63,28 +62,27 @@ impl<R: Read + Drop, W: Write + Drop, U: Update + Drop> Lines<R, W, U> {
 }
 
 impl<R: Read + Drop, W: Write + Drop, U: Update + Drop> Update for Lines<R, W, U> {
-    ghost when = { Always };
-
-    // Those of the other update.
-    ghost moments = { λ lines. U.moments lines.update };
+    // What the other update tells; and, where a read was due, what the lines do behind it.
+    ghost tells = { λ old new moment. TellsBetween old.left old.hand new.hand
+        (R.remaining old.reader) (R.remaining new.reader)
+        (U.tells old.update new.update moment) };
 
     fn update<D: Disk>(
         &mut self,
         server: &mut Server<D>,
         alloc: Global,
-        may_look: bool,
+        moment: Moment,
     ) -> Result<(), Refusal>
         ensures keeps { KeepsLength (D.state server.old.disk) (D.state server.new.disk) }
         ensures faults { TellsFaults server.old server.new
             (D.state server.old.disk) (D.state server.new.disk) result }
         ensures run { (s : Standing) → Holds server.old.view s (D.state server.old.disk)
             → (D.state server.new.disk).IsHonest
-            → IsUpdating server.old server.new (D.state server.old.disk)
-            (D.state server.new.disk) s true (fault_of result) }
-
-        // The other update is called once, at the same moment.
-        ensures called { Grows (U.moments self.old.update) (U.moments self.new.update)
-            (may_look ∷ []) }
+            → IsUpdating (TellsBetween self.old.left self.old.hand self.new.hand
+            (R.remaining self.old.reader) (R.remaining self.new.reader)
+            (U.tells self.old.update self.new.update moment))
+            server.old server.new (D.state server.old.disk) (D.state server.new.disk) s
+            (fault_of result) }
 
         // It reads if a read is due, and else it only counts.
         ensures counts { 0 < self.old.left → (self.new.reader ≡ self.old.reader)
@@ -94,12 +92,13 @@ impl<R: Read + Drop, W: Write + Drop, U: Update + Drop> Update for Lines<R, W, U
 
         // What was taken from the reader was answered, and nothing else was.
         ensures lines { (input : List ℕ) → self.old.hand ≡ bytes_in_hand (rest_of input)
-            → TakesBetween D.state server.old server.new input (may_change U.when may_look)
+            → TakesBetween D.state (U.tells self.old.update self.new.update moment)
+            server.old server.new input
             (R.remaining self.old.reader) (R.remaining self.new.reader) self.new.hand
             self.old.log.is_told self.new.log.is_told
             (W.contents self.old.log.writer) (W.contents self.new.log.writer) }
     {
-        self.update.update(server, alloc, may_look)?;
+        self.update.update(server, alloc, moment)?;
         if self.left > 0 {
             self.left -= 1;
             return Ok(());

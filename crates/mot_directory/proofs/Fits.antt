@@ -166,3 +166,16 @@ pub read_directory-directory_of : (c : Carousel) (segment_size : ℕ) → HasDir
 read_directory-directory_of c segment_size has =
     read_directory-bytes_of_directory (directory_of c segment_size)
     (IsDirectory-directory_of c segment_size has)
+
+-- and has at most so many bytes, and at least those of its header
+pub length-directory_of : (c : Carousel) (segment_size : ℕ) → HasDirectory c segment_size →
+    (0 < length (bytes_of_directory (directory_of c segment_size)))
+    × (length (bytes_of_directory (directory_of c segment_size)) ≤ 84013)
+unfolding bytes_of_directory
+length-directory_of c segment_size has =
+    let entries : List ℕ = bytes_of_entries (map entry_of c.objects) in
+    let all : length (bytes_of_directory (directory_of c segment_size)) ≡ 13 + length entries =
+    omega arith in (
+      omega (arith, all),
+      omega (arith, all, entries_of-size c.objects has.objects, has.few),
+    )

@@ -1,17 +1,17 @@
 //! Rows on disks in memory: what no clause says is that the calls succeed where nothing fails.
-ghost use Rattle.std.specs.Prelude.{◌≡◌, ◌≤◌, IfOk};
+ghost use Rattle.std.specs.Prelude.{◌≡◌, IfOk};
 ghost use Rattle.mot_journal.specs.declared.record.Action.TheVariants.{Nothing};
 
 mod layouts;
 mod stops;
 
-use crate::disks::{ONE, blank_disk, new_disk};
+use crate::disks::{ONE, new_disk};
 use crate::expecting::expect;
 use disk_model::{Disk, DiskFault};
 use disk_store::MemoryDisk;
 use mot_base::{Refusal, TransportId};
 use mot_carousel::Period;
-use mot_journal::{Action, Geometry, Journal, Layout, Record, format, format_from, load};
+use mot_journal::{Action, Geometry, Journal, Layout, Record, format, load};
 use std::alloc::Global;
 
 // A record that does nothing to the objects, with this period.
@@ -71,23 +71,6 @@ fn a_new_disk_has_its_head_and_one_record(rt: HostRuntime) {
     let wanted = (Geometry::default(), Layout::Two, 1, false);
     expect(&rt, Geometry::default().length(), 84_032);
     expect(&rt, loaded_of_new(rt.alloc()), Ok(wanted));
-}
-
-// The ids of a new disk that takes the place of another one.
-fn ids_behind(alloc: Global, id: u16) -> Result<Option<(u16, u16)>, Refusal> {
-    let id = TransportId::new(id).ok_or(Refusal::BadNumber)?;
-    let mut disk = blank_disk(alloc, &ONE)?;
-    format_from(&mut disk, &ONE, id)?;
-    match load(alloc, &mut disk)?.records.as_slice() {
-        [first] => Ok(Some((first.directory.get(), first.cursor.get()))),
-        _ => Ok(None),
-    }
-}
-
-// They go on behind the other's.
-#[test]
-fn the_ids_of_a_new_disk_begin_where_they_are_told(rt: HostRuntime) {
-    expect(&rt, ids_behind(rt.alloc(), 300), Ok(Some((300, 300))));
 }
 
 // The head of the default sizes, and the first slot, byte by byte.
@@ -166,52 +149,4 @@ fn three_added(alloc: Global) -> Result<Added, Refusal> {
 fn two_records_fill_a_half_of_three_slots(rt: HostRuntime) {
     let added = ([true, true, false], Some(4));
     expect(&rt, three_added(rt.alloc()), Ok((added, (3, 8))));
-}
-
-// How many records a new disk has, or why it is not loaded, where its kth call from then on fails.
-fn loaded_at(alloc: Global, k: u64) -> Result<usize, Refusal>
-    requires { 1 ≤ k }
-{
-    let mut disk = new_disk(alloc, &ONE)?;
-    disk.fail_at(k);
-    Ok(load(alloc, &mut disk)?.records.len())
-}
-
-#[test]
-fn a_read_that_fails_is_told_as_a_device_fault(rt: HostRuntime) {
-    let fault = Err(Refusal::DeviceFault);
-    for (k, loaded) in [(1, fault), (2, fault), (3, Ok(1))] {
-        expect(&rt, loaded_at(rt.alloc(), k), loaded);
-    }
-}
-
-// How many records a new disk for so many objects has.
-fn records_of_new(alloc: Global, objects: u16) -> Result<usize, Refusal> {
-    let mut disk = new_disk(alloc, &Geometry { objects, ..ONE })?;
-    Ok(load(alloc, &mut disk)?.records.len())
-}
-
-// The same once each slot of its half is open.
-fn records_of_full(alloc: Global, objects: u16) -> Result<usize, Refusal> {
-    let mut disk = new_disk(alloc, &Geometry { objects, ..ONE })?;
-    let mut journal = load(alloc, &mut disk)?.journal;
-    add_often(&mut journal, &mut disk, u32::from(objects));
-    Ok(last_of(alloc, &mut disk)?.0)
-}
-
-// Adds records with the periods up to this one.
-fn add_often(journal: &mut Journal, disk: &mut MemoryDisk, last: u32) {
-    for period in 0..=last {
-        let _ = add(journal, disk, period);
-    }
-}
-
-#[test]
-fn a_half_of_each_size_is_loaded(rt: HostRuntime) {
-    for objects in [1, 2, 30, 31, 62, 63, 125, 126, 127, 249, 250] {
-        expect(&rt, records_of_new(rt.alloc(), objects), Ok(1));
-    }
-    for (objects, slots) in [(1, 3), (2, 4), (30, 32), (63, 65)] {
-        expect(&rt, records_of_full(rt.alloc(), objects), Ok(slots));
-    }
 }

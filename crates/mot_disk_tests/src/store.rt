@@ -1,8 +1,8 @@
 //! What no clause says: that calls succeed where there is memory, and that the words mean what they
 //! should.
-ghost use Rattle.std.specs.Prelude.{◌≡◌, ◌⊎◌, ℕ, ◌+◌, ◌<◌, ◌≤◌, length, slice_index, slice_range};
+ghost use Rattle.std.specs.Prelude.{◌≡◌, ℕ, ◌+◌, ◌<◌, ◌≤◌, length, slice_index, slice_range};
 ghost use Rattle.std.specs.Prelude.{IfOk, OnOk};
-ghost use Rattle.disk_model.specs.Disk.{Keeps, KeepsLength, AgreeOutside, Torn};
+ghost use Rattle.disk_model.specs.Disk.{KeepsLength, Torn};
 ghost use Rattle.disk_model.specs.Failures.{HasCause};
 ghost use Rattle.disk_model.specs.Disk.{Throughout};
 ghost use Rattle.disk_store.specs.File.{file_state};
@@ -21,49 +21,6 @@ fn bytes_of<D: Disk>(disk: &mut D) -> Result<[u8; 8], DiskFault>
     let mut bytes = [0; 8];
     disk.read(0, &mut bytes)?;
     Ok(bytes)
-}
-
-// A fixed list of calls, reads among them, and which of them succeed.
-fn answers<D: Disk>(disk: &mut D) -> [bool; 7]
-    requires { 4 ≤ (D.state disk.old).len }
-    ensures { (D.state disk.new).len ≡ (D.state disk.old).len }
-{
-    let mut bytes = [0; 2];
-    [
-        disk.write(0, &[1, 2]).is_ok(),
-        disk.read(1, &mut bytes).is_ok(),
-        disk.sync().is_ok(),
-        disk.write(3, &[3]).is_ok(),
-        disk.sync().is_ok(),
-        disk.read(0, &mut bytes).is_ok(),
-        disk.write(1, &[4, 5]).is_ok(),
-    ]
-}
-
-// A write at the start, a sync, a write elsewhere: the words for a run of calls, as a layer above
-// uses them.
-fn write_sync_write<D: Disk>(
-    disk: &mut D,
-    first: &[u8],
-    at: u64,
-    then: &[u8],
-) -> Result<(), DiskFault>
-    requires first_fits { length first.now ≤ (D.state disk.old).len }
-    requires then_fits { at + length then.now ≤ (D.state disk.old).len }
-
-    ensures keeps { Keeps (D.state disk.old) (D.state disk.new) }
-
-    // At each moment an image is one from the start, torn in the first range, or what is read at
-    // the end, torn in the second range.
-    ensures any_moment { (D.state disk.old).IsHonest
-        → Throughout (D.state disk.old) (D.state disk.new)
-        (λ c. Torn 0 (length first.now) (D.state disk.old) c
-        ⊎ AgreeOutside at (length then.now) (D.state disk.new).bytes c) }
-{
-    disk.write(0, first)?;
-    disk.sync()?;
-    disk.write(at, then)?;
-    Ok(())
 }
 
 // A byte is copied from one place to another: what a layer above says of a run with a read in it.

@@ -1,5 +1,5 @@
 -- Updates and packets, one after the other.
-use Rattle.std.proofs.Common.{◌≡◌, ℕ, zero, suc, ◌+◌, ◌-◌, Bool, true, false, ◌&&◌, List, []}
+use Rattle.std.proofs.Common.{◌≡◌, ℕ, zero, suc, ◌+◌, ◌-◌, Bool, true, false, List, []}
 use Rattle.std.proofs.Common.{◌∷◌, ◌++◌, length, map, Option, Some, None, Result, Ok, Err, refl}
 use Rattle.std.proofs.Common.{sym, ap}
 use Rattle.std.proofs.Common.{◌∙◌, subst, arith, length-append, append-nil, inl, inr}
@@ -7,11 +7,13 @@ use Rattle.std.proofs.lemmas.List.{map-append}
 use Rattle.std.specs.Prelude.{◌⊎◌, ◌≢◌, if◌then◌else◌}
 use Rattle.std.specs.Option.{option_map_or}
 use Rattle.disk_model.specs.Disk.{State, IsHonestDisk, IsUnchanged}
-use Rattle.mot_feed.specs.Feeding.{AreOf, AreTimely, Event, FedPacketsAreContinuous}
-use Rattle.mot_feed.specs.Feeding.{Feeds, FeedsPart, Happen, HasFed}
-use Rattle.mot_feed.specs.Feeding.{are_at_looks, commands_among, has_ended, left_after, left_behind}
-use Rattle.mot_feed.specs.Feeding.{looks_behind, may_look, moments_in, moments_of, sents_in}
-use Rattle.mot_feed.specs.Feeding.{turns_in, unmade, unwritten}
+use Rattle.mot_feed.specs.Feeding.{AreOf, AreTold, Event, FedPacketsAreContinuous}
+use Rattle.mot_feed.specs.Feeding.{Feeds, FeedsPart, Happen, HasFed, Stage}
+use Rattle.mot_feed.specs.Feeding.{behind_call, commands_among, has_ended, left_after, left_behind}
+use Rattle.mot_feed.specs.Feeding.{moment_at, moment_behind, sents_in, turns_in}
+use Rattle.mot_feed.specs.Feeding.AreTold.{no_call, one_asked, one_call, one_played}
+use Rattle.mot_feed.specs.Feeding.ComesAt.{of_call, of_packet, of_write}
+use Rattle.mot_feed.specs.Feeding.Stage.{Broken, Called, Ready}
 use Rattle.mot_feed.specs.Feeding.Event.{Accepted, Asked, Played}
 use Rattle.mot_feed.specs.Often.{FeedsOften, FeedsPartOften, IsOften, is_due, pause}
 use Rattle.mot_feed.specs.Sending.{SendsPacket}
@@ -44,10 +46,9 @@ use Rattle.mot_server.specs.RunEnds.{place_after}
 use Rattle.mot_server.specs.Runs.{accepted_commands}
 use Rattle.mot_server.specs.Server.{ServerView, place_in}
 use Rattle.mot_server.proofs.Laws.{accepted-join, reads_leave, runs_join}
-use Rattle.mot_update.specs.Between.{IsUpdating, When}
-use Rattle.mot_update.specs.Between.{may_change}
-use Rattle.mot_update.specs.Between.{Always, AtLooks, Never}
+use Rattle.mot_update.specs.Between.{IsUpdating, Telling}
 use Rattle.mot_update.specs.HasRun.{HasRun}
+use Rattle.mot_update.specs.declared.moment.Moment.{Moment}
 
 -- ---- events in a row
 
@@ -100,38 +101,6 @@ left-append look ended left (Played sent ∷ events) others =
 left-append look ended left (Accepted command ∷ events) others =
     left-append look ended left events others
 left-append look ended left (Asked ∷ events) others = left-append look ended left events others
-
-looks-cases : (may rest all : Bool) → (may && rest) ≡ true → (rest ≡ true → all ≡ true)
-    → (may && all) ≡ true
-looks-cases true rest all is f = f is
-looks-cases false rest all is f = is
-
-looks-append : (look : ℕ) (ended : Bool) (left : ℕ) (events others : List Event)
-    → are_at_looks look ended left events ≡ true
-    → are_at_looks look (has_ended ended events) (left_after look ended left events) others ≡ true
-    → are_at_looks look ended left (events ++ others) ≡ true
-looks-append look ended left [] others one two = two
-looks-append look ended left (Played sent ∷ events) others one two =
-    looks-append look sent.ends_turn (left_behind look ended left sent) events others one two
-looks-append look ended left (Accepted command ∷ events) others one two =
-    looks-cases (may_look look ended left) (are_at_looks look ended left events)
-    (are_at_looks look ended left (events ++ others)) one
-    (λ is. looks-append look ended left events others is two)
-looks-append look ended left (Asked ∷ events) others one two =
-    looks-append look ended left events others one two
-
-moments-append : (look : ℕ) (ended : Bool) (left : ℕ) (events others : List Event)
-    → moments_of look ended left (events ++ others)
-    ≡ moments_of look ended left events
-    ++ moments_of look (has_ended ended events) (left_after look ended left events) others
-moments-append look ended left [] others = refl
-moments-append look ended left (Played sent ∷ events) others =
-    ap (λ l. may_look look ended left ∷ l)
-    (moments-append look sent.ends_turn (left_behind look ended left sent) events others)
-moments-append look ended left (Accepted command ∷ events) others =
-    moments-append look ended left events others
-moments-append look ended left (Asked ∷ events) others =
-    moments-append look ended left events others
 
 turns-append : (events others : List Event)
     → turns_in (events ++ others) ≡ turns_in events + turns_in others
@@ -218,77 +187,9 @@ left-map : (look : ℕ) (ended : Bool) (left : ℕ) (commands : List Command)
 left-map look ended left [] = refl
 left-map look ended left (command ∷ commands) = left-map look ended left commands
 
-moments-map : (look : ℕ) (ended : Bool) (left : ℕ) (commands : List Command)
-    → moments_of look ended left (map Accepted commands) ≡ []
-moments-map look ended left [] = refl
-moments-map look ended left (command ∷ commands) = moments-map look ended left commands
-
 turns-map : (commands : List Command) → turns_in (map Accepted commands) ≡ 0
 turns-map [] = refl
 turns-map (command ∷ commands) = turns-map commands
-
-looks-map : (look : ℕ) (ended : Bool) (left : ℕ) (commands : List Command)
-    → may_look look ended left ≡ true → are_at_looks look ended left (map Accepted commands) ≡ true
-looks-map look ended left [] may = refl
-looks-map look ended left (command ∷ commands) may =
-    ap (λ b. b && are_at_looks look ended left (map Accepted commands)) may
-    ∙ looks-map look ended left commands may
-
-none-accepted : (marks : List Bool) → accepted_commands [] marks ≡ []
-none-accepted [] = refl
-none-accepted (mark ∷ marks) = refl
-
--- one that waits runs no command where no look may come
-looks-update : (look : ℕ) (ended : Bool) (left : ℕ) (may : Bool) (commands : List Command)
-    (marks : List Bool) → may_look look ended left ≡ may → (may ≡ false → commands ≡ [])
-    → are_at_looks look ended left (map Accepted (accepted_commands commands marks)) ≡ true
-looks-update look ended left true commands marks is waits =
-    looks-map look ended left (accepted_commands commands marks) is
-looks-update look ended left false commands marks is waits =
-    let none : accepted_commands commands marks ≡ [] =
-    ap (λ l. accepted_commands l marks) (waits refl) ∙ none-accepted marks in
-    ap (λ l. are_at_looks look ended left (map Accepted l)) none
-
--- an update more runs its commands when it may
-timely-update : (look : ℕ) (when : When) (ended : Bool) (left : ℕ) (commands others : List Command)
-    (marks : List Bool) (events : List Event) → has_ended true events ≡ ended
-    → left_after look true 0 events ≡ left
-    → (may_change when (may_look look ended left) ≡ false → others ≡ [])
-    → AreTimely look when commands events
-    → AreTimely look when (commands ++ others)
-    (events ++ map Accepted (accepted_commands others marks))
-timely-update look Never ended left commands others marks events is behind waits so_far =
-    ap (λ l. l ++ others) so_far ∙ waits refl
-timely-update look AtLooks ended left commands others marks events is behind waits so_far =
-    let done : List Command = accepted_commands others marks in
-    looks-append look true 0 events (map Accepted done) so_far
-    (subst (λ e. are_at_looks look e (left_after look true 0 events) (map Accepted done) ≡ true)
-    (sym is)
-    (subst (λ n. are_at_looks look ended n (map Accepted done) ≡ true) (sym behind)
-    (looks-update look ended left (may_look look ended left) others marks refl waits)))
-timely-update look Always ended left commands others marks events is behind waits so_far = tt
-
--- a packet more runs none
-timely-sent : (look : ℕ) (when : When) (commands : List Command) (events : List Event)
-    (sent : Sent) → AreTimely look when commands events
-    → AreTimely look when (commands ++ []) (events ++ Played sent ∷ [])
-timely-sent look Never commands events sent so_far = append-nil commands ∙ so_far
-timely-sent look AtLooks commands events sent so_far =
-    looks-append look true 0 events (Played sent ∷ []) so_far refl
-timely-sent look Always commands events sent so_far = tt
-
--- where nothing was done
-timely-none : (look : ℕ) (when : When) → AreTimely look when [] []
-timely-none look Never = refl
-timely-none look AtLooks = refl
-timely-none look Always = tt
-
--- where nothing more was done
-timely-kept : (look : ℕ) (when : When) (commands : List Command) (events : List Event)
-    → AreTimely look when commands events → AreTimely look when (commands ++ []) (events ++ [])
-timely-kept look when commands events so_far =
-    subst (λ l. AreTimely look when l (events ++ [])) (sym (append-nil commands))
-    (subst (AreTimely look when commands) (sym (append-nil events)) so_far)
 
 -- commands bring no packet
 are-more : (events : List Event) (commands : List Command) (packets : List (List ℕ))
@@ -320,43 +221,16 @@ turns-asked : (due : Bool) → turns_in (asks due) ≡ 0
 turns-asked true = refl
 turns-asked false = refl
 
-looks-asked : (look : ℕ) (ended : Bool) (left : ℕ) (due : Bool)
-    → are_at_looks look ended left (asks due) ≡ true
-looks-asked look ended left true = refl
-looks-asked look ended left false = refl
-
 left-asked : (look : ℕ) (ended : Bool) (left : ℕ) (due : Bool)
     → left_after look ended left (asks due) ≡ left
 left-asked look ended left true = refl
 left-asked look ended left false = refl
-
-moments-asked_only : (look : ℕ) (ended : Bool) (left : ℕ) (due : Bool)
-    → moments_of look ended left (asks due) ≡ []
-moments-asked_only look ended left true = refl
-moments-asked_only look ended left false = refl
-
-moments-asked : (look : ℕ) (events : List Event) (due : Bool)
-    → moments_in look (events ++ asks due) ≡ moments_in look events
-moments-asked look events due =
-    moments-append look true 0 events (asks due)
-    ∙ ap (λ l. moments_in look events ++ l)
-    (moments-asked_only look (has_ended true events) (left_after look true 0 events) due)
-    ∙ append-nil (moments_in look events)
 
 happen-asked : (limit size : ℕ) (c : Carousel) (place new : Place) (due : Bool)
     → new ≡ (if due then hear_directory place else place)
     → Happen limit size c place (asks due) c new
 happen-asked limit size c place new true e = (refl, sym e)
 happen-asked limit size c place new false e = (refl, sym e)
-
-timely-asked : (look : ℕ) (when : When) (commands : List Command) (events : List Event)
-    (due : Bool) → AreTimely look when commands events
-    → AreTimely look when (commands ++ []) (events ++ asks due)
-timely-asked look Never commands events due so_far = append-nil commands ∙ so_far
-timely-asked look AtLooks commands events due so_far =
-    looks-append look true 0 events (asks due) so_far
-    (looks-asked look (has_ended true events) (left_after look true 0 events) due)
-timely-asked look Always commands events due so_far = tt
 
 are-asked : (events : List Event) (due : Bool) (packets : List (List ℕ))
     → AreOf events packets → AreOf (events ++ asks due) packets
@@ -369,38 +243,15 @@ are-asked events due packets are =
       read = subst (λ l. AreSent l packets) same are.read;
     }
 
--- ---- the moments of calls
+-- ---- where calls come
 
--- commands come at none, and then there is a call
-moments-update : (look : ℕ) (may : Bool) (commands : List Command) (events : List Event)
-    (earlier since later : Option (List Bool)) → Grows earlier since (moments_in look events)
-    → Grows since later (may ∷ [])
-    → Grows earlier later (moments_in look (events ++ map Accepted commands) ++ may ∷ [])
-moments-update look may commands events earlier since later so_far call =
-    let same : moments_in look (events ++ map Accepted commands) ≡ moments_in look events =
-    moments-append look true 0 events (map Accepted commands)
-    ∙ ap (λ l. moments_in look events ++ l)
-    (moments-map look (has_ended true events) (left_after look true 0 events) commands)
-    ∙ append-nil (moments_in look events) in
-    subst (λ l. Grows earlier later (l ++ may ∷ [])) (sym same)
-    (grows_trans earlier since later (moments_in look events) (may ∷ []) so_far call)
-
--- whether a look may come behind these
+-- where a call comes behind these
 behind-is : (look : ℕ) (ended : Bool) (left : ℕ) (events : List Event)
     → has_ended true events ≡ ended → left_after look true 0 events ≡ left
-    → looks_behind look events ≡ may_look look ended left
+    → moment_behind look events ≡ moment_at look ended left
 behind-is look ended left events is behind =
-    ap (λ e. may_look look e (left_after look true 0 events)) is
-    ∙ ap (may_look look ended) behind
-
--- a packet comes at that of the call in front of it
-moments-sent : (look : ℕ) (ended : Bool) (left : ℕ) (events : List Event) (sent : Sent)
-    → has_ended true events ≡ ended → left_after look true 0 events ≡ left
-    → moments_in look events ++ may_look look ended left ∷ []
-    ≡ moments_in look (events ++ Played sent ∷ [])
-moments-sent look ended left events sent is behind =
-    ap (λ e. moments_in look events ++ e ∷ []) (sym (behind-is look ended left events is behind))
-    ∙ sym (moments-append look true 0 events (Played sent ∷ []))
+    ap (λ e. moment_at look e (left_after look true 0 events)) is
+    ∙ ap (moment_at look ended) behind
 
 -- ---- counting turns
 
@@ -491,6 +342,19 @@ module _ {D : Type 0} where
             (place_in new two.leaves.last) events others first.happened rest);
       }
 
+  -- what they lead to in the end
+  fed-join-last : (old mid new : ServerView D) (start between now : State) (s : Standing)
+      (fault : Option Refusal) (events others : List Event)
+      (first : HasFed old mid start between s None events)
+      (two : HasFed mid new between now first.leaves.last fault others)
+      → (fed-join old mid new start between now s fault events others first two).leaves.last
+      ≡ two.leaves.last
+  unfolding fed-join
+  fed-join-last old mid new start between now s fault events others first two =
+      (runs_join old.view mid.view new.view start between now s first.commands
+      two.commands first.marks two.marks fault first.layout (first.whole refl) first.leaves
+      two.leaves).1
+
   fed-run : (old new : ServerView D) (start now : State) (s : Standing) (fault : Option Refusal)
       (commands : List Command) (marks : List Bool)
       → HasRun old new start now s commands marks fault
@@ -532,13 +396,32 @@ module _ {D : Type 0} where
             s.carousel (place_in old s) events d.carousel (place_in new d)) (sym last) happened;
       }
 
+  fed-run-last : (old new : ServerView D) (start now : State) (s : Standing)
+      (fault : Option Refusal) (commands : List Command) (marks : List Bool)
+      (run : HasRun old new start now s commands marks fault)
+      → (fed-run old new start now s fault commands marks run).leaves.last ≡ run.leaves.last
+  unfolding fed-run
+  fed-run-last old new start now s fault commands marks run = refl
+
+  fed-read-last : (old new : ServerView D) (start now : State) (s : Standing)
+      (fault : Option Refusal) (events : List Event) (sound : IsHonestDisk start)
+      (view : new.view ≡ old.view) (honest : now.IsHonest) (still : IsUnchanged start now)
+      (holds : Holds old.view s start) (none : commands_among events ≡ [])
+      (happened : Happen s.geometry.objects s.geometry.segment_size s.carousel (place_in old s)
+      events s.carousel (place_in new s))
+      → (fed-read old new start now s fault events sound view honest still holds none
+      happened).leaves.last ≡ s
+  unfolding fed-read
+  fed-read-last old new start now s fault events sound view honest still holds none happened =
+      (reads_leave old.view new.view start now s fault sound view honest still holds).marked
+
   -- ---- feeding
 
   -- what was fed so far: so many turns are left, and so many packets were sent
-  pub record SoFar (look : ℕ) (old new : ServerView D) (start now : State) (s : Standing)
-      (when : When) (turns left : ℕ) (between_turns : Bool) (rest count : ℕ)
-      (before after : Option (List (List ℕ))) (earlier later : Option (List Bool))
-      (more : List Bool) : Type 0 where
+  pub record SoFar {U : Type 0} (tells : U → U → Moment → Telling) (look : ℕ) (stage : Stage)
+      (first last : U) (old new : ServerView D) (start now : State) (s : Standing)
+      (turns left : ℕ) (between_turns : Bool) (rest count : ℕ)
+      (before after : Option (List (List ℕ))) : Type 0 where
     -- what happened so far
     pub events : List Event
     -- this is what was fed, without a fault
@@ -549,10 +432,9 @@ module _ {D : Type 0} where
     pub are : AreOf events packets
     -- each was written in one write
     pub written : Grows before after packets
-    -- the update was called in front of each, and then at these moments
-    pub called : Grows earlier later (moments_in look events ++ more)
-    -- commands came only when the carousel may be changed
-    pub timely : AreTimely look when fed.commands events
+    -- the update tells of them
+    pub told : AreTold tells look s.geometry.objects first s.carousel stage events last
+        fed.leaves.last.carousel
     -- whether a turn has ended behind them, or none was begun
     pub ended : has_ended true events ≡ between_turns
     -- how many packets of the rest go out before a look may come
@@ -565,14 +447,17 @@ module _ {D : Type 0} where
     pub done : left ≡ 0 → between_turns ≡ true
 
   -- feeding that begins has sent nothing
-  pub fed_none : (look : ℕ) (old mid : ServerView D) (start now : State) (s : Standing)
-      (when : When) (turns : ℕ) (contents : Option (List (List ℕ))) (moments : Option (List Bool))
+  pub fed_none : {U : Type 0} (tells : U → U → Moment → Telling) (look : ℕ) (first : U)
+      (old mid : ServerView D) (start now : State) (s : Standing)
+      (turns : ℕ) (contents : Option (List (List ℕ)))
       → mid.view ≡ old.view → place_in mid s ≡ place_in old s → IsHonestDisk start
       → now.IsHonest → IsUnchanged start now → Holds old.view s start
-      → SoFar look old mid start now s when turns turns true 0 0 contents contents moments moments
-      []
-  unfolding fed-read
-  fed_none look old mid start now s when turns contents moments view same sound honest still holds =
+      → SoFar tells look Ready first first old mid start now s turns turns true 0 0 contents
+      contents
+  fed_none tells look first old mid start now s turns contents view same sound honest still
+      holds =
+      let last = fed-read-last old mid start now s None [] sound view honest still holds refl
+      (refl, sym same) in
       record {
         events = [];
         fed = fed-read old mid start now s None [] sound view honest still holds refl
@@ -580,8 +465,8 @@ module _ {D : Type 0} where
         packets = [];
         are = are-none;
         written = grows_nil contents;
-        called = grows_nil moments;
-        timely = timely-none look when;
+        told = subst (λ (d : Standing). AreTold tells look s.geometry.objects first s.carousel
+            Ready [] first d.carousel) (sym last) no_call;
         ended = refl;
         behind = refl;
         counted = omega arith;
@@ -589,50 +474,50 @@ module _ {D : Type 0} where
         done = λ e. refl;
       }
 
-  pub none_often : (every look : ℕ) (old mid : ServerView D) (start now : State) (s : Standing)
-      (when : When) (turns : ℕ) (contents : Option (List (List ℕ))) (moments : Option (List Bool))
+  pub none_often : {U : Type 0} (tells : U → U → Moment → Telling) (every look : ℕ) (first : U)
+      (old mid : ServerView D) (start now : State) (s : Standing)
+      (turns : ℕ) (contents : Option (List (List ℕ)))
       (view : mid.view ≡ old.view) (same : place_in mid s ≡ place_in old s)
       (sound : IsHonestDisk start) (honest : now.IsHonest) (still : IsUnchanged start now)
       (holds : Holds old.view s start) → OftenUpTo every true (Some 0)
-      (fed_none look old mid start now s when turns contents moments view same sound honest still
+      (fed_none tells look first old mid start now s turns contents view same sound honest still
       holds).events
   unfolding fed_none
-  none_often every look old mid start now s when turns contents moments view same sound honest
+  none_often tells every look first old mid start now s turns contents view same sound honest
       still holds = often-none every
 
-  module _ {old mid : ServerView D} {start between : State} {s : Standing} {when : When}
-      {look turns left : ℕ} {between_turns : Bool} {rest count : ℕ}
-      {before after : Option (List (List ℕ))} {earlier since : Option (List Bool)}
-      {more : List Bool}
-      (so_far : SoFar look old mid start between s when turns left between_turns rest count before
-      after earlier since more)
+  module _ {U : Type 0} {tells : U → U → Moment → Telling} {look : ℕ} {stage : Stage}
+      {first since : U} {old mid : ServerView D} {start between : State} {s : Standing}
+      {turns left : ℕ} {between_turns : Bool} {rest count : ℕ}
+      {before after : Option (List (List ℕ))}
+      (so_far : SoFar tells look stage first since old mid start between s turns left
+      between_turns rest count before after)
     where
-      -- whether a look may come now
-      abbrev may : Bool
-      may = may_look look between_turns rest
+      -- where the update comes now
+      abbrev moment : Moment
+      moment = moment_at look between_turns rest
 
-      -- the update was called in front of each packet, and then at these moments
-      so_far_called : (moments : List Bool) → more ≡ moments
-          → Grows earlier since (moments_in look so_far.events ++ moments)
-      so_far_called moments is =
-          subst (λ l. Grows earlier since (moments_in look so_far.events ++ l)) is so_far.called
+      -- what it tells so far, up to a carousel
+      abbrev Told : Stage → List Event → U → Carousel → Type 0
+      Told stage events last found =
+          AreTold tells look s.geometry.objects first s.carousel stage events last found
 
-      -- and then at none
-      all_called : more ≡ [] → Grows earlier since (moments_in look so_far.events)
-      all_called none = subst (Grows earlier since) (append-nil (moments_in look so_far.events))
-          (so_far_called [] none)
+      -- up to this stage
+      so_far_told : (here : Stage) → stage ≡ here
+          → Told here so_far.events since so_far.fed.leaves.last.carousel
+      so_far_told here is = subst (λ t. Told t so_far.events since so_far.fed.leaves.last.carousel)
+          is so_far.told
 
       -- all turns were fed, or too many packets
-      pub fed_all : more ≡ [] → (left ≡ 0) ⊎ (count ≡ 18446744073709551615)
-          → Feeds look old mid start between s when turns before after earlier since
-      fed_all none end = record {
+      pub fed_all : stage ≡ Ready → (left ≡ 0) ⊎ (count ≡ 18446744073709551615)
+          → Feeds tells look first since old mid start between s turns before after
+      fed_all ready end = record {
         events = so_far.events;
         fed = so_far.fed;
         packets = so_far.packets;
         are = so_far.are;
         written = so_far.written;
-        called = all_called none;
-        timely = so_far.timely;
+        told = so_far_told Ready ready;
         ended = all_ended end;
       }
         where
@@ -648,18 +533,18 @@ module _ {D : Type 0} where
       -- the same, with the directory often
       pub fed_often : (every : ℕ) (until : Option ℕ)
           → OftenUpTo every between_turns until so_far.events
-          → more ≡ [] → (left ≡ 0) ⊎ (count ≡ 18446744073709551615)
-          → FeedsOften every look old mid start between s when turns before after earlier since
+          → stage ≡ Ready → (left ≡ 0) ⊎ (count ≡ 18446744073709551615)
+          → FeedsOften every tells look first since old mid start between s turns before after
       unfolding fed_all
-      fed_often every until often none end = record {
-        feeds = fed_all none end;
+      fed_often every until often ready end = record {
+        feeds = fed_all ready end;
         often = often-all every between_turns until so_far.events often;
       }
 
       -- an update more
-      module _ {up : ServerView D} {then_state : State} {fault : Option Refusal}
-          (update : IsUpdating mid up between then_state so_far.fed.leaves.last
-          (may_change when may) fault) where
+      module _ {up : ServerView D} {then_state : State} {last : U} {fault : Option Refusal}
+          (update : IsUpdating (tells since last moment) mid up between then_state
+          so_far.fed.leaves.last fault) where
         abbrev done_by : List Command
         done_by = accepted_commands update.commands update.marks
 
@@ -677,20 +562,31 @@ module _ {D : Type 0} where
         updated_are : AreOf updated_events so_far.packets
         updated_are = are-more so_far.events done_by so_far.packets so_far.are
 
-        -- it runs commands only when it may
-        updated_timely : AreTimely look when updated_fed.commands updated_events
-        unfolding updated_fed fed-join fed-run
-        updated_timely = timely-update look when between_turns rest so_far.fed.commands
-            update.commands update.marks so_far.events so_far.ended so_far.behind update.waits
-            so_far.timely
-
-        -- it is called once, and comes at no packet
-        updated_called : (later : Option (List Bool)) → more ≡ []
-            → Grows since later (may ∷ [])
-            → Grows earlier later (moments_in look updated_events ++ may ∷ [])
-        updated_called later none call =
-            moments-update look may done_by so_far.events earlier since later
-            (all_called none) call
+        -- and it tells of its commands
+        updated_told : stage ≡ Ready
+            → Told (behind_call fault) updated_events last updated_fed.leaves.last.carousel
+        unfolding updated_fed
+        updated_told ready =
+            let found : Standing = so_far.fed.leaves.last in
+            let next : Standing = update.run.leaves.last in
+            let at = fed-join-last old mid up start between then_state s fault so_far.events
+            (map Accepted done_by) so_far.fed
+            (fed-run mid up between then_state found fault update.commands update.marks update.run)
+            ∙ fed-run-last mid up between then_state found fault update.commands update.marks
+            update.run in
+            let made : carousel_after found.carousel s.geometry.objects done_by
+            ≡ Some next.carousel =
+            subst (λ (g : Geometry). carousel_after found.carousel g.objects done_by
+            ≡ Some next.carousel) so_far.fed.leaves.after.geometry
+            update.run.leaves.after.carousel in
+            let tells_here = subst (λ m. tells since last m found.carousel update.commands
+            update.marks fault)
+            (sym (behind-is look between_turns rest so_far.events so_far.ended so_far.behind))
+            update.told in
+            subst (λ (d : Standing). Told (behind_call fault) updated_events last d.carousel)
+            (sym at)
+            (one_call so_far.events since last found.carousel next.carousel update.commands
+            update.marks fault (so_far_told Ready ready) tells_here made)
 
         updated_ended : has_ended true updated_events ≡ between_turns
         updated_ended = ended-append true so_far.events (map Accepted done_by)
@@ -711,42 +607,37 @@ module _ {D : Type 0} where
         )
 
       -- feeding that a fault of an update ends, and not of a write
-      pub update_fault : {up : ServerView D} {then_state : State} {refusal : Refusal}
-          {later : Option (List Bool)} → more ≡ []
-          → IsUpdating mid up between then_state so_far.fed.leaves.last
-          (may_change when may) (Some refusal) → Grows since later (may ∷ [])
+      pub update_fault : {up : ServerView D} {then_state : State} {last : U} {refusal : Refusal}
+          → stage ≡ Ready
+          → IsUpdating (tells since last moment) mid up between then_state
+          so_far.fed.leaves.last (Some refusal)
           → refusal ≢ WriteFault
-          → FeedsPart look refusal old up start then_state s when before after earlier later
-      update_fault {up} {then_state} {refusal} {later} none update call other = record {
+          → FeedsPart tells look refusal first last old up start then_state s before after
+      update_fault {up} {then_state} {last} {refusal} ready update other = record {
         fault = Some refusal;
-        told = inl refl;
+        stage = Broken refusal;
+        comes = of_call other;
         events = updated_events update;
         fed = updated_fed update;
         packets = so_far.packets;
         are = updated_are update;
         written = part.whole other so_far.written;
-        called = unmade other (subst (λ e. Grows earlier later
-            (moments_in look (updated_events update) ++ e ∷ []))
-            (sym (behind-is look between_turns rest (updated_events update)
-            (updated_ended update) (updated_behind update)))
-            (updated_called update later none call));
-        timely = updated_timely update;
+        told = updated_told update ready;
       }
 
       -- what was fed so far, with an update that had no fault
-      pub updated : {up : ServerView D} {then_state : State} {later : Option (List Bool)}
-          → more ≡ [] → IsUpdating mid up between then_state so_far.fed.leaves.last
-          (may_change when may) None → Grows since later (may ∷ [])
-          → SoFar look old up start then_state s when turns left between_turns rest count before
-          after earlier later (may ∷ [])
-      updated {up} {then_state} {later} none update call = record {
+      pub updated : {up : ServerView D} {then_state : State} {last : U}
+          → stage ≡ Ready → IsUpdating (tells since last moment) mid up between then_state
+          so_far.fed.leaves.last None
+          → SoFar tells look Called first last old up start then_state s turns left between_turns
+          rest count before after
+      updated {up} {then_state} {last} ready update = record {
         events = updated_events update;
         fed = updated_fed update;
         packets = so_far.packets;
         are = updated_are update;
         written = so_far.written;
-        called = updated_called update later none call;
-        timely = updated_timely update;
+        told = updated_told update ready;
         ended = updated_ended update;
         behind = updated_behind update;
         counted = updated_turns update;
@@ -755,29 +646,28 @@ module _ {D : Type 0} where
       }
 
       -- commands ask for no directory
-      pub updated_often : {up : ServerView D} {then_state : State}
-          (later : Option (List Bool)) (every : ℕ) (until : Option ℕ)
+      pub updated_often : {up : ServerView D} {then_state : State} {last : U}
+          (every : ℕ) (until : Option ℕ)
           → OftenUpTo every between_turns until so_far.events
-          → (none : more ≡ []) (update : IsUpdating mid up between then_state
-          so_far.fed.leaves.last (may_change when may) None)
-          (call : Grows since later (may ∷ []))
-          → OftenUpTo every between_turns until (updated none update call).events
+          → (ready : stage ≡ Ready) (update : IsUpdating (tells since last moment) mid up between
+          then_state so_far.fed.leaves.last None)
+          → OftenUpTo every between_turns until (updated ready update).events
       unfolding updated
-      updated_often later every until often none update call =
+      updated_often every until often ready update =
           often-accepted every between_turns until so_far.events (done_by update) often
 
       -- and a fault of an update behind them
-      pub update_fault_often : {up : ServerView D} {then_state : State} {refusal : Refusal}
-          {later : Option (List Bool)} (every : ℕ) (until : Option ℕ)
-          → OftenUpTo every between_turns until so_far.events → more ≡ []
-          → IsUpdating mid up between then_state so_far.fed.leaves.last
-          (may_change when may) (Some refusal) → Grows since later (may ∷ [])
+      pub update_fault_often : {up : ServerView D} {then_state : State} {last : U}
+          {refusal : Refusal} (every : ℕ) (until : Option ℕ)
+          → OftenUpTo every between_turns until so_far.events → stage ≡ Ready
+          → IsUpdating (tells since last moment) mid up between then_state
+          so_far.fed.leaves.last (Some refusal)
           → refusal ≢ WriteFault
-          → FeedsPartOften every look refusal old up start then_state s when before after earlier
-          later
+          → FeedsPartOften every tells look refusal first last old up start then_state s before
+          after
       unfolding update_fault
-      update_fault_often every until often none update call other = record {
-        feeds = update_fault none update call other;
+      update_fault_often every until often ready update other = record {
+        feeds = update_fault ready update other;
         often = often-all every between_turns until (updated_events update)
             (often-accepted every between_turns until so_far.events (done_by update) often);
       }
@@ -808,17 +698,19 @@ module _ {D : Type 0} where
           sent_are = are-append so_far.events (Played step.sent ∷ []) so_far.packets (packet ∷ [])
               so_far.are (are-one (place_in mid t) (place_in new t) packet ends step)
 
-          sent_called : more ≡ may ∷ []
-              → Grows earlier since (moments_in look sent_events)
-          sent_called once = subst (Grows earlier since)
-              (moments-sent look between_turns rest so_far.events step.sent so_far.ended
-              so_far.behind)
-              (so_far_called (may ∷ []) once)
-
-          sent_timely : AreTimely look when sent_fed.commands sent_events
-          unfolding sent_fed fed-join fed-read
-          sent_timely =
-              timely-sent look when so_far.fed.commands so_far.events step.sent so_far.timely
+          sent_told : stage ≡ Called → Told Ready sent_events since sent_fed.leaves.last.carousel
+          unfolding sent_fed
+          sent_told called =
+              let read = played t.geometry.objects t.geometry.segment_size t.carousel
+              (place_in mid t) (place_in new t) packet ends step in
+              let at = fed-join-last old mid new start between now s None so_far.events
+              (Played step.sent ∷ []) so_far.fed
+              (fed-read mid new between now t None (Played step.sent ∷ []) sound view honest still
+              held refl read)
+              ∙ fed-read-last mid new between now t None (Played step.sent ∷ []) sound view honest
+              still held refl read in
+              subst (λ (d : Standing). Told Ready sent_events since d.carousel) (sym at)
+              (one_played so_far.events step.sent since t.carousel (so_far_told Called called))
 
         -- the directory asked for, or not
         module _ (due : Bool) (asked : place_in new t
@@ -834,21 +726,35 @@ module _ {D : Type 0} where
               (happen-asked t.geometry.objects t.geometry.segment_size t.carousel
               (place_in mid t) (place_in new t) due asked))
 
-          asked_timely : AreTimely look when asked_fed.commands (so_far.events ++ asked_for)
-          unfolding asked_fed fed-join fed-read
-          asked_timely = timely-asked look when so_far.fed.commands so_far.events due so_far.timely
+          told-asked : (d : Bool) → Told Called so_far.events since t.carousel
+              → Told Called (so_far.events ++ asks d) since t.carousel
+          told-asked true is = one_asked so_far.events since t.carousel is
+          told-asked false is = subst (λ l. Told Called l since t.carousel)
+              (sym (append-nil so_far.events)) is
 
-          pub asked_on : SoFar look old new start now s when turns left between_turns rest count
-              before after earlier since more
-          asked_on = record {
+          asked_told : stage ≡ Called
+              → Told Called (so_far.events ++ asked_for) since asked_fed.leaves.last.carousel
+          unfolding asked_fed
+          asked_told called =
+              let read = happen-asked t.geometry.objects t.geometry.segment_size t.carousel
+              (place_in mid t) (place_in new t) due asked in
+              let at = fed-join-last old mid new start between now s None so_far.events asked_for
+              so_far.fed (fed-read mid new between now t None asked_for sound view honest still held
+              (commands-asked due) read)
+              ∙ fed-read-last mid new between now t None asked_for sound view honest still held
+              (commands-asked due) read in
+              subst (λ (d : Standing). Told Called (so_far.events ++ asked_for) since d.carousel)
+              (sym at) (told-asked due (so_far_told Called called))
+
+          pub asked_on : stage ≡ Called → SoFar tells look Called first since old new start now s
+              turns left between_turns rest count before after
+          asked_on called = record {
             events = so_far.events ++ asked_for;
             fed = asked_fed;
             packets = so_far.packets;
             are = are-asked so_far.events due so_far.packets so_far.are;
             written = so_far.written;
-            called = subst (λ l. Grows earlier since (l ++ more))
-                (sym (moments-asked look so_far.events due)) so_far.called;
-            timely = asked_timely;
+            told = asked_told called;
             ended = ended-append true so_far.events asked_for
                 ∙ ended-asked (has_ended true so_far.events) due ∙ so_far.ended;
             behind = left-append look true 0 so_far.events asked_for
@@ -864,11 +770,12 @@ module _ {D : Type 0} where
             done = so_far.done;
           }
 
-          pub asked_often : (every until : ℕ) → due ≡ is_due between_turns until
+          pub asked_often : (called : stage ≡ Called) (every until : ℕ)
+              → due ≡ is_due between_turns until
               → OftenUpTo every between_turns (Some until) so_far.events
-              → OftenUpTo every between_turns (left_for due until) asked_on.events
+              → OftenUpTo every between_turns (left_for due until) (asked_on called).events
           unfolding asked_on
-          asked_often every until is often =
+          asked_often called every until is often =
               often-asked every until between_turns so_far.events due is often
 
         -- where no packet was made, nothing more was fed
@@ -878,94 +785,92 @@ module _ {D : Type 0} where
             (fed-read mid new between now t None [] sound view honest still held refl
             (refl, sym same))
 
-        unsent_timely : (same : place_in new t ≡ place_in mid t)
-            → AreTimely look when (unsent_fed same).commands (so_far.events ++ [])
-        unfolding unsent_fed fed-join fed-read
-        unsent_timely same = timely-kept look when so_far.fed.commands so_far.events so_far.timely
-
-        -- and there is no packet behind the last call
-        unsent_called : more ≡ may ∷ []
-            → Grows earlier since (moments_in look (so_far.events ++ [])
-            ++ looks_behind look (so_far.events ++ []) ∷ [])
-        unsent_called once = subst (λ (l : List Event).
-            Grows earlier since (moments_in look l ++ looks_behind look l ∷ []))
-            (sym (append-nil so_far.events))
-            (subst (λ e. Grows earlier since (moments_in look so_far.events ++ e ∷ []))
-            (sym (behind-is look between_turns rest so_far.events so_far.ended so_far.behind))
-            (so_far_called (may ∷ []) once))
+        -- and nothing more is told
+        unsent_told : (same : place_in new t ≡ place_in mid t) → stage ≡ Called
+            → Told Called (so_far.events ++ []) since (unsent_fed same).leaves.last.carousel
+        unfolding unsent_fed
+        unsent_told same called =
+            let read : Happen t.geometry.objects t.geometry.segment_size t.carousel
+            (place_in mid t) [] t.carousel (place_in new t) = (refl, sym same) in
+            let at = fed-join-last old mid new start between now s None so_far.events [] so_far.fed
+            (fed-read mid new between now t None [] sound view honest still held refl read)
+            ∙ fed-read-last mid new between now t None [] sound view honest still held refl read in
+            subst (λ (d : Standing). Told Called (so_far.events ++ []) since d.carousel) (sym at)
+            (subst (λ l. Told Called l since t.carousel) (sym (append-nil so_far.events))
+            (so_far_told Called called))
 
         send_fault-cases : {last : Option (List (List ℕ))} (refusal : Refusal)
-            → more ≡ may ∷ []
+            → stage ≡ Called
             → SendsPacket (Err refusal) (place_in mid t) (place_in new t) after last
-            → FeedsPart look refusal old new start now s when before last earlier since
-        send_fault-cases {last} refusal once (one.whole packet e is step w) =
+            → FeedsPart tells look refusal first since old new start now s before last
+        send_fault-cases {last} refusal called (one.whole packet e is step w) =
             absurd (not_fine e refusal (sym is))
-        send_fault-cases {last} refusal once (one.short packet e n is step lt w) = record {
+        send_fault-cases {last} refusal called (one.short packet e n is step lt w) = record {
           fault = None;
-          told = inr refl;
+          stage = Ready;
+          comes = of_write (same_refusal refusal WriteFault is);
           events = sent_events step;
           fed = sent_fed step;
           packets = so_far.packets ++ packet ∷ [];
           are = sent_are step;
           written = part_after refusal so_far.packets (packet ∷ []) before after last so_far.written
               (part.short (same_refusal refusal WriteFault is) [] packet n refl lt w);
-          called = unwritten (same_refusal refusal WriteFault is) (sent_called step once);
-          timely = sent_timely step;
+          told = sent_told step called;
         }
-        send_fault-cases {last} refusal once (one.none r other is same w) = record {
+        send_fault-cases {last} refusal called (one.none r other is same w) = record {
           fault = None;
-          told = inr refl;
+          stage = Called;
+          comes = of_packet (λ e. other (sym (same_refusal refusal r is) ∙ e));
           events = so_far.events ++ [];
           fed = unsent_fed same;
           packets = so_far.packets;
           are = subst (λ l. AreOf l so_far.packets) (sym (append-nil so_far.events)) so_far.are;
           written = part.whole (λ e. other (sym (same_refusal refusal r is) ∙ e))
               (grows_kept before after last so_far.packets so_far.written w);
-          called = unmade (λ e. other (sym (same_refusal refusal r is) ∙ e)) (unsent_called once);
-          timely = unsent_timely same;
+          told = unsent_told same called;
         }
 
         -- feeding that a fault of a packet or of its write ends
         pub send_fault : {last : Option (List (List ℕ))} (refusal : Refusal)
-            → more ≡ may ∷ [] → ((d : Standing) → Holds mid.view d between
+            → stage ≡ Called → ((d : Standing) → Holds mid.view d between
             → SendsPacket (Err refusal) (place_in mid d) (place_in new d) after last)
-            → FeedsPart look refusal old new start now s when before last earlier since
-        send_fault refusal once sends = send_fault-cases refusal once (sends t held)
+            → FeedsPart tells look refusal first since old new start now s before last
+        send_fault refusal called sends = send_fault-cases refusal called (sends t held)
 
         -- the same, with the directory often
         module _ (every until : ℕ) (due : Bool)
             (often : OftenUpTo every between_turns (left_for due until) so_far.events)
             (is_so : due ≡ is_due between_turns until) where
           fault_often-cases : {last : Option (List (List ℕ))} (refusal : Refusal)
-              (once : more ≡ may ∷ [])
+              (called : stage ≡ Called)
               (one : SendsPacket (Err refusal) (place_in mid t) (place_in new t) after last)
-              → IsOften every (send_fault-cases refusal once one).events
+              → IsOften every (send_fault-cases refusal called one).events
           unfolding send_fault-cases
-          fault_often-cases {last} refusal once (one.whole packet e is step w) =
+          fault_often-cases {last} refusal called (one.whole packet e is step w) =
               absurd (not_fine e refusal (sym is))
-          fault_often-cases {last} refusal once (one.short packet e n is step lt w) =
+          fault_often-cases {last} refusal called (one.short packet e n is step lt w) =
               often-cut every until between_turns due so_far.events step.sent often is_so
-          fault_often-cases {last} refusal once (one.none r other is same w) = often []
+          fault_often-cases {last} refusal called (one.none r other is same w) = often []
 
           pub send_fault_often : {last : Option (List (List ℕ))} (refusal : Refusal)
-              → more ≡ may ∷ [] → ((d : Standing) → Holds mid.view d between
+              → stage ≡ Called → ((d : Standing) → Holds mid.view d between
               → SendsPacket (Err refusal) (place_in mid d) (place_in new d) after last)
-              → FeedsPartOften every look refusal old new start now s when before last earlier since
+              → FeedsPartOften every tells look refusal first since old new start now s before last
           unfolding send_fault
-          send_fault_often refusal once sends = record {
-            feeds = send_fault refusal once sends;
-            often = fault_often-cases refusal once (sends t held);
+          send_fault_often refusal called sends = record {
+            feeds = send_fault refusal called sends;
+            often = fault_often-cases refusal called (sends t held);
           }
 
         -- one that was written whole
-        module _ (once : more ≡ may ∷ []) (some : left ≡ 0 → ⊥) (ends : Bool) (fewer : ℕ)
+        module _ (called : stage ≡ Called) (some : left ≡ 0 → ⊥) (ends : Bool) (fewer : ℕ)
             (is_fewer : fewer + (if ends then 1 else 0) ≡ left) (then_rest : ℕ)
             (is_rest : (sent : Sent) → place_in new t ≡ sent.place
             → left_behind look between_turns rest sent ≡ then_rest)
             {last : Option (List (List ℕ))} where
           sent_on-cases : SendsPacket (Ok ends) (place_in mid t) (place_in new t) after last
-              → SoFar look old new start now s when turns fewer ends then_rest (count + 1) before
-              last earlier since []
+              → SoFar tells look Ready first since old new start now s turns fewer ends then_rest
+              (count + 1) before last
           sent_on-cases (one.whole packet e is step w) =
               let same : step.sent.ends_turn ≡ ends = sym step.ends ∙ sym (same_ends ends e is) in
               record {
@@ -975,9 +880,7 @@ module _ {D : Type 0} where
                 are = sent_are step;
                 written = grows_trans before after last so_far.packets (packet ∷ [])
                     so_far.written w;
-                called = subst (Grows earlier since)
-                    (sym (append-nil (moments_in look (sent_events step)))) (sent_called step once);
-                timely = sent_timely step;
+                told = sent_told step called;
                 ended = ended-append true so_far.events (Played step.sent ∷ []) ∙ same;
                 behind = left-append look true 0 so_far.events (Played step.sent ∷ [])
                     ∙ ap (λ e. left_behind look e (left_after look true 0 so_far.events) step.sent)
@@ -995,8 +898,8 @@ module _ {D : Type 0} where
           -- one more packet, which was made and written
           pub sent_on : ((d : Standing) → Holds mid.view d between
               → SendsPacket (Ok ends) (place_in mid d) (place_in new d) after last)
-              → SoFar look old new start now s when turns fewer ends then_rest (count + 1) before
-              last earlier since []
+              → SoFar tells look Ready first since old new start now s turns fewer ends then_rest
+              (count + 1) before last
           sent_on sends = sent_on-cases (sends t held)
 
           -- the same, with the directory often

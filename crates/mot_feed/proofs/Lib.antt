@@ -2,4 +2,5 @@ pub mod Fed
 pub mod Grown
 pub mod Hearing
 pub mod Laws
+pub mod OnAir
 pub mod Sent

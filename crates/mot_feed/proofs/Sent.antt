@@ -1,27 +1,22 @@
 -- Packets in a row.
-use Rattle.std.proofs.Common.{◌≡◌, ◌∙◌, ℕ, suc, ◌+◌, ◌<◌, Bool, List, [], ◌∷◌, ◌++◌, length}
-use Rattle.std.proofs.Common.{Option, Some, Result, Ok, Err, take, refl, sym, ap, subst, arith}
-use Rattle.std.proofs.Common.{add-one}
+use Rattle.std.proofs.Common.{◌≡◌, ◌∙◌, ℕ, ◌<◌, Bool, List, [], ◌∷◌, length}
+use Rattle.std.proofs.Common.{Some, Result, Ok, Err, sym, ap, subst, arith}
 use Rattle.std.specs.Prelude.{◌≢◌, IsFalse, IsTrue}
 use Rattle.disk_model.specs.Disk.{State}
 use Rattle.disk_model.specs.Failures.{Rises}
-use Rattle.mot_feed.specs.Sending.{IsSendFault, SendsPackets, SendsPacket, SendsPart}
+use Rattle.mot_feed.specs.Sending.{IsSendFault}
 use Rattle.mot_feed.specs.Sending as one
-use Rattle.mot_feed.specs.Writing.{GrowsPart}
 use Rattle.mot_feed.specs.Writing as part
-use Rattle.mot_feed.proofs.Grown.{grows_nil, grows_trans, grows_kept}
 use Rattle.mot_journal.specs.Image.{Standing}
 use Rattle.mot_numbers.specs.declared.refusal.Refusal.{Refusal}
 use Rattle.mot_numbers.specs.declared.refusal.Refusal.TheVariants.{DeviceFault, Halted, OutOfMemory}
 use Rattle.mot_numbers.specs.declared.refusal.Refusal.TheVariants.{WriteFault}
 use Rattle.mot_packets.specs.Packet.{PacketFields, read_packet}
 use Rattle.mot_player.specs.PlayerView as player
-use Rattle.mot_player.specs.Place.{Place}
 use Rattle.mot_repository.specs.Repository.{RepositoryView}
 use Rattle.mot_server.specs.Server.{ServerView, bodies_of, place_in}
-use Rattle.mot_server.specs.Playing.{HasPlayed, IsReadRefusal}
+use Rattle.mot_server.specs.Playing.{IsReadRefusal}
 use Rattle.mot_server.specs.Playing as reading
-use Rattle.mot_server.proofs.Laws.{played_none, played_more}
 use Rattle.mot_update.specs.Faults.{StaysCalm, IsUpdateFault}
 use Rattle.mot_update.specs.Faults as update
 
@@ -33,64 +28,9 @@ IsFine (Err e) = ⊥
 pub not_fine : {T : Type 0} (x : T) (e : Refusal) → Ok x ≡ Err e → ⊥
 not_fine x e same = subst IsFine same tt
 
--- of no requests no packets are sent
-pub sends_none : (place : Place) (known : Option (List (List ℕ)))
-    → SendsPackets place 0 place known known
-sends_none place known = record {
-  packets = [];
-  played = played_none place;
-  written = grows_nil known;
-}
-
--- one more packet, in a write of its own
-pub sends_more : (old mid new : Place) (count : ℕ) (before between after : Option (List (List ℕ)))
-    (ends : Bool) → SendsPackets old count mid before between
-    → SendsPacket (Ok ends) mid new between after
-    → SendsPackets old (count + 1) new before after
-sends_more old mid new count before between after ends so_far (one.whole packet e is step written) =
-    record {
-      packets = so_far.packets ++ packet ∷ [];
-      played = subst (λ n. HasPlayed old n (so_far.packets ++ packet ∷ []) new)
-          (sym (add-one count))
-          (played_more old mid new count so_far.packets so_far.played packet e step);
-      written = grows_trans before between after so_far.packets (packet ∷ []) so_far.written
-          written;
-    }
-sends_more old mid new count before between after ends so_far (one.short packet e n is step lt w) =
-    absurd (not_fine ends _ is)
-sends_more old mid new count before between after ends so_far (one.none refusal other is same w) =
-    absurd (not_fine ends refusal is)
-
 -- refusals that are one as results are one
 pub same_refusal : (a b : Refusal) → ◌≡◌ {A = Result Bool Refusal} (Err a) (Err b) → a ≡ b
 same_refusal a b e = cc
-
--- one more, written in part, not written or not made
-pub sends_part : (old mid new : Place) (count limit : ℕ)
-    (before between after : Option (List (List ℕ))) (refusal : Refusal) → count < limit
-    → SendsPackets old count mid before between → SendsPacket (Err refusal) mid new between after
-    → SendsPart refusal old limit new before after
-sends_part old mid new count limit before between after refusal lt so_far
-    (one.whole packet e is step written) = absurd (not_fine e refusal (sym is))
-sends_part old mid new count limit before between after refusal lt so_far
-    (one.short packet e n is step cut written) = record {
-      made = suc count;
-      few = lt;
-      packets = so_far.packets ++ packet ∷ [];
-      played = played_more old mid new count so_far.packets so_far.played packet e step;
-      written = part.short (same_refusal refusal WriteFault is) so_far.packets packet n refl cut
-          (grows_trans before between after so_far.packets (take n packet ∷ []) so_far.written
-          written);
-    }
-sends_part old mid new count limit before between after refusal lt so_far
-    (one.none r other is same written) = record {
-      made = count;
-      few = omega (arith, lt);
-      packets = so_far.packets;
-      played = subst (HasPlayed old count so_far.packets) (sym same) so_far.played;
-      written = part.whole (λ w. other (sym (same_refusal refusal r is) ∙ w))
-          (grows_kept before between after so_far.packets so_far.written written);
-    }
 
 -- a packet has some bytes
 pub some_bytes : (packet : List ℕ) (p : PacketFields) → read_packet packet ≡ Some p

@@ -1,14 +1,14 @@
 -- What taking turns between updates and packets does.
 use Rattle.std.specs.Prelude.{ℕ, ◌≡◌, ◌≢◌, ◌==◌, ◌⊎◌, ◌+◌, ◌-◌, ◌<◌, nat_eq, nat_lt, Bool, true}
-use Rattle.std.specs.Prelude.{◌&&◌, ◌||◌, if◌then◌else◌, List, [], ◌∷◌, ◌++◌, length, Option, Some}
-use Rattle.std.specs.Prelude.{None, ⊤}
+use Rattle.std.specs.Prelude.{false, ◌&&◌, if◌then◌else◌, List, [], ◌∷◌, ◌++◌, length, map, Option}
+use Rattle.std.specs.Prelude.{Some, None}
 use Rattle.disk_model.specs.Disk.{State}
 use Rattle.mot_feed.specs.Sending.{IsSendFault}
 use Rattle.mot_feed.specs.Writing.{GrowsPart}
 use Rattle.mot_journal.specs.Image.{Standing}
 use Rattle.mot_numbers.specs.declared.refusal.Refusal.{Refusal}
 use Rattle.mot_numbers.specs.declared.refusal.Refusal.TheVariants.{WriteFault}
-use Rattle.mot_objects.specs.Carousel.{Carousel, carousel_if_accepted, change}
+use Rattle.mot_objects.specs.Carousel.{Carousel, carousel_after, carousel_if_accepted, change}
 use Rattle.mot_objects.specs.declared.command.Command.{Command}
 use Rattle.mot_packets.specs.Outlet.{Grows}
 use Rattle.mot_player.specs.Continuity.{IsContinuous}
@@ -19,8 +19,10 @@ use Rattle.mot_player.specs.Turn.{Turn, turn_of_carousel}
 use Rattle.mot_server.specs.RunEnds.{RunLeaves}
 use Rattle.mot_server.specs.Runs.{accepted_commands}
 use Rattle.mot_server.specs.Server.{ServerView, place_in}
-use Rattle.mot_update.specs.Between.{Always, AtLooks, Never, When}
+use Rattle.mot_update.specs.Between.{Telling, may_look}
 use Rattle.mot_update.specs.Faults.{IsUpdateFault}
+use Rattle.mot_update.specs.declared.moment.Moment.{Moment}
+use Rattle.mot_update.specs.declared.moment.Moment.TheVariants.{AtLook, BetweenTurns, Within}
 
 -- what happens while a server is fed from: a command is accepted, the directory is asked for, or a
 -- packet is sent
@@ -63,17 +65,19 @@ has_ended ended (Accepted command ∷ events) = has_ended ended events
 has_ended ended (Asked ∷ events) = has_ended ended events
 has_ended ended (Played sent ∷ events) = has_ended sent.ends_turn events
 
--- A look may come where a turn has ended, or none was begun; and within a turn, if it is to, where
--- no more packets of the rest go out before it.
-abbrev pub may_look : (look : ℕ) → (ended : Bool) → (left : ℕ) → Bool
-may_look look ended left = (nat_lt 0 look && nat_eq left 0) || ended
+-- where an update comes: between turns; or within one, where a look may come, if it is to and no
+-- more packets of the rest go out before it
+abbrev pub moment_at : (look : ℕ) → (ended : Bool) → (left : ℕ) → Moment
+moment_at look true left = BetweenTurns
+moment_at look false left = if nat_lt 0 look && nat_eq left 0 then AtLook else Within
 
 -- How many packets of the rest go out before a look may come within a turn, behind this one: from
 -- where one may come they are counted anew, and a packet is one of the rest if no changed body
 -- waits behind it.
 abbrev pub left_behind : (look : ℕ) → (ended : Bool) → (left : ℕ) → Sent → ℕ
 left_behind look ended left sent =
-    (if may_look look ended left then look else left) - (if sent.place.early == 0 then 1 else 0)
+    (if may_look (moment_at look ended left) then look else left)
+    - (if sent.place.early == 0 then 1 else 0)
 
 -- the same behind what happened
 abbrev pub left_after : ℕ → Bool → ℕ → List Event → ℕ
@@ -83,37 +87,40 @@ left_after look ended left (Asked ∷ events) = left_after look ended left event
 left_after look ended left (Played sent ∷ events) =
     left_after look sent.ends_turn (left_behind look ended left sent) events
 
--- whether a look may come behind these
-abbrev pub looks_behind : ℕ → List Event → Bool
-looks_behind look events = may_look look (has_ended true events) (left_after look true 0 events)
+-- where an update comes behind these
+abbrev pub moment_behind : ℕ → List Event → Moment
+moment_behind look events = moment_at look (has_ended true events) (left_after look true 0 events)
 
--- no command comes where no look may
-abbrev pub are_at_looks : ℕ → Bool → ℕ → List Event → Bool
-are_at_looks look ended left [] = true
-are_at_looks look ended left (Accepted command ∷ events) =
-    may_look look ended left && are_at_looks look ended left events
-are_at_looks look ended left (Asked ∷ events) = are_at_looks look ended left events
-are_at_looks look ended left (Played sent ∷ events) =
-    are_at_looks look sent.ends_turn (left_behind look ended left sent) events
+-- behind what feeding stands: a packet, or nothing yet; a call of the update; or one that this
+-- fault broke off
+pub data Stage : Type 0 where
+  Ready : Stage
+  Called : Stage
+  Broken : Refusal → Stage
 
--- in front of each packet, whether a look may come there
-abbrev pub moments_of : ℕ → Bool → ℕ → List Event → List Bool
-moments_of look ended left [] = []
-moments_of look ended left (Accepted command ∷ events) = moments_of look ended left events
-moments_of look ended left (Asked ∷ events) = moments_of look ended left events
-moments_of look ended left (Played sent ∷ events) =
-    may_look look ended left
-    ∷ moments_of look sent.ends_turn (left_behind look ended left sent) events
+abbrev pub behind_call : Option Refusal → Stage
+behind_call None = Called
+behind_call (Some fault) = Broken fault
 
--- from the beginning of a turn on
-abbrev pub moments_in : ℕ → List Event → List Bool
-moments_in look events = moments_of look true 0 events
-
--- these commands were run, and these events happened, only when the carousel may be changed
-abbrev pub AreTimely : ℕ → When → List Command → List Event → Type 0
-AreTimely look Never commands events = commands ≡ []
-AreTimely look AtLooks commands events = are_at_looks look true 0 events ≡ true
-AreTimely look Always commands events = ⊤
+-- What an update tells of these events. It was called once in front of each packet, and nowhere
+-- else. The commands among them are those of its calls, each of which found the carousel that
+-- those before it had made.
+pub data AreTold {U : Type 0} (tells : U → U → Moment → Telling) (look limit : ℕ) (old : U)
+    (c : Carousel) : Stage → List Event → U → Carousel → Type 0 where
+  no_call : AreTold tells look limit old c Ready [] old c
+  one_call : (events : List Event) (mid new : U) (found next : Carousel)
+      (commands : List Command) (marks : List Bool) (fault : Option Refusal)
+      → AreTold tells look limit old c Ready events mid found
+      → tells mid new (moment_behind look events) found commands marks fault
+      → carousel_after found limit (accepted_commands commands marks) ≡ Some next
+      → AreTold tells look limit old c (behind_call fault)
+      (events ++ map Accepted (accepted_commands commands marks)) new next
+  one_asked : (events : List Event) (mid : U) (found : Carousel)
+      → AreTold tells look limit old c Called events mid found
+      → AreTold tells look limit old c Called (events ++ Asked ∷ []) mid found
+  one_played : (events : List Event) (sent : Sent) (mid : U) (found : Carousel)
+      → AreTold tells look limit old c Called events mid found
+      → AreTold tells look limit old c Ready (events ++ Played sent ∷ []) mid found
 
 -- how many turns end in these
 abbrev pub turns_in : List Event → ℕ
@@ -140,47 +147,44 @@ pub record HasFed {D : Type 0} (old new : ServerView D) (start now : State) (s :
   pub happened : Happen s.geometry.objects s.geometry.segment_size s.carousel (place_in old s)
       events leaves.last.carousel (place_in new leaves.last)
 
--- In these, before and after are the writes of an outlet, and earlier and later the moments at
--- which an update was called: as far as they are known.
+-- In these, before and after are the writes of an outlet, as far as they are known, and the update
+-- was the first and is the last.
 
--- So many turns were fed; or else so many packets that their number fits no word of 64 bits. The
--- update was called once in front of each packet, and nowhere else.
-pub record Feeds {D : Type 0} (look : ℕ) (old new : ServerView D) (start now : State) (s : Standing)
-    (when : When) (turns : ℕ) (before after : Option (List (List ℕ)))
-    (earlier later : Option (List Bool)) : Type 0 where
+-- So many turns were fed; or else so many packets that their number fits no word of 64 bits.
+pub record Feeds {D U : Type 0} (tells : U → U → Moment → Telling) (look : ℕ) (first last : U)
+    (old new : ServerView D) (start now : State) (s : Standing) (turns : ℕ)
+    (before after : Option (List (List ℕ))) : Type 0 where
   pub events : List Event
   pub fed : HasFed old new start now s None events
   pub packets : List (List ℕ)
   pub are : AreOf events packets
   pub written : Grows before after packets
-  pub called : Grows earlier later (moments_in look events)
-  pub timely : AreTimely look when fed.commands events
+  pub told : AreTold tells look s.geometry.objects first s.carousel Ready events last
+      fed.leaves.last.carousel
   pub ended : ((turns_in events ≡ turns) × (has_ended true events ≡ true))
       ⊎ (length packets ≡ 18446744073709551615)
 
--- What calls there are with these events, which this refusal ended: one in front of each packet,
--- and one more that no packet was made behind, unless it was a write that failed.
-pub data CallsPart (look : ℕ) (refusal : Refusal) (events : List Event)
-    (earlier later : Option (List Bool)) : Type 0 where
-  unmade : refusal ≢ WriteFault
-      → Grows earlier later (moments_in look events ++ looks_behind look events ∷ [])
-      → CallsPart look refusal events earlier later
-  unwritten : refusal ≡ WriteFault → Grows earlier later (moments_in look events)
-      → CallsPart look refusal events earlier later
+-- where this refusal came: of a call, which it broke off; of a packet, behind a call; or of a write,
+-- behind a packet
+pub data ComesAt (refusal : Refusal) : (fault : Option Refusal) → Stage → Type 0 where
+  of_call : refusal ≢ WriteFault → ComesAt refusal (Some refusal) (Broken refusal)
+  of_packet : refusal ≢ WriteFault → ComesAt refusal None Called
+  of_write : refusal ≡ WriteFault → ComesAt refusal None Ready
 
 -- This refusal came of an update, of a packet or of writing it: then no command was in flight.
-pub record FeedsPart {D : Type 0} (look : ℕ) (refusal : Refusal) (old new : ServerView D)
-    (start now : State) (s : Standing) (when : When) (before after : Option (List (List ℕ)))
-    (earlier later : Option (List Bool)) : Type 0 where
+pub record FeedsPart {D U : Type 0} (tells : U → U → Moment → Telling) (look : ℕ)
+    (refusal : Refusal) (first last : U) (old new : ServerView D)
+    (start now : State) (s : Standing) (before after : Option (List (List ℕ))) : Type 0 where
   pub fault : Option Refusal
-  pub told : (fault ≡ Some refusal) ⊎ (fault ≡ None)
+  pub stage : Stage
+  pub comes : ComesAt refusal fault stage
   pub events : List Event
   pub fed : HasFed old new start now s fault events
   pub packets : List (List ℕ)
   pub are : AreOf events packets
   pub written : GrowsPart refusal packets before after
-  pub called : CallsPart look refusal events earlier later
-  pub timely : AreTimely look when fed.commands events
+  pub told : AreTold tells look s.geometry.objects first s.carousel stage events last
+      fed.leaves.last.carousel
 
 -- why feeding ended, on every disk: an update, a packet or a write did
 abbrev pub IsFeedFault : {D : Type 0} → ServerView D → (start now : State) → Refusal → Type 0

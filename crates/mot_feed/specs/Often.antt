@@ -8,7 +8,8 @@ use Rattle.mot_journal.specs.Image.{Standing}
 use Rattle.mot_numbers.specs.declared.refusal.Refusal.{Refusal}
 use Rattle.mot_player.specs.Place.{Place, directory_packets}
 use Rattle.mot_server.specs.Server.{ServerView}
-use Rattle.mot_update.specs.Between.{When}
+use Rattle.mot_update.specs.Between.{Telling}
+use Rattle.mot_update.specs.declared.moment.Moment.{Moment}
 
 -- how many packets go out before the directory is asked for again, at least ten times those that it
 -- takes itself
@@ -39,18 +40,17 @@ abbrev pub IsOften : ℕ → List Event → Type 0
 IsOften every events = is_often every true (Some 0) events ≡ true
 
 -- turns were fed, and the directory was asked for often
-pub record FeedsOften {D : Type 0} (every look : ℕ) (old new : ServerView D) (start now : State)
-    (s : Standing) (when : When) (turns : ℕ) (before after : Option (List (List ℕ)))
-    (earlier later : Option (List Bool)) : Type 0 where
-  pub feeds : Feeds look old new start now s when turns before after earlier later
+pub record FeedsOften {D U : Type 0} (every : ℕ) (tells : U → U → Moment → Telling) (look : ℕ)
+    (first last : U) (old new : ServerView D) (start now : State) (s : Standing) (turns : ℕ)
+    (before after : Option (List (List ℕ))) : Type 0 where
+  pub feeds : Feeds tells look first last old new start now s turns before after
   pub often : IsOften every feeds.events
 
 -- this refusal came, and up to it the directory was asked for often
-pub record FeedsPartOften {D : Type 0} (every look : ℕ) (refusal : Refusal)
-    (old new : ServerView D) (start now : State) (s : Standing) (when : When)
-    (before after : Option (List (List ℕ)))
-    (earlier later : Option (List Bool)) : Type 0 where
-  pub feeds : FeedsPart look refusal old new start now s when before after earlier later
+pub record FeedsPartOften {D U : Type 0} (every : ℕ) (tells : U → U → Moment → Telling)
+    (look : ℕ) (refusal : Refusal) (first last : U) (old new : ServerView D) (start now : State)
+    (s : Standing) (before after : Option (List (List ℕ))) : Type 0 where
+  pub feeds : FeedsPart tells look refusal first last old new start now s before after
   pub often : IsOften every feeds.events
 
 -- after how many packets a look may come within a turn, where the directory is sent again after so

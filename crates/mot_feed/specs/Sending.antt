@@ -1,33 +1,14 @@
--- Packets sent, one write each.
-use Rattle.std.specs.Prelude.{ℕ, ◌≡◌, ◌≢◌, ◌≤◌, ◌<◌, Bool, List, [], ◌∷◌, length, take, Option}
+-- A packet sent, in one write.
+use Rattle.std.specs.Prelude.{ℕ, ◌≡◌, ◌≢◌, ◌<◌, Bool, List, [], ◌∷◌, length, take, Option}
 use Rattle.std.specs.Prelude.{Result, Ok, Err, IsTrue, IsFalse}
 use Rattle.disk_model.specs.Disk.{State}
 use Rattle.disk_model.specs.Failures.{Rises}
-use Rattle.mot_feed.specs.Writing.{GrowsPart}
 use Rattle.mot_numbers.specs.declared.refusal.Refusal.{Refusal}
 use Rattle.mot_numbers.specs.declared.refusal.Refusal.TheVariants.{DeviceFault, Halted, WriteFault}
 use Rattle.mot_packets.specs.Outlet.{Grows}
 use Rattle.mot_player.specs.Laws.{IsStep}
 use Rattle.mot_player.specs.Place.{Place}
-use Rattle.mot_server.specs.Playing.{HasPlayed}
 use Rattle.mot_server.specs.Server.{ServerView}
-
--- the packets of so many requests, each written in one write
-pub record SendsPackets (old : Place) (count : ℕ) (new : Place)
-    (before after : Option (List (List ℕ))) : Type 0 where
-  pub packets : List (List ℕ)
-  pub played : HasPlayed old count packets new
-  pub written : Grows before after packets
-
--- The packets of at most so many requests, up to a fault: where a write failed the last is missing
--- or cut.
-pub record SendsPart (refusal : Refusal) (old : Place) (count : ℕ) (new : Place)
-    (before after : Option (List (List ℕ))) : Type 0 where
-  pub made : ℕ
-  pub few : made ≤ count
-  pub packets : List (List ℕ)
-  pub played : HasPlayed old made packets new
-  pub written : GrowsPart refusal packets before after
 
 -- one request, whose packet was written in one write, in part or not at all, or not made
 pub data SendsPacket (result : Result Bool Refusal) (old new : Place)

@@ -1,7 +1,9 @@
 //! Taking turns between updating the carousel and sending its packets.
-ghost use Rattle.std.specs.Prelude.{IfErr, OnOk};
+ghost use Rattle.std.specs.Prelude.{◌≡◌, IfErr, OnOk};
 ghost use Rattle.disk_model.specs.Disk.{KeepsLength};
 ghost use Rattle.mot_feed.specs.Feeding.{FedPacketsAreContinuous, Feeds, FeedsPart, IsFeedFault};
+ghost use Rattle.mot_feed.specs.Feeding.{moment_at};
+ghost use Rattle.mot_feed.specs.OnAir.{ChangedTurnsOnAirRead, TurnsOnAirRead};
 ghost use Rattle.mot_journal.specs.Image.{Standing};
 ghost use Rattle.mot_repository.specs.Repository.{Holds};
 ghost use Rattle.mot_update.specs.Faults.{StaysCalm};
@@ -11,12 +13,12 @@ use crate::sending::send_one;
 use disk_model::Disk;
 use mot_numbers::Refusal;
 use mot_server::Server;
-use mot_update::Update;
+use mot_update::{Moment, Update};
 use std::alloc::Global;
 
 /// Sends packets, each in one write, with updates before the first and after each, until so many
 /// turns have ended; `u64::MAX` turns are practically endless. The errors are those of the updates
-/// and of `send_packets`.
+/// and of `Server::next_packet`, and `WriteFault`, if the outlet failed or took less than a packet.
 pub fn feed<D: Disk, O: Outlet, U: Update>(
     server: &mut Server<D>,
     alloc: Global,
@@ -31,16 +33,17 @@ pub fn feed<D: Disk, O: Outlet, U: Update>(
         (D.state server.old.disk) (D.state server.new.disk) refusal) }
     ensures fed { (s : Standing) → Holds server.old.view s (D.state server.old.disk)
         → (D.state server.new.disk).IsHonest
-        → OnOk result (Feeds 0 server.old server.new (D.state server.old.disk)
-        (D.state server.new.disk) s U.when turns (O.writes outlet.old) (O.writes outlet.new)
-        (U.moments update.old) (U.moments update.new)) }
+        → OnOk result (Feeds U.tells 0 update.old update.new server.old server.new
+        (D.state server.old.disk) (D.state server.new.disk) s turns
+        (O.writes outlet.old) (O.writes outlet.new)) }
     ensures part { (s : Standing) → Holds server.old.view s (D.state server.old.disk)
         → (D.state server.new.disk).IsHonest
-        → IfErr result (λ refusal. FeedsPart 0 refusal server.old server.new
-        (D.state server.old.disk) (D.state server.new.disk) s U.when
-        (O.writes outlet.old) (O.writes outlet.new)
-        (U.moments update.old) (U.moments update.new)) }
+        → IfErr result (λ refusal. FeedsPart U.tells 0 refusal update.old update.new
+        server.old server.new (D.state server.old.disk) (D.state server.new.disk) s
+        (O.writes outlet.old) (O.writes outlet.new)) }
     ensures continuous { FedPacketsAreContinuous }
+    ensures turns_read { TurnsOnAirRead }
+    ensures changed_turns_read { ChangedTurnsOnAirRead }
 {
     let mut left = turns;
     let mut between_turns = true;
@@ -48,11 +51,26 @@ pub fn feed<D: Disk, O: Outlet, U: Update>(
         if left == 0 {
             return Ok(());
         }
-        update.update(server, alloc, between_turns)?;
+        let moment = moment_at(0, between_turns, 0);
+        update.update(server, alloc, moment)?;
         between_turns = send_one(server, outlet)?;
         if between_turns {
             left -= 1;
         }
     }
     Ok(())
+}
+
+/// Where the update comes: between turns, or within one, where a look may come if no more packets go
+/// out before it.
+pub(crate) fn moment_at(look: u64, between_turns: bool, rest: u64) -> Moment
+    ensures { result ≡ moment_at look between_turns rest }
+{
+    if between_turns {
+        Moment::BetweenTurns
+    } else if look > 0 && rest == 0 {
+        Moment::AtLook
+    } else {
+        Moment::Within
+    }
 }

@@ -8,4 +8,3 @@ mod sending;
 pub use feeding::feed;
 pub use mot_packets::{Direct, Outlet};
 pub use often::{feed_every, feed_often};
-pub use sending::send_packets;

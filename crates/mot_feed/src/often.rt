@@ -2,8 +2,8 @@
 ghost use Rattle.std.specs.Prelude.{◌≡◌, ◌==◌, ◌-◌, ◌<◌, if◌then◌else◌, IfErr, OnOk};
 ghost use Rattle.disk_model.specs.Disk.{KeepsLength};
 ghost use Rattle.mot_feed.specs.Feeding.{FedPacketsAreContinuous, Feeds, FeedsPart, IsFeedFault};
-ghost use Rattle.mot_feed.specs.Feeding.{may_look};
 ghost use Rattle.mot_feed.specs.Often.{FeedsOften, FeedsPartOften, look_in, pause, server_for};
+ghost use Rattle.mot_feed.specs.OnAir.{ChangedTurnsOnAirRead, TurnsOnAirRead};
 ghost use Rattle.mot_journal.specs.Image.{Standing};
 ghost use Rattle.mot_player.specs.Place.{hear_directory};
 ghost use Rattle.mot_repository.specs.Repository.{Agrees, Holds};
@@ -11,7 +11,7 @@ ghost use Rattle.mot_server.specs.Server.{following_server, place_in};
 ghost use Rattle.mot_update.specs.Faults.{StaysCalm};
 
 use crate::Outlet;
-use crate::feeding::feed;
+use crate::feeding::{feed, moment_at};
 use crate::sending::send_one;
 use disk_model::Disk;
 use mot_numbers::Refusal;
@@ -44,18 +44,19 @@ pub fn feed_often<D: Disk, O: Outlet, U: Update>(
         (D.state server.old.disk) (D.state server.new.disk) refusal) }
     ensures fed { (s : Standing) → Holds server.old.view s (D.state server.old.disk)
         → (D.state server.new.disk).IsHonest
-        → OnOk result (FeedsOften every look (following_server server.old) server.new
-        (D.state server.old.disk) (D.state server.new.disk) s U.when turns
-        (O.writes outlet.old) (O.writes outlet.new)
-        (U.moments update.old) (U.moments update.new)) }
+        → OnOk result (FeedsOften every U.tells look update.old update.new
+        (following_server server.old) server.new
+        (D.state server.old.disk) (D.state server.new.disk) s turns
+        (O.writes outlet.old) (O.writes outlet.new)) }
     ensures part { (s : Standing) → Holds server.old.view s (D.state server.old.disk)
         → (D.state server.new.disk).IsHonest
-        → IfErr result (λ refusal. FeedsPartOften every look refusal
-        (following_server server.old) server.new
-        (D.state server.old.disk) (D.state server.new.disk) s U.when
-        (O.writes outlet.old) (O.writes outlet.new)
-        (U.moments update.old) (U.moments update.new)) }
+        → IfErr result (λ refusal. FeedsPartOften every U.tells look refusal
+        update.old update.new (following_server server.old) server.new
+        (D.state server.old.disk) (D.state server.new.disk) s
+        (O.writes outlet.old) (O.writes outlet.new)) }
     ensures continuous { FedPacketsAreContinuous }
+    ensures turns_read { TurnsOnAirRead }
+    ensures changed_turns_read { ChangedTurnsOnAirRead }
 {
     server.follow_changes();
     let mut left = turns;
@@ -66,13 +67,13 @@ pub fn feed_often<D: Disk, O: Outlet, U: Update>(
         if left == 0 {
             return Ok(());
         }
-        let may = may_look(look, between_turns, rest);
-        update.update(server, alloc, may)?;
+        let moment = moment_at(look, between_turns, rest);
+        update.update(server, alloc, moment)?;
         let due = between_turns || until == 0;
         ask(server, due);
         between_turns = send_one(server, outlet)?;
         until = if due { pause(server, every) } else { until - 1 };
-        rest = rest_after(server, look, may, rest);
+        rest = rest_after(server, look, moment.may_look(), rest);
         if between_turns {
             left -= 1;
         }
@@ -97,26 +98,27 @@ pub fn feed_every<D: Disk, O: Outlet, U: Update>(
         (D.state server.old.disk) (D.state server.new.disk) refusal) }
     ensures fed { (s : Standing) → Holds server.old.view s (D.state server.old.disk)
         → (D.state server.new.disk).IsHonest
-        → OnOk result (Feeds (look_in every look) (server_for every server.old) server.new
-        (D.state server.old.disk) (D.state server.new.disk) s U.when turns
-        (O.writes outlet.old) (O.writes outlet.new)
-        (U.moments update.old) (U.moments update.new)) }
+        → OnOk result (Feeds U.tells (look_in every look) update.old update.new
+        (server_for every server.old) server.new
+        (D.state server.old.disk) (D.state server.new.disk) s turns
+        (O.writes outlet.old) (O.writes outlet.new)) }
     ensures part { (s : Standing) → Holds server.old.view s (D.state server.old.disk)
         → (D.state server.new.disk).IsHonest
-        → IfErr result (λ refusal. FeedsPart (look_in every look) refusal
-        (server_for every server.old) server.new
-        (D.state server.old.disk) (D.state server.new.disk) s U.when
-        (O.writes outlet.old) (O.writes outlet.new)
-        (U.moments update.old) (U.moments update.new)) }
+        → IfErr result (λ refusal. FeedsPart U.tells (look_in every look) refusal
+        update.old update.new (server_for every server.old) server.new
+        (D.state server.old.disk) (D.state server.new.disk) s
+        (O.writes outlet.old) (O.writes outlet.new)) }
     ensures continuous { FedPacketsAreContinuous }
+    ensures turns_read { TurnsOnAirRead }
+    ensures changed_turns_read { ChangedTurnsOnAirRead }
 
     // The directory is asked for often, and changes are followed, if it is to be.
     ensures often { (s : Standing) → Holds server.old.view s (D.state server.old.disk)
         → (D.state server.new.disk).IsHonest → 0 < every
-        → OnOk result (FeedsOften every look (following_server server.old) server.new
-        (D.state server.old.disk) (D.state server.new.disk) s U.when turns
-        (O.writes outlet.old) (O.writes outlet.new)
-        (U.moments update.old) (U.moments update.new)) }
+        → OnOk result (FeedsOften every U.tells look update.old update.new
+        (following_server server.old) server.new
+        (D.state server.old.disk) (D.state server.new.disk) s turns
+        (O.writes outlet.old) (O.writes outlet.new)) }
 {
     if every == 0 {
         return feed(server, alloc, update, outlet, turns);
@@ -130,13 +132,6 @@ pub fn feed_every<D: Disk, O: Outlet, U: Update>(
         u64::from(every),
         u64::from(look),
     )
-}
-
-/// Whether a look may come: between turns, or if no more packets go out before one within a turn.
-fn may_look(look: u64, between_turns: bool, rest: u64) -> bool
-    ensures { result ≡ may_look look between_turns rest }
-{
-    (look > 0 && rest == 0) || between_turns
 }
 
 /// How many packets go out before a look may come within a turn, after a packet in front of which

@@ -1,7 +1,7 @@
-//! Packets, each in one write.
+//! A packet, in one write.
 ghost use Rattle.std.specs.Prelude.{◌≡◌, IfErr, OnOk};
 ghost use Rattle.disk_model.specs.Disk.{OnlyReads};
-ghost use Rattle.mot_feed.specs.Sending.{IsSendFault, SendsPackets, SendsPacket, SendsPart};
+ghost use Rattle.mot_feed.specs.Sending.{IsSendFault, SendsPacket};
 ghost use Rattle.mot_journal.specs.Image.{Standing};
 ghost use Rattle.mot_repository.specs.Repository.{Holds};
 ghost use Rattle.mot_server.specs.Server.{place_in};
@@ -12,36 +12,9 @@ use mot_numbers::Refusal;
 use mot_packets::Packet;
 use mot_server::Server;
 
-/// Sends so many packets by the order of sending, each in one write, before the next is asked for.
-/// The refusals are `WriteFault`, if the outlet failed or took less than a packet, and those of
-/// `Server::next_packet`, after which the packets before it were written. The disk is only read.
-pub fn send_packets<D: Disk, O: Outlet>(
-    server: &mut Server<D>,
-    outlet: &mut O,
-    count: u64,
-) -> Result<(), Refusal>
-    ensures only_reads { OnlyReads (D.state server.old.disk) (D.state server.new.disk) }
-    ensures calm { OnOk result
-        ((D.state server.new.disk).failures ≡ (D.state server.old.disk).failures) }
-    ensures fault { IfErr result (λ refusal. IsSendFault server.old
-        (D.state server.old.disk) (D.state server.new.disk) refusal) }
-    ensures view { server.new.view ≡ server.old.view }
-    ensures sent { (s : Standing) → Holds server.old.view s (D.state server.old.disk)
-        → (D.state server.new.disk).IsHonest
-        → OnOk result (SendsPackets (place_in server.old s) count (place_in server.new s)
-        (O.writes outlet.old) (O.writes outlet.new)) }
-    ensures part { (s : Standing) → Holds server.old.view s (D.state server.old.disk)
-        → (D.state server.new.disk).IsHonest
-        → IfErr result (λ refusal. SendsPart refusal (place_in server.old s) count
-        (place_in server.new s) (O.writes outlet.old) (O.writes outlet.new)) }
-{
-    for _ in 0..count {
-        send_one(server, outlet)?;
-    }
-    Ok(())
-}
-
-/// Sends the next packet; whether it ends a turn.
+/// Sends the next packet by the order of sending, in one write; whether it ends a turn. It is
+/// refused by `WriteFault`, if the outlet failed or took less than the packet, and as
+/// `Server::next_packet` is. The disk is only read.
 #[inline(always)]
 pub(crate) fn send_one<D: Disk, O: Outlet>(
     server: &mut Server<D>,

@@ -16,6 +16,7 @@ pub const SUFFIX: &str = ".new";
 /// A new file of `PATH.new`, which no other program of ours writes.
 #[derive(Drop)]
 pub struct NewFile<'a> {
+    rt: &'a HostRuntime,
     file: File,
     path: &'a str,
     beside: String,
@@ -23,7 +24,11 @@ pub struct NewFile<'a> {
 
 impl<'a> NewFile<'a> {
     /// Makes the file, in the place of one that a killed run left.
-    pub fn begin(rt: &HostRuntime, path: &'a str, disk: &str) -> Result<NewFile<'a>, PacketsFault>
+    pub(crate) fn begin(
+        rt: &'a HostRuntime,
+        path: &'a str,
+        disk: &str,
+    ) -> Result<NewFile<'a>, PacketsFault>
         ensures { IfOk result (λ new. new.path.now ≡ path.now) }
     {
         let beside = format!(in rt.alloc(); "{path}{SUFFIX}")?;
@@ -33,11 +38,16 @@ impl<'a> NewFile<'a> {
             .write(true)
             .create_new(true)
             .open(rt, beside.as_str())?;
-        let new = NewFile { file, path, beside };
-        match new.hold(rt) {
+        let new = NewFile {
+            rt,
+            file,
+            path,
+            beside,
+        };
+        match new.hold() {
             Ok(()) => Ok(new),
             Err(fault) => {
-                new.take_away(rt);
+                new.take_away();
                 Err(fault)
             }
         }
@@ -45,9 +55,9 @@ impl<'a> NewFile<'a> {
 
     /// Takes the lock of the file, and looks that its path still names it: else another program
     /// went on between.
-    fn hold(&self, rt: &HostRuntime) -> Result<(), PacketsFault> {
+    fn hold(&self) -> Result<(), PacketsFault> {
         lock(&self.file)?;
-        if self.is_named(rt)? {
+        if self.is_named()? {
             Ok(())
         } else {
             Err(PacketsFault::InUse)
@@ -55,8 +65,8 @@ impl<'a> NewFile<'a> {
     }
 
     /// Whether its path still names it.
-    fn is_named(&self, rt: &HostRuntime) -> io::Result<bool> {
-        let named = rt.symlink_metadata(self.beside.as_str())?;
+    fn is_named(&self) -> io::Result<bool> {
+        let named = self.rt.symlink_metadata(self.beside.as_str())?;
         Ok(is_same(&self.file.metadata()?, &named))
     }
 
@@ -69,16 +79,16 @@ impl<'a> NewFile<'a> {
 
     /// Makes the file last, and then its name: at each moment the name is that of the old file, or
     /// of the new one, whole.
-    pub fn take_place(&self, rt: &HostRuntime) -> io::Result<()> {
+    pub fn take_place(&self) -> io::Result<()> {
         self.file.sync_all()?;
-        fs::rename(rt, self.beside.as_str(), self.path)?;
-        File::open(rt, folder_of(self.path))?.sync_all()
+        fs::rename(self.rt, self.beside.as_str(), self.path)?;
+        File::open(self.rt, folder_of(self.path))?.sync_all()
     }
 
     /// Takes the file away again.
-    pub fn take_away(&self, rt: &HostRuntime) {
-        if let Ok(true) = self.is_named(rt) {
-            let _ = fs::remove_file(rt, self.beside.as_str());
+    pub fn take_away(&self) {
+        if let Ok(true) = self.is_named() {
+            let _ = fs::remove_file(self.rt, self.beside.as_str());
         }
     }
 
@@ -133,7 +143,7 @@ pub(crate) fn folder_of(path: &str) -> &str {
 }
 
 /// Whether the path names this file.
-pub fn is_file_at(rt: &HostRuntime, path: &str, device: u64, number: u64) -> bool {
+pub(crate) fn is_file_at(rt: &HostRuntime, path: &str, device: u64, number: u64) -> bool {
     match rt.metadata(path) {
         Ok(found) => found.dev() == device && found.ino() == number,
         Err(_) => false,

@@ -68,6 +68,8 @@ pub enum Cause {
     Disk(OpenFault),
     /// The file that adds suffixes was not read, or a line of it is wrong.
     Types(TypesFault),
+    /// The folder of objects was not opened at the last look.
+    Folder(io::Error),
     /// Lines can't come from the folder.
     Lines(LinesFault),
     /// PACKETS was not opened, or did not take the packets.
@@ -122,6 +124,7 @@ impl Display for Cause {
         match self {
             Cause::Disk(fault) => fault.fmt(f),
             Cause::Types(fault) => fault.fmt(f),
+            Cause::Folder(error) => OpenFault::System(*error).fmt(f),
             Cause::Lines(fault) => fault.fmt(f),
             Cause::Packets(fault) | Cause::NewFile(fault) => fault.fmt(f),
         }

@@ -1,4 +1,5 @@
 //! The log of `play`, line by line.
+use mot_suffixes::next_shown;
 use std::alloc::{AllocError, Global};
 use std::io::{self, Write};
 
@@ -41,30 +42,27 @@ impl<W: Write + Drop> LineLog<W> {
         }
     }
 
-    /// Takes bytes of the line. A control character above ASCII, of two bytes, becomes a `?`.
+    /// Takes bytes of the line, with a `?` for each control character.
     fn hold(&mut self, bytes: &[u8]) {
-        for byte in bytes {
+        let mut rest = bytes;
+        while let Some((byte, others)) = next_shown(rest) {
             if self.line.len() >= LEVEL.len() + ROOM {
                 return;
             }
-            if *byte >= 0x80 && *byte < 0xA0 && self.line.last() == Some(&0xC2) {
-                let _ = self.line.pop();
-                let _ = self.line.push(b'?');
-            } else {
-                let _ = self.line.push(*byte);
-            }
+            let _ = self.line.push(byte);
+            rest = others;
         }
     }
 
     /// Writes the line, and begins the next.
     fn end_line(&mut self) -> io::Result<()> {
-        if tells_of_refusal(self.line.as_slice()) {
+        if tells_of_change(self.line.as_slice()) {
+            self.changes = self.changes.saturating_add(1);
+        } else if tells_of_refusal(self.line.as_slice()) {
             self.refusals = self.refusals.saturating_add(1);
             if let Some(level) = self.line.get_mut(PLACE) {
                 *level = WARNING;
             }
-        } else if has(self.line.as_slice(), b" done ") {
-            self.changes = self.changes.saturating_add(1);
         }
         let _ = self.line.push(b'\n');
         let start = if self.with_levels { 0 } else { LEVEL.len() };
@@ -106,17 +104,64 @@ pub(crate) fn room_for(alloc: Global, count: usize) -> Vec<u8> {
     }
 }
 
-/// Whether the line, after its level, tells of a refusal, or that a look took nothing.
-fn tells_of_refusal(line: &[u8]) -> bool {
-    has(line, b" refused ") || line.starts_with(b"<6>look ")
+/// Whether the line ends as the reply to a command that was done.
+fn tells_of_change(line: &[u8]) -> bool {
+    let Some(front) = before_number(line, b" directory ") else {
+        return false;
+    };
+    let front = before_number(front, b" object ").unwrap_or(front);
+    front.ends_with(b" done")
 }
 
-/// Whether these bytes stand in the line.
-fn has(line: &[u8], bytes: &[u8]) -> bool {
+/// What stands before these words and the number after them, if the line ends with them.
+fn before_number<'a>(line: &'a [u8], words: &[u8]) -> Option<&'a [u8]> {
+    let digits = line.iter().rev().take_while(|byte| byte.is_ascii_digit());
+    let count = digits.count();
+    if count == 0 {
+        return None;
+    }
+    line.get(..line.len().saturating_sub(count))?
+        .strip_suffix(words)
+}
+
+/// Whether the line, after its level, tells of a refusal, or that a look took nothing. A name that
+/// is left out, or that a note is about, may have any words.
+fn tells_of_refusal(line: &[u8]) -> bool {
+    let told = line.get(LEVEL.len()..).unwrap_or(line);
+    if told.starts_with(b"skip ") || told.starts_with(b"note ") {
+        return false;
+    }
+    told.starts_with(b"look ") || has_refusal(told)
+}
+
+/// Whether a refusal stands at the end of the line, or in front of its reason.
+fn has_refusal(line: &[u8]) -> bool {
     for start in 0..line.len() {
-        if line[start..].starts_with(bytes) {
+        if let Some(rest) = line[start..].strip_prefix(b" refused ")
+            && is_refusal(rest)
+        {
             return true;
         }
     }
     false
+}
+
+/// Whether the bytes are the number and the name of a refusal, with a reason behind a colon or
+/// without.
+fn is_refusal(bytes: &[u8]) -> bool {
+    let mut words = bytes.splitn(2, |byte| *byte == b' ');
+    let (Some(number), Some(rest)) = (words.next(), words.next()) else {
+        return false;
+    };
+    let end = rest.iter().position(|byte| !byte.is_ascii_alphabetic());
+    let behind = match end {
+        Some(end) => &rest[end..],
+        None => b"",
+    };
+    is_number(number) && (behind.is_empty() || behind.starts_with(b": "))
+}
+
+/// Whether all of the bytes are digits, and some are there.
+fn is_number(bytes: &[u8]) -> bool {
+    !bytes.is_empty() && bytes.iter().all(u8::is_ascii_digit)
 }

@@ -1,25 +1,60 @@
 //! The folder that lines come from while a disk is played.
-ghost use Rattle.std.specs.Prelude.{◌≡◌, IfErr, IfOk, IfSome, is_none, option_map, unwrap_or};
+ghost use Rattle.std.specs.Prelude.{◌≡◌, ◌++◌, IfErr, IfOk, IfSome, MatchResult, codes, is_none};
+ghost use Rattle.std.specs.Prelude.{[], option_map, unwrap_or};
 ghost use Rattle.mot_files.specs.Lines.{IsUnlined};
+ghost use Rattle.mot_files.specs.Opened.{BeginsTo, named};
 ghost use Rattle.mot_files.specs.declared.lines.LineFolder.{LineFolder};
 
+use crate::asked::Asked;
 use crate::beside::{folder_of, is_file_at};
 use crate::fault::{Cause, LinesFault, Unbegun};
 use crate::packets::OUTPUT;
+use crate::spool::Spool;
+use crate::station::Station;
 use mot_lines::Hand;
 use std::alloc::Global;
-use std::io::ErrorKind;
+use std::cell::RefCell;
+use std::io::{ErrorKind, Write};
 use std::os::unix::fs::MetadataExt;
 use std::rt::Files;
 
 /// After how many packets lines are read, if no number is given.
 const EVERY: u32 = 8;
 
+/// A folder of files of lines.
+#[derive(Clone, Copy)]
+pub struct LinePlace<'a> {
+    rt: &'a HostRuntime,
+    /// Its path.
+    pub path: &'a str,
+}
+
+impl<'a> LinePlace<'a> {
+    /// The folder at this path.
+    pub(crate) fn new(rt: &'a HostRuntime, path: &'a str) -> LinePlace<'a>
+        ensures { result.path ≡ path.entry }
+    {
+        LinePlace { rt, path }
+    }
+
+    /// Its files, of which none was read. The lines about them go to `log`.
+    pub fn spool<W: Write + Drop>(
+        self,
+        alloc: Global,
+        log: W,
+        asked: &'a RefCell<Asked>,
+    ) -> Spool<'a, HostRuntime, W>
+        ensures folder { result.folder.now ≡ self.entry.path.now }
+    {
+        Spool::new(self.rt, alloc, self.path, log, asked)
+    }
+}
+
 /// A folder of files of lines, and what has come of the next line.
 #[derive(Drop)]
 pub struct LineFolder<'a> {
     /// The folder.
-    pub path: &'a str,
+    pub place: LinePlace<'a>,
     /// What has come of the next line.
     pub hand: Hand,
     /// Behind how many packets it is read once; 0 counts as 1.
@@ -42,7 +77,7 @@ pub struct Others<'a> {
 /// The folder at the path, if one is given, with room for a line. It is not that of the objects,
 /// and none of the other files stands in it.
 pub fn line_folder<'a>(
-    rt: &HostRuntime,
+    station: &mut Station<'a>,
     alloc: Global,
     path: Option<&'a str>,
     every: Option<u32>,
@@ -50,19 +85,26 @@ pub fn line_folder<'a>(
 ) -> Result<Option<LineFolder<'a>>, Unbegun>
     ensures given { IfOk result (λ lines. is_none lines ≡ is_none path.entry) }
     ensures folder { IfOk result
-        (λ lines. option_map (λ (lines : LineFolder). lines.path) lines ≡ path.entry) }
+        (λ lines. option_map (λ (lines : LineFolder). lines.place.path) lines ≡ path.entry) }
     ensures every { IfOk result (λ lines. IfSome lines (λ l. l.every ≡ unwrap_or every EVERY)) }
+    ensures hand { IfOk result (λ lines. option_map (λ (lines : LineFolder). lines.hand) lines
+        ≡ option_map (λ _. []) path.entry) }
     ensures refused { IfErr result (λ unbegun. IsUnlined path.entry unbegun.refusal) }
+    ensures opens { MatchResult result
+        (λ _. station.new.opened.all ≡ station.old.opened.all ++ named (codes "lines") path.entry)
+        (λ _. BeginsTo (named (codes "lines") path.entry)
+        station.old.opened.all station.new.opened.all) }
 {
     let Some(path) = path else {
         return Ok(None);
     };
-    if let Err(fault) = check_folder(rt, alloc, path, others) {
-        return Err(Unbegun::unread(Cause::Lines(fault)));
-    }
+    let place = match station.lines(alloc, path, others) {
+        Ok(place) => place,
+        Err(fault) => return Err(Unbegun::unread(Cause::Lines(fault))),
+    };
     match Hand::new(alloc) {
         Ok(hand) => Ok(Some(LineFolder {
-            path,
+            place,
             hand,
             every: every.unwrap_or(EVERY),
         })),
@@ -71,7 +113,7 @@ pub fn line_folder<'a>(
 }
 
 /// Why no lines can come from the path.
-fn check_folder(
+pub(crate) fn check_folder(
     rt: &HostRuntime,
     alloc: Global,
     path: &str,

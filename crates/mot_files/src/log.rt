@@ -1,4 +1,5 @@
 //! One log for all that write to it.
+use mot_suffixes::is_control;
 use std::cell::RefCell;
 use std::fmt::{self, Display, Formatter};
 use std::io::{self, ErrorKind, Write};
@@ -59,8 +60,7 @@ impl Display for Shown<'_> {
 /// Shows a text.
 fn show_text<W: fmt::Write>(f: &mut Formatter<W>, text: &str) -> fmt::Result {
     for letter in text.chars() {
-        let is_shown = letter >= ' ' && (letter < '\u{7f}' || letter > '\u{9f}');
-        f.write_char(if is_shown { letter } else { '?' })?;
+        f.write_char(if is_control(letter) { '?' } else { letter })?;
     }
     Ok(())
 }

@@ -55,9 +55,9 @@ pub enum OpenPackets<'a> {
 
 impl<'a> OpenPackets<'a> {
     /// Leaves nothing of it, if nothing is played.
-    pub fn give_up(&self, rt: &HostRuntime) {
+    pub fn give_up(&self) {
         if let OpenPackets::Beside(new) = self {
-            new.take_away(rt);
+            new.take_away();
         }
     }
 }
@@ -67,8 +67,8 @@ impl<'a> OpenPackets<'a> {
 /// is locked, so that no other program of ours writes to it. A file is written only if some turns
 /// are asked for: so a pipe that is not there is refused. The disk itself is refused, and so is a
 /// terminal.
-pub fn open_packets<'a>(
-    rt: &HostRuntime,
+pub(crate) fn open_packets<'a>(
+    rt: &'a HostRuntime,
     path: &'a str,
     disk: &str,
     turns: Option<u32>,

@@ -1,4 +1,6 @@
 //! The file that monitoring reads. No contract says what these calls do to files.
+ghost use Rattle.std.specs.Prelude.{◌≡◌};
+
 use crate::beside::{SUFFIX, clear, is_file_at};
 use crate::fault::PacketsFault;
 use std::alloc::AllocError;
@@ -20,7 +22,9 @@ pub struct StatusFile<'a> {
 
 impl<'a> StatusFile<'a> {
     /// The file at this path. Nothing was written.
-    pub fn new(rt: &'a HostRuntime, path: &'a str, disk: &'a str) -> StatusFile<'a> {
+    pub(crate) fn new(rt: &'a HostRuntime, path: &'a str, disk: &'a str) -> StatusFile<'a>
+        ensures { result.path.now ≡ path.now }
+    {
         StatusFile {
             rt,
             path,

@@ -1,9 +1,11 @@
 //! Which files of a folder are objects: the known suffixes, and those that a file adds.
-ghost use Rattle.std.specs.Prelude.{◌≡◌, ◌≤◌, IfErr, IfOk, length};
+ghost use Rattle.std.specs.Prelude.{◌≡◌, ◌≤◌, ◌++◌, IfErr, IfOk, MatchResult, codes, length};
+ghost use Rattle.mot_files.specs.Opened.{BeginsTo, named};
 ghost use Rattle.mot_files.specs.Types.{IsTyped, IsUntyped};
 
 use crate::beside::is_same;
 use crate::fault::{Cause, TypesFault, Unbegun};
+use crate::station::Station;
 use mot_numbers::Refusal;
 use mot_suffixes::{FileTypes, RefusedLine};
 use std::alloc::{AllocError, Global};
@@ -16,9 +18,17 @@ const MOST: u64 = 65_536;
 
 /// The known suffixes, and those that the file at the path adds, if one is given: `ReadFault` if it
 /// can't be read or has more than 65,536 bytes, and the refusals of its lines.
-pub fn file_types(rt: &HostRuntime, alloc: Global, path: Option<&str>) -> Result<FileTypes, Unbegun>
+pub fn file_types(
+    station: &mut Station<'_>,
+    alloc: Global,
+    path: Option<&str>,
+) -> Result<FileTypes, Unbegun>
     ensures typed { IfOk result (IsTyped path.entry) }
     ensures refused { IfErr result (λ unbegun. IsUntyped path.entry unbegun.refusal) }
+    ensures opens { MatchResult result
+        (λ _. station.new.opened.all ≡ station.old.opened.all ++ named (codes "types") path.entry)
+        (λ _. BeginsTo (named (codes "types") path.entry)
+        station.old.opened.all station.new.opened.all) }
 {
     let mut types = match FileTypes::new(alloc) {
         Ok(types) => types,
@@ -27,7 +37,7 @@ pub fn file_types(rt: &HostRuntime, alloc: Global, path: Option<&str>) -> Result
     let Some(path) = path else {
         return Ok(types);
     };
-    let text = match read_text(rt, alloc, path) {
+    let text = match station.types(alloc, path) {
         Ok(text) => text,
         Err(fault) => return Err(Unbegun::unread(Cause::Types(fault))),
     };
@@ -51,7 +61,7 @@ fn wrong(at: RefusedLine) -> Unbegun
 }
 
 /// The bytes of the file.
-fn read_text(rt: &HostRuntime, alloc: Global, path: &str) -> Result<Vec<u8>, TypesFault>
+pub(crate) fn read_text(rt: &HostRuntime, alloc: Global, path: &str) -> Result<Vec<u8>, TypesFault>
     ensures { IfOk result (λ text. length text.items ≤ 65536) }
 {
     let file = open_regular(rt, path)?;

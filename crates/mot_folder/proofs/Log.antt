@@ -1,11 +1,22 @@
 -- What is told of a look, one thing after the other.
-use Rattle.std.proofs.Common.{◌≡◌, ◌∙◌, ◌++◌, ℕ, List, [], ◌∷◌, ap, append-nil, codes, refl, subst}
-use Rattle.std.proofs.Common.{sym}
+use Rattle.std.proofs.Common.{◌≡◌, ◌∙◌, ◌++◌, ℕ, List, [], ◌∷◌, None, ap, append-nil, codes, map}
+use Rattle.std.proofs.Common.{refl, subst, sym}
+use Rattle.std.specs.Prelude.{filter}
+use Rattle.std.proofs.lemmas.List.{map-append}
 use Rattle.std.proofs.lemmas.List.Elements.{filter-append}
 use Rattle.mot_folder.specs.Log.{LogEntry, ReportTells, TellsAnswers, TellsOne, entry_with}
-use Rattle.mot_folder.specs.Log.{is_of_look, of_look}
+use Rattle.mot_folder.specs.Log.{is_of_look, of_look, with_reason}
 use Rattle.mot_folder.specs.declared.report.Report.{Report}
 use Rattle.mot_update.specs.Told.{TellsMore}
+
+-- of more entries those that are told of the look
+pub look-more : (entries more : List LogEntry)
+    → of_look (entries ++ more) ≡ of_look entries ++ of_look more
+look-more entries more =
+    ap (λ (l : List LogEntry). map (λ (e : LogEntry). with_reason e None) l)
+    (filter-append is_of_look entries more)
+    ∙ map-append (λ (e : LogEntry). with_reason e None) (filter is_of_look entries)
+    (filter is_of_look more)
 
 -- a look that begins tells nothing
 pub tells_none : (report : Report) → ReportTells report [] → TellsAnswers report []
@@ -22,7 +33,7 @@ tells_beside old new last none one = λ answers told.
     subst (TellsAnswers new) (sym (append-nil answers)) (record {
       entries = told.entries ++ last ∷ [];
       told = one told.entries told.told;
-      are = filter-append is_of_look told.entries (last ∷ [])
+      are = look-more told.entries (last ∷ [])
           ∙ ap (λ l. of_look told.entries ++ l) none
           ∙ append-nil (of_look told.entries) ∙ told.are;
     })

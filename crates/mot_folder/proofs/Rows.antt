@@ -6,9 +6,10 @@ use Rattle.std.specs.Str.{chars, is_utf8}
 use lib.Utf8.{encode}
 use Rattle.mot_folder.specs.Listed.{and_in_order, names_in, object_names, with_type}
 use Rattle.mot_folder.specs.Log.{entry, entry_with, kept_entry, log_entry_of, log_line}
-use Rattle.mot_folder.specs.Log.{of_look}
+use Rattle.mot_folder.specs.Log.{of_look, with_reason}
 use Rattle.mot_folder.specs.Looked.{is_due, is_kept, left_behind, packets_left}
 use Rattle.mot_folder.specs.declared.listing.TheConstants.{MAX_NAMES}
+use Rattle.mot_folder.specs.declared.looking.TheConstants.{PACKETS, SOON}
 use Rattle.mot_numbers.specs.declared.refusal.Refusal.TheVariants.{EmptyBody, NoRoom}
 use Rattle.mot_numbers.specs.declared.refusal.Refusal.TheVariants.{ReadFault}
 use Rattle.mot_server.specs.declared.running.Attempt.TheVariants.{Accepted, Refused}
@@ -32,6 +33,30 @@ refused_line : log_line (log_entry_of (Replaced (codes "a") (Refused NoRoom)))
 unfolding digits
 refused_line = refl
 
+-- a reason stands in front of the end, and has none; behind a command that was done none stands
+reason_of_line : log_line
+    (with_reason (log_entry_of (Put (codes "a") (Refused NoRoom))) (Some (codes "20 bytes")))
+    ≡ codes "put a refused 12 NoRoom: 20 bytes\n"
+unfolding digits
+reason_of_line = refl
+
+unlisted_for_line : log_line
+    (with_reason (entry (codes "look") (codes "d") (Refused ReadFault)) (Some (codes "a\nb")))
+    ≡ codes "look d refused 22 ReadFault: a?b\n"
+unfolding digits
+unlisted_for_line = refl
+
+no_reason_behind_done : log_line (with_reason (log_entry_of
+    (Withdrew (codes "a") (Accepted (record { object = None; directory = 4 })))) (Some (codes "b")))
+    ≡ codes "withdraw a done directory 4\n"
+unfolding digits
+no_reason_behind_done = refl
+
+-- what is told of the look is the same with a reason and without
+reason_beside : of_look (with_reason (log_entry_of (Put (codes "a") (Refused NoRoom)))
+    (Some (codes "20 bytes")) ∷ []) ≡ log_entry_of (Put (codes "a") (Refused NoRoom)) ∷ []
+reason_beside = refl
+
 unread_line : log_line (entry (codes "read") (codes "b.xml") (Refused EmptyBody))
     ≡ codes "read b.xml refused 6 EmptyBody\n"
 unfolding digits
@@ -45,6 +70,11 @@ line_ends_in_a_name : log_line (entry (codes "read") (codes "a\nb\tc") (Refused 
     ≡ codes "read a?b?c refused 6 EmptyBody\n"
 unfolding digits
 line_ends_in_a_name = refl
+
+-- U+0085 in a name
+control_in_a_name : log_line (kept_entry (codes "d" ++ 194 ∷ 133 ∷ []))
+    ≡ codes "look d? empty, kept\n"
+control_in_a_name = refl
 
 unlisted_line : log_line (entry (codes "look") (codes "d") (Refused ReadFault))
     ≡ codes "look d refused 22 ReadFault\n"
@@ -98,6 +128,13 @@ soon = refl
 
 soon_enough : packets_left true 50 ≡ 50
 soon_enough = refl
+
+-- how many packets come before a look, and before one that may take what was left
+packets_between : PACKETS ≡ 1000
+packets_between = refl
+
+packets_before_soon : SOON ≡ 100
+packets_before_soon = refl
 
 early_not_counted : left_behind true false 7 ≡ 7
 early_not_counted = refl

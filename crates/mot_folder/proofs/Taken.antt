@@ -11,9 +11,10 @@ use Rattle.mot_folder.specs.Inner.Reading.{Misses, Takes, TellsFile, TellsLook, 
 use Rattle.mot_folder.specs.Inner.Reading.{heading}
 use Rattle.mot_folder.specs.Inner.Reading.Misses.{was_refused, was_unread}
 use Rattle.mot_folder.specs.Listed.{IsListing}
+use Rattle.mot_folder.proofs.Log.{look-more}
 use Rattle.mot_folder.specs.Log.{LogEntry, TellsAnswers, TellsOf, TellsOne}
-use Rattle.mot_folder.specs.Log.{entry_with, is_of_look, is_read, log_entry_of, names_read}
-use Rattle.mot_folder.specs.Log.{of_look}
+use Rattle.mot_folder.specs.Log.{entry_with, is_read, log_entry_of, names_read, of_look}
+use Rattle.mot_folder.specs.Log.{with_reason}
 use Rattle.mot_folder.specs.Taken.{AreTaken}
 use Rattle.mot_folder.specs.Taken.AreTaken.{no_file, one_refused, one_unread, one_wanted}
 use Rattle.mot_folder.specs.declared.report.Report.{Report}
@@ -57,16 +58,15 @@ module _ (types : List SuffixType) where
 
   -- an answer to a command is told
   told_one : (g : Given) (old new : Report) (names : List (List ℕ)) (answer : Answer)
-      → names_read (log_entry_of answer ∷ []) ≡ [] → of_look (log_entry_of answer ∷ [])
-      ≡ log_entry_of answer ∷ [] → TellsOne old new (log_entry_of answer)
+      (last : LogEntry) → names_read (last ∷ []) ≡ []
+      → of_look (last ∷ []) ≡ log_entry_of answer ∷ [] → TellsOne old new last
       → TellsBoth (TellsOf types g old names) (TellsOf types g new names) (answer ∷ []) []
-  told_one g old new names answer none_read is one = λ given answers was.
-      let last = log_entry_of answer in
+  told_one g old new names answer last none_read is one = λ given answers was.
       subst (λ (l : List Wanted). TellsOf types g new names (answers ++ answer ∷ []) l)
       (sym (append-nil given)) (record {
         entries = was.entries ++ last ∷ [];
         told = one was.entries was.told;
-        are = filter-append is_of_look was.entries (last ∷ [])
+        are = look-more was.entries (last ∷ [])
             ∙ ap (λ l. l ++ of_look (last ∷ [])) was.are
             ∙ ap (λ l. map log_entry_of answers ++ l) is
             ∙ sym (map-append log_entry_of answers (answer ∷ []));
@@ -79,14 +79,14 @@ module _ (types : List SuffixType) where
       })
 
   pub of_answer : (g : Given) (old new : Report) (names : List (List ℕ)) (answer : Answer)
-      → TellsOne old new (log_entry_of answer)
+      (why : Option (List ℕ)) → TellsOne old new (with_reason (log_entry_of answer) why)
       → TellsBoth (TellsOf types g old names) (TellsOf types g new names) (answer ∷ []) []
-  of_answer g old new names (Withdrew name came) one =
-      told_one g old new names (Withdrew name came) refl refl one
-  of_answer g old new names (Put name came) one =
-      told_one g old new names (Put name came) refl refl one
-  of_answer g old new names (Replaced name came) one =
-      told_one g old new names (Replaced name came) refl refl one
+  of_answer g old new names (Withdrew name came) why one =
+      told_one g old new names (Withdrew name came) _ refl refl one
+  of_answer g old new names (Put name came) why one =
+      told_one g old new names (Put name came) _ refl refl one
+  of_answer g old new names (Replaced name came) why one =
+      told_one g old new names (Replaced name came) _ refl refl one
 
   -- a file of this name is gone over that is not taken
   more_missed : (old new : Given) (names missed : List (List ℕ)) (given : List Wanted)
@@ -126,7 +126,7 @@ module _ (types : List SuffixType) where
       (sym (append-nil answers)) (record {
         entries = was.entries ++ last ∷ [];
         told = one.1 was.entries was.told;
-        are = filter-append is_of_look was.entries (last ∷ [])
+        are = look-more was.entries (last ∷ [])
             ∙ append-nil (of_look was.entries) ∙ was.are;
         before = was.before;
         missed = was.missed ++ name ∷ [];
@@ -163,7 +163,7 @@ module _ (types : List SuffixType) where
       record {
         entries = was.entries ++ last ∷ [];
         told = one was.entries was.told;
-        are = filter-append is_of_look was.entries (last ∷ [])
+        are = look-more was.entries (last ∷ [])
             ∙ append-nil (of_look was.entries) ∙ was.are;
         before = was.before;
         missed = was.missed;
@@ -371,3 +371,13 @@ look_is types others path other g names place report answers wanted was =
     (subst (λ (a : List Answer). IsLook others other g names place report a wanted) (sym told)
     (subst (λ (w : List Wanted). IsLook others other g names place report was.answers w)
     (sym front.1) (record { listing = was.listing; tells = was.tells }))))
+
+-- and it is of the same path
+pub same_path : (types others : List SuffixType) (path other : List ℕ) (g : Given)
+    (names : List (List ℕ)) (place : ℕ) (report : Report) (answers : List Answer)
+    (gave : List Wanted)
+    → TellsLook others other g names place report (heading path types ∷ answers) gave
+    → other ≡ path
+same_path types others path other g names place report answers gave was =
+    let head : heading path types ≡ heading other others = cc (was.headed) in
+    sym (head_path path other types others head)

@@ -1,6 +1,7 @@
 -- The log of a look at a folder: a line for each command, and each file that was not taken.
-use Rattle.std.specs.Prelude.{◌≡◌, ◌==◌, ◌||◌, ℕ, nat_lt, Bool, false, not, if◌then◌else◌, bytes_eq}
-use Rattle.std.specs.Prelude.{List, [], ◌∷◌, ◌++◌, map, filter, codes}
+use Rattle.std.specs.Prelude.{◌≡◌, ◌-◌, ◌||◌, ℕ, Bool, false, not, if◌then◌else◌, bytes_eq}
+use Rattle.std.specs.Prelude.{List, [], ◌∷◌, ◌++◌, map, filter, codes, length, take}
+use Rattle.std.specs.Prelude.{Option, Some, None}
 use Rattle.std.specs.List.{flat_map}
 use Rattle.mot_folder.specs.declared.report.Report.{Report}
 use Rattle.mot_folder.specs.Taken.{AreTaken}
@@ -8,18 +9,25 @@ use Rattle.mot_lines.specs.Text.{done_line, refusal_line}
 use Rattle.mot_server.specs.declared.running.Attempt.{Attempt}
 use Rattle.mot_server.specs.declared.running.Attempt.TheVariants.{Accepted, Refused}
 use Rattle.mot_shelf.specs.Given.{Given}
+use Rattle.mot_suffixes.specs.Shown.{shown}
 use Rattle.mot_suffixes.specs.Types.{SuffixType}
 use Rattle.mot_update.specs.Told.{Answer, Put, Replaced, Withdrew}
 use Rattle.mot_update.specs.declared.wanted.Wanted.{Wanted}
 
--- one thing that is told: what was done to which name, and the rest of its line, with the end
+-- one thing that is told: what was done to which name, the rest of its line, with the end, and the
+-- reason of a refusal, where it is told
 pub record LogEntry : Type 0 where
   pub what : List ℕ
   pub name : List ℕ
   pub rest : List ℕ
+  pub why : Option (List ℕ)
+
+-- the same with a reason, or without
+abbrev pub with_reason : LogEntry → Option (List ℕ) → LogEntry
+with_reason e why = record { what = e.what; name = e.name; rest = e.rest; why = why }
 
 abbrev pub entry_with : List ℕ → List ℕ → List ℕ → LogEntry
-entry_with what name rest = record { what = what; name = name; rest = rest }
+entry_with what name rest = record { what = what; name = name; rest = rest; why = None }
 
 abbrev pub reply_line : Attempt → List ℕ
 reply_line (Accepted done) = done_line done
@@ -33,14 +41,22 @@ entry what name came = entry_with what name (reply_line came)
 abbrev pub kept_entry : List ℕ → LogEntry
 kept_entry path = entry_with (codes "look") path (codes "empty, kept\n")
 
--- a byte of a name as it is told: one below 0x20, and 0x7F, as `?`, so that none ends the line
-abbrev pub told_byte : ℕ → ℕ
-told_byte byte = if nat_lt byte 32 || byte == 127 then 63 else byte
+-- what follows a name tells of a refusal
+abbrev pub is_refusal : List ℕ → Bool
+is_refusal rest = bytes_eq (take 8 rest) (codes "refused ")
+
+-- the rest of a line, with a reason in front of its end: only a refusal has one, and as a name is
+-- shown, none of its bytes is an end
+abbrev pub reasoned : List ℕ → Option (List ℕ) → List ℕ
+reasoned rest None = rest
+reasoned rest (Some why) =
+    if is_refusal rest then take (length rest - 1) rest ++ codes ": " ++ shown why ++ codes "\n"
+    else rest
 
 -- its line, with the end
 abbrev pub log_line : LogEntry → List ℕ
 log_line e =
-    e.what ++ codes " " ++ map told_byte e.name ++ codes " " ++ e.rest
+    e.what ++ codes " " ++ shown e.name ++ codes " " ++ reasoned e.rest e.why
 
 -- what is told of a command
 abbrev pub log_entry_of : Answer → LogEntry
@@ -60,8 +76,9 @@ is_note e = bytes_eq e.what (codes "note") || bytes_eq e.what (codes "skip")
 abbrev pub is_of_look : LogEntry → Bool
 is_of_look e = not (is_read e || is_note e)
 
+-- these of them, whatever the reasons of refusals
 abbrev pub of_look : List LogEntry → List LogEntry
-of_look entries = filter is_of_look entries
+of_look entries = map (λ (e : LogEntry). with_reason e None) (filter is_of_look entries)
 
 -- the report tells these, in order, each in a line of its own, where there was memory for all lines
 abbrev pub ReportTells : Report → List LogEntry → Type 0

@@ -1,21 +1,32 @@
 -- What a look at a folder does, and its log.
 use Rattle.std.specs.Prelude.{ℕ, ◌≡◌, ◌⊎◌, ◌&&◌, ◌||◌, ◌-◌, nat_eq, nat_le, nat_lt, Bool, true, false}
-use Rattle.std.specs.Prelude.{not, if◌then◌else◌, List, [], ◌∷◌, length, Option, None, Some, codes}
+use Rattle.std.specs.Prelude.{not, if◌then◌else◌, List, [], ◌∷◌, ◌++◌, length, map, Option, None}
+use Rattle.std.specs.Prelude.{Some, codes}
 use Rattle.disk_model.specs.Disk.{State}
 use Rattle.mot_folder.specs.Listed.{IsListing}
-use Rattle.mot_folder.specs.Log.{LogEntry, ReportTells, TellsOf, entry, kept_entry, of_look}
+use Rattle.mot_folder.specs.Log.{LogEntry, ReportTells, entry, kept_entry, log_entry_of}
+use Rattle.mot_folder.specs.Log.{names_read, of_look}
+use Rattle.mot_folder.specs.Taken.{AreTaken}
 use Rattle.mot_folder.specs.declared.looking.TheConstants.{SOON}
 use Rattle.mot_folder.specs.declared.report.Report.{Report}
 use Rattle.mot_journal.specs.Image.{Standing}
 use Rattle.mot_numbers.specs.declared.refusal.Refusal.{Refusal}
 use Rattle.mot_numbers.specs.declared.refusal.Refusal.TheVariants.{OutOfMemory, ReadFault}
 use Rattle.mot_numbers.specs.declared.refusal.Refusal.TheVariants.{TooManyObjects}
+use Rattle.mot_objects.specs.Carousel.{Carousel}
+use Rattle.mot_objects.specs.declared.command.Command.{Command}
 use Rattle.mot_server.specs.Server.{ServerView}
 use Rattle.mot_server.specs.declared.running.Attempt.TheVariants.{Refused}
 use Rattle.mot_shelf.specs.Given.{Given}
 use Rattle.mot_suffixes.specs.Types.{AreShown, SuffixType}
+use Rattle.mot_update.specs.Between.{may_look}
 use Rattle.mot_update.specs.HasRun.{HasRun}
-use Rattle.mot_update.specs.Looking.{HasLooked}
+use Rattle.mot_update.specs.Laws.{IsUpdate, names_of}
+use Rattle.mot_update.specs.Looking.{AreAccepted}
+use Rattle.mot_update.specs.Told.{Answer, AreAnswers}
+use Rattle.mot_update.specs.Updating.{updating}
+use Rattle.mot_update.specs.declared.moment.Moment.{Moment}
+use Rattle.mot_update.specs.declared.wanted.Wanted.{Wanted}
 
 -- why a folder is not listed
 abbrev pub IsUnlisted : Refusal → Type 0
@@ -27,33 +38,62 @@ IsUnlisted refusal =
 abbrev pub is_kept : (allows : Bool) → (names : List (List ℕ)) → (objects : ℕ) → Bool
 is_kept allows names objects = not allows && (nat_eq (length names) 0 && nat_lt 0 objects)
 
--- The folder of this path was not listed, no command was run, and this is told; or it was listed
--- and had no object, the carousel stayed as it was, and that is told; or it was listed once, the
--- carousel was updated to the files of the names that it gave, with the bytes that it gave of them,
--- and what came of each command is told, in order. Beside that only files are told of that could not
--- be taken, and notes.
-pub data HasLookedAtFolder {D : Type 0} (old new : ServerView D) (start now : State)
+-- Each of these names is that of an object that was read of the folder, with the bytes that it gave,
+-- or of a file that is told as one that could not be taken; before that only files were told that
+-- have no name of an object.
+pub record EachIsTold (types : List SuffixType) (given : Given) (names : List (List ℕ))
+    (wanted : List Wanted) (entries : List LogEntry) : Type 0 where
+  pub before : List (List ℕ)
+  pub missed : List (List ℕ)
+  pub read : names_read entries ≡ before ++ missed
+  pub taken : AreTaken types names given.read given.missed wanted missed
+
+-- A look at the folder of this path, by this table of suffixes, which gave this: it saw these names
+-- of objects and took these objects, and of the carousel that it found it ran these commands, up to
+-- a fault. This is told of it; where it is fine nothing was refused.
+pub data IsLook (types : List SuffixType) (allows : Bool) (path : List ℕ) (given : Given)
+    (c : Carousel) (commands : List Command) (marks : List Bool) (fault : Option Refusal)
+    (names : List (List ℕ)) (wanted : List Wanted) (fine : Bool) (entries : List LogEntry) :
+    Type 0 where
+  -- the folder was not listed, which is told, and no command was run
+  unlisted : (refusal : Refusal) → IsUnlisted refusal → fine ≡ false
+      → (fault ≡ None) ⊎ (fault ≡ Some OutOfMemory) → commands ≡ []
+      → of_look entries ≡ entry (codes "look") path (Refused refusal) ∷ []
+      → IsLook types allows path given c commands marks fault names wanted fine entries
+  -- it was listed and has no object, which is told, and no command was run
+  kept : IsListing types path given [] → is_kept allows [] (length c.objects) ≡ true
+      → fine ≡ false → (fault ≡ None) ⊎ (fault ≡ Some OutOfMemory) → commands ≡ []
+      → of_look entries ≡ kept_entry path ∷ []
+      → IsLook types allows path given c commands marks fault names wanted fine entries
+  -- It was listed once; none of the names begins with a dot. The commands are those of the update
+  -- to the objects that were taken, all of them where no fault came, and what came of each is told.
+  -- Each name that was gone over is that of such an object, or of a file that is told: all of them
+  -- where no fault came. Where it is fine there is an object of each name, and each command was
+  -- accepted.
+  listed : AreShown names → IsListing types path given names
+      → is_kept allows names (length c.objects) ≡ false → IsUpdate names wanted
+      → (others : List Command) → updating c names wanted ≡ commands ++ others
+      → (fault ≡ None → others ≡ [])
+      → (fine ≡ true → fault ≡ None → (names_of wanted ≡ names) × AreAccepted marks)
+      → (answers : List Answer) → AreAnswers answers commands marks
+      → of_look entries ≡ map log_entry_of answers
+      → (seen : List (List ℕ)) → (fault ≡ None → seen ≡ names)
+      → EachIsTold types given seen wanted entries
+      → IsLook types allows path given c commands marks fault names wanted fine entries
+
+-- a look ran its commands, and what is told of it stands in the report
+pub record HasLookedAtFolder {D : Type 0} (old new : ServerView D) (start now : State)
     (s : Standing) (types : List SuffixType) (allows : Bool) (path : List ℕ) (given : Given)
     (report : Report) (fault : Option Refusal) : Type 0 where
-  unlisted : (refusal : Refusal) → IsUnlisted refusal → report.any_refused ≡ true
-      → (fault ≡ None) ⊎ (fault ≡ Some OutOfMemory) → HasRun old new start now s [] [] fault
-      → (entries : List LogEntry) → ReportTells report entries
-      → of_look entries ≡ entry (codes "look") path (Refused refusal) ∷ []
-      → HasLookedAtFolder old new start now s types allows path given report fault
-  kept : IsListing types path given [] → is_kept allows [] (length s.carousel.objects) ≡ true
-      → report.any_refused ≡ true → (fault ≡ None) ⊎ (fault ≡ Some OutOfMemory)
-      → HasRun old new start now s [] [] fault
-      → (entries : List LogEntry) → ReportTells report entries
-      → of_look entries ≡ kept_entry path ∷ []
-      → HasLookedAtFolder old new start now s types allows path given report fault
-  -- each name that was gone over is that of an object that was given, or of a file that is told:
-  -- all of them where no fault came; none has a dot first
-  listed : (names : List (List ℕ)) → AreShown names → IsListing types path given names
-      → is_kept allows names (length s.carousel.objects) ≡ false
-      → (looked : HasLooked old new start now s names 0 None None (not report.any_refused) fault)
-      → (seen : List (List ℕ)) → (fault ≡ None → seen ≡ names)
-      → TellsOf types given report seen looked.runs.answers looked.wanted
-      → HasLookedAtFolder old new start now s types allows path given report fault
+  pub commands : List Command
+  pub marks : List Bool
+  pub run : HasRun old new start now s commands marks fault
+  pub names : List (List ℕ)
+  pub wanted : List Wanted
+  pub entries : List LogEntry
+  pub look : IsLook types allows path given s.carousel commands marks fault names wanted
+      (not report.any_refused) entries
+  pub told : ReportTells report entries
 
 -- whether a look is due: where one may come, and this packet was the last that was to come before
 -- it
@@ -68,3 +108,40 @@ packets_left any_left every = if any_left && nat_le SOON every then SOON else ev
 -- counts; or, where looks come within turns, each in front of which one may come
 abbrev pub left_behind : (within may_look : Bool) → ℕ → ℕ
 left_behind within may_look left = if may_look || not within then left - 1 else left
+
+-- What looks are of: the folder of this path, by this table of suffixes; whether all its objects may
+-- go; how many packets come between two looks; and whether looks come within turns.
+pub record Watch : Type 0 where
+  pub path : List ℕ
+  pub types : List SuffixType
+  pub allows : Bool
+  pub every : ℕ
+  pub within : Bool
+
+abbrev pub watch : List ℕ → List SuffixType → (allows : Bool) → (every : ℕ) → (within : Bool)
+    → Watch
+watch path types allows every within =
+    record { path = path; types = types; allows = allows; every = every; within = within }
+
+-- What is told of a call before which so many packets were to come, and behind which so many are:
+-- no look was due there, and nothing was done; or there was this look, which gave this and is the
+-- last of all so far.
+pub data TellsLooks (w : Watch) (moment : Moment) (left then_left : ℕ)
+    (earlier later : List Given) (c : Carousel) (commands : List Command) (marks : List Bool)
+    (fault : Option Refusal) : Type 0 where
+  no_look : is_due left (may_look moment) ≡ false
+      → then_left ≡ left_behind w.within (may_look moment) left → later ≡ earlier
+      → commands ≡ []
+      → TellsLooks w moment left then_left earlier later c commands marks fault
+  one_look : is_due left (may_look moment) ≡ true
+      → (any_left : Bool) → then_left ≡ packets_left any_left w.every
+      → (given : Given) → later ≡ earlier ++ given ∷ []
+      → (names : List (List ℕ)) (wanted : List Wanted) (fine : Bool) (entries : List LogEntry)
+      → IsLook w.types w.allows w.path given c commands marks fault names wanted fine entries
+      → TellsLooks w moment left then_left earlier later c commands marks fault
+
+-- looks that go on, of the same folder
+abbrev pub TellsWatch : (old new : Watch) → Moment → (left then_left : ℕ)
+    → (earlier later : List Given) → Carousel → List Command → List Bool → Option Refusal → Type 0
+TellsWatch old new moment left then_left earlier later c commands marks fault =
+    (new ≡ old) × TellsLooks old moment left then_left earlier later c commands marks fault

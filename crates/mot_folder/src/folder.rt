@@ -37,6 +37,8 @@ pub struct Folder<'a, S: Shelf + Drop> {
     pub(crate) names: FileNames,
     /// How many of them were gone over.
     pub(crate) place: usize,
+    /// How many bytes the file had that was read last.
+    length: u32,
     /// The lines of the last look.
     pub report: Report,
 }
@@ -54,6 +56,7 @@ impl<'a, S: Shelf + Drop> Folder<'a, S> {
             allows_empty,
             names: FileNames::new(alloc),
             place: 0,
+            length: 0,
             report: Report::new(alloc),
         }
     }
@@ -82,7 +85,10 @@ impl<'a, S: Shelf + Drop> Source for Folder<'a, S> {
             let names = &self.names;
             let name = &names.names[place];
             match read(&mut self.shelf, alloc, self.types, name) {
-                Ok(wanted) => return Some(wanted),
+                Ok(wanted) => {
+                    self.length = wanted.body.length().get();
+                    return Some(wanted);
+                }
                 Err(untaken) => tell_untaken(&mut self.report, name.as_bytes(), untaken),
             }
         }
@@ -94,7 +100,13 @@ impl<'a, S: Shelf + Drop> Source for Folder<'a, S> {
     }
 
     fn settled(&mut self, settled: Settled) {
-        tell_settled(&mut self.report, &self.names, self.place, settled);
+        tell_settled(
+            &mut self.report,
+            &self.names,
+            self.place,
+            self.length,
+            settled,
+        );
     }
 }
 
@@ -164,8 +176,8 @@ fn name_at(names: &FileNames, place: usize) -> &[u8]
     }
 }
 
-/// Tells what became of the object of the name before this place.
-fn tell_settled(report: &mut Report, names: &FileNames, place: usize, settled: Settled)
+/// Tells what became of the object of the name before this place, of so many bytes.
+fn tell_settled(report: &mut Report, names: &FileNames, place: usize, length: u32, settled: Settled)
     ensures fine { report.new.any_refused ≡ false
         → (report.old.any_refused ≡ false) × (was_settled settled ≡ true) }
     ensures told { (types : List SuffixType) (given : Given) (names_before : List (List ℕ))
@@ -176,8 +188,8 @@ fn tell_settled(report: &mut Report, names: &FileNames, place: usize, settled: S
     let name = name_at(names, place.saturating_sub(1));
     match settled {
         Settled::Right => {}
-        Settled::Put(attempt) => report.answered("put", name, attempt),
-        Settled::Replaced(attempt) => report.answered("replace", name, attempt),
+        Settled::Put(attempt) => report.stored("put", name, attempt, length),
+        Settled::Replaced(attempt) => report.stored("replace", name, attempt, length),
     }
 }
 

@@ -2,20 +2,23 @@
 ghost use Rattle.std.specs.List.{insert};
 ghost use Rattle.std.specs.Prelude.{◌≡◌, ◌↔◌, ◌<◌, ◌≤◌, ◌∷◌, [], true, false, length};
 ghost use Rattle.std.specs.Prelude.{if◌then◌else◌, IfErr, IfOk, IfNone, IfSome, IsOk, IsTrue};
-ghost use Rattle.std.specs.Prelude.{OnErr, OnOk};
+ghost use Rattle.std.specs.Prelude.{List, OnErr, OnOk, Option, codes, ℕ};
 ghost use Rattle.mot_folder.specs.Inner.Listing.{GivesAll, GoesOn, IsUnread, WereAsked};
 ghost use Rattle.mot_folder.specs.Listed.{IsListing, and_in_order, and_object, has_type};
 ghost use Rattle.mot_folder.specs.Listed.{names_in};
-ghost use Rattle.mot_folder.specs.Log.{TellsAnswers};
+ghost use Rattle.mot_folder.specs.Log.{TellsAnswers, TellsOne, entry, with_reason};
 ghost use Rattle.mot_folder.specs.Looked.{IsUnlisted};
+ghost use Rattle.mot_numbers.specs.declared.refusal.Refusal.TheVariants.{OutOfMemory};
 ghost use Rattle.mot_numbers.specs.declared.refusal.Refusal.TheVariants.{TooManyObjects};
 ghost use Rattle.mot_objects.specs.Carousel.{are_names_distinct};
+ghost use Rattle.mot_server.specs.declared.running.Attempt.TheVariants.{Refused};
 ghost use Rattle.mot_shelf.specs.Given.{nothing};
 ghost use Rattle.mot_suffixes.specs.Types.{AreShown, is_hidden};
 ghost use Rattle.mot_update.specs.Told.{TellsMore};
 ghost use Rattle.mot_update.specs.Updating.{is_known};
 
-use crate::report::Report;
+use crate::report::{Reason, Report};
+use disk_store::OpenFault;
 use memchr::memchr;
 use mot_lines::TextLine;
 use mot_numbers::Refusal;
@@ -30,6 +33,49 @@ const ROOM: usize = 16_384;
 
 /// How many names with one of the suffixes a folder may have, so that no look takes long.
 const MAX_NAMES: u32 = 1_000;
+
+/// Why a folder is not listed.
+#[derive(Clone, Copy)]
+pub(crate) struct Unlisted {
+    /// The refusal.
+    pub(crate) refusal: Refusal,
+    /// What the system says, if it refused a call.
+    error: Option<io::Error>,
+}
+
+impl Unlisted {
+    /// The system refused a call.
+    fn by(error: io::Error) -> Unlisted
+        ensures { IsUnlisted result.refusal }
+    {
+        Unlisted {
+            refusal: read_refusal(error),
+            error: Some(error),
+        }
+    }
+}
+
+impl From<Refusal> for Unlisted {
+    ghost from_gives = { λ refusal unlisted. unlisted.refusal ≡ refusal };
+
+    fn from(refusal: Refusal) -> Unlisted {
+        Unlisted {
+            refusal,
+            error: None,
+        }
+    }
+}
+
+impl From<AllocError> for Unlisted {
+    ghost from_gives = { λ error unlisted. unlisted.refusal ≡ OutOfMemory };
+
+    fn from(_error: AllocError) -> Unlisted {
+        Unlisted {
+            refusal: Refusal::OutOfMemory,
+            error: None,
+        }
+    }
+}
 
 /// Names of files, each once.
 #[derive(Drop)]
@@ -111,7 +157,7 @@ pub(crate) fn list<S: Shelf + Drop>(
     alloc: Global,
     types: &FileTypes,
     report: &mut Report,
-) -> Result<FileNames, Refusal>
+) -> Result<FileNames, Unlisted>
     requires { S.gave shelf.old ≡ nothing }
     ensures same { S.path shelf.new ≡ S.path shelf.old }
     ensures told { TellsMore (TellsAnswers report.old) (TellsAnswers report.new) [] }
@@ -119,11 +165,11 @@ pub(crate) fn list<S: Shelf + Drop>(
         (S.gave shelf.new) names.names.items) }
     ensures unread { IsUnread nothing (S.gave shelf.new) }
     ensures shown { IfOk result (λ names. AreShown names.names.items) }
-    ensures why { IfErr result IsUnlisted }
+    ensures why { IfErr result (λ unlisted. IsUnlisted unlisted.refusal) }
 {
     let mut names = FileNames::new(alloc);
     if let Err(error) = shelf.open(alloc) {
-        return Err(read_refusal(error));
+        return Err(Unlisted::by(error));
     }
     read_names(shelf, alloc, types, &mut names, report)?;
     Ok(names)
@@ -136,24 +182,24 @@ fn read_names<S: Shelf + Drop>(
     types: &FileTypes,
     names: &mut FileNames,
     report: &mut Report,
-) -> Result<(), Refusal>
+) -> Result<(), Unlisted>
     ensures same { S.path shelf.new ≡ S.path shelf.old }
     ensures told { TellsMore (TellsAnswers report.old) (TellsAnswers report.new) [] }
     ensures gave { OnOk result (GivesAll types.now (S.gave shelf.old) (S.gave shelf.new)
         names.old.names.items names.new.names.items) }
     ensures unread { IsUnread (S.gave shelf.old) (S.gave shelf.new) }
     ensures shown { AreShown names.old.names.items → AreShown names.new.names.items }
-    ensures why { IfErr result IsUnlisted }
+    ensures why { IfErr result (λ unlisted. IsUnlisted unlisted.refusal) }
 {
     let mut room = [0; ROOM];
     for _ in 0..u64::MAX {
         match shelf.names(&mut room) {
             Ok(0) => return Ok(()),
             Ok(count) => add_all(shelf, alloc, types, &room[..count], names, report)?,
-            Err(error) => return Err(read_refusal(error)),
+            Err(error) => return Err(Unlisted::by(error)),
         }
     }
-    Err(Refusal::ReadFault)
+    Err(Unlisted::from(Refusal::ReadFault))
 }
 
 /// Adds those of the names, each ended by a zero byte, that are objects.
@@ -164,14 +210,14 @@ fn add_all<S: Shelf + Drop>(
     bytes: &[u8],
     names: &mut FileNames,
     report: &mut Report,
-) -> Result<(), Refusal>
+) -> Result<(), Unlisted>
     ensures same { S.path shelf.new ≡ S.path shelf.old }
     ensures told { TellsMore (TellsAnswers report.old) (TellsAnswers report.new) [] }
     ensures goes { OnOk result (GoesOn types.now (names_in bytes.now) (S.gave shelf.old)
         (S.gave shelf.new) names.old.names.items names.new.names.items) }
     ensures asked { WereAsked (S.gave shelf.old) (S.gave shelf.new) }
     ensures shown { AreShown names.old.names.items → AreShown names.new.names.items }
-    ensures why { IfErr result IsUnlisted }
+    ensures why { IfErr result (λ unlisted. IsUnlisted unlisted.refusal) }
 {
     let mut rest = bytes;
     while let Some((name, others)) = cut_name(rest) {
@@ -199,14 +245,14 @@ fn add_one<S: Shelf + Drop>(
     name: &[u8],
     names: &mut FileNames,
     report: &mut Report,
-) -> Result<(), Refusal>
+) -> Result<(), Unlisted>
     ensures same { S.path shelf.new ≡ S.path shelf.old }
     ensures told { TellsMore (TellsAnswers report.old) (TellsAnswers report.new) [] }
     ensures goes { OnOk result (GoesOn types.now (name.now ∷ []) (S.gave shelf.old)
         (S.gave shelf.new) names.old.names.items names.new.names.items) }
     ensures asked { WereAsked (S.gave shelf.old) (S.gave shelf.new) }
     ensures shown { AreShown names.old.names.items → AreShown names.new.names.items }
-    ensures why { IfErr result IsUnlisted }
+    ensures why { IfErr result (λ unlisted. IsUnlisted unlisted.refusal) }
 {
     if !is_object(types, name) {
         tell_skipped(shelf, alloc, name, false, report);
@@ -216,7 +262,7 @@ fn add_one<S: Shelf + Drop>(
     match shelf.is_file(alloc, name) {
         Ok(true) => add_file(alloc, name, names, report)?,
         Ok(false) => tell_skipped(shelf, alloc, name, true, report),
-        Err(error) => return Err(read_refusal(error)),
+        Err(error) => return Err(Unlisted::by(error)),
     }
     Ok(())
 }
@@ -282,6 +328,34 @@ fn name_text(name: &[u8]) -> TextLine {
     };
     let _ = writeln!(text, "refused {refusal}: {why}");
     text
+}
+
+/// Tells that the folder of this path is not listed, and why.
+pub(crate) fn tell_unlisted(report: &mut Report, path: &[u8], unlisted: Unlisted)
+    ensures any { report.new.any_refused ≡ true }
+    ensures told { (why : Option (List ℕ)) × TellsOne report.old report.new
+        (with_reason (entry (codes "look") path.now (Refused unlisted.refusal)) why) }
+{
+    match reason_of(unlisted) {
+        Some(why) => report.refused_for("look", path, unlisted.refusal, why.as_slice()),
+        None => report.refused("look", path, unlisted.refusal),
+    }
+}
+
+/// Why a folder is not listed, if more is known than the refusal.
+fn reason_of(unlisted: Unlisted) -> Option<Reason> {
+    let mut why = Reason::new();
+    match (unlisted.refusal, unlisted.error) {
+        (_, Some(error)) => {
+            let fault = OpenFault::System(error);
+            let _ = write!(why, "{fault}");
+        }
+        (Refusal::TooManyObjects, None) => {
+            let _ = write!(why, "more than {MAX_NAMES} names have a suffix");
+        }
+        _ => return None,
+    }
+    Some(why)
 }
 
 /// Why something could not be read.

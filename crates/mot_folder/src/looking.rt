@@ -1,11 +1,10 @@
 //! A look at a folder, and looks between the packets of a feed.
-ghost use Rattle.std.specs.Prelude.{◌≡◌, ◌∷◌, [], None, OnOk, true, false, ℕ, List, length};
+ghost use Rattle.std.specs.Prelude.{◌≡◌, ◌∷◌, ◌++◌, [], OnOk, true, false, ℕ, List, length};
 ghost use Rattle.disk_model.specs.Disk.{KeepsLength};
-ghost use Rattle.mot_packets.specs.Outlet.{Grows};
-ghost use Rattle.mot_update.specs.Between.{AtLooks, IsUpdating, may_change};
+ghost use Rattle.mot_update.specs.Between.{IsUpdating, may_look};
 ghost use Rattle.mot_folder.specs.Log.{TellsAnswers, TellsOf};
 ghost use Rattle.mot_folder.specs.Looked.{HasLookedAtFolder, is_due, is_kept, left_behind};
-ghost use Rattle.mot_folder.specs.Looked.{packets_left};
+ghost use Rattle.mot_folder.specs.Looked.{TellsWatch, packets_left, watch};
 ghost use Rattle.mot_journal.specs.Image.{Standing};
 ghost use Rattle.mot_repository.specs.Repository.{Holds};
 ghost use Rattle.mot_update.specs.Faults.{TellsFaults};
@@ -16,7 +15,7 @@ ghost use Rattle.mot_update.specs.declared.wanted.Wanted.{Wanted};
 ghost use Rattle.mot_server.specs.Attempts.{fault_of};
 
 use crate::folder::Folder;
-use crate::listing::{FileNames, list};
+use crate::listing::{FileNames, list, tell_unlisted};
 use crate::report::Report;
 use arrayvec::ArrayVec;
 use disk_model::Disk;
@@ -24,9 +23,9 @@ use mot_lines::cut_at_line_end;
 use mot_numbers::Refusal;
 use mot_objects::Carousel;
 use mot_server::Server;
-use mot_shelf::Shelf;
+use mot_shelf::{LookNotes, Shelf};
 use mot_suffixes::FileTypes;
-use mot_update::{Update, look};
+use mot_update::{Moment, Update, look};
 use std::alloc::Global;
 use std::io::Write;
 use std::mem::swap;
@@ -59,6 +58,10 @@ pub fn look_at_folder<S: Shelf + Drop, D: Disk>(
         (D.state server.new.disk) s folder.old.types.now folder.old.allows_empty
         (S.path folder.old.shelf) (S.gave folder.new.shelf) folder.new.report (fault_of result) }
 
+    ensures path { (s : Standing) → Holds server.old.view s (D.state server.old.disk)
+        → (D.state server.new.disk).IsHonest
+        → S.path folder.new.shelf ≡ S.path folder.old.shelf }
+
     // If it came to its end, a line was written for everything that is logged.
     ensures whole { OnOk result (folder.new.report.any_left_out ≡ false) }
 {
@@ -66,9 +69,9 @@ pub fn look_at_folder<S: Shelf + Drop, D: Disk>(
     folder.report.begin();
     match list(&mut folder.shelf, alloc, folder.types, &mut folder.report) {
         Ok(names) => folder.names = names,
-        Err(refusal) => {
+        Err(unlisted) => {
             let path = folder.shelf.shown().as_bytes();
-            folder.report.refused("look", path, refusal);
+            tell_unlisted(&mut folder.report, path, unlisted);
             return folder.report.end();
         }
     }
@@ -150,6 +153,12 @@ pub struct Looks<'a, S: Shelf + Drop, W: Write + Drop> {
     pub within: bool,
     /// How many packets come before the next look.
     pub left: u64,
+    /// How many looks there were.
+    pub count: u64,
+    /// Whether a file was refused in any of them, or the folder not listed.
+    pub any_refused: bool,
+    /// What the folder gave in each of them.
+    pub looks: LookNotes,
 }
 
 impl<'a, S: Shelf + Drop, W: Write + Drop> Looks<'a, S, W> {
@@ -159,6 +168,7 @@ impl<'a, S: Shelf + Drop, W: Write + Drop> Looks<'a, S, W> {
         ensures every { result.every ≡ PACKETS }
         ensures within { result.within ≡ false }
         ensures folder { result.folder ≡ folder.entry }
+        ensures none { result.looks.all ≡ [] }
     {
         Looks {
             folder,
@@ -167,36 +177,49 @@ impl<'a, S: Shelf + Drop, W: Write + Drop> Looks<'a, S, W> {
             every: PACKETS,
             within: false,
             left: 0,
+            count: 0,
+            any_refused: false,
+            looks: LookNotes::new(),
         }
     }
 }
 
 impl<'a, S: Shelf + Drop, W: Write + Drop> Update for Looks<'a, S, W> {
-    ghost when = { AtLooks };
+    ghost tells = { λ old new moment. TellsWatch
+        (watch (S.path old.folder.shelf) old.folder.types.now old.folder.allows_empty old.every
+        old.within)
+        (watch (S.path new.folder.shelf) new.folder.types.now new.folder.allows_empty new.every
+        new.within)
+        moment old.left new.left old.looks.all new.looks.all };
 
     fn update<D: Disk>(
         &mut self,
         server: &mut Server<D>,
         alloc: Global,
-        may_look: bool,
+        moment: Moment,
     ) -> Result<(), Refusal>
         ensures keeps { KeepsLength (D.state server.old.disk) (D.state server.new.disk) }
         ensures faults { TellsFaults server.old server.new
             (D.state server.old.disk) (D.state server.new.disk) result }
         ensures run { (s : Standing) → Holds server.old.view s (D.state server.old.disk)
             → (D.state server.new.disk).IsHonest
-            → IsUpdating server.old server.new (D.state server.old.disk)
-            (D.state server.new.disk) s (may_change AtLooks may_look) (fault_of result) }
-        ensures called { Grows None None (may_look ∷ []) }
+            → IsUpdating (TellsWatch
+            (watch (S.path self.old.folder.shelf) self.old.folder.types.now
+            self.old.folder.allows_empty self.old.every self.old.within)
+            (watch (S.path self.new.folder.shelf) self.new.folder.types.now
+            self.new.folder.allows_empty self.new.every self.new.within)
+            moment self.old.left self.new.left self.old.looks.all self.new.looks.all)
+            server.old server.new (D.state server.old.disk) (D.state server.new.disk) s
+            (fault_of result) }
 
         // It looks if a look is due, and else it only counts.
-        ensures counts { is_due self.old.left may_look ≡ false
+        ensures counts { is_due self.old.left (may_look moment) ≡ false
             → (server.new ≡ server.old)
-            × (self.new.left ≡ left_behind self.old.within may_look self.old.left) }
-        ensures looks { is_due self.old.left may_look ≡ true
-            → self.new.left ≡ packets_left self.new.folder.report.any_left self.old.every }
-        ensures pace { (self.new.every ≡ self.old.every) × (self.new.within ≡ self.old.within) }
-        ensures looked { is_due self.old.left may_look ≡ true
+            × (self.new.left ≡ left_behind self.old.within (may_look moment) self.old.left) }
+        ensures looks { is_due self.old.left (may_look moment) ≡ true
+            → (self.new.left ≡ packets_left self.new.folder.report.any_left self.old.every)
+            × (self.new.looks.all ≡ self.old.looks.all ++ S.gave self.new.folder.shelf ∷ []) }
+        ensures looked { is_due self.old.left (may_look moment) ≡ true
             → (s : Standing) → Holds server.old.view s (D.state server.old.disk)
             → (D.state server.new.disk).IsHonest
             → HasLookedAtFolder server.old server.new (D.state server.old.disk)
@@ -204,11 +227,18 @@ impl<'a, S: Shelf + Drop, W: Write + Drop> Update for Looks<'a, S, W> {
             (S.path self.old.folder.shelf) (S.gave self.new.folder.shelf) self.new.folder.report
             (fault_of result) }
     {
-        if !look_is_due(&mut self.left, self.within, may_look) {
+        if !look_is_due(&mut self.left, self.within, moment.may_look()) {
             return Ok(());
         }
         swap(&mut self.before, &mut self.folder.report.lines);
+        let (types, allows_empty) = (self.folder.types, self.folder.allows_empty);
         let result = look_at_folder(alloc, server, &mut self.folder);
+        // A look leaves them as they are. (The lines are there for the proof.)
+        self.folder.types = types;
+        self.folder.allows_empty = allows_empty;
+        self.folder.shelf.note(&mut self.looks);
+        self.count = self.count.saturating_add(1);
+        self.any_refused = self.any_refused || self.folder.report.any_refused;
         self.left = packets_left(self.folder.report.any_left, self.every);
         tell_new(
             &mut self.log,

@@ -1,16 +1,27 @@
 //! The log of a look at a folder, line by line.
-ghost use Rattle.std.specs.Prelude.{◌≡◌, ◌↔◌, ◌++◌, [], true, false, codes, map, IfErr, IsOk, OnOk};
+ghost use Rattle.std.specs.Prelude.{◌≡◌, ◌↔◌, ◌++◌, [], List, Option, Some, ℕ, true, false, codes};
+ghost use Rattle.std.specs.Prelude.{IfErr, IsOk, OnOk};
 ghost use Rattle.mot_folder.specs.Log.{ReportTells, TellsOne, entry, entry_with, kept_entry};
-ghost use Rattle.mot_folder.specs.Log.{told_byte};
+ghost use Rattle.mot_folder.specs.Log.{log_line, with_reason};
 ghost use Rattle.mot_numbers.specs.declared.refusal.Refusal.TheVariants.{OutOfMemory};
 ghost use Rattle.mot_server.specs.declared.running.Attempt.TheVariants.{Accepted, Refused};
+ghost use Rattle.mot_suffixes.specs.Shown.{shown};
 ghost use Rattle.mot_update.specs.Told.{was_accepted};
 
+use arrayvec::ArrayVec;
 use mot_lines::{done_text, refusal_text};
 use mot_numbers::Refusal;
 use mot_objects::Done;
 use mot_server::Attempt;
+use mot_suffixes::next_shown;
 use std::alloc::{AllocError, Global};
+use std::io::Write;
+
+/// Room for the reason of a refusal. More of it is left out.
+const WHY: usize = 100;
+
+/// A reason, as it is logged.
+pub(crate) type Reason = ArrayVec<u8, WHY>;
 
 /// How many names that are skipped have a line in one look: further ones have none.
 const MAX_SKIPPED: u32 = 100;
@@ -92,6 +103,34 @@ impl Report {
         }
     }
 
+    /// What became of a command that was to store so many bytes.
+    pub(crate) fn stored(&mut self, what: &str, name: &[u8], attempt: Attempt, length: u32)
+        ensures fine { self.new.any_refused ≡ false
+            → (self.old.any_refused ≡ false) × (was_accepted attempt ≡ true) }
+        ensures told { (why : Option (List ℕ)) × TellsOne self.old self.new
+            (with_reason (entry what.now name.now attempt) why) }
+    {
+        match attempt {
+            Attempt::Accepted(done) => self.done(what, name, done),
+            Attempt::Refused(refusal) => self.not_stored(what, name, refusal, length),
+        }
+    }
+
+    /// So many bytes were not stored. For want of room, the reason is how many they are.
+    fn not_stored(&mut self, what: &str, name: &[u8], refusal: Refusal, length: u32)
+        ensures any { self.new.any_refused ≡ true }
+        ensures told { (why : Option (List ℕ)) × TellsOne self.old self.new
+            (with_reason (entry what.now name.now (Refused refusal)) why) }
+    {
+        if refusal != Refusal::NoRoom {
+            self.refused(what, name, refusal);
+            return;
+        }
+        let mut why = Reason::new();
+        let _ = write!(why, "{length} bytes");
+        self.refused_for(what, name, refusal, why.as_slice());
+    }
+
     /// It was done, with these ids.
     fn done(&mut self, what: &str, name: &[u8], done: Done)
         ensures same { self.new.any_refused ≡ self.old.any_refused }
@@ -106,6 +145,33 @@ impl Report {
         ensures memory { refusal ≡ OutOfMemory → self.new.any_without_memory ≡ true }
         ensures told { TellsOne self.old self.new (entry what.now name.now (Refused refusal)) }
     {
+        self.note_refusal(refusal);
+        self.add(what, name, refusal_text(refusal).as_slice());
+    }
+
+    /// It was refused, for this reason.
+    pub(crate) fn refused_for(&mut self, what: &str, name: &[u8], refusal: Refusal, why: &[u8])
+        ensures any { self.new.any_refused ≡ true }
+        ensures memory { refusal ≡ OutOfMemory → self.new.any_without_memory ≡ true }
+        ensures told { TellsOne self.old self.new
+            (with_reason (entry what.now name.now (Refused refusal)) (Some why.now)) }
+    {
+        self.note_refusal(refusal);
+        let before = self.lines.len();
+        let Ok(()) = add_refusal(&mut self.lines, what, name, refusal, why) else {
+            self.lines.truncate(before);
+            self.any_left_out = true;
+            return;
+        };
+    }
+
+    /// Notes that something was refused so.
+    fn note_refusal(&mut self, refusal: Refusal)
+        ensures any { self.new.any_refused ≡ true }
+        ensures memory { refusal ≡ OutOfMemory → self.new.any_without_memory ≡ true }
+        ensures lines { self.new.lines ≡ self.old.lines }
+        ensures whole { self.new.any_left_out ≡ self.old.any_left_out }
+    {
         self.any_refused = true;
         if refusal == Refusal::OutOfMemory {
             self.any_without_memory = true;
@@ -113,7 +179,6 @@ impl Report {
         if refusal == Refusal::NoRoom {
             self.any_without_room = true;
         }
-        self.add(what, name, refusal_text(refusal).as_slice());
     }
 
     /// The file of this name was not taken, with the rest of its line.
@@ -191,7 +256,7 @@ impl Report {
 /// Adds a line: what was done, to which name, and the rest of the line.
 fn add_line(lines: &mut Vec<u8>, what: &str, name: &[u8], rest: &[u8]) -> Result<(), AllocError>
     ensures { OnOk result (lines.new.items ≡ lines.old.items ++ (what.now ++ codes " "
-        ++ map told_byte name.now ++ codes " " ++ rest.now)) }
+        ++ shown name.now ++ codes " " ++ rest.now)) }
 {
     lines.extend_from_slice(what.as_bytes())?;
     lines.push(b' ')?;
@@ -200,22 +265,33 @@ fn add_line(lines: &mut Vec<u8>, what: &str, name: &[u8], rest: &[u8]) -> Result
     lines.extend_from_slice(rest)
 }
 
-/// Adds a name, which a file of any name may have: none ends the line.
-fn add_name(lines: &mut Vec<u8>, name: &[u8]) -> Result<(), AllocError>
-    ensures { OnOk result (lines.new.items ≡ lines.old.items ++ map told_byte name.now) }
+/// Adds the line of a refusal, with the reason in front of its end.
+fn add_refusal(
+    lines: &mut Vec<u8>,
+    what: &str,
+    name: &[u8],
+    refusal: Refusal,
+    why: &[u8],
+) -> Result<(), AllocError>
+    ensures { OnOk result (lines.new.items ≡ lines.old.items ++ log_line
+        (with_reason (entry what.now name.now (Refused refusal)) (Some why.now))) }
 {
-    for byte in name {
-        lines.push(told(*byte))?;
-    }
-    Ok(())
+    let text = refusal_text(refusal);
+    let line = text.as_slice();
+    add_line(lines, what, name, &line[..line.len().saturating_sub(1)])?;
+    lines.extend_from_slice(b": ")?;
+    add_name(lines, why)?;
+    lines.extend_from_slice(b"\n")
 }
 
-/// A byte of a name as the log shows it.
-fn told(byte: u8) -> u8
-    ensures { result ≡ told_byte byte }
+/// Adds a name, which a file of any name may have, as a log shows it: no byte ends the line.
+fn add_name(lines: &mut Vec<u8>, name: &[u8]) -> Result<(), AllocError>
+    ensures { OnOk result (lines.new.items ≡ lines.old.items ++ shown name.now) }
 {
-    if byte < b' ' || byte == 0x7F {
-        return b'?';
+    let mut rest = name;
+    while let Some((byte, others)) = next_shown(rest) {
+        lines.push(byte)?;
+        rest = others;
     }
-    byte
+    Ok(())
 }

@@ -1,6 +1,6 @@
 //! Worked rows of the checksum and of the sizes, and the words of the refusals.
 use crate::expecting::expect;
-use mot_base::{Geometry, Refusal, TransportId, crc16};
+use mot_base::{Geometry, Refusal, crc16};
 use std::alloc::Global;
 
 // CRC-16/GENIBUS: its check word, the word of no message, and the word of one zero byte.
@@ -10,11 +10,6 @@ fn known_words(rt: HostRuntime) {
     for (message, word) in rows {
         expect(&rt, crc16(message), word);
     }
-}
-
-#[test]
-fn first_id(rt: HostRuntime) {
-    expect(&rt, TransportId::FIRST.get(), 1);
 }
 
 #[test]

@@ -129,21 +129,6 @@ fn one_object(rt: HostRuntime) {
     }
 }
 
-#[test]
-fn refusals(rt: HostRuntime) {
-    let alloc = rt.alloc();
-    let rows = [
-        (Ask::Put(b"a"), Refusal::NameTaken),
-        (Ask::Put(b"b"), Refusal::TooManyObjects),
-        (Ask::Replace(b"b"), Refusal::NoSuchName),
-        (Ask::Withdraw(b"b"), Refusal::NoSuchName),
-    ];
-    for (ask, refusal) in rows {
-        let found = seen_behind(alloc, Carousel::new(alloc), &[Ask::Put(b"a"), ask]);
-        expect(&rt, found, Err(refusal));
-    }
-}
-
 // The new carousel with its cursor at 65,534.
 fn late(alloc: Global) -> Carousel {
     let cursor = TransportId::new(65_534).unwrap();
@@ -160,40 +145,6 @@ fn late(alloc: Global) -> Carousel {
 fn ids_wrap(rt: HostRuntime) {
     let found = seen_behind(rt.alloc(), late(rt.alloc()), &[Ask::Put(b"a")]);
     expect(&rt, found, Ok((2, 2, 0, (65_535, 0, 1))));
-}
-
-// The carousel of 250 objects, each named by its number in letters.
-fn full(alloc: Global) -> Result<Carousel, Refusal> {
-    let mut carousel = Carousel::new(alloc);
-    for number in 0..250u8 {
-        let name = [b'a' + number / 26, b'a' + number % 26];
-        carousel = next(alloc, &carousel, 250, Ask::Put(&name))?;
-    }
-    Ok(carousel)
-}
-
-// How many objects it has behind a command, and which of them the name of the seventh has.
-fn behind_full(alloc: Global, ask: Ask) -> Result<(usize, Option<usize>), Refusal> {
-    let carousel = full(alloc)?;
-    let carousel = next(alloc, &carousel, 250, ask)?;
-    place_of_seventh(alloc, &carousel)
-}
-
-fn place_of_seventh(alloc: Global, carousel: &Carousel) -> Result<(usize, Option<usize>), Refusal> {
-    let name = name(alloc, b"ah")?;
-    Ok((carousel.objects.len(), carousel.place_of(&name)))
-}
-
-#[test]
-fn at_the_limit(rt: HostRuntime) {
-    let rows = [
-        (Ask::Put(b"another"), Err(Refusal::TooManyObjects)),
-        (Ask::Put(b"ah"), Err(Refusal::NameTaken)),
-        (Ask::Replace(b"ah"), Ok((250, Some(7)))),
-    ];
-    for (ask, wanted) in rows {
-        expect(&rt, behind_full(rt.alloc(), ask), wanted);
-    }
 }
 
 // Whether a copy of a body has the bytes of what was copied.
@@ -215,24 +166,4 @@ fn copies(rt: HostRuntime) {
     let (alloc, bytes) = (rt.alloc(), b"image/png");
     let copied = [is_body_copied(alloc, bytes), is_mime_copied(alloc, bytes)];
     expect(&rt, copied, [Ok(true); 2]);
-}
-
-fn is_name(alloc: Global, bytes: &[u8]) -> bool {
-    name(alloc, bytes).is_ok()
-}
-
-#[test]
-fn names(rt: HostRuntime) {
-    // Behind the longest name: a lone first byte, an overlong form, a surrogate.
-    let rows: [(&[u8], bool); 6] = [
-        (b"\xC3\xA9", true),
-        (&[b'a'; 255], true),
-        (&[b'a'; 256], false),
-        (b"\xC3\x28", false),
-        (b"\xC0\xAF", false),
-        (b"\xED\xA0\x80", false),
-    ];
-    for (bytes, is_one) in rows {
-        expect(&rt, is_name(rt.alloc(), bytes), is_one);
-    }
 }

@@ -15,5 +15,3 @@ mod groups;
 mod lines;
 #[cfg(test)]
 mod packets;
-#[cfg(test)]
-mod player;

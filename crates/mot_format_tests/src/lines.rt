@@ -1,9 +1,8 @@
-//! Worked rows of lines in and out.
+//! Worked rows of lines.
 use crate::expecting::expect;
-use mot_base::{GroupKind, Refusal};
-use mot_lines::{Hand, Line, MAX_LINE, parse_line};
+use mot_base::Refusal;
+use mot_lines::parse_line;
 use std::alloc::{AllocError, Global};
-use std::test::Fail;
 
 /// Why the line is refused, if it is.
 fn refusal_of(alloc: Global, line: &[u8]) -> Option<Refusal> {
@@ -25,27 +24,6 @@ fn refusal_with(alloc: Global, front: &[u8], byte: u8, count: usize) -> Option<R
         Ok(line) => refusal_of(alloc, line.as_slice()),
         Err(_) => Some(Refusal::OutOfMemory),
     }
-}
-
-/// The kind and the id of a raw line, and whether its body is this.
-fn raw_in(line: &Line, wanted: &[u8]) -> Option<(GroupKind, u16, bool)> {
-    match line {
-        Line::Raw { kind, tid, body } => Some((*kind, tid.get(), body.as_slice() == wanted)),
-        _ => None,
-    }
-}
-
-fn raw_of(alloc: Global, line: &[u8], wanted: &[u8]) -> Option<(GroupKind, u16, bool)> {
-    match parse_line(alloc, line) {
-        Ok(line) => raw_in(&line, wanted),
-        Err(_) => None,
-    }
-}
-
-#[test]
-fn parsed_raw_line(rt: HostRuntime) {
-    let raw = raw_of(rt.alloc(), b"raw 6 65535 00fF", &[0x00, 0xFF]);
-    expect(&rt, raw, Some((GroupKind::Directory, 65_535, true)));
 }
 
 // What a line is read as, a clause says; that it is not refused for want of memory, none does.
@@ -155,32 +133,4 @@ fn long_bodies(rt: HostRuntime) {
         let found = refusal_with(rt.alloc(), b"put a 2 3 - ", b'5', digits);
         expect(&rt, (digits, found), (digits, refusal));
     }
-}
-
-/// How long the text in a hand is behind a line of the greatest length and more, why it is refused
-/// as a line, and whether the hand is empty once it is cleared.
-fn filled(alloc: Global, hand: &mut Hand) -> (usize, Option<Refusal>, bool) {
-    hand.add(b"list");
-    let (length, refusal) = (hand.as_slice().len(), refusal_of(alloc, hand.as_slice()));
-    hand.clear();
-    (length, refusal, hand.is_empty())
-}
-
-#[test]
-fn line_in_hand(rt: HostRuntime) -> Result<(), Fail> {
-    let alloc = rt.alloc();
-    let longest = line_with(alloc, b"", b' ', MAX_LINE)?;
-    let mut hand = Hand::new(alloc)?;
-    let was_empty = hand.is_empty();
-    hand.add(b"li");
-    hand.add(b"st");
-    expect(
-        &rt,
-        (was_empty, hand.as_slice()),
-        (true, b"list".as_slice()),
-    );
-    hand.add(longest.as_slice());
-    let wanted = (MAX_LINE + 1, Some(Refusal::BadLine), true);
-    expect(&rt, filled(alloc, &mut hand), wanted);
-    Ok(())
 }

@@ -19,7 +19,8 @@ use Rattle.mot_journal.specs.declared.record.Action.TheVariants.{Nothing, Set, R
 use Rattle.mot_journal.specs.Geometry.{geometry_of, selected_half, has_magic, magic}
 use Rattle.mot_journal.specs.Slot.{is_open, layout_of, read_slot, slot_size, slot_count}
 use Rattle.mot_journal.specs.Slot.{bytes_of_slot, kind_base, action_kind}
-use Rattle.mot_journal.specs.Catalogue.{catalogue_of, or_damaged, result_then}
+use Rattle.mot_journal.specs.Image.{catalogue_of, or_damaged}
+use Rattle.mot_numbers.specs.Refusal.{◌>>=◌}
 use Rattle.mot_journal.specs.Image.{records_in, area_of, are_gates_clean}
 use Rattle.mot_journal.specs.Inner.Reading.{number_at}
 use Rattle.mot_journal.specs.Inner.Steps.{slot_from, IsReadable, HasSlots}
@@ -160,11 +161,11 @@ all_read : (g : Geometry) (layout : Layout) (given : List Record) (k : ℕ)
     → records_in (read_slot g layout) k (map (bytes_of_slot layout) given) ≡ Ok given
 all_read g layout [] k all = refl
 all_read g layout (r ∷ given) k all =
-    ap (λ o. result_then (or_damaged k o)
-    (λ x. result_then (records_in (read_slot g layout) (k + 1)
+    ap (λ o. ◌>>=◌ (or_damaged k o)
+    (λ x. ◌>>=◌ (records_in (read_slot g layout) (k + 1)
     (map (bytes_of_slot layout) given)) (λ l. ok (x ∷ l))))
     (all 0 (omega arith))
-    ∙ ap (λ q. result_then q (λ l. ok (r ∷ l)))
+    ∙ ap (λ q. ◌>>=◌ q (λ l. ok (r ∷ l)))
     (all_read g layout given (k + 1) (λ i lt. all (suc i) (omega (arith, lt))))
 
 zeros_shut : (n : ℕ) → 0 < n → is_open (replicate n 0) ≡ false

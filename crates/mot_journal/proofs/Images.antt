@@ -6,7 +6,7 @@ use Rattle.std.specs.Str.{is_utf8, chars}
 use lib.Utf8.{encode}
 use Rattle.mot_journal.specs.Geometry.{geometry_of}
 use Rattle.mot_journal.specs.Slot.{read_slot}
-use Rattle.mot_journal.specs.Catalogue.{fold_from}
+use Rattle.mot_journal.specs.Image.{fold_from}
 use Rattle.mot_journal.specs.Image.{Standing, records_of, stands_for, has_clean_gates}
 use Rattle.mot_numbers.specs.declared.refusal.Refusal.TheVariants.{NotFormatted, Damaged}
 use Rattle.mot_objects.specs.Carousel.{Object}

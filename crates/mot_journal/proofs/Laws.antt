@@ -8,7 +8,9 @@ use Rattle.std.proofs.lemmas.List.{ext_get_or, length-take, length-drop, get_or-
 use Rattle.std.proofs.lemmas.List.{drop-drop}
 use Rattle.disk_model.specs.Disk.{AgreeOutside}
 use Rattle.mot_journal.specs.Geometry.{columns, geometry_in, geometry_of, magic, selected_half}
-use Rattle.mot_journal.specs.Catalogue.{result_then, Placed, Catalogue, catalogue_of, body_in_area}
+use Rattle.mot_journal.specs.Image.{catalogue_of}
+use Rattle.mot_numbers.specs.Refusal.{◌>>=◌ as result_then}
+use Rattle.mot_journal.specs.Catalogue.{Placed, Catalogue, body_in_area}
 use Rattle.mot_journal.specs.Catalogue.{carousel_in, extents_of}
 use Rattle.mot_journal.specs.Image.{half_of, journal_in_half, or_not_formatted, records_of}
 use Rattle.mot_journal.specs.Image.{slots_of, has_clean_gates, are_gates_clean, DiskRecords}

@@ -9,14 +9,14 @@ use Rattle.std.proofs.lemmas.List.{length-drop, length-append, length-replicate,
 use Rattle.std.proofs.Math.Seq.{take-append_seam}
 use Rattle.disk_model.specs.Disk.{State}
 use Rattle.mot_journal.specs.Geometry.{geometry_of, selected_half}
-use Rattle.mot_journal.specs.Catalogue.{result_then}
+use Rattle.mot_numbers.specs.Refusal.{◌>>=◌}
 use Rattle.mot_journal.specs.Image.{records_of, half_of, journal_in_half}
 use Rattle.mot_journal.specs.Image.{or_not_formatted}
 use Rattle.mot_journal.specs.Inner.Loading.{IsHalfRefusal}
 use Rattle.mot_journal.specs.Inner.Loading.IsHalfRefusal.{no_memory as half_memory}
 use Rattle.mot_journal.specs.Inner.Loading.IsHalfRefusal.{damaged as half_damaged}
 use Rattle.mot_journal.specs.Journal.{IsLoadRefusal}
-use Rattle.mot_journal.specs.Journal.IsLoadRefusal.{no_memory, damaged}
+use Rattle.mot_journal.specs.Journal.IsReadingRefusal.{no_memory, damaged}
 use Rattle.mot_numbers.specs.declared.refusal.Refusal.{Refusal}
 use Rattle.mot_numbers.specs.declared.refusal.Refusal.TheVariants.{NotFormatted}
 use Rattle.mot_numbers.specs.declared.geometry.Geometry.{Geometry}
@@ -60,7 +60,7 @@ pub none_formatted : (bytes : List ℕ) → geometry_of bytes ≡ None
     → records_of bytes ≡ Err NotFormatted
 unfolding records_of
 none_formatted bytes e =
-    ap (λ o. result_then (or_not_formatted o)
+    ap (λ o. ◌>>=◌ (or_not_formatted o)
     (λ g. journal_in_half g (selected_half bytes) (half_of g bytes))) e
 
 -- the half that is selected has what the disk has
@@ -74,7 +74,7 @@ half_told bytes head half_bytes g half is told chosen read =
     let eighth : slice_index head 8 ≡ slice_index bytes 8 =
     ap (λ l. slice_index l 8) is ∙ get_or-take 64 bytes 8 0 (omega arith) in
     let same : half ≡ selected_half bytes = chosen ∙ ap (λ b. if b == 1 then 1 else 0) eighth in
-    ap (λ o. result_then (or_not_formatted o)
+    ap (λ o. ◌>>=◌ (or_not_formatted o)
     (λ (x : Geometry). journal_in_half x (selected_half bytes) (half_of x bytes))) told
     ∙ ap (λ h. journal_in_half g h (take (half_size g) (drop (half_start g h) bytes))) (sym same)
     ∙ ap (λ l. journal_in_half g half l) (sym read)

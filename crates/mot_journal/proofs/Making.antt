@@ -8,9 +8,9 @@ use Rattle.disk_model.proofs.Laws.{agree_trans, agree_more, at_end, joins, weake
 use Rattle.mot_journal.specs.declared.layout.Layout.TheVariants.{Two}
 use Rattle.mot_journal.specs.Geometry.{has_magic, magic}
 use Rattle.mot_journal.specs.Slot.{slot_count, slot_size, AreSound}
-use Rattle.mot_journal.specs.Inner.Format.{first_record, behind_magic, HasAllButMagic, IsNewDisk}
+use Rattle.mot_journal.specs.Inner.Format.{first_record, behind_magic, HasAllButMagic}
 use Rattle.mot_journal.specs.Inner.Steps.{ChangesWithin, HasSlots, Publishes, LeavesWritten}
-use Rattle.mot_journal.specs.Journal.{NoneOrFrom}
+use Rattle.mot_journal.specs.Journal.{IsNewDisk, NoneOrFrom}
 use Rattle.mot_journal.proofs.Laws.{part}
 use Rattle.mot_journal.proofs.Fill.{unchanged, one_more, slot_ends, range_whole}
 use Rattle.mot_journal.proofs.NewDisk.{is_new}
@@ -130,7 +130,7 @@ module _ (g : Geometry) (directory : ℕ) (valid : IsValid g) (filled : State)
 
   none_or_new : (c : List ℕ) → AgreeOutside 0 8 filled.bytes c → NoneOrFrom g directory c
   none_or_new c agree = elim (cases_Bool (has_magic c)) [
-    | inl named ↦ let is = new c agree named in inr (is.stands, is.clean, is.layout, is.other)
+    | inl named ↦ inr (new c agree named)
     | inr none ↦ inl none
   ]
 

@@ -11,11 +11,12 @@ use Rattle.mot_journal.specs.declared.layout.Layout.TheVariants.{Two}
 use Rattle.mot_journal.specs.Geometry.{geometry_of, has_magic}
 use Rattle.mot_journal.specs.Image.{IsSecondHalfEmpty}
 use Rattle.mot_journal.specs.Slot.{slot_count, slot_size}
-use Rattle.mot_journal.specs.Catalogue.{Catalogue, new_catalogue, catalogue_of, fold_from}
-use Rattle.mot_journal.specs.Inner.Format.{first_record, behind_magic, HasAllButMagic, IsNewDisk}
+use Rattle.mot_journal.specs.Image.{catalogue_of, fold_from}
+use Rattle.mot_journal.specs.Catalogue.{Catalogue, new_catalogue}
+use Rattle.mot_journal.specs.Inner.Format.{first_record, behind_magic, HasAllButMagic}
 use Rattle.mot_journal.specs.Inner.Reading.{number_at}
 use Rattle.mot_journal.specs.Inner.Steps.{HasSlots}
-use Rattle.mot_journal.specs.Journal.{JournalView, with_records}
+use Rattle.mot_journal.specs.Journal.{IsNewDisk, JournalView, with_records}
 use Rattle.mot_journal.proofs.Laws.{stands_by_parts}
 use Rattle.mot_journal.proofs.Halves.{filled_layout, filled_half, filled_reads}
 use Rattle.mot_journal.proofs.Heads.{geometry_if, geometry_by_places, all_three, same-geometry}

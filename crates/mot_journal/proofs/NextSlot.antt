@@ -17,7 +17,7 @@ use Rattle.mot_journal.specs.declared.record.Action.TheVariants.{Nothing, Set, R
 use Rattle.mot_journal.specs.Geometry.{geometry_of, selected_half}
 use Rattle.mot_journal.specs.Slot.{is_open, layout_of, read_slot, slot_size, slot_count}
 use Rattle.mot_journal.specs.Slot.{bytes_of_slot, kind_base, action_kind}
-use Rattle.mot_journal.specs.Catalogue.{catalogue_of}
+use Rattle.mot_journal.specs.Image.{catalogue_of}
 use Rattle.mot_journal.specs.Image.{records_in, area_of}
 use Rattle.mot_journal.specs.Journal.{JournalView}
 use Rattle.mot_journal.specs.Inner.Places.{start_of_slot}

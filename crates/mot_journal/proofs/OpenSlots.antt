@@ -10,7 +10,8 @@ use Rattle.std.proofs.Math.Seq.{drop-append_seam, drop-cons}
 use Rattle.std.proofs.lemmas.List.Sums.{take_while-cons}
 use Rattle.mot_journal.specs.declared.record.Record.{Record}
 use Rattle.mot_journal.specs.Slot.{is_open}
-use Rattle.mot_journal.specs.Catalogue.{or_damaged, result_then}
+use Rattle.mot_journal.specs.Image.{or_damaged}
+use Rattle.mot_numbers.specs.Refusal.{◌>>=◌}
 use Rattle.mot_journal.specs.Image.{records_in, are_gates_clean}
 use Rattle.mot_journal.proofs.Records.{AreOpen, StartsShut, open_then_shut}
 use Rattle.mot_numbers.specs.declared.refusal.Refusal.{Refusal}
@@ -128,7 +129,7 @@ ok records = Ok records
 length-step : (k n : ℕ) (o : Option Record) (rest : Result (List Record) Refusal)
     (records : List Record)
     → ((xs : List Record) → rest ≡ ok xs → n ≡ length xs)
-    → result_then (or_damaged k o) (λ x. result_then rest (λ l. ok (x ∷ l))) ≡ ok records
+    → ◌>>=◌ (or_damaged k o) (λ x. ◌>>=◌ rest (λ l. ok (x ∷ l))) ≡ ok records
     → suc n ≡ length records
 length-step k n None rest records more e = absurd (cc)
 length-step k n (Some x) (Err f) records more e = absurd (cc)

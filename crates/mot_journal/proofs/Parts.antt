@@ -6,7 +6,9 @@ use Rattle.mot_journal.specs.declared.layout.Layout.{Layout}
 use Rattle.mot_journal.specs.declared.record.Record.{Record}
 use Rattle.mot_journal.specs.Geometry.{geometry_of, selected_half}
 use Rattle.mot_journal.specs.Slot.{is_open, layout_of, read_slot}
-use Rattle.mot_journal.specs.Catalogue.{catalogue_of, carousel_in, extents_of, result_then}
+use Rattle.mot_journal.specs.Image.{catalogue_of}
+use Rattle.mot_numbers.specs.Refusal.{◌>>=◌}
+use Rattle.mot_journal.specs.Catalogue.{carousel_in, extents_of}
 use Rattle.mot_journal.specs.Image.{DiskRecords, Standing, records_in, slots_of, are_gates_clean}
 use Rattle.mot_journal.specs.Image.{has_clean_gates, journal_in_half, or_not_formatted, half_of}
 use Rattle.mot_journal.specs.Image.{records_of, stands_for, area_of}
@@ -60,7 +62,7 @@ Fails (Err refusal) = Unit {0}
 
 journal-parts : (g : Geometry) (half : ℕ) (layout : Layout) (r : Result (List Record) Refusal)
     (w : DiskRecords)
-    → result_then r (λ l. found g half layout l) ≡ whole w
+    → ◌>>=◌ r (λ l. found g half layout l) ≡ whole w
     → (half ≡ w.half) × (layout ≡ w.layout) × (r ≡ ok w.records)
 journal-parts g half layout (Ok l) w e =
     let is = same-of (record { geometry = g; half = half; layout = layout; records = l }) w e in (
@@ -70,7 +72,7 @@ journal-parts g half layout (Ok l) w e =
     )
 journal-parts g half layout (Err f) w e = absurd (subst Fails e tt)
 
-ok-then : {A B : Type 0} (r : Result A Refusal) (f : A → Result B Refusal) → IsOk (result_then r f)
+ok-then : {A B : Type 0} (r : Result A Refusal) (f : A → Result B Refusal) → IsOk (◌>>=◌ r f)
     → IsOk r
 ok-then (Ok x) f is = refl
 ok-then (Err e) f is = is
@@ -87,7 +89,7 @@ module _ (j : JournalView) (records : List Record) (image : List ℕ) where
   w = with_records j records
 
   abbrev tells : Option Geometry → Result DiskRecords Refusal
-  tells o = result_then (or_not_formatted o)
+  tells o = ◌>>=◌ (or_not_formatted o)
       (λ (x : Geometry). journal_in_half x (selected_half image) (half_of x image))
 
   abbrev reads : Layout → List ℕ → Result (List Record) Refusal
@@ -108,7 +110,7 @@ module _ (j : JournalView) (records : List Record) (image : List ℕ) where
       sym (ap (λ o. has_clean_gates o image) told) ∙ has.clean.gates in
       let gates : are_gates_clean (slots_of g (half_at g j.half image)) ≡ true =
       sym (ap (λ b. are_gates_clean (slots_of g b)) at) ∙ clean in
-      let stands : IsOk (result_then (catalogue_of g.objects records)
+      let stands : IsOk (◌>>=◌ (catalogue_of g.objects records)
       (λ c. let s : Result Standing Refusal =
       Ok (record {
         geometry = g;
@@ -116,8 +118,8 @@ module _ (j : JournalView) (records : List Record) (image : List ℕ) where
         extents =
             extents_of c;
       }) in s)) =
-      subst (λ r. IsOk (result_then r
-      (λ (k : DiskRecords). result_then (catalogue_of k.geometry.objects k.records)
+      subst (λ r. IsOk (◌>>=◌ r
+      (λ (k : DiskRecords). ◌>>=◌ (catalogue_of k.geometry.objects k.records)
       (λ c. let s : Result Standing Refusal =
       Ok (record {
         geometry = k.geometry;
@@ -144,9 +146,9 @@ module _ (j : JournalView) (records : List Record) (image : List ℕ) where
   read-of parts =
       ap tells parts.geometry
       ∙ ap (λ h. journal_in_half g h (half_at g h image)) parts.half
-      ∙ ap (λ y. result_then (reads y (half_at g j.half image)) (λ l. found g j.half y l))
+      ∙ ap (λ y. ◌>>=◌ (reads y (half_at g j.half image)) (λ l. found g j.half y l))
       parts.layout
-      ∙ ap (λ q. result_then q (λ l. found g j.half j.layout l)) parts.read
+      ∙ ap (λ q. ◌>>=◌ q (λ l. found g j.half j.layout l)) parts.read
 
   -- an image that has the parts has the records
   pub parts_have : HasParts j records image → HasRecords j records image

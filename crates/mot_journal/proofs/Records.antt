@@ -7,7 +7,8 @@ use Rattle.std.proofs.lemmas.List.Sums.{take_while-cons}
 use Rattle.mot_journal.specs.declared.layout.Layout.{Layout}
 use Rattle.mot_journal.specs.declared.record.Record.{Record}
 use Rattle.mot_journal.specs.Slot.{bytes_of_slot, is_open}
-use Rattle.mot_journal.specs.Catalogue.{or_damaged, result_then}
+use Rattle.mot_journal.specs.Image.{or_damaged}
+use Rattle.mot_numbers.specs.Refusal.{◌>>=◌}
 use Rattle.mot_journal.specs.Image.{records_in}
 use Rattle.mot_journal.proofs.Written.{written_is_open}
 use Rattle.mot_numbers.specs.declared.refusal.Refusal.{Refusal}
@@ -19,14 +20,14 @@ ok records = Ok records
 more-step : (k : ℕ) (o : Option Record) (rest rest' : Result (List Record) Refusal)
     (records : List Record) (r : Record)
     → ((xs : List Record) → rest ≡ ok xs → rest' ≡ ok (xs ++ r ∷ []))
-    → result_then (or_damaged k o) (λ x. result_then rest (λ l. ok (x ∷ l))) ≡ ok records
-    → result_then (or_damaged k o) (λ x. result_then rest' (λ l. ok (x ∷ l)))
+    → ◌>>=◌ (or_damaged k o) (λ x. ◌>>=◌ rest (λ l. ok (x ∷ l))) ≡ ok records
+    → ◌>>=◌ (or_damaged k o) (λ x. ◌>>=◌ rest' (λ l. ok (x ∷ l)))
     ≡ ok (records ++ r ∷ [])
 more-step k None rest rest' records r more e = cc
 more-step k (Some x) (Err f) rest' records r more e = cc
 more-step k (Some x) (Ok xs) rest' records r more e =
     let is : x ∷ xs ≡ records = cc in
-    ap (λ q. result_then q (λ l. ok (x ∷ l))) (more xs refl) ∙ ap (λ l. ok (l ++ r ∷ [])) is
+    ap (λ q. ◌>>=◌ q (λ l. ok (x ∷ l))) (more xs refl) ∙ ap (λ l. ok (l ++ r ∷ [])) is
 
 -- one slot more that reads is one record more
 pub records_more : (read : List ℕ → Option Record) (k : ℕ) (front : List (List ℕ)) (slot : List ℕ)
@@ -35,7 +36,7 @@ pub records_more : (read : List ℕ → Option Record) (k : ℕ) (front : List (
     → records_in read k (front ++ slot ∷ []) ≡ Ok (records ++ r ∷ [])
 records_more read k [] slot records r e is =
     let none : [] ≡ records = cc in
-    ap (λ o. result_then (or_damaged k o) (λ x. ok (x ∷ []))) is ∙ ap (λ l. ok (l ++ r ∷ [])) none
+    ap (λ o. ◌>>=◌ (or_damaged k o) (λ x. ok (x ∷ []))) is ∙ ap (λ l. ok (l ++ r ∷ [])) none
 records_more read k (s ∷ front) slot records r e is =
     more-step k (read s) (records_in read (k + 1) front)
     (records_in read (k + 1) (front ++ slot ∷ [])) records r
@@ -44,12 +45,12 @@ records_more read k (s ∷ front) slot records r e is =
 fault-step : (k n : ℕ) (o : Option Record) (rest rest' : Result (List Record) Refusal)
     (records : List Record)
     → ((xs : List Record) → rest ≡ ok xs → rest' ≡ Err (Damaged n))
-    → result_then (or_damaged k o) (λ x. result_then rest (λ l. ok (x ∷ l))) ≡ ok records
-    → result_then (or_damaged k o) (λ x. result_then rest' (λ l. ok (x ∷ l))) ≡ Err (Damaged n)
+    → ◌>>=◌ (or_damaged k o) (λ x. ◌>>=◌ rest (λ l. ok (x ∷ l))) ≡ ok records
+    → ◌>>=◌ (or_damaged k o) (λ x. ◌>>=◌ rest' (λ l. ok (x ∷ l))) ≡ Err (Damaged n)
 fault-step k n None rest rest' records more e = cc
 fault-step k n (Some x) (Err f) rest' records more e = cc
 fault-step k n (Some x) (Ok xs) rest' records more e =
-    ap (λ q. result_then q (λ l. ok (x ∷ l))) (more xs refl)
+    ap (λ q. ◌>>=◌ q (λ l. ok (x ∷ l))) (more xs refl)
 
 -- the first slot with a fault is named
 pub records_fault : (read : List ℕ → Option Record) (k : ℕ) (front : List (List ℕ)) (slot : List ℕ)
@@ -58,8 +59,8 @@ pub records_fault : (read : List ℕ → Option Record) (k : ℕ) (front : List 
     → records_in read k (front ++ slot ∷ back) ≡ Err (Damaged (k + length front))
 records_fault read k [] slot back records e is =
     let here : k ≡ k + 0 = omega arith in
-    ap (λ o. result_then (or_damaged k o)
-    (λ x. result_then (records_in read (k + 1) back) (λ l. ok (x ∷ l)))) is
+    ap (λ o. ◌>>=◌ (or_damaged k o)
+    (λ x. ◌>>=◌ (records_in read (k + 1) back) (λ l. ok (x ∷ l)))) is
     ∙ ap (λ n. let f : Result (List Record) Refusal = Err (Damaged n) in f) here
 records_fault read k (s ∷ front) slot back records e is =
     let there : k + 1 + length front ≡ k + length (s ∷ front) = omega arith in

@@ -10,7 +10,7 @@ use Rattle.mot_journal.specs.declared.record.Action.TheVariants.{Nothing, Set}
 use Rattle.mot_journal.specs.Geometry.{geometry_of}
 use Rattle.mot_journal.specs.Inner.Format.{head_bytes}
 use Rattle.mot_journal.specs.Slot.{bytes_of_slot, read_slot}
-use Rattle.mot_journal.specs.Catalogue.{fold_from}
+use Rattle.mot_journal.specs.Image.{fold_from}
 use Rattle.mot_journal.specs.Image.{records_of, stands_for}
 use Rattle.mot_numbers.specs.declared.refusal.Refusal.TheVariants.{NotFormatted}
 use Rattle.mot_numbers.specs.declared.geometry.Geometry.{Geometry}

@@ -14,7 +14,7 @@ use Rattle.mot_journal.specs.declared.record.Record.{Record}
 use Rattle.mot_journal.specs.Slot.{read_slot, is_sound, is_open, layout_of, slot_size, slot_count}
 use Rattle.mot_journal.specs.Slot.{record_in, slot_columns}
 use Rattle.mot_journal.specs.Geometry.{columns}
-use Rattle.mot_journal.specs.Catalogue.{result_then}
+use Rattle.mot_numbers.specs.Refusal.{◌>>=◌ as result_then}
 use Rattle.mot_journal.specs.Image.{DiskRecords, records_in, slots_in, journal_in_half}
 use Rattle.mot_journal.specs.Inner.Loading.{HalfHas}
 use Rattle.mot_journal.proofs.Records.{AreOpen, open_front, open_then_shut, are_open_more}

@@ -1,14 +1,12 @@
 -- The records of a journal, folded over a new disk (own format).
 use Rattle.std.specs.Prelude.{ℕ, ◌+◌, Bool, true, ◌&&◌, ◌||◌, ◌==◌, nat_lt, nat_le, if◌then◌else◌}
 use Rattle.std.specs.Prelude.{List, [], ◌∷◌, ◌++◌, length, map, slice_range, Option, Some, None}
-use Rattle.std.specs.Prelude.{option_map, Result, Ok, Err, bytes_eq}
+use Rattle.std.specs.Prelude.{option_map, bytes_eq}
 use Rattle.std.specs.List.{list_all}
 use Rattle.mot_journal.specs.declared.record.Record.{Record}
 use Rattle.mot_journal.specs.declared.record.Action.{Action}
 use Rattle.mot_journal.specs.declared.record.Action.TheVariants.{Nothing, Set, Remove}
 use Rattle.mot_numbers.specs.Reading.{◌>>=◌}
-use Rattle.mot_numbers.specs.declared.refusal.Refusal.{Refusal}
-use Rattle.mot_numbers.specs.declared.refusal.Refusal.TheVariants.{Damaged}
 use Rattle.mot_objects.specs.declared.object.Object.{Object}
 use Rattle.mot_objects.specs.Ids.{is_distinct}
 use Rattle.mot_objects.specs.Stands.{object_of}
@@ -91,27 +89,6 @@ catalogue_after limit c r = do
     objects = objects;
   })
   if is_consistent next then Some next else None
-
-abbrev pub or_damaged : {A : Type 0} → ℕ → Option A → Result A Refusal
-or_damaged number None = Err (Damaged number)
-or_damaged number (Some x) = Ok x
-
-abbrev pub result_then : {A B : Type 0} → Result A Refusal → (A → Result B Refusal)
-    → Result B Refusal
-result_then (Ok x) f = f x
-result_then (Err r) f = Err r
-
--- the catalogue after these records, whose slots begin with this number, or the first slot with a
--- fault of the list
-unfoldable pub fold_from : ℕ → ℕ → Catalogue → List Record → Result Catalogue Refusal
-fold_from limit number c [] = Ok c
-fold_from limit number c (r ∷ records) =
-    result_then (or_damaged number (catalogue_after limit c r))
-    (λ next. fold_from limit (number + 1) next records)
-
--- what the records of a disk for so many objects stand for
-abbrev pub catalogue_of : ℕ → List Record → Result Catalogue Refusal
-catalogue_of limit records = fold_from limit 0 new_catalogue records
 
 abbrev pub body_in_area : List ℕ → Placed → List ℕ
 body_in_area area p = slice_range area p.start (p.start + p.object.length)

@@ -9,10 +9,11 @@ use Rattle.mot_journal.specs.declared.layout.Layout.TheVariants.{Two}
 use Rattle.mot_journal.specs.declared.record.Record.{Record}
 use Rattle.mot_journal.specs.Geometry.{geometry_of, selected_half}
 use Rattle.mot_journal.specs.Slot.{slot_size, slot_count, is_open, layout_of, read_slot}
-use Rattle.mot_journal.specs.Catalogue.{catalogue_of, carousel_in, extents_of, or_damaged}
-use Rattle.mot_journal.specs.Catalogue.{result_then}
+use Rattle.mot_journal.specs.Catalogue.{Catalogue, carousel_in, catalogue_after, extents_of}
+use Rattle.mot_journal.specs.Catalogue.{new_catalogue}
+use Rattle.mot_numbers.specs.Refusal.{◌>>=◌}
 use Rattle.mot_numbers.specs.declared.refusal.Refusal.{Refusal}
-use Rattle.mot_numbers.specs.declared.refusal.Refusal.TheVariants.{NotFormatted}
+use Rattle.mot_numbers.specs.declared.refusal.Refusal.TheVariants.{Damaged, NotFormatted}
 use Rattle.mot_numbers.specs.declared.geometry.Geometry.{Geometry}
 use Rattle.mot_numbers.specs.Geometry.{half_start, half_size, area_start}
 use Rattle.mot_objects.specs.Carousel.{Carousel}
@@ -44,21 +45,25 @@ abbrev pub slots_of : Geometry → List ℕ → List (List ℕ)
 slots_of g half =
     let layout = layout_of half in slots_in (slot_size layout) (slot_count layout g) half
 
+abbrev pub or_damaged : {A : Type 0} → ℕ → Option A → Result A Refusal
+or_damaged number None = Err (Damaged number)
+or_damaged number (Some x) = Ok x
+
 -- the records of open slots, whose numbers begin with this one, or the first slot with a fault of
 -- fields
 abbrev pub records_in : (List ℕ → Option Record) → ℕ → List (List ℕ) → Result (List Record) Refusal
 records_in read number [] = Ok []
-records_in read number (slot ∷ slots) =
-    result_then (or_damaged number (read slot)) (λ r.
-    result_then (records_in read (number + 1) slots) (λ records. Ok (r ∷ records)))
+records_in read number (slot ∷ slots) = do
+  r ← or_damaged number (read slot)
+  records ← records_in read (number + 1) slots
+  Ok (r ∷ records)
 
 -- the records up to the first closed gate
 abbrev pub journal_in_half : Geometry → ℕ → List ℕ → Result DiskRecords Refusal
-journal_in_half g half bytes =
-    let layout = layout_of bytes in
-    result_then (records_in (read_slot g layout) 0 (take_while is_open (slots_of g bytes)))
-    (λ records.
-    Ok (record { geometry = g; half = half; layout = layout; records = records }))
+journal_in_half g half bytes = do
+  let layout = layout_of bytes
+  records ← records_in (read_slot g layout) 0 (take_while is_open (slots_of g bytes))
+  Ok (record { geometry = g; half = half; layout = layout; records = records })
 
 abbrev pub or_not_formatted : {A : Type 0} → Option A → Result A Refusal
 or_not_formatted None = Err NotFormatted
@@ -67,9 +72,21 @@ or_not_formatted (Some x) = Ok x
 -- the records of an image, or why there are none: `NotFormatted`, or the first slot with a fault of
 -- fields
 unfoldable pub records_of : List ℕ → Result DiskRecords Refusal
-records_of image =
-    result_then (or_not_formatted (geometry_of image)) (λ g.
-    journal_in_half g (selected_half image) (half_of g image))
+records_of image = do
+  g ← or_not_formatted (geometry_of image)
+  journal_in_half g (selected_half image) (half_of g image)
+
+-- the catalogue after these records, whose slots begin with this number, or the first slot with a
+-- fault of the list
+unfoldable pub fold_from : ℕ → ℕ → Catalogue → List Record → Result Catalogue Refusal
+fold_from limit number c [] = Ok c
+fold_from limit number c (r ∷ records) = do
+  next ← or_damaged number (catalogue_after limit c r)
+  fold_from limit (number + 1) next records
+
+-- what the records of a disk for so many objects stand for
+abbrev pub catalogue_of : ℕ → List Record → Result Catalogue Refusal
+catalogue_of limit records = fold_from limit 0 new_catalogue records
 
 abbrev pub area_of : Geometry → List ℕ → List ℕ
 area_of g image = take g.data_area (drop (area_start g) image)
@@ -77,14 +94,14 @@ area_of g image = take g.data_area (drop (area_start g) image)
 -- What an image stands for, or why for nothing. A fault of the list is looked for only where no
 -- record has a fault of fields.
 unfoldable pub stands_for : List ℕ → Result Standing Refusal
-stands_for image =
-    result_then (records_of image) (λ j.
-    result_then (catalogue_of j.geometry.objects j.records) (λ c.
-    Ok (record {
-      geometry = j.geometry;
-      carousel = carousel_in (area_of j.geometry image) c;
-      extents = extents_of c;
-    })))
+stands_for image = do
+  j ← records_of image
+  c ← catalogue_of j.geometry.objects j.records
+  Ok (record {
+    geometry = j.geometry;
+    carousel = carousel_in (area_of j.geometry image) c;
+    extents = extents_of c;
+  })
 
 -- every gate after the first closed one is closed
 abbrev pub are_gates_clean : List (List ℕ) → Bool

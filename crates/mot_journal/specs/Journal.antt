@@ -7,7 +7,7 @@ use Rattle.mot_journal.specs.declared.layout.Layout.{Layout}
 use Rattle.mot_journal.specs.declared.record.Record.{Record}
 use Rattle.mot_journal.specs.Geometry.{has_magic, geometry_of, selected_half}
 use Rattle.mot_journal.specs.Slot.{layout_of}
-use Rattle.mot_journal.specs.Catalogue.{catalogue_of}
+use Rattle.mot_journal.specs.Image.{catalogue_of}
 use Rattle.mot_journal.specs.Image.{DiskRecords, Standing, records_of, stands_for, half_of, area_of}
 use Rattle.mot_journal.specs.Image.{IsClean, IsInLayoutTwo, IsSecondHalfEmpty}
 use Rattle.mot_numbers.specs.declared.refusal.Refusal.{Refusal}
@@ -94,34 +94,36 @@ pub record StandsWhere (j : JournalView) (bytes : List ℕ) : Type 0 where
   pub half : selected_half bytes ≡ j.half
   pub layout : layout_of (half_of j.geometry bytes) ≡ j.layout
 
--- a new disk of this geometry
-abbrev pub new_standing : Geometry → Standing
-new_standing g = record { geometry = g; carousel = new_carousel; extents = [] }
-
--- the same, but that the directory has this transport id, and it was taken last
+-- A new disk of this geometry: its carousel has no object, and its directory has this transport id,
+-- which was taken last.
 abbrev pub standing_from : Geometry → ℕ → Standing
 standing_from g directory =
     let first = record new_carousel { directory = directory; cursor = directory } in
     record { geometry = g; carousel = first; extents = [] }
 
--- no magic, or clean and a new disk with this directory, in layout 2, whose other half is empty
+-- the image is that, clean and in layout 2, and its other half is empty
+pub record IsNewDisk (g : Geometry) (directory : ℕ) (image : List ℕ) : Type 0 where
+  pub stands : stands_for image ≡ Ok (standing_from g directory)
+  pub clean : IsClean image
+  pub layout : IsInLayoutTwo image
+  pub other : IsSecondHalfEmpty g image
+
+-- no magic, or a new disk
 abbrev pub NoneOrFrom : Geometry → ℕ → List ℕ → Type 0
-NoneOrFrom g directory image = (has_magic image ≡ false)
-    ⊎ ((stands_for image ≡ Ok (standing_from g directory)) × IsClean image × IsInLayoutTwo image
-    × IsSecondHalfEmpty g image)
+NoneOrFrom g directory image = (has_magic image ≡ false) ⊎ IsNewDisk g directory image
 
--- no magic, or clean and a new disk of this geometry, in layout 2, whose other half is empty
-abbrev pub NoneOrNew : Geometry → List ℕ → Type 0
-NoneOrNew g image = (has_magic image ≡ false)
-    ⊎ ((stands_for image ≡ Ok (new_standing g)) × IsClean image × IsInLayoutTwo image
-    × IsSecondHalfEmpty g image)
+-- Why what is read of a disk's bytes is not had. If the disk is honest afterwards, `NotFormatted`
+-- and `Damaged` are told where its bytes read so, with the slot.
+pub data IsReadingRefusal {T : Type 0} (read : List ℕ → Result T Refusal) (old new : State)
+    (refusal : Refusal) : Type 0 where
+  not_formatted : refusal ≡ NotFormatted → (new.IsHonest → read old.bytes ≡ Err refusal)
+      → IsReadingRefusal read old new refusal
+  damaged : (slot : ℕ) → refusal ≡ Damaged slot → (new.IsHonest → read old.bytes ≡ Err refusal)
+      → IsReadingRefusal read old new refusal
+  no_memory : refusal ≡ OutOfMemory → IsReadingRefusal read old new refusal
+  device : refusal ≡ DeviceFault → Rises old.failures new.failures
+      → IsReadingRefusal read old new refusal
 
--- Of a disk that is honest afterwards `NotFormatted` and `Damaged` are told where its bytes have no
--- records, with the slot.
-pub data IsLoadRefusal (old new : State) (refusal : Refusal) : Type 0 where
-  not_formatted : refusal ≡ NotFormatted → (new.IsHonest → records_of old.bytes ≡ Err refusal)
-      → IsLoadRefusal old new refusal
-  damaged : (slot : ℕ) → refusal ≡ Damaged slot
-      → (new.IsHonest → records_of old.bytes ≡ Err refusal) → IsLoadRefusal old new refusal
-  no_memory : refusal ≡ OutOfMemory → IsLoadRefusal old new refusal
-  device : refusal ≡ DeviceFault → Rises old.failures new.failures → IsLoadRefusal old new refusal
+-- why its records are not loaded
+abbrev pub IsLoadRefusal : State → State → Refusal → Type 0
+IsLoadRefusal old new refusal = IsReadingRefusal records_of old new refusal

@@ -4,4 +4,5 @@ pub mod Geometry
 pub mod Image
 pub mod Inner
 pub mod Journal
+pub mod Making
 pub mod Slot

@@ -30,30 +30,47 @@ pub fn slot_bytes(layout: Layout, entry: &Record) -> ArrayVec<u8, 512>
         → length result.items ≡ slot_size layout }
 {
     let mut slot = ArrayVec::new();
-    slot.push(OPEN);
-    slot.push(layout.kind_base() + kind(&entry.action));
-    put_number(&mut slot, entry.period.get(), 3);
-    array_append_number(&mut slot, entry.directory.get());
-    array_append_number(&mut slot, entry.cursor.get());
-    put_action(&mut slot, &entry.action);
-    fill(&mut slot, layout.slot_size());
+    put_slot(&mut slot, layout, entry);
     slot
 }
 
-/// The slot of the record of this number; zeros if there is no such record. It takes no memory.
-pub fn slot_or_zeros(layout: Layout, given: &[Record], number: usize) -> ArrayVec<u8, 512>
-    ensures value { result.items ≡ slot_from layout (slice_get given.now number) }
+/// Makes the room hold the slot of a record in this layout, with an open gate.
+fn put_slot(slot: &mut ArrayVec<u8, 512>, layout: Layout, entry: &Record)
+    ensures written { slot.new.items ≡ bytes_of_slot layout entry.now }
+    ensures reads { (g : Sizes) → is_sound g layout entry.now ≡ true
+        → read_slot g layout slot.new.items ≡ Some entry.now }
+    ensures size { (g : Sizes) → is_sound g layout entry.now ≡ true
+        → length slot.new.items ≡ slot_size layout }
+{
+    slot.clear();
+    slot.push(OPEN);
+    slot.push(layout.kind_base() + kind(&entry.action));
+    put_number(slot, entry.period.get(), 3);
+    array_append_number(slot, entry.directory.get());
+    array_append_number(slot, entry.cursor.get());
+    put_action(slot, &entry.action);
+    fill(slot, layout.slot_size());
+}
+
+/// Makes the room hold the slot of the record of this number; zeros if there is no such record. One
+/// room serves all slots of a half, since to make a new one fills it.
+pub fn put_slot_or_zeros(
+    slot: &mut ArrayVec<u8, 512>,
+    layout: Layout,
+    given: &[Record],
+    number: usize,
+)
+    ensures value { slot.new.items ≡ slot_from layout (slice_get given.now number) }
     ensures reads { (g : Sizes) → AreSound g layout given.now
         → IsReadable g layout (slice_get given.now number) }
     ensures size { (g : Sizes) → AreSound g layout given.now
-        → length result.items ≡ slot_size layout }
+        → length slot.new.items ≡ slot_size layout }
 {
     match given.get(number) {
-        Some(entry) => slot_bytes(layout, entry),
+        Some(entry) => put_slot(slot, layout, entry),
         None => {
-            let mut slot = ArrayVec::new();
-            fill(&mut slot, layout.slot_size());
-            slot
+            slot.clear();
+            fill(slot, layout.slot_size());
         }
     }
 }

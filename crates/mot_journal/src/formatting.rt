@@ -1,23 +1,17 @@
 //! Making a new disk.
-ghost use Rattle.std.specs.Prelude.{◌≡◌, ◌⊎◌, ◌↔◌, ◌+◌, ◌-◌, ◌*◌, ◌<◌, ◌≤◌, ℕ, List, [], ◌∷◌};
-ghost use Rattle.std.specs.Prelude.{length, drop, MatchResult};
-ghost use Rattle.std.specs.Prelude.{true, false, Ok, OnOk, IfOk, IfErr, IsErrOf};
+ghost use Rattle.std.specs.Prelude.{◌≡◌, ◌+◌, ◌-◌, ◌*◌, ◌≤◌, ℕ, List, false, OnOk, IfOk};
 ghost use Rattle.arrayvec.specs.ArrayVec.{array_vec_len};
-ghost use Rattle.disk_model.specs.Disk.{Keeps, KeepsLength, IsUnchanged, IsStill, OnlySyncs};
-ghost use Rattle.disk_model.specs.Failures.{HasCause, Rises};
+ghost use Rattle.disk_model.specs.Disk.{Keeps, OnlySyncs};
+ghost use Rattle.disk_model.specs.Failures.{HasCause};
 ghost use Rattle.disk_model.specs.Disk.{Throughout, Costs, IsFirm};
 ghost use Rattle.mot_journal.specs.declared.layout.Layout.TheVariants.{Two};
 ghost use Rattle.mot_journal.specs.Geometry.{has_magic};
 ghost use Rattle.mot_journal.specs.Slot.{slot_count};
-ghost use Rattle.mot_journal.specs.Image.{stands_for, IsClean, IsInLayoutTwo, IsSecondHalfEmpty};
-ghost use Rattle.mot_journal.specs.Journal.{NoneOrFrom, NoneOrNew, new_standing};
-ghost use Rattle.mot_journal.specs.Journal.{standing_from};
+ghost use Rattle.mot_journal.specs.Journal.{IsNewDisk, NoneOrFrom};
+ghost use Rattle.mot_journal.specs.Making.{MakesDisk};
 ghost use Rattle.mot_journal.specs.Inner.Steps.{ChangesWithin, HasCauseOf};
-ghost use Rattle.mot_journal.specs.Inner.Format.{HasAllButMagic, IsNewDisk, behind_magic};
+ghost use Rattle.mot_journal.specs.Inner.Format.{HasAllButMagic, behind_magic};
 ghost use Rattle.mot_numbers.specs.Geometry.{IsValid, area_start, length_of};
-ghost use Rattle.mot_numbers.specs.declared.refusal.Refusal.TheVariants.{DeviceFault, BadGeometry};
-ghost use Rattle.mot_numbers.specs.declared.refusal.Refusal.TheVariants.{DiskTooSmall};
-ghost use Rattle.mot_numbers.specs.declared.refusal.Refusal.TheVariants.{AlreadyFormatted};
 
 use crate::writing::{fill_half, publish};
 use crate::{Action, Geometry, Layout, Record};
@@ -34,46 +28,7 @@ pub const MAGIC: [u8; 8] = *b"MOTCAR01";
 /// no memory, and a disk that has the magic keeps its bytes. The magic is written last, so that a
 /// crash leaves no magic or the new disk.
 pub fn format<D: Disk>(disk: &mut D, geometry: &Geometry) -> Result<(), Refusal>
-    ensures keeps { KeepsLength (D.state disk.old) (D.state disk.new) }
-    ensures bad { IsErrOf result BadGeometry ↔ (IsValid geometry.now → ⊥) }
-    ensures small { IsErrOf result DiskTooSmall
-        ↔ (IsValid geometry.now × ((D.state disk.old).len < length_of geometry.now)) }
-    ensures refused { IfErr result (λ refusal. (refusal ≡ BadGeometry) ⊎ (refusal ≡ DiskTooSmall)
-        ⊎ (refusal ≡ AlreadyFormatted) ⊎ ((refusal ≡ DeviceFault)
-        × Rises (D.state disk.old).failures (D.state disk.new).failures)) }
-    ensures calm { MatchResult result
-        (λ done. (D.state disk.new).failures ≡ (D.state disk.old).failures)
-        (λ refusal. (refusal ≡ DeviceFault)
-        ⊎ ((D.state disk.new).failures ≡ (D.state disk.old).failures)) }
-
-    // a sync and a read of the magic, the bytes after it, two halves, and the magic between syncs
-    ensures cost { Costs (2 * slot_count Two geometry.now + 6)
-        (D.state disk.old) (D.state disk.new) result }
-    ensures untouched { (IsValid geometry.now → ⊥)
-        ⊎ ((D.state disk.old).len < length_of geometry.now)
-        → IsUnchanged (D.state disk.old) (D.state disk.new) }
-
-    // If the disk reads the magic, it is synced at most.
-    ensures already { (D.state disk.new).IsHonest → has_magic (D.state disk.old).bytes ≡ true
-        → IsStill (D.state disk.old) (D.state disk.new) }
-    ensures synced { (D.state disk.new).IsHonest → IsErrOf result AlreadyFormatted
-        → IsFirm (D.state disk.new) }
-    ensures already_only { (D.state disk.new).IsHonest → IsErrOf result AlreadyFormatted
-        → has_magic (D.state disk.old).bytes ≡ true }
-    ensures not_over { (D.state disk.new).IsHonest
-        → OnOk result (has_magic (D.state disk.old).bytes ≡ false) }
-
-    // At each moment a crash leaves no magic, or the new disk.
-    ensures any_moment { (D.state disk.new).IsHonest
-        → ((image : List ℕ) → (D.state disk.old).MayLeave image → has_magic image ≡ false)
-        → Throughout (D.state disk.old) (D.state disk.new) (NoneOrNew geometry.now) }
-    ensures ok { (D.state disk.new).IsHonest → OnOk result ((image : List ℕ)
-        → (D.state disk.new).MayLeave image
-        → (stands_for image ≡ Ok (new_standing geometry.now)) × IsClean image) }
-    ensures layout { (D.state disk.new).IsHonest → OnOk result ((image : List ℕ)
-        → (D.state disk.new).MayLeave image → IsInLayoutTwo image) }
-    ensures other_half { (D.state disk.new).IsHonest → OnOk result ((image : List ℕ)
-        → (D.state disk.new).MayLeave image → IsSecondHalfEmpty geometry.now image) }
+    ensures makes { MakesDisk geometry.now 1 (D.state disk.old) (D.state disk.new) result }
 {
     format_from(disk, geometry, TransportId::FIRST)
 }
@@ -84,46 +39,7 @@ pub fn format_from<D: Disk>(
     geometry: &Geometry,
     directory: TransportId,
 ) -> Result<(), Refusal>
-    ensures keeps { KeepsLength (D.state disk.old) (D.state disk.new) }
-    ensures bad { IsErrOf result BadGeometry ↔ (IsValid geometry.now → ⊥) }
-    ensures small { IsErrOf result DiskTooSmall
-        ↔ (IsValid geometry.now × ((D.state disk.old).len < length_of geometry.now)) }
-    ensures refused { IfErr result (λ refusal. (refusal ≡ BadGeometry) ⊎ (refusal ≡ DiskTooSmall)
-        ⊎ (refusal ≡ AlreadyFormatted) ⊎ ((refusal ≡ DeviceFault)
-        × Rises (D.state disk.old).failures (D.state disk.new).failures)) }
-    ensures calm { MatchResult result
-        (λ done. (D.state disk.new).failures ≡ (D.state disk.old).failures)
-        (λ refusal. (refusal ≡ DeviceFault)
-        ⊎ ((D.state disk.new).failures ≡ (D.state disk.old).failures)) }
-
-    // a sync and a read of the magic, the bytes after it, two halves, and the magic between syncs
-    ensures cost { Costs (2 * slot_count Two geometry.now + 6)
-        (D.state disk.old) (D.state disk.new) result }
-    ensures untouched { (IsValid geometry.now → ⊥)
-        ⊎ ((D.state disk.old).len < length_of geometry.now)
-        → IsUnchanged (D.state disk.old) (D.state disk.new) }
-
-    // If the disk reads the magic, it is synced at most.
-    ensures already { (D.state disk.new).IsHonest → has_magic (D.state disk.old).bytes ≡ true
-        → IsStill (D.state disk.old) (D.state disk.new) }
-    ensures synced { (D.state disk.new).IsHonest → IsErrOf result AlreadyFormatted
-        → IsFirm (D.state disk.new) }
-    ensures already_only { (D.state disk.new).IsHonest → IsErrOf result AlreadyFormatted
-        → has_magic (D.state disk.old).bytes ≡ true }
-    ensures not_over { (D.state disk.new).IsHonest
-        → OnOk result (has_magic (D.state disk.old).bytes ≡ false) }
-
-    // At each moment a crash leaves no magic, or the new disk.
-    ensures any_moment { (D.state disk.new).IsHonest
-        → ((image : List ℕ) → (D.state disk.old).MayLeave image → has_magic image ≡ false)
-        → Throughout (D.state disk.old) (D.state disk.new) (NoneOrFrom geometry.now directory) }
-    ensures ok { (D.state disk.new).IsHonest → OnOk result ((image : List ℕ)
-        → (D.state disk.new).MayLeave image
-        → (stands_for image ≡ Ok (standing_from geometry.now directory)) × IsClean image) }
-    ensures layout { (D.state disk.new).IsHonest → OnOk result ((image : List ℕ)
-        → (D.state disk.new).MayLeave image → IsInLayoutTwo image) }
-    ensures other_half { (D.state disk.new).IsHonest → OnOk result ((image : List ℕ)
-        → (D.state disk.new).MayLeave image → IsSecondHalfEmpty geometry.now image) }
+    ensures makes { MakesDisk geometry.now directory (D.state disk.old) (D.state disk.new) result }
 {
     if !geometry.is_valid() {
         return Err(Refusal::BadGeometry);

@@ -1,12 +1,12 @@
 //! The journal of a disk that was loaded.
-ghost use Rattle.std.specs.Prelude.{◌≡◌, ◌≤◌, ◌<◌, ◌+◌, ◌^◌, ◌++◌, ℕ, List, [], ◌∷◌, length, true};
-ghost use Rattle.std.specs.Prelude.{◌⊎◌, Ok, OnOk, OnErr, MatchResult};
+ghost use Rattle.std.specs.Prelude.{◌≡◌, ◌≤◌, ◌<◌, ◌+◌, ◌^◌, ◌++◌, List, [], ◌∷◌, length, true};
+ghost use Rattle.std.specs.Prelude.{Ok, OnOk, OnErr, MatchResult};
 ghost use Rattle.std.specs.Prelude.{◌↔◌, IfOk, IfErr, IsErr, IsTrue, IsFalse, All};
 ghost use Rattle.disk_model.specs.Disk.{Keeps, Costs, OnlyReads};
 ghost use Rattle.disk_model.specs.Failures.{HasCause, Rises};
 ghost use Rattle.disk_model.specs.Disk.{Throughout};
 ghost use Rattle.mot_journal.specs.Geometry.{geometry_of};
-ghost use Rattle.mot_journal.specs.Slot.{is_sound, slot_count, slot_size};
+ghost use Rattle.mot_journal.specs.Slot.{is_sound, slot_count};
 ghost use Rattle.mot_journal.specs.Image.{records_of, has_clean_gates, gate_reads};
 ghost use Rattle.mot_journal.specs.Journal.{JournalView, with_records, IsLoadRefusal};
 ghost use Rattle.mot_journal.specs.Inner.Places.{start_of_slot};
@@ -15,6 +15,7 @@ ghost use Rattle.mot_journal.specs.Journal.{StandsWhere, RewritesTo};
 ghost use Rattle.mot_journal.specs.Slot.{AreSound};
 ghost use Rattle.mot_journal.specs.declared.layout.Layout.TheVariants.{One, Two};
 ghost use Rattle.mot_journal.specs.declared.record.Record.{Record};
+ghost use Rattle.mot_numbers.specs.Refusal.{IsCalm};
 ghost use Rattle.mot_numbers.specs.Geometry.{length_of};
 ghost use Rattle.mot_numbers.specs.Geometry.{is_valid};
 ghost use Rattle.mot_numbers.specs.declared.refusal.Refusal.TheVariants.{DeviceFault};
@@ -70,8 +71,8 @@ pub fn load<D: Disk>(alloc: Global, disk: &mut D) -> Result<Loaded, Refusal>
     // A disk fault is answered exactly if the disk has failed.
     ensures calm { MatchResult result
         (λ loaded. (D.state disk.new).failures ≡ (D.state disk.old).failures)
-        (λ refusal. (refusal ≡ DeviceFault)
-        ⊎ ((D.state disk.new).failures ≡ (D.state disk.old).failures)) }
+        (λ refusal. IsCalm refusal (D.state disk.old).failures
+        (D.state disk.new).failures) }
     ensures cost { Costs 2 (D.state disk.old) (D.state disk.new) result }
     ensures loaded { (D.state disk.new).IsHonest → IfOk result (λ l.
         records_of (D.state disk.old).bytes ≡ Ok (with_records l.journal l.records.items)) }

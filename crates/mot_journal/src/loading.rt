@@ -89,18 +89,15 @@ pub(crate) fn records_of_half(
         (λ records. length records.items ≤ slot_count layout geometry.now) }
     ensures refused { IfErr result (λ refusal. IsHalfRefusal geometry.now half.now refusal) }
 {
-    let mut records = Vec::new(alloc);
-    for place in 0..layout.slot_count(geometry) {
+    let count = layout.slot_count(geometry);
+    let mut records = Vec::with_capacity(alloc, count)?;
+    for place in 0..count {
         let slot = slot_at(geometry, layout, half, place);
         if slot[0] != OPEN {
             return Ok(records);
         }
         match read_record(alloc, geometry, layout, slot) {
-            Ok(Some(entry)) => {
-                if records.push(entry).is_err() {
-                    return Err(Refusal::OutOfMemory);
-                }
-            }
+            Ok(Some(entry)) => records.push_reserved(entry),
             Ok(None) => return Err(Refusal::Damaged(place as u16)),
             Err(_) => return Err(Refusal::OutOfMemory),
         }

@@ -8,9 +8,10 @@ ghost use Rattle.mot_journal.specs.Inner.Steps.{HasSlots, Publishes};
 ghost use Rattle.mot_journal.specs.Slot.{AreSound};
 ghost use Rattle.mot_numbers.specs.Geometry.{half_size, half_start as start_of_half, length_of};
 
-use crate::encoding::slot_or_zeros;
+use crate::encoding::put_slot_or_zeros;
 use crate::places::half_start;
 use crate::{Geometry, Layout, Record};
+use arrayvec::ArrayVec;
 use disk_model::{Disk, DiskFault};
 
 /// Writes a slot without its gate, syncs, then its gate, and syncs.
@@ -67,9 +68,11 @@ pub fn fill_half<D: Disk>(
         (HasSlots geometry.now half layout given.now (slot_count layout geometry.now)
         (D.state disk.new).bytes) }
 {
+    let mut slot = ArrayVec::new();
     for number in 0..layout.slot_count(geometry) {
         let place = place_of_slot(geometry, half, layout, number);
-        disk.write(place, &slot_or_zeros(layout, given, number))?;
+        put_slot_or_zeros(&mut slot, layout, given, number);
+        disk.write(place, &slot)?;
     }
     Ok(())
 }

@@ -8,7 +8,8 @@ use Rattle.hex.specs.Hex.{decode_of}
 use Rattle.mot_lines.specs.declared.line.description.Description.{Description}
 use Rattle.mot_lines.specs.Fields.{name_in, content_in, mime_in, body_in}
 use Rattle.mot_lines.specs.Words.{number_of_word}
-use Rattle.mot_lines.specs.Line.{◌>>=◌, description_of}
+use Rattle.mot_lines.specs.Line.{description_of}
+use Rattle.mot_numbers.specs.Refusal.{◌>>=◌}
 use Rattle.mot_lines.specs.Inner.Words.{OrOutOfMemory}
 use Rattle.mot_numbers.specs.declared.refusal.Refusal.{Refusal}
 use Rattle.mot_numbers.specs.declared.refusal.Refusal.TheVariants.{OutOfMemory, BadName, BadMime}

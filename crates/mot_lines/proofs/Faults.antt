@@ -6,7 +6,8 @@ use Rattle.hex.specs.Hex.{decode_of}
 use Rattle.hex.specs.declared.error.FromHexError.{FromHexError}
 use Rattle.mot_lines.specs.Fields.{kind_in, tid_in, segment_in, name_in, content_in, mime_in}
 use Rattle.mot_lines.specs.Fields.{body_in, period_in, count_in}
-use Rattle.mot_lines.specs.Line.{◌>>=◌, raw_of, description_of, put_of, replace_of, withdraw_of}
+use Rattle.mot_lines.specs.Line.{raw_of, description_of, put_of, replace_of, withdraw_of}
+use Rattle.mot_numbers.specs.Refusal.{◌>>=◌}
 use Rattle.mot_lines.specs.Line.{period_of, list_of, next_of, turn_of, request_of, line_of}
 use Rattle.mot_lines.specs.declared.line.TheConstants.{MAX_LINE, MAX_PACKETS}
 use Rattle.mot_lines.specs.Words.{number_of_word, words_of}

@@ -2,7 +2,8 @@
 use Rattle.std.proofs.Common.{ℕ, List, [], ◌∷◌, Result, Ok, Err, inl, inr}
 use Rattle.hex.specs.Hex.{decode_of}
 use Rattle.mot_lines.specs.Fields.{kind_in, tid_in, segment_in, name_in}
-use Rattle.mot_lines.specs.Line.{◌>>=◌, raw_of, put_of, replace_of, withdraw_of, description_of}
+use Rattle.mot_lines.specs.Line.{raw_of, put_of, replace_of, withdraw_of, description_of}
+use Rattle.mot_numbers.specs.Refusal.{◌>>=◌}
 use Rattle.mot_lines.specs.Line.{NeedsMemory, IsParsed}
 use Rattle.mot_lines.specs.Inner.Words.{OrOutOfMemory}
 use Rattle.mot_lines.specs.Words.{number_of_word}

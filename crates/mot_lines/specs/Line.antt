@@ -10,15 +10,10 @@ use Rattle.mot_lines.specs.declared.line.description.Description.{Description}
 use Rattle.mot_lines.specs.declared.line.Line.{Line}
 use Rattle.mot_lines.specs.declared.line.Line.TheVariants.{Raw, Command}
 use Rattle.mot_lines.specs.declared.line.Line.TheVariants as asks
+use Rattle.mot_numbers.specs.Refusal.{◌>>=◌}
 use Rattle.mot_numbers.specs.declared.refusal.Refusal.{Refusal}
 use Rattle.mot_numbers.specs.declared.refusal.Refusal.TheVariants.{OutOfMemory, BadLine}
 use Rattle.mot_objects.specs.declared.command.Command.TheVariants.{Put, Replace, Withdraw, Period}
-
-infixl 10 ◌>>=◌
--- what f makes of the value, or the refusal
-abbrev pub ◌>>=◌ : {A B : Type 0} → Result A Refusal → (A → Result B Refusal) → Result B Refusal
-(Ok x) >>= f = f x
-(Err r) >>= f = Err r
 
 -- the words of a `raw` line, after its first: TYPE TID HEX
 unfoldable pub raw_of : List (List ℕ) → Result Line Refusal

@@ -1,5 +1,6 @@
--- The numbers and names of refusals. Number 13 is not used.
-use Rattle.std.specs.Prelude.{ℕ, List, codes}
+-- Refusals: their numbers and names, and what comes after a result that may be one. Number 13 is
+-- not used.
+use Rattle.std.specs.Prelude.{◌≡◌, ◌⊎◌, ℕ, Bool, true, false, List, Result, Ok, Err, codes}
 use Rattle.mot_numbers.specs.declared.refusal.Refusal.{Refusal}
 use Rattle.mot_numbers.specs.declared.refusal.Refusal.TheVariants.{BadLine, BadName, BadType}
 use Rattle.mot_numbers.specs.declared.refusal.Refusal.TheVariants.{BadMime}
@@ -12,7 +13,6 @@ use Rattle.mot_numbers.specs.declared.refusal.Refusal.TheVariants.{NotFormatted}
 use Rattle.mot_numbers.specs.declared.refusal.Refusal.TheVariants.{AlreadyFormatted, DiskTooSmall}
 use Rattle.mot_numbers.specs.declared.refusal.Refusal.TheVariants.{Damaged, BadGeometry, ReadFault}
 use Rattle.mot_numbers.specs.declared.refusal.Refusal.TheVariants.{WriteFault}
-use Rattle.std.specs.Prelude.{Bool, true, false}
 
 -- the number and the name of each
 abbrev pub told_as : Refusal → ℕ × List ℕ
@@ -49,3 +49,13 @@ name_of refusal = (told_as refusal).1
 abbrev pub is_device_fault : Refusal → Bool
 is_device_fault DeviceFault = true
 is_device_fault refusal = false
+
+-- the disk has not failed, unless this tells so: its counts of failures are those before and after
+abbrev pub IsCalm : Refusal → (before now : ℕ) → Type 0
+IsCalm refusal before now = (refusal ≡ DeviceFault) ⊎ (now ≡ before)
+
+infixl 10 ◌>>=◌
+-- what f makes of the value, or the refusal
+abbrev pub ◌>>=◌ : {A B : Type 0} → Result A Refusal → (A → Result B Refusal) → Result B Refusal
+(Ok x) >>= f = f x
+(Err r) >>= f = Err r

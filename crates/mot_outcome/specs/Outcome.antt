@@ -46,6 +46,16 @@ module _ {S : Type 0} {start : Ghosts S} where
     pub untouched : IsUntouched used
     pub silent : Keeps old new
 
+-- Which files were used: none, or those of the task that the words ask for, as OfTask says of it.
+-- Which words ask for which task IsTask says; before and after is what was used so far.
+pub data UsesFiles {S : Type 0} {start : Ghosts S} {T P : Type 0}
+    (IsTask : Text → List Row → T → Type 0)
+    (OfTask : T → UsedDisk S start → (before after : P) → Type 0) (words : List Text)
+    (used : UsedDisk S start) (before after : P) : Type 0 where
+  none : IsUntouched used → after ≡ before → UsesFiles IsTask OfTask words used before after
+  asked : (task : T) → AskFor motcar_app IsTask words task → OfTask task used before after
+      → UsesFiles IsTask OfTask words used before after
+
 -- What a run came to. Which words ask for which task IsTask says. In these, what the reader had left
 -- was unread and is left, and the writer's known bytes were old and are new.
 module _ {S : Type 0} {start : Ghosts S} {T : Type 0}

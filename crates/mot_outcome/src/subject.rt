@@ -66,6 +66,8 @@ pub fn subject_of<'a>(
         return Subject::Disk { path, reason };
     }
     match cause {
+        // It is told if no refusal ended the task.
+        Some(Cause::Folder(_)) => Subject::Nothing,
         Some(cause) => match words.get_str(word_of_cause(cause)) {
             Some(path) => Subject::File { path, cause },
             None => Subject::Nothing,
@@ -82,6 +84,7 @@ fn word_of_cause(cause: Cause) -> &'static str {
     match cause {
         Cause::Disk(_) => "DISK",
         Cause::Types(_) => "types",
+        Cause::Folder(_) => "folder",
         Cause::Lines(_) => "lines",
         Cause::Packets(_) | Cause::NewFile(_) => "PACKETS",
     }
@@ -143,13 +146,17 @@ fn shown(path: &str, cause: Cause) -> (&str, &'static str) {
     }
 }
 
-/// What is added to a disk's path for the file beside it that stood in the way of its opening. The
-/// opening answers that by a kind of its own, which no call of the system has given.
+/// What is added to a disk's path for the file beside it that stood in the way of its opening: a
+/// journal; or an empty file that could not be opened or made. Other errors may be the disk's own.
 fn suffix_beside(fault: OpenFault) -> &'static str {
     match fault {
-        OpenFault::System(error) if error.raw_os_error().is_none() => match error.kind() {
-            ErrorKind::Unsupported => "-wal",
-            ErrorKind::AlreadyExists => "-journal",
+        OpenFault::Beside(error) => match error.kind() {
+            ErrorKind::AlreadyExists if error.raw_os_error().is_none() => "-journal",
+            ErrorKind::Unsupported
+            | ErrorKind::PermissionDenied
+            | ErrorKind::ReadOnlyFilesystem
+            | ErrorKind::StorageFull
+            | ErrorKind::QuotaExceeded => "-wal",
             _ => "",
         },
         _ => "",
@@ -159,20 +166,19 @@ fn suffix_beside(fault: OpenFault) -> &'static str {
 /// What to do about a disk that was not opened or made.
 fn hint_of(cause: Cause) -> &'static str {
     match cause {
-        Cause::Disk(OpenFault::System(error)) => match error.kind() {
-            ErrorKind::NotFound | ErrorKind::NotADirectory | ErrorKind::IsADirectory => {
-                "; check the path"
-            }
-            ErrorKind::PermissionDenied => {
-                "; motcar has to read and write it, and the file -wal beside it"
-            }
-            ErrorKind::ReadOnlyFilesystem => "; the disk has to be written",
-            ErrorKind::StorageFull | ErrorKind::QuotaExceeded => "; make room",
-            ErrorKind::ResourceBusy => "; another program has it: end that",
-            ErrorKind::Unsupported => "; it has to be a regular file of one name: move it away",
-            ErrorKind::AlreadyExists => "; move it away",
-            _ => "",
-        },
+        Cause::Disk(OpenFault::System(error)) | Cause::Disk(OpenFault::Beside(error)) =>
+            match error.kind() {
+                ErrorKind::NotFound | ErrorKind::NotADirectory | ErrorKind::IsADirectory => {
+                    "; check the path"
+                }
+                ErrorKind::PermissionDenied => "; motcar has to read and write it",
+                ErrorKind::ReadOnlyFilesystem => "; the disk has to be written",
+                ErrorKind::StorageFull | ErrorKind::QuotaExceeded => "; make room",
+                ErrorKind::ResourceBusy => "; another program has it: end that",
+                ErrorKind::Unsupported => "; it has to be a regular file of one name: move it away",
+                ErrorKind::AlreadyExists => "; move it away",
+                _ => "",
+            },
         Cause::Disk(OpenFault::InUse) => "; end that program first",
         Cause::Disk(OpenFault::NoDisk) => "; check the path",
         Cause::Disk(OpenFault::SecondName) => "; remove the other name",

@@ -9,7 +9,7 @@ use mot_files::{Cause, Taken};
 use mot_numbers::Refusal;
 use mot_reading::Ended;
 use mot_reason::Reason;
-use mot_shelf::Seen;
+use mot_shelf::{LookNotes, Seen};
 
 /// The disk that a task worked on. The value of `S` is used up if a file is opened or made, so that
 /// whoever still has it has opened none.
@@ -30,21 +30,25 @@ pub struct Beside {
     pub taken: Taken,
     /// What the folder gave that the carousel was to be made equal to.
     pub seen: Seen,
+    /// What the folder gave in each look while a disk was played.
+    pub looks: LookNotes,
 }
 
 impl Beside {
     /// Nothing.
     pub fn nothing() -> Beside {
-        Beside::packets(Taken::nothing())
+        Beside::played(Taken::nothing(), LookNotes::new())
     }
 
-    /// Packets were written.
-    pub fn packets(taken: Taken) -> Beside
-        ensures { result.taken ≡ taken }
+    /// Packets were written, with these looks.
+    pub fn played(taken: Taken, looks: LookNotes) -> Beside
+        ensures taken { result.taken ≡ taken }
+        ensures looks { result.looks ≡ looks }
     {
         Beside {
             taken,
             seen: Seen::nothing(),
+            looks,
         }
     }
 
@@ -55,6 +59,7 @@ impl Beside {
         Beside {
             taken: Taken::nothing(),
             seen,
+            looks: LookNotes::new(),
         }
     }
 }

@@ -45,7 +45,7 @@ bodies-filter p [] k = tt
 bodies-filter p (x ∷ xs) k =
     bodies-kept (p x) x (filter p xs) (λ e. k.0) (bodies-filter p xs k.1)
 
-bodies-append : (xs ys : List Segment) → AreBodies xs → AreBodies ys → AreBodies (xs ++ ys)
+pub bodies-append : (xs ys : List Segment) → AreBodies xs → AreBodies ys → AreBodies (xs ++ ys)
 bodies-append [] ys j k = k
 bodies-append (x ∷ xs) ys j k = (j.0, bodies-append xs ys j.1 k)
 
@@ -161,7 +161,7 @@ followed-to_send : (change : Change) (turn : Turn) (place : Place) → 0 < place
 followed-to_send change turn place some has =
     rw (followed-waits change turn place some has) refl
 
-followed-left : (change : Change) (turn : Turn) (place : Place) → 0 < place.segment_size →
+pub followed-left : (change : Change) (turn : Turn) (place : Place) → 0 < place.segment_size →
     HasDirectory turn →
     left_of (followed_by change turn place) ≡ (followed_by change turn place).waiting
 followed-left change turn place some has =
@@ -169,7 +169,7 @@ followed-left change turn place some has =
     (followed-waits change turn place some has)
 
 -- of bodies, those that come early are left, and the rest
-followed-bodies : (change : Change) (turn : Turn) (place : Place) → 0 < place.segment_size →
+pub followed-bodies : (change : Change) (turn : Turn) (place : Place) → 0 < place.segment_size →
     HasDirectory turn →
     of_bodies (left_of (followed_by change turn place))
     ≡ early_after change place ++ renewed change place

@@ -77,23 +77,23 @@ difference-withdrawn n (b ∷ before) after g o =
     (difference-withdrawn (n + 1) before after g o ∙ ap (λ (m : ℕ). Some (Removed m)) one)
 
 -- and the definitions find the same change
-between-same : (bs : List (ℕ × List ℕ)) → change_between bs bs ≡ Same
+pub between-same : (bs : List (ℕ × List ℕ)) → change_between bs bs ≡ Same
 between-same [] = refl
 between-same (b ∷ bs) = rw (eq-eqb b.0 b.0 refl) (between-same bs)
 
-between-put : (bs : List (ℕ × List ℕ)) (f : ℕ × List ℕ) →
+pub between-put : (bs : List (ℕ × List ℕ)) (f : ℕ × List ℕ) →
     change_between bs (bs ++ f ∷ []) ≡ Put f
 between-put [] f = refl
 between-put (b ∷ bs) f = rw (eq-eqb b.0 b.0 refl) (between-put bs f)
 
-between-replaced : (before after : List (ℕ × List ℕ)) (g f : ℕ × List ℕ) →
+pub between-replaced : (before after : List (ℕ × List ℕ)) (g f : ℕ × List ℕ) →
     (g.0 == f.0) ≡ false →
     change_between (before ++ g ∷ after) (before ++ f ∷ after) ≡ Replaced g.0 f
 between-replaced [] after g f e = rw (e, eq-eqb (length after) (length after) refl) refl
 between-replaced (b ∷ before) after g f e =
     rw (eq-eqb b.0 b.0 refl) (between-replaced before after g f e)
 
-between-withdrawn : (before after : List (ℕ × List ℕ)) (g : ℕ × List ℕ) → AreOthers g.0 after →
+pub between-withdrawn : (before after : List (ℕ × List ℕ)) (g : ℕ × List ℕ) → AreOthers g.0 after →
     change_between (before ++ g ∷ after) (before ++ after) ≡ Withdrawn g.0
 between-withdrawn [] [] g o = refl
 between-withdrawn [] (a ∷ after) g o =
@@ -107,7 +107,7 @@ between-withdrawn (b ∷ before) after g o =
     rw (eq-eqb b.0 b.0 refl) (between-withdrawn before after g o)
 
 -- ids that stand once
-abbrev ids : List (ℕ × List ℕ) → List ℕ
+abbrev pub ids : List (ℕ × List ℕ) → List ℕ
 ids bodies = map (λ (b : ℕ × List ℕ). b.0) bodies
 
 others-behind : (id : ℕ) (bodies : List (ℕ × List ℕ)) → contains (ids bodies) id ≡ false →
@@ -119,14 +119,14 @@ others-behind id (b ∷ bodies) e =
       others-behind id bodies parts.1,
     )
 
-other-inside : (id : ℕ) (before after : List (ℕ × List ℕ)) (g : ℕ × List ℕ) →
+pub other-inside : (id : ℕ) (before after : List (ℕ × List ℕ)) (g : ℕ × List ℕ) →
     contains (ids (before ++ g ∷ after)) id ≡ false → (id == g.0) ≡ false
 other-inside id [] after g e = (or_parts (nat_eq id g.0) (contains (ids after) id) e).0
 other-inside id (b ∷ before) after g e =
     other-inside id before after g
     (or_parts (nat_eq id b.0) (contains (ids (before ++ g ∷ after)) id) e).1
 
-others-both : (before after : List (ℕ × List ℕ)) (g : ℕ × List ℕ) →
+pub others-both : (before after : List (ℕ × List ℕ)) (g : ℕ × List ℕ) →
     is_distinct (ids (before ++ g ∷ after)) ≡ true → AreOthers g.0 before × AreOthers g.0 after
 others-both [] after g e =
     let parts = and_parts (not (contains (ids after) g.0)) (is_distinct (ids after)) e in

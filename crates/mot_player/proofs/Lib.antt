@@ -1,5 +1,6 @@
 pub mod Addresses
 pub mod Answered
+pub mod Beginnings
 pub mod Continuous
 pub mod Differences
 pub mod PacketCounts
@@ -10,6 +11,8 @@ pub mod Followed
 pub mod FollowedCourse
 pub mod FollowedPlace
 pub mod FollowedTurn
+pub mod FreshReads
+pub mod FreshTurns
 pub mod GoesOn
 pub mod HeardRows
 pub mod Indexes
@@ -21,11 +24,14 @@ pub mod Nearer
 pub mod NextSegment
 pub mod Plans
 pub mod Renewed
+pub mod Repeated
 pub mod Requests
 pub mod Rounds
 pub mod Rows
+pub mod Ruled
 pub mod Segments
 pub mod SomeBodies
 pub mod Staying
+pub mod TurnOnce
 pub mod TurnReads
 pub mod WholeTurn

@@ -17,6 +17,7 @@ use Rattle.mot_player.specs.Continuity.{IsContinuous, group_index, indexes_after
 use Rattle.mot_player.specs.Place.{Place, Sent, Step, Request, NewTurn, opened_place, request}
 use Rattle.mot_player.specs.Place.{change_turn, sent_by}
 use Rattle.mot_player.specs.Reading.{ReadsAs, read_segments, read_turn}
+use Rattle.mot_player.specs.Repeats.{ReadsOnceAs, read_turn_once, received}
 use Rattle.mot_player.specs.Turn.{Turn, IsTurnOf, segments_of_turn}
 
 abbrev Played : Type 0
@@ -318,3 +319,32 @@ due : indexes_after [] ((0x76 ∷ 0x00 ∷ 0x80 ∷ 0x00 ∷ 0x12 ∷ 0x00 ∷ 0
     ∷ (0x74 ∷ 0x10 ∷ 0x80 ∷ 0x00 ∷ 0x12 ∷ 0x00 ∷ 0x02 ∷ 0x00 ∷ 0x05 ∷ 0x01 ∷ 0x02 ∷ 0x03 ∷ 0x04
     ∷ 0x05 ∷ 0x63 ∷ 0x11 ∷ []) ∷ []) ≡ 0 ∷ 0 ∷ 0 ∷ 0 ∷ []
 due = refl
+
+-- the directory sent twice: of each segment that comes again the first counts, and read as they are
+-- the packets are no turn
+abbrev twice_packets : List (List ℕ)
+twice_packets = take 3 one_packets ++ one_packets
+
+twice-reads : ReadsOnceAs twice_packets one_carousel 1024
+unfolding read_turn_once read_segments gather groups_after gather_front read_packet read_group
+    entity_of read_directory read_header read_parameters crc_of bits_of bits_of_bytes number_of_bits
+    added_to_front remainder
+twice-reads = refl
+
+twice-plain : read_turn twice_packets ≡ None
+unfolding read_turn read_segments gather groups_after gather_front read_packet read_group entity_of
+    read_directory read_header read_parameters crc_of bits_of bits_of_bytes number_of_bits
+    added_to_front remainder
+twice-plain = refl
+
+-- segments of one number: a byte that differs, or the mark of the last, makes another segment
+abbrev seg : ℕ → Bool → List ℕ → Segment
+seg number last bytes =
+    record { kind = 6; tid = 9; number = number; last = last; bytes = bytes }
+
+received-row : received []
+    (seg 0 false (1 ∷ 2 ∷ []) ∷ seg 0 false (1 ∷ 2 ∷ []) ∷ seg 0 false (1 ∷ 3 ∷ [])
+    ∷ seg 1 true (1 ∷ 2 ∷ []) ∷ seg 0 true (1 ∷ 2 ∷ []) ∷ seg 0 false (1 ∷ 2 ∷ []) ∷ [])
+    ≡ seg 0 false (1 ∷ 2 ∷ []) ∷ seg 0 false (1 ∷ 3 ∷ []) ∷ seg 1 true (1 ∷ 2 ∷ [])
+    ∷ seg 0 true (1 ∷ 2 ∷ []) ∷ []
+received-row = refl

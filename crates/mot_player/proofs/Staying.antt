@@ -43,7 +43,7 @@ own-heard-cases id place u false segments some has e =
     ∙ own-of_bodies id segments
     ∙ ap (own_segments 4 id) (sym (left-some (record place { waiting = segments }) u e))
 
-own-heard : (id : ℕ) (place : Place) → 0 < place.segment_size → HasDirectory place.turn →
+pub own-heard : (id : ℕ) (place : Place) → 0 < place.segment_size → HasDirectory place.turn →
     own_segments 4 id (left_of (hear_directory place)) ≡ own_segments 4 id (left_of place)
 unfolding hear_directory
 own-heard id place some has =

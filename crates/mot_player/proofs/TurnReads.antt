@@ -22,7 +22,7 @@ use Rattle.mot_player.specs.Turn.{Turn, IsTurnOf, IsPlayable, IsSendable, bodies
 use Rattle.mot_player.specs.Turn.{segments_of_bodies, segments_of_turn}
 
 -- an object's parameters describe it
-object_in-entry_of : (segments : List Segment) (o : Object)
+pub object_in-entry_of : (segments : List Segment) (o : Object)
     → entity_of segments 4 o.tid ≡ Some o.body →
     object_in segments (entry_of o) ≡ Some o
 object_in-entry_of segments o e =
@@ -33,7 +33,7 @@ object_in-entry_of segments o e =
     ) refl
 
 -- the segments of an entity, among its own and among others
-own-numbered_segments : (kind tid number : ℕ) (ps : List (List ℕ)) →
+pub own-numbered_segments : (kind tid number : ℕ) (ps : List (List ℕ)) →
     own_segments kind tid (numbered_segments kind tid number ps)
     ≡ numbered_segments kind tid number ps
 own-numbered_segments kind tid number [] = refl
@@ -41,14 +41,14 @@ own-numbered_segments kind tid number (p ∷ ps) =
     rw (eq-eqb kind kind refl, eq-eqb tid tid refl, own-numbered_segments kind tid (number + 1) ps)
     refl
 
-foreign-numbered_segments : (kind tid other_kind other number : ℕ) (ps : List (List ℕ)) →
+pub foreign-numbered_segments : (kind tid other_kind other number : ℕ) (ps : List (List ℕ)) →
     (other_kind == kind && other == tid) ≡ false
     → own_segments kind tid (numbered_segments other_kind other number ps) ≡ []
 foreign-numbered_segments kind tid other_kind other number [] e = refl
 foreign-numbered_segments kind tid other_kind other number (p ∷ ps) e =
     rw (e, foreign-numbered_segments kind tid other_kind other (number + 1) ps e) refl
 
-own-append : (kind tid : ℕ) (xs ys : List Segment) →
+pub own-append : (kind tid : ℕ) (xs ys : List Segment) →
     own_segments kind tid (xs ++ ys) ≡ own_segments kind tid xs ++ own_segments kind tid ys
 own-append kind tid xs ys = filter-append (λ (s : Segment). s.kind == kind && s.tid == tid) xs ys
 
@@ -66,10 +66,10 @@ own-between kind tid size bytes front back f b =
     ∙ ap (λ xs. xs ++ own_segments kind tid here) f
     ∙ own-numbered_segments kind tid 0 (pieces size bytes)
 
-abbrev ids_of : List Object → List ℕ
+abbrev pub ids_of : List Object → List ℕ
 ids_of objects = map (λ (o : Object). o.tid) objects
 
-abbrev cut : ℕ → List Object → List Segment
+abbrev pub cut : ℕ → List Object → List Segment
 cut size objects = segments_of_bodies size (bodies_with_ids objects)
 
 foreign-cut : (tid size : ℕ) (objects : List Object) → contains (ids_of objects) tid ≡ false →
@@ -130,18 +130,19 @@ belongs-numbered_segments id size kind tid number ids (p ∷ q ∷ ps) m full sh
     (All-tail (λ p. length p ≤ size) p (q ∷ ps) short))
 
 -- there is a piece
-first-numbered_segments : (id : ℕ) (bytes : List ℕ) (ps : List (List ℕ)) (others : List Segment) →
+pub first-numbered_segments : (id : ℕ) (bytes : List ℕ) (ps : List (List ℕ))
+    (others : List Segment) →
     flat_map (λ piece. piece) ps ≡ bytes → 0 < length bytes
     → directory_in (numbered_segments 6 id 0 ps ++ others) ≡ Some id
 first-numbered_segments id bytes [] others e some = absurd (omega (arith, ap length e))
 first-numbered_segments id bytes (p ∷ ps) others e some = refl
 
-entry_ids : (objects : List Object)
+pub entry_ids : (objects : List Object)
     → map (λ (e : Entry). e.tid) (map entry_of objects) ≡ ids_of objects
 entry_ids [] = refl
 entry_ids (o ∷ objects) = ap (λ ids. o.tid ∷ ids) (entry_ids objects)
 
-abbrev AreSome : List Object → Type 0
+abbrev pub AreSome : List Object → Type 0
 AreSome objects = AllByRecursion (λ (o : Object). 0 < length o.body) objects
 
 -- Pieces of this size make up their entity again, and the segments of an entity, among any of
@@ -188,7 +189,7 @@ module _ (size : ℕ) (laws : EntityLaws size) where
       ∙ read_objects (head ++ here) objects parts.1 b.1 later in
       rw (object, others) refl
 
-  belongs-entity : (id kind tid : ℕ) (ids bytes : List ℕ) →
+  pub belongs-entity : (id kind tid : ℕ) (ids bytes : List ℕ) →
       (kind == 6 && tid == id || kind == 4 && contains ids tid) ≡ true →
       list_all (belongs id ids size) (segments_of kind tid size bytes) ≡ true
   belongs-entity id kind tid ids bytes m =
@@ -196,7 +197,7 @@ module _ (size : ℕ) (laws : EntityLaws size) where
       belongs-numbered_segments id size kind tid 0 ids (pieces size bytes) m cut.others_full
       cut.none_longer
 
-  belongs-cut : (id : ℕ) (ids : List ℕ) (objects : List Object) →
+  pub belongs-cut : (id : ℕ) (ids : List ℕ) (objects : List Object) →
       ((tid : ℕ) → contains (ids_of objects) tid ≡ true → contains ids tid ≡ true) →
       list_all (belongs id ids size) (cut size objects) ≡ true
   belongs-cut id ids [] f = refl
@@ -241,7 +242,7 @@ module _ (size : ℕ) (laws : EntityLaws size) where
         members,
       ) refl
 
-  bodies-some : (objects : List Object)
+  pub bodies-some : (objects : List Object)
       → All (λ (b : ℕ × List ℕ). IsSendable size b.1) (bodies_with_ids objects) →
       AreSome objects
   bodies-some [] h = tt

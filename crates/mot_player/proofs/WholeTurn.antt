@@ -33,17 +33,17 @@ use Rattle.mot_player.proofs.Addresses.{one_address, steps-address}
 use Rattle.mot_player.proofs.TurnReads.{EntityLaws, read_segments-turn}
 
 -- the indexes that are kept fit a group's header
-record KeepsIndexes (place : Place) : Type 0 where
-  directory : IfSome place.last_directory (λ (last : Last). last.index < 16)
-  body : IfSome place.last_body (λ (last : Last). last.index < 16)
+pub record KeepsIndexes (place : Place) : Type 0 where
+  pub directory : IfSome place.last_directory (λ (last : Last). last.index < 16)
+  pub body : IfSome place.last_body (λ (last : Last). last.index < 16)
 
 -- a segment that a group can carry
-record IsFit (s : Segment) : Type 0 where
-  kind : s.kind < 16
-  tid : (0 < s.tid) × (s.tid < 2 ^ 16)
-  number : s.number < 2 ^ 15
-  some : 0 < length s.bytes
-  fits : length s.bytes + 2 ≤ 8191
+pub record IsFit (s : Segment) : Type 0 where
+  pub kind : s.kind < 16
+  pub tid : (0 < s.tid) × (s.tid < 2 ^ 16)
+  pub number : s.number < 2 ^ 15
+  pub some : 0 < length s.bytes
+  pub fits : length s.bytes + 2 ≤ 8191
 
 are_fit-numbered_segments : (kind tid number size : ℕ) (ps : List (List ℕ)) → kind < 16
     → (0 < tid) × (tid < 2 ^ 16) →
@@ -82,7 +82,7 @@ few_pieces size bytes some most =
     let enough : count ≤ 32768 = few count size (length bytes) most all.1 in
     rw (length-first_pieces count size bytes) enough
 
-append-fit : (xs ys : List Segment) → AllByRecursion IsFit xs → AllByRecursion IsFit ys
+pub append-fit : (xs ys : List Segment) → AllByRecursion IsFit xs → AllByRecursion IsFit ys
     → AllByRecursion IsFit (xs ++ ys)
 append-fit [] ys p q = q
 append-fit (x ∷ xs) ys p q = (p.0, append-fit xs ys p.1 q)
@@ -91,7 +91,7 @@ abbrev IsId : ℕ → Type 0
 IsId id = (1 ≤ id) × (id ≤ 65535)
 
 module _ (size : ℕ) (laws : EntityLaws size) (s : size ≤ 8189) where
-  are_fit-entity : (kind tid : ℕ) (bytes : List ℕ) → kind < 16 → (1 ≤ tid) × (tid ≤ 65535)
+  pub are_fit-entity : (kind tid : ℕ) (bytes : List ℕ) → kind < 16 → (1 ≤ tid) × (tid ≤ 65535)
       → IsSendable size bytes →
       AllByRecursion IsFit (segments_of kind tid size bytes)
   are_fit-entity kind tid bytes k t b =
@@ -115,7 +115,7 @@ module _ (size : ℕ) (laws : EntityLaws size) (s : size ≤ 8189) where
       (All-head fits (o.tid, o.body) (bodies_with_ids objects) h))
       (are_fit-objects objects ids.1 (All-tail fits (o.tid, o.body) (bodies_with_ids objects) h))
 
-  are_fit-turn : (turn : Turn) (c : Carousel) → IsTurnOf turn c size → IsSound c
+  pub are_fit-turn : (turn : Turn) (c : Carousel) → IsTurnOf turn c size → IsSound c
       → IsPlayable turn size →
       AllByRecursion IsFit (segments_of_turn turn size)
   are_fit-turn turn c t sound p =
@@ -145,7 +145,7 @@ kept-cases : (b : Bool) (x y : Option Last) → IfSome x (λ (l : Last). l.index
 kept-cases true x y p q = p
 kept-cases false x y p q = q
 
-group-index_fits : (place : Place) (s : Segment) → KeepsIndexes place
+pub group-index_fits : (place : Place) (s : Segment) → KeepsIndexes place
     → (group_for place s).index < 16
 group-index_fits place s keeps =
     let is_directory : Bool = s.kind == 6 in
@@ -153,7 +153,7 @@ group-index_fits place s keeps =
     (segment_content s)
     (kept-cases is_directory place.last_directory place.last_body keeps.directory keeps.body)
 
-begun-keeps : (place : Place) (s : Segment) (others : List Segment) → KeepsIndexes place →
+pub begun-keeps : (place : Place) (s : Segment) (others : List Segment) → KeepsIndexes place →
     KeepsIndexes (with_begun place (group_for place s) others)
 begun-keeps place s others keeps =
     let group : GroupFields = group_for place s in
@@ -192,7 +192,7 @@ head-false bs cs e = false≢true (ap head_of e)
 pub head-true : (bs cs : List Bool) → true ∷ bs ≡ false ∷ cs → ⊥
 head-true bs cs e = false≢true (sym (ap head_of e))
 
-is_group : (index : ℕ) (s : Segment) → index < 16 → IsFit s
+pub is_group : (index : ℕ) (s : Segment) → index < 16 → IsFit s
     → IsGroup (record { index = index; segment = s })
 is_group index s i f =
     record {
@@ -330,14 +330,14 @@ turn-sends n place (t ∷ segments) s others new r keeps u fit e h f =
     })
 
 -- at the beginning of a turn its segments are to be sent
-whole_or_none : (segments whole : List Segment) → (segments ≡ []) ⊎ (segments ≡ whole) →
+pub whole_or_none : (segments whole : List Segment) → (segments ≡ []) ⊎ (segments ≡ whole) →
     (if is_empty segments then whole else segments) ≡ whole
 whole_or_none [] whole h = refl
 whole_or_none (s ∷ segments) whole (inl e) = absurd (omega (arith, ap length e))
 whole_or_none (s ∷ segments) whole (inr e) = e
 
 module _ (size : ℕ) (laws : EntityLaws size) (s : size ≤ 8189) where
-  groups-read : (groups : List GroupFields) → AllByRecursion IsGroup groups →
+  pub groups-read : (groups : List GroupFields) → AllByRecursion IsGroup groups →
       read_each read_group (map bytes_of_group groups) ≡ Some groups
   groups-read [] h = refl
   groups-read (g ∷ groups) h = rw (read_group-bytes_of_group g h.0, groups-read groups h.1) refl
@@ -380,7 +380,7 @@ module _ (size : ℕ) (laws : EntityLaws size) (s : size ≤ 8189) where
         sends.carry,
       ) (read_segments-turn size laws old.turn c is_turn sound playable)
 
-entity-laws : (size : ℕ) → 0 < size → EntityLaws size
+pub entity-laws : (size : ℕ) → 0 < size → EntityLaws size
 entity-laws size some = record {
   cut = λ bytes. IsCut-pieces size bytes some;
   entity = λ kind tid bytes segments h own. entity_of-own kind tid size bytes segments some h own;

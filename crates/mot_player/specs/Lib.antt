@@ -11,6 +11,7 @@ pub mod Place
 pub mod Planned
 pub mod PlayerView
 pub mod Reading
+pub mod Repeats
 pub mod Rounds
 pub mod Sending
 pub mod Staying

@@ -16,6 +16,7 @@ ghost use Rattle.mot_player.specs.Place.{following, hear_directory, opened_place
 ghost use Rattle.mot_player.specs.Staying.{BodiesGoOn, ChangesComeNext, DirectoryComes};
 ghost use Rattle.mot_player.specs.Staying.{PutComesAtTheEnd, ReplacedKeepsItsPlace};
 ghost use Rattle.mot_player.specs.Staying.{RequestsTakeInOrder, RestGoesOn};
+ghost use Rattle.mot_player.specs.Repeats.{TurnsReadWithDirectories};
 ghost use Rattle.mot_player.specs.Rounds.{RoundsAreContinuous};
 
 use crate::course::Course;
@@ -70,6 +71,10 @@ impl Player {
 
         // The packets of a whole turn of a carousel read as exactly the carousel.
         ensures turns { OnOk result TurnsReadAsTheirCarousels }
+
+        // And so they do where the directory is asked for within the turn, if of segments that are
+        // sent again the first count.
+        ensures turns_with_directories { OnOk result TurnsReadWithDirectories }
         ensures turns_end { OnOk result TurnsEnd }
 
         // The packets of the first sixteen turns can be sent round and round.

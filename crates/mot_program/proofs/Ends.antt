@@ -1,21 +1,15 @@
 -- What a call that may fail leaves.
-use Rattle.std.proofs.Common.{◌≡◌, ◌≢◌, ◌⊎◌, ◌∙◌, ℕ, ◌≤◌, Option, Some, Result, Ok, Err, inl, inr}
+use Rattle.std.proofs.Common.{◌≡◌, ◌⊎◌, ◌∙◌, ℕ, ◌≤◌, Option, Some, inl, inr}
 use Rattle.std.proofs.Common.{arith}
 use Rattle.std.proofs.Common.{subst, sym}
 use Rattle.std.proofs.Math.Logic.{⊎_elim}
 use Rattle.std.proofs.Math.Nat.{eq-or-lt_of_le}
-use Rattle.std.specs.Prelude.{OnErr}
 use Rattle.disk_model.specs.Disk.{Elapses, IsStill, IsUnchanged, Nothing, State}
 use Rattle.disk_model.specs.Failures.{Rises}
 use Rattle.mot_numbers.specs.declared.refusal.Refusal.{Refusal}
-use Rattle.mot_numbers.specs.declared.refusal.Refusal.TheVariants.{DeviceFault, OutOfMemory}
+use Rattle.mot_numbers.specs.declared.refusal.Refusal.TheVariants.{OutOfMemory}
 use Rattle.mot_numbers.specs.declared.refusal.Refusal.TheVariants.{ReadFault, WriteFault}
 use Rattle.mot_session.specs.Served.{EndsServing}
-
--- what holds anyhow holds on an error
-pub OnErr-always : {T E P : Type 0} (r : Result T E) → P → OnErr r P
-OnErr-always (Ok x) p = tt
-OnErr-always (Err e) p = p
 
 -- a fault that ends serving is want of memory, a read's or a write's
 pub fault-cases : (P : Type 0) (fault : Option Refusal) (r : Refusal) → fault ≡ Some r
@@ -54,9 +48,3 @@ still_unchanged a b c first second = record {
   images = λ image left. first.images image ((second.images image).0 left);
   loose = λ k is. first.loose k ((second.loose k).0 is);
 }
-
--- an opening that was refused, in the words of its own clause
-pub calm_refused : (refusal : Refusal) (m n : ℕ) → (refusal ≡ DeviceFault) ⊎ (m ≡ n)
-    → refusal ≢ DeviceFault → m ≡ n
-calm_refused refusal m n (inl is) other = absurd (other is)
-calm_refused refusal m n (inr same) other = same

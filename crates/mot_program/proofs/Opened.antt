@@ -1,7 +1,7 @@
 -- What is known of a disk that was just opened.
-use Rattle.std.proofs.Common.{◌≡◌, ℕ, List, Result, Ok, refl, sym, ◌∙◌, subst}
+use Rattle.std.proofs.Common.{◌≡◌, ℕ, List, Result, Ok, sym, ◌∙◌, subst}
 use Rattle.std.specs.Prelude.{IsFalse}
-use Rattle.disk_model.specs.Disk.{State, IsHonestDisk, IsStill, Keeps, KeepsLength, OnlySyncs}
+use Rattle.disk_model.specs.Disk.{State, IsHonestDisk, IsStill, Keeps, OnlySyncs}
 use Rattle.disk_model.specs.Disk.{Throughout}
 use Rattle.disk_model.proofs.Laws.{only_bytes, begins, joins, stays}
 use Rattle.mot_journal.specs.Image.{Standing, stands_for}
@@ -16,7 +16,6 @@ use Rattle.mot_repository.specs.OnDisk.{OnDisk}
 use Rattle.mot_repository.specs.Repository.{RepositoryView, Agrees, IsOf, Holds}
 use Rattle.mot_repository.specs.Opening.{IsOpened}
 use Rattle.mot_server.specs.Server.{ServerView, place_in}
-use Rattle.mot_session.specs.State.{ServerState, Leads, state_of}
 
 same-standing : (r : Result Standing Refusal) (a b : Standing) → r ≡ Ok a → r ≡ Ok b → a ≡ b
 same-standing r a b is was = let e : Ok a ≡ Ok b = sym is ∙ was in cc
@@ -56,8 +55,8 @@ opened_throughout start old P sound here still =
     stays start start old P (begins start P sound here) still.time
 
 -- a session on a server that was opened is one from the disk's standing on
-pub opens_to : {D : Type 0} (state : D → State) (start : D) (server new : ServerView D)
-    (P : ServerState → ServerState → Type 0)
+pub opens_to : {D : Type 0} (state : D → State) (start disk : D) (server new : ServerView D)
+    (P : ServerView D → ServerView D → Type 0)
     → ((disk : D) → (state disk).IsHonest → IsHonestDisk (state disk))
     → OnlySyncs (state start) (state server.disk)
     → ((state server.disk).IsHonest → IsOpened (state start) (state server.disk) server.view)
@@ -65,21 +64,21 @@ pub opens_to : {D : Type 0} (state : D → State) (start : D) (server new : Serv
     → ((s : Standing) → Agrees server.view s
     → place_in server s ≡ opened_place s.geometry.address (packet_room s.geometry)
     s.geometry.segment_size (turn_of_carousel s.carousel s.geometry.segment_size))
-    → KeepsLength (state server.disk) (state new.disk)
-    → Leads state server new P → OpensTo (state start) (state new.disk) P
-opens_to state start server new P sound opens opened going at_start keeps leads s honest all =
-    let was = keeps.was_honest honest in
-    let holds = opened_holds (state start) (state server.disk) server.view s
-    (sound start (opens.keeps.was_honest was)) all (opened was) was (sound server.disk was)
-    (opens.still was)
-    going in
-    let led = leads s (record { agrees = holds.agrees; holds = λ _. holds }) honest in (
-      state_of server s (state server.disk),
-      state_of new led.0 (state new.disk),
-      record { standing = refl; opened = at_start s holds.agrees; going = going },
-      (λ on. (led.1.holds on).each),
-      led.2,
-    )
+    → new.disk ≡ disk → P server new → OpensTo state disk (state start) P
+opens_to state start disk server new P sound opens opened going at_start is p = record {
+  first = server;
+  last = new;
+  on_disk = is;
+  going = going;
+  fresh = λ s honest all.
+      let holds = opened_holds (state start) (state server.disk) server.view s
+      (sound start (opens.keeps.was_honest honest)) all (opened honest) honest
+      (sound server.disk honest) (opens.still honest) going in record {
+        stands = record { agrees = holds.agrees; holds = λ _. holds };
+        opened = at_start s holds.agrees;
+      };
+  leads = p;
+}
 
 -- what was opened of a disk that stands for something holds it, and migrates it
 module _ {D : Type 0} (state : D → State) (start : D) (repository new : OnDisk D)

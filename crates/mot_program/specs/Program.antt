@@ -2,10 +2,11 @@
 use Rattle.std.specs.Prelude.{ℕ, ◌≡◌, ◌⊎◌, List, [], ◌∷◌, ◌++◌, Option, Some, None}
 use Rattle.clap.specs.Words.{Text}
 use Rattle.disk_model.specs.Disk.{State}
+use Rattle.disk_store.specs.File.{file_state}
 use Rattle.disk_store.specs.Ram.{ram_state}
 use Rattle.disk_store.specs.declared.file.start.Start.{Ghosts}
 use Rattle.disk_store.specs.declared.memory.ram.RamDisk.{RamDisk}
-use Rattle.mot_journal.specs.Journal.{new_standing}
+use Rattle.mot_journal.specs.Journal.{IsNewDisk}
 use Rattle.mot_numbers.specs.Geometry.{IsValid, length_of}
 use Rattle.mot_numbers.specs.declared.geometry.Geometry.{Geometry}
 use Rattle.mot_numbers.specs.declared.refusal.Refusal.{Refusal}
@@ -18,10 +19,6 @@ use Rattle.disk_store.specs.Beginning.{SinceMade, SinceOpened}
 use Rattle.mot_program.specs.Report.{Checks, Formats, Migrates, StopsChecking, StopsFormatting}
 use Rattle.mot_program.specs.Report.{StopsMigrating}
 use Rattle.mot_program.specs.Serving.{ServesInput, StopsServing}
-use Rattle.mot_repository.specs.Repository.{IsOf}
-use Rattle.mot_words.specs.Asked.{AskFor}
-use Rattle.mot_words.specs.Command.{motcar_app}
-use Rattle.mot_words.specs.Program.Task.{IsTask}
 use Rattle.mot_words.specs.declared.program.task.Task.{Task}
 use Rattle.mot_words.specs.declared.program.task.Task.TheVariants.{Memory, Format, Serve, Check}
 use Rattle.mot_words.specs.declared.program.task.Task.TheVariants.{Migrate}
@@ -29,8 +26,7 @@ use Rattle.mot_words.specs.declared.program.task.Task.TheVariants.{Migrate}
 -- a disk in memory that is new, of this geometry
 pub record IsNewInMemory (geometry : Geometry) (disk : RamDisk) : Type 0 where
   pub valid : IsValid geometry
-  pub formatted : (image : List ℕ) → (ram_state disk).MayLeave image
-      → IsOf (new_standing geometry) image
+  pub formatted : (image : List ℕ) → (ram_state disk).MayLeave image → IsNewDisk geometry 1 image
 
 -- a disk was made in memory, and this holds between what it was then and what it is
 pub record SinceNew (geometry : Geometry) (P : State → State → Type 0) (disk : RamDisk) :
@@ -38,6 +34,10 @@ pub record SinceNew (geometry : Geometry) (P : State → State → Type 0) (disk
   pub first : RamDisk
   pub begun : IsNewInMemory geometry first
   pub since : P (ram_state first) (ram_state disk)
+
+-- a file of this path was taken away, or none: the paths of those so far were before and are after
+abbrev pub MayTakeAway : Text → (before after : List Text) → Type 0
+MayTakeAway path before after = (after ≡ before) ⊎ (after ≡ before ++ path ∷ [])
 
 module _ {S : Type 0} {start : Ghosts S} where
   -- a disk in memory was made, with this fact
@@ -61,13 +61,18 @@ module _ {S : Type 0} {start : Ghosts S} where
   Opens path (InMemory disk value) before after = after ≡ before
   Opens path (OfFile disk beside) before after = after ≡ before ++ path ∷ []
 
-  -- the same of the path that the task names
-  abbrev pub OpensFor : Task → UsedDisk S start → (before after : List Text) → Type 0
-  OpensFor (Memory g) used before after = after ≡ before
-  OpensFor (Format path g directory) used before after = Opens path.now used before after
-  OpensFor (Serve path) used before after = Opens path.now used before after
-  OpensFor (Check path) used before after = Opens path.now used before after
-  OpensFor (Migrate path) used before after = Opens path.now used before after
+  -- which files a task opens or makes as disks, and takes away: only one that was made and not
+  -- formatted is taken away
+  abbrev pub UsesFor : Task → UsedDisk S start → (before after : List Text × List Text) → Type 0
+  UsesFor (Memory g) used before after = after ≡ before
+  UsesFor (Format path g directory) used before after =
+      Opens path.now used before.0 after.0 × MayTakeAway path.now before.1 after.1
+  UsesFor (Serve path) used before after =
+      Opens path.now used before.0 after.0 × (after.1 ≡ before.1)
+  UsesFor (Check path) used before after =
+      Opens path.now used before.0 after.0 × (after.1 ≡ before.1)
+  UsesFor (Migrate path) used before after =
+      Opens path.now used before.0 after.0 × (after.1 ≡ before.1)
 
   -- In these what the reader had left was unread and is left, and the writer's known bytes were old
   -- and are new.
@@ -75,10 +80,12 @@ module _ {S : Type 0} {start : Ghosts S} where
   -- the task was done
   abbrev pub Does : Task → UsedDisk S start → (unread left old new : Option (List ℕ)) → Type 0
   Does (Memory g) used unread left old new =
-      OnMemory (SinceNew g (ServesInput unread left old new)) used
+      OnMemory (λ disk. SinceNew g (λ first now.
+      ServesInput ram_state disk unread left old new first) disk) used
   Does (Format path g directory) used unread left old new =
       OnOpenedOrMade g (Formats g directory old new) used
-  Does (Serve path) used unread left old new = OnOpened (ServesInput unread left old new) used
+  Does (Serve path) used unread left old new = OnFile (λ disk beside. SinceOpened (λ first now.
+      ServesInput file_state disk unread left old new first) disk) used
   Does (Check path) used unread left old new = OnOpened (Checks old new) used
   Does (Migrate path) used unread left old new = OnOpened (Migrates old new) used
 
@@ -87,29 +94,17 @@ module _ {S : Type 0} {start : Ghosts S} where
       → (unread left old new : Option (List ℕ)) → Type 0
   DoesInPart task None used unread left old new = ⊥
   DoesInPart (Memory g) (Some r) used unread left old new =
-      OnMemory (SinceNew g (StopsServing r unread left old new)) used
+      OnMemory (λ disk. SinceNew g (λ first now.
+      StopsServing ram_state disk r unread left old new first) disk) used
   DoesInPart (Format path g directory) (Some r) used unread left old new =
       OnOpenedOrMade g (StopsFormatting g directory r old new) used
   DoesInPart (Serve path) (Some r) used unread left old new =
-      OnOpened (StopsServing r unread left old new) used
+      OnFile (λ disk beside. SinceOpened (λ first now.
+      StopsServing file_state disk r unread left old new first) disk) used
   DoesInPart (Check path) (Some r) used unread left old new =
       OnOpened (StopsChecking r old new) used
   DoesInPart (Migrate path) (Some r) used unread left old new =
       OnOpened (StopsMigrating r old new) used
-
--- In these the paths of the files that were taken away were before and are after.
-
--- a file was taken away, or none
-abbrev pub MayTakeAway : Text → (before after : List Text) → Type 0
-MayTakeAway path before after = (after ≡ before) ⊎ (after ≡ before ++ path ∷ [])
-
--- only a file is taken away that was made and not formatted
-abbrev pub TakesAwayFor : Task → (before after : List Text) → Type 0
-TakesAwayFor (Memory g) before after = after ≡ before
-TakesAwayFor (Format path g directory) before after = MayTakeAway path.now before after
-TakesAwayFor (Serve path) before after = after ≡ before
-TakesAwayFor (Check path) before after = after ≡ before
-TakesAwayFor (Migrate path) before after = after ≡ before
 
 -- why no disk is made of a file: it can't be opened or made, or the geometry is out of its ranges
 abbrev pub IsMakingRefusal : Geometry → Refusal → Type 0
@@ -126,14 +121,3 @@ IsBeginningRefusal (Format path g directory) r = IsMakingRefusal g r
 IsBeginningRefusal (Serve path) r = r ≡ DeviceFault
 IsBeginningRefusal (Check path) r = r ≡ DeviceFault
 IsBeginningRefusal (Migrate path) r = r ≡ DeviceFault
-
--- Which files were used: none, or the one that the task of the words names. The paths of those that
--- were opened or made as disks were before and are after, and of those that were taken away they
--- were gone and are left.
-pub data UsesFiles {S : Type 0} {start : Ghosts S} (words : List Text) (used : UsedDisk S start)
-    (before after gone left : List Text) : Type 0 where
-  none : IsUntouched used → after ≡ before → left ≡ gone
-      → UsesFiles words used before after gone left
-  asked : (task : Task) → AskFor motcar_app IsTask words task
-      → OpensFor task used before after → TakesAwayFor task gone left
-      → UsesFiles words used before after gone left

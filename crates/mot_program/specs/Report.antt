@@ -1,22 +1,21 @@
 -- What `format`, `check` and `migrate` print, and what they leave of a disk.
-use Rattle.std.specs.Prelude.{◌≡◌, ◌≢◌, ◌↔◌, ◌<◌, ℕ, Bool, true, false, List, [], ◌∷◌, ◌++◌, Option}
-use Rattle.std.specs.Prelude.{Ok, IsTrue, codes}
+use Rattle.std.specs.Prelude.{◌≡◌, ◌≢◌, ◌↔◌, ℕ, Bool, true, false, List, [], ◌∷◌, ◌++◌, Option}
+use Rattle.std.specs.Prelude.{Ok, Err, IsTrue, codes}
 use Rattle.std.specs.Fmt.{decimal}
 use Rattle.std.specs.Io.KnownBytes.{Appends, Keeps}
-use Rattle.disk_model.specs.Disk.{State, KeepsLength, IsStill, IsUnchanged, Throughout}
-use Rattle.disk_model.specs.Failures.{Rises}
-use Rattle.mot_journal.specs.Geometry.{has_magic}
+use Rattle.disk_model.specs.Disk.{State, IsStill, Throughout}
 use Rattle.mot_journal.specs.Image.{DiskRecords, Standing, records_of, stands_for}
 use Rattle.mot_journal.specs.Image.{IsClean, IsInLayoutTwo}
-use Rattle.mot_journal.specs.Journal.{NoneOrFrom, standing_from}
+use Rattle.mot_journal.specs.Making.{MakesDisk}
 use Rattle.mot_journal.specs.declared.layout.Layout.{Layout}
 use Rattle.mot_journal.specs.declared.layout.Layout.TheVariants.{One, Two}
 use Rattle.mot_lines.specs.Listing.{listing_text}
 use Rattle.mot_numbers.specs.Geometry.{length_of}
+use Rattle.mot_numbers.specs.Refusal.{IsCalm}
 use Rattle.mot_numbers.specs.declared.geometry.Geometry.{Geometry}
 use Rattle.mot_numbers.specs.declared.refusal.Refusal.{Refusal}
-use Rattle.mot_numbers.specs.declared.refusal.Refusal.TheVariants.{AlreadyFormatted, DeviceFault}
-use Rattle.mot_numbers.specs.declared.refusal.Refusal.TheVariants.{DiskTooSmall, WriteFault}
+use Rattle.mot_numbers.specs.declared.refusal.Refusal.TheVariants.{DeviceFault}
+use Rattle.mot_numbers.specs.declared.refusal.Refusal.TheVariants.{WriteFault}
 use Rattle.mot_repository.specs.Opening.{IsOpeningRefusal}
 use Rattle.mot_repository.specs.Repository.{IsOf}
 use Rattle.mot_session.specs.Served.{WritesFront}
@@ -24,53 +23,23 @@ use Rattle.mot_session.specs.Served.{WritesFront}
 -- In all of these the disk was in a state start and is in a state now, and the writer's known bytes
 -- were old and are new.
 
--- the disk has failed where a device fault is told, and nowhere else
-abbrev pub IsCalm : Refusal → State → State → Type 0
-IsCalm refusal start now = refusal ≢ DeviceFault → now.failures ≡ start.failures
-
 -- ---- `format`
 
 abbrev pub formatted_line : Geometry → List ℕ
 formatted_line g = codes "formatted " ++ decimal (length_of g) ++ 10 ∷ []
 
--- what a disk is that `format` has touched: a crash at any moment leaves no disk of this format, or
--- the new one; a disk that was formatted before keeps its bytes
-pub record IsUnderFormat (g : Geometry) (directory : ℕ) (start now : State) : Type 0 where
-  pub keeps : KeepsLength start now
-  pub already : now.IsHonest → has_magic start.bytes ≡ true → IsStill start now
-  pub any_moment : now.IsHonest
-      → ((image : List ℕ) → start.MayLeave image → has_magic image ≡ false)
-      → Throughout start now (NoneOrFrom g directory)
-
--- it is the new disk of this geometry, whose directory has this transport id, in layout 2, and was
--- none before
-pub record IsFormatted (g : Geometry) (directory : ℕ) (start now : State) : Type 0 where
-  pub under : IsUnderFormat g directory start now
-  pub was_none : now.IsHonest → has_magic start.bytes ≡ false
-  pub is_new : now.IsHonest → (image : List ℕ) → now.MayLeave image
-      → IsOf (standing_from g directory) image × IsInLayoutTwo image
-
--- it is, and that was printed
+-- the disk was made, and that was printed
 pub record Formats (g : Geometry) (directory : ℕ) (old new : Option (List ℕ))
     (start now : State) : Type 0 where
-  pub formatted : IsFormatted g directory start now
+  pub made : MakesDisk g directory start now (Ok tt)
   pub printed : Appends old new (formatted_line g)
 
--- why formatting it is refused
-pub data IsFormattingRefusal (g : Geometry) (refusal : Refusal) (start now : State) : Type 0 where
-  too_small : refusal ≡ DiskTooSmall → start.len < length_of g → IsUnchanged start now
-      → IsFormattingRefusal g refusal start now
-  already : refusal ≡ AlreadyFormatted → (now.IsHonest → has_magic start.bytes ≡ true)
-      → IsFormattingRefusal g refusal start now
-  device : refusal ≡ DeviceFault → Rises start.failures now.failures
-      → IsFormattingRefusal g refusal start now
-
--- it could not be formatted, and nothing was printed; or that it is was not printed whole
+-- it could not be made, and nothing was printed; or that it was made was not printed whole
 pub data StopsFormatting (g : Geometry) (directory : ℕ) (refusal : Refusal)
     (old new : Option (List ℕ)) (start now : State) : Type 0 where
-  refused : IsFormattingRefusal g refusal start now → IsUnderFormat g directory start now
-      → Keeps old new → StopsFormatting g directory refusal old new start now
-  unprinted : refusal ≡ WriteFault → IsFormatted g directory start now
+  refused : MakesDisk g directory start now (Err refusal) → Keeps old new
+      → StopsFormatting g directory refusal old new start now
+  unprinted : refusal ≡ WriteFault → MakesDisk g directory start now (Ok tt)
       → WritesFront (formatted_line g) old new
       → StopsFormatting g directory refusal old new start now
 
@@ -105,7 +74,8 @@ pub record Checks (old new : Option (List ℕ)) (start now : State) : Type 0 whe
 -- it could not be read, and nothing was printed; or what it stands for was not printed whole
 pub data IsUnreported (refusal : Refusal) (old new : Option (List ℕ)) (start now : State) :
     Type 0 where
-  unread : IsOpeningRefusal start now refusal → IsCalm refusal start now → Keeps old new
+  unread : IsOpeningRefusal start now refusal → IsCalm refusal start.failures now.failures
+      → Keeps old new
       → IsUnreported refusal old new start now
   unprinted : refusal ≡ WriteFault → (text : List ℕ) → (now.IsHonest → IsReport start.bytes text)
       → WritesFront text old new → IsUnreported refusal old new start now
@@ -151,7 +121,7 @@ pub record Migrates (old new : Option (List ℕ)) (start now : State) : Type 0 w
 -- it could not be brought to layout 2, and nothing was printed; or that it is was not printed whole
 pub data StopsMigrating (refusal : Refusal) (old new : Option (List ℕ)) (start now : State) :
     Type 0 where
-  refused : IsOpeningRefusal start now refusal → IsCalm refusal start now
+  refused : IsOpeningRefusal start now refusal → IsCalm refusal start.failures now.failures
       → IsUnderMigration start now → (refusal ≢ DeviceFault → now.IsHonest → IsStill start now)
       → Keeps old new
       → StopsMigrating refusal old new start now

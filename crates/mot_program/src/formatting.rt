@@ -113,7 +113,6 @@ pub(crate) fn format_disk<D: Disk, W: Write>(
     directory: TransportId,
     writer: &mut W,
 ) -> Result<(), Refusal>
-    requires { IsValid geometry.now }
     ensures keeps { KeepsLength (D.state disk.old) (D.state disk.new) }
     ensures done { OnOk result (Formats geometry.now directory (W.contents writer.old)
         (W.contents writer.new) (D.state disk.old) (D.state disk.new)) }

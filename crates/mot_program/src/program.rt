@@ -3,9 +3,8 @@ ghost use Rattle.std.specs.Prelude.{◌≡◌, ◌⊎◌, List, map, IfErr, OnOk
 ghost use Rattle.std.specs.Io.KnownBytes.{Keeps};
 ghost use Rattle.clap.specs.Words.{Text, found_of, rows_of};
 ghost use Rattle.mot_numbers.specs.declared.refusal.Refusal.TheVariants.{BadGeometry};
-ghost use Rattle.mot_outcome.specs.Outcome.{IsRefused, IsUntold, IsUntouched, Succeeds};
-ghost use Rattle.mot_program.specs.Program.{Does, DoesInPart, IsBeginningRefusal, OpensFor};
-ghost use Rattle.mot_program.specs.Program.{TakesAwayFor, UsesFiles};
+ghost use Rattle.mot_outcome.specs.Outcome.{IsRefused, IsUntold, IsUntouched, Succeeds, UsesFiles};
+ghost use Rattle.mot_program.specs.Program.{Does, DoesInPart, IsBeginningRefusal, UsesFor};
 ghost use Rattle.mot_words.specs.Asked.{AreWrong, AskBy};
 ghost use Rattle.mot_words.specs.Command.{motcar_app};
 ghost use Rattle.mot_words.specs.Program.Task.{IsTask};
@@ -55,9 +54,9 @@ pub fn run_on<F: DiskFiles, S: AsStr, B: Start, R: Read, W: Write, E: Write>(
         × Keeps (W.contents writer.old) (W.contents writer.new) }
 
     // No file was opened, made or removed but the one that the words name.
-    ensures files { UsesFiles (map S.text words.now) result.disk
-        (F.opened files.old) (F.opened files.new)
-        (F.taken_away files.old) (F.taken_away files.new) }
+    ensures files { UsesFiles IsTask UsesFor (map S.text words.now) result.disk
+        (F.opened files.old, F.taken_away files.old)
+        (F.opened files.new, F.taken_away files.new) }
 {
     let matches = match motcar_matches(alloc, words) {
         Ok(matches) => matches,
@@ -94,8 +93,9 @@ fn run_command<F: DiskFiles, B: Start, R: Read, W: Write, E: Write>(
         (W.contents writer.old) (W.contents writer.new) }
     ensures files { (all : List Text)
         → AskBy motcar_app IsTask name.now (rows_of (found_of words.now)) all
-        → UsesFiles all result.disk (F.opened files.old) (F.opened files.new)
-        (F.taken_away files.old) (F.taken_away files.new) }
+        → UsesFiles IsTask UsesFor all result.disk
+        (F.opened files.old, F.taken_away files.old)
+        (F.opened files.new, F.taken_away files.new) }
 {
     let Some(task) = program_task(name, words) else {
         let subject = subject_of(Refusal::BadGeometry, words, None, None);
@@ -141,8 +141,9 @@ fn execute<F: DiskFiles, B: Start, R: Read, W: Write>(
         ⊎ DoesInPart task.entry (Some r) result.disk
         (R.remaining reader.old) (R.remaining reader.new)
         (W.contents writer.old) (W.contents writer.new)) }
-    ensures opens { OpensFor task.entry result.disk (F.opened files.old) (F.opened files.new) }
-    ensures takes { TakesAwayFor task.entry (F.taken_away files.old) (F.taken_away files.new) }
+    ensures files { UsesFor task.entry result.disk
+        (F.opened files.old, F.taken_away files.old)
+        (F.opened files.new, F.taken_away files.new) }
 {
     match task {
         Task::Memory(geometry) => serve_memory(alloc, geometry, start, reader, writer),

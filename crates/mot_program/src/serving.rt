@@ -2,8 +2,11 @@
 ghost use Rattle.std.specs.Prelude.{◌≡◌, ◌⊎◌, IfErr, None, OnOk, Some};
 ghost use Rattle.std.specs.Io.KnownBytes.{Keeps};
 ghost use Rattle.disk_model.specs.Disk.{KeepsLength};
+ghost use Rattle.disk_store.specs.Beginning.{SinceOpened};
+ghost use Rattle.disk_store.specs.File.{file_state};
+ghost use Rattle.disk_store.specs.Ram.{ram_state};
 ghost use Rattle.mot_numbers.specs.declared.refusal.Refusal.TheVariants.{DeviceFault};
-ghost use Rattle.mot_outcome.specs.Outcome.{IsUntold, OnOpened};
+ghost use Rattle.mot_outcome.specs.Outcome.{IsUntold, OnFile};
 ghost use Rattle.mot_program.specs.Program.{IsMemoryRefusal, OnMemory};
 ghost use Rattle.mot_program.specs.Program.{Opens, SinceNew};
 ghost use Rattle.mot_program.specs.Serving.{ServesInput, StopsServing};
@@ -28,15 +31,15 @@ pub(crate) fn serve_memory<S: Start, R: Read, W: Write>(
     reader: &mut R,
     writer: &mut W,
 ) -> Finished<S, ()>
-    ensures done { OnOk result.result (OnMemory (SinceNew geometry (ServesInput
-        (R.remaining reader.old) (R.remaining reader.new)
-        (W.contents writer.old) (W.contents writer.new))) result.disk) }
+    ensures done { OnOk result.result (OnMemory (λ disk. SinceNew geometry (λ first now.
+        ServesInput ram_state disk (R.remaining reader.old) (R.remaining reader.new)
+        (W.contents writer.old) (W.contents writer.new) first) disk) result.disk) }
     ensures refused { IfErr result.result (λ r. (IsMemoryRefusal geometry r
         × IsUntold result.disk (W.contents writer.old) (W.contents writer.new)
         × Keeps (R.remaining reader.old) (R.remaining reader.new))
-        ⊎ OnMemory (SinceNew geometry (StopsServing r
+        ⊎ OnMemory (λ disk. SinceNew geometry (λ first now. StopsServing ram_state disk r
         (R.remaining reader.old) (R.remaining reader.new)
-        (W.contents writer.old) (W.contents writer.new))) result.disk) }
+        (W.contents writer.old) (W.contents writer.new) first) disk) result.disk) }
 {
     if !geometry.is_valid() {
         return Finished::unbegun(Refusal::BadGeometry, None, start);
@@ -67,15 +70,15 @@ pub(crate) fn serve_file<F: DiskFiles, S: Start, R: Read, W: Write>(
     reader: &mut R,
     writer: &mut W,
 ) -> Finished<S, ()>
-    ensures done { OnOk result.result (OnOpened (ServesInput
-        (R.remaining reader.old) (R.remaining reader.new)
-        (W.contents writer.old) (W.contents writer.new)) result.disk) }
+    ensures done { OnOk result.result (OnFile (λ disk beside. SinceOpened (λ first now.
+        ServesInput file_state disk (R.remaining reader.old) (R.remaining reader.new)
+        (W.contents writer.old) (W.contents writer.new) first) disk) result.disk) }
     ensures refused { IfErr result.result (λ r. ((r ≡ DeviceFault)
         × IsUntold result.disk (W.contents writer.old) (W.contents writer.new)
         × Keeps (R.remaining reader.old) (R.remaining reader.new))
-        ⊎ OnOpened (StopsServing r
+        ⊎ OnFile (λ disk beside. SinceOpened (λ first now. StopsServing file_state disk r
         (R.remaining reader.old) (R.remaining reader.new)
-        (W.contents writer.old) (W.contents writer.new)) result.disk) }
+        (W.contents writer.old) (W.contents writer.new) first) disk) result.disk) }
     ensures opens { Opens path.now result.disk (F.opened files.old) (F.opened files.new) }
     ensures stays { F.taken_away files.new ≡ F.taken_away files.old }
 {
@@ -96,14 +99,12 @@ fn serve_disk<R: Read, W: Write, D: Disk>(
     writer: &mut W,
 ) -> Ended<D, ()>
     ensures keeps { KeepsLength (D.state disk) (D.state result.disk) }
-    ensures done { OnOk result.result (ServesInput
+    ensures done { OnOk result.result (ServesInput D.state result.disk
         (R.remaining reader.old) (R.remaining reader.new)
-        (W.contents writer.old) (W.contents writer.new)
-        (D.state disk) (D.state result.disk)) }
-    ensures refused { IfErr result.result (λ r. StopsServing r
+        (W.contents writer.old) (W.contents writer.new) (D.state disk)) }
+    ensures refused { IfErr result.result (λ r. StopsServing D.state result.disk r
         (R.remaining reader.old) (R.remaining reader.new)
-        (W.contents writer.old) (W.contents writer.new)
-        (D.state disk) (D.state result.disk)) }
+        (W.contents writer.old) (W.contents writer.new) (D.state disk)) }
 {
     let mut server = match open_server(alloc, disk) {
         Ok(server) => server,

@@ -12,9 +12,9 @@ use Rattle.mot_reading.specs.Exporting.{Exports, RebuildsByLines, StopsExporting
 use Rattle.mot_reading.specs.Inner.Printing.{IsPrintingFault}
 use Rattle.mot_reading.proofs.Opened.{all_hold, rises_later}
 use Rattle.mot_repository.proofs.Laws.{rules_kept, standings-are_sound}
+use Rattle.mot_repository.specs.OnDisk.{OnDisk}
 use Rattle.mot_repository.specs.Opening.{IsOpened}
 use Rattle.mot_repository.specs.Repository.{Holds, IsOf}
-use Rattle.mot_server.specs.Server.{ServerView}
 use Rattle.mot_server.proofs.Laws.{still_unchanged}
 use Rattle.mot_session.specs.Output.{Writes}
 use Rattle.mot_update.proofs.Laws.{exports_are_taken}
@@ -32,30 +32,33 @@ rebuilds_by_lines image s bytes stands first limit empty few = (
       (standings-are_sound image s bytes stands).0.names,
 )
 
-module _ {D : Type 0} (state : D → State) (disk : D) (server new : ServerView D)
+module _ {D : Type 0} (state : D → State) (disk : D) (repository new : OnDisk D)
     (sound : (d : D) → (state d).IsHonest → IsHonestDisk (state d))
-    (opens : OnlySyncs (state disk) (state server.disk))
-    (opened : (state server.disk).IsHonest → IsOpened (state disk) (state server.disk) server.view)
-    (going : IsFalse server.view.halted) (reads : OnlyReads (state server.disk) (state new.disk))
+    (opens : OnlySyncs (state disk) (state repository.disk))
+    (opened : (state repository.disk).IsHonest
+    → IsOpened (state disk) (state repository.disk) repository.view)
+    (going : IsFalse repository.view.halted)
+    (reads : OnlyReads (state repository.disk) (state new.disk))
     (before after : Option (List ℕ)) where
   still_all : (state new.disk).IsHonest → IsStill (state disk) (state new.disk)
   still_all honest =
-      still_unchanged (state disk) (state server.disk) (state new.disk)
+      still_unchanged (state disk) (state repository.disk) (state new.disk)
       (opens.still (reads.keeps.was_honest honest)) (reads.unchanged honest)
 
-  -- what the disk stood for is what the server holds
+  -- what the disk stood for is what the repository holds
   held : (s : Standing) → (state new.disk).IsHonest
       → ((image : List ℕ) → (state disk).MayLeave image → IsOf s image)
-      → Holds server.view s (state server.disk)
+      → Holds repository.view s (state repository.disk)
   held s honest all =
       let was = reads.keeps.was_honest honest in
-      all_hold (state disk) (state server.disk) server.view s
-      (sound disk (opens.keeps.was_honest was)) all (opened was) was (sound server.disk was)
+      all_hold (state disk) (state repository.disk) repository.view s
+      (sound disk (opens.keeps.was_honest was)) all (opened was) was (sound repository.disk was)
       (opens.still was) going
 
-  -- lines that print what an open server holds export the disk's carousel, from its opening on
+  -- lines that print what an open repository holds export the disk's carousel, from its opening on
   pub exports : (result : Result Unit Refusal)
-      → ((s : Standing) → Holds server.view s (state server.disk) → (state new.disk).IsHonest
+      → ((s : Standing) → Holds repository.view s (state repository.disk)
+      → (state new.disk).IsHonest
       → Writes result (export_text s.carousel) before after)
       → OnOk result (Exports before after (state disk) (state new.disk))
   exports (Err refusal) written = tt
@@ -71,14 +74,16 @@ module _ {D : Type 0} (state : D → State) (disk : D) (server new : ServerView 
 
   -- a fault of the printing stops the export, from the disk's opening on
   pub stops : (result : Result Unit Refusal)
-      → ((s : Standing) → Holds server.view s (state server.disk) → (state new.disk).IsHonest
+      → ((s : Standing) → Holds repository.view s (state repository.disk)
+      → (state new.disk).IsHonest
       → Writes result (export_text s.carousel) before after)
-      → IfErr result (λ r. IsPrintingFault r (state server.disk).failures (state new.disk).failures)
+      → IfErr result (λ r. IsPrintingFault r (state repository.disk).failures
+      (state new.disk).failures)
       → IfErr result (λ r. StopsExporting r before after (state disk) (state new.disk))
   stops (Ok done) written why = tt
   stops (Err refusal) written (inl is) = unprinted is still_all
       (λ s honest all. written s (held s honest all) honest)
   stops (Err refusal) written (inr failed) = unread failed.0
-      (rises_later (state disk).failures (state server.disk).failures (state new.disk).failures
+      (rises_later (state disk).failures (state repository.disk).failures (state new.disk).failures
       opens.keeps.later reads.keeps.later failed.1) still_all
       (λ s honest all. written s (held s honest all) honest)

@@ -1,13 +1,13 @@
 -- What is known of a disk that was just opened.
-use Rattle.std.proofs.Common.{◌≡◌, ◌≢◌, ◌⊎◌, ℕ, List, ◌≤◌, inl, inr, arith, sym, subst}
+use Rattle.std.proofs.Common.{◌⊎◌, ℕ, List, ◌≤◌, inl, arith, sym, subst}
 use Rattle.std.specs.Prelude.{IsFalse}
 use Rattle.std.proofs.Math.Logic.{⊎_elim}
 use Rattle.std.proofs.Math.Nat.{eq-or-lt_of_le}
 use Rattle.disk_model.specs.Disk.{IsHonestDisk, IsStill, State}
 use Rattle.disk_model.specs.Failures.{Rises}
 use Rattle.mot_journal.specs.Image.{Standing}
+use Rattle.mot_numbers.specs.Refusal.{IsCalm}
 use Rattle.mot_numbers.specs.declared.refusal.Refusal.{Refusal}
-use Rattle.mot_numbers.specs.declared.refusal.Refusal.TheVariants.{DeviceFault}
 use Rattle.mot_reading.specs.Opening.{IsUnopened}
 use Rattle.mot_repository.specs.Opening.{IsOpened, IsOpeningRefusal}
 use Rattle.mot_repository.specs.Repository.{RepositoryView, IsOf, Holds}
@@ -30,17 +30,12 @@ rises_later old mid new first second rises =
     ⊎_elim (λ e. subst (λ n. Rises n new) (sym e) rises) (λ lt. inl (omega (arith, lt, second)))
     (eq-or-lt_of_le first)
 
-calm_refused : (refusal : Refusal) (m n : ℕ) → (refusal ≡ DeviceFault) ⊎ (m ≡ n)
-    → refusal ≢ DeviceFault → m ≡ n
-calm_refused refusal m n (inl is) other = absurd (other is)
-calm_refused refusal m n (inr same) other = same
-
 -- a disk that an opening refused, and that was only synced, is unopened
 pub unopened_is : (refusal : Refusal) (start now : State) → IsOpeningRefusal start now refusal
-    → (refusal ≡ DeviceFault) ⊎ (now.failures ≡ start.failures)
+    → IsCalm refusal start.failures now.failures
     → (now.IsHonest → IsStill start now) → IsUnopened refusal start now
 unopened_is refusal start now why calm still = record {
   why = why;
-  calm = calm_refused refusal now.failures start.failures calm;
+  calm = calm;
   still = still;
 }

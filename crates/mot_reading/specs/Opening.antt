@@ -1,10 +1,10 @@
 -- A command on the server of a disk that it opens.
-use Rattle.std.specs.Prelude.{◌≡◌, ◌≢◌, ℕ, List}
+use Rattle.std.specs.Prelude.{ℕ, List}
 use Rattle.disk_model.specs.Disk.{State, IsStill}
 use Rattle.mot_journal.specs.Image.{Standing}
 use Rattle.mot_numbers.specs.Geometry.{packet_room}
+use Rattle.mot_numbers.specs.Refusal.{IsCalm}
 use Rattle.mot_numbers.specs.declared.refusal.Refusal.{Refusal}
-use Rattle.mot_numbers.specs.declared.refusal.Refusal.TheVariants.{DeviceFault}
 use Rattle.mot_player.specs.Place.{Place, opened_place}
 use Rattle.mot_player.specs.Turn.{turn_of_carousel}
 use Rattle.mot_repository.specs.Opening.{IsOpeningRefusal}
@@ -20,7 +20,7 @@ OfStanding P start now =
 -- the disk was not opened, and only synced
 pub record IsUnopened (refusal : Refusal) (start now : State) : Type 0 where
   pub why : IsOpeningRefusal start now refusal
-  pub calm : refusal ≢ DeviceFault → now.failures ≡ start.failures
+  pub calm : IsCalm refusal start.failures now.failures
   pub still : now.IsHonest → IsStill start now
 
 -- where a server begins to play that was just opened of a disk that stands for this

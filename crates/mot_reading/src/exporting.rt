@@ -1,5 +1,5 @@
 //! A carousel as the lines that rebuild it.
-ghost use Rattle.std.specs.Prelude.{◌≡◌, ◌≤◌, ◌<◌, Some, length, vec_len, IfErr, IsFalse, OnOk};
+ghost use Rattle.std.specs.Prelude.{◌≡◌, ◌≤◌, ◌<◌, Some, length, vec_len, IfErr, OnOk};
 ghost use Rattle.std.specs.Prelude.{slice_get};
 ghost use Rattle.disk_model.specs.Disk.{KeepsLength, OnlyReads};
 ghost use Rattle.hex.specs.Hex.{encode_lower};
@@ -16,8 +16,8 @@ use crate::Ended;
 use disk_model::Disk;
 use mot_lines::{period_text, put_text};
 use mot_numbers::Refusal;
-use mot_reason::open_server;
-use mot_server::Server;
+use mot_reason::open_repository;
+use mot_repository::Repository;
 use mot_session::write_whole;
 use std::alloc::Global;
 use std::io::Write;
@@ -35,32 +35,34 @@ pub fn export_disk<D: Disk, W: Write>(alloc: Global, disk: D, writer: &mut W) ->
     ensures refused { IfErr result.result (λ r. StopsExporting r
         (W.contents writer.old) (W.contents writer.new) (D.state disk) (D.state result.disk)) }
 {
-    let mut server = match open_server(alloc, disk) {
-        Ok(server) => server,
+    let mut repository = match open_repository(alloc, disk) {
+        Ok(repository) => repository,
         Err(refused) => return Ended::unopened(refused),
     };
-    let result = write_export(&mut server, writer);
+    let result = write_export(&mut repository, writer);
     Ended {
-        disk: server.into_disk(),
+        disk: repository.into_disk(),
         result,
         reason: None,
     }
 }
 
-/// Writes the lines of an open server's carousel; after a fault some first bytes of them.
-fn write_export<D: Disk, W: Write>(server: &mut Server<D>, writer: &mut W) -> Result<(), Refusal>
-    requires { IsFalse server.old.view.halted }
-    ensures only_reads { OnlyReads (D.state server.old.disk) (D.state server.new.disk) }
-    ensures written { (s : Standing) → Holds server.old.view s (D.state server.old.disk)
-        → (D.state server.new.disk).IsHonest
+/// Writes the lines of an open repository's carousel; after a fault some first bytes of them.
+fn write_export<D: Disk, W: Write>(
+    repository: &mut Repository<D>,
+    writer: &mut W,
+) -> Result<(), Refusal>
+    ensures only_reads { OnlyReads (D.state repository.old.disk) (D.state repository.new.disk) }
+    ensures written { (s : Standing) → Holds repository.old.view s (D.state repository.old.disk)
+        → (D.state repository.new.disk).IsHonest
         → Writes result (export_text s.carousel) (W.contents writer.old) (W.contents writer.new) }
-    ensures fault { IfErr result (λ r. IsPrintingFault r (D.state server.old.disk).failures
-        (D.state server.new.disk).failures) }
+    ensures fault { IfErr result (λ r. IsPrintingFault r (D.state repository.old.disk).failures
+        (D.state repository.new.disk).failures) }
 {
-    for place in 0..server.carousel().objects.len() {
-        write_object(server, place, writer)?;
+    for place in 0..repository.carousel().objects.len() {
+        write_object(repository, place, writer)?;
     }
-    write_bytes(writer, period_text(server.carousel().period).as_slice())?;
+    write_bytes(writer, period_text(repository.carousel().period).as_slice())?;
     match writer.flush() {
         Ok(()) => Ok(()),
         Err(_) => Err(Refusal::WriteFault),
@@ -69,53 +71,54 @@ fn write_export<D: Disk, W: Write>(server: &mut Server<D>, writer: &mut W) -> Re
 
 /// Writes the line of the object at this place.
 fn write_object<D: Disk, W: Write>(
-    server: &mut Server<D>,
+    repository: &mut Repository<D>,
     place: usize,
     writer: &mut W,
 ) -> Result<(), Refusal>
-    requires place { place < vec_len server.old.view.carousel.objects }
-    requires going { IsFalse server.old.view.halted }
-    ensures only_reads { OnlyReads (D.state server.old.disk) (D.state server.new.disk) }
-    ensures view { server.new.view ≡ server.old.view }
+    requires place { place < vec_len repository.old.view.carousel.objects }
+    ensures only_reads { OnlyReads (D.state repository.old.disk) (D.state repository.new.disk) }
+    ensures view { repository.new.view ≡ repository.old.view }
     ensures written { (s : Standing) (o : whole.Object)
-        → Holds server.old.view s (D.state server.old.disk) → (D.state server.new.disk).IsHonest
+        → Holds repository.old.view s (D.state repository.old.disk)
+        → (D.state repository.new.disk).IsHonest
         → slice_get s.carousel.objects place ≡ Some o
         → Writes result (put_line o) (W.contents writer.old) (W.contents writer.new) }
-    ensures fault { IfErr result (λ r. IsPrintingFault r (D.state server.old.disk).failures
-        (D.state server.new.disk).failures) }
+    ensures fault { IfErr result (λ r. IsPrintingFault r (D.state repository.old.disk).failures
+        (D.state repository.new.disk).failures) }
 {
     write_bytes(
         writer,
-        put_text(&server.carousel().objects[place]).as_slice(),
+        put_text(&repository.carousel().objects[place]).as_slice(),
     )?;
-    write_body(server, place, writer)?;
+    write_body(repository, place, writer)?;
     write_bytes(writer, b"\n")
 }
 
 /// Writes the body in small hexadecimal digits, a piece at a time.
 fn write_body<D: Disk, W: Write>(
-    server: &mut Server<D>,
+    repository: &mut Repository<D>,
     place: usize,
     writer: &mut W,
 ) -> Result<(), Refusal>
-    requires place { place < vec_len server.old.view.carousel.objects }
-    requires going { IsFalse server.old.view.halted }
-    ensures only_reads { OnlyReads (D.state server.old.disk) (D.state server.new.disk) }
-    ensures view { server.new.view ≡ server.old.view }
-    ensures written { (s : Standing) → Holds server.old.view s (D.state server.old.disk)
-        → (D.state server.new.disk).IsHonest
+    requires place { place < vec_len repository.old.view.carousel.objects }
+    ensures only_reads { OnlyReads (D.state repository.old.disk) (D.state repository.new.disk) }
+    ensures view { repository.new.view ≡ repository.old.view }
+    ensures written { (s : Standing) → Holds repository.old.view s (D.state repository.old.disk)
+        → (D.state repository.new.disk).IsHonest
         → Writes result (encode_lower (object_body s.carousel.objects place))
         (W.contents writer.old) (W.contents writer.new) }
-    ensures fault { IfErr result (λ r. IsPrintingFault r (D.state server.old.disk).failures
-        (D.state server.new.disk).failures) }
+    ensures fault { IfErr result (λ r. IsPrintingFault r (D.state repository.old.disk).failures
+        (D.state repository.new.disk).failures) }
 {
-    let length = server.body_length(place);
+    let bodies = repository.body_count();
+    prove!(place < bodies);
+    let length = repository.body_length(place) as usize;
     let mut piece = [0u8; PIECE];
     let mut from = 0;
     while from < length {
         let count = PIECE.min(length - from);
         let read = &mut piece[..count];
-        server.read_body(place, from, read)?;
+        repository.read_body(place, from, read)?;
         write_digits(writer, read)?;
         from += count;
     }

@@ -7,7 +7,7 @@ use Rattle.disk_model.specs.Failures.{Rises}
 use Rattle.mot_numbers.specs.declared.refusal.Refusal.{Refusal}
 use Rattle.mot_numbers.specs.declared.refusal.Refusal.TheVariants.{DeviceFault}
 use Rattle.mot_repository.specs.Opening.{IsOpeningRefusal}
-use Rattle.mot_repository.specs.Opening.IsOpeningRefusal.{not_formatted, damaged, no_memory, device}
+use Rattle.mot_journal.specs.Journal.IsReadingRefusal.{not_formatted, damaged, no_memory, device}
 
 -- a disk that fails after some calls has failed in all of them
 rises_later : (old mid new : ℕ) → old ≤ mid → mid ≤ new → Rises mid new → Rises old new

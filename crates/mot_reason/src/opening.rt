@@ -1,7 +1,8 @@
 //! Disks opened, with the reason if they are refused.
-ghost use Rattle.std.specs.Prelude.{◌≡◌, ◌⊎◌, IfErr, IfOk, IfSome, IsFalse, MatchResult};
+ghost use Rattle.std.specs.Prelude.{◌≡◌, IfErr, IfOk, IfSome, IsFalse, MatchResult};
 ghost use Rattle.disk_model.specs.Disk.{OnlySyncs};
 ghost use Rattle.mot_journal.specs.Image as journal;
+ghost use Rattle.mot_numbers.specs.Refusal.{IsCalm};
 ghost use Rattle.mot_numbers.specs.Geometry.{packet_room};
 ghost use Rattle.mot_numbers.specs.declared.refusal.Refusal.TheVariants.{DeviceFault};
 ghost use Rattle.mot_player.specs.Place.{opened_place};
@@ -47,8 +48,8 @@ pub fn open_repository<D: Disk>(alloc: Global, disk: D) -> Result<Repository<D>,
     // A disk fault is answered exactly if the disk has failed.
     ensures calm { MatchResult result
         (λ r. (D.state r.disk).failures ≡ (D.state disk).failures)
-        (λ e. (e.refusal ≡ DeviceFault)
-        ⊎ ((D.state e.disk).failures ≡ (D.state disk).failures)) }
+        (λ e. IsCalm e.refusal (D.state disk).failures
+        (D.state e.disk).failures) }
 
     // The reason is so of the disk's bytes.
     ensures so { IfErr result (λ e. (D.state e.disk).IsHonest → IfSome e.reason
@@ -70,8 +71,8 @@ pub fn open_server<D: Disk>(alloc: Global, disk: D) -> Result<Server<D>, Explain
     // A disk fault is answered exactly if the disk has failed.
     ensures calm { MatchResult result
         (λ server. (D.state server.disk).failures ≡ (D.state disk).failures)
-        (λ e. (e.refusal ≡ DeviceFault)
-        ⊎ ((D.state e.disk).failures ≡ (D.state disk).failures)) }
+        (λ e. IsCalm e.refusal (D.state disk).failures
+        (D.state e.disk).failures) }
 
     // What is kept is what the disk stands for, and no position of it is loose.
     ensures opened { IfOk result (λ server. (D.state server.disk).IsHonest

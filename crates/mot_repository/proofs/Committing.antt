@@ -5,7 +5,8 @@ use Rattle.disk_model.specs.Disk.{State, Keeps, WritesWithin, Torn, Throughout, 
 use Rattle.disk_model.proofs.Laws.{begins, goes_on, joins, weakens, at_end}
 use Rattle.mot_journal.specs.declared.layout.Layout.{Layout}
 use Rattle.mot_journal.specs.declared.record.Record.{Record}
-use Rattle.mot_journal.specs.Catalogue.{Catalogue, catalogue_of, carousel_in, extents_of}
+use Rattle.mot_journal.specs.Image.{catalogue_of}
+use Rattle.mot_journal.specs.Catalogue.{Catalogue, carousel_in, extents_of}
 use Rattle.mot_journal.specs.Image.{Standing, area_of}
 use Rattle.mot_journal.specs.Journal.{JournalView, with_records, HasRecords, HoldsRecords}
 use Rattle.mot_journal.specs.Journal.{FoldOf}

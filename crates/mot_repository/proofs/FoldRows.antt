@@ -3,7 +3,8 @@ use Rattle.std.proofs.Common.{◌≡◌, ℕ, [], ◌∷◌, None, Ok, Err, refl
 use Rattle.mot_journal.specs.declared.record.Record.{Record}
 use Rattle.mot_journal.specs.declared.record.Action.{Action}
 use Rattle.mot_journal.specs.declared.record.Action.TheVariants.{Nothing, Set, Remove}
-use Rattle.mot_journal.specs.Catalogue.{Placed, catalogue_of, fold_from}
+use Rattle.mot_journal.specs.Image.{catalogue_of, fold_from}
+use Rattle.mot_journal.specs.Catalogue.{Placed}
 use Rattle.mot_numbers.specs.declared.refusal.Refusal.TheVariants.{Damaged}
 
 -- a record after which the directory has this id

@@ -3,8 +3,9 @@ use Rattle.std.proofs.Common.{◌≡◌, ℕ, suc, ◌+◌, ◌<◌, List, ◌�
 use Rattle.std.proofs.Common.{Ok, Err, sym, ap, ◌∙◌, arith, add-one, drop-cons}
 use Rattle.std.proofs.lemmas.List.{drop_all}
 use Rattle.mot_journal.specs.declared.record.Record.{Record}
-use Rattle.mot_journal.specs.Catalogue.{Catalogue, catalogue_after, fold_from, or_damaged}
-use Rattle.mot_journal.specs.Catalogue.{result_then}
+use Rattle.mot_journal.specs.Image.{fold_from, or_damaged}
+use Rattle.mot_numbers.specs.Refusal.{◌>>=◌}
+use Rattle.mot_journal.specs.Catalogue.{Catalogue, catalogue_after}
 use Rattle.mot_numbers.specs.declared.refusal.Refusal.TheVariants.{Damaged}
 
 -- the record of this number
@@ -38,7 +39,7 @@ module _ (limit number : ℕ) (c : Catalogue) (records : List Record) (r : Recor
   unfolding fold_from
   fold_goes_on next after =
       ap (fold_from limit number c) (first-out records number r next_is.within next_is.is)
-      ∙ ap (λ o. result_then (or_damaged number o)
+      ∙ ap (λ o. ◌>>=◌ (or_damaged number o)
       (λ n. fold_from limit (number + 1) n (drop (number + 1) records))) after
 
   -- a record with a fault of the list breaks the fold, with its slot
@@ -47,7 +48,7 @@ module _ (limit number : ℕ) (c : Catalogue) (records : List Record) (r : Recor
   unfolding fold_from
   fold_breaks after =
       ap (fold_from limit number c) (first-out records number r next_is.within next_is.is)
-      ∙ ap (λ o. result_then (or_damaged number o)
+      ∙ ap (λ o. ◌>>=◌ (or_damaged number o)
       (λ n. fold_from limit (number + 1) n (drop (number + 1) records))) after
 
 -- behind the last record the fold gives its catalogue

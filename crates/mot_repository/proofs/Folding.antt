@@ -11,10 +11,11 @@ use Rattle.std.specs.List.{list_any, list_all, AllByRecursion}
 use Rattle.mot_journal.specs.declared.record.Record.{Record}
 use Rattle.mot_journal.specs.declared.record.Action.{Action}
 use Rattle.mot_journal.specs.declared.record.Action.TheVariants.{Nothing, Set, Remove}
+use Rattle.mot_journal.specs.Image.{or_damaged, fold_from, catalogue_of}
+use Rattle.mot_numbers.specs.Refusal.{◌>>=◌ as result_then}
 use Rattle.mot_journal.specs.Catalogue.{Placed, Catalogue, new_catalogue, put_in_place}
 use Rattle.mot_journal.specs.Catalogue.{placed_without, in_place_or_appended, objects_after}
 use Rattle.mot_journal.specs.Catalogue.{are_apart, are_all_apart, is_consistent, catalogue_after}
-use Rattle.mot_journal.specs.Catalogue.{or_damaged, result_then, fold_from, catalogue_of}
 use Rattle.mot_numbers.specs.Reading.{◌>>=◌}
 use Rattle.mot_objects.specs.Carousel.{are_names_distinct}
 use Rattle.mot_repository.specs.Whole.{placed_names, IsGood}

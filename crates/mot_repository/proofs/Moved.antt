@@ -4,7 +4,8 @@ use Rattle.std.specs.Prelude.{IsFalse, IsOk}
 use Rattle.disk_model.specs.Disk.{State, IsHonestDisk, Throughout}
 use Rattle.mot_journal.specs.declared.layout.Layout.{Layout}
 use Rattle.mot_journal.specs.declared.record.Record.{Record}
-use Rattle.mot_journal.specs.Catalogue.{Catalogue, catalogue_of}
+use Rattle.mot_journal.specs.Image.{catalogue_of}
+use Rattle.mot_journal.specs.Catalogue.{Catalogue}
 use Rattle.mot_journal.specs.Image.{Standing}
 use Rattle.mot_journal.specs.Journal.{JournalView, HoldsRecords, FoldOf, OldOrGiven, OnlyReadArea}
 use Rattle.mot_repository.specs.Extents.{catalogue_in}

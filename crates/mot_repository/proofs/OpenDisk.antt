@@ -13,12 +13,11 @@ use Rattle.mot_journal.specs.declared.record.Record.{Record}
 use Rattle.mot_journal.specs.declared.record.Action.{Action}
 use Rattle.mot_journal.specs.declared.record.Action.TheVariants.{Nothing, Set, Remove}
 use Rattle.mot_journal.specs.Slot.{is_sound}
-use Rattle.mot_journal.specs.Catalogue.{Placed, catalogue_of, carousel_in, extents_of, result_then}
+use Rattle.mot_journal.specs.Image.{catalogue_of}
+use Rattle.mot_numbers.specs.Refusal.{◌>>=◌}
+use Rattle.mot_journal.specs.Catalogue.{Placed, carousel_in, extents_of}
 use Rattle.mot_journal.specs.Image.{DiskRecords, records_of, stands_for, area_of}
 use Rattle.mot_journal.specs.Journal.{JournalView, with_records, IsLoadRefusal}
-use Rattle.mot_journal.specs.Journal.IsLoadRefusal.{not_formatted as no_format}
-use Rattle.mot_journal.specs.Journal.IsLoadRefusal.{damaged as no_record, no_memory as no_room}
-use Rattle.mot_journal.specs.Journal.IsLoadRefusal.{device as fault}
 use Rattle.mot_numbers.specs.Geometry.{length_of}
 use Rattle.mot_numbers.specs.declared.geometry.Geometry.{Geometry}
 use Rattle.mot_numbers.specs.declared.refusal.Refusal.{Refusal}
@@ -30,7 +29,7 @@ use Rattle.mot_repository.specs.Inner.Fold.{HaveLengths, IsFoldRefusal, HasShort
 use Rattle.mot_repository.specs.Inner.InOrder.{IsInOrder}
 use Rattle.mot_repository.specs.Inner.Loaded.{IsLoaded}
 use Rattle.mot_repository.specs.Opening.{IsOpened, IsOpeningRefusal}
-use Rattle.mot_repository.specs.Opening.IsOpeningRefusal.{not_formatted, damaged, no_memory, device}
+use Rattle.mot_journal.specs.Journal.IsReadingRefusal.{not_formatted, damaged, no_memory, device}
 use Rattle.mot_repository.specs.Prepared.{view_with}
 use Rattle.mot_repository.specs.Repository.{RepositoryView}
 use Rattle.mot_repository.proofs.Preparing.{opened}
@@ -43,8 +42,8 @@ no-records : (image : List ℕ) (refusal : Refusal) → records_of image ≡ Err
     → stands_for image ≡ Err refusal
 unfolding stands_for
 no-records image refusal e =
-    ap (λ o. result_then o (λ (j : DiskRecords).
-    result_then (catalogue_of j.geometry.objects j.records) (λ c.
+    ap (λ o. ◌>>=◌ o (λ (j : DiskRecords).
+    ◌>>=◌ (catalogue_of j.geometry.objects j.records) (λ c.
     Ok (record {
       geometry = j.geometry;
       carousel = carousel_in (area_of j.geometry image) c;
@@ -56,14 +55,14 @@ no-catalogue : (image : List ℕ) (j : JournalView) (records : List Record) (ref
     → catalogue_of j.geometry.objects records ≡ Err refusal → stands_for image ≡ Err refusal
 unfolding stands_for
 no-catalogue image j records refusal read e =
-    ap (λ o. result_then o (λ (k : DiskRecords).
-    result_then (catalogue_of k.geometry.objects k.records) (λ c.
+    ap (λ o. ◌>>=◌ o (λ (k : DiskRecords).
+    ◌>>=◌ (catalogue_of k.geometry.objects k.records) (λ c.
     Ok (record {
       geometry = k.geometry;
       carousel = carousel_in (area_of k.geometry image) c;
       extents = extents_of c;
     })))) read
-    ∙ ap (λ o. result_then o
+    ∙ ap (λ o. ◌>>=◌ o
     (λ c. Ok (record {
       geometry = j.geometry;
       carousel =
@@ -74,12 +73,12 @@ no-catalogue image j records refusal read e =
 -- what refuses a disk's loading refuses its opening
 pub load_refused : (old new : State) (refusal : Refusal) → IsLoadRefusal old new refusal
     → IsOpeningRefusal old new refusal
-load_refused old new refusal (no_format is told) =
+load_refused old new refusal (not_formatted is told) =
     not_formatted is (λ honest. no-records old.bytes refusal (told honest))
-load_refused old new refusal (no_record slot is told) =
+load_refused old new refusal (damaged slot is told) =
     damaged slot is (λ honest. no-records old.bytes refusal (told honest))
-load_refused old new refusal (no_room is) = no_memory is
-load_refused old new refusal (fault is rises) = device is rises
+load_refused old new refusal (no_memory is) = no_memory is
+load_refused old new refusal (device is rises) = device is rises
 
 -- what refuses the fold of the records that a disk has refuses its opening
 pub fold_refused : (old new : State) (j : JournalView) (records : List Record) (refusal : Refusal)

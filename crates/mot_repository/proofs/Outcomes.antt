@@ -7,7 +7,7 @@ use Rattle.std.specs.Prelude.{if◌then◌else◌}
 use Rattle.mot_carousel.proofs.Laws.{refused_by_rules}
 use Rattle.mot_journal.specs.declared.layout.Layout.{Layout}
 use Rattle.mot_journal.specs.declared.record.Record.{Record}
-use Rattle.mot_journal.specs.Catalogue.{result_then}
+use Rattle.mot_numbers.specs.Refusal.{◌>>=◌}
 use Rattle.mot_journal.specs.Image.{Standing}
 use Rattle.mot_numbers.specs.declared.geometry.Geometry.{Geometry}
 use Rattle.mot_numbers.specs.declared.refusal.Refusal.{Refusal}
@@ -62,8 +62,8 @@ module _ (layout : Layout) (s : Standing) (command : Command) where
       → Result (Standing × Done) Refusal
   whole long rules lies =
       if long then Err BadName
-      else (result_then rules (λ c.
-      result_then (or_no_room lies) (λ start. Ok (made c start, c.1))))
+      else (◌>>=◌ rules (λ c.
+      ◌>>=◌ (or_no_room lies) (λ start. Ok (made c start, c.1))))
 
   abbrev ruled : Result (Carousel × Done) Refusal
   ruled = change s.carousel s.geometry.objects command

@@ -2,7 +2,7 @@
 use Rattle.std.proofs.Common.{◌≡◌, ℕ, List, Result, Ok, Err, ap, subst}
 use Rattle.mot_journal.specs.declared.layout.Layout.{Layout}
 use Rattle.mot_journal.specs.declared.record.Record.{Record}
-use Rattle.mot_journal.specs.Catalogue.{result_then}
+use Rattle.mot_numbers.specs.Refusal.{◌>>=◌}
 use Rattle.mot_journal.specs.Geometry.{selected_half}
 use Rattle.mot_journal.specs.Image.{DiskRecords, records_of, journal_in_half, half_of}
 use Rattle.mot_journal.specs.Image.{or_not_formatted}
@@ -20,7 +20,7 @@ is-same k j e = cc
 
 parts-cases : (g : Geometry) (half : ℕ) (layout : Layout) (r : Result (List Record) Refusal)
     (j : DiskRecords)
-    → result_then r (λ records.
+    → ◌>>=◌ r (λ records.
     found (record { geometry = g; half = half; layout = layout; records = records })) ≡ found j
     → (half ≡ j.half) × (layout ≡ j.layout)
 parts-cases g half layout (Ok records) j e =
@@ -35,7 +35,7 @@ pub stands_where : (j : JournalView) (records : List Record) (image : List ℕ)
 unfolding records_of
 stands_where j records image read =
     let geometry = geometry_read image (with_records j records) read in
-    let here = subst (λ o. result_then (or_not_formatted o)
+    let here = subst (λ o. ◌>>=◌ (or_not_formatted o)
     (λ g. journal_in_half g (selected_half image) (half_of g image))
     ≡ found (with_records j records)) geometry read in
     let is = parts-cases j.geometry (selected_half image) (layout_of (half_of j.geometry image)) _

@@ -10,9 +10,10 @@ use Rattle.std.specs.List.{AllByRecursion, list_all}
 use Rattle.disk_model.specs.Disk.{State, IsHonestDisk, IsFirm}
 use Rattle.mot_journal.specs.declared.record.Record.{Record}
 use Rattle.mot_journal.specs.declared.record.Action.{Action}
-use Rattle.mot_journal.specs.Catalogue.{Placed, Catalogue, catalogue_of, catalogue_after}
-use Rattle.mot_journal.specs.Catalogue.{body_in_area, carousel_in, extents_of, fold_from}
-use Rattle.mot_journal.specs.Catalogue.{or_damaged, result_then}
+use Rattle.mot_journal.specs.Image.{catalogue_of, fold_from, or_damaged}
+use Rattle.mot_numbers.specs.Refusal.{◌>>=◌}
+use Rattle.mot_journal.specs.Catalogue.{Placed, Catalogue, catalogue_after}
+use Rattle.mot_journal.specs.Catalogue.{body_in_area, carousel_in, extents_of}
 use Rattle.mot_journal.specs.Gaps.{AreBeside, standing_of}
 use Rattle.mot_journal.specs.Image.{DiskRecords, Standing, records_of, stands_for, area_of}
 use Rattle.mot_journal.specs.Journal.{JournalView, with_records, HasRecords}
@@ -272,10 +273,10 @@ kept view s state sound holds =
 
 push-cases : (limit number : ℕ) (d next : Catalogue) (records : List Record) (r : Record)
     (o : Option Catalogue)
-    → result_then (or_damaged number o) (λ k. fold_from limit (number + 1) k records) ≡ Ok d
+    → ◌>>=◌ (or_damaged number o) (λ k. fold_from limit (number + 1) k records) ≡ Ok d
     → ((k : Catalogue) → fold_from limit (number + 1) k records ≡ Ok d
     → fold_from limit (number + 1) k (records ++ r ∷ []) ≡ Ok next)
-    → result_then (or_damaged number o) (λ k. fold_from limit (number + 1) k (records ++ r ∷ []))
+    → ◌>>=◌ (or_damaged number o) (λ k. fold_from limit (number + 1) k (records ++ r ∷ []))
     ≡ Ok next
 push-cases limit number d next records r None f rest = cc
 push-cases limit number d next records r (Some k) f rest = rest k f
@@ -286,9 +287,9 @@ fold-push : (limit number : ℕ) (c d next : Catalogue) (records : List Record) 
 unfolding fold_from
 fold-push limit number c d next [] r e after =
     let same : c ≡ d = cc in
-    ap (λ k. result_then (or_damaged number (catalogue_after limit k r)) (λ (x : Catalogue). Ok x))
+    ap (λ k. ◌>>=◌ (or_damaged number (catalogue_after limit k r)) (λ (x : Catalogue). Ok x))
     same
-    ∙ ap (λ o. result_then (or_damaged number o) (λ (x : Catalogue). Ok x)) after
+    ∙ ap (λ o. ◌>>=◌ (or_damaged number o) (λ (x : Catalogue). Ok x)) after
 fold-push limit number c d next (q ∷ records) r e after =
     push-cases limit number d next records r (catalogue_after limit c q) e
     (λ k f. fold-push limit (number + 1) k d next records r f after)

@@ -11,7 +11,8 @@ use Rattle.mot_journal.specs.declared.record.Action.{Action}
 use Rattle.mot_journal.specs.declared.record.Action.TheVariants.{Nothing, Set, Remove}
 use Rattle.mot_journal.specs.Geometry.{columns, geometry_in, geometry_of, has_magic, selected_half}
 use Rattle.mot_journal.specs.Slot.{slot_size, slot_count, is_open, is_sound, read_slot, layout_of}
-use Rattle.mot_journal.specs.Catalogue.{or_damaged, result_then}
+use Rattle.mot_journal.specs.Image.{or_damaged}
+use Rattle.mot_numbers.specs.Refusal.{◌>>=◌ as result_then}
 use Rattle.mot_journal.specs.Image.{DiskRecords, records_of, records_in, slots_in, slots_of}
 use Rattle.mot_journal.specs.Image.{half_of, journal_in_half, or_not_formatted}
 use Rattle.mot_numbers.specs.Fields.{number_in}

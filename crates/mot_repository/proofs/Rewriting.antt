@@ -8,10 +8,11 @@ use Rattle.std.specs.Prelude.{nat_eq, bytes_eq, option_map}
 use Rattle.std.specs.List.{list_any, list_all}
 use Rattle.mot_journal.specs.declared.record.Record.{Record}
 use Rattle.mot_journal.specs.declared.record.Action.TheVariants.{Nothing, Set}
+use Rattle.mot_journal.specs.Image.{or_damaged, fold_from, catalogue_of}
+use Rattle.mot_numbers.specs.Refusal.{◌>>=◌}
 use Rattle.mot_journal.specs.Catalogue.{Placed, Catalogue, new_catalogue, put_in_place}
 use Rattle.mot_journal.specs.Catalogue.{in_place_or_appended, objects_after, are_apart}
-use Rattle.mot_journal.specs.Catalogue.{are_all_apart, is_consistent, catalogue_after, or_damaged}
-use Rattle.mot_journal.specs.Catalogue.{result_then, fold_from, catalogue_of}
+use Rattle.mot_journal.specs.Catalogue.{are_all_apart, is_consistent, catalogue_after}
 use Rattle.mot_numbers.specs.declared.refusal.Refusal.{Refusal}
 use Rattle.mot_objects.specs.Carousel.{are_names_distinct}
 use Rattle.mot_objects.specs.Ids.{contains, is_distinct}
@@ -136,7 +137,7 @@ fold-rest limit number c before [] e good =
     let same : before ≡ c.objects = sym (append-nil before) ∙ e in
     ap (λ (l : List Placed). let r : Result Catalogue Refusal = Ok (of_first c l) in r) same
 fold-rest limit number c before (p ∷ rest) e good =
-    ap (λ o. result_then (or_damaged number o)
+    ap (λ o. ◌>>=◌ (or_damaged number o)
     (λ next. fold_from limit (number + 1) next (records_of_objects c rest)))
     (one-more limit c (of_first c before) p rest e good)
     ∙ fold-rest limit (number + 1) c (before ++ p ∷ []) rest (grouped p before rest ∙ e) good
@@ -157,12 +158,12 @@ fold-all limit period directory cursor [] good =
       action =
           Nothing;
     } in
-    ap (λ o. result_then (or_damaged 0 o) (λ next. fold_from limit 1 next []))
+    ap (λ o. ◌>>=◌ (or_damaged 0 o) (λ next. fold_from limit 1 next []))
     (step_from limit new_catalogue r [] refl good.consistent)
 fold-all limit period directory cursor (p ∷ objects) good =
     let c : Catalogue = record
     { period = period; directory = directory; cursor = cursor; objects = p ∷ objects } in
-    ap (λ o. result_then (or_damaged 0 o)
+    ap (λ o. ◌>>=◌ (or_damaged 0 o)
     (λ next. fold_from limit 1 next (records_of_objects c objects)))
     (one-more limit c new_catalogue p objects refl good)
     ∙ fold-rest limit 1 c (p ∷ []) objects refl good

@@ -6,7 +6,8 @@ use Rattle.std.proofs.lemmas.List.Elements.{All-drop, All-take}
 use Rattle.std.specs.List.{AllByRecursion}
 use Rattle.std.specs.Prelude.{All}
 use Rattle.mot_journal.proofs.Laws.{geometry_read}
-use Rattle.mot_journal.specs.Catalogue.{Catalogue, Placed, body_in_area, catalogue_of}
+use Rattle.mot_journal.specs.Image.{catalogue_of}
+use Rattle.mot_journal.specs.Catalogue.{Catalogue, Placed, body_in_area}
 use Rattle.mot_journal.specs.Catalogue.{new_catalogue}
 use Rattle.mot_journal.specs.Image.{Standing, area_of, stands_for}
 use Rattle.mot_journal.specs.declared.layout.Layout.{Layout}

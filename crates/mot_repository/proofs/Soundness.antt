@@ -19,9 +19,10 @@ use Rattle.mot_journal.specs.declared.record.Record.{Record}
 use Rattle.mot_journal.specs.declared.record.Action.{Action}
 use Rattle.mot_journal.specs.declared.record.Action.TheVariants.{Nothing, Set, Remove}
 use Rattle.mot_journal.specs.Slot.{is_sound, is_sound_action, longest_name}
-use Rattle.mot_journal.specs.Catalogue.{Placed, Catalogue, new_catalogue, catalogue_of}
+use Rattle.mot_journal.specs.Image.{catalogue_of}
+use Rattle.mot_numbers.specs.Refusal.{◌>>=◌}
+use Rattle.mot_journal.specs.Catalogue.{Placed, Catalogue, new_catalogue}
 use Rattle.mot_journal.specs.Catalogue.{catalogue_after, are_all_apart, body_in_area, carousel_in}
-use Rattle.mot_journal.specs.Catalogue.{result_then}
 use Rattle.mot_journal.specs.Gaps.{AreBeside, standing_of}
 use Rattle.mot_journal.specs.Image.{DiskRecords, Standing, records_of, stands_for, area_of}
 use Rattle.mot_numbers.specs.declared.refusal.Refusal.{Refusal}
@@ -251,7 +252,7 @@ pub record IsFolded (image : List ℕ) (s : Standing) : Type 0 where
 fold-cases : (image : List ℕ) (s : Standing) (j : DiskRecords) (o : Result Catalogue Refusal)
     → records_of image ≡ Ok j
     → catalogue_of j.geometry.objects j.records ≡ o
-    → result_then o (λ c. Ok (standing_of j.geometry c image)) ≡ Ok s → IsFolded image s
+    → ◌>>=◌ o (λ c. Ok (standing_of j.geometry c image)) ≡ Ok s → IsFolded image s
 fold-cases image s j (Ok c) read fold e =
     let same : standing_of j.geometry c image ≡ s = cc in
     record { journal_in_half = j; catalogue = c; read = read; fold = fold; is = same }
@@ -259,7 +260,7 @@ fold-cases image s j (Err refusal) read fold e = cc
 
 record-cases : (image : List ℕ) (s : Standing) (o : Result DiskRecords Refusal)
     → records_of image ≡ o
-    → result_then o (λ j. result_then (catalogue_of j.geometry.objects j.records)
+    → ◌>>=◌ o (λ j. ◌>>=◌ (catalogue_of j.geometry.objects j.records)
     (λ c. Ok (standing_of j.geometry c image))) ≡ Ok s → IsFolded image s
 record-cases image s (Ok j) read e =
     fold-cases image s j (catalogue_of j.geometry.objects j.records) read refl e

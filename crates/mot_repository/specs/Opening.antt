@@ -1,13 +1,12 @@
 -- What an opening gives, and why a disk is not opened.
-use Rattle.std.specs.Prelude.{◌≡◌, ◌⊎◌, ℕ, List, length, Ok, Err, IsFalse}
+use Rattle.std.specs.Prelude.{◌≡◌, ◌⊎◌, List, length, Ok, IsFalse}
 use Rattle.disk_model.specs.Disk.{State, IsFirm}
 use Rattle.disk_model.specs.Failures.{Rises}
 use Rattle.mot_journal.specs.declared.record.Record.{Record}
 use Rattle.mot_journal.specs.Image.{Standing, records_of, stands_for}
-use Rattle.mot_journal.specs.Journal.{with_records}
+use Rattle.mot_journal.specs.Journal.{IsReadingRefusal, with_records}
 use Rattle.mot_numbers.specs.declared.refusal.Refusal.{Refusal}
 use Rattle.mot_numbers.specs.declared.refusal.Refusal.TheVariants.{OutOfMemory, DeviceFault}
-use Rattle.mot_numbers.specs.declared.refusal.Refusal.TheVariants.{NotFormatted, Damaged}
 use Rattle.mot_repository.specs.Repository.{RepositoryView, Agrees}
 
 -- An open repository keeps what the bytes stand for, and no position of the disk is loose.
@@ -22,16 +21,9 @@ pub record IsOpened (old new : State) (view : RepositoryView) : Type 0 where
   pub count : view.journal.count ≡ length records
   pub unspent : IsFalse view.journal.spent
 
--- Of a disk that is honest afterwards `NotFormatted` and `Damaged` are told where its bytes stand
--- for nothing, with the slot.
-pub data IsOpeningRefusal (old new : State) (refusal : Refusal) : Type 0 where
-  not_formatted : refusal ≡ NotFormatted
-      → (new.IsHonest → stands_for old.bytes ≡ Err refusal) → IsOpeningRefusal old new refusal
-  damaged : (slot : ℕ) → refusal ≡ Damaged slot
-      → (new.IsHonest → stands_for old.bytes ≡ Err refusal) → IsOpeningRefusal old new refusal
-  no_memory : refusal ≡ OutOfMemory → IsOpeningRefusal old new refusal
-  device : refusal ≡ DeviceFault → Rises old.failures new.failures
-      → IsOpeningRefusal old new refusal
+-- why what the bytes stand for is not had
+abbrev pub IsOpeningRefusal : State → State → Refusal → Type 0
+IsOpeningRefusal old new refusal = IsReadingRefusal stands_for old new refusal
 
 -- want of memory, or a failure of the device
 abbrev pub IsPassing : State → State → Refusal → Type 0

@@ -5,7 +5,7 @@ use Rattle.std.specs.Prelude.{Result, Ok, Err}
 use Rattle.std.specs.Option.{option_map_or}
 use Rattle.mot_journal.specs.declared.layout.Layout.{Layout}
 use Rattle.mot_journal.specs.Slot.{longest_name}
-use Rattle.mot_journal.specs.Catalogue.{result_then}
+use Rattle.mot_numbers.specs.Refusal.{◌>>=◌}
 use Rattle.mot_journal.specs.Image.{Standing}
 use Rattle.mot_numbers.specs.declared.refusal.Refusal.{Refusal}
 use Rattle.mot_numbers.specs.declared.refusal.Refusal.TheVariants.{BadName, NoRoom}
@@ -54,8 +54,9 @@ extents_after names extents (Period period) start = extents
 unfoldable pub after_command : Layout → Standing → Command → Result (Standing × Done) Refusal
 after_command layout s command =
     if has_long_name layout command then Err BadName
-    else (result_then (change s.carousel s.geometry.objects command) (λ made.
-    result_then (or_no_room (start_of s.extents s.geometry.data_area command)) (λ start.
-    let names = map (λ (o : Object). o.name) s.carousel.objects in
-    let extents = extents_after names s.extents command start in
-    Ok (record s { carousel = made.0; extents = extents }, made.1))))
+    else (do
+      made ← change s.carousel s.geometry.objects command
+      start ← or_no_room (start_of s.extents s.geometry.data_area command)
+      let names = map (λ (o : Object). o.name) s.carousel.objects
+      let extents = extents_after names s.extents command start
+      Ok (record s { carousel = made.0; extents = extents }, made.1))

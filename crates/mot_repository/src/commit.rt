@@ -1,10 +1,11 @@
 //! A commit as a whole: room in the half, the body, and the record.
-ghost use Rattle.std.specs.Prelude.{◌≡◌, ◌+◌, ◌≤◌, ◌<◌, ℕ, List, true, length, Ok, OnOk, OnErr};
-ghost use Rattle.std.specs.Prelude.{All, IfErr, IsFalse};
+ghost use Rattle.std.specs.Prelude.{◌≡◌, ◌+◌, ◌≤◌, ◌<◌, ℕ, true, length, Ok, OnOk, OnErr};
+ghost use Rattle.std.specs.Prelude.{IfErr, IsFalse};
 ghost use Rattle.disk_model.specs.Disk.{Keeps, Costs, Throughout};
 ghost use Rattle.disk_model.specs.Failures.{HasCause};
 ghost use Rattle.mot_journal.specs.Slot.{is_sound, slot_count};
-ghost use Rattle.mot_journal.specs.Catalogue.{Catalogue, catalogue_of};
+ghost use Rattle.mot_journal.specs.Catalogue.{Catalogue};
+ghost use Rattle.mot_journal.specs.Image.{catalogue_of};
 ghost use Rattle.mot_journal.specs.Image.{Standing};
 ghost use Rattle.mot_numbers.specs.declared.refusal.Refusal.TheVariants.{DeviceFault};
 ghost use Rattle.mot_numbers.specs.Geometry.{area_start, length_of};

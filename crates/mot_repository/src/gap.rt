@@ -31,7 +31,7 @@ pub(crate) fn first_fit_sorted(
     ensures { IfOk result (λ start. start ≡ least_gap extents.now len data_len) }
 {
     let mut sorted = Vec::from_slice(alloc, extents)?;
-    sorted.sort_unstable();
+    sorted.sort_unstable_by_key(|extent| extent.0);
     Ok(first_fit(&sorted, len, data_len))
 }
 

@@ -1,6 +1,7 @@
 //! A disk opened: its records folded into a carousel, whose bodies stay where they lie.
-ghost use Rattle.std.specs.Prelude.{◌≡◌, ◌≤◌, ◌+◌, ◌⊎◌, false, IfOk, IfErr, IsFalse, MatchResult};
+ghost use Rattle.std.specs.Prelude.{◌≡◌, ◌≤◌, ◌+◌, false, IfOk, IfErr, IsFalse, MatchResult};
 ghost use Rattle.disk_model.specs.Disk.{Costs, OnlyReads, OnlySyncs};
+ghost use Rattle.mot_numbers.specs.Refusal.{IsCalm};
 ghost use Rattle.mot_numbers.specs.declared.refusal.Refusal.TheVariants.{DeviceFault};
 ghost use Rattle.mot_repository.specs.Inner.InOrder.{IsInOrder};
 ghost use Rattle.mot_repository.specs.Inner.Loaded.{IsLoaded};
@@ -51,8 +52,8 @@ impl<D: Disk> Repository<D> {
         // A disk fault is answered exactly if the disk has failed.
         ensures calm { MatchResult result
             (λ r. (D.state r.disk).failures ≡ (D.state disk).failures)
-            (λ e. (e.refusal ≡ DeviceFault)
-            ⊎ ((D.state e.disk).failures ≡ (D.state disk).failures)) }
+            (λ e. IsCalm e.refusal (D.state disk).failures
+            (D.state e.disk).failures) }
 
         // a sync, a read of the head, and a read of the selected half
         ensures cost { MatchResult result
@@ -85,8 +86,8 @@ fn load_inventory<D: Disk>(alloc: Global, disk: &mut D) -> Result<(Journal, Inve
         (λ refusal. IsOpeningRefusal (D.state disk.old) (D.state disk.new) refusal) }
     ensures calm { MatchResult result
         (λ l. (D.state disk.new).failures ≡ (D.state disk.old).failures)
-        (λ refusal. (refusal ≡ DeviceFault)
-        ⊎ ((D.state disk.new).failures ≡ (D.state disk.old).failures)) }
+        (λ refusal. IsCalm refusal (D.state disk.old).failures
+        (D.state disk.new).failures) }
     ensures cost { Costs 2 (D.state disk.old) (D.state disk.new) result }
 {
     let loaded = load(alloc, disk)?;

@@ -9,8 +9,8 @@ pub use Rattle.mot_server.proofs.Lives.{plays_after, plays_new, none_or_left, un
 pub use Rattle.mot_server.proofs.Survival.{passing, if_err}
 -- why a command is refused on a disk of layout 2
 pub use Rattle.mot_server.proofs.Marked.{IsRefused, refused_by}
--- calls that change nothing, one after the other
-pub use Rattle.mot_server.proofs.Read.{holds_still, rises_on}
+-- calls that change nothing, one after the other, and how long a body is
+pub use Rattle.mot_server.proofs.Read.{body_length, holds_still, rises_on}
 pub use Rattle.mot_server.proofs.Openings.{still_unchanged}
 -- what a disk stands for is held once it is opened
 pub use Rattle.mot_server.proofs.Openings.{opened_holds}
@@ -24,23 +24,7 @@ pub use Rattle.mot_server.proofs.Answered.{not_halted}
 pub use Rattle.mot_server.proofs.Joins.{runs_join, reads_leave, reads_leave_of, accepted-join}
 -- where a player stands behind accepted commands, in parts, and where it does not follow
 pub use Rattle.mot_server.proofs.Places.{after-both, behind_both, begins_anew}
+-- the turn of a carousel can be followed by that after a command
+pub use Rattle.mot_server.proofs.OneChange.{followable}
 -- the packets of a turn, up to the one that ends it
 pub use Rattle.mot_server.proofs.Going.{IsGoing-none, IsGoing-more, HasPlayedTurn-ended}
--- packets, request by request
-use Rattle.mot_server.proofs.Going.{HasPlayed-none, HasPlayed-more}
-use Rattle.std.proofs.Common.{ℕ, suc, Bool, List, [], ◌∷◌, ◌++◌}
-use Rattle.mot_player.specs.Laws.{IsStep}
-use Rattle.mot_player.specs.Place.{Place}
-use Rattle.mot_server.specs.Playing.{HasPlayed}
-
--- of no requests no packets are played
-pub played_none : (place : Place) → HasPlayed place 0 [] place
-played_none place = HasPlayed-none place
-
--- a request behind others plays one packet more
-pub played_more : (old mid new : Place) (n : ℕ) (packets : List (List ℕ))
-    → HasPlayed old n packets mid →
-    (packet : List ℕ) (ends : Bool) → IsStep mid packet ends new
-    → HasPlayed old (suc n) (packets ++ packet ∷ []) new
-played_more old mid new n packets played packet ends step =
-    HasPlayed-more old mid new n packets played packet ends step

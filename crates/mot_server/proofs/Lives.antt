@@ -4,14 +4,16 @@ use Rattle.std.proofs.Common.{Result, Ok, Err, refl, sym, ap, ◌∙◌, subst}
 use Rattle.std.specs.Prelude.{IfOk, IfSome, IsFalse}
 use Rattle.disk_model.specs.Disk.{State}
 use Rattle.disk_model.specs.Failures.{Rises}
-use Rattle.mot_journal.specs.Catalogue.{catalogue_of, carousel_in, extents_of, result_then}
+use Rattle.mot_journal.specs.Image.{catalogue_of}
+use Rattle.mot_numbers.specs.Refusal.{◌>>=◌}
+use Rattle.mot_journal.specs.Catalogue.{carousel_in, extents_of}
 use Rattle.mot_journal.specs.Geometry.{geometry_of, selected_half}
 use Rattle.mot_journal.specs.Image.{area_of, half_of, journal_in_half, or_not_formatted, records_of}
 use Rattle.mot_journal.specs.Image.{stands_for}
 use Rattle.mot_numbers.specs.declared.refusal.Refusal.{Refusal}
 use Rattle.mot_numbers.specs.declared.refusal.Refusal.TheVariants.{NotFormatted}
-use Rattle.mot_repository.specs.Opening.{IsOpeningRefusal, IsPassing, not_formatted, damaged}
-use Rattle.mot_repository.specs.Opening.{no_memory, device}
+use Rattle.mot_journal.specs.Journal.IsReadingRefusal.{not_formatted, damaged, no_memory, device}
+use Rattle.mot_repository.specs.Opening.{IsOpeningRefusal, IsPassing}
 use Rattle.mot_repository.specs.Repository.{RepositoryView}
 use Rattle.mot_server.specs.RunEnds.{IsRunFault}
 use Rattle.mot_server.specs.RunEnds as ends
@@ -63,7 +65,7 @@ module _ {A B : Type 0} (result : Result A B) (IsHonest : A → Type 0) (packets
       (λ made. plays_after [] others
       (none_of (standing_from g first) [] others (standing_from g first) image
       (after_none (standing_from g first))
-      (record { stands = made.0; clean = made.1 })))
+      (record { stands = made.stands; clean = made.clean })))
 
 -- ---- why it does not open
 
@@ -71,9 +73,9 @@ no_standing-cases : (image : List ℕ) (o : Option Geometry) → geometry_of ima
     → has_magic image ≡ false → stands_for image ≡ Err NotFormatted
 unfolding stands_for records_of
 no_standing-cases image None is none =
-    ap (λ o. result_then (result_then (or_not_formatted o) (λ g.
+    ap (λ o. ◌>>=◌ (◌>>=◌ (or_not_formatted o) (λ g.
     journal_in_half g (selected_half image) (half_of g image))) (λ j.
-    result_then (catalogue_of j.geometry.objects j.records) (λ c.
+    ◌>>=◌ (catalogue_of j.geometry.objects j.records) (λ c.
     Ok (record {
       geometry = j.geometry;
       carousel = carousel_in (area_of j.geometry image) c;
@@ -92,7 +94,8 @@ none_or_left g first others image Old new (inl old) =
     ⊎ StandsAfterSome (standing_from g first) [] others image}
     (λ none. inl none)
     (λ made. inr (none_of (standing_from g first) [] others (standing_from g first) image
-    (after_none (standing_from g first)) (record { stands = made.0; clean = made.1 }))) (new old)
+    (after_none (standing_from g first)) (record { stands = made.stands; clean = made.clean })))
+    (new old)
 
 -- why that is not opened
 pub unopened : (old new : State) (s : Standing) (sure others : List Command) (refusal : Refusal)

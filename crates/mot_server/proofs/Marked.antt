@@ -7,7 +7,7 @@ use Rattle.std.specs.List.{list_any}
 use Rattle.std.specs.Prelude.{◌<◌, ◌++◌, All, length, nat_le, if◌then◌else◌}
 use Rattle.mot_journal.specs.declared.layout.Layout.{Layout}
 use Rattle.mot_journal.specs.declared.layout.Layout.TheVariants.{Two}
-use Rattle.mot_journal.specs.Catalogue.{result_then}
+use Rattle.mot_numbers.specs.Refusal.{◌>>=◌}
 use Rattle.mot_journal.specs.Image.{Standing, stands_for}
 use Rattle.mot_numbers.specs.declared.geometry.Geometry.{Geometry}
 use Rattle.mot_numbers.specs.declared.refusal.Refusal.{Refusal}
@@ -257,7 +257,7 @@ module _ (s : Standing) (command : Command) where
       → Result (Standing × Done) Refusal
   parts long rules lies =
       if long then Err BadName
-      else (result_then rules (λ made. result_then (or_no_room lies) (λ start.
+      else (◌>>=◌ rules (λ made. ◌>>=◌ (or_no_room lies) (λ start.
       Ok (
         record s {
           carousel = made.0;

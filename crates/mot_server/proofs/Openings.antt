@@ -25,7 +25,7 @@ use Rattle.mot_player.specs.Place.{Place, Request, opened_place}
 use Rattle.mot_player.specs.Turn.{Turn}
 use Rattle.mot_repository.specs.Repository.{RepositoryView, Agrees, IsOf, Holds}
 use Rattle.mot_repository.specs.Opening.{IsOpened, IsOpeningRefusal}
-use Rattle.mot_repository.specs.Opening as openings
+use Rattle.mot_journal.specs.Journal as openings
 use Rattle.mot_server.specs.Playing.{HasPlayedTurn, IsTurnRefusal, halted, no_memory, failed}
 use Rattle.mot_server.proofs.Going.{HasPlayedTurn-read}
 use Rattle.mot_server.specs.Server.{ServerView}

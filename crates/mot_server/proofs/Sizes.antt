@@ -6,8 +6,10 @@ use Rattle.std.proofs.lemmas.Bool.{leb-true}
 use Rattle.std.proofs.lemmas.List.{length-drop, length-take}
 use Rattle.std.specs.List.{AllByRecursion}
 use Rattle.std.specs.Prelude.{◌<◌, ◌&&◌, All, nat_le, if◌then◌else◌}
-use Rattle.mot_journal.specs.Catalogue.{Catalogue, Placed, body_in_area, carousel_in, catalogue_of}
-use Rattle.mot_journal.specs.Catalogue.{extents_of, result_then}
+use Rattle.mot_journal.specs.Image.{catalogue_of}
+use Rattle.mot_numbers.specs.Refusal.{◌>>=◌ as result_then}
+use Rattle.mot_journal.specs.Catalogue.{Catalogue, Placed, body_in_area, carousel_in}
+use Rattle.mot_journal.specs.Catalogue.{extents_of}
 use Rattle.mot_journal.specs.Geometry.{columns, geometry_in, geometry_of, has_magic}
 use Rattle.mot_journal.specs.Image.{DiskRecords, Standing, area_of, records_of, stands_for}
 use Rattle.mot_journal.proofs.Laws.{geometry_read}

@@ -7,8 +7,8 @@ use Rattle.mot_journal.specs.Image.{Standing, stands_for}
 use Rattle.mot_numbers.specs.declared.refusal.Refusal.{Refusal}
 use Rattle.mot_objects.specs.declared.command.Command.{Command}
 use Rattle.mot_repository.specs.Repository.{IsOf}
-use Rattle.mot_repository.specs.Opening.{IsOpeningRefusal, IsPassing, not_formatted, damaged}
-use Rattle.mot_repository.specs.Opening.{no_memory, device}
+use Rattle.mot_journal.specs.Journal.IsReadingRefusal.{not_formatted, damaged, no_memory, device}
+use Rattle.mot_repository.specs.Opening.{IsOpeningRefusal, IsPassing}
 use Rattle.mot_server.specs.Runs.{IsAfter, IsAfterSome}
 use Rattle.mot_server.proofs.Runs.{after_both}
 

@@ -4,11 +4,10 @@ use Rattle.std.specs.Prelude.{◌++◌, length, take, Some, None}
 use Rattle.std.specs.List.{flat_map}
 use Rattle.disk_model.specs.Disk.{State}
 use Rattle.mot_journal.specs.Geometry.{has_magic}
-use Rattle.mot_numbers.specs.Geometry.{IsValid, length_of}
+use Rattle.mot_journal.specs.Making.{IsFormatRefusal}
 use Rattle.mot_numbers.specs.declared.geometry.Geometry.{Geometry}
 use Rattle.mot_numbers.specs.declared.refusal.Refusal.{Refusal}
-use Rattle.mot_numbers.specs.declared.refusal.Refusal.TheVariants.{BadGeometry, DiskTooSmall}
-use Rattle.mot_numbers.specs.declared.refusal.Refusal.TheVariants.{AlreadyFormatted, NotFormatted}
+use Rattle.mot_numbers.specs.declared.refusal.Refusal.TheVariants.{NotFormatted}
 use Rattle.mot_objects.specs.declared.command.Command.{Command}
 use Rattle.mot_objects.specs.declared.command.Command.TheVariants.{Put, Replace, Withdraw, Period}
 use Rattle.mot_objects.specs.declared.name.TheConstants.{MAX_NAME}
@@ -78,9 +77,5 @@ IsUnopened old new refusal = IsPassing old new refusal
     ⊎ ((refusal ≡ NotFormatted) × (has_magic old.bytes ≡ false))
 
 -- why no new disk of this geometry was made and opened, where the disk is honest
-pub data IsFormatRefusal (g : Geometry) (old new : State) (refusal : Refusal) : Type 0 where
-  bad : refusal ≡ BadGeometry → (IsValid g → ⊥) → IsFormatRefusal g old new refusal
-  small : refusal ≡ DiskTooSmall → old.len < length_of g → IsFormatRefusal g old new refusal
-  already : refusal ≡ AlreadyFormatted → has_magic old.bytes ≡ true
-      → IsFormatRefusal g old new refusal
-  passing : IsPassing old new refusal → IsFormatRefusal g old new refusal
+abbrev pub IsUnmade : Geometry → State → State → Refusal → Type 0
+IsUnmade g old new refusal = IsFormatRefusal g old new refusal ⊎ IsPassing old new refusal

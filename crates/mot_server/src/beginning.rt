@@ -1,15 +1,8 @@
 //! The beginning of every history: a disk formatted here.
-ghost use Rattle.std.specs.Prelude.{◌≡◌, ◌⊎◌, ◌↔◌, ◌<◌, ℕ, List, true, false, Ok, IfOk};
-ghost use Rattle.std.specs.Prelude.{IfErr, OnOk, IsErrOf};
-ghost use Rattle.disk_model.specs.Disk.{KeepsLength, IsUnchanged, IsStill, Throughout};
-ghost use Rattle.disk_model.specs.Failures.{Rises};
+ghost use Rattle.std.specs.Prelude.{◌≡◌, List, ℕ, false, IfErr, IfOk, OnOk};
 ghost use Rattle.mot_journal.specs.Geometry.{has_magic};
-ghost use Rattle.mot_journal.specs.Image.{stands_for, IsClean};
-ghost use Rattle.mot_journal.specs.Journal.{NoneOrFrom, standing_from};
-ghost use Rattle.mot_numbers.specs.Geometry.{IsValid, length_of};
-ghost use Rattle.mot_numbers.specs.declared.refusal.Refusal.TheVariants.{DeviceFault, BadGeometry};
-ghost use Rattle.mot_numbers.specs.declared.refusal.Refusal.TheVariants.{DiskTooSmall};
-ghost use Rattle.mot_numbers.specs.declared.refusal.Refusal.TheVariants.{AlreadyFormatted};
+ghost use Rattle.mot_journal.specs.Journal.{standing_from};
+ghost use Rattle.mot_journal.specs.Making.{MakesDisk};
 ghost use Rattle.mot_player.specs.Reading.{ReadsAs};
 ghost use Rattle.mot_repository.specs.Opening.{IsPassing};
 ghost use Rattle.mot_repository.specs.Repository.{Holds};
@@ -43,30 +36,9 @@ pub fn format_and_restart<D: Disk, E: Disk>(
     directory: TransportId,
     left: E,
 ) -> Beginning<E>
-    // the disk was formatted: what `format_from` says of its answer
-    ensures keeps { KeepsLength (D.state disk.old) (D.state disk.new) }
-    ensures bad { IsErrOf result.formatted BadGeometry ↔ (IsValid geometry.now → ⊥) }
-    ensures small { IsErrOf result.formatted DiskTooSmall
-        ↔ (IsValid geometry.now × ((D.state disk.old).len < length_of geometry.now)) }
-    ensures refused { IfErr result.formatted (λ refusal. (refusal ≡ BadGeometry)
-        ⊎ (refusal ≡ DiskTooSmall) ⊎ (refusal ≡ AlreadyFormatted) ⊎ ((refusal ≡ DeviceFault)
-        × Rises (D.state disk.old).failures (D.state disk.new).failures)) }
-    ensures untouched { (IsValid geometry.now → ⊥)
-        ⊎ ((D.state disk.old).len < length_of geometry.now)
-        → IsUnchanged (D.state disk.old) (D.state disk.new) }
-    ensures already { (D.state disk.new).IsHonest → has_magic (D.state disk.old).bytes ≡ true
-        → IsStill (D.state disk.old) (D.state disk.new) }
-    ensures already_only { (D.state disk.new).IsHonest
-        → IsErrOf result.formatted AlreadyFormatted
-        → has_magic (D.state disk.old).bytes ≡ true }
-    ensures not_over { (D.state disk.new).IsHonest
-        → OnOk result.formatted (has_magic (D.state disk.old).bytes ≡ false) }
-    ensures any_moment { (D.state disk.new).IsHonest
-        → ((image : List ℕ) → (D.state disk.old).MayLeave image → has_magic image ≡ false)
-        → Throughout (D.state disk.old) (D.state disk.new) (NoneOrFrom geometry.now directory) }
-    ensures ok { (D.state disk.new).IsHonest → OnOk result.formatted ((image : List ℕ)
-        → (D.state disk.new).MayLeave image
-        → (stands_for image ≡ Ok (standing_from geometry.now directory)) × IsClean image) }
+    // the disk was formatted
+    ensures makes { MakesDisk geometry.now directory (D.state disk.old) (D.state disk.new)
+        result.formatted }
 
     // if it opens, it is the new carousel
     ensures begins { (D.state disk.new).IsHonest

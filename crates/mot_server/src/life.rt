@@ -10,8 +10,7 @@ ghost use Rattle.mot_journal.specs.Journal.{NoneOrFrom, standing_from};
 ghost use Rattle.mot_player.specs.Reading.{ReadsAs};
 ghost use Rattle.mot_repository.specs.Opening.{IsOpeningRefusal, IsPassing};
 ghost use Rattle.mot_repository.specs.Repository.{IsOf, Holds};
-ghost use Rattle.mot_server.specs.Life.{AreMarksOf, AreNumbered, IsBlank, IsFormatRefusal};
-ghost use Rattle.mot_server.specs.Life.{IsUnopened};
+ghost use Rattle.mot_server.specs.Life.{AreMarksOf, AreNumbered, IsBlank, IsUnmade, IsUnopened};
 ghost use Rattle.mot_server.specs.Life.{PlaysAfter, carousel_from};
 ghost use Rattle.mot_server.specs.Lives.{HasDone};
 ghost use Rattle.mot_server.specs.Playing.{bytes_of_packets};
@@ -103,7 +102,7 @@ pub fn format_run_and_restart<D: Disk, E: Disk + Drop>(
         → IfErr life.after_crash (λ e. (E.state e.disk).IsHonest
         → IsPassing (E.state left) (E.state e.disk) e.refusal)) }
     ensures refused { IfErr result (λ e. (D.state e.disk).IsHonest
-        → IsFormatRefusal geometry.now (D.state disk) (D.state e.disk) e.refusal) }
+        → IsUnmade geometry.now (D.state disk) (D.state e.disk) e.refusal) }
 {
     let mut server = format_and_open(alloc, disk, geometry, directory)?;
     let end = server.run(alloc, commands);
@@ -138,7 +137,7 @@ pub fn format_and_open<D: Disk>(
     ensures begins { IfOk result (λ server. (D.state server.disk).IsHonest
         → HasDone D.state geometry.now directory [] [] server) }
     ensures refused { IfErr result (λ e. (D.state e.disk).IsHonest
-        → IsFormatRefusal geometry.now (D.state disk) (D.state e.disk) e.refusal) }
+        → IsUnmade geometry.now (D.state disk) (D.state e.disk) e.refusal) }
 {
     let mut disk = disk;
     if let Err(refusal) = format_from(&mut disk, geometry, directory) {

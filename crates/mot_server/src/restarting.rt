@@ -1,7 +1,8 @@
 //! A disk opened, and its first turn played.
-ghost use Rattle.std.specs.Prelude.{◌≡◌, ◌⊎◌, Ok, IfOk, IfErr, MatchResult};
+ghost use Rattle.std.specs.Prelude.{◌≡◌, Ok, IfOk, IfErr, MatchResult};
 ghost use Rattle.disk_model.specs.Disk.{OnlySyncs};
 ghost use Rattle.mot_journal.specs.Image.{Standing};
+ghost use Rattle.mot_numbers.specs.Refusal.{IsCalm};
 ghost use Rattle.mot_numbers.specs.declared.refusal.Refusal.TheVariants.{DeviceFault};
 ghost use Rattle.mot_numbers.specs.Geometry.{packet_room};
 ghost use Rattle.mot_player.specs.Continuity.{IsContinuous};
@@ -68,8 +69,8 @@ pub fn restart<D: Disk>(alloc: Global, disk: D) -> Result<Restarted<D>, Refused<
     // A disk fault is answered exactly if the disk has failed.
     ensures calm { MatchResult result
         (λ r. (D.state r.server.disk).failures ≡ (D.state disk).failures)
-        (λ e. (e.refusal ≡ DeviceFault)
-        ⊎ ((D.state e.disk).failures ≡ (D.state disk).failures)) }
+        (λ e. IsCalm e.refusal (D.state disk).failures
+        (D.state e.disk).failures) }
 {
     let mut server = Server::open(alloc, disk)?;
     match server.play_turn(alloc) {

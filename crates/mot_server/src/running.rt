@@ -1,6 +1,7 @@
 //! Commands in a row, up to the first that can't be answered.
 ghost use Rattle.std.specs.Prelude.{◌≡◌, ◌<◌, [], ◌∷◌, length, vec_len, Some};
-ghost use Rattle.std.specs.Prelude.{◌⊎◌, IfErr, IsTrue, MatchResult, OnOk};
+ghost use Rattle.std.specs.Prelude.{IfErr, IsTrue, MatchResult, OnOk};
+ghost use Rattle.mot_numbers.specs.Refusal.{IsCalm};
 ghost use Rattle.mot_numbers.specs.declared.refusal.Refusal.TheVariants.{DeviceFault, Halted};
 ghost use Rattle.mot_server.specs.RunEnds.{is_run_ending};
 
@@ -104,8 +105,8 @@ impl<D: Disk> Server<D> {
         // A disk fault is answered exactly if the disk has failed.
         ensures calm { MatchResult result
             (λ answer. (D.state self.new.disk).failures ≡ (D.state self.old.disk).failures)
-            (λ refusal. (refusal ≡ DeviceFault)
-            ⊎ ((D.state self.new.disk).failures ≡ (D.state self.old.disk).failures)) }
+            (λ refusal. IsCalm refusal (D.state self.old.disk).failures
+            (D.state self.new.disk).failures) }
 
         // On every disk the ids and the refusal are those of the command.
         ensures answered { IsAnswered self.old.view self.new.view

@@ -1,17 +1,17 @@
 //! The server: a repository, and a player of what it keeps.
 ghost use Rattle.std.specs.Prelude.{◌≡◌, ◌<◌, ◌≤◌, ◌==◌, ◌↔◌, ℕ, List, true, false, not};
 ghost use Rattle.std.specs.Prelude.{Ok, OnOk, OnErr};
-ghost use Rattle.std.specs.Prelude.{◌+◌, ◌^◌, ◌⊎◌, length, slice_range, vec_len, IfOk, IfErr};
+ghost use Rattle.std.specs.Prelude.{◌+◌, ◌^◌, ◌⊎◌, vec_len, IfOk, IfErr};
 ghost use Rattle.std.specs.Prelude.{IsFalse, IsTrue, MatchResult};
 ghost use Rattle.disk_model.specs.Disk.{Keeps, Costs, OnlyReads, OnlySyncs};
 ghost use Rattle.disk_model.specs.Disk.{Throughout};
 ghost use Rattle.mot_journal.specs.Image as journal;
+ghost use Rattle.mot_numbers.specs.Refusal.{IsCalm};
 ghost use Rattle.mot_numbers.specs.declared.refusal.Refusal.TheVariants.{DeviceFault};
 ghost use Rattle.mot_numbers.specs.Geometry.{packet_room};
 ghost use Rattle.mot_player.specs.Place.{change_turn, changed, directory_packets, following};
 ghost use Rattle.mot_player.specs.Place.{hear_directory, opened_place};
 ghost use Rattle.mot_player.specs.Turn.{turn_of_carousel};
-ghost use Rattle.mot_repository.specs.OnDisk.{extent_at};
 ghost use Rattle.mot_repository.specs.Outcome.{after_command};
 ghost use Rattle.mot_repository.specs.Repository.{Agrees, Holds, IsBeforeOrAfter};
 ghost use Rattle.mot_repository.specs.Repository.{IsOf, object_body};
@@ -91,8 +91,8 @@ impl<D: Disk> Server<D> {
         // A disk fault is answered exactly if the disk has failed.
         ensures calm { MatchResult result
             (λ server. (D.state server.disk).failures ≡ (D.state disk).failures)
-            (λ e. (e.refusal ≡ DeviceFault)
-            ⊎ ((D.state e.disk).failures ≡ (D.state disk).failures)) }
+            (λ e. IsCalm e.refusal (D.state disk).failures
+            (D.state e.disk).failures) }
 
         // a sync, a read of the head, and a read of the selected half
         ensures cost { MatchResult result
@@ -375,8 +375,8 @@ impl<D: Disk> Server<D> {
         // A disk fault is answered exactly if the disk has failed.
         ensures calm { MatchResult result
             (λ packets. (D.state self.new.disk).failures ≡ (D.state self.old.disk).failures)
-            (λ refusal. (refusal ≡ DeviceFault)
-            ⊎ ((D.state self.new.disk).failures ≡ (D.state self.old.disk).failures)) }
+            (λ refusal. IsCalm refusal (D.state self.old.disk).failures
+            (D.state self.new.disk).failures) }
 
         // a part of a body at most for each packet
         ensures cost { IfOk result (λ packets.
@@ -395,48 +395,6 @@ impl<D: Disk> Server<D> {
                 return Ok(packets);
             }
         }
-    }
-
-    /// The length of the body of the object at this place.
-    pub fn body_length(&self, place: usize) -> usize
-        requires { place < vec_len self.now.view.carousel.objects }
-        ensures value { result ≡ (extent_at self.now.view.extents place).1 }
-
-        // It is the length of the body in what the disk stands for.
-        ensures body { (s : journal.Standing) → Agrees self.now.view s
-            → result ≡ length (object_body s.carousel.objects place) }
-    {
-        let count = self.bodies.repository.body_count();
-        prove!(place < count);
-        self.bodies.repository.body_length(place) as usize
-    }
-
-    /// Reads a part of the body of the object at this place. Its refusals are `DeviceFault`, which
-    /// does not halt the server, and `Halted`.
-    pub fn read_body(&mut self, place: usize, from: usize, out: &mut [u8]) -> Result<(), Refusal>
-        requires place { place < vec_len self.old.view.carousel.objects }
-        requires within { from + length out.old ≤ (extent_at self.old.view.extents place).1 }
-        ensures only_reads { OnlyReads (D.state self.old.disk) (D.state self.new.disk) }
-        ensures view { self.new.view ≡ self.old.view }
-        ensures player { self.new.player ≡ self.old.player }
-        ensures cost { (D.state self.new.disk).calls ≤ (D.state self.old.disk).calls + 1 }
-        ensures going { OnOk result (IsFalse self.old.view.halted) }
-        ensures refused { IfErr result (λ refusal. IsReadRefusal self.old self.new
-            (D.state self.old.disk).failures (D.state self.new.disk).failures refusal) }
-
-        // They are bytes of the body in what the disk stands for.
-        ensures bytes { (s : journal.Standing) → Holds self.old.view s (D.state self.old.disk)
-            → (D.state self.new.disk).IsHonest → OnOk result
-            (out.new ≡ slice_range (object_body s.carousel.objects place) from
-            (from + length out.old)) }
-    {
-        if self.halted() {
-            return Err(Refusal::Halted);
-        }
-        // There is a body for each object. The line is there for the proof, and does nothing when
-        // it runs.
-        let _ = self.bodies.repository.body_count();
-        self.bodies.repository.read_body(place, from, out)
     }
 
     /// Whether the body of the object at this place has exactly these bytes. It only reads, a piece

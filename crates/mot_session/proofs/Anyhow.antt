@@ -1,11 +1,11 @@
 -- What is answered on every disk, whatever it holds.
 use Rattle.std.proofs.Common.{◌≡◌, ℕ, ◌+◌, ◌<◌, Bool, true, false, List, [], ◌∷◌, ◌++◌}
 use Rattle.std.proofs.Common.{length, Option, Some, None, Result, Ok, Err, refl, sym, ap, ◌∙◌}
-use Rattle.std.proofs.Common.{subst, arith, append-nil, length-append, inl, inr}
+use Rattle.std.proofs.Common.{subst, append-nil, inl, inr}
 use Rattle.std.specs.Prelude.{replicate, IsTrue, IsFalse}
 use Rattle.std.specs.Io.KnownBytes.{Appends, Keeps}
 use Rattle.std.proofs.KnownBytes.{Appends-kept, Appends-trans}
-use Rattle.std.proofs.lemmas.List.{map-append, replicate_more}
+use Rattle.std.proofs.lemmas.List.{length-map, map-append, replicate_more}
 use Rattle.std.proofs.lemmas.List.Concat.{flat_map-append}
 use Rattle.disk_model.specs.Disk.{State}
 use Rattle.disk_model.specs.Failures.{Rises}
@@ -25,8 +25,8 @@ use Rattle.mot_session.specs.declared.deciding.Decision.TheVariants.{Packets, Ne
 use Rattle.mot_session.specs.declared.serving.output.WriteFault.{WriteFault}
 use Rattle.mot_session.specs.Inner.Anyhow.{AnswersWithAnyhow, DecidesAnyhow, ShowsOne, fails, shows}
 use Rattle.mot_session.specs.Output.{Writes}
-use Rattle.mot_session.specs.OnAnyDisk.{AnswersAnyhow, AreWithinTurn, BeginsAnyhow, Shown}
-use Rattle.mot_session.specs.OnAnyDisk.{shown_lines}
+use Rattle.mot_session.specs.Replies.{Shown, ends_of, shown_lines}
+use Rattle.mot_session.specs.OnAnyDisk.{AnswersAnyhow}
 use Rattle.mot_session.specs.OnAnyDisk as anyhow
 use Rattle.mot_session.specs.Served.{WritesFront}
 use Rattle.mot_session.specs.Session.{NeedsCarousel}
@@ -111,14 +111,9 @@ module _ (old new : RepositoryView) (before now : ℕ) where
   answers-unparsed text request asked wrong needs (anyhow.listed e going same t) = absurd (cc)
   answers-unparsed text request asked wrong needs (anyhow.raw kind tid body e same t) =
       absurd (cc)
-  answers-unparsed text request asked wrong needs (anyhow.next count shown e going same n t) =
-      absurd (cc)
   answers-unparsed text request asked wrong needs
-      (anyhow.next_cut count shown e going same n rises t) = absurd (cc)
-  answers-unparsed text request asked wrong needs
-      (anyhow.turn count shown last e going same ends t) = absurd (cc)
-  answers-unparsed text request asked wrong needs
-      (anyhow.turn_cut count shown e going same ends rises t) = absurd (cc)
+      (anyhow.played shown is_cut wants going same asked_so rises t) =
+      absurd (subst NeedsCarousel wrong wants)
   answers-unparsed text request asked wrong needs (anyhow.halted is n same t) =
       absurd (subst NeedsCarousel wrong n)
   answers-unparsed text request asked wrong needs (anyhow.no_memory n same t) =
@@ -194,6 +189,10 @@ shown-more : (shown : List Shown) (p : Shown)
 shown-more shown p = flat_map-append (λ (q : Shown). played_line q.0 q.1) shown (p ∷ [])
     ∙ ap (λ l. shown_lines shown ++ l) (append-nil (played_line p.0 p.1))
 
+-- none of so many packets ends a turn
+abbrev AreWithinTurn : ℕ → List Shown → Type 0
+AreWithinTurn count shown = ends_of shown ≡ replicate count false
+
 within-more : (count : ℕ) (shown : List Shown) (p : Shown) → AreWithinTurn count shown
     → p.1 ≡ false → AreWithinTurn (count + 1) (shown ++ p ∷ [])
 within-more count shown p w e =
@@ -232,13 +231,16 @@ module _ (view view' : RepositoryView) (same : view' ≡ view) (going : IsFalse 
     Appends-trans written so_far then (shown_lines shown) (refusal_line DeviceFault) appended w,
   )
 
+  less : (count : ℕ) → length shown < count → length (ends_of shown) < count
+  less count few = subst (λ n. n < count) (sym (length-map shown (λ (p : Shown). p.1))) few
+
   -- a `next` line's packets, cut short by a device fault, where both were written
   pub next-cut : (value : Option Bool) (count : ℕ) → ShowsOne (Ok value) mid now so_far then
       → value ≡ None → length shown < count
       → AnswersWithAnyhow {T = Unit {0}} (Ok tt) view view' before now (Ok (asks.Next count))
       written then
   next-cut value count one e few = let c = cut value one e in
-      (_, anyhow.next_cut count shown refl going same few c.0 refl, c.1)
+      (_, anyhow.played shown true tt going same (less count few) (λ _. c.0) refl, c.1)
 
   -- the line of the packet behind them, or of the fault, was broken off
   pub next-broken : (fault : WriteFault) (count : ℕ)
@@ -247,19 +249,29 @@ module _ (view view' : RepositoryView) (same : view' ≡ view) (going : IsFalse 
       (Ok (asks.Next count)) written then
   next-broken fault count (shows packet last calm' is w) few = (
     shown_lines (shown ++ (packet, last) ∷ []),
-    anyhow.next_begun count (shown ++ (packet, last) ∷ []) refl going same
-        (omega (arith, few, length-append shown ((packet, last) ∷ []))) refl,
+    anyhow.begun shown (packet, last) tt going same (less count few) refl,
     subst (λ l. WritesFront l written then) (sym (shown-more shown (packet, last)))
         (WritesFront-after (shown_lines shown) (played_line packet last) written so_far then
         appended w),
   )
   next-broken fault count (fails rises is w) few = (
     _,
-    anyhow.whole (anyhow.next_cut count shown refl going same few
-        (subst (λ n. Rises n now) calm rises) refl),
+    anyhow.whole (anyhow.played shown true tt going same (less count few)
+        (λ _. subst (λ n. Rises n now) calm rises) refl),
     WritesFront-after (shown_lines shown) (refusal_line DeviceFault) written so_far then
         appended w,
   )
+
+never_failed : (before now : ℕ) → IsTrue false → Rises before now
+never_failed before now e = absurd (cc)
+
+-- so many packets, where none was cut off
+pub next-all : (old new : RepositoryView) (before now count : ℕ) (shown : List Shown)
+    → new ≡ old → IsFalse old.halted → length shown ≡ count
+    → AnswersAnyhow old new before now (Ok (asks.Next count)) (shown_lines shown)
+next-all old new before now count shown same going all =
+    anyhow.played shown false tt going same (length-map shown (λ (p : Shown). p.1) ∙ all)
+    (never_failed before now) (sym (append-nil (shown_lines shown)))
 
 -- what was shown of a `turn` line's packets, none of which ended the turn
 pub record ShownSoFar (before mid : ℕ) (written so_far : Option (List ℕ)) : Type 0 where
@@ -292,8 +304,12 @@ module _ {view view' : RepositoryView} (same : view' ≡ view) (going : IsFalse 
       written then
   turn-cut {value} one e =
       let c = cut view view' same going before mid now so_far.calm written known then so_far.shown
-      so_far.lines value one e in
-      (_, anyhow.turn_cut so_far.count so_far.shown refl going same so_far.within c.0 refl, c.1)
+      so_far.lines value one e in (
+        _,
+        anyhow.played so_far.shown true tt going same (so_far.count, so_far.within) (λ _. c.0)
+            refl,
+        c.1,
+      )
 
   -- the packet behind them ended the turn
   pub turn-ended : {value : Option Bool} → ShowsOne (Ok value) mid now known then
@@ -303,7 +319,13 @@ module _ {view view' : RepositoryView} (same : view' ≡ view) (going : IsFalse 
   turn-ended (shows packet last calm is w) e =
       let ends : last ≡ true = not-both last true (sym is ∙ e) in (
         shown_lines so_far.shown ++ played_line packet true,
-        anyhow.turn so_far.count so_far.shown packet refl going same so_far.within refl,
+        anyhow.played (so_far.shown ++ (packet, true) ∷ []) false tt going same (
+          so_far.count,
+          map-append (λ (q : Shown). q.1) so_far.shown ((packet, true) ∷ [])
+              ∙ ap (λ l. l ++ true ∷ []) so_far.within,
+        ) (never_failed before now)
+            (sym (append-nil (shown_lines (so_far.shown ++ (packet, true) ∷ []))
+            ∙ shown-more so_far.shown (packet, true))),
         Appends-trans written known then (shown_lines so_far.shown) (played_line packet true)
             so_far.lines (subst (λ b. Appends known then (played_line packet b)) ends w),
       )
@@ -315,14 +337,15 @@ module _ {view view' : RepositoryView} (same : view' ≡ view) (going : IsFalse 
       written then
   turn-broken (shows packet last calm is w) = (
     _,
-    anyhow.turn_begun so_far.count so_far.shown (packet, last) refl going same so_far.within refl,
+    anyhow.begun so_far.shown (packet, last) tt going same (so_far.count, so_far.within)
+        (sym (shown-more so_far.shown (packet, last))),
     WritesFront-after (shown_lines so_far.shown) (played_line packet last) written known then
         so_far.lines w,
   )
   turn-broken (fails rises is w) = (
     _,
-    anyhow.whole (anyhow.turn_cut so_far.count so_far.shown refl going same so_far.within
-        (subst (λ n. Rises n now) so_far.calm rises) refl),
+    anyhow.whole (anyhow.played so_far.shown true tt going same (so_far.count, so_far.within)
+        (λ _. subst (λ n. Rises n now) so_far.calm rises) refl),
     WritesFront-after (shown_lines so_far.shown) (refusal_line DeviceFault) written known then
         so_far.lines w,
   )

@@ -1,6 +1,6 @@
 -- Lines that are served one after the other.
 use Rattle.std.proofs.Common.{◌≡◌, ℕ, List, [], ◌∷◌, ◌++◌, length, Option, Result, Ok, Err}
-use Rattle.std.proofs.Common.{refl, subst, sym}
+use Rattle.std.proofs.Common.{ap, refl, subst, sym}
 use Rattle.std.specs.Prelude.{OnOk, OnErr}
 use Rattle.disk_model.specs.Disk.{State, IsHonestDisk}
 use Rattle.mot_lines.specs.Line.{line_of}
@@ -60,6 +60,68 @@ module _ {D : Type 0} (state : D → State) where
         each = each;
         breaks = b;
       }
+
+-- the server on what its disk is made of
+abbrev pub server_on : {D E : Type 0} → (D → E) → ServerView D → ServerView E
+server_on of server =
+    record { view = server.view; disk = of server.disk; player = server.player }
+
+-- what was served on a disk was served on the one that it is made of
+module _ {D E : Type 0} (of : D → E) (state : E → State) where
+  abbrev state_on : D → State
+  state_on disk = state (of disk)
+
+  goes-on : (old new : ServerView D) (before now : State) → GoesOn old new before now
+      → GoesOn (server_on of old) (server_on of new) before now
+  goes-on old new before now goes = record { keeps = goes.keeps; halted = goes.halted }
+
+  one-on : (old new : ServerView D) (line : List ℕ) (written now : Option (List ℕ))
+      → ServesOne state_on old line new written now
+      → ServesOne state (server_on of old) line (server_on of new) written now
+  one-on old new line written now one = record {
+    answered = one.answered;
+    text = one.text;
+    anyhow = one.anyhow;
+    appended = one.appended;
+    goes = goes-on old new (state_on old.disk) (state_on new.disk) one.goes;
+  }
+
+  breaks-on : (old new : ServerView D) (line : List ℕ) (written now : Option (List ℕ))
+      → BreaksOff state_on old line new written now
+      → BreaksOff state (server_on of old) line (server_on of new) written now
+  breaks-on old new line written now breaks = record {
+    broken = breaks.broken;
+    text = breaks.text;
+    anyhow = breaks.anyhow;
+    front = breaks.front;
+    goes = goes-on old new (state_on old.disk) (state_on new.disk) breaks.goes;
+  }
+
+  pub each-on : (old new : ServerView D) (lines : List (List ℕ)) (written now : Option (List ℕ))
+      → ServesEach state_on old lines new written now
+      → ServesEach state (server_on of old) lines (server_on of new) written now
+  each-on old new [] written now each = (ap (server_on of) each.0, each.1)
+  each-on old new (line ∷ lines) written now each = (
+    server_on of each.0,
+    each.1,
+    one-on old each.0 line written each.1 each.2,
+    each-on each.0 new lines each.1 now each.3,
+  )
+
+  pub some-on : (old new : ServerView D) (lines : List (List ℕ)) (count : ℕ)
+      (written now : Option (List ℕ)) → ServesSome state_on old lines count new written now
+      → ServesSome state (server_on of old) lines count (server_on of new) written now
+  some-on old new lines count written now some = record {
+    first = some.first;
+    line = some.line;
+    others = some.others;
+    split = some.split;
+    counted = some.counted;
+    mid = server_on of some.mid;
+    between = some.between;
+    each = each-on old some.mid some.first written some.between some.each;
+    breaks = breaks-on some.mid new some.line some.between now some.breaks;
+  }
 
 -- what was told of a line
 module _ {D : Type 0} (state : D → State) (old new : ServerView D) (known next : Option (List ℕ))

@@ -3,6 +3,8 @@
 
 -- what a command is answered, and a line that was parsed, told of what is kept in memory
 pub use Rattle.mot_session.proofs.Anyhow.{anyhow-accepted, anyhow-refused, answers-parsed}
+-- lines that were served one after the other
+pub use Rattle.mot_session.proofs.Each.{each-on, server_on, some-on}
 -- some first bytes that were written
 pub use Rattle.mot_session.proofs.Fronts.{WritesFront-after, WritesFront-all, WritesFront-before}
 pub use Rattle.mot_session.proofs.Fronts.{Writes-after, Writes-kept}

@@ -954,10 +954,10 @@ unfolding carousel_after
 kept_new g first standing halted going after =
     ap (λ b. if b then None else Some standing.carousel) going ∙ sym after.carousel
 
--- of two cases, the last part of either
-pub some_of : {A B C D E : Type 0} → (A × B) ⊎ (C × D × E) → B ⊎ E
-some_of (inl some) = inl some.1
-some_of (inr some) = inr some.2
+-- of two cases, the second of which says more
+pub some_of : {A B C : Type 0} → A ⊎ (B × C) → A ⊎ C
+some_of (inl some) = inl some
+some_of (inr some) = inr some.1
 
 -- what came is what was there, or stands for something
 pub left_or_stands : (s : Standing) (others : List command.Command) (image : List ℕ) (was : Bool)

@@ -16,7 +16,8 @@ use Rattle.mot_lines.specs.declared.line.Line.TheVariants as asks
 use Rattle.mot_lines.specs.declared.line.TheConstants.{MAX_LINE}
 use Rattle.mot_lines.specs.Fields.{body_in, content_in, count_in, kind_in, mime_in, name_in}
 use Rattle.mot_lines.specs.Fields.{period_in, segment_in, tid_in}
-use Rattle.mot_lines.specs.Line.{◌>>=◌, description_of, line_of, list_of, next_of, period_of}
+use Rattle.mot_lines.specs.Line.{description_of, line_of, list_of, next_of, period_of}
+use Rattle.mot_numbers.specs.Refusal.{◌>>=◌}
 use Rattle.mot_lines.specs.Line.{put_of}
 use Rattle.mot_lines.specs.Line.{raw_of, replace_of, request_of, turn_of, withdraw_of}
 use Rattle.mot_lines.specs.Text.{done_line, refusal_line}

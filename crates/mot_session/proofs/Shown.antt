@@ -35,9 +35,8 @@ use Rattle.mot_objects.specs.declared.command.Done.{Done}
 use Rattle.mot_packets.specs.Written.{bytes_of_packet}
 use Rattle.mot_packets.proofs.Laws.{length-packets_of_group}
 use Rattle.mot_player.specs.Place.{Place, Request, Sent, request, sent_by}
-use Rattle.mot_session.specs.OnAnyDisk.{Shown, shown_lines}
 use Rattle.mot_session.specs.Played.{Sends, sent_lines}
-use Rattle.mot_session.specs.Replies.{AreAsked, IsReply, IsShown}
+use Rattle.mot_session.specs.Replies.{AreAsked, IsReply, IsShown, Shown, ends_of, shown_lines}
 use Rattle.mot_session.specs.Raw.{raw_group, raw_packets}
 use Rattle.mot_session.specs.Served.{Begins, whole, next_begun, turn_begun}
 use Rattle.mot_session.specs.Session.{Answers, decided, halted, no_memory, IsAnswer}
@@ -203,9 +202,6 @@ listing-shown c =
     ∙ ap (λ l. codes "carousel " ++ numbers_of c ++ 10 ∷ [] ++ l) (objects-shown c.objects)
 
 -- ---- packets are shown
-
-abbrev ends_of : List Shown → List Bool
-ends_of shown = map (λ (p : Shown). p.1) shown
 
 abbrev shown_raw : List (List ℕ) → List Shown
 shown_raw ps = map {B = Shown} (λ (p : List ℕ). (p, false)) ps

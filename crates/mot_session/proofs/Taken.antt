@@ -1,7 +1,7 @@
 -- Bytes of a chunk that were taken, and the lines served that ended in them.
 use Rattle.std.proofs.Common.{◌≡◌, ℕ, ◌+◌, List, [], ◌∷◌, ◌++◌, Option, sym, ap, subst, ◌∙◌}
 use Rattle.std.proofs.Common.{append_assoc, append-nil}
-use Rattle.disk_model.specs.Disk.{State, IsHonestDisk}
+use Rattle.disk_model.specs.Disk.{State}
 use Rattle.mot_lines.specs.Hand.{bytes_in_hand}
 use Rattle.mot_lines.specs.Line.{line_of}
 use Rattle.mot_lines.specs.Lines.{HasNoLineEnd, whole_lines, rest_of}
@@ -9,11 +9,9 @@ use Rattle.mot_lines.proofs.Laws.{whole_lines-end, whole_lines-front, whole_line
 use Rattle.mot_server.specs.Server.{ServerView}
 use Rattle.mot_session.specs.Inner.InHand.{InHand}
 use Rattle.mot_session.specs.LineByLine.{BreaksOff, ServesEach, ServesOne, ServesSome}
-use Rattle.mot_session.specs.Served.{Served, Stopped}
-use Rattle.mot_session.specs.State.{Leads, ServerState, state_of}
 use Rattle.mot_session.proofs.Each.{each-more, some-here}
 use Rattle.mot_session.proofs.Kept.{BreaksOff-of_line, ServesOne-of_line}
-use Rattle.mot_session.proofs.Runs.{InHand-end, InHand-within, Served-push, Stopped-here}
+use Rattle.mot_session.proofs.Runs.{InHand-end, InHand-within}
 
 module _ {D : Type 0} (state : D → State) (first : ServerView D) (hand : List ℕ) (lines : ℕ)
     (written : Option (List ℕ)) where
@@ -21,10 +19,6 @@ module _ {D : Type 0} (state : D → State) (first : ServerView D) (hand : List 
   pub record Taken (front : List ℕ) (now : ServerView D) (held : List ℕ) (count : ℕ)
       (known : Option (List ℕ)) : Type 0 where
     pub in_hand : (input : List ℕ) → InHand input hand lines → InHand (input ++ front) held count
-    pub served : (before : ServerState) (old : Option (List ℕ)) (input : List ℕ)
-        → InHand input hand lines → Leads state first now (λ between after.
-        Served (state first.disk) before between (whole_lines input) old written
-        → Served (state now.disk) before after (whole_lines (input ++ front)) old known)
     pub each : (begun : ServerView D) (old : Option (List ℕ)) (input : List ℕ)
         → InHand input hand lines → ServesEach state begun (whole_lines input) first old written
         → ServesEach state begun (whole_lines (input ++ front)) now old known
@@ -33,7 +27,6 @@ module _ {D : Type 0} (state : D → State) (first : ServerView D) (hand : List 
   pub taken_none : Taken [] first hand lines written
   taken_none = record {
     in_hand = λ input is. rw append-nil is;
-    served = λ before old input is s stands honest. (s, stands, λ served. rw append-nil served);
     each = λ begun old input is each. rw append-nil each;
   }
 
@@ -54,13 +47,6 @@ module _ {D : Type 0} {state : D → State} {first : ServerView D} {hand : List 
             subst (λ l. InHand l next count) (append_assoc input front more)
             (InHand-within (input ++ front) held count h more next none
             (adds (rest_of (input ++ front)) h.rest));
-        served = λ before old input is s stands honest.
-            let f = so_far.served before old input is s stands honest in (
-              f.0,
-              f.1,
-              λ served. subst (λ l. Served (state now.disk) before
-                  (state_of now f.0 (state now.disk)) l old known) (same input) (f.2 served),
-            );
         each = λ begun old input is each.
             subst (λ l. ServesEach state begun l now old known) (same input)
             (so_far.each begun old input is each);
@@ -68,8 +54,7 @@ module _ {D : Type 0} {state : D → State} {first : ServerView D} {hand : List 
 
   -- these bytes ask for what is in hand
   module _ {bytes : List ℕ} {new : ServerView D} {told : Option (List ℕ)}
-      (asks : (line : List ℕ) → held ≡ bytes_in_hand line → line_of bytes ≡ line_of line)
-      (sound : (disk : D) → (state disk).IsHonest → IsHonestDisk (state disk)) where
+      (asks : (line : List ℕ) → held ≡ bytes_in_hand line → line_of bytes ≡ line_of line) where
     -- a line's end is taken, once the line is served and nothing is in hand
     pub taken_line : ServesOne state now bytes new known told → {next : List ℕ}
         → next ≡ bytes_in_hand []
@@ -85,19 +70,6 @@ module _ {D : Type 0} {state : D → State} {first : ServerView D} {hand : List 
           in_hand = λ input is.
               subst (λ l. InHand l next (count + 1)) (append_assoc input front (10 ∷ []))
               (InHand-end (input ++ front) held count (so_far.in_hand input is) next empty);
-          served = λ before old input is s stands honest.
-              let was = one.goes.keeps.was_honest honest in
-              let f = so_far.served before old input is s stands was in
-              let a = (whole input is).answered f.0 f.1 honest in (
-                a.0,
-                a.1,
-                λ served. subst (λ l. Served (state new.disk) before
-                    (state_of new a.0 (state new.disk)) l old told) (same input)
-                    (Served-push now new f.0 a.0 (state now.disk) (state new.disk)
-                    (sound now.disk was) (sound new.disk honest) a.1 before
-                    (whole_lines (input ++ front)) (rest_of (input ++ front)) old known told
-                    (f.2 served) a.2 (λ halted. (one.goes.halted halted).1 honest)),
-              );
           each = λ begun old input is each.
               subst (λ l. ServesEach state begun l new old told) (same input)
               (each-more state begun now new (whole_lines (input ++ front))
@@ -128,26 +100,7 @@ module _ {D : Type 0} {state : D → State} {first : ServerView D} {hand : List 
                 ∙ append_assoc (whole_lines xs) (rest_of xs ∷ []) more.0,
           )
 
-      -- serving stopped at that line of all that end in the chunk
-      pub stopped_there : (before : ServerState) (old : Option (List ℕ)) (input : List ℕ)
-          → InHand input hand lines → Leads state first new (λ between after.
-          Served (state first.disk) before between (whole_lines input) old written
-          → Stopped (state new.disk) before after (whole_lines (input ++ chunk)) count old told)
-      stopped_there before old input is s stands honest =
-          let was = one.goes.keeps.was_honest honest in
-          let f = so_far.served before old input is s stands was in
-          let a = (cut input is).broken f.0 f.1 honest in
-          let split = all_lines input in (
-            a.0,
-            a.1,
-            λ served. Stopped-here now new f.0 a.0 (state now.disk) (state new.disk)
-                (sound now.disk was) (sound new.disk honest) a.1 before
-                (whole_lines (input ++ front)) (rest_of (input ++ front)) old known told
-                (f.2 served) a.2 (λ halted. (one.goes.halted halted).1 honest) count
-                (so_far.in_hand input is).counted (whole_lines (input ++ chunk)) split.0 split.1,
-          )
-
-      -- the lines before it were served
+      -- the lines before it were served, and the reply to it was broken off
       pub some_there : (begun : ServerView D) (old : Option (List ℕ)) (input : List ℕ)
           → InHand input hand lines
           → ServesEach state begun (whole_lines input) first old written

@@ -22,7 +22,8 @@ use Rattle.mot_lines.specs.declared.line.Line.{Line}
 use Rattle.mot_lines.specs.declared.line.Line.TheVariants as asks
 use Rattle.mot_lines.specs.declared.line.TheConstants.{MAX_LINE, MAX_PACKETS}
 use Rattle.mot_lines.specs.Fields.{count_in, kind_in, name_in, period_in, segment_in, tid_in}
-use Rattle.mot_lines.specs.Line.{◌>>=◌, description_of, line_of, list_of, next_of, period_of}
+use Rattle.mot_lines.specs.Line.{description_of, line_of, list_of, next_of, period_of}
+use Rattle.mot_numbers.specs.Refusal.{◌>>=◌}
 use Rattle.mot_lines.specs.Line.{put_of}
 use Rattle.mot_lines.specs.Line.{raw_of, replace_of, request_of, turn_of, withdraw_of}
 use Rattle.mot_lines.specs.Words.{number_of_word, words_of}

@@ -1,7 +1,7 @@
 -- What a request is answered on every disk, whatever the disk holds and however it fails: in
 -- the words of what the server keeps in memory.
-use Rattle.std.specs.Prelude.{ℕ, ◌≡◌, ◌<◌, ◌≤◌, Bool, true, false, List, ◌++◌, length, map}
-use Rattle.std.specs.Prelude.{replicate, Result, Ok, Err, IsTrue, IsFalse}
+use Rattle.std.specs.Prelude.{ℕ, ◌≡◌, Bool, true, List, [], ◌∷◌, ◌++◌, Result, Ok, Err}
+use Rattle.std.specs.Prelude.{IsTrue, IsFalse, if◌then◌else◌}
 use Rattle.std.specs.List.{flat_map}
 use Rattle.disk_model.specs.Failures.{Rises}
 use Rattle.mot_lines.specs.declared.line.Line.{Line}
@@ -9,7 +9,7 @@ use Rattle.mot_lines.specs.declared.line.Line.TheVariants.{Command, Raw, Next, T
 use Rattle.mot_lines.specs.declared.line.Line.TheVariants as asks
 use Rattle.mot_lines.specs.Listing.{listing_text_beside}
 use Rattle.mot_lines.specs.Line.{NeedsMemory}
-use Rattle.mot_lines.specs.Text.{done_line, packet_line, played_line, refusal_line}
+use Rattle.mot_lines.specs.Text.{done_line, packet_line, refusal_line}
 use Rattle.mot_numbers.specs.declared.group_kind.GroupKind.{GroupKind}
 use Rattle.mot_numbers.specs.declared.refusal.Refusal.{Refusal}
 use Rattle.mot_numbers.specs.declared.refusal.Refusal.TheVariants.{OutOfMemory, BadLine}
@@ -20,6 +20,7 @@ use Rattle.mot_objects.specs.declared.command.Done.{Done}
 use Rattle.mot_repository.specs.Answers.{IsChanged, IsHalted, IsRefusal}
 use Rattle.mot_repository.specs.Repository.{RepositoryView}
 use Rattle.mot_session.specs.Raw.{raw_packets}
+use Rattle.mot_session.specs.Replies.{AreAsked, Shown, ends_of, shown_lines}
 use Rattle.mot_session.specs.Session.{NeedsCarousel}
 
 -- what a request asks for where a server is only read: no command, and no packets of the carousel
@@ -31,20 +32,9 @@ read_only (Ok (Raw kind tid body)) = Ok (Raw kind tid body)
 read_only (Ok (Next count)) = Err BadLine
 read_only (Ok Turn) = Err BadLine
 
--- a packet that was played, and whether it ends the turn
-abbrev pub Shown : Type 0
-Shown = List ℕ × Bool
-
--- a line for each
-abbrev pub shown_lines : List Shown → List ℕ
-shown_lines shown = flat_map (λ (p : Shown). played_line p.0 p.1) shown
-
--- none of so many packets ends a turn
-abbrev pub AreWithinTurn : ℕ → List Shown → Type 0
-AreWithinTurn count shown = map (λ (p : Shown). p.1) shown ≡ replicate count false
-
 -- What was kept in memory was old and is new, the disk had failed so many times before and now, and
--- the text is the whole reply.
+-- the text is the whole reply. The packets of a `next` and a `turn` line are counted: they are all
+-- that it asks for, or the disk failed behind some first ones.
 pub data AnswersAnyhow (old new : RepositoryView) (before now : ℕ) (request : Result Line Refusal)
     (text : List ℕ) : Type 0 where
   no_request : (r : Refusal) → request ≡ Err r → new ≡ old → text ≡ refusal_line r
@@ -63,36 +53,22 @@ pub data AnswersAnyhow (old new : RepositoryView) (before now : ℕ) (request : 
       → new ≡ old
       → text ≡ flat_map packet_line (raw_packets old.journal.geometry kind tid body)
       → AnswersAnyhow old new before now request text
-  next : (count : ℕ) (shown : List Shown) → request ≡ Ok (Next count) → IsFalse old.halted
-      → new ≡ old → length shown ≡ count → text ≡ shown_lines shown
-      → AnswersAnyhow old new before now request text
-  next_cut : (count : ℕ) (shown : List Shown) → request ≡ Ok (Next count) → IsFalse old.halted
-      → new ≡ old → length shown < count → Rises before now
-      → text ≡ shown_lines shown ++ refusal_line DeviceFault
-      → AnswersAnyhow old new before now request text
-  turn : (count : ℕ) (shown : List Shown) (last : List ℕ) → request ≡ Ok Turn
-      → IsFalse old.halted → new ≡ old → AreWithinTurn count shown
-      → text ≡ shown_lines shown ++ played_line last true
-      → AnswersAnyhow old new before now request text
-  turn_cut : (count : ℕ) (shown : List Shown) → request ≡ Ok Turn → IsFalse old.halted
-      → new ≡ old → AreWithinTurn count shown → Rises before now
-      → text ≡ shown_lines shown ++ refusal_line DeviceFault
+  played : (shown : List Shown) (failed : Bool) → NeedsCarousel request → IsFalse old.halted
+      → new ≡ old → AreAsked old.journal.geometry request failed (ends_of shown)
+      → (IsTrue failed → Rises before now)
+      → text ≡ shown_lines shown ++ (if failed then refusal_line DeviceFault else [])
       → AnswersAnyhow old new before now request text
   halted : IsTrue old.halted → NeedsCarousel request → new ≡ old → text ≡ refusal_line Halted
       → AnswersAnyhow old new before now request text
   no_memory : NeedsMemory request → new ≡ old → text ≡ refusal_line OutOfMemory
       → AnswersAnyhow old new before now request text
 
--- the whole reply was made; or some first packets of a `next` or a `turn` line's, and no more were
--- asked for
+-- the whole reply was made; or some first packets of a `next` or a `turn` line's, and those before
+-- the last of them are not all
 pub data BeginsAnyhow (old new : RepositoryView) (before now : ℕ) (request : Result Line Refusal)
     (text : List ℕ) : Type 0 where
   whole : AnswersAnyhow old new before now request text
       → BeginsAnyhow old new before now request text
-  next_begun : (count : ℕ) (shown : List Shown) → request ≡ Ok (Next count) → IsFalse old.halted
-      → new ≡ old → length shown ≤ count → text ≡ shown_lines shown
-      → BeginsAnyhow old new before now request text
-  turn_begun : (count : ℕ) (shown : List Shown) (last : Shown) → request ≡ Ok Turn
-      → IsFalse old.halted → new ≡ old → AreWithinTurn count shown
-      → text ≡ shown_lines shown ++ played_line last.0 last.1
-      → BeginsAnyhow old new before now request text
+  begun : (shown : List Shown) (last : Shown) → NeedsCarousel request → IsFalse old.halted
+      → new ≡ old → AreAsked old.journal.geometry request true (ends_of shown)
+      → text ≡ shown_lines (shown ++ last ∷ []) → BeginsAnyhow old new before now request text

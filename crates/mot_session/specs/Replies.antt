@@ -17,6 +17,18 @@ use Rattle.mot_objects.specs.declared.command.Done.{Done}
 use Rattle.mot_objects.specs.Carousel.{Carousel, change}
 use Rattle.mot_server.specs.Life.{LacksRoom}
 
+-- a packet that is shown, and whether it ends a turn
+abbrev pub Shown : Type 0
+Shown = List ℕ × Bool
+
+-- a line for each
+abbrev pub shown_lines : List Shown → List ℕ
+shown_lines shown = flat_map (λ (p : Shown). played_line p.0 p.1) shown
+
+-- which of them end a turn
+abbrev pub ends_of : List Shown → List Bool
+ends_of shown = map (λ (p : Shown). p.1) shown
+
 -- Of so many packets these end a turn: they are all that a request asks for, or, where the disk
 -- failed behind them, some first ones. A `raw` line's group has 11 bytes more than its body.
 abbrev pub AreAsked : Geometry → Result Line Refusal → Bool → List Bool → Type 0
@@ -34,10 +46,9 @@ pub data IsShown (g : Geometry) (request : Result Line Refusal) (text : List ℕ
       → AllByRecursion HasNoLineEnd (numbers ∷ objects)
       → text ≡ codes "carousel " ++ numbers ++ 10 ∷ []
       ++ flat_map (λ o. codes "object " ++ o ++ 10 ∷ []) objects → IsShown g request text
-  packets : (shown : List (List ℕ × Bool)) (failed : Bool)
-      → AreAsked g request failed (map (λ (p : List ℕ × Bool). p.1) shown)
-      → text ≡ flat_map (λ (p : List ℕ × Bool). played_line p.0 p.1) shown
-      ++ (if failed then refusal_line DeviceFault else []) → IsShown g request text
+  packets : (shown : List Shown) (failed : Bool) → AreAsked g request failed (ends_of shown)
+      → text ≡ shown_lines shown ++ (if failed then refusal_line DeviceFault else [])
+      → IsShown g request text
 
 -- The text is a whole reply to the request. Where one such text ends is seen from the lines alone:
 -- so the bytes of replies say which of their lines answers which request.

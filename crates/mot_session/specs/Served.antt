@@ -1,5 +1,5 @@
 -- What was read and written so far.
-use Rattle.std.specs.Prelude.{ℕ, ◌≡◌, ◌≤◌, ◌*◌, ◌⊎◌, List, [], ◌∷◌, ◌++◌, length, map, Option, Some}
+use Rattle.std.specs.Prelude.{ℕ, ◌≡◌, ◌≤◌, ◌*◌, ◌⊎◌, List, [], ◌∷◌, ◌++◌, length, Option, Some}
 use Rattle.std.specs.Prelude.{None, Result, Ok, IsFalse}
 use Rattle.std.specs.Io.KnownBytes.{Appends, Consumes}
 use Rattle.disk_model.specs.Disk.{State}
@@ -12,10 +12,9 @@ use Rattle.mot_numbers.specs.declared.refusal.Refusal.TheVariants.{WriteFault}
 use Rattle.mot_player.specs.Place.{Sent}
 use Rattle.mot_session.specs.declared.serving.TheConstants.{READ_SIZE}
 use Rattle.mot_session.specs.Played.{Sends, SendsWithinTurn, sent_lines}
-use Rattle.mot_session.specs.Session.{Reply, played, cut_short, Answers, Exchange, Session, text_of}
-use Rattle.mot_session.specs.Session.{texts_of}
+use Rattle.mot_session.specs.Session.{Reply, played, cut_short, Answers, text_of}
 use Rattle.mot_session.specs.State.{ServerState}
-use Rattle.mot_session.specs.Stored.{IsStored, IsToldAndStored, failed_by}
+use Rattle.mot_session.specs.Stored.{IsToldAndStored}
 
 -- the reader gave these bytes, in at most so many reads
 pub record TakesInput (reads : ℕ) (unread left : Option (List ℕ)) (input : List ℕ) : Type 0 where
@@ -71,40 +70,6 @@ pub record StoppedLine (start now : State) (before : ServerState) (line : List �
   pub broken : BrokenOff before (line_of line) reply after old new
   pub stored : IsToldAndStored start now before
       (record { line = line; reply = reply; after = after })
-
--- these are the lines, each was answered, and the replies were written
-pub record Replied (before : ServerState) (exchanges : List Exchange) (after : ServerState)
-    (lines : List (List ℕ)) (old new : Option (List ℕ)) : Type 0 where
-  pub are_lines : map (λ (x : Exchange). x.line) exchanges ≡ lines
-  pub session : Session before exchanges after
-  pub appended : Appends old new (texts_of exchanges)
-
--- each of these lines was answered; and whatever a crash leaves on the disk, now in this state, all
--- that was told is stored
-pub record Served (now : State) (before after : ServerState) (lines : List (List ℕ))
-    (old new : Option (List ℕ)) : Type 0 where
-  pub exchanges : List Exchange
-  pub replied : Replied before exchanges after lines old new
-  pub stored : IsFalse before.halted → IsStored now (failed_by exchanges) before exchanges
-
--- of these lines the first count were answered, and the reply to the one after them was broken off
-pub record Stopped (now : State) (before after : ServerState) (lines : List (List ℕ)) (count : ℕ)
-    (old new : Option (List ℕ)) : Type 0 where
-  pub answered : List (List ℕ)
-  pub line : List ℕ
-  pub unanswered : List (List ℕ)
-  pub split : lines ≡ answered ++ line ∷ unanswered
-  pub counted : count ≡ length answered
-  pub exchanges : List Exchange
-  pub between : ServerState
-  pub known : Option (List ℕ)
-  pub replied : Replied before exchanges between answered old known
-  -- the command in hand may have been done
-  pub reply : Reply
-  pub broken : BrokenOff between (line_of line) reply after known new
-  pub stored :
-      let all = exchanges ++ record { line = line; reply = reply; after = after } ∷ [] in
-      IsFalse before.halted → IsStored now (failed_by all) before all
 
 -- what ends serving: the end of the input, or one of three faults
 abbrev pub EndsServing : Option Refusal → Type 0

@@ -121,9 +121,6 @@ pub record Exchange : Type 0 where
   pub reply : Reply
   pub after : ServerState
 
-abbrev pub texts_of : List Exchange → List ℕ
-texts_of exchanges = flat_map (λ (x : Exchange). text_of x.reply) exchanges
-
 -- line by line, from a state to a state
 unfoldable pub Session : ServerState → List Exchange → ServerState → Type 0
 Session before [] after = after ≡ before

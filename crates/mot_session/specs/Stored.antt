@@ -1,7 +1,6 @@
 -- What a crash leaves of a session.
 use Rattle.std.specs.Prelude.{ℕ, ◌≡◌, ◌≤◌, Bool, true, false, List, [], ◌∷◌, ◌++◌, Result, Ok}
 use Rattle.std.specs.Prelude.{IsFalse, if◌then◌else◌}
-use Rattle.std.specs.List.{flat_map}
 use Rattle.disk_model.specs.Disk.{State, Throughout}
 use Rattle.mot_journal.specs.Image.{Standing}
 use Rattle.mot_lines.specs.declared.line.Line.{Line}
@@ -34,12 +33,6 @@ accepted_in x = if is_accepting x.reply then command_in (line_of x.line) else []
 abbrev pub failed_in : Exchange → List command.Command
 failed_in x = if is_failing x.reply then command_in (line_of x.line) else []
 
-abbrev pub accepted_by : List Exchange → List command.Command
-accepted_by exchanges = flat_map accepted_in exchanges
-
-abbrev pub failed_by : List Exchange → List command.Command
-failed_by exchanges = flat_map failed_in exchanges
-
 -- At each moment since that one of the disk's clock, inside a call of the disk or between two, a
 -- crash leaves what all of the sure commands and a beginning of the others make of s.
 abbrev pub HoldsSince : State → ℕ → Standing → List command.Command → List command.Command → Type 0
@@ -68,17 +61,3 @@ abbrev pub IsToldAndStored : State → State → ServerState → Exchange → Ty
 IsToldAndStored start now before x =
     IsFalse before.halted → (s : Standing) (acknowledged : List command.Command)
     → IsAfter s acknowledged before.standing → KeepsAcknowledged start now s acknowledged x
-
--- At each moment since the server stood so, a crash leaves its carousel after a beginning of these
--- commands.
-abbrev pub LeavesSince : State → ServerState → List command.Command → Type 0
-LeavesSince now state commands = HoldsSince now state.moment state.standing [] commands
-
--- All that was told is stored. Since the moment of each state of a session, from its beginning to
--- its end, a crash leaves that state's carousel, after a beginning of the commands that later
--- replies accept, or after all of them and the one that a device fault cut off.
-abbrev pub IsStored : State → List command.Command → ServerState → List Exchange → Type 0
-IsStored now failed before [] = LeavesSince now before failed
-IsStored now failed before (x ∷ exchanges) =
-    LeavesSince now before (accepted_by (x ∷ exchanges) ++ failed)
-    × IsStored now failed x.after exchanges

@@ -10,7 +10,7 @@ ghost use Rattle.mot_numbers.specs.declared.geometry.Geometry.{Geometry};
 ghost use Rattle.mot_objects.specs.declared.command.Command.{Command};
 ghost use Rattle.mot_repository.specs.Opening.{IsPassing};
 ghost use Rattle.mot_objects.specs.Carousel.{carousel_after};
-ghost use Rattle.mot_server.specs.Life.{IsBlank, IsFormatRefusal, IsUnopened, PlaysAfter};
+ghost use Rattle.mot_server.specs.Life.{IsBlank, IsUnmade, IsUnopened, PlaysAfter};
 ghost use Rattle.mot_server.specs.Life.{carousel_from};
 ghost use Rattle.mot_server.specs.Lives.{HasDone, LivesOn};
 ghost use Rattle.mot_server.specs.Playing.{bytes_of_packets};
@@ -93,7 +93,7 @@ pub fn format_serve_and_restart<R: Read, W: Write, D: Disk, E: Disk + Drop>(
         → IfErr life.after_crash (λ e. (E.state e.disk).IsHonest
         → IsPassing (E.state left) (E.state e.disk) e.refusal)) }
     ensures refused { IfErr result (λ e. (D.state e.disk).IsHonest
-        → IsFormatRefusal geometry.now (D.state disk) (D.state e.disk) e.refusal) }
+        → IsUnmade geometry.now (D.state disk) (D.state e.disk) e.refusal) }
 {
     let mut server = format_and_open(alloc, disk, geometry, directory)?;
     let end = serve(alloc, reader, writer, &mut server, reads);

@@ -9,8 +9,7 @@ ghost use Rattle.mot_session.specs.Inner.InHand.{InHand};
 ghost use Rattle.mot_session.specs.LineByLine.{BreaksOff, GoesOn};
 ghost use Rattle.mot_session.specs.LineByLine.{ServesEach, ServesOne, ServesSome};
 ghost use Rattle.mot_session.specs.Laws.{SessionLaws};
-ghost use Rattle.mot_session.specs.Served.{TakesInput, Served, Stopped, EndsServing};
-ghost use Rattle.mot_session.specs.State.{Leads, ServerState};
+ghost use Rattle.mot_session.specs.Served.{TakesInput, EndsServing};
 
 mod listing;
 mod output;
@@ -69,8 +68,6 @@ pub fn serve<R: Read, W: Write, D: Disk>(
     ensures ended { result.fault ≡ None → (input : List ℕ)
         × TakesInput reads (R.remaining reader.old) (R.remaining reader.new) input
         × IsAtEnd (R.remaining reader.new) × (result.lines ≡ length (lines_of input))
-        × Leads D.state server.old server.new (λ before after. Served (D.state server.new.disk)
-        before after (lines_of input) (W.contents writer.old) (W.contents writer.new))
         × ServesEach D.state server.old (lines_of input) server.new
         (W.contents writer.old) (W.contents writer.new) }
 
@@ -78,8 +75,6 @@ pub fn serve<R: Read, W: Write, D: Disk>(
     ensures unread { result.fault ≡ Some ReadFault → (input : List ℕ)
         × TakesInput reads (R.remaining reader.old) (R.remaining reader.new) input
         × (result.lines ≡ length (whole_lines input))
-        × Leads D.state server.old server.new (λ before after. Served (D.state server.new.disk)
-        before after (whole_lines input) (W.contents writer.old) (W.contents writer.new))
         × ServesEach D.state server.old (whole_lines input) server.new
         (W.contents writer.old) (W.contents writer.new) }
 
@@ -88,15 +83,9 @@ pub fn serve<R: Read, W: Write, D: Disk>(
     // ended.
     ensures unwritten { result.fault ≡ Some Refusal.WriteFault → (input : List ℕ)
         × TakesInput reads (R.remaining reader.old) (R.remaining reader.new) input
-        × ((Leads D.state server.old server.new (λ before after. Stopped (D.state server.new.disk)
-        before after (whole_lines input) result.lines
-        (W.contents writer.old) (W.contents writer.new))
-        × ServesSome D.state server.old (whole_lines input) result.lines server.new
-        (W.contents writer.old) (W.contents writer.new))
+        × (ServesSome D.state server.old (whole_lines input) result.lines server.new
+        (W.contents writer.old) (W.contents writer.new)
         ⊎ (IsAtEnd (R.remaining reader.new)
-        × Leads D.state server.old server.new (λ before after. Stopped (D.state server.new.disk)
-        before after (lines_of input) result.lines
-        (W.contents writer.old) (W.contents writer.new))
         × ServesSome D.state server.old (lines_of input) result.lines server.new
         (W.contents writer.old) (W.contents writer.new))) }
 
@@ -181,22 +170,7 @@ fn answer_last<W: Write, D: Disk>(
     requires { lines < 2 ^ 64 - 1 }
     ensures lines { result.fault ≡ None → (input : List ℕ) → InHand input hand.now lines
         → result.lines ≡ length (lines_of input) }
-    ensures ended { result.fault ≡ None
-        → (before : ServerState) (old : Option (List ℕ)) (input : List ℕ)
-        → InHand input hand.now lines → Leads D.state server.old server.new (λ between after.
-        Served (D.state server.old.disk) before between (whole_lines input) old
-        (W.contents writer.old)
-        → Served (D.state server.new.disk) before after (lines_of input) old
-        (W.contents writer.new)) }
     ensures fault { (result.fault ≡ None) ⊎ (result.fault ≡ Some Refusal.WriteFault) }
-    ensures unwritten { result.fault ≡ Some Refusal.WriteFault
-        → (before : ServerState) (old : Option (List ℕ)) (input : List ℕ)
-        → InHand input hand.now lines
-        → Leads D.state server.old server.new (λ between after.
-        Served (D.state server.old.disk) before between (whole_lines input) old
-        (W.contents writer.old)
-        → Stopped (D.state server.new.disk) before after (lines_of input) result.lines old
-        (W.contents writer.new)) }
     ensures each { result.fault ≡ None
         → (first : ServerView D) (old : Option (List ℕ)) (input : List ℕ)
         → InHand input hand.now lines
@@ -236,18 +210,6 @@ fn answer_chunk<W: Write, D: Disk>(
     ensures bound { OnOk result (lines.new ≤ lines.old + length chunk.now) }
     ensures hand { OnOk result ((input : List ℕ) → InHand input hand.old lines.old
         → InHand (input ++ chunk.now) hand.new lines.new) }
-    ensures ok { OnOk result ((before : ServerState) (old : Option (List ℕ)) (input : List ℕ)
-        → InHand input hand.old lines.old → Leads D.state server.old server.new (λ between after.
-        Served (D.state server.old.disk) before between (whole_lines input) old
-        (W.contents writer.old)
-        → Served (D.state server.new.disk) before after (whole_lines (input ++ chunk.now)) old
-        (W.contents writer.new))) }
-    ensures err { OnErr result ((before : ServerState) (old : Option (List ℕ)) (input : List ℕ)
-        → InHand input hand.old lines.old → Leads D.state server.old server.new (λ between after.
-        Served (D.state server.old.disk) before between (whole_lines input) old
-        (W.contents writer.old)
-        → Stopped (D.state server.new.disk) before after (whole_lines (input ++ chunk.now))
-        lines.new old (W.contents writer.new))) }
     ensures each { OnOk result ((first : ServerView D) (old : Option (List ℕ)) (input : List ℕ)
         → InHand input hand.old lines.old
         → ServesEach D.state first (whole_lines input) server.old old (W.contents writer.old)

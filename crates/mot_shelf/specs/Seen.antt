@@ -1,6 +1,6 @@
 -- What the folder of a path on the system gave.
 use Rattle.mot_shelf.specs.Given.{Given}
-use Rattle.mot_shelf.specs.declared.system.Seen.{Seen}
+use Rattle.mot_shelf.specs.declared.seen.Seen.{Seen}
 
 abbrev pub given_of : Seen → Given
 given_of seen = record {

@@ -1,12 +1,16 @@
 //! A folder of files as a program sees it: clauses can say what was listed and read of it.
 #![tactic(auto)]
 
+mod memory;
 mod pairs;
+mod seen;
 mod shelf;
 mod system;
 mod unread;
 
+pub use memory::MemoryShelf;
 pub use pairs::Pairs;
+pub use seen::{LookNotes, Seen};
 pub use shelf::{Kind, Shelf};
-pub use system::{Seen, SystemShelf, open_folder};
+pub use system::SystemShelf;
 pub use unread::Unread;

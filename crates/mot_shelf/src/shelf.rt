@@ -1,9 +1,10 @@
 //! What a program has to come to the files of one folder by.
-ghost use Rattle.std.specs.Prelude.{◌≡◌, ◌≤◌, ℕ, List, IfOk, MatchResult, length, take};
+ghost use Rattle.std.specs.Prelude.{◌≡◌, ◌≤◌, ℕ, List, [], ◌∷◌, ◌++◌, IfOk, MatchResult, length};
+ghost use Rattle.std.specs.Prelude.{take};
 ghost use Rattle.mot_shelf.specs.Given.{Given, and_asked, and_listed, and_missed, and_read};
 ghost use Rattle.mot_shelf.specs.Given.{nothing};
 
-use crate::Unread;
+use crate::{LookNotes, Unread};
 use std::alloc::Global;
 use std::io;
 
@@ -33,6 +34,10 @@ pub trait Shelf {
     fn shown(&self) -> &str
         ensures { result.now ≡ path self.now };
 
+    /// Notes what it gave since the look began, as one look.
+    fn note(&self, looks: &mut LookNotes)
+        ensures { looks.new.all ≡ looks.old.all ++ gave self.now ∷ [] };
+
     /// A look begins.
     fn begin(&mut self)
         ensures same { path self.new ≡ path self.old }
@@ -45,6 +50,9 @@ pub trait Shelf {
         ensures gave { MatchResult result
             (λ _. gave self.new ≡ and_listed (gave self.old) (path self.old))
             (λ _. gave self.new ≡ gave self.old) };
+
+    /// Why it was not opened, if a look last tried to in vain. It is printed, and decides nothing.
+    fn fault(&self) -> Option<io::Error>;
 
     /// The next of its names, each ended by a zero byte, and how many bytes they are: 0 where there
     /// are no further ones.

@@ -1,11 +1,9 @@
 //! A folder of the system. Each method asks the system for what it notes, of the folder's path, and
 //! notes the answer: no contract can say so, and a reader of this file has to see it.
-ghost use Rattle.std.specs.Prelude.{◌≡◌, []};
+ghost use Rattle.std.specs.Prelude.{◌≡◌};
 ghost use Rattle.mot_shelf.specs.Seen.{given_of};
 
-use crate::pairs::Pairs;
-use crate::{Kind, Shelf, Unread};
-use disk_store::Notes;
+use crate::{Kind, LookNotes, Seen, Shelf, Unread};
 use std::alloc::{AllocError, Global};
 use std::fs::{File, Metadata, OpenOptions};
 use std::io::{self, ErrorKind, Read};
@@ -17,36 +15,6 @@ use std::time::{Duration, SystemTime};
 /// How many seconds ago the last change of a file has to be.
 const OLD_SECONDS: u64 = 2;
 
-/// What a folder gave since a look began, as lists that only clauses read. It takes no memory, and
-/// only this file adds to it.
-#[derive(Drop)]
-pub struct Seen {
-    listed: Notes,
-    files: Notes,
-    others: Notes,
-    read: Pairs,
-    missed: Notes,
-}
-
-impl Seen {
-    /// Nothing.
-    pub fn nothing() -> Seen
-        ensures listed { result.listed.all ≡ [] }
-        ensures files { result.files.all ≡ [] }
-        ensures others { result.others.all ≡ [] }
-        ensures read { result.read.all ≡ [] }
-        ensures missed { result.missed.all ≡ [] }
-    {
-        Seen {
-            listed: Notes::new(),
-            files: Notes::new(),
-            others: Notes::new(),
-            read: Pairs::new(),
-            missed: Notes::new(),
-        }
-    }
-}
-
 /// The folder at a path.
 #[derive(Drop)]
 pub struct SystemShelf<'a, T: Files<File = File>> {
@@ -56,6 +24,8 @@ pub struct SystemShelf<'a, T: Files<File = File>> {
     at_once: bool,
     /// The open folder, while its names are listed.
     folder: Option<T::Dir>,
+    /// Why it was not opened, if it was last opened in vain.
+    fault: Option<io::Error>,
     seen: Seen,
 }
 
@@ -70,6 +40,7 @@ impl<'a, T: Files<File = File>> SystemShelf<'a, T> {
             path,
             at_once,
             folder: None,
+            fault: None,
             seen: Seen::nothing(),
         }
     }
@@ -91,16 +62,32 @@ impl<'a, T: Files<File = File> + Clock> Shelf for SystemShelf<'a, T> {
         self.path
     }
 
+    fn note(&self, looks: &mut LookNotes) {
+        looks.note(&self.seen);
+    }
+
     fn begin(&mut self) {
         self.folder = None;
+        self.fault = None;
         self.seen = Seen::nothing();
     }
 
     fn open(&mut self, alloc: Global) -> io::Result<()> {
-        let folder = open_folder(self.rt, alloc, self.path)?;
-        self.seen.listed.note(self.path.as_bytes());
-        self.folder = Some(folder);
-        Ok(())
+        match open_folder(self.rt, alloc, self.path) {
+            Ok(folder) => {
+                self.seen.listed.note(self.path.as_bytes());
+                self.folder = Some(folder);
+                Ok(())
+            }
+            Err(error) => {
+                self.fault = Some(error);
+                Err(error)
+            }
+        }
+    }
+
+    fn fault(&self) -> Option<io::Error> {
+        self.fault
     }
 
     fn names(&mut self, room: &mut [u8]) -> io::Result<usize> {
@@ -144,7 +131,7 @@ impl<'a, T: Files<File = File> + Clock> Shelf for SystemShelf<'a, T> {
 }
 
 /// Opens the folder of this path, or the one that it is a link to, to be listed.
-pub fn open_folder<T: Files<File = File>>(rt: &T, alloc: Global, path: &str) -> io::Result<T::Dir> {
+fn open_folder<T: Files<File = File>>(rt: &T, alloc: Global, path: &str) -> io::Result<T::Dir> {
     // An empty path is no folder; with a slash behind it, it would be the topmost one.
     if path.is_empty() {
         return rt.open_dir(path);

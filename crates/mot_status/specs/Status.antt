@@ -1,6 +1,8 @@
 -- The status of a carousel on air, in the text format of Prometheus.
-use Rattle.std.specs.Prelude.{ℕ, ◌==◌, if◌then◌else◌, List, [], ◌∷◌, ◌++◌, flat_map, codes}
+use Rattle.std.specs.Prelude.{ℕ, ◌≡◌, ◌==◌, ◌&&◌, ◌||◌, nat_le, Bool, true, false, not, if◌then◌else◌}
+use Rattle.std.specs.Prelude.{List, [], ◌∷◌, ◌++◌, bytes_eq, flat_map, codes}
 use Rattle.std.specs.Fmt.{decimal}
+use Rattle.mot_lines.specs.Lines.{pieces_between}
 use Rattle.mot_status.specs.declared.text.Figures.{Figures}
 
 -- a byte of a label's value: a backslash, a quotation mark and a line end have a backslash in front
@@ -48,6 +50,7 @@ abbrev pub rows_of : Figures → List Row
 rows_of f =
     row (codes "motcar_packets_total") (codes "counter") (codes "Packets that were taken.")
     f.packets
+    ∷ row (codes "motcar_turns_total") (codes "counter") (codes "Turns that have ended.") f.turns
     ∷ row (codes "motcar_looks_total") (codes "counter") (codes "Looks at the folder.") f.looks
     ∷ row (codes "motcar_changes_total") (codes "counter") (codes "Commands that were done.")
     f.changes
@@ -79,6 +82,31 @@ pub record RefusedFile : Type 0 where
   pub command : List ℕ
   pub name : List ℕ
   pub reason : List ℕ
+
+-- the line of a look that tells of it
+abbrev pub refused_line : RefusedFile → List ℕ
+refused_line file = file.command ++ codes " " ++ file.name ++ codes " refused " ++ file.reason
+
+-- a line about the whole look, about a name that is left out, or a note
+abbrev pub is_of_no_file : List ℕ → Bool
+is_of_no_file command =
+    bytes_eq command (codes "look") || bytes_eq command (codes "skip")
+    || bytes_eq command (codes "note")
+
+abbrev pub begins_with_digit : List ℕ → Bool
+begins_with_digit [] = false
+begins_with_digit (byte ∷ bytes) = nat_le 48 byte && nat_le byte 57
+
+-- what such a line tells: a reason begins with its number
+abbrev pub tells_of_file : RefusedFile → Bool
+tells_of_file file = not (is_of_no_file file.command) && begins_with_digit file.reason
+
+-- one of these lines tells of it
+pub record IsRefusedIn (lines : List ℕ) (file : RefusedFile) : Type 0 where
+  pub before : List (List ℕ)
+  pub behind : List (List ℕ)
+  pub split : pieces_between lines ≡ before ++ refused_line file ∷ behind
+  pub told : tells_of_file file ≡ true
 
 abbrev pub refused_sample : List ℕ → RefusedFile → List ℕ
 refused_sample disk file =

@@ -1,15 +1,14 @@
 //! The text of the status.
-ghost use Rattle.std.specs.Prelude.{◌≡◌, ◌++◌, List, OnOk, flat_map};
-ghost use Rattle.mot_status.specs.Status.{RefusedFile, head_text, label, label_byte};
+ghost use Rattle.std.specs.Prelude.{◌≡◌, ◌++◌, All, IfSome, List, OnOk, codes, flat_map, true};
+ghost use Rattle.mot_status.specs.Status.{IsRefusedIn, RefusedFile, begins_with_digit, head_text};
+ghost use Rattle.mot_status.specs.Status.{is_of_no_file, label, label_byte};
 ghost use Rattle.mot_status.specs.Status.{refused_sample, refused_text, row_text, rows_text};
 ghost use Rattle.mot_status.specs.Status.{sample_text, status_text, version_text};
-ghost use Rattle.mot_status.specs.Inner.Rows.{label_of, row_of};
+ghost use Rattle.mot_status.specs.Inner.Rows.{IsRefusedLine, label_of, row_of};
 
 use itoa::Buffer;
+use mot_lines::cut_at_line_end;
 use std::alloc::AllocError;
-
-/// What is between the name of a file and why it was refused, in a line of the log.
-const REFUSED: &[u8] = b" refused ";
 
 /// What is known of a carousel on air.
 #[derive(Clone, Copy)]
@@ -20,6 +19,8 @@ pub struct Figures<'a> {
     pub version: &'a str,
     /// How many packets were taken.
     pub packets: u64,
+    /// How many turns have ended.
+    pub turns: u64,
     /// How often the folder was looked at.
     pub looks: u64,
     /// How many commands were done.
@@ -59,14 +60,14 @@ struct Label<'a> {
 }
 
 /// Makes the text that of these figures and of the files that are refused in the lines of a look:
-/// a sample for each of their lines `COMMAND NAME refused REASON`, and one for equal lines, but none
-/// for a line about the whole look.
+/// a sample for each of their lines `COMMAND NAME refused NUMBER REASON`, and one for equal lines,
+/// but none for a line about the whole look, nor for a note or a name that is left out.
 pub fn write_status(
     text: &mut Vec<u8>,
     figures: &Figures<'_>,
     lines: &[u8],
 ) -> Result<(), AllocError>
-    ensures { OnOk result ((files : List RefusedFile)
+    ensures { OnOk result ((files : List RefusedFile) × All (IsRefusedIn lines.now) files
         × (text.new.items ≡ status_text figures.now files)) }
 {
     text.clear();
@@ -85,6 +86,12 @@ fn add_figures(text: &mut Vec<u8>, disk: &str, figures: &Figures<'_>) -> Result<
             kind: "counter",
             help: "Packets that were taken.",
             value: figures.packets,
+        },
+        Row {
+            name: "motcar_turns_total",
+            kind: "counter",
+            help: "Turns that have ended.",
+            value: figures.turns,
         },
         Row {
             name: "motcar_looks_total",
@@ -188,7 +195,7 @@ fn add_version(text: &mut Vec<u8>, disk: &str, version: &[u8]) -> Result<(), All
 
 /// Adds the files that are refused in these lines.
 fn add_refused(text: &mut Vec<u8>, disk: &str, lines: &[u8]) -> Result<(), AllocError>
-    ensures { OnOk result ((files : List RefusedFile)
+    ensures { OnOk result ((files : List RefusedFile) × All (IsRefusedIn lines.now) files
         × (text.new.items ≡ text.old.items ++ refused_text disk.now files)) }
 {
     add_head(
@@ -200,17 +207,18 @@ fn add_refused(text: &mut Vec<u8>, disk: &str, lines: &[u8]) -> Result<(), Alloc
     add_samples(text, disk, lines)
 }
 
-/// Adds a sample for each file that is refused in these lines.
+/// Adds a sample for each file that is refused in these lines, each of which has its end.
 fn add_samples(text: &mut Vec<u8>, disk: &str, lines: &[u8]) -> Result<(), AllocError>
-    ensures { OnOk result ((files : List RefusedFile)
+    ensures { OnOk result ((files : List RefusedFile) × All (IsRefusedIn lines.now) files
         × (text.new.items ≡ text.old.items ++ flat_map (refused_sample disk.now) files)) }
 {
+    let mut rest = lines;
     let mut number: usize = 0;
-    for line in lines.split(|byte| *byte == b'\n') {
-        if is_first(lines, number, line) {
-            add_line(text, disk, line)?;
-        }
+    while let Some((line, others)) = cut_at_line_end(rest) {
+        let is_first = is_first(lines, number, line);
+        add_line(text, disk, line, is_first)?;
         number = number.saturating_add(1);
+        rest = others;
     }
     Ok(())
 }
@@ -225,29 +233,82 @@ fn is_first(lines: &[u8], number: usize, line: &[u8]) -> bool {
     true
 }
 
-/// Adds a sample for the file that is refused in this line, if one is.
-fn add_line(text: &mut Vec<u8>, disk: &str, line: &[u8]) -> Result<(), AllocError>
-    ensures { OnOk result ((files : List RefusedFile)
+/// Adds a sample for the file that is refused in this line, if one is, and if it is the first of its
+/// kind.
+fn add_line(text: &mut Vec<u8>, disk: &str, line: &[u8], is_first: bool) -> Result<(), AllocError>
+    ensures { OnOk result ((files : List RefusedFile) × All (IsRefusedLine line.now) files
         × (text.new.items ≡ text.old.items ++ flat_map (refused_sample disk.now) files)) }
 {
     match refused_in(line) {
-        Some((command, name, reason)) => add_file(text, disk, command, name, reason),
-        None => Ok(()),
+        Some((command, name, reason)) if is_first => add_file(text, disk, command, name, reason),
+        _ => Ok(()),
     }
 }
 
 /// The command, the name and the reason of a line about a file that was refused.
-fn refused_in(line: &[u8]) -> Option<(&[u8], &[u8], &[u8])> {
+fn refused_in(line: &[u8]) -> Option<(&[u8], &[u8], &[u8])>
+    ensures { IfSome result (λ told. IsRefusedLine line.now (record {
+      command = told.0.now;
+      name = told.1.now;
+      reason = told.2.now;
+    })) }
+{
     let space = line.iter().position(|byte| *byte == b' ')?;
     let (command, rest) = line.split_at(space);
-    if command == b"look".as_slice() {
+    if is_of_no_file(command) {
         return None;
     }
-    let at = rest
-        .windows(REFUSED.len())
-        .rposition(|part| part == REFUSED)?;
-    let (name, reason) = rest.split_at(at);
-    Some((command, name.get(1..)?, reason.get(REFUSED.len()..)?))
+    let (name, reason) = cut_at_reason(behind(rest, b" ")?)?;
+    Some((command, name, reason))
+}
+
+/// Whether lines of this command tell of no file.
+fn is_of_no_file(command: &[u8]) -> bool
+    ensures { result ≡ is_of_no_file command.now }
+{
+    command == b"look".as_slice() || command == b"skip".as_slice() || command == b"note".as_slice()
+}
+
+/// A name, and the reason after it: the last one that begins with a number.
+fn cut_at_reason(rest: &[u8]) -> Option<(&[u8], &[u8])>
+    ensures words { IfSome result (λ cut. rest.now ≡ cut.0.now ++ codes " refused " ++ cut.1.now) }
+    ensures number { IfSome result (λ cut. begins_with_digit cut.1.now ≡ true) }
+{
+    let mut at = rest.len();
+    while at > 0 {
+        at -= 1;
+        let (name, words) = rest.split_at(at);
+        if let Some(reason) = reason_in(words) {
+            return Some((name, reason));
+        }
+    }
+    None
+}
+
+/// The reason that these words are, if they are one.
+fn reason_in(words: &[u8]) -> Option<&[u8]>
+    ensures words { IfSome result (λ reason. words.now ≡ codes " refused " ++ reason.now) }
+    ensures number { IfSome result (λ reason. begins_with_digit reason.now ≡ true) }
+{
+    let reason = behind(words, b" refused ")?;
+    if !begins_with_digit(reason) {
+        return None;
+    }
+    Some(reason)
+}
+
+/// What stands behind these words, if the line begins with them.
+fn behind<'a>(line: &'a [u8], words: &[u8]) -> Option<&'a [u8]>
+    ensures { IfSome result (λ rest. line.now ≡ words.now ++ rest.now) }
+{
+    line.strip_prefix(words)
+}
+
+/// Whether a digit comes first.
+fn begins_with_digit(bytes: &[u8]) -> bool
+    ensures { result ≡ begins_with_digit bytes.now }
+{
+    !bytes.is_empty() && bytes[0] >= b'0' && bytes[0] <= b'9'
 }
 
 /// Adds the sample of a file.

@@ -3,6 +3,7 @@ use Rattle.std.proofs.Common.{◌≡◌, ◌++◌, [], ◌∷◌, Some, None, re
 use Rattle.std.specs.Prelude.{codes}
 use Rattle.mot_lines.specs.Words.{number_of_word}
 use Rattle.mot_numbers.specs.declared.refusal.Refusal.TheVariants.{BadLine}
+use Rattle.mot_suffixes.specs.Shown.{shown}
 use Rattle.mot_suffixes.specs.Types.{known_types, refusal_in, suffix_of, suffix_type, type_of_name}
 use Rattle.mot_suffixes.specs.Types.{type_of_words, types_in}
 
@@ -44,3 +45,14 @@ said_before = refl
 refused_line_of_types : refusal_in (codes "svg 2 0 a/b\nsvg 2 0\nx 1 1 c/d") ≡ Some BadLine
 unfolding number_of_word type_of_words
 refused_line_of_types = refl
+
+-- a control character is shown as `?`, of C0, of C1 and 0x7F; U+00A0 is none, nor is a byte alone
+lines_in_a_name : shown (codes "a\nb\tc") ≡ codes "a?b?c"
+lines_in_a_name = refl
+
+controls_in_a_name : shown (127 ∷ 194 ∷ 128 ∷ 194 ∷ 159 ∷ codes "a") ≡ codes "???a"
+controls_in_a_name = refl
+
+others_in_a_name : shown (194 ∷ 160 ∷ 195 ∷ 164 ∷ 133 ∷ 194 ∷ [])
+    ≡ 194 ∷ 160 ∷ 195 ∷ 164 ∷ 133 ∷ 194 ∷ []
+others_in_a_name = refl

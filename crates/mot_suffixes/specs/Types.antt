@@ -6,7 +6,7 @@ use Rattle.std.specs.List.{AllByRecursion, list_any}
 use Rattle.std.specs.Option.{option_or}
 use Rattle.std.specs.Str.{str_eq_ignore_ascii_case}
 use Rattle.mot_lines.specs.Fields.{content_in}
-use Rattle.mot_lines.specs.Line.{◌>>=◌}
+use Rattle.mot_numbers.specs.Refusal.{◌>>=◌}
 use Rattle.mot_lines.specs.Lines.{pieces_between}
 use Rattle.mot_lines.specs.Words.{number_of_word, words_of}
 use Rattle.mot_numbers.specs.Reading as reading

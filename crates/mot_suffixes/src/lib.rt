@@ -1,7 +1,9 @@
 //! Which files are objects, and what they are, by the suffixes of their names (TS 101 756, table
-//! 17).
+//! 17); and how a log shows a name.
 #![tactic(auto)]
 
+mod showing;
 mod types;
 
+pub use showing::{is_control, next_shown};
 pub use types::{FileType, FileTypes, RefusedLine};

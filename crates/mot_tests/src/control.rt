@@ -1,75 +1,12 @@
 //! Lines between the packets of a feed: worked rows of what is told, and when a reader is asked.
-use crate::disks::{OPENING, Server, new_disk, open, server_of};
+use crate::disks::{Server, server_of};
 use crate::expecting::expect;
 use crate::packet_streams::{Flushing, Parts};
-use mot_base::{Geometry, Refusal};
+use mot_base::Refusal;
 use mot_control::{Lines, Log};
-use mot_feed::{Direct, feed, send_packets};
 use mot_lines::Hand;
-use mot_session::serve_line;
-use mot_update::{NoUpdate, Update};
+use mot_update::{Moment, NoUpdate, Update};
 use std::alloc::Global;
-use std::test::Fail;
-
-/// The log, and the bytes of the packets.
-type Fed = (Vec<u8>, Vec<u8>);
-
-/// Plays a turn with lines between the packets.
-fn fed_by(alloc: Global, server: &mut Server, parts: &[&[u8]]) -> Result<Fed, Refusal> {
-    let (hand, log) = (Hand::new(alloc)?, Vec::new(alloc));
-    let mut lines = Lines::new(Parts::new(parts), hand, log, 1, NoUpdate);
-    let mut outlet = Direct {
-        writer: Vec::new(alloc),
-    };
-    feed(server, alloc, &mut lines, &mut outlet, 1)?;
-    Ok((lines.log.writer, outlet.writer))
-}
-
-/// The same of a new server.
-fn new_fed(alloc: Global, parts: &[&[u8]]) -> Result<Fed, Refusal> {
-    let mut server = server_of(alloc, 24)?;
-    fed_by(alloc, &mut server, parts)
-}
-
-/// Plays a packet, answers the line, and plays so many packets.
-fn by_hand(alloc: Global, server: &mut Server, line: &[u8], count: u64) -> Result<Fed, Refusal> {
-    let mut outlet = Direct {
-        writer: Vec::new(alloc),
-    };
-    let mut log = Vec::new(alloc);
-    send_packets(server, &mut outlet, 1)?;
-    let Ok(()) = serve_line(alloc, line, &mut log, server) else {
-        return Err(Refusal::WriteFault);
-    };
-    send_packets(server, &mut outlet, count)?;
-    Ok((log, outlet.writer))
-}
-
-/// The same of a new server.
-fn new_by_hand(alloc: Global, line: &[u8], count: u64) -> Result<Fed, Refusal> {
-    let mut server = server_of(alloc, 24)?;
-    by_hand(alloc, &mut server, line, count)
-}
-
-// Nothing is there before the first packet, and behind it a put is. The packets are those of a
-// server that does it there: the group under way, and then the turn with the object.
-#[test]
-fn a_put_comes_between_two_packets(rt: HostRuntime) -> Result<(), Fail> {
-    let alloc = rt.alloc();
-    let parts = [b"".as_slice(), b"put a 2 3 image/png 0102030405\n"];
-    let (log, packets) = new_fed(alloc, &parts)?;
-    let count = (packets.len() / 24) as u64;
-    let put = b"put a 2 3 image/png 0102030405".as_slice();
-    let (told, wanted) = new_by_hand(alloc, put, count.saturating_sub(1))?;
-    let done = b"done object 2 directory 3\n".as_slice();
-    expect(
-        &rt,
-        (count > 2, log.as_slice(), told.as_slice()),
-        (true, done, done),
-    );
-    expect(&rt, packets.as_slice(), wanted.as_slice());
-    Ok(())
-}
 
 /// What was told and flushed, how often the reader was asked, and what ended the updates.
 type Updated = (Vec<u8>, usize, Option<Refusal>);
@@ -82,7 +19,7 @@ fn update(
     count: u32,
 ) -> Result<(), Refusal> {
     for _ in 0..count {
-        lines.update(server, alloc, false)?;
+        lines.update(server, alloc, Moment::Within)?;
     }
     Ok(())
 }
@@ -110,14 +47,6 @@ fn updated(
 fn new_updated(alloc: Global, parts: &[&[u8]], every: u32, count: u32) -> Result<Updated, Refusal> {
     let mut server = server_of(alloc, 24)?;
     updated(alloc, &mut server, parts, every, count)
-}
-
-/// The same of a server whose first sync fails, the third call behind its opening, and one update.
-fn failing_updated(alloc: Global, parts: &[&[u8]]) -> Result<Updated, Refusal> {
-    let mut disk = new_disk(alloc, &Geometry::default())?;
-    disk.fail_at(OPENING + 3);
-    let mut server = open(alloc, disk)?;
-    updated(alloc, &mut server, parts, 1, 1)
 }
 
 /// Whether this was told, and this ended the updates.
@@ -170,30 +99,6 @@ fn worked_lines(rt: HostRuntime) {
         let is_told = is_told(new_updated(rt.alloc(), &parts, 1, 5), told, None);
         expect(&rt, (told, is_told), (told, true));
     }
-}
-
-// A fault of the disk is told and ends it, and the line behind is not answered.
-#[test]
-fn a_device_fault_ends_it(rt: HostRuntime) {
-    let parts = [b"put a 2 3 - 00\nlist\n".as_slice()];
-    let updated = failing_updated(rt.alloc(), &parts);
-    let fault = Some(Refusal::DeviceFault);
-    expect(
-        &rt,
-        is_told(updated, b"refused 15 DeviceFault\n", fault),
-        true,
-    );
-}
-
-// The line is read to its end, over 130 reads of 4,096 bytes, and refused; then a line follows.
-#[test]
-fn a_line_too_long_is_refused(rt: HostRuntime) {
-    let part = [b'x'; 4_096];
-    let mut parts = [part.as_slice(); 131];
-    parts[130] = b"\nlist\n";
-    let updated = new_updated(rt.alloc(), &parts, 1, 133);
-    let told = b"refused 1 BadLine\ncarousel 0 1 1 0\n";
-    expect(&rt, is_told(updated, told, None), true);
 }
 
 // Before the first packet, and then behind so many, is one read; 0 counts as 1.

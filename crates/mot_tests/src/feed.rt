@@ -1,11 +1,9 @@
-//! Feeds: that packets come where there is memory and the disk does not fail, each of them as one
-//! write.
+//! Feeds: that packets come where there is memory and the disk does not fail.
 use crate::disks::{Server, server_of};
 use crate::expecting::expect;
-use crate::streams::FailingWriter;
 use mot_base::Refusal;
 use mot_carousel::{Body, Command, Content, Name};
-use mot_feed::{Direct, feed, send_packets};
+use mot_feed::{Direct, feed};
 use mot_update::NoUpdate;
 use std::alloc::Global;
 
@@ -26,37 +24,6 @@ fn put(alloc: Global, server: &mut Server, name: &[u8]) -> Result<(), Refusal> {
     match server.execute(alloc, &command) {
         Ok(_) => Ok(()),
         Err(refusal) => Err(refusal),
-    }
-}
-
-/// How seven packets of 24 bytes are sent by a writer that takes at most `most` bytes at a time and
-/// `room` in all, and how many bytes it took.
-fn sent(alloc: Global, most: usize, room: usize) -> Result<(Result<(), Refusal>, usize), Refusal> {
-    let mut outlet = Direct {
-        writer: FailingWriter {
-            taken: Vec::new(alloc),
-            room,
-            most,
-            flushes: 0,
-            fails_at: 0,
-        },
-    };
-    let mut server = server_of(alloc, 24)?;
-    let result = send_packets(&mut server, &mut outlet, 7);
-    Ok((result, outlet.writer.taken.len()))
-}
-
-// A short write and a failed one end it. So the whole of a packet is offered at a time.
-#[test]
-fn each_packet_is_one_write(rt: HostRuntime) {
-    let rows = [
-        (24, 1_000, Ok(()), 168),
-        (23, 1_000, Err(Refusal::WriteFault), 23),
-        (24, 96, Err(Refusal::WriteFault), 96),
-        (24, 97, Err(Refusal::WriteFault), 97),
-    ];
-    for (most, room, result, taken) in rows {
-        expect(&rt, sent(rt.alloc(), most, room), Ok((result, taken)));
     }
 }
 

@@ -1,12 +1,11 @@
-//! Folders: suffixes, printed lines, and a folder that is not there.
+//! Folders: suffixes that are added, printed lines, and a folder that changes.
 use crate::disks::{Server, new_server};
 use crate::expecting::expect;
-use crate::shelf::MemoryShelf;
 use mot_base::{Geometry, Refusal};
 use mot_folder::{FileTypes, Folder, Report, look_at_folder};
 use mot_objects::Mime;
 use mot_server::Attempt;
-use mot_shelf::SystemShelf;
+use mot_shelf::MemoryShelf;
 use std::alloc::Global;
 use std::test::Fail;
 
@@ -50,38 +49,13 @@ fn are_so_behind(
     }
 }
 
-const FIRST: [(&[u8], Told); 17] = [
-    (b"a.txt", Some((1, 0, "text/plain"))),
-    (b"a.html", Some((1, 2, "text/html"))),
-    (b"a.htm", Some((1, 2, "text/html"))),
-    (b"a.xml", Some((0, 1, "text/xml"))),
-    (b"a.gif", Some((2, 0, "image/gif"))),
-    (b"a.jpg", Some((2, 1, "image/jpeg"))),
-    (b"a.b.jpeg", Some((2, 1, "image/jpeg"))),
-    (b"a.bmp", Some((2, 2, "image/bmp"))),
-    (b"a.png", Some((2, 3, "image/png"))),
-    (b"A.PnG", Some((2, 3, "image/png"))),
-    (b"", None),
-    (b"a", None),
-    (b"png", None),
-    (b"a.", None),
-    (b".png", None),
-    (b"a.png.gz", None),
-    (b"a.verylongsuffix", None),
-];
-
-#[test]
-fn suffixes_tell_types(rt: HostRuntime) {
-    for (name, told) in FIRST {
-        let are_so = are_so_behind(rt.alloc(), b"", name, told);
-        expect(&rt, (name, are_so), (name, Ok(true)));
-    }
-}
-
 #[test]
 fn suffixes_are_added(rt: HostRuntime) {
     let lines = b"# of our own\n\nsvg 2 0 image/svg+xml\npng 2 9 a/b\nPNG 2 8 c/d\nspi 7 0 -";
-    let rows: [(&[u8], Told); 3] = [
+    let rows: [(&[u8], Told); 6] = [
+        (b"A.HtM", Some((1, 2, "text/html"))),
+        (b".png", None),
+        (b"a.png.gz", None),
         (b"a.spi", Some((7, 0, ""))),
         (b"a.SVG", Some((2, 0, "image/svg+xml"))),
         (b"a.png", Some((2, 8, "c/d"))),
@@ -126,45 +100,17 @@ fn lines_are_told(rt: HostRuntime) {
     expect(&rt, (report.lines.len(), report.any_refused), (0, false));
 }
 
-/// What is told of a look at a folder that is not there.
-fn missing(rt: &HostRuntime, alloc: Global, server: &mut Server) -> Result<Vec<u8>, Refusal> {
-    let types = FileTypes::new(alloc)?;
-    let mut folder = Folder::new(
-        alloc,
-        SystemShelf::new(rt, "none/such", true),
-        &types,
-        false,
-    );
-    look_at_folder(alloc, server, &mut folder)?;
-    Ok(folder.report.lines)
-}
-
-/// The same of a new server.
-fn new_missing(rt: &HostRuntime, alloc: Global) -> Result<Vec<u8>, Refusal> {
-    let mut server = new_server(alloc, &Geometry::default())?;
-    missing(rt, alloc, &mut server)
-}
-
-#[test]
-fn a_folder_that_is_not_there_is_told(rt: HostRuntime) -> Result<(), Fail> {
-    let told = new_missing(&rt, rt.alloc())?;
-    expect(
-        &rt,
-        told.as_slice(),
-        b"look none/such refused 22 ReadFault\n".as_slice(),
-    );
-    Ok(())
-}
-
 /// Two files that can be read.
 const BOTH: [(&[u8], &[u8]); 2] = [(b"a.txt", b"one"), (b"b.txt", b"two")];
 
 /// The first of them alone.
 const FIRST_OF_BOTH: [(&[u8], &[u8]); 1] = [(b"a.txt", b"one")];
 
+/// The same with other bytes.
+const CHANGED: [(&[u8], &[u8]); 1] = [(b"a.txt", b"six")];
+
 /// What is told of looks at a folder that has both files, then can't be read at the second of them,
-/// then can't be listed, then has the first alone,
-/// and then none.
+/// then can't be listed, then has the first alone, with other bytes, and then none.
 fn told_of_changes(alloc: Global) -> Result<[Vec<u8>; 5], Refusal> {
     let mut server = new_server(alloc, &Geometry::default())?;
     let both: Option<&'static [u8]> = Some(b"a.txt\0b.txt\0c.doc\0");
@@ -172,7 +118,7 @@ fn told_of_changes(alloc: Global) -> Result<[Vec<u8>; 5], Refusal> {
     let second = told_of(alloc, &mut server, MemoryShelf::new(both, &FIRST_OF_BOTH))?;
     let third = told_of(alloc, &mut server, MemoryShelf::new(None, &BOTH))?;
     let one: Option<&'static [u8]> = Some(b"a.txt\0");
-    let fourth = told_of(alloc, &mut server, MemoryShelf::new(one, &FIRST_OF_BOTH))?;
+    let fourth = told_of(alloc, &mut server, MemoryShelf::new(one, &CHANGED))?;
     let fifth = told_of(
         alloc,
         &mut server,
@@ -197,10 +143,10 @@ fn a_folder_that_changes_is_told(rt: HostRuntime) -> Result<(), Fail> {
     expect(&rt, first.as_slice(), put.as_slice());
     let unread = b"skip c.doc suffix\nread b.txt refused 22 ReadFault: permission denied\n";
     expect(&rt, second.as_slice(), unread.as_slice());
-    let unlisted = b"look memory refused 22 ReadFault\n";
+    let unlisted = b"look memory refused 22 ReadFault: entity not found\n";
     expect(&rt, third.as_slice(), unlisted.as_slice());
-    let gone = b"withdraw b.txt done directory 6\n";
-    expect(&rt, fourth.as_slice(), gone.as_slice());
+    let changed = b"withdraw b.txt done directory 6\nreplace a.txt done object 7 directory 8\n";
+    expect(&rt, fourth.as_slice(), changed.as_slice());
     let kept = b"look memory empty, kept\n";
     expect(&rt, fifth.as_slice(), kept.as_slice());
     Ok(())

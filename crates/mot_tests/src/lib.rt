@@ -24,8 +24,5 @@ mod serving;
 #[cfg(test)]
 mod session;
 #[cfg(test)]
-mod shelf;
 #[cfg(test)]
 mod streams;
-#[cfg(test)]
-mod update;

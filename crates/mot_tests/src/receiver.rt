@@ -8,7 +8,6 @@ use std::test::Fail;
 #[derive(Drop)]
 pub struct Receiver {
     group: Vec<u8>,
-    pub groups: u32,
     segments: u16,
     head: [u8; 3],
     /// Of each entity the type of its groups, its transport id, and its bytes.
@@ -19,7 +18,6 @@ impl Receiver {
     fn new(alloc: Global) -> Self {
         Receiver {
             group: Vec::new(alloc),
-            groups: 0,
             segments: 0,
             head: [0; 3],
             entities: Vec::new(alloc),
@@ -77,7 +75,6 @@ impl Receiver {
         self.entities.extend_from_slice(segment)?;
         let is_last = *high & 0x80 != 0;
         self.segments = if is_last { 0 } else { number.wrapping_add(1) };
-        self.groups = self.groups.wrapping_add(1);
         Ok(())
     }
 }

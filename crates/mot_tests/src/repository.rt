@@ -2,7 +2,7 @@
 //! does not fail, and how many open gates a crash leaves.
 mod opening;
 
-use crate::disks::{ONE, OPENING, image_of, new_disk, old_disk};
+use crate::disks::{OPENING, image_of, new_disk, old_disk};
 use crate::expecting::expect;
 use disk_store::MemoryDisk;
 use mot_base::Refusal;
@@ -113,30 +113,6 @@ fn the_gap_behind_many_extents_is_found_at_once(rt: HostRuntime) {
     for (area, start) in [(268_435_456, Some(262_144_000)), (262_144_000, None)] {
         expect(&rt, first_fit(&extents, 262_144, area), start);
     }
-}
-
-// Three bytes of the only body, where it has five.
-fn middle(repository: &mut Repository<MemoryDisk>) -> Result<[u8; 3], Refusal> {
-    let mut bytes = [0; 3];
-    if repository.body_count() != 1 || repository.body_length(0) != 5 {
-        return Ok(bytes);
-    }
-    match repository.read_body(0, 1, &mut bytes) {
-        Ok(()) => Ok(bytes),
-        Err(refusal) => Err(refusal),
-    }
-}
-
-// The same of a new disk, behind a put of five bytes.
-fn middle_of_five(alloc: Global) -> Result<[u8; 3], Refusal> {
-    let disk = disk_after_put(alloc, new_disk(alloc, &ONE)?, b"a", &[1, 2, 3, 4, 5])?;
-    let mut repository = open(alloc, disk)?;
-    middle(&mut repository)
-}
-
-#[test]
-fn a_body_is_read_back(rt: HostRuntime) {
-    expect(&rt, middle_of_five(rt.alloc()), Ok([2, 3, 4]));
 }
 
 // What a withdrawal and a put are answered, then a migration, and then both again.

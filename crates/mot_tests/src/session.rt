@@ -1,11 +1,9 @@
 //! Lines of all kinds, their replies, and the streams that carry both.
 mod broken;
 mod failing;
-mod life;
 mod limits;
 mod lives;
 mod playing;
-mod receiving;
 mod stops;
 
 use crate::expecting::expect;
@@ -107,29 +105,6 @@ fn lengths_and_headers(rt: HostRuntime) -> Result<(), Fail> {
         let written = raw_replies(rt.alloc(), packet_length, bytes)?;
         let found = (written.len(), has_packet(&written, at, packet));
         expect(&rt, (bytes, found), (bytes, (total, true)));
-    }
-    Ok(())
-}
-
-/// What a new server answers to so long a raw line and one more.
-fn long_replies(alloc: Global, digits: usize) -> Result<Vec<u8>, Fail> {
-    let mut input = raw_line(alloc, digits)?;
-    input.extend_from_slice(HELLO)?;
-    replies(alloc, 24, input.as_slice())
-}
-
-// The longest line is read as one; a longer one is not, and the next line is.
-#[test]
-fn long_lines(rt: HostRuntime) -> Result<(), Fail> {
-    let rows = [
-        (529_992, "refused 7 BodyTooLong\n"),
-        (529_993, "refused 1 BadLine\n"),
-        (1_100_000, "refused 1 BadLine\n"),
-    ];
-    for (digits, refused) in rows {
-        let written = long_replies(rt.alloc(), digits)?;
-        let rest = written.strip_prefix(refused.as_bytes());
-        expect(&rt, (digits, rest), (digits, Some(HELLO_PACKET)));
     }
     Ok(())
 }

@@ -4,18 +4,22 @@
 mod version;
 
 use disk_store::{SystemFiles, Unknown};
-use mot_air::{is_air, run_air_on};
+use mot_air::{Station, is_air, run_air_on};
 use mot_numbers::Refusal;
 use mot_outcome::{Exit, Subject, UsedDisk, refuse};
 use mot_program::run_on;
 use std::fs::File;
 use std::io::{BufWriter, ErrorKind, Write};
+use std::os::fd::AsRawFd;
 use std::process::ExitCode;
 use std::{env, io};
 use version::print_version;
 
 /// Room for the longest reply to a `raw` line, so that it goes out in one write.
 const BUFFER: usize = 65_536;
+
+/// The number of standard error, the last of the standard streams.
+const STANDARD_ERROR: i32 = 2;
 
 fn main(rt: HostRuntime) -> ExitCode {
     match run(&rt) {
@@ -53,7 +57,8 @@ fn run_command<W: Write>(rt: &HostRuntime, words: &[String], writer: &mut W) -> 
     let (alloc, mut errors) = (rt.alloc(), rt.stderr());
     match words {
         [word, ..] if is_air(word.as_str()) => {
-            run_air_on(rt, alloc, words, Unknown, writer, &mut errors)
+            let mut station = Station::new(rt);
+            run_air_on(&mut station, alloc, words, Unknown, writer, &mut errors)
         }
         _ => {
             let (mut files, mut reader) = (SystemFiles::new(rt), rt.reader());
@@ -80,12 +85,16 @@ fn show_version<W: Write>(rt: &HostRuntime, writer: &mut W) -> u8 {
 
 /// Takes the numbers of the standard streams that are closed, so that no file which is opened later
 /// gets one and is printed to. They are opened for reading alone: an input that is closed is empty,
-/// and what can't be printed is a fault.
-fn hold_streams(rt: &HostRuntime) -> io::Result<(File, File, File)> {
+/// and what can't be printed is a fault. A file gets the least number that is free, so if the first
+/// one's is above theirs, none of them is closed.
+fn hold_streams(rt: &HostRuntime) -> io::Result<Option<(File, File, File)>> {
     let first = File::open(rt, "/dev/null")?;
+    if first.as_raw_fd() > STANDARD_ERROR {
+        return Ok(None);
+    }
     let second = File::open(rt, "/dev/null")?;
     let third = File::open(rt, "/dev/null")?;
-    Ok((first, second, third))
+    Ok(Some((first, second, third)))
 }
 
 /// Prints the refusal, and answers its status.

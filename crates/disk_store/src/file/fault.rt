@@ -10,6 +10,8 @@ use std::io;
 pub enum OpenFault {
     /// The system refused a call, for this reason.
     System(io::Error),
+    /// The system refused what an opening does by the empty file beside it, for this reason.
+    Beside(io::Error),
     /// Another opening of the file lives, in this program or another one.
     InUse,
     /// It is neither a regular file nor a block device.
@@ -22,7 +24,7 @@ pub enum OpenFault {
 impl Display for OpenFault {
     fn fmt<W: fmt::Write>(&self, f: &mut Formatter<W>) -> fmt::Result {
         match self {
-            OpenFault::System(error) => write_reason(error, f),
+            OpenFault::System(error) | OpenFault::Beside(error) => write_reason(error, f),
             OpenFault::InUse => f.pad("in use by another program"),
             OpenFault::NoDisk => f.pad("neither a regular file nor a block device"),
             OpenFault::SecondName => f.pad("the file has a second name (a hard link)"),

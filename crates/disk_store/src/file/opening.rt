@@ -202,22 +202,27 @@ fn lock_disk(rt: &HostRuntime, path: &str) -> Result<HeldFile, OpenFault>
 }
 
 /// How long it is, once what stands there lasts and is what the device has.
-fn synced_length(file: &mut HeldFile, rt: &HostRuntime, path: &str) -> io::Result<u64>
+fn synced_length(file: &mut HeldFile, rt: &HostRuntime, path: &str) -> Result<u64, OpenFault>
     ensures { IfOk result (λ len. file.new.history.calls
         ≡ file.old.history.calls ++ Synced ∷ Dropped ∷ Opened len ∷ []) }
 {
     file.sync_all()?;
-    file.drop_cached(rt, path)?;
-    file.take_length()
+    if let Err(error) = file.drop_cached(rt, path) {
+        return Err(OpenFault::Beside(error));
+    }
+    Ok(file.take_length()?)
 }
 
 /// Fills it with zeros, and makes them and its name last.
-fn make_zeros(made: &mut HeldFile, rt: &HostRuntime, path: &str, len: u64) -> io::Result<()>
+fn make_zeros(made: &mut HeldFile, rt: &HostRuntime, path: &str, len: u64) -> Result<(), OpenFault>
     ensures { OnOk result (made.new.history.calls
         ≡ made.old.history.calls ++ Made len ∷ Synced ∷ Dropped ∷ Named ∷ []) }
 {
     made.fill(len)?;
     made.sync_all()?;
-    made.drop_cached(rt, path)?;
-    made.sync_folder(rt, path)
+    if let Err(error) = made.drop_cached(rt, path) {
+        return Err(OpenFault::Beside(error));
+    }
+    made.sync_folder(rt, path)?;
+    Ok(())
 }

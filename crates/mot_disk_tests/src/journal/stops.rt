@@ -11,9 +11,6 @@ use mot_base::Refusal;
 use mot_journal::{Journal, Layout, format, load};
 use std::alloc::Global;
 
-// The bytes that a crash gives to what is loose.
-const CHOICES: [&[u8]; 6] = [&[], &[0x00], &[0xFF], &[0xA5], &[0x01], &[0x77]];
-
 // Writes one record, with this period, into the other half, where the journal can be rewritten.
 fn rewrite<D: Disk>(journal: &mut Journal, disk: &mut D, period: u32) -> Result<(), DiskFault> {
     let spent = journal.is_spent();
@@ -76,50 +73,9 @@ fn left_by(alloc: Global, call: Call, stop: u64, choices: &[u8]) -> Result<(bool
     Ok((is_done, last_of(alloc, &mut left)))
 }
 
-// Whether each crash leaves the records after the call or, where that did not succeed, those
-// before.
-fn is_right(alloc: Global, call: Call, stop: u64, before: Last, after: Last) -> bool
-    requires { 1 ≤ stop }
-{
-    for choices in CHOICES {
-        let Ok((is_done, left)) = left_by(alloc, call, stop, choices) else {
-            return false;
-        };
-        if left != after && (is_done || left != before) {
-            return false;
-        }
-    }
-    true
-}
-
-// The first of so many stops at which that is not so.
-fn wrong_stop(alloc: Global, call: Call, stops: u64, before: Last, after: Last) -> Option<u64> {
-    for stop in 1..=stops {
-        if !is_right(alloc, call, stop, before, after) {
-            return Some(stop);
-        }
-    }
-    None
-}
-
 const NONE: Last = Err(Refusal::NotFormatted);
 
 const NEW: Last = Ok((1, 0));
-
-#[test]
-fn at_each_device_call(rt: HostRuntime) {
-    // Of a rewriting: three slots, a sync, the selector, a sync.
-    let rows = [
-        (Call::Append, 5, NEW, Ok((2, 7))),
-        (Call::Rewrite, 7, NEW, Ok((1, 9))),
-        (Call::Migrate, 7, NEW, Ok((1, 9))),
-        (Call::Format, 13, NONE, NEW),
-    ];
-    for (call, stops, before, after) in rows {
-        let wrong = wrong_stop(rt.alloc(), call, stops, before, after);
-        expect(&rt, (stops, wrong), (stops, None));
-    }
-}
 
 #[test]
 fn what_is_left(rt: HostRuntime) {

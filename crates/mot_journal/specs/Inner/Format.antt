@@ -1,11 +1,9 @@
 -- What stands on a disk that is being made.
-use Rattle.std.specs.Prelude.{◌≡◌, ℕ, List, [], ◌∷◌, take, drop, Ok}
+use Rattle.std.specs.Prelude.{◌≡◌, ℕ, List, [], ◌∷◌, take, drop}
 use Rattle.mot_journal.specs.declared.layout.Layout.TheVariants.{Two}
 use Rattle.mot_journal.specs.declared.record.Record.{Record}
 use Rattle.mot_journal.specs.declared.record.Action.TheVariants.{Nothing}
 use Rattle.mot_journal.specs.Slot.{slot_count}
-use Rattle.mot_journal.specs.Image.{stands_for, IsClean, IsInLayoutTwo, IsSecondHalfEmpty}
-use Rattle.mot_journal.specs.Journal.{standing_from}
 use Rattle.mot_journal.specs.Inner.Steps.{HasSlots}
 use Rattle.mot_numbers.specs.declared.geometry.Geometry.{Geometry}
 use Rattle.std.specs.Prelude.{◌++◌, replicate}
@@ -33,10 +31,3 @@ pub record HasAllButMagic (g : Geometry) (directory : ℕ) (bytes : List ℕ) : 
   pub head : take 56 (drop 8 bytes) ≡ behind_magic g
   pub slots : HasSlots g 0 Two (first_record directory ∷ []) (slot_count Two g) bytes
   pub other : HasSlots g 1 Two [] (slot_count Two g) bytes
-
--- the image is a new disk of this geometry, whose directory has this transport id
-pub record IsNewDisk (g : Geometry) (directory : ℕ) (image : List ℕ) : Type 0 where
-  pub stands : stands_for image ≡ Ok (standing_from g directory)
-  pub clean : IsClean image
-  pub layout : IsInLayoutTwo image
-  pub other : IsSecondHalfEmpty g image

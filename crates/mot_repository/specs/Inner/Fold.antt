@@ -4,7 +4,8 @@ use Rattle.std.specs.Prelude.{Option, Some, None, Err, if◌then◌else◌}
 use Rattle.mot_journal.specs.declared.record.Record.{Record}
 use Rattle.mot_journal.specs.declared.record.Action.{Action}
 use Rattle.mot_journal.specs.declared.record.Action.TheVariants.{Nothing, Set, Remove}
-use Rattle.mot_journal.specs.Catalogue.{Placed, catalogue_of, put_in_place, in_place_or_appended}
+use Rattle.mot_journal.specs.Image.{catalogue_of}
+use Rattle.mot_journal.specs.Catalogue.{Placed, put_in_place, in_place_or_appended}
 use Rattle.mot_journal.specs.Catalogue.{are_all_apart}
 use Rattle.mot_numbers.specs.declared.refusal.Refusal.{Refusal}
 use Rattle.mot_numbers.specs.declared.refusal.Refusal.TheVariants.{OutOfMemory, Damaged}

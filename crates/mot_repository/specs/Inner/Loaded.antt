@@ -1,7 +1,7 @@
 -- What was loaded and folded.
 use Rattle.std.specs.Prelude.{◌≡◌, ℕ, List, length, Ok}
 use Rattle.mot_journal.specs.declared.record.Record.{Record}
-use Rattle.mot_journal.specs.Catalogue.{catalogue_of}
+use Rattle.mot_journal.specs.Image.{catalogue_of}
 use Rattle.mot_journal.specs.Image.{records_of}
 use Rattle.mot_journal.specs.Journal.{JournalView, with_records}
 use Rattle.mot_objects.specs.declared.carousel.Carousel.{Carousel}

@@ -1,10 +1,11 @@
 //! The records of a journal, folded into the carousel that is kept in memory.
 ghost use Rattle.mot_numbers.specs.declared.geometry.TheConstants.{MAX_OBJECTS};
-ghost use Rattle.std.specs.Prelude.{◌≡◌, ◌≤◌, ◌<◌, ◌∷◌, map, length, vec_len, vec_capacity};
+ghost use Rattle.std.specs.Prelude.{◌≡◌, ◌≤◌, ◌<◌, map, length, vec_len, vec_capacity};
 ghost use Rattle.std.specs.Prelude.{All, Ok, Some, None, IfOk, IfErr, IfSome, MatchOption};
 ghost use Rattle.std.specs.Prelude.{true, nat_eq, position, remove, [], IsTrue};
 ghost use Rattle.std.specs.List.{list_any};
-ghost use Rattle.mot_journal.specs.Catalogue.{new_catalogue, catalogue_after, catalogue_of};
+ghost use Rattle.mot_journal.specs.Catalogue.{new_catalogue, catalogue_after};
+ghost use Rattle.mot_journal.specs.Image.{catalogue_of};
 ghost use Rattle.mot_journal.specs.Catalogue.{objects_after, placed_without, is_consistent};
 ghost use Rattle.mot_objects.specs.Ids.{is_distinct};
 ghost use Rattle.mot_objects.specs.Stands.{index_of};

@@ -1,8 +1,7 @@
-//! Replies where the disk fails, or the writer: what is answered behind that.
+//! Replies where the disk fails: what is answered behind that.
 use crate::disks::{OPENING, Server, new_disk, open, reopened, server_of};
 use crate::expecting::expect;
-use crate::serving::{answers, has_packet, is_halted, last_answers, run_within};
-use crate::streams::FailingWriter;
+use crate::serving::{answers, has_packet, is_halted, last_answers};
 use mot_base::{Geometry, Refusal};
 use std::alloc::Global;
 use std::test::Fail;
@@ -87,38 +86,5 @@ fn a_carousel_is_there_again(rt: HostRuntime) -> Result<(), Fail> {
         written.ends_with(b" end\n"),
     ];
     expect(&rt, found, [false, true, true, true, true]);
-    Ok(())
-}
-
-/// A server of which the writer took so many bytes of the reply to this line.
-fn broken_off(alloc: Global, room: usize, line: &[u8]) -> Result<Server, Fail> {
-    let mut server = server_of(alloc, 24)?;
-    let mut writer = FailingWriter::new(alloc, room, 7);
-    let mut reader = line;
-    match run_within(alloc, &mut reader, &mut writer, &mut server, 2).fault {
-        Some(Refusal::WriteFault) => Ok(server),
-        _ => Err(Fail::new("no fault of the writer")),
-    }
-}
-
-// A command was done where its reply was broken off; behind a reply that was broken off in the line
-// of a packet, what is played next follows that packet.
-#[test]
-fn behind_a_reply_that_is_broken_off(rt: HostRuntime) -> Result<(), Fail> {
-    let alloc = rt.alloc();
-    let rows: [(usize, &[u8], &[u8], &[u8]); 3] = [
-        (
-            5,
-            b"put a 2 3 - 00\n",
-            b"list",
-            b"carousel 0 3 3 1\nobject 2 0 2 3 1 a -\n",
-        ),
-        (10, b"turn\n", b"next 1\n", b"packet 140105"),
-        (66, b"turn\n", b"next 1\n", b"packet 280113"),
-    ];
-    for (room, line, next, begins) in rows {
-        let written = last_answers(alloc, broken_off(alloc, room, line)?, next)?;
-        expect(&rt, (room, written.starts_with(begins)), (room, true));
-    }
     Ok(())
 }

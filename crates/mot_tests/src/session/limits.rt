@@ -5,20 +5,6 @@ use mot_base::Geometry;
 use std::alloc::Global;
 use std::test::Fail;
 
-// The longest line of a reply: a name of 255 bytes, of 85 characters, and a MIME type of 64.
-#[test]
-fn longest_object_line(rt: HostRuntime) -> Result<(), Fail> {
-    let alloc = rt.alloc();
-    let name = repeat(alloc, b"\xE2\x82\xAC", 85)?;
-    let mime = repeat(alloc, b"m", 64)?;
-    let input = joined(alloc, &[b"put ", &name, b" 63 511 ", &mime, b" 00\nlist\n"])?;
-    let begins = b"done object 2 directory 3\ncarousel 0 3 3 1\nobject 2 0 63 511 1 ";
-    let output = joined(alloc, &[begins, &name, b" ", &mime, b"\n"])?;
-    let written = replies(alloc, 24, &input)?;
-    expect(&rt, written.as_slice(), output.as_slice());
-    Ok(())
-}
-
 /// Lines that put so many objects.
 fn puts(alloc: Global, count: u16) -> Result<Vec<u8>, Fail> {
     let mut lines = Vec::new(alloc);

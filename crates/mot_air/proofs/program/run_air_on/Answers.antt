@@ -64,3 +64,10 @@ returns-clause-usage g c =
     c.run_command.ensures.usage words (AskBy-matched motcar_app words IsAirTask motcar_simple
     c.in-Ok.matches c.in-Some.name.now (rows_of (found_of c.in-Some.rest.now))
     c.in-Ok.ensures.matches c.in-Some.ensures.name c.in-Some.ensures.rows)
+
+pub returns-clause-files : goal.returns-clause-files
+returns-clause-files g c =
+    let words = map g.S.AsStr.text c.args.words.now in
+    c.run_command.ensures.files words (AskBy-matched motcar_app words IsAirTask motcar_simple
+    c.in-Ok.matches c.in-Some.name.now (rows_of (found_of c.in-Some.rest.now))
+    c.in-Ok.ensures.matches c.in-Some.ensures.name c.in-Some.ensures.rows)

@@ -2,11 +2,12 @@ use Rattle.std.proofs.Common.{◌≡◌, ◌∙◌, ◌⊎◌, arith, Ok, Some, 
 use Rattle.std.proofs.Common.{subst, sym}
 use Rattle.std.proofs.KnownBytes.{Keeps-refl}
 use Rattle.std.specs.Prelude.{IfErr}
-use Rattle.mot_air.specs.Program.{DoesInPart, IsBeginningRefusal}
+use Rattle.mot_air.specs.Program.{DoesInPart, IsBeginningRefusal, OpensFor}
 use Rattle.mot_air.proofs.program.run_command.Goals as goal
 use Rattle.mot_numbers.specs.declared.refusal.Refusal.TheVariants.{BadNumber}
-use Rattle.mot_outcome.specs.Outcome.{IsRefused, IsUntold, IsUntouched}
+use Rattle.mot_outcome.specs.Outcome.{IsRefused, IsUntold, IsUntouched, UsesFiles}
 use Rattle.mot_outcome.specs.Outcome.IsRefused.{begun, no_task, unbegun}
+use Rattle.mot_outcome.specs.Outcome.UsesFiles.{asked}
 use Rattle.mot_words.specs.Air.Task.{IsAirTask}
 
 pub returns-in_default-clause-refused : goal.returns-in_default-clause-refused
@@ -63,3 +64,24 @@ returns-in-Err-clause-refused g c = λ words asks.
       | inl why ↦ unbegun task c.in-Err.refusal refl asked why.0 why.1 tt
       | inr part ↦ begun task asked part
     ])
+
+pub returns-in-Ok-true-clause-files : goal.returns-in-Ok-true-clause-files
+returns-in-Ok-true-clause-files g c = λ words asks.
+    let task = c.in-Some.task in
+    subst (λ (e : _). UsesFiles IsAirTask OpensFor words e.disk c.args.station.now.opened.all
+    c.execute-result.new.station.opened.all) (sym c.unrefused.ensures)
+    (asked task ((asks task).1 c.in-Some.ensures.some) c.execute-result.ensures.opens)
+
+pub returns-in-Ok-false-clause-files : goal.returns-in-Ok-false-clause-files
+returns-in-Ok-false-clause-files g c = λ words asks.
+    let task = c.in-Some.task in
+    subst (λ (e : _). UsesFiles IsAirTask OpensFor words e.disk c.args.station.now.opened.all
+    c.execute-result.new.station.opened.all) (sym c.unrefused-in-Ok-false.ensures)
+    (asked task ((asks task).1 c.in-Some.ensures.some) c.execute-result.ensures.opens)
+
+pub returns-in-Err-clause-files : goal.returns-in-Err-clause-files
+returns-in-Err-clause-files g c = λ words asks.
+    let task = c.in-Some.task in
+    subst (λ (e : _). UsesFiles IsAirTask OpensFor words e.disk c.args.station.now.opened.all
+    c.execute-result.new.station.opened.all) (sym c.refuse.ensures)
+    (asked task ((asks task).1 c.in-Some.ensures.some) c.execute-result.ensures.opens)

@@ -10,7 +10,7 @@ use Rattle.mot_air.proofs.program.sync_file.Goals as goal
 use Rattle.mot_numbers.specs.declared.refusal.Refusal.TheVariants.{DeviceFault}
 use Rattle.mot_shelf.specs.Given.{Given}
 use Rattle.mot_shelf.specs.Seen.{given_of}
-use Rattle.mot_shelf.specs.declared.system.Seen.{Seen}
+use Rattle.mot_shelf.specs.declared.seen.Seen.{Seen}
 use Rattle.mot_suffixes.specs.Types.{SuffixType}
 
 -- the types, what is allowed, the path and what was seen are those that are told
@@ -44,7 +44,7 @@ returns-in-Ok-clause-done g c =
     folder.shelf.path.now path
     c.sync_disk-ended.new.folder.shelf.seen seen c.new-folder.ensures.types
     c.new-folder.ensures.allows
-    (ap (λ (s : _). s.path.now) c.new-folder.ensures.shelf ∙ c.new-shelf.ensures.path)
+    (ap (λ (s : _). s.path.now) c.new-folder.ensures.shelf ∙ c.folder-shelf.ensures.path)
     (c.folder.ensures ∙ c.into_seen-seen.ensures) p)) c.sync_disk-ended.ensures.done)
 
 pub returns-in-Ok-clause-refused : goal.returns-in-Ok-clause-refused
@@ -68,5 +68,5 @@ returns-in-Ok-clause-refused g c =
     folder.shelf.path.now path
     c.sync_disk-ended.new.folder.shelf.seen seen c.new-folder.ensures.types
     c.new-folder.ensures.allows
-    (ap (λ (s : _). s.path.now) c.new-folder.ensures.shelf ∙ c.new-shelf.ensures.path)
+    (ap (λ (s : _). s.path.now) c.new-folder.ensures.shelf ∙ c.folder-shelf.ensures.path)
     (c.folder.ensures ∙ c.into_seen-seen.ensures) p))) c.sync_disk-ended.ensures.refused)

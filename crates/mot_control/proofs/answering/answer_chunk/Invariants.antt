@@ -1,4 +1,5 @@
-use Rattle.std.proofs.Common.{◌≡◌, ◌++◌, ℕ, List, length, true, None}
+use Rattle.std.proofs.Common.{◌≡◌, ◌++◌, ℕ, List, length, None}
+use Rattle.std.specs.Prelude.{⊤}
 use Rattle.disk_model.specs.Disk.{KeepsLength}
 use Rattle.mot_control.specs.Answering.{AnswersMore}
 use Rattle.mot_update.specs.Between.{IsUpdating}
@@ -18,8 +19,8 @@ invariant-loop-line g l =
           (state l.server.disk);
       run : (s : Standing) → Holds l.initial.server.view s (state l.initial.server.disk)
           → (state l.server.disk).IsHonest
-          → IsUpdating l.initial.server l.server (state l.initial.server.disk)
-          (state l.server.disk) s true None;
+          → IsUpdating (λ _ _ _ _. ⊤) l.initial.server l.server (state l.initial.server.disk)
+          (state l.server.disk) s None;
       taken : (front : List ℕ) × (front ++ l.rest ≡ l.chunk)
           × ((input : List ℕ) → l.initial.hand ≡ bytes_in_hand (rest_of input)
           → (l.hand ≡ bytes_in_hand (rest_of (input ++ front)))

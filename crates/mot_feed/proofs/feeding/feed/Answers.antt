@@ -1,10 +1,13 @@
-use Rattle.std.proofs.Common.{◌≡◌, ◌+◌, ◌∷◌, [], Bool, true, false, refl, arith, inl, inr}
+use Rattle.std.proofs.Common.{◌≡◌, ◌+◌, Bool, true, false, None, Some, refl, arith, inl, inr}
+use Rattle.std.proofs.Common.{subst}
 use Rattle.std.specs.Prelude.{if◌then◌else◌}
 use Rattle.disk_model.proofs.Laws.{keeps_none, keeps_on, unchanged_none}
 use Rattle.mot_feed.proofs.Fed.{SoFar, continuous, fed_all, fed_none, rest_else, rest_then}
 use Rattle.mot_feed.proofs.Fed.{send_fault, sent_on, update_fault, updated}
 use Rattle.mot_feed.specs.Feeding.{left_behind}
+use Rattle.mot_feed.specs.Feeding.Stage.{Called}
 use Rattle.mot_player.specs.Place.{Sent}
+use Rattle.mot_feed.proofs.OnAir.{changed_turns_read, turns_read}
 use Rattle.mot_feed.proofs.Sent.{not_of_writing, send_fault_behind, sent_calm}
 use Rattle.mot_feed.proofs.feeding.feed.Given as given
 use Rattle.mot_feed.proofs.feeding.feed.Goals as goal
@@ -13,6 +16,7 @@ use Rattle.mot_feed.proofs.feeding.feed.Goals.{After-send_one}
 use Rattle.mot_journal.specs.Image.{Standing}
 use Rattle.mot_numbers.proofs.Laws.{same_error}
 use Rattle.mot_repository.specs.Repository.{Holds}
+use Rattle.mot_update.specs.Between.{IsUpdating}
 use Rattle.mot_update.proofs.Laws.{calm_here, calm_on, fault_on}
 
 pub loop-init : goal.loop-init
@@ -21,9 +25,9 @@ loop-init g c =
     record {
       keeps = keeps_none state;
       calm = calm_here c.args.server.now state;
-      fed = λ s holds honest. fed_none 0 c.args.server.now c.args.server.now state state s
-          g.U.Update.when c.args.turns
-          (g.O.Outlet.writes c.args.outlet.now) (g.U.Update.moments c.args.update.now) refl refl
+      fed = λ s holds honest. fed_none g.U.Update.tells 0 c.args.update.now c.args.server.now
+          c.args.server.now state state s c.args.turns
+          (g.O.Outlet.writes c.args.outlet.now) refl refl
           (g.met.D.Disk.sound c.args.server.now.disk honest) honest (unchanged_none state) holds;
     }
 
@@ -46,7 +50,10 @@ returns-in_err-update-clause-part g c = λ s holds honest.
     let refusal = c.in_err-update.field-0.0 in
     rw (same_error c.from_residual.result refusal c.from_residual.ensures.1)
     (update_fault so_far refl
-    (one.run so_far.fed.leaves.last (so_far.fed.leaves.going refl) honest) one.called
+    (subst (λ m. IsUpdating (g.U.Update.tells c.loop.update c.update.new.self m) mid
+    c.update.new.server (state mid.disk) (state c.update.new.server.disk)
+    so_far.fed.leaves.last (Some refusal)) c.moment_at-moment.ensures
+    (one.run so_far.fed.leaves.last (so_far.fed.leaves.going refl) honest))
     (not_of_writing mid (state mid.disk) (state c.update.new.server.disk) refusal one.faults))
 
 pub returns-in_err-update-clause-fault : goal.returns-in_err-update-clause-fault
@@ -79,16 +86,21 @@ returns-in_err-between_turns-clause-fault g c =
 found : (g : given.Over) (c : After-send_one g) (s : Standing)
     → Holds c.args.server.now.view s (g.D.Disk.state c.args.server.now.disk)
     → (g.D.Disk.state c.update.new.server.disk).IsHonest
-    → SoFar 0 c.args.server.now c.update.new.server (g.D.Disk.state c.args.server.now.disk)
-    (g.D.Disk.state c.update.new.server.disk) s g.U.Update.when c.args.turns c.loop.left
+    → SoFar g.U.Update.tells 0 Called c.args.update.now c.update.new.self
+    c.args.server.now c.update.new.server (g.D.Disk.state c.args.server.now.disk)
+    (g.D.Disk.state c.update.new.server.disk) s c.args.turns c.loop.left
     c.loop.between_turns 0 c.loop.counter (g.O.Outlet.writes c.args.outlet.now)
-    (g.O.Outlet.writes c.loop.outlet) (g.U.Update.moments c.args.update.now)
-    (g.U.Update.moments c.update.new.self) (c.loop.between_turns ∷ [])
+    (g.O.Outlet.writes c.loop.outlet)
 found g c s holds honest =
+    let state = g.D.Disk.state in
+    let mid = c.loop.server in
+    let up = c.update.new.server in
     let one = c.in_ok-update.ensures in
     let so_far = c.loop.invariant.fed s holds (one.keeps.was_honest honest) in
-    updated so_far refl (one.run so_far.fed.leaves.last (so_far.fed.leaves.going refl) honest)
-    one.called
+    updated so_far refl
+    (subst (λ m. IsUpdating (g.U.Update.tells c.loop.update c.update.new.self m) mid up
+    (state mid.disk) (state up.disk) so_far.fed.leaves.last None) c.moment_at-moment.ensures
+    (one.run so_far.fed.leaves.last (so_far.fed.leaves.going refl) honest))
 
 pub returns-in_err-between_turns-clause-part : goal.returns-in_err-between_turns-clause-part
 returns-in_err-between_turns-clause-part g c = λ s holds honest.
@@ -153,3 +165,31 @@ returns-in_err-update-clause-continuous g c = continuous
 pub returns-in_err-between_turns-clause-continuous :
     goal.returns-in_err-between_turns-clause-continuous
 returns-in_err-between_turns-clause-continuous g c = continuous
+
+pub returns-clause-turns_read : goal.returns-clause-turns_read
+returns-clause-turns_read g c = turns_read
+
+pub returns-then-left-eq0-clause-turns_read : goal.returns-then-left-eq0-clause-turns_read
+returns-then-left-eq0-clause-turns_read g c = turns_read
+
+pub returns-in_err-update-clause-turns_read : goal.returns-in_err-update-clause-turns_read
+returns-in_err-update-clause-turns_read g c = turns_read
+
+pub returns-in_err-between_turns-clause-turns_read :
+    goal.returns-in_err-between_turns-clause-turns_read
+returns-in_err-between_turns-clause-turns_read g c = turns_read
+
+pub returns-clause-changed_turns_read : goal.returns-clause-changed_turns_read
+returns-clause-changed_turns_read g c = changed_turns_read
+
+pub returns-then-left-eq0-clause-changed_turns_read :
+    goal.returns-then-left-eq0-clause-changed_turns_read
+returns-then-left-eq0-clause-changed_turns_read g c = changed_turns_read
+
+pub returns-in_err-update-clause-changed_turns_read :
+    goal.returns-in_err-update-clause-changed_turns_read
+returns-in_err-update-clause-changed_turns_read g c = changed_turns_read
+
+pub returns-in_err-between_turns-clause-changed_turns_read :
+    goal.returns-in_err-between_turns-clause-changed_turns_read
+returns-in_err-between_turns-clause-changed_turns_read g c = changed_turns_read

@@ -1,6 +1,6 @@
-use Rattle.std.proofs.Common.{[]}
 use Rattle.disk_model.specs.Disk.{KeepsLength}
 use Rattle.mot_feed.proofs.Fed.{SoFar}
+use Rattle.mot_feed.specs.Feeding.Stage.{Ready}
 use Rattle.mot_journal.specs.Image.{Standing}
 use Rattle.mot_repository.specs.Repository.{Holds}
 use Rattle.mot_update.specs.Faults.{StaysCalm}
@@ -13,8 +13,8 @@ invariant-loop g l = record {
       (g.D.Disk.state l.server.disk);
   fed : (s : Standing) → Holds l.initial.server.view s (g.D.Disk.state l.initial.server.disk)
       → (g.D.Disk.state l.server.disk).IsHonest
-      → SoFar 0 l.initial.server l.server (g.D.Disk.state l.initial.server.disk)
-      (g.D.Disk.state l.server.disk) s g.U.Update.when l.turns l.left l.between_turns 0 l.counter
-      (g.O.Outlet.writes l.initial.outlet) (g.O.Outlet.writes l.outlet)
-      (g.U.Update.moments l.initial.update) (g.U.Update.moments l.update) [];
+      → SoFar g.U.Update.tells 0 Ready l.initial.update l.update l.initial.server l.server
+      (g.D.Disk.state l.initial.server.disk) (g.D.Disk.state l.server.disk) s
+      l.turns l.left l.between_turns 0 l.counter
+      (g.O.Outlet.writes l.initial.outlet) (g.O.Outlet.writes l.outlet);
 }

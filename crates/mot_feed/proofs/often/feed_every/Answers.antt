@@ -24,30 +24,30 @@ pub returns-then-every-eq0-clause-fed : goal.returns-then-every-eq0-clause-fed
 returns-then-every-eq0-clause-fed g c = λ s holds honest.
     let state = g.D.Disk.state in
     as_ever c.args.look c.args.server.now
-    (λ look old. OnOk c.feed.result (Feeds look old c.feed.new.server
-    (state c.args.server.now.disk) (state c.feed.new.server.disk) s g.U.Update.when c.args.turns
-    (g.O.Outlet.writes c.args.outlet.now) (g.O.Outlet.writes c.feed.new.outlet)
-    (g.U.Update.moments c.args.update.now) (g.U.Update.moments c.feed.new.update)))
+    (λ look old. OnOk c.feed.result (Feeds g.U.Update.tells look c.args.update.now
+    c.feed.new.update old c.feed.new.server
+    (state c.args.server.now.disk) (state c.feed.new.server.disk) s c.args.turns
+    (g.O.Outlet.writes c.args.outlet.now) (g.O.Outlet.writes c.feed.new.outlet)))
     c.args.every c.if-every-eq0.true (c.feed.ensures.fed s holds honest)
 
 pub returns-then-every-eq0-clause-part : goal.returns-then-every-eq0-clause-part
 returns-then-every-eq0-clause-part g c = λ s holds honest.
     let state = g.D.Disk.state in
     as_ever c.args.look c.args.server.now
-    (λ look old. IfErr c.feed.result (λ r. FeedsPart look r old c.feed.new.server
-    (state c.args.server.now.disk) (state c.feed.new.server.disk) s g.U.Update.when
-    (g.O.Outlet.writes c.args.outlet.now) (g.O.Outlet.writes c.feed.new.outlet)
-    (g.U.Update.moments c.args.update.now) (g.U.Update.moments c.feed.new.update)))
+    (λ look old. IfErr c.feed.result (λ r. FeedsPart g.U.Update.tells look r c.args.update.now
+    c.feed.new.update old c.feed.new.server
+    (state c.args.server.now.disk) (state c.feed.new.server.disk) s
+    (g.O.Outlet.writes c.args.outlet.now) (g.O.Outlet.writes c.feed.new.outlet)))
     c.args.every c.if-every-eq0.true (c.feed.ensures.part s holds honest)
 
 pub returns-clause-fed : goal.returns-clause-fed
 returns-clause-fed g c = λ s holds honest.
     let state = g.D.Disk.state in
     followed c.args.look c.args.server.now
-    (λ look old. OnOk c.feed_often.result (Feeds look old c.feed_often.new.server
-    (state c.args.server.now.disk) (state c.feed_often.new.server.disk) s g.U.Update.when
-    c.args.turns (g.O.Outlet.writes c.args.outlet.now) (g.O.Outlet.writes c.feed_often.new.outlet)
-    (g.U.Update.moments c.args.update.now) (g.U.Update.moments c.feed_often.new.update)))
+    (λ look old. OnOk c.feed_often.result (Feeds g.U.Update.tells look c.args.update.now
+    c.feed_often.new.update old c.feed_often.new.server
+    (state c.args.server.now.disk) (state c.feed_often.new.server.disk) s c.args.turns
+    (g.O.Outlet.writes c.args.outlet.now) (g.O.Outlet.writes c.feed_often.new.outlet)))
     c.args.every c.if-every-eq0.false
     (rw (← c.from-2.ensures)
     (on_ok_weaker c.feed_often.result (λ often. often.feeds)
@@ -62,10 +62,10 @@ pub returns-clause-part : goal.returns-clause-part
 returns-clause-part g c = λ s holds honest.
     let state = g.D.Disk.state in
     followed c.args.look c.args.server.now
-    (λ look old. IfErr c.feed_often.result (λ r. FeedsPart look r old c.feed_often.new.server
-    (state c.args.server.now.disk) (state c.feed_often.new.server.disk) s g.U.Update.when
-    (g.O.Outlet.writes c.args.outlet.now) (g.O.Outlet.writes c.feed_often.new.outlet)
-    (g.U.Update.moments c.args.update.now) (g.U.Update.moments c.feed_often.new.update)))
+    (λ look old. IfErr c.feed_often.result (λ r. FeedsPart g.U.Update.tells look r
+    c.args.update.now c.feed_often.new.update old c.feed_often.new.server
+    (state c.args.server.now.disk) (state c.feed_often.new.server.disk) s
+    (g.O.Outlet.writes c.args.outlet.now) (g.O.Outlet.writes c.feed_often.new.outlet)))
     c.args.every c.if-every-eq0.false
     (rw (← c.from-2.ensures)
     (of_err c.feed_often.result (λ r often. often.feeds)

@@ -1,4 +1,4 @@
-use Rattle.std.proofs.Common.{◌≡◌, ℕ, zero, suc, ◌+◌, ◌-◌, Bool, true, false, ◌∷◌, [], Some, None}
+use Rattle.std.proofs.Common.{◌≡◌, ℕ, zero, suc, ◌+◌, ◌-◌, Bool, true, false, Some, None}
 use Rattle.std.proofs.Common.{refl, ap, ◌∙◌, arith, inl, inr, subst, sym}
 use Rattle.std.specs.Prelude.{◌==◌, if◌then◌else◌}
 use Rattle.disk_model.specs.Disk.{IsUnchanged, KeepsLength}
@@ -7,8 +7,10 @@ use Rattle.mot_feed.proofs.Fed.{SoFar, asked_often, asked_on, continuous, fed_no
 use Rattle.mot_feed.proofs.Fed.{none_often, rest_else, rest_then, send_fault_often, sent_often}
 use Rattle.mot_feed.proofs.Fed.{sent_on, update_fault_often, updated, updated_often}
 use Rattle.mot_feed.proofs.Hearing.{OftenUpTo, left_for}
-use Rattle.mot_feed.specs.Feeding.{left_behind, may_look}
+use Rattle.mot_feed.specs.Feeding.{left_behind, moment_at}
+use Rattle.mot_feed.specs.Feeding.Stage.{Called}
 use Rattle.mot_feed.specs.Often.{is_due, pause}
+use Rattle.mot_feed.proofs.OnAir.{changed_turns_read, turns_read}
 use Rattle.mot_feed.proofs.Sent.{not_of_writing, send_fault_behind, sent_calm}
 use Rattle.mot_feed.proofs.often.feed_often.Given as given
 use Rattle.mot_feed.proofs.often.feed_often.Goals as goal
@@ -18,11 +20,10 @@ use Rattle.mot_feed.proofs.often.feed_often.Goals.{then-between_turns, then-betw
 use Rattle.mot_feed.proofs.often.feed_often.Goals.{then-due}
 use Rattle.mot_journal.specs.Image.{Standing}
 use Rattle.mot_numbers.proofs.Laws.{same_error}
-use Rattle.mot_packets.specs.Outlet.{Grows}
 use Rattle.mot_player.specs.Place.{Place, Sent, following}
 use Rattle.mot_repository.specs.Repository.{Agrees, Holds, RepositoryView}
 use Rattle.mot_server.specs.Server.{ServerView, following_server, place_in}
-use Rattle.mot_update.specs.Between.{IsUpdating, may_change}
+use Rattle.mot_update.specs.Between.{IsUpdating, may_look}
 use Rattle.mot_update.proofs.Laws.{calm_on, fault_on}
 
 -- a server that was told to follow stands where one stands that follows
@@ -45,18 +46,18 @@ loop-init g c =
           (ap (λ d. (state d).failures) told_to.disk) told_to.view;
       fed = λ s holds honest.
           let writes = g.O.Outlet.writes c.args.outlet.now in
-          let moments = g.U.Update.moments c.args.update.now in
+          let tells = g.U.Update.tells in
+          let first = c.args.update.now in
           let was = subst (λ d. (state d).IsHonest) told_to.disk honest in
           let sound = g.met.D.Disk.sound old.disk was in
           let still = subst (λ d. IsUnchanged (state old.disk) (state d)) (sym told_to.disk)
           (unchanged_none (state old.disk)) in
           let place = told old mid s (told_to.place s) in (
-            fed_none c.args.look (following_server old) mid (state old.disk) (state mid.disk) s
-                g.U.Update.when c.args.turns writes moments told_to.view place sound honest still
-                holds,
-            none_often c.args.every c.args.look (following_server old) mid (state old.disk)
-                (state mid.disk) s g.U.Update.when c.args.turns writes moments told_to.view place
-                sound honest still holds,
+            fed_none tells c.args.look first (following_server old) mid (state old.disk)
+                (state mid.disk) s c.args.turns writes told_to.view place sound honest still holds,
+            none_often tells c.args.every c.args.look first (following_server old) mid
+                (state old.disk) (state mid.disk) s c.args.turns writes told_to.view place sound
+                honest still holds,
           );
     }
 
@@ -82,12 +83,10 @@ returns-in_err-update-clause-part g c = λ s holds honest.
     let refusal = c.in_err-update.field-0.0 in
     rw (same_error c.from_residual.result refusal c.from_residual.ensures.1)
     (update_fault_often so_far c.args.every (Some c.loop.until) is.1 refl
-    (subst (λ b. IsUpdating mid c.update.new.server (state mid.disk)
-    (state c.update.new.server.disk) so_far.fed.leaves.last (may_change g.U.Update.when b)
-    (Some refusal)) c.may_look-may.ensures
+    (subst (λ m. IsUpdating (g.U.Update.tells c.loop.update c.update.new.self m) mid
+    c.update.new.server (state mid.disk) (state c.update.new.server.disk)
+    so_far.fed.leaves.last (Some refusal)) c.moment_at-moment.ensures
     (one.run so_far.fed.leaves.last (so_far.fed.leaves.going refl) honest))
-    (subst (λ b. Grows (g.U.Update.moments c.loop.update) (g.U.Update.moments c.update.new.self)
-    (b ∷ [])) c.may_look-may.ensures one.called)
     (not_of_writing mid (state mid.disk) (state c.update.new.server.disk) refusal one.faults))
 
 pub returns-in_err-update-clause-fault : goal.returns-in_err-update-clause-fault
@@ -140,13 +139,12 @@ due_is g c = elim c.if-between_turns.branch [
 found : (g : given.Over) (c : After-send_one g) (s : Standing)
     → Holds c.args.server.now.view s (g.D.Disk.state c.args.server.now.disk)
     → (g.D.Disk.state c.ask.new.server.disk).IsHonest
-    → (so_far : SoFar c.args.look (following_server c.args.server.now) c.ask.new.server
+    → (so_far : SoFar g.U.Update.tells c.args.look Called c.args.update.now c.update.new.self
+    (following_server c.args.server.now) c.ask.new.server
     (g.D.Disk.state c.args.server.now.disk)
-    (g.D.Disk.state c.ask.new.server.disk) s g.U.Update.when c.args.turns c.loop.left
+    (g.D.Disk.state c.ask.new.server.disk) s c.args.turns c.loop.left
     c.loop.between_turns c.loop.rest c.loop.counter (g.O.Outlet.writes c.args.outlet.now)
-    (g.O.Outlet.writes c.loop.outlet) (g.U.Update.moments c.args.update.now)
-    (g.U.Update.moments c.update.new.self)
-    (may_look c.args.look c.loop.between_turns c.loop.rest ∷ []))
+    (g.O.Outlet.writes c.loop.outlet))
     × OftenUpTo c.args.every c.loop.between_turns (left_for (due_in g c) c.loop.until) so_far.events
 found g c s holds honest =
     let state = g.D.Disk.state in
@@ -160,22 +158,18 @@ found g c s holds honest =
     let is = c.loop.invariant.fed s holds (one.keeps.was_honest then_honest) in
     let so_far = is.0 in
     let mid = c.loop.server in
-    let run = subst (λ b. IsUpdating mid up (state mid.disk) (state up.disk)
-    so_far.fed.leaves.last (may_change g.U.Update.when b) None) c.may_look-may.ensures
+    let run = subst (λ m. IsUpdating (g.U.Update.tells c.loop.update c.update.new.self m) mid up
+    (state mid.disk) (state up.disk) so_far.fed.leaves.last None) c.moment_at-moment.ensures
     (one.run so_far.fed.leaves.last (so_far.fed.leaves.going refl) then_honest) in
-    let called = subst (λ b. Grows (g.U.Update.moments c.loop.update)
-    (g.U.Update.moments c.update.new.self) (b ∷ [])) c.may_look-may.ensures one.called in
-    let behind = updated so_far refl run called in
+    let behind = updated so_far refl run in
     let sound = g.met.D.Disk.sound up.disk then_honest in
     let still = subst (λ d. IsUnchanged (state up.disk) (state d)) (sym c.ask.ensures.disk)
     (unchanged_none (state up.disk)) in
     let heard_by = c.ask.ensures.asked behind.fed.leaves.last
     (behind.fed.leaves.going refl).agrees in (
-      asked_on behind heard sound c.ask.ensures.view honest still (due_in g c) heard_by,
-      asked_often behind heard sound c.ask.ensures.view honest still (due_in g c) heard_by every
-          until (due_is g c)
-          (updated_often so_far
-          (g.U.Update.moments c.update.new.self) every (Some until) is.1 refl run called),
+      asked_on behind heard sound c.ask.ensures.view honest still (due_in g c) heard_by refl,
+      asked_often behind heard sound c.ask.ensures.view honest still (due_in g c) heard_by refl
+          every until (due_is g c) (updated_often so_far every (Some until) is.1 refl run),
     )
 
 -- where it is not due, more packets are sent
@@ -201,11 +195,11 @@ returns-in_err-between_turns-clause-part g c = λ s holds honest.
 
 -- how many packets more come before a look within a turn
 rest_is : (look : ℕ) (ended : Bool) (rest : ℕ) (may : Bool) (then_rest : ℕ) (place : Place)
-    (sent : Sent) → place ≡ sent.place → may ≡ may_look look ended rest
+    (sent : Sent) → place ≡ sent.place → may ≡ may_look (moment_at look ended rest)
     → then_rest ≡ (if may then look else rest) - (if place.early == 0 then 1 else 0)
     → left_behind look ended rest sent ≡ then_rest
 rest_is look ended rest may then_rest place sent same is less =
-    ap (λ (p : Place). (if may_look look ended rest then look else rest)
+    ap (λ (p : Place). (if may_look (moment_at look ended rest) then look else rest)
     - (if p.early == 0 then 1 else 0)) (sym same)
     ∙ ap (λ b. (if b then look else rest) - (if place.early == 0 then 1 else 0)) (sym is) ∙ sym less
 
@@ -252,8 +246,9 @@ loop-preserved g c =
           (is.0.fed.leaves.going refl).agrees in
           let is_rest : (sent : Sent) → place_in new last ≡ sent.place
           → left_behind c.args.look c.loop.between_turns c.loop.rest sent ≡ then_rest =
-          λ sent same. rest_is c.args.look c.loop.between_turns c.loop.rest c.may_look-may.result
-          then_rest (place_in new last) sent same c.may_look-may.ensures
+          λ sent same. rest_is c.args.look c.loop.between_turns c.loop.rest c.may_look.result
+          then_rest (place_in new last) sent same
+          (c.may_look.ensures ∙ ap may_look c.moment_at-moment.ensures)
           (c.rest_after-rest.ensures last agrees) in
           let anew : c.if-between_turns.due ≡ true → (d : Standing)
           → next ≡ pause c.args.every (place_in new d) = λ due d. elim c.if-due.branch [
@@ -287,3 +282,31 @@ returns-in_err-update-clause-continuous g c = continuous
 pub returns-in_err-between_turns-clause-continuous :
     goal.returns-in_err-between_turns-clause-continuous
 returns-in_err-between_turns-clause-continuous g c = continuous
+
+pub returns-clause-turns_read : goal.returns-clause-turns_read
+returns-clause-turns_read g c = turns_read
+
+pub returns-then-left-eq0-clause-turns_read : goal.returns-then-left-eq0-clause-turns_read
+returns-then-left-eq0-clause-turns_read g c = turns_read
+
+pub returns-in_err-update-clause-turns_read : goal.returns-in_err-update-clause-turns_read
+returns-in_err-update-clause-turns_read g c = turns_read
+
+pub returns-in_err-between_turns-clause-turns_read :
+    goal.returns-in_err-between_turns-clause-turns_read
+returns-in_err-between_turns-clause-turns_read g c = turns_read
+
+pub returns-clause-changed_turns_read : goal.returns-clause-changed_turns_read
+returns-clause-changed_turns_read g c = changed_turns_read
+
+pub returns-then-left-eq0-clause-changed_turns_read :
+    goal.returns-then-left-eq0-clause-changed_turns_read
+returns-then-left-eq0-clause-changed_turns_read g c = changed_turns_read
+
+pub returns-in_err-update-clause-changed_turns_read :
+    goal.returns-in_err-update-clause-changed_turns_read
+returns-in_err-update-clause-changed_turns_read g c = changed_turns_read
+
+pub returns-in_err-between_turns-clause-changed_turns_read :
+    goal.returns-in_err-between_turns-clause-changed_turns_read
+returns-in_err-between_turns-clause-changed_turns_read g c = changed_turns_read

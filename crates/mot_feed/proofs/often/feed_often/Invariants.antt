@@ -1,7 +1,8 @@
-use Rattle.std.proofs.Common.{[], Some}
+use Rattle.std.proofs.Common.{Some}
 use Rattle.disk_model.specs.Disk.{KeepsLength}
 use Rattle.mot_feed.proofs.Fed.{SoFar}
 use Rattle.mot_feed.proofs.Hearing.{OftenUpTo}
+use Rattle.mot_feed.specs.Feeding.Stage.{Ready}
 use Rattle.mot_journal.specs.Image.{Standing}
 use Rattle.mot_repository.specs.Repository.{Holds}
 use Rattle.mot_server.specs.Server.{following_server}
@@ -15,10 +16,10 @@ invariant-loop g l = record {
       (g.D.Disk.state l.server.disk);
   fed : (s : Standing) → Holds l.fn.server.view s (g.D.Disk.state l.fn.server.disk)
       → (g.D.Disk.state l.server.disk).IsHonest
-      → (so_far : SoFar l.look (following_server l.fn.server) l.server
-      (g.D.Disk.state l.fn.server.disk)
-      (g.D.Disk.state l.server.disk) s g.U.Update.when l.turns l.left l.between_turns l.rest
-      l.counter (g.O.Outlet.writes l.fn.outlet) (g.O.Outlet.writes l.outlet)
-      (g.U.Update.moments l.fn.update) (g.U.Update.moments l.update) [])
+      → (so_far : SoFar g.U.Update.tells l.look Ready l.fn.update l.update
+      (following_server l.fn.server) l.server
+      (g.D.Disk.state l.fn.server.disk) (g.D.Disk.state l.server.disk) s
+      l.turns l.left l.between_turns l.rest l.counter
+      (g.O.Outlet.writes l.fn.outlet) (g.O.Outlet.writes l.outlet))
       × OftenUpTo l.every l.between_turns (Some l.until) so_far.events;
 }

@@ -1,22 +1,24 @@
 use Rattle.std.proofs.Common.{◌≡◌, ◌∙◌, ◌++◌, ℕ, None, [], ◌∷◌, ap, codes, not, refl, subst, sym}
-use Rattle.std.proofs.Common.{◌≤◌, Bool, true, false, suc, arith, nat_eq, nat_lt, Err, IfErr, List, Ok, Result, Some, inl, inr, length, map, take}
+use Rattle.std.proofs.Common.{◌≤◌, Bool, true, false, suc, arith, nat_eq, nat_lt, Err, IfErr, List, Ok, Option, Result, Some}
+use Rattle.std.proofs.Common.{inl, inr, length, map, take}
 use Rattle.std.proofs.lemmas.Bool.{and_parts, eqb-true}
 use Rattle.std.proofs.lemmas.List.{take_all}
-use Rattle.std.proofs.lemmas.List.Elements.{filter-append}
 use Rattle.disk_model.proofs.Laws.{unchanged_none}
 use Rattle.mot_folder.specs.Inner.Listing.{IsUnread}
 use Rattle.mot_folder.specs.Inner.Reading.{TellsLook, as_wanted, heading}
 use Rattle.mot_folder.specs.Listed.{IsListing}
-use Rattle.mot_folder.specs.Log.{TellsAnswers, TellsOf, entry, is_of_look, kept_entry}
+use Rattle.mot_folder.specs.Log.{LogEntry, ReportTells, TellsAnswers, TellsOf, entry, kept_entry}
+use Rattle.mot_folder.specs.Log.{with_reason}
 use Rattle.mot_folder.specs.declared.report.Report.{Report}
 use Rattle.mot_folder.specs.Looked.{HasLookedAtFolder, is_kept, kept, listed, unlisted}
+use Rattle.mot_folder.specs.Looked as look
 use Rattle.mot_objects.specs.Stands.{objects_of}
 use Rattle.mot_objects.specs.Carousel.{Carousel}
 use Rattle.mot_objects.specs.declared.carousel.Carousel as memory
 use Rattle.mot_objects.specs.declared.object.Object.{Object}
 use Rattle.mot_repository.specs.Repository.{Agrees, RepositoryView}
-use Rattle.mot_folder.proofs.Taken.{IsLook, look_begins, look_is}
-use Rattle.mot_folder.proofs.Log.{tells_none}
+use Rattle.mot_folder.proofs.Taken.{IsLook, look_begins, look_is, same_path}
+use Rattle.mot_folder.proofs.Log.{look-more, tells_none}
 use Rattle.mot_folder.proofs.looking.look_at_folder.Goals as goal
 use Rattle.mot_numbers.specs.declared.refusal.Refusal.{Refusal}
 use Rattle.mot_numbers.specs.declared.refusal.Refusal.TheVariants.{OutOfMemory}
@@ -62,6 +64,55 @@ run_without_memory old new start now s commands marks run = record {
   place = run.place;
 }
 
+-- a look of no command
+of_nothing : {D : Type 0} (old new : ServerView D) (start now : State) (s : Standing)
+    (types : List SuffixType) (allows : Bool) (path : List ℕ) (given : Given) (report : Report)
+    (fault : Option Refusal) (entries : List LogEntry)
+    → HasRun old new start now s [] [] fault
+    → look.IsLook types allows path given s.carousel [] [] fault [] [] (not report.any_refused) entries
+    → ReportTells report entries
+    → HasLookedAtFolder old new start now s types allows path given report fault
+of_nothing old new start now s types allows path given report fault entries run look told = record {
+  commands = [];
+  marks = [];
+  run = run;
+  names = [];
+  wanted = [];
+  entries = entries;
+  look = look;
+  told = told;
+}
+
+-- a look of these names
+of_names : {D : Type 0} (old new : ServerView D) (start now : State) (s : Standing)
+    (types : List SuffixType) (allows : Bool) (path : List ℕ) (given : Given) (report : Report)
+    (names : List (List ℕ)) (fault : Option Refusal) → AreShown names
+    → IsListing types path given names
+    → is_kept allows names (length s.carousel.objects) ≡ false
+    → (looked : HasLooked old new start now s names 0 None None (not report.any_refused) fault)
+    → (seen : List (List ℕ)) → (fault ≡ None → seen ≡ names)
+    → TellsOf types given report seen looked.runs.answers looked.wanted
+    → HasLookedAtFolder old new start now s types allows path given report fault
+of_names old new start now s types allows path given report names fault shown listing updates looked
+    seen all told = record {
+      commands = looked.runs.commands;
+      marks = looked.runs.marks;
+      run = looked.runs.run;
+      names = names;
+      wanted = looked.wanted;
+      entries = told.entries;
+      look = listed shown listing updates looked.is_update looked.runs.others looked.runs.split
+          looked.runs.whole
+          (λ fine none. (looked.every fine none, looked.runs.accepted fine none))
+          looked.runs.answers looked.runs.told told.are seen all (record {
+            before = told.before;
+            missed = told.missed;
+            read = told.read;
+            taken = told.taken;
+          });
+      told = told.told;
+    }
+
 -- a look that came to its end, as one up to want of memory
 without_memory : {D : Type 0} (old new : ServerView D) (start now : State) (s : Standing)
     (names : List (List ℕ)) (fine : Bool)
@@ -98,13 +149,14 @@ listed_whole : {D : Type 0} (old new : ServerView D) (start now : State) (s : St
 unfolding without_memory
 listed_whole old new start now s types allows path given report names shown listing updates looked
     told (Ok x) is =
-    listed names shown listing updates looked names (λ e. refl) told
+    of_names old new start now s types allows path given report names None shown listing updates
+    looked names (λ e. refl) told
 listed_whole old new start now s types allows path given report names shown listing updates looked
     told (Err e) is =
     subst (λ f. HasLookedAtFolder old new start now s types allows path given report (Some f))
     (sym is)
-    (listed names shown listing updates
-    (without_memory old new start now s names (not report.any_refused) looked) names
+    (of_names old new start now s types allows path given report names (Some OutOfMemory) shown
+    listing updates (without_memory old new start now s names (not report.any_refused) looked) names
     (λ none. absurd (cc (none))) told)
 
 -- a carousel has as many objects as are kept of it
@@ -153,23 +205,75 @@ behind types others path begun other first last names after place start report a
     (subst (λ p. IsListing types p first names) (sym same) listing) unread.read unread.missed
     told))))
 
+-- it is of the path that it began with
+path_stays : (types others : List SuffixType) (path begun other : List ℕ) (first last : Given)
+    (names after : List (List ℕ)) (place : ℕ) (start report : Report) (answers : List Answer)
+    (wanted : List Wanted) → begun ≡ path
+    → IsListing types path first names → IsUnread nothing first → TellsAnswers start []
+    → TellsBoth (TellsLook types begun first names 0 start)
+    (TellsLook others other last after place report) answers wanted
+    → other ≡ path
+path_stays types others path begun other first last names after place start report answers wanted
+    same listing unread told looks =
+    same_path types others begun other last after place report answers
+    ((map as_wanted types ++ []) ++ wanted)
+    (looks (map as_wanted types ++ []) (heading begun types ∷ [])
+    (look_begins types begun first names start
+    (subst (λ p. IsListing types p first names) (sym same) listing) unread.read unread.missed
+    told)) ∙ same
+
+pub returns-in_err-look-clause-path : goal.returns-in_err-look-clause-path
+returns-in_err-look-clause-path g c = λ s holds honest.
+    let source = c.look.new.source in
+    let looks = c.in_err-look.ensures.looked s holds honest in
+    path_stays c.args.folder.now.types.now source.types.now
+    (g.S.Shelf.path c.args.folder.now.shelf) (g.S.Shelf.path c.list.new.shelf)
+    (g.S.Shelf.path source.shelf) (g.S.Shelf.gave c.list.new.shelf) (g.S.Shelf.gave source.shelf)
+    c.in-Ok.names.names.items source.names.names.items source.place c.note_most.new.report
+    source.report looks.0.runs.answers looks.0.wanted
+    (c.in-Ok.ensures.same ∙ c.begin.ensures.same)
+    (subst (λ p. IsListing c.args.folder.now.types.now p (g.S.Shelf.gave c.list.new.shelf)
+    c.in-Ok.names.names.items) c.begin.ensures.same c.in-Ok.ensures.listed)
+    c.in-Ok.ensures.unread
+    (c.note_most.ensures.told []
+    (c.list.ensures.told [] (tells_none c.begin-2.new.self c.begin-2.ensures.told))) looks.1
+
+pub returns-clause-path : goal.returns-clause-path
+returns-clause-path g c = λ s holds honest.
+    let source = c.look.new.source in
+    let looks = c.in_ok-look.ensures.looked s holds honest in
+    path_stays c.args.folder.now.types.now source.types.now
+    (g.S.Shelf.path c.args.folder.now.shelf) (g.S.Shelf.path c.list.new.shelf)
+    (g.S.Shelf.path source.shelf) (g.S.Shelf.gave c.list.new.shelf) (g.S.Shelf.gave source.shelf)
+    c.in-Ok.names.names.items source.names.names.items source.place c.note_most.new.report
+    source.report looks.0.runs.answers looks.0.wanted
+    (c.in-Ok.ensures.same ∙ c.begin.ensures.same)
+    (subst (λ p. IsListing c.args.folder.now.types.now p (g.S.Shelf.gave c.list.new.shelf)
+    c.in-Ok.names.names.items) c.begin.ensures.same c.in-Ok.ensures.listed)
+    c.in-Ok.ensures.unread
+    (c.note_most.ensures.told []
+    (c.list.ensures.told [] (tells_none c.begin-2.new.self c.begin-2.ensures.told))) looks.1
+
 pub returns-in-Err-clause-looked : goal.returns-in-Err-clause-looked
 returns-in-Err-clause-looked g c = λ s holds honest.
     let old = c.args.server.now in
     let state = g.D.Disk.state old.disk in
     let told = c.list.ensures.told [] (tells_none c.begin-2.new.self c.begin-2.ensures.told) in
-    let refusal = c.in-Err.refusal in
+    let refusal = c.in-Err.unlisted.refusal in
     let path = c.as_bytes-path.result.now in
-    let last = entry (codes "look") path (Refused refusal) in
-    unlisted refusal c.in-Err.ensures.why c.refused.ensures.any
-    (ended c.end.result c.end.ensures.fault)
-    (has_read old old state state s (fault_of c.end.result)
+    let bare = entry (codes "look") path (Refused refusal) in
+    let last = with_reason bare c.tell_unlisted.ensures.told.0 in
+    let fault = fault_of c.end.result in
+    of_nothing old old state state s _ _ _ _ _ fault (told.entries ++ last ∷ [])
+    (has_read old old state state s fault
     (g.met.D.Disk.sound old.disk honest) refl refl honest (unchanged_none state) holds).0
-    (told.entries ++ last ∷ []) (c.refused.ensures.told told.entries told.told)
-    (filter-append is_of_look told.entries (last ∷ []) ∙ ap (λ l. l ++ last ∷ []) told.are
+    (unlisted refusal c.in-Err.ensures.why (ap not c.tell_unlisted.ensures.any)
+    (ended c.end.result c.end.ensures.fault) refl
+    (look-more told.entries (last ∷ []) ∙ ap (λ l. l ++ bare ∷ []) told.are
     ∙ ap (λ n. entry (codes "look") n (Refused refusal) ∷ [])
     (c.as_bytes-path.ensures.value ∙ c.shown.ensures ∙ c.in-Err.ensures.same
-    ∙ c.begin.ensures.same))
+    ∙ c.begin.ensures.same)))
+    (c.tell_unlisted.ensures.told.1 told.entries told.told)
 
 pub returns-then-is_kept-clause-looked : goal.returns-then-is_kept-clause-looked
 returns-then-is_kept-clause-looked g c = λ s holds honest.
@@ -189,18 +293,20 @@ returns-then-is_kept-clause-looked g c = λ s holds honest.
     (sym c.carousel.ensures.value)
     ∙ sym c.if-is_kept.ensures in
     let none = none_named allows names (length s.carousel.objects) is in
-    kept
+    let fault = fault_of c.end-then-is_kept.result in
+    of_nothing old old state state s _ _ _ _ _ fault (told.entries ++ kept_entry path ∷ [])
+    (has_read old old state state s fault
+    (g.met.D.Disk.sound old.disk honest) refl refl honest (unchanged_none state) holds).0
+    (kept
     (subst (λ n. IsListing types (g.S.Shelf.path c.args.folder.now.shelf) given n) none
     (subst (λ p. IsListing types p given names) c.begin.ensures.same c.in-Ok.ensures.listed))
     (subst (λ n. is_kept allows n (length s.carousel.objects) ≡ true) none is)
-    c.kept.ensures.any
-    (ended c.end-then-is_kept.result c.end-then-is_kept.ensures.fault)
-    (has_read old old state state s (fault_of c.end-then-is_kept.result)
-    (g.met.D.Disk.sound old.disk honest) refl refl honest (unchanged_none state) holds).0
-    (told.entries ++ kept_entry path ∷ []) (c.kept.ensures.told told.entries told.told)
-    (filter-append is_of_look told.entries (kept_entry path ∷ [])
+    (ap not c.kept.ensures.any)
+    (ended c.end-then-is_kept.result c.end-then-is_kept.ensures.fault) refl
+    (look-more told.entries (kept_entry path ∷ [])
     ∙ ap (λ l. l ++ kept_entry path ∷ []) told.are
-    ∙ ap (λ n. kept_entry n ∷ []) same)
+    ∙ ap (λ n. kept_entry n ∷ []) same))
+    (c.kept.ensures.told told.entries told.told)
 
 pub returns-in_err-look-clause-looked : goal.returns-in_err-look-clause-looked
 returns-in_err-look-clause-looked g c = λ s holds honest.
@@ -232,7 +338,8 @@ returns-in_err-look-clause-looked g c = λ s holds honest.
     subst (λ (r : Result Unit Refusal). HasLookedAtFolder old new (state old.disk) (state new.disk)
     s types allows path given source.report (fault_of r))
     (sym (same_error c.from_residual.result c.in_err-look.field-0.0 c.from_residual.ensures.1))
-    (listed names c.in-Ok.ensures.shown is.listing updates looks.0 seen (λ none. absurd (cc (none)))
+    (of_names old new (state old.disk) (state new.disk) s types allows path given source.report names
+    fault c.in-Ok.ensures.shown is.listing updates looks.0 seen (λ none. absurd (cc (none)))
     is.tells)
 
 pub returns-clause-looked : goal.returns-clause-looked

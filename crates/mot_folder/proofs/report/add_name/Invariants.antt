@@ -1,7 +1,10 @@
-use Rattle.std.proofs.Common.{◌≡◌, ◌++◌, map, take}
-use Rattle.mot_folder.specs.Log.{told_byte}
+use Rattle.std.proofs.Common.{◌≡◌, ◌++◌, length}
+use Rattle.mot_suffixes.specs.Shown.{shown}
 use Rattle.mot_folder.proofs.report.add_name.Given as goal
 
 abbrev pub invariant-loop-byte : goal.invariant-loop-byte
 invariant-loop-byte l =
-    l.lines.items ≡ l.initial.lines.items ++ map told_byte (take l.byte-index l.name)
+    l.lines.items ++ shown l.rest ≡ l.initial.lines.items ++ shown l.name
+
+abbrev pub decreases-loop-byte : goal.decreases-loop-byte
+decreases-loop-byte l = length l.rest

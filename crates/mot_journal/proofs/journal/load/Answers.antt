@@ -10,7 +10,7 @@ use Rattle.disk_model.proofs.Laws.{reads_none, reads_on, reads_once}
 use Rattle.disk_model.specs.Disk.{OnlyReads}
 use Rattle.mot_journal.specs.Geometry.{geometry_of}
 use Rattle.mot_journal.specs.Image.{records_of, journal_in_half}
-use Rattle.mot_journal.specs.Journal.IsLoadRefusal.{not_formatted, no_memory, device}
+use Rattle.mot_journal.specs.Journal.IsReadingRefusal.{not_formatted, no_memory, device}
 use Rattle.mot_journal.proofs.Heads.{short_has_none}
 use Rattle.mot_journal.proofs.Loads.{told_good, geometry_told, none_formatted, half_told, on_ok}
 use Rattle.mot_journal.proofs.Loads.{chosen_one, chosen_none, load_refused_of_half, sub-same}

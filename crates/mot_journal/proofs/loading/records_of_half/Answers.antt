@@ -35,8 +35,8 @@ loop-place-preserved c =
     let lt : c.loop-place.place < slot_count layout g = omega arith in
     let read : Some c.in-Ok-Some.entry ≡ read_slot g layout slot =
     sym c.in-Ok-Some.field-0-is ∙ c.in-Ok-Some.ensures in
-    let pushed : c.push.new.self.items ≡ c.loop-place.records.items ++ c.in-Ok-Some.entry ∷ [] =
-    grind arith in
+    let pushed : c.push_reserved.new.self.items
+    ≡ c.loop-place.records.items ++ c.in-Ok-Some.entry ∷ [] = grind arith in
     let reads = reads_more g layout c.args.half.now c.loop-place.place lt slot
     c.slot_at-slot.ensures.value c.loop-place.records.items c.in-Ok-Some.entry
     c.loop-place.invariant.reads read in
@@ -54,6 +54,7 @@ loop-place-preserved c =
       sound = subst (λ l. All (λ (r : Record). is_sound g layout r ≡ true) l) (sym pushed)
           (All-append (λ (r : Record). is_sound g layout r ≡ true) c.loop-place.records.items
           (c.in-Ok-Some.entry ∷ []) c.loop-place.invariant.sound one);
+      room = omega (arith, c.push_reserved.ensures.capacity, c.loop-place.invariant.room);
     }
 
 pub returns-clause-ok : goal.returns-clause-ok

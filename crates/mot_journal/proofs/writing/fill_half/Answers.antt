@@ -20,7 +20,7 @@ write-requires g c =
     c.requires.two_halves (subst (λ n. c.loop-number.number < n) c.slot_count-number-end.ensures
     c.loop-number-test.true) in
     let size : length c.deref.result.now ≡ slot_size c.args.layout =
-    ap length c.deref.ensures.0 ∙ c.slot_or_zeros.ensures.size geometry c.requires.sound in
+    ap length c.deref.ensures.0 ∙ c.put_slot_or_zeros.ensures.size geometry c.requires.sound in
     omega (
       arith,
       c.place_of_slot-place.ensures.value,
@@ -40,7 +40,7 @@ returns-in_err-write-clause-range g c = λ honest.
     c.requires.two_halves (subst (λ n. c.loop-number.number < n) c.slot_count-number-end.ensures
     c.loop-number-test.true) in
     let size : length c.deref.result.now ≡ slot_size c.args.layout =
-    ap length c.deref.ensures.0 ∙ c.slot_or_zeros.ensures.size geometry c.requires.sound in
+    ap length c.deref.ensures.0 ∙ c.put_slot_or_zeros.ensures.size geometry c.requires.sound in
     one_more (half_start geometry c.args.half) (half_size geometry) (state c.args.disk.now)
     (state c.loop-number.disk)
     (state c.write.new.self) _ _ (g.met.D.Disk.sound c.loop-number.disk honest1)
@@ -60,7 +60,7 @@ loop-number-preserved g c =
     (subst (λ n. c.loop-number.number < n) c.slot_count-number-end.ensures
     c.loop-number-test.true) in
     let size : length c.deref.result.now ≡ slot_size layout =
-    ap length c.deref.ensures.0 ∙ c.slot_or_zeros.ensures.size geometry c.requires.sound in
+    ap length c.deref.ensures.0 ∙ c.put_slot_or_zeros.ensures.size geometry c.requires.sound in
     let at : c.place_of_slot-place.result ≡ half_start geometry half + number * slot_size layout =
     c.place_of_slot-place.ensures.value in
     record {
@@ -89,8 +89,8 @@ loop-number-preserved g c =
           slot_more geometry half layout c.args.given.now number (state c.loop-number.disk).bytes
           new (so_far.slots honest) writes.bytes
           (sym (range_whole place (slot_size layout) new) ∙ bytes ∙ c.deref.ensures.0
-          ∙ c.slot_or_zeros.ensures.value)
-          (c.slot_or_zeros.ensures.reads geometry c.requires.sound);
+          ∙ c.put_slot_or_zeros.ensures.value)
+          (c.put_slot_or_zeros.ensures.reads geometry c.requires.sound);
     }
 
 pub returns-in_err-write-clause-keeps : goal.returns-in_err-write-clause-keeps

@@ -1,10 +1,9 @@
-use Rattle.std.proofs.Common.{◌≡◌, ℕ, List, ◌++◌, ◌∙◌, ap, sym, subst}
+use Rattle.std.proofs.Common.{inl, ◌≡◌, ℕ, List, ◌++◌, ◌∙◌, ap, sym, subst}
 use Rattle.std.specs.Io.KnownBytes.{Appends}
 use Rattle.std.proofs.KnownBytes.{Keeps-refl}
 use Rattle.std.specs.Prelude.{◌↔◌, IfErr, IsTrue}
 use Rattle.std.proofs.lemmas.Result.{on_ok_weaker}
 use Rattle.disk_model.specs.Disk.{IsStill, OnlyReads, OnlySyncs, State}
-use Rattle.disk_model.specs.Failures.{Rises}
 use Rattle.mot_journal.specs.Image.{stands_for, IsClean}
 use Rattle.mot_journal.specs.Journal.{StandsWhere, with_records}
 use Rattle.mot_lines.specs.Listing.{listing_text}
@@ -12,14 +11,14 @@ use Rattle.mot_lines.proofs.Laws.{listing_text-beside}
 use Rattle.mot_program.specs.Report.{IsReport, StopsChecking, clean_line, layout_line}
 use Rattle.mot_program.specs.Report.IsUnreported.{unprinted, unread}
 use Rattle.mot_outcome.proofs.Laws.{IfErr-one}
-use Rattle.mot_program.proofs.Ends.{calm_refused, rises_later}
+use Rattle.mot_program.proofs.Ends.{rises_later}
 use Rattle.mot_program.proofs.Ends.{still_unchanged}
 use Rattle.mot_program.proofs.checking.check_disk.Given as given
 use Rattle.mot_program.proofs.checking.check_disk.Goals as goal
 use Rattle.mot_program.proofs.checking.check_disk.Goals.{After-into_disk}
 use Rattle.mot_lines.specs.Listing.{listing_text_beside}
 use Rattle.mot_repository.specs.OnDisk.IsCheckRefusal.{failed, halted}
-use Rattle.mot_repository.specs.Opening.IsOpeningRefusal.{device}
+use Rattle.mot_journal.specs.Journal.IsReadingRefusal.{device}
 use Rattle.mot_repository.specs.Repository.{RepositoryView}
 use Rattle.mot_session.specs.Served.{WritesFront}
 use Rattle.mot_repository.proofs.Laws.{stands_where}
@@ -33,7 +32,7 @@ returns-in-Err-clause-refused g c =
     StopsChecking r old old (state c.args.disk) (state e.disk)))
     (sym c.unopened.ensures) (record {
       still = opens.only_syncs.still;
-      unreported = unread opens.refused (calm_refused _ _ _ opens.calm) (Keeps-refl _);
+      unreported = unread opens.refused opens.calm (Keeps-refl _);
     })
 
 -- nothing changed but that the disk was synced
@@ -136,6 +135,6 @@ returns-in-Err-is_clean-clause-refused g c =
         | halted on is same ↦ absurd (cc (on, opens.going))
         | failed off is rises ↦ unread (device is
             (rises_later _ _ _ opens.only_syncs.keeps.later calls.only_reads.keeps.later rises))
-            (λ other. absurd (other is)) (Keeps-refl _)
+            (inl is) (Keeps-refl _)
       ];
     })

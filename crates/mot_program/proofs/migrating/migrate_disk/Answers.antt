@@ -4,13 +4,14 @@ use Rattle.std.specs.Prelude.{IfErr}
 use Rattle.std.specs.Io.KnownBytes.{Appends}
 use Rattle.std.proofs.lemmas.Result.{on_ok_weaker}
 use Rattle.mot_journal.specs.Journal.{with_records}
+use Rattle.mot_numbers.specs.Refusal.{IsCalm}
 use Rattle.mot_repository.specs.Answers.IsMigrationRefusal.{failed, halted, no_memory}
-use Rattle.mot_repository.specs.Opening.IsOpeningRefusal.{device, no_memory as no_room}
+use Rattle.mot_journal.specs.Journal.IsReadingRefusal.{device, no_memory as no_room}
 use Rattle.mot_repository.specs.Repository.{IsOf}
-use Rattle.mot_program.specs.Report.{IsCalm, IsMigrated, StopsMigrating}
+use Rattle.mot_program.specs.Report.{IsMigrated, StopsMigrating}
 use Rattle.mot_program.specs.Report.StopsMigrating.{refused, unprinted}
 use Rattle.mot_outcome.proofs.Laws.{IfErr-one}
-use Rattle.mot_program.proofs.Ends.{calm_refused, rises_later}
+use Rattle.mot_program.proofs.Ends.{rises_later}
 use Rattle.mot_program.proofs.Ends.{still_unchanged}
 use Rattle.mot_program.proofs.Opened.{migrates_held, migrates_under, opened_throughout}
 use Rattle.mot_program.proofs.migrating.migrate_disk.Given as given
@@ -25,7 +26,7 @@ returns-in-Err-clause-refused g c =
     subst (λ (e : _). IfErr e.result (λ r.
     StopsMigrating r old old (state c.args.disk) (state e.disk)))
     (sym c.unopened.ensures) (refused opens.refused
-    (calm_refused _ _ _ opens.calm)
+    opens.calm
     (λ s honest each. opened_throughout (state c.args.disk) (state c.in-Err.refused.disk) (IsOf s)
     (g.met.D.Disk.sound c.args.disk (opens.only_syncs.keeps.was_honest honest)) each
     (opens.only_syncs.still honest))
@@ -91,10 +92,10 @@ returns-in-Err-migrate-clause-refused g c =
     let under = migrates_under state c.args.disk repository after g.met.D.Disk.sound
     opens.only_syncs
     opens.opened opens.going calls.keeps calls.any_moment in
-    let calm : IsCalm c.in-Err-migrate.refusal start (state after.disk) = λ other.
+    let calm : IsCalm c.in-Err-migrate.refusal start.failures (state after.disk).failures =
     elim calls.untouched [
-      | inl is ↦ absurd (other is)
-      | inr same ↦ ap (λ s. (state s.disk).failures) same ∙ opens.calm
+      | inl is ↦ inl is
+      | inr same ↦ inr (ap (λ s. (state s.disk).failures) same ∙ opens.calm)
     ] in
     subst (λ d. StopsMigrating c.in-Err-migrate.refusal old old start (state d))
     (sym c.into_disk-in-Err-migrate.ensures) (elim calls.refused [

@@ -2,10 +2,10 @@ use Rattle.std.proofs.Common.{◌≡◌, ◌⊎◌, IfErr, OnOk, Some, inl, inr,
 use Rattle.std.proofs.KnownBytes.{Keeps-refl}
 use Rattle.std.specs.Io.KnownBytes.{Keeps}
 use Rattle.mot_numbers.specs.declared.refusal.Refusal.TheVariants.{BadGeometry}
-use Rattle.mot_outcome.specs.Outcome.{IsRefused, IsUntold, Succeeds}
+use Rattle.mot_outcome.specs.Outcome.{IsRefused, IsUntold, Succeeds, UsesFiles}
 use Rattle.mot_outcome.specs.Outcome.IsRefused.{begun, no_task, unbegun}
-use Rattle.mot_program.specs.Program.{Does, DoesInPart, IsBeginningRefusal, UsesFiles}
-use Rattle.mot_program.specs.Program.UsesFiles.{asked}
+use Rattle.mot_outcome.specs.Outcome.UsesFiles.{asked}
+use Rattle.mot_program.specs.Program.{Does, DoesInPart, IsBeginningRefusal, UsesFor}
 use Rattle.mot_program.proofs.program.run_command.Goals as goal
 use Rattle.mot_words.specs.Program.Task.{IsTask}
 
@@ -55,18 +55,20 @@ pub returns-in-Ok-clause-files : goal.returns-in-Ok-clause-files
 returns-in-Ok-clause-files g c = λ words asks.
     let task = c.in-Some.task in
     let ends = c.execute-result.ensures in
-    subst (λ (e : _). UsesFiles words e.disk
-    (g.F.DiskFiles.opened c.args.files.now) (g.F.DiskFiles.opened c.execute-result.new.files)
-    (g.F.DiskFiles.taken_away c.args.files.now)
-    (g.F.DiskFiles.taken_away c.execute-result.new.files)) (sym c.unrefused.ensures)
-    (asked task ((asks task).1 c.in-Some.ensures.some) ends.opens ends.takes)
+    subst (λ (e : _). UsesFiles IsTask UsesFor words e.disk
+    (g.F.DiskFiles.opened c.args.files.now, g.F.DiskFiles.taken_away c.args.files.now) (
+      g.F.DiskFiles.opened c.execute-result.new.files,
+      g.F.DiskFiles.taken_away c.execute-result.new.files,
+    )) (sym c.unrefused.ensures)
+    (asked task ((asks task).1 c.in-Some.ensures.some) ends.files)
 
 pub returns-in-Err-clause-files : goal.returns-in-Err-clause-files
 returns-in-Err-clause-files g c = λ words asks.
     let task = c.in-Some.task in
     let ends = c.execute-result.ensures in
-    subst (λ (e : _). UsesFiles words e.disk
-    (g.F.DiskFiles.opened c.args.files.now) (g.F.DiskFiles.opened c.execute-result.new.files)
-    (g.F.DiskFiles.taken_away c.args.files.now)
-    (g.F.DiskFiles.taken_away c.execute-result.new.files)) (sym c.refuse-in-Err.ensures)
-    (asked task ((asks task).1 c.in-Some.ensures.some) ends.opens ends.takes)
+    subst (λ (e : _). UsesFiles IsTask UsesFor words e.disk
+    (g.F.DiskFiles.opened c.args.files.now, g.F.DiskFiles.taken_away c.args.files.now) (
+      g.F.DiskFiles.opened c.execute-result.new.files,
+      g.F.DiskFiles.taken_away c.execute-result.new.files,
+    )) (sym c.refuse-in-Err.ensures)
+    (asked task ((asks task).1 c.in-Some.ensures.some) ends.files)

@@ -10,8 +10,7 @@ begun : (g : given.Over) (c : goal.After-serve_disk-ended g)
     → IsNewInMemory c.args.geometry c.format.new.disk
 begun g c = record {
   valid = c.if-not-is_valid.ensures.0 refl;
-  formatted = λ image left. let r = c.in-Ok.ensures.ok tt image left in
-      record { stands = r.0; clean = r.1 };
+  formatted = c.in-Ok.ensures.makes.ok tt;
 }
 
 pub returns-clause-done : goal.returns-clause-done

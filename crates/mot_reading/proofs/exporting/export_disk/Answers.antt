@@ -27,7 +27,8 @@ returns-clause-done g c =
     let new = g.W.Write.contents c.write_export-result.new.writer in
     subst (λ d. OnOk result (Exports old new (state c.args.disk) (state d)))
     (sym c.into_disk.ensures)
-    (exports state c.args.disk c.in-Ok.server c.write_export-result.new.server g.met.D.Disk.sound
+    (exports state c.args.disk c.in-Ok.repository c.write_export-result.new.repository
+    g.met.D.Disk.sound
     opens.only_syncs opens.opened opens.going calls.only_reads old new result
     calls.written)
 
@@ -41,6 +42,7 @@ returns-clause-refused g c =
     let new = g.W.Write.contents c.write_export-result.new.writer in
     subst (λ d. IfErr result (λ r. StopsExporting r old new (state c.args.disk) (state d)))
     (sym c.into_disk.ensures)
-    (stops state c.args.disk c.in-Ok.server c.write_export-result.new.server g.met.D.Disk.sound
+    (stops state c.args.disk c.in-Ok.repository c.write_export-result.new.repository
+    g.met.D.Disk.sound
     opens.only_syncs opens.opened opens.going calls.only_reads old new result
     calls.written calls.fault)

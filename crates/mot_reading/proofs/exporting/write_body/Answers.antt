@@ -1,19 +1,20 @@
-use Rattle.std.proofs.Common.{◌≡◌, ◌+◌, ◌∙◌, refl, sym, subst, arith, take, length, length-take}
+use Rattle.std.proofs.Common.{◌≡◌, ◌<◌, ◌+◌, ◌∙◌, refl, sym, subst, arith, take, length}
+use Rattle.std.proofs.Common.{length-take}
 use Rattle.std.specs.Prelude.{slice_range}
 use Rattle.std.specs.Io.KnownBytes.{Appends}
 use Rattle.std.proofs.KnownBytes.{Appends-nil, Appends-trans}
 use Rattle.std.proofs.lemmas.List.{take_all}
 use Rattle.hex.specs.Hex.{encode_lower}
 use Rattle.std.proofs.lemmas.Result.{err_from_is_err_and}
-use Rattle.disk_model.proofs.Laws.{reads_none, reads_on}
+use Rattle.disk_model.proofs.Laws.{reads_none, reads_on, reads_once}
 use Rattle.mot_reading.proofs.Printed.{digits-more, digits-none, front-digits, front-piece}
 use Rattle.mot_reading.proofs.exporting.write_body.Goals as goal
 use Rattle.mot_repository.specs.Repository.{object_body}
-use Rattle.mot_server.proofs.Laws.{holds_still}
+use Rattle.mot_server.proofs.Laws.{body_length, holds_still}
 
 pub loop-from-init : goal.loop-from-init
 loop-from-init g c =
-    let state = g.D.Disk.state c.args.server.now.disk in
+    let state = g.D.Disk.state c.args.repository.now.disk in
     let known = g.W.Write.contents c.args.writer.now in
     record {
       within = omega arith;
@@ -25,17 +26,18 @@ loop-from-init g c =
 pub loop-from-preserved : goal.loop-from-preserved
 loop-from-preserved g c =
     let state = g.D.Disk.state in
-    let old = c.args.server.now in
-    let mid = c.loop-from.server in
+    let old = c.args.repository.now in
+    let mid = c.loop-from.repository in
     let new = c.read_body.new.self in
     let is = c.loop-from.invariant in
     let one = c.in_ok-read_body.ensures in
     record {
       within = let h = c.min-count.ensures in let t = c.loop-from-test.true in omega (arith, h, t);
-      reads = reads_on (state old.disk) (state mid.disk) (state new.disk) is.reads one.only_reads;
+      reads = reads_on (state old.disk) (state mid.disk) (state new.disk) is.reads
+          (reads_once (state mid.disk) (state new.disk) one.keeps one.unchanged);
       view = one.view ∙ is.view;
       written = λ s holds honest.
-          let was = one.only_reads.keeps.was_honest honest in
+          let was = one.keeps.was_honest honest in
           let held = holds_still old.view mid.view s (state old.disk) (state mid.disk) holds was
           (is.reads.unchanged was) is.view in
           let body = object_body s.carousel.objects c.args.place in
@@ -58,7 +60,10 @@ returns-clause-written g c = λ s holds honest.
     let body = object_body s.carousel.objects c.args.place in
     let within = c.loop-from.invariant.within in
     let end = c.loop-from-test.false in
-    let size = c.body_length-length.ensures.body s holds.agrees in
+    let r = c.args.repository.now in
+    let long = body_length r.view s holds.agrees c.body_count-bodies.ensures.paired c.args.place
+    (subst (λ n. c.args.place < n) c.body_count-bodies.ensures.value c.if-prove.false) in
+    let size = c.body_length-length.ensures.value ∙ sym long in
     let whole = take_all c.loop-from.from body (omega (arith, within, end, size)) in
     subst (λ l. Appends (g.W.Write.contents c.args.writer.now)
     (g.W.Write.contents c.loop-from.writer)
@@ -67,7 +72,7 @@ returns-clause-written g c = λ s holds honest.
 pub returns-in_err-read_body-clause-written : goal.returns-in_err-read_body-clause-written
 returns-in_err-read_body-clause-written g c = λ s holds honest.
     let p = err_from_is_err_and c.from_residual.result c.from_residual.ensures.1 in
-    let was = c.in_err-read_body.ensures.only_reads.keeps.was_honest honest in
+    let was = c.in_err-read_body.ensures.keeps.was_honest honest in
     rw p.1 (front-piece (object_body s.carousel.objects c.args.place) c.loop-from.from
     (g.W.Write.contents c.args.writer.now) (g.W.Write.contents c.loop-from.writer)
     (c.loop-from.invariant.written s holds was))
@@ -77,11 +82,11 @@ returns-in_err-write_digits-clause-written g c = λ s holds honest.
     let p = err_from_is_err_and c.from_residual-in_err-write_digits.result
     c.from_residual-in_err-write_digits.ensures.1 in
     let state = g.D.Disk.state in
-    let old = c.args.server.now in
-    let mid = c.loop-from.server in
+    let old = c.args.repository.now in
+    let mid = c.loop-from.repository in
     let is = c.loop-from.invariant in
     let one = c.in_ok-read_body.ensures in
-    let was = one.only_reads.keeps.was_honest honest in
+    let was = one.keeps.was_honest honest in
     let held = holds_still old.view mid.view s (state old.disk) (state mid.disk) holds was
     (is.reads.unchanged was) is.view in
     let body = object_body s.carousel.objects c.args.place in

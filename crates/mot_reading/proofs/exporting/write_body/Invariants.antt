@@ -9,10 +9,11 @@ use Rattle.mot_reading.proofs.exporting.write_body.Given as goal
 abbrev pub invariant-loop-from : goal.invariant-loop-from
 invariant-loop-from g l = record {
   within : l.from ≤ l.length;
-  reads : OnlyReads (g.D.Disk.state l.initial.server.disk) (g.D.Disk.state l.server.disk);
-  view : l.server.view ≡ l.initial.server.view;
-  written : (s : Standing) → Holds l.initial.server.view s (g.D.Disk.state l.initial.server.disk)
-      → (g.D.Disk.state l.server.disk).IsHonest
+  reads : OnlyReads (g.D.Disk.state l.initial.repository.disk) (g.D.Disk.state l.repository.disk);
+  view : l.repository.view ≡ l.initial.repository.view;
+  written : (s : Standing) → Holds l.initial.repository.view s
+      (g.D.Disk.state l.initial.repository.disk)
+      → (g.D.Disk.state l.repository.disk).IsHonest
       → Appends (g.W.Write.contents l.initial.writer) (g.W.Write.contents l.writer)
       (encode_lower (take l.from (object_body s.carousel.objects l.place)));
 }

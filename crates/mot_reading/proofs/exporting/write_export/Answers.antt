@@ -17,7 +17,7 @@ use Rattle.mot_session.specs.Served.{WritesFront}
 
 pub loop-place-init : goal.loop-place-init
 loop-place-init g c =
-    let state = g.D.Disk.state c.args.server.now.disk in
+    let state = g.D.Disk.state c.args.repository.now.disk in
     record {
       reads = reads_none state;
       view = refl;
@@ -28,9 +28,9 @@ pub loop-place-preserved : goal.loop-place-preserved
 loop-place-preserved g c =
     let state = g.D.Disk.state in
     let known = g.W.Write.contents in
-    let old = c.args.server.now in
-    let mid = c.loop-place.server in
-    let new = c.write_object.new.server in
+    let old = c.args.repository.now in
+    let mid = c.loop-place.repository in
+    let new = c.write_object.new.repository in
     let is = c.loop-place.invariant in
     let one = c.in_ok-write_object.ensures in
     record {
@@ -55,8 +55,8 @@ returns-in_err-write_object-clause-written g c = λ s holds honest.
     let p = err_from_is_err_and c.from_residual.result c.from_residual.ensures.1 in
     let state = g.D.Disk.state in
     let known = g.W.Write.contents in
-    let old = c.args.server.now in
-    let mid = c.loop-place.server in
+    let old = c.args.repository.now in
+    let mid = c.loop-place.repository in
     let is = c.loop-place.invariant in
     let one = c.in_err-write_object.ensures in
     let was = one.only_reads.keeps.was_honest honest in
@@ -77,7 +77,7 @@ returns-in_err-write_bytes-clause-written g c = λ s holds honest.
     let p = err_from_is_err_and c.from_residual-in_err-write_bytes.result
     c.from_residual-in_err-write_bytes.ensures.1 in
     let known = g.W.Write.contents in
-    let old = c.args.server.now in
+    let old = c.args.repository.now in
     let is = c.loop-place.invariant in
     let first = known c.args.writer.now in
     let mid = known c.loop-place.writer in
@@ -101,7 +101,7 @@ returns-in_err-write_bytes-clause-written g c = λ s holds honest.
 pub returns-in-Ok-clause-written : goal.returns-in-Ok-clause-written
 returns-in-Ok-clause-written g c = λ s holds honest.
     let known = g.W.Write.contents in
-    let old = c.args.server.now in
+    let old = c.args.repository.now in
     let is = c.loop-place.invariant in
     let first = known c.args.writer.now in
     let mid = known c.loop-place.writer in
@@ -124,7 +124,7 @@ returns-in-Ok-clause-written g c = λ s holds honest.
 pub returns-in-Err-clause-written : goal.returns-in-Err-clause-written
 returns-in-Err-clause-written g c = λ s holds honest.
     let known = g.W.Write.contents in
-    let old = c.args.server.now in
+    let old = c.args.repository.now in
     let is = c.loop-place.invariant in
     let first = known c.args.writer.now in
     let mid = known c.loop-place.writer in

@@ -9,10 +9,11 @@ use Rattle.mot_reading.proofs.exporting.write_export.Given as goal
 
 abbrev pub invariant-loop-place : goal.invariant-loop-place
 invariant-loop-place g l = record {
-  reads : OnlyReads (g.D.Disk.state l.initial.server.disk) (g.D.Disk.state l.server.disk);
-  view : l.server.view ≡ l.initial.server.view;
-  written : (s : Standing) → Holds l.initial.server.view s (g.D.Disk.state l.initial.server.disk)
-      → (g.D.Disk.state l.server.disk).IsHonest
+  reads : OnlyReads (g.D.Disk.state l.initial.repository.disk) (g.D.Disk.state l.repository.disk);
+  view : l.repository.view ≡ l.initial.repository.view;
+  written : (s : Standing) → Holds l.initial.repository.view s
+      (g.D.Disk.state l.initial.repository.disk)
+      → (g.D.Disk.state l.repository.disk).IsHonest
       → Appends (g.W.Write.contents l.initial.writer) (g.W.Write.contents l.writer)
       (flat_map put_line (take l.place s.carousel.objects));
 }

@@ -9,7 +9,7 @@ pub returns-in_err-write_bytes-clause-written : goal.returns-in_err-write_bytes-
 returns-in_err-write_bytes-clause-written g c = λ s o holds honest at.
     let p = err_from_is_err_and c.from_residual.result c.from_residual.ensures.1 in
     let known = g.W.Write.contents in
-    let view = c.args.server.now.view in
+    let view = c.args.repository.now.view in
     let x = c.index.result.now in
     let is = kept_at c.carousel.result.now view.carousel c.args.place x c.index.ensures
     c.carousel.ensures.value in
@@ -25,7 +25,7 @@ returns-in_err-write_body-clause-written g c = λ s o holds honest at.
     let p = err_from_is_err_and c.from_residual-in_err-write_body.result
     c.from_residual-in_err-write_body.ensures.1 in
     let known = g.W.Write.contents in
-    let view = c.args.server.now.view in
+    let view = c.args.repository.now.view in
     let x = c.index.result.now in
     let is = kept_at c.carousel.result.now view.carousel c.args.place x c.index.ensures
     c.carousel.ensures.value in
@@ -40,7 +40,7 @@ returns-in_err-write_body-clause-written g c = λ s o holds honest at.
 pub returns-clause-written : goal.returns-clause-written
 returns-clause-written g c = λ s o holds honest at.
     let known = g.W.Write.contents in
-    let view = c.args.server.now.view in
+    let view = c.args.repository.now.view in
     let x = c.index.result.now in
     let is = kept_at c.carousel.result.now view.carousel c.args.place x c.index.ensures
     c.carousel.ensures.value in

@@ -1,6 +1,6 @@
 use Rattle.std.proofs.Common.{sym, ap, ◌∙◌, inr}
 use Rattle.std.proofs.lemmas.Result.{err_from_is_err_and}
-use Rattle.mot_journal.specs.Catalogue.{catalogue_of}
+use Rattle.mot_journal.specs.Image.{catalogue_of}
 use Rattle.mot_numbers.specs.declared.geometry.Geometry.{Geometry}
 use Rattle.mot_repository.proofs.OpenDisk.{load_refused, fold_refused, is_in_order}
 use Rattle.mot_repository.proofs.OpenDisk.{fold_refused_same}

@@ -9,7 +9,7 @@ pub returns-clause-begins : goal.returns-clause-begins
 returns-clause-begins g c = λ honest none left.
     let first = g.E.Disk.state c.args.left in
     let opens = c.restart-restarted.ensures in
-    let time = c.format_from-formatted.ensures.any_moment honest none in
+    let time = c.format_from-formatted.ensures.makes.any_moment honest none in
     ⊎_elim
     (λ magic. if_ok _ _ c.restart-restarted.result
     (λ r opened still_honest.
@@ -17,7 +17,7 @@ returns-clause-begins g c = λ honest none left.
     (opened still_honest))) opens.opened)
     (λ made.
     let image : IsOf (standing_from c.args.geometry.now c.args.directory) first.bytes =
-    record { stands = made.0; clean = made.1 } in
+    record { stands = made.stands; clean = made.clean } in
     if_both_ok _ _ _ c.restart-restarted.result
     (λ r holds reads still_honest. (holds still_honest, reads still_honest))
     (opens.holds (standing_from c.args.geometry.now c.args.directory) image)
@@ -27,44 +27,20 @@ returns-clause-begins g c = λ honest none left.
 pub returns-clause-histories : goal.returns-clause-histories
 returns-clause-histories g c = histories_are
 
-pub returns-clause-keeps : goal.returns-clause-keeps
-returns-clause-keeps g c = c.format_from-formatted.ensures.keeps
-
-pub returns-clause-bad : goal.returns-clause-bad
-returns-clause-bad g c = c.format_from-formatted.ensures.bad
-
-pub returns-clause-small : goal.returns-clause-small
-returns-clause-small g c = c.format_from-formatted.ensures.small
-
-pub returns-clause-refused : goal.returns-clause-refused
-returns-clause-refused g c = c.format_from-formatted.ensures.refused
-
-pub returns-clause-untouched : goal.returns-clause-untouched
-returns-clause-untouched g c = c.format_from-formatted.ensures.untouched
-
-pub returns-clause-already : goal.returns-clause-already
-returns-clause-already g c = c.format_from-formatted.ensures.already
-
-pub returns-clause-already_only : goal.returns-clause-already_only
-returns-clause-already_only g c = c.format_from-formatted.ensures.already_only
-
-pub returns-clause-not_over : goal.returns-clause-not_over
-returns-clause-not_over g c = c.format_from-formatted.ensures.not_over
-
-pub returns-clause-any_moment : goal.returns-clause-any_moment
-returns-clause-any_moment g c = c.format_from-formatted.ensures.any_moment
-
-pub returns-clause-ok : goal.returns-clause-ok
-returns-clause-ok g c = c.format_from-formatted.ensures.ok
+pub returns-clause-makes : goal.returns-clause-makes
+returns-clause-makes g c = c.format_from-formatted.ensures.makes
 
 pub returns-clause-opens : goal.returns-clause-opens
 returns-clause-opens g c = λ honest left.
     let first = g.E.Disk.state c.args.left in
     on_ok c.format_from-formatted.result (λ made.
     let image : IsOf (standing_from c.args.geometry.now c.args.directory) first.bytes =
-    record { stands = (made first.bytes left).0; clean = (made first.bytes left).1 } in
+    record {
+      stands = (made first.bytes left).stands;
+      clean = (made first.bytes left).clean;
+    } in
     if_err _ _ c.restart-restarted.result
     (λ e refused still_honest. passing first (g.E.Disk.state e.disk)
     (standing_from c.args.geometry.now c.args.directory) e.refusal still_honest image refused)
     c.restart-restarted.ensures.refused)
-    (c.format_from-formatted.ensures.ok honest)
+    (c.format_from-formatted.ensures.makes.ok honest)

@@ -1,4 +1,4 @@
-use Rattle.std.proofs.Common.{◌≡◌, ◌⊎◌, ◌<◌, ℕ, List, true, inl, inr, Result, Ok, Err, ap, sym, ◌∙◌}
+use Rattle.std.proofs.Common.{◌≡◌, ◌⊎◌, ℕ, List, inl, inr, Result, Ok, Err, ap, sym, ◌∙◌}
 use Rattle.std.proofs.Common.{subst, refl, arith, []}
 use Rattle.std.proofs.lemmas.Result.{IfOk-from_err}
 use Rattle.disk_model.specs.Disk.{State}
@@ -7,37 +7,18 @@ use Rattle.disk_model.proofs.Laws.{keeps_on, stays}
 use Rattle.mot_journal.specs.declared.layout.Layout.{Layout}
 use Rattle.mot_journal.specs.declared.layout.Layout.TheVariants.{Two}
 use Rattle.mot_journal.specs.declared.record.Record.{Record}
-use Rattle.mot_journal.specs.Geometry.{has_magic}
 use Rattle.mot_journal.specs.Image.{DiskRecords, IsInLayoutTwo, records_of}
 use Rattle.mot_journal.specs.Journal.{NoneOrFrom, standing_from, with_records}
 use Rattle.mot_numbers.proofs.Laws.{same_error}
-use Rattle.mot_numbers.specs.Geometry.{IsValid, length_of}
-use Rattle.mot_numbers.specs.declared.geometry.Geometry.{Geometry}
 use Rattle.mot_numbers.specs.declared.refusal.Refusal.{Refusal}
-use Rattle.mot_numbers.specs.declared.refusal.Refusal.TheVariants.{BadGeometry, DiskTooSmall}
-use Rattle.mot_numbers.specs.declared.refusal.Refusal.TheVariants.{AlreadyFormatted, DeviceFault}
+use Rattle.mot_numbers.specs.declared.refusal.Refusal.TheVariants.{DeviceFault}
 use Rattle.mot_numbers.specs.declared.refusal.Refusal.TheVariants.{OutOfMemory}
 use Rattle.mot_repository.specs.Opening.{IsPassing}
 use Rattle.mot_repository.specs.Repository.{RepositoryView}
-use Rattle.mot_server.specs.Life.{IsFormatRefusal}
 use Rattle.mot_server.proofs.Survival.{passing}
 use Rattle.mot_server.proofs.Openings.{opened_holds}
 use Rattle.mot_server.proofs.Runs.{after_none, none_of}
 use Rattle.mot_server.proofs.life.format_and_open.Goals as goal
-
--- why a disk is not formatted, by cases of its refusal
-why : (g : Geometry) (old new : State) (refusal : Refusal)
-    → (refusal ≡ BadGeometry → IsValid g → ⊥)
-    → (refusal ≡ DiskTooSmall → old.len < length_of g)
-    → (refusal ≡ AlreadyFormatted → has_magic old.bytes ≡ true)
-    → (refusal ≡ BadGeometry) ⊎ (refusal ≡ DiskTooSmall) ⊎ (refusal ≡ AlreadyFormatted)
-    ⊎ ((refusal ≡ DeviceFault) × Rises old.failures new.failures)
-    → IsFormatRefusal g old new refusal
-why g old new refusal bad small already (inl e) = IsFormatRefusal.bad e (bad e)
-why g old new refusal bad small already (inr (inl e)) = IsFormatRefusal.small e (small e)
-why g old new refusal bad small already (inr (inr (inl e))) = IsFormatRefusal.already e (already e)
-why g old new refusal bad small already (inr (inr (inr fault))) =
-    IsFormatRefusal.passing (inr fault)
 
 -- a disk in layout 2 is opened so
 layout_two : (image : List ℕ) (view : RepositoryView) (records : List Record) → IsInLayoutTwo image
@@ -74,12 +55,7 @@ pub returns-in-Err-clause-begins : goal.returns-in-Err-clause-begins
 returns-in-Err-clause-begins g c = tt
 
 pub returns-in-Err-clause-refused : goal.returns-in-Err-clause-refused
-returns-in-Err-clause-refused g c = λ honest.
-    let state = g.D.Disk.state in
-    let is = c.in-Err.ensures in
-    why c.args.geometry.now (state c.args.disk) (state c.format_from.new.disk) c.in-Err.refusal
-    (λ e. is.bad.0 (ap Err e)) (λ e. (is.small.0 (ap Err e)).1)
-    (λ e. is.already_only honest (ap Err e)) is.refused
+returns-in-Err-clause-refused g c = λ honest. inl c.in-Err.ensures.makes.refused
 
 pub returns-in_err-server-clause-keeps : goal.returns-in_err-server-clause-keeps
 returns-in_err-server-clause-keeps g c =
@@ -113,13 +89,13 @@ returns-in_err-server-clause-refused g c =
     let failed = c.in_err-server.field-0.0 in
     rw (same_error c.from_residual.result failed c.from_residual.ensures.1) (λ honest.
     let was = opens.only_syncs.keeps.was_honest honest in
-    let made = c.in_default.ensures.ok was (state formatted).bytes
+    let made = c.in_default.ensures.makes.ok was (state formatted).bytes
     (g.met.D.Disk.sound formatted was).bytes in
-    IsFormatRefusal.passing (passing_since (state c.args.disk) (state formatted)
-    (state failed.disk) failed.refusal c.in_default.ensures.calm
+    inr (passing_since (state c.args.disk) (state formatted)
+    (state failed.disk) failed.refusal c.in_default.ensures.makes.calm
     (passing (state formatted) (state failed.disk) (standing_from c.args.geometry.now
     c.args.directory)
-    failed.refusal honest (record { stands = made.0; clean = made.1 }) opens.refused)))
+    failed.refusal honest (record { stands = made.stands; clean = made.clean }) opens.refused)))
 
 pub returns-clause-refused : goal.returns-clause-refused
 returns-clause-refused g c = tt
@@ -128,7 +104,7 @@ pub returns-clause-keeps : goal.returns-clause-keeps
 returns-clause-keeps g c =
     let state = g.D.Disk.state in
     keeps_on (state c.args.disk) (state c.format_from.new.disk) (state c.in_ok-server.server.disk)
-    c.format_from.ensures.keeps c.in_ok-server.ensures.only_syncs.keeps
+    c.format_from.ensures.makes.keeps c.in_ok-server.ensures.only_syncs.keeps
 
 pub returns-clause-holds : goal.returns-clause-holds
 returns-clause-holds g c = λ honest.
@@ -137,11 +113,11 @@ returns-clause-holds g c = λ honest.
     let formatted = c.format_from.new.disk in
     let server = c.in_ok-server.server in
     let was = opens.only_syncs.keeps.was_honest honest in
-    let made = c.in_default.ensures.ok was (state formatted).bytes
+    let made = c.in_default.ensures.makes.ok was (state formatted).bytes
     (g.met.D.Disk.sound formatted was).bytes in
     opened_holds (state formatted) (state server.disk) server.view
     (standing_from c.args.geometry.now c.args.directory)
-    (record { stands = made.0; clean = made.1 }) (opens.opened honest) honest
+    (record { stands = made.stands; clean = made.clean }) (opens.opened honest) honest
     (g.met.D.Disk.sound server.disk honest) (opens.only_syncs.still honest) opens.going
 
 pub returns-clause-any_moment : goal.returns-clause-any_moment
@@ -151,7 +127,7 @@ returns-clause-any_moment g c = λ honest blank.
     let was = opens.only_syncs.keeps.was_honest honest in
     stays (state c.args.disk) (state c.format_from.new.disk) (state c.in_ok-server.server.disk)
     (NoneOrFrom c.args.geometry.now c.args.directory)
-    (c.in_default.ensures.any_moment was blank) (opens.only_syncs.still honest).time
+    (c.in_default.ensures.makes.any_moment was blank) (opens.only_syncs.still honest).time
 
 pub returns-clause-layout : goal.returns-clause-layout
 returns-clause-layout g c = λ honest.
@@ -159,13 +135,13 @@ returns-clause-layout g c = λ honest.
     let opens = c.in_ok-server.ensures in
     let formatted = c.format_from.new.disk in
     let was = opens.only_syncs.keeps.was_honest honest in
-    let two = c.in_default.ensures.layout was (state formatted).bytes
-    (g.met.D.Disk.sound formatted was).bytes in
+    let two = (c.in_default.ensures.makes.ok was (state formatted).bytes
+    (g.met.D.Disk.sound formatted was).bytes).layout in
     let opened = opens.opened honest in
     layout_two (state formatted).bytes c.in_ok-server.server.view opened.records two opened.read
 
 pub returns-clause-calm : goal.returns-clause-calm
-returns-clause-calm g c = c.in_ok-server.ensures.calm ∙ c.in_default.ensures.calm
+returns-clause-calm g c = c.in_ok-server.ensures.calm ∙ c.in_default.ensures.makes.calm
 
 pub returns-clause-begins : goal.returns-clause-begins
 returns-clause-begins g c = λ honest. record {

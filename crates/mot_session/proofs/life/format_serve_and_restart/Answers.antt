@@ -28,9 +28,7 @@ returns-clause-told g c = λ honest.
     c.serve-end.result.lines c.serve-end.result.fault now_honest
     (done_stands state g0 c.args.directory [] [] opened has)
     (done_at state g0 c.args.directory [] [] opened has) serve.faults
-    (λ is. let e = serve.ended is in (e.0, e.1, e.2, e.3, e.5))
-    (λ is. let e = serve.unread is in (e.0, e.1, e.2, e.4))
-    (λ is. let e = serve.unwritten is in (e.0, e.1, some_of e.2))
+    serve.ended serve.unread (λ is. let e = serve.unwritten is in (e.0, e.1, some_of e.2))
     serve.none in
     let result = c.first_turn-after_crash.result in
     let reads = c.first_turn-after_crash.ensures.reads in
@@ -81,9 +79,7 @@ returns-clause-opens g c = λ honest may.
     now_honest
     (done_stands state g0 c.args.directory [] [] c.in_ok-server.server has)
     (done_at state g0 c.args.directory [] [] c.in_ok-server.server has) serve.faults
-    (λ is. let e = serve.ended is in (e.0, e.1, e.2, e.3, e.5))
-    (λ is. let e = serve.unread is in (e.0, e.1, e.2, e.4))
-    (λ is. let e = serve.unwritten is in (e.0, e.1, some_of e.2))
+    serve.ended serve.unread (λ is. let e = serve.unwritten is in (e.0, e.1, some_of e.2))
     serve.none in
     let stands = all.6.at_end first.bytes
     (subst (λ d. (state d).MayLeave first.bytes) c.into_disk.ensures may) in
@@ -110,9 +106,7 @@ returns-clause-opens_before g c = λ honest blank left.
     (g.W.Write.contents c.serve-end.new.writer) c.serve-end.result.lines c.serve-end.result.fault
     now_honest (done_stands state g0 c.args.directory [] [] opened has)
     (done_at state g0 c.args.directory [] [] opened has) serve.faults
-    (λ is. let e = serve.ended is in (e.0, e.1, e.2, e.3, e.5))
-    (λ is. let e = serve.unread is in (e.0, e.1, e.2, e.4))
-    (λ is. let e = serve.unwritten is in (e.0, e.1, some_of e.2))
+    serve.ended serve.unread (λ is. let e = serve.unwritten is in (e.0, e.1, some_of e.2))
     serve.none in
     let time = c.in_ok-server.ensures.any_moment open_honest blank in
     let left_new = subst (λ d. (state d).LeftSince (state c.args.disk).moment first.bytes)

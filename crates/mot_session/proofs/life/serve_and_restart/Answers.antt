@@ -23,9 +23,7 @@ returns-clause-in_a_row g c = λ geometry first_id done has honest.
     c.serve-end.result.lines c.serve-end.result.fault honest
     (done_stands state geometry first_id done [] opened has)
     (done_at state geometry first_id done [] opened has) serve.faults
-    (λ is. let e = serve.ended is in (e.0, e.1, e.2, e.3, e.5))
-    (λ is. let e = serve.unread is in (e.0, e.1, e.2, e.4))
-    (λ is. let e = serve.unwritten is in (e.0, e.1, some_of e.2))
+    serve.ended serve.unread (λ is. let e = serve.unwritten is in (e.0, e.1, some_of e.2))
     serve.none in
     let result = c.restart-restarted.result in
     let restarts = c.restart-restarted.ensures in
@@ -62,9 +60,7 @@ returns-clause-opens g c = λ geometry first_id done has honest left.
     c.serve-end.result.lines c.serve-end.result.fault honest
     (done_stands state geometry first_id done [] opened has)
     (done_at state geometry first_id done [] opened has) serve.faults
-    (λ is. let e = serve.ended is in (e.0, e.1, e.2, e.3, e.5))
-    (λ is. let e = serve.unread is in (e.0, e.1, e.2, e.4))
-    (λ is. let e = serve.unwritten is in (e.0, e.1, some_of e.2))
+    serve.ended serve.unread (λ is. let e = serve.unwritten is in (e.0, e.1, some_of e.2))
     serve.none in
     let stands = kept_first (λ t sure others.
     HoldsSince (state new.disk) t (standing_from geometry first_id) sure others)

@@ -2,8 +2,7 @@ use Rattle.std.proofs.Common.{◌≡◌, List, ℕ, ◌+◌, ◌<◌, ◌≤◌,
 use Rattle.std.proofs.Common.{Fits, append_assoc, length, length-append, w64, ◌^◌}
 use Rattle.std.proofs.lemmas.Result.{err_from_is_err_and}
 use Rattle.mot_session.proofs.Requests.{goes_on-more, goes_on-none}
-use Rattle.mot_session.proofs.Taken.{Taken, taken_none, taken_within, taken_line}
-use Rattle.mot_session.proofs.Taken.{stopped_there, some_there}
+use Rattle.mot_session.proofs.Taken.{Taken, some_there, taken_none, taken_within, taken_line}
 use Rattle.mot_session.proofs.serving.answer_chunk.Given as given
 use Rattle.mot_session.proofs.serving.answer_chunk.Goals as goal
 use Rattle.mot_session.proofs.serving.answer_chunk.Goals.{After-as_slice, After-add-2}
@@ -67,7 +66,7 @@ loop-line-preserved g c =
       taken = (
         front g here ++ 10 ∷ [],
         append_assoc (front g here) (10 ∷ []) c.in-Some.next.now ∙ (parts g here).1,
-        taken_line (taken g here) c.as_slice.ensures.asks g.met.D.Disk.sound one c.clear.ensures,
+        taken_line (taken g here) c.as_slice.ensures.asks one c.clear.ensures,
       );
     }
 
@@ -83,18 +82,11 @@ overflow_add-lines g c =
     (shorter rest c.in-Some.line.now next c.in-Some.ensures.parts) c.loop-line.invariant.bound
     c.requires
 
-pub returns-in_err-serve_line-clause-err : goal.returns-in_err-serve_line-clause-err
-returns-in_err-serve_line-clause-err g c =
-    let here = (goal.at.returns-in_err-serve_line-clause-err g c).After-as_slice in
-    rw (err_from_is_err_and c.from_residual.result c.from_residual.ensures.1).1
-    (stopped_there (taken g here) c.as_slice.ensures.asks g.met.D.Disk.sound (parts g here)
-    c.in_err-serve_line.ensures.broken)
-
 pub returns-in_err-serve_line-clause-some : goal.returns-in_err-serve_line-clause-some
 returns-in_err-serve_line-clause-some g c =
     let here = (goal.at.returns-in_err-serve_line-clause-some g c).After-as_slice in
     rw (err_from_is_err_and c.from_residual.result c.from_residual.ensures.1).1
-    (some_there (taken g here) c.as_slice.ensures.asks g.met.D.Disk.sound (parts g here)
+    (some_there (taken g here) c.as_slice.ensures.asks (parts g here)
     c.in_err-serve_line.ensures.broken)
 
 -- the whole chunk was taken
@@ -109,9 +101,6 @@ all_taken g c =
 pub returns-clause-hand : goal.returns-clause-hand
 returns-clause-hand g c = (all_taken g (goal.at.returns-clause-hand g c).After-add-2).in_hand
 
-pub returns-clause-ok : goal.returns-clause-ok
-returns-clause-ok g c = (all_taken g (goal.at.returns-clause-ok g c).After-add-2).served
-
 pub returns-clause-each : goal.returns-clause-each
 returns-clause-each g c = (all_taken g (goal.at.returns-clause-each g c).After-add-2).each
 
@@ -121,10 +110,6 @@ returns-in_err-serve_line-clause-bound g c =
 
 pub returns-in_err-serve_line-clause-hand : goal.returns-in_err-serve_line-clause-hand
 returns-in_err-serve_line-clause-hand g c =
-    rw (err_from_is_err_and c.from_residual.result c.from_residual.ensures.1).1 tt
-
-pub returns-in_err-serve_line-clause-ok : goal.returns-in_err-serve_line-clause-ok
-returns-in_err-serve_line-clause-ok g c =
     rw (err_from_is_err_and c.from_residual.result c.from_residual.ensures.1).1 tt
 
 pub returns-in_err-serve_line-clause-each : goal.returns-in_err-serve_line-clause-each
@@ -147,9 +132,6 @@ returns-clause-bound g c =
 
 pub returns-clause-goes : goal.returns-clause-goes
 returns-clause-goes g c = c.loop-line.invariant.goes
-
-pub returns-clause-err : goal.returns-clause-err
-returns-clause-err g c = tt
 
 pub returns-clause-some : goal.returns-clause-some
 returns-clause-some g c = tt

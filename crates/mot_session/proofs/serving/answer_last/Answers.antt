@@ -3,9 +3,6 @@ use Rattle.std.proofs.Common.{length-append, inl, inr, refl}
 use Rattle.std.proofs.lemmas.Bool.{both_ways}
 use Rattle.mot_lines.specs.Lines.{whole_lines, rest_of, lines_of}
 use Rattle.mot_lines.proofs.Laws.{lines_of-ended, lines_of-begun}
-use Rattle.mot_session.specs.Served.{Served}
-use Rattle.mot_session.specs.State.{state_of}
-use Rattle.mot_session.proofs.Runs.{Served-push, Stopped-here}
 use Rattle.mot_session.specs.LineByLine.{ServesEach}
 use Rattle.mot_session.proofs.Each.{each-more, some-here}
 use Rattle.mot_session.proofs.Ends.{fault_of_end, not_none}
@@ -34,62 +31,10 @@ returns-then-is_empty-clause-lines g c = λ none input is.
     let e = all_ended g (goal.at.returns-then-is_empty-clause-lines g c).Then-is_empty input is in
     is.counted ∙ ap length (sym e)
 
-pub returns-then-is_empty-clause-ended : goal.returns-then-is_empty-clause-ended
-returns-then-is_empty-clause-ended g c = λ none before old input is s stands honest.
-    let state = g.D.Disk.state c.args.server.now.disk in
-    let e = all_ended g (goal.at.returns-then-is_empty-clause-ended g c).Then-is_empty input is in (
-      s,
-      stands,
-      λ served. subst (λ l. Served state before (state_of c.args.server.now s state) l old
-          (g.W.Write.contents c.args.writer.now)) (sym e) served,
-    )
-
 pub returns-in-Ok-clause-lines : goal.returns-in-Ok-clause-lines
 returns-in-Ok-clause-lines g c = λ none input is.
     let e = last_begun g (goal.at.returns-in-Ok-clause-lines g c).Else-is_empty input is in
     let n = is.counted in rw (e, length-append) (omega arith)
-
-pub returns-in-Ok-clause-ended : goal.returns-in-Ok-clause-ended
-returns-in-Ok-clause-ended g c = λ none before old input is s stands honest.
-    let state = g.D.Disk.state in
-    let mid = c.args.server.now in
-    let new = c.serve_line.new.server in
-    let e = last_begun g (goal.at.returns-in-Ok-clause-ended g c).Else-is_empty input is in
-    let one = c.in-Ok.ensures.answered in
-    let whole = ServesOne-of_line c.as_slice.result.now (rest_of input)
-    (c.as_slice.ensures.asks (rest_of input) is.rest) state mid new _ _ one in
-    let was = one.goes.keeps.was_honest honest in
-    let a = whole.answered s stands honest in (
-      a.0,
-      a.1,
-      λ served. subst (λ l. Served (state new.disk) before (state_of new a.0 (state new.disk)) l old
-          (g.W.Write.contents c.serve_line.new.writer)) (sym e)
-          (Served-push mid new s a.0 (state mid.disk) (state new.disk)
-          (g.met.D.Disk.sound mid.disk was) (g.met.D.Disk.sound new.disk honest) a.1 before
-          (whole_lines input) (rest_of input) old _ _ served a.2
-          (λ halted. (one.goes.halted halted).1 honest)),
-    )
-
-pub returns-in-Err-clause-unwritten : goal.returns-in-Err-clause-unwritten
-returns-in-Err-clause-unwritten g c = λ fault before old input is.
-    let state = g.D.Disk.state in
-    let mid = c.args.server.now in
-    let new = c.serve_line.new.server in
-    let e = last_begun g (goal.at.returns-in-Err-clause-unwritten g c).Else-is_empty input is in
-    rw c.ended.ensures (λ s stands honest.
-    let one = c.in-Err.ensures.broken in
-    let cut = BreaksOff-of_line c.as_slice.result.now (rest_of input)
-    (c.as_slice.ensures.asks (rest_of input) is.rest) state mid new _ _ one in
-    let was = one.goes.keeps.was_honest honest in
-    let a = cut.broken s stands honest in (
-      a.0,
-      a.1,
-      λ served. Stopped-here mid new s a.0 (state mid.disk) (state new.disk)
-          (g.met.D.Disk.sound mid.disk was) (g.met.D.Disk.sound new.disk honest) a.1 before
-          (whole_lines input)
-          (rest_of input) old _ _ served a.2 (λ halted. (one.goes.halted halted).1 honest)
-          c.args.lines is.counted (lines_of input) [] e,
-    ))
 
 pub returns-then-is_empty-clause-each : goal.returns-then-is_empty-clause-each
 returns-then-is_empty-clause-each g c = λ none first old input is each.
@@ -120,17 +65,11 @@ returns-in-Err-clause-some g c = λ fault first old input is each.
 pub returns-then-is_empty-clause-fault : goal.returns-then-is_empty-clause-fault
 returns-then-is_empty-clause-fault g c = inl refl
 
-pub returns-then-is_empty-clause-unwritten : goal.returns-then-is_empty-clause-unwritten
-returns-then-is_empty-clause-unwritten g c = λ fault. absurd (not_none (sym fault))
-
 pub returns-then-is_empty-clause-some : goal.returns-then-is_empty-clause-some
 returns-then-is_empty-clause-some g c = λ fault. absurd (not_none (sym fault))
 
 pub returns-in-Ok-clause-fault : goal.returns-in-Ok-clause-fault
 returns-in-Ok-clause-fault g c = inl refl
-
-pub returns-in-Ok-clause-unwritten : goal.returns-in-Ok-clause-unwritten
-returns-in-Ok-clause-unwritten g c = λ fault. absurd (not_none (sym fault))
 
 pub returns-in-Ok-clause-some : goal.returns-in-Ok-clause-some
 returns-in-Ok-clause-some g c = λ fault. absurd (not_none (sym fault))
@@ -144,10 +83,6 @@ returns-in-Ok-clause-goes g c = c.in-Ok.ensures.answered.goes
 
 pub returns-in-Err-clause-lines : goal.returns-in-Err-clause-lines
 returns-in-Err-clause-lines g c = λ none.
-    absurd (not_none (sym (fault_of_end _ _ _ c.ended.ensures) ∙ none))
-
-pub returns-in-Err-clause-ended : goal.returns-in-Err-clause-ended
-returns-in-Err-clause-ended g c = λ none.
     absurd (not_none (sym (fault_of_end _ _ _ c.ended.ensures) ∙ none))
 
 pub returns-in-Err-clause-each : goal.returns-in-Err-clause-each

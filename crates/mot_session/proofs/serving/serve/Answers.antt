@@ -6,13 +6,12 @@ use Rattle.std.specs.Io.KnownBytes.{Consumes, Keeps}
 use Rattle.std.proofs.KnownBytes.{Consumes-nil, Consumes-trans}
 use Rattle.mot_session.specs.declared.serving.TheConstants.{READ_SIZE}
 use Rattle.mot_session.specs.Served.{TakesInput}
-use Rattle.mot_session.specs.State.{state_of}
 use Rattle.mot_session.proofs.SessionLaws.{session-laws}
 use Rattle.mot_session.proofs.Each.{each-none}
 use Rattle.mot_session.proofs.Ends.{fault_of_end, lines_of_end, not_none}
 use Rattle.mot_session.proofs.Ends.{memory_not_read, memory_not_write, read_not_write}
 use Rattle.mot_session.proofs.Requests.{goes_on-more, goes_on-none}
-use Rattle.mot_session.proofs.Runs.{InHand-none, Served-none}
+use Rattle.mot_session.proofs.Runs.{InHand-none}
 use Rattle.mot_session.proofs.serving.serve.Goals as goal
 
 -- a read of nothing
@@ -53,27 +52,19 @@ same_known (Some xs) = refl
 
 pub loop-init : goal.loop-init
 loop-init g c =
-    let server = c.args.server.now in
-    let state = g.D.Disk.state server.disk in record {
+    let server = c.args.server.now in record {
       bound = omega arith;
-      goes = goes_on-none server state;
+      goes = goes_on-none server (g.D.Disk.state server.disk);
       taken = (
         [],
         record { consumed = Consumes-nil _; bounded = omega arith },
         InHand-none _ c.in-Ok.ensures,
-        λ s stands honest. (
-          s,
-          stands,
-          Served-none server s state (g.W.Write.contents c.args.writer.now) stands
-              (λ so. g.met.D.Disk.sound server.disk so) honest,
-        ),
         each-none g.D.Disk.state server (g.W.Write.contents c.args.writer.now),
       );
     }
 
 pub returns-then-count-eq0-clause-ended : goal.returns-then-count-eq0-clause-ended
 returns-then-count-eq0-clause-ended g c = λ none.
-    let state = g.D.Disk.state in
     let t = c.loop.invariant.taken in
     let r = c.in-Ok-read.ensures.bytes in
     let more = c.loop-test.true in
@@ -84,18 +75,11 @@ returns-then-count-eq0-clause-ended g c = λ none.
           c.if-count-eq0.true),
       r.1 c.if-count-eq0.true (omega arith),
       c.answer_last.ensures.lines none t.0 t.2,
-      λ s stands honest.
-          let was = c.answer_last.ensures.goes.keeps.was_honest honest in
-          let mid = t.3 s stands was in
-          let last = c.answer_last.ensures.ended none (state_of first s (state first.disk))
-          (g.W.Write.contents c.args.writer.now) t.0 t.2 mid.0 mid.1 honest in
-          (last.0, last.1, last.2 mid.2),
-      c.answer_last.ensures.each none first (g.W.Write.contents c.args.writer.now) t.0 t.2 t.4,
+      c.answer_last.ensures.each none first (g.W.Write.contents c.args.writer.now) t.0 t.2 t.3,
     )
 
 pub returns-then-count-eq0-clause-unwritten : goal.returns-then-count-eq0-clause-unwritten
 returns-then-count-eq0-clause-unwritten g c = λ fault.
-    let state = g.D.Disk.state in
     let t = c.loop.invariant.taken in
     let r = c.in-Ok-read.ensures.bytes in
     let more = c.loop-test.true in
@@ -106,20 +90,13 @@ returns-then-count-eq0-clause-unwritten g c = λ fault.
           c.if-count-eq0.true),
       inr (
         r.1 c.if-count-eq0.true (omega arith),
-        λ s stands honest.
-            let was = c.answer_last.ensures.goes.keeps.was_honest honest in
-            let mid = t.3 s stands was in
-            let last = c.answer_last.ensures.unwritten fault (state_of first s (state first.disk))
-            (g.W.Write.contents c.args.writer.now) t.0 t.2 mid.0 mid.1 honest in
-            (last.0, last.1, last.2 mid.2),
-        c.answer_last.ensures.some fault first (g.W.Write.contents c.args.writer.now) t.0 t.2 t.4,
+        c.answer_last.ensures.some fault first (g.W.Write.contents c.args.writer.now) t.0 t.2 t.3,
       ),
     )
 
 pub returns-in_default-answer_chunk-clause-unwritten :
     goal.returns-in_default-answer_chunk-clause-unwritten
 returns-in_default-answer_chunk-clause-unwritten g c = λ fault.
-    let state = g.D.Disk.state in
     let t = c.loop.invariant.taken in
     let r = c.in-Ok-read.ensures.bytes in
     let m = c.in-Ok-read.ensures.bound in
@@ -130,16 +107,8 @@ returns-in_default-answer_chunk-clause-unwritten g c = λ fault.
       read_more c.loop.counter c.args.reads _ _ _ t.0 (take c.in-Ok-read.count c.read.new.buf)
           (omega (arith, more))
           (omega (arith, length-take c.in-Ok-read.count c.read.new.buf, m.0, m.1)) t.1 r.0,
-      inl (
-        λ s stands honest.
-            let was = c.in_default-answer_chunk.ensures.goes.keeps.was_honest honest in
-            let mid = t.3 s stands was in
-            let last = c.in_default-answer_chunk.ensures.err (state_of first s (state first.disk))
-            (g.W.Write.contents c.args.writer.now) t.0 t.2 mid.0 mid.1 honest in
-            (last.0, last.1, last.2 mid.2),
-        c.in_default-answer_chunk.ensures.some first (g.W.Write.contents c.args.writer.now)
-            t.0 t.2 t.4,
-      ),
+      inl (c.in_default-answer_chunk.ensures.some first (g.W.Write.contents c.args.writer.now)
+          t.0 t.2 t.3),
     )
 
 pub loop-preserved : goal.loop-preserved
@@ -166,13 +135,7 @@ loop-preserved g c =
             (take c.in-Ok-read.count c.read.new.buf) (omega arith)
             (omega (arith, length-take c.in-Ok-read.count c.read.new.buf, m.0, m.1)) t.1 r.0,
         one.hand t.0 t.2,
-        λ s stands honest.
-            let was = one.goes.keeps.was_honest honest in
-            let mid = t.3 s stands was in
-            let last = one.ok (state_of first s (state first.disk))
-            (g.W.Write.contents c.args.writer.now) t.0 t.2 mid.0 mid.1 honest in
-            (last.0, last.1, last.2 mid.2),
-        one.each first (g.W.Write.contents c.args.writer.now) t.0 t.2 t.4,
+        one.each first (g.W.Write.contents c.args.writer.now) t.0 t.2 t.3,
       );
     }
 
@@ -271,7 +234,6 @@ returns-in_default-read-clause-unread g c = λ read.
           (unmoved _ _ _ t.0 t.1.consumed c.in_default-read.ensures.bytes),
       lines_of_end _ _ _ c.ended-in_default-read.ensures ∙ t.2.counted,
       t.3,
-      t.4,
     )
 
 pub returns-clause-unread : goal.returns-clause-unread
@@ -281,7 +243,6 @@ returns-clause-unread g c = λ read.
       allowed c.loop.counter c.args.reads _ _ _ t.0 (omega arith) t.1 t.1.consumed,
       lines_of_end _ _ _ c.ended-2.ensures ∙ t.2.counted,
       t.3,
-      t.4,
     )
 
 pub returns-in_default-answer_chunk-clause-unread :

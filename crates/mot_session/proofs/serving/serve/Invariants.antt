@@ -3,8 +3,7 @@ use Rattle.mot_lines.specs.Lines.{whole_lines}
 use Rattle.mot_session.specs.declared.serving.TheConstants.{READ_SIZE}
 use Rattle.mot_session.specs.Inner.InHand.{InHand}
 use Rattle.mot_session.specs.LineByLine.{GoesOn, ServesEach}
-use Rattle.mot_session.specs.Served.{Served, TakesInput}
-use Rattle.mot_session.specs.State.{Leads}
+use Rattle.mot_session.specs.Served.{TakesInput}
 use Rattle.mot_session.proofs.serving.serve.Given as goal
 
 abbrev pub invariant-loop : goal.invariant-loop
@@ -16,10 +15,6 @@ invariant-loop g l =
           × TakesInput l.counter (g.R.Read.remaining l.fn.reader)
           (g.R.Read.remaining l.reader) input
           × InHand input l.hand l.lines
-          × Leads (g.D.Disk.state) l.fn.server l.server
-          (λ before after. Served (state l.server.disk)
-          before after (whole_lines input) (g.W.Write.contents l.fn.writer)
-          (g.W.Write.contents l.writer))
-          × ServesEach (g.D.Disk.state) l.fn.server (whole_lines input) l.server
+          × ServesEach state l.fn.server (whole_lines input) l.server
           (g.W.Write.contents l.fn.writer) (g.W.Write.contents l.writer);
     }

@@ -10,6 +10,7 @@ returns c =
     (codes "A file that the last look refused, and why.") in
     on_ok_weaker c.add_samples.result (λ more. (
       more.0,
+      more.1,
       join c.args.text.now.items c.add_head.new.text.items c.add_samples.new.text.items head
-          (flat_map (refused_sample c.args.disk.now) more.0) c.in_ok-add_head.ensures more.1,
+          (flat_map (refused_sample c.args.disk.now) more.0) c.in_ok-add_head.ensures more.2,
     )) c.add_samples.ensures

@@ -15,11 +15,12 @@ returns c =
     let new = c.add_refused.new.text.items in
     on_ok_weaker c.add_refused.result (λ more. (
       more.0,
+      more.1,
       subst (λ (v : List ℕ). new ≡ rows ++ version_text disk v ++ refused_text disk more.0)
           c.as_bytes.ensures.value
           (join none old new (rows ++ version) (refused_text disk more.0)
           (join none c.add_figures.new.text.items old rows version c.in_ok-add_figures.ensures
-          c.in_ok-add_version.ensures) more.1
+          c.in_ok-add_version.ensures) more.2
           ∙ ap (λ (l : List ℕ). l ++ (rows ++ version ++ refused_text disk more.0))
           c.clear.ensures.items),
     )) c.add_refused.ensures

@@ -1,17 +1,18 @@
-use Rattle.std.proofs.Common.{Some, None}
+use Rattle.std.proofs.Common.{Some, None, arith, inl, inr}
 use Rattle.std.proofs.KnownBytes.{Keeps-refl}
-use Rattle.mot_control.proofs.Between.{updating_any, updating_on}
+use Rattle.mot_control.proofs.Between.{updating_alone, updating_then}
 use Rattle.mot_control.proofs.Taken.{takes_none}
 use Rattle.mot_control.proofs.lines.LinesUpdate.update.Goals as goal
 use Rattle.mot_numbers.proofs.Laws.{same_error}
 use Rattle.mot_server.specs.Attempts.{fault_of}
+use Rattle.mot_update.proofs.Laws.{not_none}
 
 pub returns-in_err-update-clause-run : goal.returns-in_err-update-clause-run
 returns-in_err-update-clause-run g c =
     let refusal = c.in_err-update.field-0.0 in
     rw (same_error c.from_residual.result refusal c.from_residual.ensures.1) (λ s holds honest.
-    updating_any g.D.Disk.state c.args.server.now c.update.new.server s (Some refusal)
-    (c.in_err-update.ensures.run s holds honest))
+    updating_alone g.D.Disk.state _ c.args.self.now.left c.args.self.now.hand _ _ c.args.server.now c.update.new.server s
+    (Some refusal) (inr (not_none refusal)) (c.in_err-update.ensures.run s holds honest))
 
 pub returns-in_err-update-clause-lines : goal.returns-in_err-update-clause-lines
 returns-in_err-update-clause-lines g c = λ input hand.
@@ -27,8 +28,8 @@ returns-in_err-update-clause-lines g c = λ input hand.
 
 pub returns-then-self-gt0-clause-run : goal.returns-then-self-gt0-clause-run
 returns-then-self-gt0-clause-run g c = λ s holds honest.
-    updating_any g.D.Disk.state c.args.server.now c.update.new.server s None
-    (c.in_ok-update.ensures.run s holds honest)
+    updating_alone g.D.Disk.state _ c.args.self.now.left c.args.self.now.hand _ _ c.args.server.now c.update.new.server s
+    None (inl c.if-self-gt0.true) (c.in_ok-update.ensures.run s holds honest)
 
 pub returns-then-self-gt0-clause-lines : goal.returns-then-self-gt0-clause-lines
 returns-then-self-gt0-clause-lines g c = λ input hand.
@@ -45,7 +46,8 @@ returns-then-self-gt0-clause-lines g c = λ input hand.
 pub returns-clause-run : goal.returns-clause-run
 returns-clause-run g c = λ s holds honest.
     let then = c.answer_there.ensures in
-    updating_on g.D.Disk.state c.args.server.now c.update.new.server c.answer_there.new.server s _
+    updating_then g.D.Disk.state _ c.args.self.now.left _ _ _ _ c.args.server.now c.update.new.server
+    c.answer_there.new.server s _ (omega (arith, c.if-self-gt0.false))
     (c.in_ok-update.ensures.run s holds (then.keeps.was_honest honest))
     (λ t held. then.run t held honest)
 

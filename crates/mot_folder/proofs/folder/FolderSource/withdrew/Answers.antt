@@ -1,4 +1,4 @@
-use Rattle.std.proofs.Common.{[], codes, subst, take}
+use Rattle.std.proofs.Common.{[], None, codes, subst, take}
 use Rattle.mot_folder.specs.Log.{TellsOne, entry}
 use Rattle.mot_folder.proofs.Taken.{look_on, of_answer}
 use Rattle.mot_folder.proofs.folder.FolderSource.withdrew.Goals as goal
@@ -13,6 +13,6 @@ returns-clause-told g c =
     look_on types (g.S.Shelf.path self.shelf) names given given self.place self.place self.report
     c.answered.new.self _ [] (λ is. is)
     (of_answer types given self.report c.answered.new.self (take self.place names)
-    (Withdrew c.args.name.now c.args.attempt)
+    (Withdrew c.args.name.now c.args.attempt) None
     (subst (λ n. TellsOne self.report c.answered.new.self
     (entry (codes "withdraw") n c.args.attempt)) c.as_bytes.ensures.value c.answered.ensures.told))

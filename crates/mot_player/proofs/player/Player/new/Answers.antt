@@ -8,6 +8,7 @@ use Rattle.mot_player.specs.Turn.{Turn}
 use Rattle.mot_player.proofs.Continuous.{steps-are-continuous}
 use Rattle.mot_player.proofs.Ending.{turns-end}
 use Rattle.mot_player.proofs.GoesOn.{changes-go_on, requests-go_on}
+use Rattle.mot_player.proofs.TurnOnce.{turns-read-with_directories}
 use Rattle.mot_player.proofs.WholeTurn.{turns_read_as_their_carousels}
 use Rattle.mot_player.proofs.Segments.{segments_from-end}
 use Rattle.mot_player.proofs.Rounds.{rounds_are_continuous}
@@ -42,6 +43,9 @@ returns-clause-changes c = changes-go_on
 
 pub returns-clause-turns : goal.returns-clause-turns
 returns-clause-turns c = turns_read_as_their_carousels
+
+pub returns-clause-turns_with_directories : goal.returns-clause-turns_with_directories
+returns-clause-turns_with_directories c = turns-read-with_directories
 
 pub returns-clause-turns_end : goal.returns-clause-turns_end
 returns-clause-turns_end c = turns-end

@@ -5,7 +5,8 @@ use Rattle.disk_model.specs.Disk.{WritesWithin}
 use Rattle.disk_model.specs.Failures.{HasCause}
 use Rattle.disk_model.proofs.Laws.{weakens, keeps_all_on}
 use Rattle.mot_journal.specs.declared.record.Record.{Record}
-use Rattle.mot_journal.specs.Catalogue.{Catalogue, catalogue_of}
+use Rattle.mot_journal.specs.Image.{catalogue_of}
+use Rattle.mot_journal.specs.Catalogue.{Catalogue}
 use Rattle.mot_journal.specs.Gaps.{AreBeside, standing_of}
 use Rattle.mot_journal.specs.Image.{Standing}
 use Rattle.mot_journal.specs.Journal.{JournalView, HoldsRecords, OnlyReadArea}

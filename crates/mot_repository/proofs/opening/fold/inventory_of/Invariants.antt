@@ -1,5 +1,6 @@
 use Rattle.std.proofs.Common.{◌≡◌, ◌≤◌, length, drop, vec_capacity, All, true}
-use Rattle.mot_journal.specs.Catalogue.{catalogue_of, fold_from, is_consistent}
+use Rattle.mot_journal.specs.Image.{catalogue_of, fold_from}
+use Rattle.mot_journal.specs.Catalogue.{is_consistent}
 use Rattle.mot_repository.specs.Extents.{catalogue_with}
 use Rattle.mot_repository.specs.Inner.Bounds.{AreWithin}
 use Rattle.mot_repository.specs.Inner.Fold.{HasShortIds}

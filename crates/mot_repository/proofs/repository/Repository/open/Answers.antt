@@ -3,7 +3,7 @@ use Rattle.std.specs.Prelude.{is_err}
 use Rattle.disk_model.specs.Disk.{OnlySyncs}
 use Rattle.mot_repository.specs.Inner.InOrder.{IsInOrder}
 use Rattle.mot_repository.specs.Opening.{IsOpened}
-use Rattle.mot_repository.specs.Opening.IsOpeningRefusal.{device}
+use Rattle.mot_journal.specs.Journal.IsReadingRefusal.{device}
 use Rattle.mot_repository.specs.Prepared.{view_with}
 use Rattle.mot_repository.specs.Repository.{RepositoryView}
 use Rattle.mot_repository.proofs.Answering.{calm_where_ok}

@@ -10,9 +10,9 @@ use Rattle.mot_session.proofs.Written.{Answered-next, Sends-none}
 use Rattle.std.proofs.Common.{◌<◌, ◌+◌, ◌∷◌, ◌++◌, ◌∙◌, ap, length-append, refl, sym}
 use Rattle.mot_journal.specs.Image.{Standing}
 use Rattle.mot_repository.specs.Repository.{RepositoryView, Holds}
-use Rattle.mot_session.specs.OnAnyDisk.{next, shown_lines}
+use Rattle.mot_session.specs.Replies.{shown_lines}
 use Rattle.mot_session.proofs.Anyhow.{next-broken as next-broken_anyhow}
-use Rattle.mot_session.proofs.Anyhow.{next-cut as next-cut_anyhow, one-more}
+use Rattle.mot_session.proofs.Anyhow.{next-all, next-cut as next-cut_anyhow, one-more}
 use Rattle.mot_session.proofs.serving.reply.write_next.Given as given
 use Rattle.mot_session.proofs.serving.reply.write_next.Goals as goal
 use Rattle.mot_session.proofs.serving.reply.write_next.Goals.{After-write_next_packet}
@@ -157,7 +157,8 @@ returns-clause-anyhow g c = λ going.
     let bound = c.loop.auto.counter-end in
     let all : c.loop.counter ≡ c.args.count = omega (arith, last, bound) in (
       shown_lines so_far.0,
-      next c.args.count so_far.0 refl going c.loop.invariant.reads.view (so_far.1 ∙ all) refl,
+      next-all c.args.server.now.view c.loop.server.view _ _ c.args.count so_far.0
+          c.loop.invariant.reads.view going (so_far.1 ∙ all),
       so_far.2,
     )
 

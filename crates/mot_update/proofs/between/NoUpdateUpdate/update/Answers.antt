@@ -12,5 +12,5 @@ returns-clause-run g c = λ s holds honest.
       marks = [];
       run = (has_read old old state state s None (g.met.D.Disk.sound old.disk honest) refl refl
           honest (unchanged_none state) holds).0;
-      waits = λ e. refl;
+      told = refl;
     }

@@ -1,0 +1,58 @@
+-- What the commands come of that run while a disk is played: looks at a folder, and lines.
+use Rattle.std.specs.Prelude.{◌≡◌, ℕ, ◌&&◌, nat_lt, Bool, if◌then◌else◌, List, [], Option, Some, None}
+use Rattle.mot_air.specs.Playing.{Manner, Tale, look_of_feed}
+use Rattle.mot_control.specs.Answering.{TellsBetween}
+use Rattle.mot_feed.specs.Feeding.{AreTold}
+use Rattle.mot_folder.specs.Looked.{TellsLooks, Watch, watch}
+use Rattle.mot_shelf.specs.Given.{Given}
+use Rattle.mot_suffixes.specs.Types.{SuffixType}
+use Rattle.mot_update.specs.Between.{Telling}
+use Rattle.mot_update.specs.declared.moment.Moment.{Moment}
+
+abbrev pub looks_within : Manner → Bool
+looks_within how = nat_lt 0 how.directory && nat_lt 0 how.look
+
+-- The folder of this path is looked at while a disk is played so. Where looks come within turns so
+-- many packets come between two of them, and else 1,000.
+abbrev pub watch_in : Manner → List ℕ → List SuffixType → (allows : Bool) → (every : ℕ) → Watch
+watch_in how path types allows every =
+    watch path types allows (if looks_within how then every else 1000) (looks_within how)
+
+-- the same of a folder, if there is one
+abbrev pub watched : {F : Type 0} → Option F → (F → Watch) → Option Watch
+watched None of = None
+watched (Some folder) of = Some (of folder)
+
+-- beside the disk: how many packets are to come before the next look, what the folder gave in each
+-- look so far, and what has come of the next line
+pub record Sources : Type 0 where
+  pub left : ℕ
+  pub looks : List Given
+  pub hand : List ℕ
+
+-- no look has come
+abbrev pub first_sources : List ℕ → Sources
+first_sources hand = record { left = 0; looks = []; hand = hand }
+
+-- commands come of looks alone; without a folder there are none
+abbrev pub tells_looks : Option Watch → (old new : Sources) → Moment → Telling
+tells_looks None old new moment c commands marks fault =
+    (new.looks ≡ old.looks) × (commands ≡ [])
+tells_looks (Some w) old new moment c commands marks fault =
+    TellsLooks w moment old.left new.left old.looks new.looks c commands marks fault
+
+-- or of looks and of lines; which bytes of lines there were no clause says
+abbrev pub tells_lines : Option Watch → (old new : Sources) → Moment → Telling
+tells_lines w old new moment c commands marks fault =
+    (left : ℕ) × TellsBetween left old.hand new.hand None None (tells_looks w old new moment)
+    c commands marks fault
+
+-- The commands are those of looks, in order, and this is what the folder gave in each of them; or,
+-- with this in hand, those of looks and of lines.
+abbrev pub tale_with : Option Watch → (hand : Option (List ℕ)) → Manner → List Given → Tale
+tale_with w None how looks limit c stage events made =
+    (end : Sources) × (end.looks ≡ looks)
+    × AreTold (tells_looks w) (look_of_feed how) limit (first_sources []) c stage events end made
+tale_with w (Some hand) how looks limit c stage events made =
+    (end : Sources) × (end.looks ≡ looks)
+    × AreTold (tells_lines w) (look_of_feed how) limit (first_sources hand) c stage events end made

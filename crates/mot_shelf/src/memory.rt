@@ -1,0 +1,108 @@
+//! A folder in memory, for tests: its path is `memory`.
+ghost use Rattle.std.specs.Prelude.{codes};
+ghost use Rattle.mot_shelf.specs.Seen.{given_of};
+
+use crate::{Kind, LookNotes, Seen, Shelf, Unread};
+use std::alloc::Global;
+use std::io::{self, ErrorKind};
+
+/// A folder that gives these names, and these files of them.
+#[derive(Drop)]
+pub struct MemoryShelf {
+    /// Its names, each ended by a zero byte; none where it can't be listed.
+    pub names: Option<&'static [u8]>,
+    /// The files that can be read, by their names, with their bytes.
+    pub files: &'static [(&'static [u8], &'static [u8])],
+    /// The names that were not given yet.
+    rest: &'static [u8],
+    seen: Seen,
+}
+
+impl MemoryShelf {
+    /// Nothing was given yet.
+    pub fn new(
+        names: Option<&'static [u8]>,
+        files: &'static [(&'static [u8], &'static [u8])],
+    ) -> MemoryShelf {
+        MemoryShelf {
+            names,
+            files,
+            rest: b"",
+            seen: Seen::nothing(),
+        }
+    }
+
+    /// The bytes of the file of this name.
+    fn bytes_of(&self, alloc: Global, name: &[u8]) -> Result<Vec<u8>, Unread> {
+        for (other, bytes) in self.files {
+            if *other == name {
+                return Ok(Vec::from_slice(alloc, bytes)?);
+            }
+        }
+        Err(Unread::System(io::Error::from(ErrorKind::PermissionDenied)))
+    }
+}
+
+impl Shelf for MemoryShelf {
+    ghost path = { λ _. codes "memory" };
+
+    ghost gave = { λ shelf. given_of shelf.seen };
+
+    fn shown(&self) -> &str {
+        "memory"
+    }
+
+    fn note(&self, looks: &mut LookNotes) {
+        looks.note(&self.seen);
+    }
+
+    fn begin(&mut self) {
+        self.seen = Seen::nothing();
+    }
+
+    fn open(&mut self, _alloc: Global) -> io::Result<()> {
+        let Some(names) = self.names else {
+            return Err(io::Error::from(ErrorKind::NotFound));
+        };
+        self.rest = names;
+        self.seen.listed.note(b"memory");
+        Ok(())
+    }
+
+    fn fault(&self) -> Option<io::Error> {
+        None
+    }
+
+    fn names(&mut self, room: &mut [u8]) -> io::Result<usize> {
+        let count = self.rest.len();
+        if count > room.len() {
+            return Err(io::Error::from(ErrorKind::InvalidData));
+        }
+        room[..count].copy_from_slice(self.rest);
+        self.rest = b"";
+        self.seen.listed.note(&room[..count]);
+        Ok(count)
+    }
+
+    fn is_file(&mut self, _alloc: Global, name: &[u8]) -> io::Result<bool> {
+        self.seen.files.note(name);
+        Ok(true)
+    }
+
+    fn kind(&self, _alloc: Global, _name: &[u8]) -> Option<Kind> {
+        Some(Kind::File)
+    }
+
+    fn read(&mut self, alloc: Global, name: &[u8], _most: u64) -> Result<Vec<u8>, Unread> {
+        match self.bytes_of(alloc, name) {
+            Ok(bytes) => {
+                self.seen.read.note(name, bytes.as_slice());
+                Ok(bytes)
+            }
+            Err(error) => {
+                self.seen.missed.note(name);
+                Err(error)
+            }
+        }
+    }
+}

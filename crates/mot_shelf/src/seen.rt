@@ -1,0 +1,68 @@
+//! What a folder gave, look by look.
+ghost use Rattle.std.specs.Prelude.{◌≡◌, List, [], ◌∷◌, ◌++◌};
+ghost use Rattle.std.specs.Borrow.{ftrue};
+ghost use Rattle.mot_shelf.specs.Given.{Given};
+ghost use Rattle.mot_shelf.specs.Seen.{given_of};
+
+use crate::pairs::Pairs;
+use disk_store::Notes;
+use std::marker::{Model, PhantomData};
+
+/// What a folder gave since a look began, as lists that only clauses read. It takes no memory, and
+/// only the shelves of this crate add to it.
+#[derive(Drop)]
+pub struct Seen {
+    pub(crate) listed: Notes,
+    pub(crate) files: Notes,
+    pub(crate) others: Notes,
+    pub(crate) read: Pairs,
+    pub(crate) missed: Notes,
+}
+
+impl Seen {
+    /// Nothing.
+    pub fn nothing() -> Seen
+        ensures listed { result.listed.all ≡ [] }
+        ensures files { result.files.all ≡ [] }
+        ensures others { result.others.all ≡ [] }
+        ensures read { result.read.all ≡ [] }
+        ensures missed { result.missed.all ≡ [] }
+    {
+        Seen {
+            listed: Notes::new(),
+            files: Notes::new(),
+            others: Notes::new(),
+            read: Pairs::new(),
+            missed: Notes::new(),
+        }
+    }
+}
+
+/// What a folder gave in each of its looks, as a list that only clauses read. It takes no memory,
+/// and only the shelves of this crate add to it.
+#[derive(Drop)]
+pub struct LookNotes {
+    marker: PhantomData<u8>,
+    pub ghost all: { List Given },
+}
+
+impl Model for LookNotes {
+    ghost also_owns = { λ _. ftrue };
+}
+
+impl LookNotes {
+    /// No look.
+    pub fn new() -> LookNotes
+        ensures { result.all ≡ [] }
+    {
+        LookNotes {
+            marker: PhantomData,
+        }
+    }
+
+    /// One more, which gave this. Its proof is written by hand: it adds to the list, which no memory
+    /// holds.
+    pub(crate) fn note(&mut self, _seen: &Seen)
+        ensures { self.new.all ≡ self.old.all ++ given_of _seen.now ∷ [] }
+    {}
+}

@@ -1,0 +1,27 @@
+//! Where an update comes among the packets of a carousel.
+ghost use Rattle.std.specs.Prelude.{◌≡◌};
+ghost use Rattle.mot_update.specs.Between.{may_look};
+
+/// Where an update comes among the packets of a carousel.
+#[derive(Clone, Copy, Debug, PartialEq, Eq)]
+pub enum Moment {
+    /// A turn has ended, or none was begun.
+    BetweenTurns,
+    /// Within a turn, where a look may come.
+    AtLook,
+    /// Within a turn, where no look may come.
+    Within,
+}
+
+impl Moment {
+    /// Whether a look may come there.
+    pub fn may_look(self) -> bool
+        ensures { result ≡ may_look self }
+    {
+        match self {
+            Moment::BetweenTurns => true,
+            Moment::AtLook => true,
+            Moment::Within => false,
+        }
+    }
+}
