@@ -13,14 +13,6 @@ use Rattle.disk_model.specs.Disk.{Keeps, KeepsLength, IsUnchanged, OnlyReads}
 pub agree_refl : (at n : ℕ) (image : List ℕ) → AgreeOutside at n image image
 agree_refl at n image = record { len_is = refl; before = λ k lt. refl; after = λ k le. refl }
 
--- where an image agrees with another outside a range, that one agrees with it
-pub agree_sym : (at n : ℕ) (a b : List ℕ) → AgreeOutside at n a b → AgreeOutside at n b a
-agree_sym at n a b agree = record {
-  len_is = sym agree.len_is;
-  before = λ k lt. sym (agree.before k lt);
-  after = λ k le. sym (agree.after k le);
-}
-
 -- images that agree with a third outside a range agree with each other there
 pub agree_trans : (at n : ℕ) (a b c : List ℕ)
     → AgreeOutside at n a b → AgreeOutside at n b c → AgreeOutside at n a c

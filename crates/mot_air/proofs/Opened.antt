@@ -1,23 +1,26 @@
 -- What is left of a disk that was just opened, and what ends a command on it.
-use Rattle.std.proofs.Common.{◌≡◌, ◌∙◌, ℕ, List, [], ◌++◌, Bool, Option, inl, inr, subst}
-use Rattle.std.specs.Prelude.{IsFalse}
+use Rattle.std.proofs.Common.{◌≡◌, ◌∙◌, ℕ, List, [], ◌++◌, Bool, Option, Some, Result, Ok, Err, ap}
+use Rattle.std.proofs.Common.{inl, inr, refl, subst}
+use Rattle.std.specs.Prelude.{IsFalse, MatchResult}
 use Rattle.disk_model.specs.Disk.{IsHonestDisk, IsStill, State, Throughout}
 use Rattle.disk_model.specs.Failures.{Rises}
 use Rattle.disk_model.proofs.Laws.{begins, joins, stays}
-use Rattle.mot_air.specs.Opening.{IsBreak, Leaves}
+use Rattle.mot_air.specs.Opening.{IsEnd, Leaves}
 use Rattle.mot_air.specs.Opening as opening
 use Rattle.mot_feed.specs.Feeding.{IsFeedFault}
 use Rattle.mot_feed.specs.Sending as sending
 use Rattle.mot_journal.specs.Image.{Standing}
 use Rattle.mot_numbers.specs.declared.refusal.Refusal.{Refusal}
 use Rattle.mot_objects.specs.declared.command.Command.{Command}
-use Rattle.mot_reading.proofs.Laws.{AllAre}
+use Rattle.mot_export.proofs.Laws.{AllAre}
 use Rattle.mot_repository.specs.Repository.{RepositoryView}
 use Rattle.mot_server.specs.RunEnds.{RunLeaves}
 use Rattle.mot_server.specs.Runs.{StandsAfterSome, accepted_commands, commands_in_flight}
+use Rattle.mot_server.specs.Attempts.{fault_of}
 use Rattle.mot_server.specs.Server.{ServerView}
 use Rattle.mot_server.proofs.Laws.{after_none, none_of, not_halted}
 use Rattle.mot_update.specs.Faults as update
+use Rattle.mot_update.specs.Faults.{StaysCalm}
 
 -- no image came while it was opened
 pub opened_throughout : (start old : State) (P : List ℕ → Type 0) → IsHonestDisk start
@@ -44,18 +47,28 @@ opened_leaves start old now first last s commands marks fault sound all still ru
     }
 
 -- what ends an update or a write on a server just opened
-pub breaks_off : {D : Type 0} (server : ServerView D) (start old now : State) (refusal : Refusal)
+breaks_off : {D : Type 0} (server : ServerView D) (start old now : State) (refusal : Refusal)
     → IsFalse server.view.halted → old.failures ≡ start.failures
-    → IsFeedFault server old now refusal → IsBreak refusal start now
+    → IsFeedFault server old now refusal → IsEnd (Some refusal) start now
 breaks_off server start old now refusal going calm (inl (update.halted is e same)) =
     absurd (not_halted server.view.halted is going)
 breaks_off server start old now refusal going calm (inl (update.no_memory e same)) =
-    opening.no_memory e (same ∙ calm)
+    opening.no_memory (ap Some e) (same ∙ calm)
 breaks_off server start old now refusal going calm (inl (update.device is e rises)) =
-    opening.device e (subst (λ n. Rises n now.failures) calm rises)
+    opening.device (ap Some e) (subst (λ n. Rises n now.failures) calm rises)
 breaks_off server start old now refusal going calm (inr (sending.halted is e same)) =
     absurd (not_halted server.view.halted is going)
 breaks_off server start old now refusal going calm (inr (sending.device is e rises)) =
-    opening.device e (subst (λ n. Rises n now.failures) calm rises)
+    opening.device (ap Some e) (subst (λ n. Rises n now.failures) calm rises)
 breaks_off server start old now refusal going calm (inr (sending.unwritten e same)) =
-    opening.unwritten e (same ∙ calm)
+    opening.unwritten (ap Some e) (same ∙ calm)
+
+-- how they ended whose result this is
+pub ends_off : {A D : Type 0} (server new : ServerView D) (start old now : State)
+    (result : Result A Refusal) → IsFalse server.view.halted → old.failures ≡ start.failures
+    → MatchResult result (λ _. StaysCalm server new old now)
+    (λ r. IsFeedFault server old now r) → IsEnd (fault_of result) start now
+ends_off server new start old now (Ok value) going calm why =
+    opening.whole refl (why.failures ∙ calm)
+ends_off server new start old now (Err refusal) going calm why =
+    breaks_off server start old now refusal going calm why

@@ -1,13 +1,15 @@
 -- Playing a disk, from its opening on.
-use Rattle.std.proofs.Common.{◌≡◌, ◌∙◌, ◌<◌, arith, ℕ, true, List, Option, None}
-use Rattle.std.proofs.Common.{Result, Ok, Err, subst}
-use Rattle.std.specs.Prelude.{IsFalse, OnOk, IfErr}
+use Rattle.std.proofs.Common.{◌≡◌, ◌<◌, arith, ℕ, true, List, Option, None}
+use Rattle.std.proofs.Common.{Result, Ok, Err, inl, inr, refl, subst}
+use Rattle.std.specs.Prelude.{IsFalse, OnOk, IfErr, MatchResult}
 use Rattle.std.proofs.lemmas.Bool.Decides.{nat_tests}
 use Rattle.disk_model.proofs.Laws.{keeps_on}
 use Rattle.disk_model.specs.Disk.{State, IsHonestDisk, KeepsLength, OnlySyncs}
-use Rattle.mot_air.specs.Playing.{HasAired, Manner, Plays, StopsPlaying, Tale, look_of_feed}
-use Rattle.mot_air.specs.Playing.{stopped, tale_of}
-use Rattle.mot_air.proofs.Opened.{breaks_off, opened_leaves}
+use Rattle.mot_air.specs.Playing.{HasAired, Manner, Plays, Tale, WritesPackets, look_of_feed}
+use Rattle.mot_air.specs.Playing.{tale_of}
+use Rattle.mot_air.specs.Program.{PlaysInto}
+use Rattle.mot_air.proofs.Opened.{ends_off, opened_leaves}
+use Rattle.mot_endpoints.specs.declared.packets.Target.{Target}
 use Rattle.mot_feed.specs.Feeding.{AreOf, AreTold, Event, FedPacketsAreContinuous}
 use Rattle.mot_feed.specs.Feeding.{Feeds, FeedsPart, Happen, HasFed, IsFeedFault, Stage}
 use Rattle.mot_feed.specs.Feeding.Stage.{Ready}
@@ -21,12 +23,13 @@ use Rattle.mot_numbers.specs.Geometry.{is_valid}
 use Rattle.mot_objects.specs.Carousel.{IsSound}
 use Rattle.mot_player.specs.Place.{Place}
 use Rattle.mot_player.specs.Turn.{turn_of_carousel}
-use Rattle.mot_reading.proofs.Laws.{AllAre, all_hold}
-use Rattle.mot_reading.specs.Opening.{first_place}
+use Rattle.mot_export.proofs.Laws.{AllAre, all_hold}
+use Rattle.mot_export.specs.Opening.{first_place}
 use Rattle.mot_repository.proofs.Laws.{standings-are_sound}
 use Rattle.mot_repository.specs.Opening.{IsOpened}
 use Rattle.mot_repository.specs.Repository.{Agrees, Holds}
 use Rattle.mot_server.proofs.Laws.{valid_is}
+use Rattle.mot_server.specs.Attempts.{fault_of}
 use Rattle.mot_server.specs.Server.{ServerView, place_in}
 use Rattle.mot_update.specs.Between.{Telling}
 use Rattle.mot_update.specs.Faults.{StaysCalm}
@@ -34,6 +37,12 @@ use Rattle.mot_update.specs.declared.moment.Moment.{Moment}
 
 some_room : (g : Geometry) → is_valid g ≡ true → 0 < packet_room g
 some_room g is = grind (arith, nat_tests)
+
+-- what is told of both ways that a feed ended
+both : (P : Type 0) (Q : Refusal → Type 0) (result : Result Unit Refusal) → OnOk result P
+    → IfErr result Q → MatchResult result (λ _. P) Q
+both P Q (Ok done) p q = p
+both P Q (Err refusal) p q = q
 
 module _ {D : Type 0} (state : D → State) (disk : D) (server new : ServerView D)
     (sound : (d : D) → (state d).IsHonest → IsHonestDisk (state d))
@@ -129,49 +138,59 @@ module _ {D : Type 0} (state : D → State) (disk : D) (server new : ServerView 
               );
         }
 
-    -- what is fed of an open server plays the disk, from its opening on
-    pub plays : (turns : ℕ) (before after : Option (List (List ℕ)))
-        (result : Result Unit Refusal)
+    -- what is fed of an open server plays the disk, from its opening on, up to the feed's ending
+    pub plays : (before after : Option (List (List ℕ))) (result : Result Unit Refusal)
         → OnOk result (StaysCalm server new (state server.disk) (state new.disk))
+        → IfErr result (λ r. IsFeedFault server (state server.disk) (state new.disk) r)
         → ((s : Standing) → Holds server.view s (state server.disk) → (state new.disk).IsHonest
         → OnOk result (Feeds tells (look_of_feed how) first last (server_for how.directory server)
-        new (state server.disk) (state new.disk) s turns before after))
-        → OnOk result (Plays tale how turns before after (state disk) (state new.disk))
-    plays turns before after (Err refusal) stays feeds = tt
-    plays turns before after (Ok done) stays feeds = record {
-      keeps = keeps_from;
-      calm = stays.failures ∙ calm;
-      writes = λ s honest all.
-          let fed = feeds s (holds_opened s honest all) honest in
-          record {
-            events = fed.events;
-            packets = fed.packets;
-            played = has_played s None Ready fed.events fed.packets honest all fed.fed fed.are
-                fed.told;
-            written = fed.written;
-            ended = fed.ended;
-          };
-    }
-
-    -- a fault of the feed stops the playing, from the disk's opening on
-    pub stops : (before after : Option (List (List ℕ))) (result : Result Unit Refusal)
-        → IfErr result (λ r. IsFeedFault server (state server.disk) (state new.disk) r)
+        new (state server.disk) (state new.disk) s how.turns before after))
         → ((s : Standing) → Holds server.view s (state server.disk) → (state new.disk).IsHonest
         → IfErr result (λ r. FeedsPart tells (look_of_feed how) r first last
         (server_for how.directory server) new (state server.disk) (state new.disk) s before after))
-        → IfErr result (λ r. StopsPlaying r tale how before after (state disk) (state new.disk))
-    stops before after (Ok done) why feeds = tt
-    stops before after (Err refusal) why feeds = stopped keeps_from
-        (breaks_off server (state disk) (state server.disk) (state new.disk) refusal going calm why)
-        (λ s honest all.
-        let fed = feeds s (holds_opened s honest all) honest in
-        record {
+        → Plays tale how (fault_of result) before after (state disk) (state new.disk)
+    plays before after result stays why feeds part = record {
+      keeps = keeps_from;
+      came = inr (
+        ends_off server new (state disk) (state server.disk) (state new.disk) result going calm
+            (both (StaysCalm server new (state server.disk) (state new.disk))
+            (λ r. IsFeedFault server (state server.disk) (state new.disk) r) result stays why),
+        λ s honest all. let holds = holds_opened s honest all in
+            writes s honest all result (feeds s holds honest) (part s holds honest),
+      );
+    }
+      where
+        writes : (s : Standing) → (state new.disk).IsHonest → AllAre s (state disk)
+            → (result : Result Unit Refusal)
+            → OnOk result (Feeds tells (look_of_feed how) first last
+            (server_for how.directory server) new (state server.disk) (state new.disk) s how.turns
+            before after)
+            → IfErr result (λ r. FeedsPart tells (look_of_feed how) r first last
+            (server_for how.directory server) new (state server.disk) (state new.disk) s before
+            after)
+            → WritesPackets tale how (fault_of result) before after (state disk) (state new.disk) s
+        writes s honest all (Ok done) fed part = record {
+          fault = None;
+          stage = Ready;
+          events = fed.events;
+          packets = fed.packets;
+          played = has_played s None Ready fed.events fed.packets honest all fed.fed fed.are
+              fed.told;
+          written = (refl, refl, fed.written, fed.ended);
+        }
+        writes s honest all (Err refusal) feeds fed = record {
           fault = fed.fault;
           stage = fed.stage;
-          comes = fed.comes;
           events = fed.events;
           packets = fed.packets;
           played = has_played s fed.fault fed.stage fed.events fed.packets honest all fed.fed
               fed.are fed.told;
-          written = fed.written;
-        })
+          written = (fed.comes, fed.written);
+        }
+
+-- a disk that was played into a target kept its length
+pub into_keeps : (target : Target) (told : Tale) (how : Manner) (ending : Option Refusal)
+    (begun taken : List (List ℕ)) (start now : State)
+    → PlaysInto target told how ending begun taken start now → KeepsLength start now
+into_keeps target told how ending begun taken start now (inl is) = is.keeps
+into_keeps target told how ending begun taken start now (inr lost) = lost.2.keeps

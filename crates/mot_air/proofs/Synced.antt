@@ -1,17 +1,17 @@
 -- Making a disk's carousel equal to a folder, from the disk's opening on.
 use Rattle.std.proofs.Common.{◌≡◌, ◌∙◌, ◌≤◌, ℕ, Bool, true, false, List, [], ◌∷◌, ◌++◌, length}
-use Rattle.std.proofs.Common.{Option, Some, None, Result, Ok, Err, not, refl, sym, ap, subst, arith}
+use Rattle.std.proofs.Common.{Option, Some, None, Result, not, refl, sym, ap, subst, arith}
 use Rattle.std.proofs.Common.{append-nil}
 use Rattle.std.specs.Io.KnownBytes.{Appends}
-use Rattle.std.specs.Prelude.{IfErr, IfOk, IsFalse, OnOk}
+use Rattle.std.proofs.Common.{inl, inr}
+use Rattle.std.specs.Prelude.{IsFalse, MatchResult}
+use Rattle.std.specs.Result.{result_unwrap_or}
 use Rattle.disk_model.proofs.Laws.{keeps_on}
 use Rattle.disk_model.specs.Disk.{State, IsHonestDisk, KeepsLength, OnlySyncs}
 use Rattle.mot_air.specs.Inner.Looked.{LooksAndTells}
 use Rattle.mot_air.specs.Inner.Looked as looks
-use Rattle.mot_air.specs.Syncing.{HasSynced, IsBrokenOff, IsEqual, StopsSyncing, Syncs}
-use Rattle.mot_air.specs.Syncing.{SyncsAndTells}
-use Rattle.mot_air.specs.Syncing.{broken, untold, stopped}
-use Rattle.mot_air.proofs.Opened.{breaks_off, opened_leaves}
+use Rattle.mot_air.specs.Syncing.{HasSynced, IsEqual, Syncs, SyncsAndTells}
+use Rattle.mot_air.proofs.Opened.{ends_off, opened_leaves}
 use Rattle.mot_feed.specs.Feeding.{IsFeedFault}
 use Rattle.mot_folder.specs.Log.{LogEntry, ReportTells}
 use Rattle.mot_folder.specs.Looked.{HasLookedAtFolder, IsLook, kept, listed, unlisted}
@@ -20,15 +20,15 @@ use Rattle.mot_journal.specs.Image.{Standing}
 use Rattle.mot_numbers.specs.declared.geometry.Geometry.{Geometry}
 use Rattle.mot_numbers.specs.declared.geometry.TheConstants.{MAX_OBJECTS}
 use Rattle.mot_numbers.specs.declared.refusal.Refusal.{Refusal}
-use Rattle.mot_numbers.specs.declared.refusal.Refusal.TheVariants.{WriteFault}
 use Rattle.mot_numbers.specs.Geometry.{is_valid}
 use Rattle.mot_objects.specs.Carousel.{IsSound, carousel_after}
 use Rattle.mot_objects.specs.declared.command.Command.{Command}
-use Rattle.mot_reading.proofs.Laws.{AllAre, all_hold}
+use Rattle.mot_export.proofs.Laws.{AllAre, all_hold}
 use Rattle.mot_repository.proofs.Laws.{standings-are_sound}
 use Rattle.mot_repository.specs.Opening.{IsOpened}
 use Rattle.mot_repository.specs.Repository.{Agrees, Holds}
 use Rattle.mot_server.proofs.Laws.{valid_is}
+use Rattle.mot_server.specs.Attempts.{fault_of}
 use Rattle.mot_server.specs.Runs.{accepted_commands}
 use Rattle.mot_server.specs.Server.{ServerView}
 use Rattle.mot_shelf.specs.Given.{Given}
@@ -91,8 +91,8 @@ module _ {D : Type 0} (state : D → State) (disk : D) (server new : ServerView 
       → HasLookedAtFolder server new (state server.disk) (state new.disk) s types allows path given
       report fault
       → (entries : List LogEntry)
-      × HasSynced (not report.any_refused) fault types allows path given entries (state disk)
-      (state new.disk) s × ReportTells report entries
+      × HasSynced types allows path given (state disk) (state new.disk) (not report.any_refused)
+      fault entries s × ReportTells report entries
   has_synced s types allows path given report fault honest all looked =
       let was = keeps.was_honest honest in (
         looked.entries,
@@ -143,70 +143,68 @@ module _ {D : Type 0} (state : D → State) (disk : D) (server new : ServerView 
                 false) n)).each;
           }
 
-  same_ok : (a b : Bool) → ◌≡◌ {A = Result Bool Refusal} (Ok a) (Ok b) → a ≡ b
-  same_ok a b e = cc
-
-  same_err : (a b : Refusal) → ◌≡◌ {A = Result Bool Refusal} (Err a) (Err b) → a ≡ b
-  same_err a b e = cc
-
-  abbrev IsFine : Result Bool Refusal → Type 0
-  IsFine (Ok x) = Unit {0}
-  IsFine (Err e) = ⊥
+  abbrev IsNothing : Option Refusal → Type 0
+  IsNothing None = Unit {0}
+  IsNothing (Some r) = ⊥
 
   module _ (types : List SuffixType) (allows : Bool) (path : List ℕ) (given : Given)
       (before after : Option (List ℕ)) where
-    synced-cases : (s : Standing) (all : Bool) → (state new.disk).IsHonest → AllAre s (state disk)
-        → LooksAndTells server new (state server.disk) (state new.disk) s types allows path given before after (Ok all)
-        → SyncsAndTells all types allows path given before after (state disk) (state new.disk) s
-    synced-cases s all honest each (looks.told report is whole written look) =
+    -- what a look came to, and what is told of it, from the disk's opening on
+    tells : (s : Standing) (result : Result Bool Refusal) → (state new.disk).IsHonest
+        → AllAre s (state disk)
+        → LooksAndTells server new (state server.disk) (state new.disk) s types allows path given
+        before after result
+        → SyncsAndTells types allows path given (state disk) (state new.disk)
+        (result_unwrap_or result false) (fault_of result) before after s
+    tells s result honest each (looks.told report is whole written look) =
         let done = has_synced s types allows path given report None honest each look in
         record {
+          fine = not report.any_refused;
+          fault = None;
           entries = done.0;
-          synced = subst (λ b. HasSynced b None types allows path given done.0 (state disk) (state new.disk) s)
-              (sym (same_ok all (not report.any_refused) is)) done.1;
-          written = subst (Appends before after) (done.2 whole) written;
+          synced = done.1;
+          why = inl (ap (λ (r : Result Bool Refusal). fault_of r) (sym is));
+          told = λ whole_is. (
+            ap (λ (r : Result Bool Refusal). result_unwrap_or r false) (sym is),
+            subst (Appends before after) (done.2 whole) written,
+          );
         }
-    synced-cases s all honest each (looks.broken report refusal is look) =
-        absurd (subst IsFine is tt)
-    synced-cases s all honest each (looks.untold report is look) =
-        absurd (subst IsFine is tt)
-
-    -- a look at the folder that came to its end syncs the disk, from its opening on
-    pub syncs : (result : Result Bool Refusal)
-        → OnOk result (StaysCalm server new (state server.disk) (state new.disk))
-        → ((s : Standing) → Holds server.view s (state server.disk) → (state new.disk).IsHonest
-        → LooksAndTells server new (state server.disk) (state new.disk) s types allows path given before after result)
-        → IfOk result (λ all. Syncs all types allows path given before after (state disk) (state new.disk))
-    syncs (Err refusal) stays looked = tt
-    syncs (Ok all) stays looked = record {
-      keeps = keeps_from;
-      calm = stays.failures ∙ calm;
-      synced = λ s honest each.
-          synced-cases s all honest each (looked s (holds_opened s honest each) honest);
-    }
-
-    broken-cases : (s : Standing) (r : Refusal) → (state new.disk).IsHonest
-        → AllAre s (state disk)
-        → LooksAndTells server new (state server.disk) (state new.disk) s types allows path given before after (Err r)
-        → IsBrokenOff r types allows path given (state disk) (state new.disk) s
-    broken-cases s r honest each (looks.told report is whole written look) =
-        absurd (subst IsFine (sym is) tt)
-    broken-cases s r honest each (looks.broken report refusal is look) =
+    tells s result honest each (looks.broken report refusal is look) =
         let done = has_synced s types allows path given report (Some refusal) honest each look in
-        broken (not report.any_refused) done.0 (subst (λ e. HasSynced (not report.any_refused)
-        (Some e) types allows path given done.0 (state disk) (state new.disk) s) (sym (same_err r refusal is)) done.1)
-    broken-cases s r honest each (looks.untold report is look) =
+        let ended = ap (λ (r : Result Bool Refusal). fault_of r) (sym is) in
+        record {
+          fine = not report.any_refused;
+          fault = Some refusal;
+          entries = done.0;
+          synced = done.1;
+          why = inl ended;
+          told = λ whole_is. absurd (subst IsNothing (sym (ended ∙ whole_is)) tt);
+        }
+    tells s result honest each (looks.untold report is look) =
         let done = has_synced s types allows path given report None honest each look in
-        untold (not report.any_refused) done.0 (same_err r WriteFault is) done.1
+        let ended = ap (λ (r : Result Bool Refusal). fault_of r) is in
+        record {
+          fine = not report.any_refused;
+          fault = None;
+          entries = done.0;
+          synced = done.1;
+          why = inr (refl, ended);
+          told = λ whole_is. absurd (subst IsNothing (sym (sym ended ∙ whole_is)) tt);
+        }
 
-    -- a look that broke off, or could not be told, stops the sync, from the disk's opening on
-    pub stops : (result : Result Bool Refusal)
-        → IfErr result (λ r. IsFeedFault server (state server.disk) (state new.disk) r)
+    -- a look at the folder syncs the disk, from its opening on, up to the look's ending
+    pub syncs : (result : Result Bool Refusal)
+        → MatchResult result (λ _. StaysCalm server new (state server.disk) (state new.disk))
+        (λ r. IsFeedFault server (state server.disk) (state new.disk) r)
         → ((s : Standing) → Holds server.view s (state server.disk) → (state new.disk).IsHonest
-        → LooksAndTells server new (state server.disk) (state new.disk) s types allows path given before after result)
-        → IfErr result (λ r. StopsSyncing r types allows path given (state disk) (state new.disk))
-    stops (Ok all) why looked = tt
-    stops (Err r) why looked = stopped keeps_from
-        (breaks_off server (state disk) (state server.disk) (state new.disk) r going calm why)
-        (λ s honest each.
-        broken-cases s r honest each (looked s (holds_opened s honest each) honest))
+        → LooksAndTells server new (state server.disk) (state new.disk) s types allows path given
+        before after result)
+        → Syncs types allows path given (state disk) (state new.disk)
+        (result_unwrap_or result false) (fault_of result) before after
+    syncs result why looked = record {
+      keeps = keeps_from;
+      came = inr (
+        ends_off server new (state disk) (state server.disk) (state new.disk) result going calm why,
+        λ s honest each. tells s result honest each (looked s (holds_opened s honest each) honest),
+      );
+    }

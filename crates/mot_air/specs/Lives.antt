@@ -1,10 +1,9 @@
 -- Lives with playing in them: a disk that was formatted is played, perhaps a crash comes, what it
 -- left is played again, and so on.
-use Rattle.std.specs.Prelude.{ℕ, ◌≤◌, List, ◌++◌, length, Option}
+use Rattle.std.specs.Prelude.{◌≡◌, ℕ, ◌≤◌, List, [], ◌++◌, length, Option, None}
 use Rattle.disk_model.specs.Disk.{State, Throughout}
-use Rattle.mot_air.specs.Playing.{HasAired, Manner, Tale, WritesTurns}
-use Rattle.mot_feed.specs.Feeding.{Event, Stage, commands_among}
-use Rattle.mot_feed.specs.Writing.{GrowsPart}
+use Rattle.mot_air.specs.Playing.{Manner, Tale, WritesPackets}
+use Rattle.mot_feed.specs.Feeding.{commands_among}
 use Rattle.mot_journal.specs.Image.{Standing}
 use Rattle.mot_journal.specs.Journal.{standing_from}
 use Rattle.mot_numbers.specs.declared.geometry.Geometry.{Geometry}
@@ -21,32 +20,21 @@ pub record KeepsDone (g : Geometry) (first : ℕ) (done : List Command) (now : S
   pub after : IsAfter (standing_from g first) done standing
   pub each : (image : List ℕ) → now.MayLeave image → IsOf standing image
 
--- A disk on which these commands were done was played. At each moment since then a crash leaves all
--- of them, and a beginning of those that were accepted between packets; and now it leaves them all,
--- so that the next life goes on from there.
-pub record PlaysOn (g : Geometry) (first : ℕ) (done : List Command) (tale : Tale)
-    (how : Manner) (turns : ℕ) (before after : Option (List (List ℕ))) (start now : State) : Type 0 where
+-- A disk on which these commands were done was played, up to this ending. At each moment since then
+-- a crash leaves all of them, and a beginning of those that were accepted between packets and of at
+-- most one in flight; and now it leaves all but the latter. At the end of playing there is no such
+-- one, so that the next life goes on from there.
+pub record AirsOn (g : Geometry) (first : ℕ) (done : List Command) (tale : Tale) (how : Manner)
+    (ending : Option Refusal) (before after : Option (List (List ℕ))) (start now : State) :
+    Type 0 where
   pub standing : Standing
   pub was : IsAfter (standing_from g first) done standing
-  pub writes : WritesTurns tale how turns before after start now standing
-  pub any_moment : Throughout start now
-      (StandsAfterSome (standing_from g first) done (commands_among writes.events))
-  pub keeps : KeepsDone g first (done ++ commands_among writes.events) now
-
--- The same where this refusal ended it: with at most one command in flight.
-pub record StopsOn (g : Geometry) (first : ℕ) (done : List Command) (refusal : Refusal)
-    (tale : Tale) (how : Manner) (before after : Option (List (List ℕ))) (start now : State) : Type 0 where
-  pub standing : Standing
-  pub was : IsAfter (standing_from g first) done standing
-  pub fault : Option Refusal
-  pub stage : Stage
-  pub events : List Event
-  pub packets : List (List ℕ)
-  pub aired : HasAired standing tale how fault stage events packets start now
-  pub written : GrowsPart refusal packets before after
+  pub writes : WritesPackets tale how ending before after start now standing
   pub in_flight : List Command
   pub few : length in_flight ≤ 1
-  pub any_moment : Throughout start now
-      (StandsAfterSome (standing_from g first) done (commands_among events ++ in_flight))
-  pub at_end : (image : List ℕ) → now.MayLeave image
-      → StandsAfterSome (standing_from g first) (done ++ commands_among events) in_flight image
+  pub any_moment : Throughout start now (StandsAfterSome (standing_from g first) done
+      (commands_among writes.events ++ in_flight))
+  pub at_end : (image : List ℕ) → now.MayLeave image → StandsAfterSome (standing_from g first)
+      (done ++ commands_among writes.events) in_flight image
+  pub goes_on : ending ≡ None
+      → (in_flight ≡ []) × KeepsDone g first (done ++ commands_among writes.events) now

@@ -1,7 +1,8 @@
--- What commands leave of a disk that was opened for them, and what breaks them off.
-use Rattle.std.specs.Prelude.{◌≡◌, ℕ, List, [], ◌++◌, Bool, Option}
-use Rattle.disk_model.specs.Disk.{State, Throughout}
+-- What commands leave of a disk that was opened for them, and how they end.
+use Rattle.std.specs.Prelude.{◌≡◌, ◌⊎◌, ℕ, List, [], ◌++◌, Bool, Option, Some, None, IsSomeAnd}
+use Rattle.disk_model.specs.Disk.{KeepsLength, State, Throughout}
 use Rattle.disk_model.specs.Failures.{Rises}
+use Rattle.mot_export.specs.Opening.{IsUnopened, OfStanding}
 use Rattle.mot_journal.specs.Image.{Standing}
 use Rattle.mot_numbers.specs.declared.refusal.Refusal.{Refusal}
 use Rattle.mot_numbers.specs.declared.refusal.Refusal.TheVariants.{DeviceFault, OutOfMemory}
@@ -9,14 +10,24 @@ use Rattle.mot_numbers.specs.declared.refusal.Refusal.TheVariants.{WriteFault}
 use Rattle.mot_objects.specs.declared.command.Command.{Command}
 use Rattle.mot_server.specs.Runs.{StandsAfterSome, accepted_commands, commands_in_flight}
 
--- In these the disk was in a state start and is in a state now.
+-- In these the disk was in a state start and is in a state now; and this refusal ended what was
+-- done, or, with none, it came to its end.
 
--- Why a command on an open server ended before its end: memory was wanted, the disk failed, or what
--- it writes to did. A device fault is told where the disk has failed, and nowhere else.
-pub data IsBreak (refusal : Refusal) (start now : State) : Type 0 where
-  no_memory : refusal ≡ OutOfMemory → now.failures ≡ start.failures → IsBreak refusal start now
-  device : refusal ≡ DeviceFault → Rises start.failures now.failures → IsBreak refusal start now
-  unwritten : refusal ≡ WriteFault → now.failures ≡ start.failures → IsBreak refusal start now
+-- How a command on an open server ended: memory was wanted, the disk failed, or what it writes to
+-- did. A device fault is told where the disk has failed, and nowhere else.
+pub data IsEnd (ending : Option Refusal) (start now : State) : Type 0 where
+  whole : ending ≡ None → now.failures ≡ start.failures → IsEnd ending start now
+  no_memory : ending ≡ Some OutOfMemory → now.failures ≡ start.failures → IsEnd ending start now
+  device : ending ≡ Some DeviceFault → Rises start.failures now.failures → IsEnd ending start now
+  unwritten : ending ≡ Some WriteFault → now.failures ≡ start.failures → IsEnd ending start now
+
+-- The disk is as long as it was. It was not opened, and there is Nothing; or it was, and there is P
+-- of what it stood for.
+pub record EndsBy (ending : Option Refusal) (Nothing : Type 0) (P : Standing → Type 0)
+    (start now : State) : Type 0 where
+  pub keeps : KeepsLength start now
+  pub came : (IsSomeAnd ending (λ r. IsUnopened r start now) × Nothing)
+      ⊎ (IsEnd ending start now × OfStanding P start now)
 
 -- What commands leave of a disk that stood for s, each answered with its mark up to a fault: at
 -- each moment a crash leaves what a beginning of the accepted ones makes of it, or all of them and

@@ -1,9 +1,9 @@
 -- What playing a disk writes, and what it leaves of the disk.
 use Rattle.std.specs.Prelude.{◌≡◌, ◌⊎◌, ℕ, Bool, true, false, List, [], ◌++◌, length, Option}
-use Rattle.std.specs.Prelude.{None}
+use Rattle.std.specs.Prelude.{None, MatchOption}
 use Rattle.std.specs.Option.{option_map_or}
-use Rattle.disk_model.specs.Disk.{KeepsLength, State}
-use Rattle.mot_air.specs.Opening.{IsBreak, Leaves}
+use Rattle.disk_model.specs.Disk.{State}
+use Rattle.mot_air.specs.Opening.{EndsBy, Leaves}
 use Rattle.mot_feed.specs.Feeding.{AreOf, AreTold, ComesAt, Event, Happen, Stage}
 use Rattle.mot_feed.specs.Feeding.{commands_among, has_ended, turns_in}
 use Rattle.mot_feed.specs.Feeding.Stage.{Ready}
@@ -20,21 +20,22 @@ use Rattle.mot_packets.specs.Outlet.{Grows}
 use Rattle.mot_player.specs.Continuity.{IsContinuous}
 use Rattle.mot_player.specs.Place.{Place}
 use Rattle.mot_player.specs.Repeats.{ReadAsTurn, ReadsOnceAs}
-use Rattle.mot_reading.specs.Opening.{IsUnopened, OfStanding, first_place}
+use Rattle.mot_export.specs.Opening.{first_place}
 use Rattle.mot_repository.specs.Repository.{IsOf}
 use Rattle.mot_server.specs.Runs.{IsAfter, accepted_commands}
 use Rattle.mot_update.specs.Between.{Telling}
 use Rattle.mot_update.specs.declared.moment.Moment.{Moment}
 
 -- How a disk is played: after how many packets the directory is sent again, where changes are
--- followed, or 0 for at each turn's beginning alone, where a change begins the turn anew; and after
--- how many packets of a turn a look may come, or 0 for only between turns.
+-- followed, or 0 for at each turn's beginning alone, where a change begins the turn anew; after how
+-- many packets of a turn a look may come, or 0 for only between turns; and how many turns.
 pub record Manner : Type 0 where
   pub directory : ℕ
   pub look : ℕ
+  pub turns : ℕ
 
-abbrev pub manner : (directory look : ℕ) → Manner
-manner directory look = record { directory = directory; look = look }
+abbrev pub manner : (directory look turns : ℕ) → Manner
+manner directory look turns = record { directory = directory; look = look; turns = turns }
 
 -- the looks of a feed that is so
 abbrev pub look_of_feed : Manner → ℕ
@@ -88,41 +89,23 @@ pub record HasAired (s : Standing) (tale : Tale) (how : Manner) (fault : Option 
       → TurnReads s how before during
 
 -- So many turns were written, each packet in one write; or else so many packets that their number
--- fits no word of 64 bits.
-pub record WritesTurns (tale : Tale) (how : Manner) (turns : ℕ)
-    (before after : Option (List (List ℕ))) (start now : State) (s : Standing) : Type 0 where
-  pub events : List Event
-  pub packets : List (List ℕ)
-  pub played : HasAired s tale how None Ready events packets start now
-  pub written : Grows before after packets
-  pub ended : ((turns_in events ≡ turns) × (has_ended true events ≡ true))
-      ⊎ (length packets ≡ 18446744073709551615)
-
--- This refusal came of an update, of a packet or of writing it: where a write failed, the last
--- packet is cut or missing, and no command was in flight.
-pub record WritesPart (refusal : Refusal) (tale : Tale) (how : Manner)
+-- fits no word of 64 bits. Or this refusal came of an update, of a packet or of writing it: where a
+-- write failed, the last packet is cut or missing, and no command was in flight.
+pub record WritesPackets (tale : Tale) (how : Manner) (ending : Option Refusal)
     (before after : Option (List (List ℕ))) (start now : State) (s : Standing) : Type 0 where
   pub fault : Option Refusal
   pub stage : Stage
-  pub comes : ComesAt refusal fault stage
   pub events : List Event
   pub packets : List (List ℕ)
   pub played : HasAired s tale how fault stage events packets start now
-  pub written : GrowsPart refusal packets before after
+  pub written : MatchOption ending ((fault ≡ None) × (stage ≡ Ready) × Grows before after packets
+      × (((turns_in events ≡ how.turns) × (has_ended true events ≡ true))
+      ⊎ (length packets ≡ 18446744073709551615)))
+      (λ r. ComesAt r fault stage × GrowsPart r packets before after)
 
--- the disk was played, is as long as it was, and has not failed
-pub record Plays (tale : Tale) (how : Manner) (turns : ℕ) (before after : Option (List (List ℕ)))
-    (start now : State) : Type 0 where
-  pub keeps : KeepsLength start now
-  pub calm : now.failures ≡ start.failures
-  pub writes : OfStanding (WritesTurns tale how turns before after start now) start now
-
--- why playing ended before its last turn, and what it had come to
-pub data StopsPlaying (refusal : Refusal) (tale : Tale) (how : Manner)
-    (before after : Option (List (List ℕ))) (start now : State) : Type 0 where
-  unopened : IsUnopened refusal start now → Grows before after []
-      → ((limit : ℕ) (c : Carousel) → tale limit c Ready [] c)
-      → StopsPlaying refusal tale how before after start now
-  stopped : KeepsLength start now → IsBreak refusal start now
-      → OfStanding (WritesPart refusal tale how before after start now) start now
-      → StopsPlaying refusal tale how before after start now
+-- the disk was played, up to this ending; where it was not opened, nothing was written or run
+abbrev pub Plays : Tale → Manner → Option Refusal → (before after : Option (List (List ℕ)))
+    → (start now : State) → Type 0
+Plays tale how ending before after start now =
+    EndsBy ending (Grows before after [] × ((limit : ℕ) (c : Carousel) → tale limit c Ready [] c))
+    (WritesPackets tale how ending before after start now) start now

@@ -1,9 +1,10 @@
 -- What the commands come of that run while a disk is played: looks at a folder, and lines.
 use Rattle.std.specs.Prelude.{◌≡◌, ℕ, ◌&&◌, nat_lt, Bool, if◌then◌else◌, List, [], Option, Some, None}
 use Rattle.mot_air.specs.Playing.{Manner, Tale, look_of_feed}
-use Rattle.mot_control.specs.Answering.{TellsBetween}
+use Rattle.mot_feed_lines.specs.Answering.{TellsInTurn}
 use Rattle.mot_feed.specs.Feeding.{AreTold}
 use Rattle.mot_folder.specs.Looked.{TellsLooks, Watch, watch}
+use Rattle.mot_outcome.specs.declared.used.Inputs.{Inputs}
 use Rattle.mot_shelf.specs.Given.{Given}
 use Rattle.mot_suffixes.specs.Types.{SuffixType}
 use Rattle.mot_update.specs.Between.{Telling}
@@ -24,15 +25,18 @@ watched None of = None
 watched (Some folder) of = Some (of folder)
 
 -- beside the disk: how many packets are to come before the next look, what the folder gave in each
--- look so far, and what has come of the next line
+-- look so far, how many before the next read of lines, what each of these gave so far, and what has
+-- come of the next line
 pub record Sources : Type 0 where
   pub left : ℕ
   pub looks : List Given
+  pub late : ℕ
+  pub lines : List (List ℕ)
   pub hand : List ℕ
 
--- no look has come
+-- no look has come, and nothing was read
 abbrev pub first_sources : List ℕ → Sources
-first_sources hand = record { left = 0; looks = []; hand = hand }
+first_sources hand = record { left = 0; looks = []; late = 0; lines = []; hand = hand }
 
 -- commands come of looks alone; without a folder there are none
 abbrev pub tells_looks : Option Watch → (old new : Sources) → Moment → Telling
@@ -41,18 +45,20 @@ tells_looks None old new moment c commands marks fault =
 tells_looks (Some w) old new moment c commands marks fault =
     TellsLooks w moment old.left new.left old.looks new.looks c commands marks fault
 
--- or of looks and of lines; which bytes of lines there were no clause says
-abbrev pub tells_lines : Option Watch → (old new : Sources) → Moment → Telling
-tells_lines w old new moment c commands marks fault =
-    (left : ℕ) × TellsBetween left old.hand new.hand None None (tells_looks w old new moment)
-    c commands marks fault
+-- or of looks, and of the lines that end in what was read, where so many packets come between two
+-- reads
+abbrev pub tells_lines : (between : ℕ) → Option Watch → (old new : Sources) → Moment → Telling
+tells_lines between w old new moment =
+    TellsInTurn between old.late new.late old.hand new.hand old.lines new.lines
+    (tells_looks w old new moment)
 
 -- The commands are those of looks, in order, and this is what the folder gave in each of them; or,
--- with this in hand, those of looks and of lines.
-abbrev pub tale_with : Option Watch → (hand : Option (List ℕ)) → Manner → List Given → Tale
-tale_with w None how looks limit c stage events made =
-    (end : Sources) × (end.looks ≡ looks)
+-- with this in hand and so many packets between two reads, those of looks and of lines, and this is
+-- what each read of lines gave.
+abbrev pub tale_with : Option Watch → (reads : Option (List ℕ × ℕ)) → Manner → Inputs → Tale
+tale_with w None how given limit c stage events made =
+    (end : Sources) × (end.looks ≡ given.looks.all) × (given.lines.notes.all ≡ [])
     × AreTold (tells_looks w) (look_of_feed how) limit (first_sources []) c stage events end made
-tale_with w (Some hand) how looks limit c stage events made =
-    (end : Sources) × (end.looks ≡ looks)
-    × AreTold (tells_lines w) (look_of_feed how) limit (first_sources hand) c stage events end made
+tale_with w (Some (hand, between)) how given limit c stage events made =
+    (end : Sources) × (end.looks ≡ given.looks.all) × (end.lines ≡ given.lines.notes.all)
+    × AreTold (tells_lines between w) (look_of_feed how) limit (first_sources hand) c stage events end made

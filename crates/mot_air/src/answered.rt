@@ -1,5 +1,5 @@
 //! What a command came to that came to nothing else.
-ghost use Rattle.std.specs.Prelude.{◌≡◌, Err, IfErr, Ok, OnOk};
+ghost use Rattle.std.specs.Prelude.{◌≡◌, Err, MatchResult, Ok};
 
 use crate::Ended;
 use disk_model::Disk;
@@ -7,8 +7,8 @@ use disk_model::Disk;
 /// The same end with this answer, if it is not a refusal.
 pub(crate) fn answered<D: Disk>(ended: Ended<D, ()>, answer: bool) -> Ended<D, bool>
     ensures disk { result.disk ≡ ended.disk }
-    ensures done { OnOk ended.result (result.result ≡ Ok answer) }
-    ensures refused { IfErr ended.result (λ r. result.result ≡ Err r) }
+    ensures answer { MatchResult ended.result (λ _. result.result ≡ Ok answer)
+        (λ r. result.result ≡ Err r) }
 {
     Ended {
         disk: ended.disk,

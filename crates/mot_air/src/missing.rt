@@ -1,7 +1,7 @@
 //! What is told of words that ask for no task, and of a folder that was not listed.
 use clap::ArgMatches;
 use disk_store::OpenFault;
-use mot_files::Cause;
+use mot_endpoints::Cause;
 use std::io::Write;
 
 /// The option that is missing among the words, as help shows it, if another one that qualifies it

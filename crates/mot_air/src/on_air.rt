@@ -1,16 +1,14 @@
 //! Playing the disk of a file into what a path names.
-ghost use Rattle.std.specs.Prelude.{◌≡◌, ◌⊎◌, [], ◌∷◌, Some, Err, Ok, true, false, IfErr, OnOk, codes};
-ghost use Rattle.std.specs.Prelude.{option_map};
-ghost use Rattle.disk_model.specs.Disk.{KeepsLength};
+ghost use Rattle.std.specs.Prelude.{◌≡◌, ◌⊎◌, ◌-◌, [], ◌∷◌, Some, Err, Ok, codes, option_map, unwrap_or};
 ghost use Rattle.mot_air.specs.Directory.{directory_of, look_of};
-ghost use Rattle.mot_air.specs.Playing.{Plays, StopsPlaying};
-ghost use Rattle.mot_air.specs.Program.{FailsPlaying, Opens, PlaysTo, StopsPlayingTo, turns_of};
-ghost use Rattle.mot_air.specs.Program.{played_as};
+ghost use Rattle.mot_air.specs.Inner.Concluded.{Concludes};
+ghost use Rattle.mot_air.specs.Playing.{Plays};
+ghost use Rattle.mot_air.specs.Program.{Opens, PlaysInto, PlaysTo, played_as};
 ghost use Rattle.mot_air.specs.Telling.{tale_with, watch_in, watched};
-ghost use Rattle.mot_files.specs.declared.lines.LineFolder.{LineFolder};
-ghost use Rattle.mot_files.specs.Packets.{begun_of, target_of};
+ghost use Rattle.mot_endpoints.specs.declared.lines.LineFolder.{LineFolder};
+ghost use Rattle.mot_endpoints.specs.Packets.{begun_of, target_of};
 ghost use Rattle.mot_numbers.specs.declared.refusal.Refusal.TheVariants.{DeviceFault, WriteFault};
-ghost use Rattle.mot_outcome.specs.Outcome.{IsUntold};
+ghost use Rattle.mot_server.specs.Attempts.{fault_of};
 
 use crate::Ended;
 use crate::answered::answered;
@@ -18,15 +16,15 @@ use crate::playing::{Aired, Followed, play_and_answer, play_disk};
 use crate::reported::Telling;
 use disk_model::Disk;
 use disk_store::Start;
-use mot_files::{
+use mot_cli::PlayTask;
+use mot_endpoints::{
     Cause, LineFolder, NewFile, OpenPackets, PacketWriter, PacketsFault, Station, StatusFile,
     Taken, Target,
 };
 use mot_numbers::Refusal;
-use mot_outcome::{Beside, Finished};
+use mot_outcome::{Beside, Finished, Inputs};
 use mot_packets::Outlet;
-use mot_shelf::{LookNotes, Shelf};
-use mot_words::PlayTask;
+use mot_shelf::Shelf;
 use std::alloc::Global;
 use std::io::Write;
 
@@ -55,8 +53,8 @@ struct Played<D: Disk> {
     is_fine: bool,
     /// What each write of packets took.
     taken: Taken,
-    /// What the folder gave in each look.
-    looks: LookNotes,
+    /// What was given.
+    inputs: Inputs,
     cause: Option<Cause>,
 }
 
@@ -70,23 +68,13 @@ pub(crate) fn play_file<'a, B: Start, F: Shelf + Drop, W: Write, E: Write>(
     writer: &mut W,
     errors: &mut E,
 ) -> Finished<B, bool>
-    ensures done { result.result ≡ Ok true → PlaysTo airing.entry.task
-        (watched airing.entry.folder (λ followed. watch_in (played_as airing.entry.task)
-        (F.path followed.shelf) followed.types.now followed.allows_empty followed.every))
-        (option_map (λ (lines : LineFolder). lines.hand) airing.entry.lines)
-        result.disk }
-    ensures told { result.result ≡ Ok false → PlaysTo airing.entry.task
-        (watched airing.entry.folder (λ followed. watch_in (played_as airing.entry.task)
-        (F.path followed.shelf) followed.types.now followed.allows_empty followed.every))
-        (option_map (λ (lines : LineFolder). lines.hand) airing.entry.lines)
-        result.disk }
-    ensures refused { IfErr result.result (λ r. (((r ≡ DeviceFault) ⊎ (r ≡ WriteFault))
-        × IsUntold result.disk (W.contents writer.old) (W.contents writer.new))
-        ⊎ StopsPlayingTo airing.entry.task
-        (watched airing.entry.folder (λ followed. watch_in (played_as airing.entry.task)
-        (F.path followed.shelf) followed.types.now followed.allows_empty followed.every))
-        (option_map (λ (lines : LineFolder). lines.hand) airing.entry.lines)
-        r result.disk) }
+    ensures ended { Concludes (λ r. (r ≡ DeviceFault) ⊎ (r ≡ WriteFault)) (λ all ending.
+        let how = played_as airing.entry.task in PlaysTo airing.entry.task
+        (tale_with (watched airing.entry.folder (λ followed. watch_in how (F.path followed.shelf)
+        followed.types.now followed.allows_empty followed.every))
+        (option_map (λ (lines : LineFolder). (lines.hand, lines.every - 1)) airing.entry.lines) how)
+        ending result.disk)
+        result.result result.disk (W.contents writer.old) (W.contents writer.new) }
     ensures opens { Opens ((codes "packets", airing.entry.task.packets.now) ∷ [])
         airing.entry.task.disk.now result.disk station.old.opened.all station.new.opened.all }
 {
@@ -106,10 +94,10 @@ pub(crate) fn play_file<'a, B: Start, F: Shelf + Drop, W: Write, E: Write>(
         ended,
         is_fine,
         taken,
-        looks,
+        inputs,
         cause,
     } = play_into(alloc, disk, opened, airing, writer, errors);
-    let beside = Beside::played(taken, looks);
+    let beside = Beside::played(taken, inputs);
     Finished::of_file(answered(ended, is_fine), beside, cause)
 }
 
@@ -122,21 +110,13 @@ fn play_into<D: Disk, F: Shelf + Drop, W: Write, E: Write>(
     writer: &mut W,
     errors: &mut E,
 ) -> Played<D>
-    ensures keeps { KeepsLength (D.state disk) (D.state result.ended.disk) }
-    ensures done { OnOk result.ended.result (Plays (tale_with
-        (watched airing.entry.folder (λ followed. watch_in (played_as airing.entry.task)
-        (F.path followed.shelf) followed.types.now followed.allows_empty followed.every))
-        (option_map (λ (lines : LineFolder). lines.hand) airing.entry.lines)
-        (played_as airing.entry.task) result.looks.all) (played_as airing.entry.task)
-        (turns_of airing.entry.task.turns) (Some (begun_of opened.entry))
-        (Some result.taken.notes.all) (D.state disk) (D.state result.ended.disk)) }
-    ensures refused { IfErr result.ended.result (λ r. FailsPlaying (target_of opened.entry) (tale_with
-        (watched airing.entry.folder (λ followed. watch_in (played_as airing.entry.task)
-        (F.path followed.shelf) followed.types.now followed.allows_empty followed.every))
-        (option_map (λ (lines : LineFolder). lines.hand) airing.entry.lines)
-        (played_as airing.entry.task) result.looks.all) (played_as airing.entry.task)
-        (turns_of airing.entry.task.turns) r (begun_of opened.entry) result.taken.notes.all
-        (D.state disk) (D.state result.ended.disk)) }
+    ensures { let how = played_as airing.entry.task in PlaysInto (target_of opened.entry)
+        (tale_with (watched airing.entry.folder (λ followed. watch_in how (F.path followed.shelf)
+        followed.types.now followed.allows_empty followed.every))
+        (option_map (λ (lines : LineFolder). (lines.hand, lines.every - 1)) airing.entry.lines) how
+        result.inputs) how (fault_of result.ended.result)
+        (begun_of opened.entry) result.taken.notes.all
+        (D.state disk) (D.state result.ended.disk) }
 {
     match opened {
         OpenPackets::Standard(outlet) => { play_stream(alloc, disk, outlet, airing, errors) }
@@ -153,21 +133,13 @@ fn play_stream<D: Disk, F: Shelf + Drop, P: Write + Drop, L: Write>(
     airing: Airing<'_, '_, F>,
     log: &mut L,
 ) -> Played<D>
-    ensures keeps { KeepsLength (D.state disk) (D.state result.ended.disk) }
-    ensures done { OnOk result.ended.result (Plays (tale_with
-        (watched airing.entry.folder (λ followed. watch_in (played_as airing.entry.task)
-        (F.path followed.shelf) followed.types.now followed.allows_empty followed.every))
-        (option_map (λ (lines : LineFolder). lines.hand) airing.entry.lines)
-        (played_as airing.entry.task) result.looks.all) (played_as airing.entry.task)
-        (turns_of airing.entry.task.turns) (Some outlet.taken.notes.all)
-        (Some result.taken.notes.all) (D.state disk) (D.state result.ended.disk)) }
-    ensures refused { IfErr result.ended.result (λ r. StopsPlaying r (tale_with
-        (watched airing.entry.folder (λ followed. watch_in (played_as airing.entry.task)
-        (F.path followed.shelf) followed.types.now followed.allows_empty followed.every))
-        (option_map (λ (lines : LineFolder). lines.hand) airing.entry.lines)
-        (played_as airing.entry.task) result.looks.all) (played_as airing.entry.task)
+    ensures { let how = played_as airing.entry.task in Plays
+        (tale_with (watched airing.entry.folder (λ followed. watch_in how (F.path followed.shelf)
+        followed.types.now followed.allows_empty followed.every))
+        (option_map (λ (lines : LineFolder). (lines.hand, lines.every - 1)) airing.entry.lines) how
+        result.inputs) how (fault_of result.ended.result)
         (Some outlet.taken.notes.all) (Some result.taken.notes.all)
-        (D.state disk) (D.state result.ended.disk)) }
+        (D.state disk) (D.state result.ended.disk) }
 {
     let played = play_writer(alloc, disk, outlet, airing, log);
     Played {
@@ -184,21 +156,13 @@ fn air<D: Disk, F: Shelf + Drop, O: Outlet, L: Write>(
     airing: Airing<'_, '_, F>,
     log: &mut L,
 ) -> Aired<D>
-    ensures keeps { KeepsLength (D.state disk) (D.state result.ended.disk) }
-    ensures done { OnOk result.ended.result (Plays (tale_with
-        (watched airing.entry.folder (λ followed. watch_in (played_as airing.entry.task)
-        (F.path followed.shelf) followed.types.now followed.allows_empty followed.every))
-        (option_map (λ (lines : LineFolder). lines.hand) airing.entry.lines)
-        (played_as airing.entry.task) result.looks.all) (played_as airing.entry.task)
-        (turns_of airing.entry.task.turns) (O.writes outlet.old)
-        (O.writes outlet.new) (D.state disk) (D.state result.ended.disk)) }
-    ensures refused { IfErr result.ended.result (λ r. StopsPlaying r (tale_with
-        (watched airing.entry.folder (λ followed. watch_in (played_as airing.entry.task)
-        (F.path followed.shelf) followed.types.now followed.allows_empty followed.every))
-        (option_map (λ (lines : LineFolder). lines.hand) airing.entry.lines)
-        (played_as airing.entry.task) result.looks.all) (played_as airing.entry.task)
+    ensures { let how = played_as airing.entry.task in Plays
+        (tale_with (watched airing.entry.folder (λ followed. watch_in how (F.path followed.shelf)
+        followed.types.now followed.allows_empty followed.every))
+        (option_map (λ (lines : LineFolder). (lines.hand, lines.every - 1)) airing.entry.lines) how
+        result.inputs) how (fault_of result.ended.result)
         (O.writes outlet.old) (O.writes outlet.new)
-        (D.state disk) (D.state result.ended.disk)) }
+        (D.state disk) (D.state result.ended.disk) }
 {
     let Airing {
         task,
@@ -228,28 +192,20 @@ fn play_writer<D: Disk, F: Shelf + Drop, P: Write + Drop, L: Write>(
     airing: Airing<'_, '_, F>,
     log: &mut L,
 ) -> Played<D>
-    ensures keeps { KeepsLength (D.state disk) (D.state result.ended.disk) }
-    ensures done { OnOk result.ended.result (Plays (tale_with
-        (watched airing.entry.folder (λ followed. watch_in (played_as airing.entry.task)
-        (F.path followed.shelf) followed.types.now followed.allows_empty followed.every))
-        (option_map (λ (lines : LineFolder). lines.hand) airing.entry.lines)
-        (played_as airing.entry.task) result.looks.all) (played_as airing.entry.task)
-        (turns_of airing.entry.task.turns) (Some outlet.taken.notes.all)
-        (Some result.taken.notes.all) (D.state disk) (D.state result.ended.disk)) }
-    ensures refused { IfErr result.ended.result (λ r. StopsPlaying r (tale_with
-        (watched airing.entry.folder (λ followed. watch_in (played_as airing.entry.task)
-        (F.path followed.shelf) followed.types.now followed.allows_empty followed.every))
-        (option_map (λ (lines : LineFolder). lines.hand) airing.entry.lines)
-        (played_as airing.entry.task) result.looks.all) (played_as airing.entry.task)
+    ensures { let how = played_as airing.entry.task in Plays
+        (tale_with (watched airing.entry.folder (λ followed. watch_in how (F.path followed.shelf)
+        followed.types.now followed.allows_empty followed.every))
+        (option_map (λ (lines : LineFolder). (lines.hand, lines.every - 1)) airing.entry.lines) how
+        result.inputs) how (fault_of result.ended.result)
         (Some outlet.taken.notes.all) (Some result.taken.notes.all)
-        (D.state disk) (D.state result.ended.disk)) }
+        (D.state disk) (D.state result.ended.disk) }
 {
     let mut outlet = outlet;
     let Aired {
         ended,
         any_refused,
         fault,
-        looks,
+        inputs,
     } = air(alloc, disk, &mut outlet, airing, log);
     let cause = match (outlet.fault, fault) {
         (Some(fault), _) => Some(Cause::Packets(fault)),
@@ -260,7 +216,7 @@ fn play_writer<D: Disk, F: Shelf + Drop, P: Write + Drop, L: Write>(
         ended,
         is_fine: !any_refused,
         taken: outlet.taken,
-        looks,
+        inputs,
         cause,
     }
 }
@@ -273,27 +229,19 @@ fn play_new_file<D: Disk, F: Shelf + Drop, L: Write>(
     airing: Airing<'_, '_, F>,
     log: &mut L,
 ) -> Played<D>
-    ensures keeps { KeepsLength (D.state disk) (D.state result.ended.disk) }
-    ensures done { OnOk result.ended.result (Plays (tale_with
-        (watched airing.entry.folder (λ followed. watch_in (played_as airing.entry.task)
-        (F.path followed.shelf) followed.types.now followed.allows_empty followed.every))
-        (option_map (λ (lines : LineFolder). lines.hand) airing.entry.lines)
-        (played_as airing.entry.task) result.looks.all) (played_as airing.entry.task)
-        (turns_of airing.entry.task.turns) (Some (new.entry.path.now ∷ []))
-        (Some result.taken.notes.all) (D.state disk) (D.state result.ended.disk)) }
-    ensures refused { IfErr result.ended.result (λ r. FailsPlaying Target.File (tale_with
-        (watched airing.entry.folder (λ followed. watch_in (played_as airing.entry.task)
-        (F.path followed.shelf) followed.types.now followed.allows_empty followed.every))
-        (option_map (λ (lines : LineFolder). lines.hand) airing.entry.lines)
-        (played_as airing.entry.task) result.looks.all) (played_as airing.entry.task)
-        (turns_of airing.entry.task.turns) r (new.entry.path.now ∷ []) result.taken.notes.all
-        (D.state disk) (D.state result.ended.disk)) }
+    ensures { let how = played_as airing.entry.task in PlaysInto Target.File
+        (tale_with (watched airing.entry.folder (λ followed. watch_in how (F.path followed.shelf)
+        followed.types.now followed.allows_empty followed.every))
+        (option_map (λ (lines : LineFolder). (lines.hand, lines.every - 1)) airing.entry.lines) how
+        result.inputs) how (fault_of result.ended.result)
+        (new.entry.path.now ∷ []) result.taken.notes.all
+        (D.state disk) (D.state result.ended.disk) }
 {
     let Played {
         ended,
         is_fine,
         taken,
-        looks,
+        inputs,
         cause,
     } = play_writer(alloc, disk, new.writer(), airing, log);
     let Ended {
@@ -310,7 +258,7 @@ fn play_new_file<D: Disk, F: Shelf + Drop, L: Write>(
         },
         is_fine,
         taken,
-        looks,
+        inputs,
         cause,
     }
 }
@@ -322,9 +270,7 @@ fn placed(
     ended: Result<(), Refusal>,
     cause: Option<Cause>,
 ) -> (Result<(), Refusal>, Option<Cause>)
-    ensures ok { OnOk result.0 (IfErr ended (λ _. ⊥)) }
-    ensures fault { IfErr result.0 (λ r. (ended ≡ Err r)
-        ⊎ ((r ≡ WriteFault) × IfErr ended (λ _. ⊥))) }
+    ensures { (result.0 ≡ ended) ⊎ ((ended ≡ Ok tt) × (result.0 ≡ Err WriteFault)) }
 {
     match ended {
         Ok(()) => take_place(new, cause),
@@ -339,7 +285,7 @@ fn placed(
 /// Gives the new file its place, and removes it if that fails; answers the fault and its cause, or
 /// else this cause.
 fn take_place(new: &NewFile<'_>, cause: Option<Cause>) -> (Result<(), Refusal>, Option<Cause>)
-    ensures { IfErr result.0 (λ r. r ≡ WriteFault) }
+    ensures { (result.0 ≡ Ok tt) ⊎ (result.0 ≡ Err WriteFault) }
 {
     match new.take_place() {
         Ok(()) => (Ok(()), cause),
@@ -361,7 +307,7 @@ fn of_new_file(new: &NewFile<'_>, cause: Option<Cause>) -> Option<Cause> {
 
 /// So many turns; if no number is given, practically without end.
 fn turns_of(turns: Option<u32>) -> u64
-    ensures { result ≡ turns_of turns }
+    ensures { result ≡ unwrap_or turns 18446744073709551615 }
 {
     match turns {
         Some(turns) => turns as u64,

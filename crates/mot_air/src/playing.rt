@@ -1,10 +1,12 @@
 //! Playing a disk, and making its carousel equal to a folder.
-ghost use Rattle.std.specs.Prelude.{◌≡◌, ◌⊎◌, ℕ, [], IfErr, IfOk, List, None, OnOk, Some};
+ghost use Rattle.std.specs.Prelude.{◌≡◌, ◌⊎◌, ◌-◌, ℕ, [], IfErr, IsSomeAnd, List, MatchResult, None};
+ghost use Rattle.std.specs.Prelude.{OnOk, Some, false};
+ghost use Rattle.std.specs.Result.{result_unwrap_or};
 ghost use Rattle.std.specs.Io.KnownBytes.{Appends};
 ghost use Rattle.disk_model.specs.Disk.{KeepsLength};
-ghost use Rattle.mot_air.specs.Lives.{KeepsDone, PlaysOn, StopsOn};
-ghost use Rattle.mot_air.specs.Playing.{Plays, StopsPlaying, manner, tale_of};
-ghost use Rattle.mot_air.specs.Syncing.{StopsSyncing, Syncs};
+ghost use Rattle.mot_air.specs.Lives.{AirsOn, KeepsDone};
+ghost use Rattle.mot_air.specs.Playing.{Plays, manner, tale_of};
+ghost use Rattle.mot_air.specs.Syncing.{Syncs};
 ghost use Rattle.mot_air.specs.Telling.{tale_with, watch_in, watched};
 ghost use Rattle.mot_air.specs.Inner.Looked.{LooksAndTells};
 ghost use Rattle.mot_feed.specs.Feeding.{IsFeedFault};
@@ -13,18 +15,20 @@ ghost use Rattle.mot_journal.specs.Image.{Standing};
 ghost use Rattle.mot_numbers.specs.declared.geometry.Geometry.{Geometry};
 ghost use Rattle.mot_numbers.specs.declared.refusal.Refusal.TheVariants.{WriteFault};
 ghost use Rattle.mot_objects.specs.declared.command.Command.{Command};
-ghost use Rattle.mot_reading.specs.Opening.{IsUnopened};
+ghost use Rattle.mot_export.specs.Opening.{IsUnopened};
 ghost use Rattle.mot_repository.specs.Repository.{Holds};
+ghost use Rattle.mot_server.specs.Attempts.{fault_of};
 ghost use Rattle.mot_update.specs.Faults.{StaysCalm};
 
 use crate::Ended;
 use crate::reported::{Reported, Reporter, Telling};
 use disk_model::Disk;
-use mot_control::Lines;
+use mot_endpoints::{Asked, Heard, LineFolder, LineLog, LineNotes, Replies, SharedLog, Spool};
 use mot_feed::feed_every;
-use mot_files::{Asked, LineFolder, LineLog, Replies, SharedLog, Spool};
+use mot_feed_lines::Lines;
 use mot_folder::{FileTypes, Folder, Looks, look_at_folder};
 use mot_numbers::Refusal;
+use mot_outcome::Inputs;
 use mot_packets::Outlet;
 use mot_reason::open_server;
 use mot_server::Server;
@@ -56,8 +60,8 @@ pub struct Aired<D: Disk> {
     pub any_refused: bool,
     /// Why the folder was not opened at the last look, if it was not.
     pub fault: Option<io::Error>,
-    /// What the folder gave in each look.
-    pub looks: LookNotes,
+    /// What was given.
+    pub inputs: Inputs,
 }
 
 /// Opens the disk and plays it into the outlet, so many turns, with looks at the folder if there is
@@ -76,17 +80,11 @@ pub fn play_disk<S: Shelf + Drop, D: Disk, O: Outlet, L: Write + Drop>(
     directory: u32,
     look: u32,
 ) -> Aired<D>
-    ensures keeps { KeepsLength (D.state disk) (D.state result.ended.disk) }
-    ensures done { OnOk result.ended.result (Plays (tale_with
-        (watched folder.entry (λ followed. watch_in (manner directory look)
-        (S.path followed.shelf) followed.types.now followed.allows_empty followed.every))
-        None (manner directory look) result.looks.all) (manner directory look) turns
-        (O.writes outlet.old) (O.writes outlet.new) (D.state disk) (D.state result.ended.disk)) }
-    ensures refused { IfErr result.ended.result (λ r. StopsPlaying r (tale_with
-        (watched folder.entry (λ followed. watch_in (manner directory look)
-        (S.path followed.shelf) followed.types.now followed.allows_empty followed.every))
-        None (manner directory look) result.looks.all) (manner directory look)
-        (O.writes outlet.old) (O.writes outlet.new) (D.state disk) (D.state result.ended.disk)) }
+    ensures { let how = manner directory look turns in Plays (tale_with
+        (watched folder.entry (λ followed. watch_in how (S.path followed.shelf)
+        followed.types.now followed.allows_empty followed.every)) None how result.inputs)
+        how (fault_of result.ended.result) (O.writes outlet.old) (O.writes outlet.new)
+        (D.state disk) (D.state result.ended.disk) }
 {
     let log = RefCell::new(LineLog::new(alloc, log, telling.levels));
     match folder {
@@ -105,7 +103,7 @@ pub fn play_disk<S: Shelf + Drop, D: Disk, O: Outlet, L: Write + Drop>(
                 ended,
                 any_refused: looks.any_refused,
                 fault: looks.folder.shelf.fault(),
-                looks: notes_of(looks),
+                inputs: Inputs::of_looks(notes_of(looks)),
             }
         }
         None => {
@@ -121,14 +119,14 @@ pub fn play_disk<S: Shelf + Drop, D: Disk, O: Outlet, L: Write + Drop>(
                 ended,
                 any_refused: false,
                 fault: None,
-                looks: LookNotes::new(),
+                inputs: Inputs::of_looks(LookNotes::new()),
             }
         }
     }
 }
 
 /// Opens the disk and plays it into the outlet as `play_disk` does, and answers the lines of the
-/// files in a folder before the first packet and then after every so many, as `mot_control::Lines`
+/// files in a folder before the first packet and then after every so many, as `mot_feed_lines::Lines`
 /// does: a command may come within a turn. The lines about both are written to the log.
 pub fn play_and_answer<S: Shelf + Drop, D: Disk, O: Outlet, L: Write + Drop>(
     alloc: Global,
@@ -142,17 +140,11 @@ pub fn play_and_answer<S: Shelf + Drop, D: Disk, O: Outlet, L: Write + Drop>(
     directory: u32,
     look: u32,
 ) -> Aired<D>
-    ensures keeps { KeepsLength (D.state disk) (D.state result.ended.disk) }
-    ensures done { OnOk result.ended.result (Plays (tale_with
-        (watched folder.entry (λ followed. watch_in (manner directory look)
-        (S.path followed.shelf) followed.types.now followed.allows_empty followed.every))
-        (Some lines.entry.hand) (manner directory look) result.looks.all) (manner directory look) turns
-        (O.writes outlet.old) (O.writes outlet.new) (D.state disk) (D.state result.ended.disk)) }
-    ensures refused { IfErr result.ended.result (λ r. StopsPlaying r (tale_with
-        (watched folder.entry (λ followed. watch_in (manner directory look)
-        (S.path followed.shelf) followed.types.now followed.allows_empty followed.every))
-        (Some lines.entry.hand) (manner directory look) result.looks.all) (manner directory look)
-        (O.writes outlet.old) (O.writes outlet.new) (D.state disk) (D.state result.ended.disk)) }
+    ensures { let how = manner directory look turns in Plays (tale_with
+        (watched folder.entry (λ followed. watch_in how (S.path followed.shelf)
+        followed.types.now followed.allows_empty followed.every))
+        (Some (lines.entry.hand, lines.entry.every - 1)) how result.inputs) how (fault_of result.ended.result) (O.writes outlet.old) (O.writes outlet.new)
+        (D.state disk) (D.state result.ended.disk) }
 {
     let log = RefCell::new(LineLog::new(alloc, log, telling.levels));
     let asked = RefCell::new(Asked::new(alloc));
@@ -168,12 +160,16 @@ pub fn play_and_answer<S: Shelf + Drop, D: Disk, O: Outlet, L: Write + Drop>(
             if ended.result.is_ok() {
                 lines.update.reporter.tell_end(turns);
             }
-            let looks = update_of(lines).into_update();
+            let (lines, update) = parts_of(lines);
+            let looks = update.into_update();
             Aired {
                 ended,
                 any_refused: looks.any_refused,
                 fault: looks.folder.shelf.fault(),
-                looks: notes_of(looks),
+                inputs: Inputs {
+                    looks: notes_of(looks),
+                    lines,
+                },
             }
         }
         None => {
@@ -186,11 +182,15 @@ pub fn play_and_answer<S: Shelf + Drop, D: Disk, O: Outlet, L: Write + Drop>(
             if ended.result.is_ok() {
                 lines.update.reporter.tell_end(turns);
             }
+            let (lines, _) = parts_of(lines);
             Aired {
                 ended,
                 any_refused: false,
                 fault: None,
-                looks: LookNotes::new(),
+                inputs: Inputs {
+                    looks: LookNotes::new(),
+                    lines,
+                },
             }
         }
     }
@@ -205,9 +205,9 @@ fn looks_at<'a, S: Shelf + Drop, W: Write + Drop>(
     directory: u32,
     look: u32,
 ) -> Looks<'a, S, W>
-    ensures watch { watch (S.path result.folder.shelf) result.folder.types.now
+    ensures watch { (turns : ℕ) → watch (S.path result.folder.shelf) result.folder.types.now
         result.folder.allows_empty result.every result.within
-        ≡ watch_in (manner directory look) (S.path followed.entry.shelf)
+        ≡ watch_in (manner directory look turns) (S.path followed.entry.shelf)
         followed.entry.types.now followed.entry.allows_empty followed.entry.every }
     ensures due { result.left ≡ 0 }
     ensures none { result.looks.all ≡ [] }
@@ -234,11 +234,14 @@ fn notes_of<S: Shelf + Drop, W: Write + Drop>(looks: Looks<'_, S, W>) -> LookNot
     looks.looks
 }
 
-/// The updates that these lines are answered with.
-fn update_of<R: Read + Drop, W: Write + Drop, U: Update + Drop>(lines: Lines<R, W, U>) -> U
-    ensures { result ≡ lines.update }
+/// What the reads of these lines gave, and the updates that they are answered with.
+fn parts_of<R: Read + Drop, W: Write + Drop, U: Update + Drop>(
+    lines: Lines<Heard<R>, W, U>,
+) -> (LineNotes, U)
+    ensures lines { result.0 ≡ lines.reader.lines }
+    ensures update { result.1 ≡ lines.update }
 {
-    lines.update
+    (lines.reader.into_lines(), lines.update)
 }
 
 /// The lines of the files in a folder, answered with these updates. The replies are written to the
@@ -249,8 +252,11 @@ fn lines_between<'a, L: Write + Drop, U: Update + Drop>(
     log: &'a RefCell<L>,
     asked: &'a RefCell<Asked>,
     update: U,
-) -> Lines<Spool<'a, HostRuntime, SharedLog<'a, L>>, Replies<'a, L>, U>
+) -> Lines<Heard<Spool<'a, HostRuntime, SharedLog<'a, L>>>, Replies<'a, L>, U>
     ensures hand { result.hand ≡ lines.entry.hand }
+    ensures every { result.between ≡ lines.entry.every - 1 }
+    ensures due { result.left ≡ 0 }
+    ensures unread { result.reader.lines.notes.all ≡ [] }
     ensures update { result.update ≡ update }
 {
     let LineFolder { place, hand, every } = lines;
@@ -271,25 +277,17 @@ pub fn play_with<D: Disk, U: Update, O: Outlet>(
     directory: u32,
     look: u32,
 ) -> Ended<D, ()>
-    ensures keeps { KeepsLength (D.state disk) (D.state result.disk) }
-    ensures done { OnOk result.result (Plays
-        (tale_of U.tells (manner directory look) update.old update.new) (manner directory look)
-        turns (O.writes outlet.old) (O.writes outlet.new) (D.state disk) (D.state result.disk)) }
-    ensures refused { IfErr result.result (λ r. StopsPlaying r
-        (tale_of U.tells (manner directory look) update.old update.new) (manner directory look)
-        (O.writes outlet.old) (O.writes outlet.new) (D.state disk) (D.state result.disk)) }
+    ensures ended { let how = manner directory look turns in
+        Plays (tale_of U.tells how update.old update.new) how (fault_of result.result)
+        (O.writes outlet.old) (O.writes outlet.new) (D.state disk) (D.state result.disk) }
 
     // If commands were done in the lives before, it goes on from them.
     ensures lives { (g : Geometry) (first : ℕ) (done : List Command)
-        → KeepsDone g first done (D.state disk)
-        → (D.state result.disk).IsHonest → OnOk result.result (PlaysOn g first done
-        (tale_of U.tells (manner directory look) update.old update.new) (manner directory look)
-        turns (O.writes outlet.old) (O.writes outlet.new) (D.state disk) (D.state result.disk)) }
-    ensures lives_stopped { (g : Geometry) (first : ℕ) (done : List Command)
-        → KeepsDone g first done (D.state disk)
-        → (D.state result.disk).IsHonest → IfErr result.result (λ r.
-        IsUnopened r (D.state disk) (D.state result.disk) ⊎ StopsOn g first done r
-        (tale_of U.tells (manner directory look) update.old update.new) (manner directory look)
+        → KeepsDone g first done (D.state disk) → (D.state result.disk).IsHonest
+        → IsSomeAnd (fault_of result.result)
+        (λ r. IsUnopened r (D.state disk) (D.state result.disk))
+        ⊎ (let how = manner directory look turns in AirsOn g first done
+        (tale_of U.tells how update.old update.new) how (fault_of result.result)
         (O.writes outlet.old) (O.writes outlet.new) (D.state disk) (D.state result.disk)) }
 {
     let mut server = match open_server(alloc, disk) {
@@ -314,13 +312,10 @@ pub fn sync_disk<S: Shelf + Drop, D: Disk, L: Write>(
     folder: &mut Folder<'_, S>,
     log: &mut L,
 ) -> Ended<D, bool>
-    ensures keeps { KeepsLength (D.state disk) (D.state result.disk) }
-    ensures done { IfOk result.result (λ all. Syncs all folder.old.types.now
-        folder.old.allows_empty (S.path folder.old.shelf) (S.gave folder.new.shelf)
-        (L.contents log.old) (L.contents log.new) (D.state disk) (D.state result.disk)) }
-    ensures refused { IfErr result.result (λ r. StopsSyncing r folder.old.types.now
-        folder.old.allows_empty (S.path folder.old.shelf) (S.gave folder.new.shelf)
-        (D.state disk) (D.state result.disk)) }
+    ensures { Syncs folder.old.types.now folder.old.allows_empty (S.path folder.old.shelf)
+        (S.gave folder.new.shelf) (D.state disk) (D.state result.disk)
+        (result_unwrap_or result.result false) (fault_of result.result)
+        (L.contents log.old) (L.contents log.new) }
 {
     let mut server = match open_server(alloc, disk) {
         Ok(server) => server,
@@ -345,9 +340,8 @@ fn look_and_tell<S: Shelf + Drop, D: Disk, L: Write>(
     log: &mut L,
 ) -> Result<bool, Refusal>
     ensures keeps { KeepsLength (D.state server.old.disk) (D.state server.new.disk) }
-    ensures calm { OnOk result
-        (StaysCalm server.old server.new (D.state server.old.disk) (D.state server.new.disk)) }
-    ensures fault { IfErr result (λ r. IsFeedFault server.old
+    ensures faults { MatchResult result (λ _. StaysCalm server.old server.new
+        (D.state server.old.disk) (D.state server.new.disk)) (λ r. IsFeedFault server.old
         (D.state server.old.disk) (D.state server.new.disk) r) }
     ensures looked { (s : Standing) → Holds server.old.view s (D.state server.old.disk)
         → (D.state server.new.disk).IsHonest

@@ -1,29 +1,21 @@
 //! The commands on air, over any streams and files.
-ghost use Rattle.std.specs.Prelude.{◌≡◌, ◌≢◌, ◌⊎◌, ◌↔◌, ◌++◌, ◌∷◌, [], Option, map, true, false};
-ghost use Rattle.std.specs.Prelude.{IfErr, IfOk, IfSome, IsTrue, List, None, Ok, Some, codes};
-ghost use Rattle.std.specs.Prelude.{is_none, unwrap_or};
-ghost use Rattle.std.specs.Io.KnownBytes.{Keeps};
+ghost use Rattle.std.specs.Prelude.{◌≡◌, ◌⊎◌, ◌↔◌, ◌++◌, ◌∷◌, [], map, option_map, unwrap_or};
+ghost use Rattle.std.specs.Prelude.{IsTrue, List, None, Some, codes};
 ghost use Rattle.clap.specs.Words.{Text, found_of, rows_of};
-ghost use Rattle.mot_air.specs.Program.{AskForNothing, Does, DoesInPart, IsBeginningRefusal};
+ghost use Rattle.mot_air.specs.Inner.Concluded.{Concludes, ConcludesTask};
 ghost use Rattle.mot_air.specs.Playing.{Manner};
-ghost use Rattle.mot_air.specs.Program.{OnSynced, Opens, OpensFor, PlaysAsked, StopsPlayingAsked};
-ghost use Rattle.mot_air.specs.Program.{StopsSyncingTo, SyncsTo};
-ghost use Rattle.mot_air.specs.Syncing.{StopsSyncing, Syncs};
+ghost use Rattle.mot_air.specs.Program.{AskForNothing, Ends, IsBeginningRefusal};
+ghost use Rattle.mot_air.specs.Program.{Opens, OpensFor, SyncsTo};
 ghost use Rattle.mot_air.specs.Telling.{watch_in, watched};
-ghost use Rattle.mot_files.specs.Lines.{IsUnlined};
-ghost use Rattle.mot_files.specs.Opened.{named};
-ghost use Rattle.mot_files.specs.Types.{IsUntyped};
+ghost use Rattle.mot_endpoints.specs.Opened.{named};
 ghost use Rattle.mot_numbers.specs.declared.refusal.Refusal.TheVariants.{BadNumber, DeviceFault};
-ghost use Rattle.mot_numbers.specs.declared.refusal.Refusal.TheVariants.{WriteFault};
-ghost use Rattle.mot_outcome.specs.Outcome.{IsRefused, IsUntold, IsUntouched, OnOpened, Succeeds};
-ghost use Rattle.mot_outcome.specs.Outcome.{UsesFiles};
+ghost use Rattle.mot_outcome.specs.Outcome.{ComesTo, UsesFiles};
 ghost use Rattle.mot_outcome.specs.declared.used.UsedDisk.TheVariants.{Untouched};
-ghost use Rattle.mot_reading.specs.Exporting.{Exports, StopsExporting};
-ghost use Rattle.mot_reading.specs.Inspecting.{Inspects, StopsInspecting};
-ghost use Rattle.mot_words.specs.Command.{motcar_app};
-ghost use Rattle.mot_words.specs.Air.Task.{IsAirTask};
-ghost use Rattle.mot_words.specs.Asked.{AskBy};
-ghost use Rattle.mot_words.specs.declared.air.task.AirTask.TheVariants.{Play};
+ghost use Rattle.mot_cli.specs.Command.{motcar_app};
+ghost use Rattle.mot_cli.specs.Air.Task.{IsAirTask};
+ghost use Rattle.mot_cli.specs.Asked.{AskBy};
+ghost use Rattle.mot_cli.specs.declared.air.task.AirTask.TheVariants.{Export, Inspect, Play, Sync};
+ghost use Rattle.mot_endpoints.specs.declared.status_file.StatusFile.{StatusFile};
 
 use crate::answered::answered;
 use crate::missing::{missing_option, tell_folder, tell_missing};
@@ -31,13 +23,13 @@ use crate::on_air::{Airing, play_file};
 use crate::playing::{Followed, sync_disk};
 use clap::ArgMatches;
 use disk_store::Start;
-use mot_files::{Cause, Others, Station, StatusFile, file_types, line_folder};
+use mot_cli::{AirTask, LookRules, PlayTask, air_task, motcar_matches};
+use mot_endpoints::{Cause, Others, Station, StatusFile, file_types, line_folder};
+use mot_export::{export_disk, inspect_disk};
 use mot_folder::{FileTypes, Folder};
 use mot_numbers::Refusal;
 use mot_outcome::{Beside, Exit, Finished, UsedDisk, explain, refuse, subject_of};
-use mot_reading::{export_disk, inspect_disk};
 use mot_shelf::{Shelf, SystemShelf};
-use mot_words::{AirTask, LookRules, PlayTask, air_task, motcar_matches};
 use std::alloc::Global;
 use std::convert::AsStr;
 use std::io::Write;
@@ -64,18 +56,10 @@ pub fn run_air_on<'a, S: AsStr, B: Start, W: Write, E: Write>(
     writer: &mut W,
     errors: &mut E,
 ) -> Exit<B>
-    ensures status { (result.status ≡ 0) ⊎ (result.status ≡ 1) ⊎ (result.status ≡ 2) }
-
-    // The words asked for a task, and it was done; or they asked for help.
-    ensures done { result.status ≡ 0 → Succeeds IsAirTask Does (map S.text words.now) result.disk
-        None None (W.contents writer.old) (W.contents writer.new) }
-
-    // What this refusal left of the disk that is handed out.
-    ensures refused { result.status ≡ 1
-        → IsRefused IsAirTask BadNumber IsBeginningRefusal DoesInPart (map S.text words.now)
-        result.refusal result.disk None None (W.contents writer.old) (W.contents writer.new) }
-    ensures usage { result.status ≡ 2 → AskForNothing (map S.text words.now)
-        × IsUntouched result.disk × Keeps (W.contents writer.old) (W.contents writer.new) }
+    // What it came to: the task that the words ask for was done, or ended by a refusal, or not begun;
+    // or help was asked for, or a word is wrong.
+    ensures ended { ComesTo IsAirTask AskForNothing BadNumber IsBeginningRefusal Ends
+        (map S.text words.now) result None None (W.contents writer.old) (W.contents writer.new) }
 
     // Nothing was opened but what the words name, each at most once.
     ensures files { UsesFiles IsAirTask OpensFor (map S.text words.now) result.disk
@@ -101,20 +85,10 @@ fn run_command<'a, B: Start, W: Write, E: Write>(
     writer: &mut W,
     errors: &mut E,
 ) -> Exit<B>
-    ensures status { (result.status ≡ 0) ⊎ (result.status ≡ 1) ⊎ (result.status ≡ 2) }
-    ensures done { (all : List Text)
+    ensures ended { (all : List Text)
         → AskBy motcar_app IsAirTask name.now (rows_of (found_of words.now)) all
-        → result.status ≡ 0 → Succeeds IsAirTask Does all result.disk
+        → ComesTo IsAirTask AskForNothing BadNumber IsBeginningRefusal Ends all result
         None None (W.contents writer.old) (W.contents writer.new) }
-    ensures refused { (all : List Text)
-        → AskBy motcar_app IsAirTask name.now (rows_of (found_of words.now)) all
-        → result.status ≡ 1
-        → IsRefused IsAirTask BadNumber IsBeginningRefusal DoesInPart all result.refusal result.disk
-        None None (W.contents writer.old) (W.contents writer.new) }
-    ensures usage { (all : List Text)
-        → AskBy motcar_app IsAirTask name.now (rows_of (found_of words.now)) all
-        → result.status ≡ 2 → AskForNothing all × IsUntouched result.disk
-        × Keeps (W.contents writer.old) (W.contents writer.new) }
     ensures files { (all : List Text)
         → AskBy motcar_app IsAirTask name.now (rows_of (found_of words.now)) all
         → UsesFiles IsAirTask OpensFor all result.disk station.old.opened.all
@@ -148,7 +122,8 @@ fn run_command<'a, B: Start, W: Write, E: Write>(
 /// number is out of its range.
 fn tell_no_task<B: Start, E: Write>(errors: &mut E, words: &ArgMatches<'_>, start: B) -> Exit<B>
     ensures untouched { result.disk ≡ Untouched start }
-    ensures told { (result.status ≡ 1) × (result.refusal ≡ Some BadNumber) ⊎ (result.status ≡ 2) }
+    ensures told { ((result.status ≡ 1) × (result.refusal ≡ Some BadNumber))
+        ⊎ ((result.status ≡ 2) × (result.refusal ≡ None)) }
 {
     let disk = UsedDisk::Untouched(start);
     match missing_option(words) {
@@ -177,14 +152,8 @@ fn execute<'a, B: Start, W: Write, E: Write>(
     writer: &mut W,
     errors: &mut E,
 ) -> Finished<B, bool>
-    ensures done { result.result ≡ Ok true → Does task.entry result.disk
-        None None (W.contents writer.old) (W.contents writer.new) }
-    ensures told { result.result ≡ Ok false → DoesInPart task.entry None result.disk
-        None None (W.contents writer.old) (W.contents writer.new) }
-    ensures refused { IfErr result.result (λ r. (IsBeginningRefusal task.entry r
-        × IsUntold result.disk (W.contents writer.old) (W.contents writer.new))
-        ⊎ DoesInPart task.entry (Some r) result.disk
-        None None (W.contents writer.old) (W.contents writer.new)) }
+    ensures ended { ConcludesTask task.entry result.result result.disk
+        (W.contents writer.old) (W.contents writer.new) }
     ensures opens { OpensFor task.entry result.disk station.old.opened.all station.new.opened.all }
 {
     match task {
@@ -210,13 +179,8 @@ fn play<'a, B: Start, W: Write, E: Write>(
     writer: &mut W,
     errors: &mut E,
 ) -> Finished<B, bool>
-    ensures done { result.result ≡ Ok true → PlaysAsked task.entry result.disk }
-    ensures told { result.result ≡ Ok false → PlaysAsked task.entry result.disk }
-    ensures refused { IfErr result.result (λ r.
-        ((IsUntyped task.entry.types r ⊎ IsUnlined task.entry.lines r
-        ⊎ (r ≡ DeviceFault) ⊎ (r ≡ WriteFault))
-        × IsUntold result.disk (W.contents writer.old) (W.contents writer.new))
-        ⊎ StopsPlayingAsked task.entry r result.disk) }
+    ensures ended { ConcludesTask (Play task.entry) result.result result.disk
+        (W.contents writer.old) (W.contents writer.new) }
     ensures opens { OpensFor (Play task.entry) result.disk station.old.opened.all
         station.new.opened.all }
 {
@@ -281,9 +245,8 @@ fn status_file<'a>(
     path: Option<&'a str>,
     disk: &'a str,
 ) -> Option<StatusFile<'a>>
-    ensures given { is_none path.entry ≡ is_none result }
-    ensures path { IfSome result (λ status. IfSome path.entry
-        (λ path. status.path.now ≡ path.now)) }
+    ensures path { option_map (λ (status : StatusFile). status.path.now) result
+        ≡ option_map (λ path. path.now) path.entry }
     ensures opens { station.new.opened.all
         ≡ station.old.opened.all ++ named (codes "status") path.entry }
 {
@@ -305,13 +268,10 @@ fn sync<'a, B: Start, W: Write>(
     start: B,
     log: &mut W,
 ) -> Finished<B, bool>
-    ensures done { IfOk result.result (λ all. SyncsTo types.entry rules folder.now all
-        (W.contents log.old) (W.contents log.new) result.disk) }
-    ensures refused { IfErr result.result (λ r. ((IsUntyped types.entry r ⊎ (r ≡ DeviceFault))
-        × IsUntold result.disk (W.contents log.old) (W.contents log.new))
-        ⊎ StopsSyncingTo types.entry rules folder.now r result.disk) }
-    ensures opens { Opens (named (codes "types") types.entry ++ (codes "folder", folder.now) ∷ [])
-        path.now result.disk station.old.opened.all station.new.opened.all }
+    ensures ended { ConcludesTask (Sync path.entry folder.entry types.entry rules) result.result
+        result.disk (W.contents log.old) (W.contents log.new) }
+    ensures opens { OpensFor (Sync path.entry folder.entry types.entry rules) result.disk
+        station.old.opened.all station.new.opened.all }
 {
     match file_types(station, alloc, types) {
         Ok(types) => sync_file(station, alloc, path, folder, &types, rules, start, log),
@@ -330,11 +290,9 @@ fn sync_file<'a, B: Start, W: Write>(
     start: B,
     log: &mut W,
 ) -> Finished<B, bool>
-    ensures done { IfOk result.result (λ all. OnSynced (λ given. Syncs all types.now
-        rules.allow_empty folder.now given (W.contents log.old) (W.contents log.new)) result.disk) }
-    ensures refused { IfErr result.result (λ r. ((r ≡ DeviceFault)
-        × IsUntold result.disk (W.contents log.old) (W.contents log.new))
-        ⊎ OnSynced (StopsSyncing r types.now rules.allow_empty folder.now) result.disk) }
+    ensures ended { Concludes (λ r. r ≡ DeviceFault) (λ all ending. SyncsTo types.now rules
+        folder.now all ending (W.contents log.old) (W.contents log.new) result.disk)
+        result.result result.disk (W.contents log.old) (W.contents log.new) }
     ensures opens { Opens ((codes "folder", folder.now) ∷ []) path.now result.disk
         station.old.opened.all station.new.opened.all }
 {
@@ -367,14 +325,10 @@ fn export_file<B: Start, W: Write>(
     start: B,
     writer: &mut W,
 ) -> Finished<B, bool>
-    ensures done { result.result ≡ Ok true
-        → OnOpened (Exports (W.contents writer.old) (W.contents writer.new)) result.disk }
-    ensures told { result.result ≢ Ok false }
-    ensures refused { IfErr result.result (λ r. ((r ≡ DeviceFault)
-        × IsUntold result.disk (W.contents writer.old) (W.contents writer.new))
-        ⊎ OnOpened (StopsExporting r (W.contents writer.old) (W.contents writer.new))
-        result.disk) }
-    ensures opens { Opens [] path.now result.disk station.old.opened.all station.new.opened.all }
+    ensures ended { ConcludesTask (Export path.entry) result.result result.disk
+        (W.contents writer.old) (W.contents writer.new) }
+    ensures opens { OpensFor (Export path.entry) result.disk station.old.opened.all
+        station.new.opened.all }
 {
     match station.disk(path, start) {
         Ok(disk) => {
@@ -394,14 +348,10 @@ fn inspect_file<B: Start, W: Write>(
     start: B,
     writer: &mut W,
 ) -> Finished<B, bool>
-    ensures done { result.result ≡ Ok true
-        → OnOpened (Inspects rate (W.contents writer.old) (W.contents writer.new)) result.disk }
-    ensures told { result.result ≢ Ok false }
-    ensures refused { IfErr result.result (λ r. ((r ≡ DeviceFault)
-        × IsUntold result.disk (W.contents writer.old) (W.contents writer.new))
-        ⊎ OnOpened (StopsInspecting rate r (W.contents writer.old) (W.contents writer.new))
-        result.disk) }
-    ensures opens { Opens [] path.now result.disk station.old.opened.all station.new.opened.all }
+    ensures ended { ConcludesTask (Inspect path.entry rate) result.result result.disk
+        (W.contents writer.old) (W.contents writer.new) }
+    ensures opens { OpensFor (Inspect path.entry rate) result.disk station.old.opened.all
+        station.new.opened.all }
 {
     match station.disk(path, start) {
         Ok(disk) => {

@@ -9,12 +9,12 @@ ghost use Rattle.mot_update.specs.Faults.{TellsFaults};
 
 use crate::watched::Facts;
 use disk_model::Disk;
-use mot_files::{LineLog, PacketsFault, SharedLog, Shown, StatusFile};
+use mot_cli::PlayTask;
+use mot_endpoints::{LineLog, PacketsFault, SharedLog, Shown, StatusFile};
 use mot_numbers::Refusal;
 use mot_server::Server;
 use mot_status::{Figures, TurnSize, turn_size, write_status};
 use mot_update::{Moment, Update};
-use mot_words::PlayTask;
 use std::alloc::{AllocError, Global};
 use std::cell::RefCell;
 use std::io::Write;

@@ -6,5 +6,5 @@ mod often;
 mod sending;
 
 pub use feeding::feed;
-pub use mot_packets::{Direct, Outlet};
+pub use mot_packets::Outlet;
 pub use often::{feed_every, feed_often};

@@ -4,3 +4,4 @@ pub mod Order
 pub mod Rows
 pub mod Seen
 pub mod Taken
+pub mod Unlisted

@@ -85,6 +85,13 @@ abbrev pub ReportTells : Report → List LogEntry → Type 0
 ReportTells report entries =
     report.any_left_out ≡ false → report.lines.items ≡ flat_map log_line entries
 
+-- nothing of an earlier look is kept
+pub record BeginsAnew (report : Report) : Type 0 where
+  pub memory : report.any_without_memory ≡ false
+  pub left : report.any_left ≡ false
+  pub room : report.any_without_room ≡ false
+  pub skipped : report.skipped ≡ 0
+
 -- what was told goes on by one
 abbrev pub TellsOne : Report → Report → LogEntry → Type 0
 TellsOne old new e = (entries : List LogEntry) → ReportTells old entries

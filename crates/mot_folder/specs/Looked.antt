@@ -1,15 +1,19 @@
 -- What a look at a folder does, and its log.
-use Rattle.std.specs.Prelude.{ℕ, ◌≡◌, ◌⊎◌, ◌&&◌, ◌||◌, ◌-◌, nat_eq, nat_le, nat_lt, Bool, true, false}
+use Rattle.std.specs.Prelude.{ℕ, ◌≡◌, ◌≢◌, ◌<◌, ◌≤◌, ◌⊎◌, ◌&&◌, ◌||◌, ◌-◌, nat_eq, nat_le, nat_lt}
+use Rattle.std.specs.Prelude.{Bool, true, false}
 use Rattle.std.specs.Prelude.{not, if◌then◌else◌, List, [], ◌∷◌, ◌++◌, length, map, Option, None}
 use Rattle.std.specs.Prelude.{Some, codes}
+use Rattle.std.specs.List.{flat_map}
 use Rattle.disk_model.specs.Disk.{State}
-use Rattle.mot_folder.specs.Listed.{IsListing}
+use Rattle.mot_folder.specs.Listed.{IsListing, names_in, with_type}
 use Rattle.mot_folder.specs.Log.{LogEntry, ReportTells, entry, kept_entry, log_entry_of}
 use Rattle.mot_folder.specs.Log.{names_read, of_look}
 use Rattle.mot_folder.specs.Taken.{AreTaken}
+use Rattle.mot_folder.specs.declared.listing.TheConstants.{MAX_NAMES}
 use Rattle.mot_folder.specs.declared.looking.TheConstants.{SOON}
 use Rattle.mot_folder.specs.declared.report.Report.{Report}
 use Rattle.mot_journal.specs.Image.{Standing}
+use Rattle.mot_journal.specs.declared.layout.Layout.{Layout}
 use Rattle.mot_numbers.specs.declared.refusal.Refusal.{Refusal}
 use Rattle.mot_numbers.specs.declared.refusal.Refusal.TheVariants.{OutOfMemory, ReadFault}
 use Rattle.mot_numbers.specs.declared.refusal.Refusal.TheVariants.{TooManyObjects}
@@ -23,15 +27,22 @@ use Rattle.mot_update.specs.Between.{may_look}
 use Rattle.mot_update.specs.HasRun.{HasRun}
 use Rattle.mot_update.specs.Laws.{IsUpdate, names_of}
 use Rattle.mot_update.specs.Looking.{AreAccepted}
-use Rattle.mot_update.specs.Told.{Answer, AreAnswers}
+use Rattle.mot_update.specs.Told.{Answer, AreAnswers, AreRight}
 use Rattle.mot_update.specs.Updating.{updating}
 use Rattle.mot_update.specs.declared.moment.Moment.{Moment}
 use Rattle.mot_update.specs.declared.wanted.Wanted.{Wanted}
 
--- why a folder is not listed
-abbrev pub IsUnlisted : Refusal → Type 0
-IsUnlisted refusal =
-    (refusal ≡ ReadFault) ⊎ (refusal ≡ TooManyObjects) ⊎ (refusal ≡ OutOfMemory)
+-- Why the folder of this path is not listed, which gave this: a call of it failed, or it gave names
+-- without an end; too many of its names have one of the suffixes; or memory was wanted.
+pub data IsUnlisted (types : List SuffixType) (path : List ℕ) (given : Given)
+    (refusal : Refusal) : Type 0 where
+  failed : refusal ≡ ReadFault → given.failed ≢ [] → IsUnlisted types path given refusal
+  endless : refusal ≡ ReadFault → 18446744073709551615 ≤ length given.listed
+      → IsUnlisted types path given refusal
+  many : refusal ≡ TooManyObjects → (pieces : List (List ℕ)) → given.listed ≡ path ∷ pieces
+      → MAX_NAMES < length (with_type types (flat_map names_in pieces))
+      → IsUnlisted types path given refusal
+  no_memory : refusal ≡ OutOfMemory → IsUnlisted types path given refusal
 
 -- a carousel of so many objects stays as it is where a folder has no names of objects, but for who
 -- allows that it gets empty
@@ -56,8 +67,8 @@ pub data IsLook (types : List SuffixType) (allows : Bool) (path : List ℕ) (giv
     (names : List (List ℕ)) (wanted : List Wanted) (fine : Bool) (entries : List LogEntry) :
     Type 0 where
   -- the folder was not listed, which is told, and no command was run
-  unlisted : (refusal : Refusal) → IsUnlisted refusal → fine ≡ false
-      → (fault ≡ None) ⊎ (fault ≡ Some OutOfMemory) → commands ≡ []
+  unlisted : (refusal : Refusal) → IsUnlisted types path given refusal → fine ≡ false
+      → ((fault ≡ None) × (refusal ≢ OutOfMemory)) ⊎ (fault ≡ Some OutOfMemory) → commands ≡ []
       → of_look entries ≡ entry (codes "look") path (Refused refusal) ∷ []
       → IsLook types allows path given c commands marks fault names wanted fine entries
   -- it was listed and has no object, which is told, and no command was run
@@ -81,6 +92,13 @@ pub data IsLook (types : List SuffixType) (allows : Bool) (path : List ℕ) (giv
       → EachIsTold types given seen wanted entries
       → IsLook types allows path given c commands marks fault names wanted fine entries
 
+-- Where commands were run, what is told of each of them is what came of it: the ids that it took, or
+-- why it was refused.
+abbrev pub TellsRightly : Layout → Standing → List Command → List LogEntry → Type 0
+TellsRightly layout s commands entries = (commands ≡ [])
+    ⊎ ((answers : List Answer) × (of_look entries ≡ map log_entry_of answers)
+    × AreRight layout s commands answers)
+
 -- a look ran its commands, and what is told of it stands in the report
 pub record HasLookedAtFolder {D : Type 0} (old new : ServerView D) (start now : State)
     (s : Standing) (types : List SuffixType) (allows : Bool) (path : List ℕ) (given : Given)
@@ -93,6 +111,7 @@ pub record HasLookedAtFolder {D : Type 0} (old new : ServerView D) (start now : 
   pub entries : List LogEntry
   pub look : IsLook types allows path given s.carousel commands marks fault names wanted
       (not report.any_refused) entries
+  pub right : TellsRightly old.view.journal.layout s commands entries
   pub told : ReportTells report entries
 
 -- whether a look is due: where one may come, and this packet was the last that was to come before

@@ -1,9 +1,15 @@
 //! A folder of files, as a source of wanted objects.
-ghost use Rattle.std.specs.Prelude.{◌≡◌, ◌-◌, ℕ, List, [], true, false, not, IfOk};
+ghost use Rattle.std.specs.Prelude.{◌≡◌, ◌⊎◌, ◌-◌, ℕ, List, [], true, false, not, IfErr, IfOk};
 ghost use Rattle.std.specs.Prelude.{MatchResult, codes, slice_get};
 ghost use Rattle.mot_folder.specs.Inner.Names.{name_or_none};
 ghost use Rattle.mot_folder.specs.Inner.Reading.{Misses, Takes, TellsFile, TellsLook};
-ghost use Rattle.mot_folder.specs.Log.{TellsOf};
+ghost use Rattle.mot_folder.specs.Inner.Reading.{IsUntakable};
+ghost use Rattle.mot_folder.specs.Log.{TellsOf, TellsOne, entry};
+ghost use Rattle.mot_folder.specs.declared.folder.Untaken.TheVariants.{Refused as NotTaken};
+ghost use Rattle.mot_folder.specs.declared.folder.Untaken.TheVariants.{Unread as NotRead};
+ghost use Rattle.mot_numbers.specs.declared.refusal.Refusal.{Refusal};
+ghost use Rattle.mot_server.specs.declared.running.Attempt.TheVariants.{Refused};
+ghost use Rattle.mot_shelf.specs.declared.unread.Unread.TheVariants.{Changed, Young};
 ghost use Rattle.mot_shelf.specs.Given.{Given, nothing};
 ghost use Rattle.mot_suffixes.specs.Types.{SuffixType, type_of_name};
 ghost use Rattle.mot_update.specs.Looking.{was_settled};
@@ -123,6 +129,12 @@ enum Untaken {
 fn tell_untaken(report: &mut Report, name: &[u8], untaken: Untaken)
     ensures any { report.new.any_refused ≡ true }
     ensures told { TellsFile report.old report.new name.now }
+
+    // What was read of it is told as it was refused; what may be read next time brings a look soon.
+    ensures refused { (refusal : Refusal) → untaken ≡ NotTaken refusal
+        → TellsOne report.old report.new (entry (codes "read") name.now (Refused refusal)) }
+    ensures left { (untaken ≡ NotRead Young) ⊎ (untaken ≡ NotRead Changed)
+        → report.new.any_left ≡ true }
 {
     match untaken {
         Untaken::Refused(refusal) => report.refused("read", name, refusal),
@@ -217,9 +229,10 @@ fn read<S: Shelf + Drop>(
 
 /// What is wanted of a file of this name with these bytes.
 fn wanted_of_file(types: &FileTypes, name: &Name, bytes: Vec<u8>) -> Result<Wanted, Refusal>
-    ensures { IfOk result (λ wanted. (type : SuffixType)
+    ensures made { IfOk result (λ wanted. (type : SuffixType)
         × (type_of_name types.now name.now ≡ Some type)
         × (wanted ≡ wanted_file type name.now bytes.items)) }
+    ensures why { IfErr result (IsUntakable types.now name.now bytes.items) }
 {
     let Some(file_type) = types.of_name(name.as_bytes()) else {
         return Err(Refusal::BadName);

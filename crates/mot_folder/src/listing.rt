@@ -1,9 +1,13 @@
 //! The files of a folder that are objects.
 ghost use Rattle.std.specs.List.{insert};
-ghost use Rattle.std.specs.Prelude.{◌≡◌, ◌↔◌, ◌<◌, ◌≤◌, ◌∷◌, [], true, false, length};
+ghost use Rattle.std.specs.Prelude.{◌≡◌, ◌↔◌, ◌+◌, ◌<◌, ◌≤◌, ◌∷◌, [], true, false, length};
 ghost use Rattle.std.specs.Prelude.{if◌then◌else◌, IfErr, IfOk, IfNone, IfSome, IsOk, IsTrue};
 ghost use Rattle.std.specs.Prelude.{List, OnErr, OnOk, Option, codes, ℕ};
-ghost use Rattle.mot_folder.specs.Inner.Listing.{GivesAll, GoesOn, IsUnread, WereAsked};
+ghost use Rattle.mot_folder.specs.Inner.Listing.{GivesAll, GivesNoMore, GoesOn, IsCallRefusal};
+ghost use Rattle.mot_folder.specs.Inner.Listing.{IsUnread, StopsAt, WereAsked};
+ghost use Rattle.mot_folder.specs.Inner.Reading.{TellsFile};
+ghost use Rattle.mot_objects.specs.Name.{is_name};
+ghost use Rattle.mot_objects.specs.declared.name.TheConstants.{MAX_NAME};
 ghost use Rattle.mot_folder.specs.Listed.{IsListing, and_in_order, and_object, has_type};
 ghost use Rattle.mot_folder.specs.Listed.{names_in};
 ghost use Rattle.mot_folder.specs.Log.{TellsAnswers, TellsOne, entry, with_reason};
@@ -46,7 +50,7 @@ pub(crate) struct Unlisted {
 impl Unlisted {
     /// The system refused a call.
     fn by(error: io::Error) -> Unlisted
-        ensures { IsUnlisted result.refusal }
+        ensures { IsCallRefusal result.refusal }
     {
         Unlisted {
             refusal: read_refusal(error),
@@ -90,7 +94,8 @@ pub struct FileNames {
 impl FileNames {
     /// No names.
     pub fn new(alloc: Global) -> FileNames
-        ensures { result.names.items ≡ [] }
+        ensures none { result.names.items ≡ [] }
+        ensures counted { result.counted ≡ 0 }
     {
         FileNames {
             names: Vec::new(alloc),
@@ -103,6 +108,7 @@ impl FileNames {
     fn count(&mut self) -> Result<(), Refusal>
         ensures same { self.new.names ≡ self.old.names }
         ensures counts { IsOk result ↔ (self.old.counted < MAX_NAMES) }
+        ensures counted { OnOk result (self.new.counted ≡ self.old.counted + 1) }
         ensures many { IfErr result (λ refusal. refusal ≡ TooManyObjects) }
     {
         if self.counted >= MAX_NAMES {
@@ -126,6 +132,7 @@ impl FileNames {
             ≡ (if is_known self.old.names.items name then self.old.names.items
             else and_in_order self.old.names.items name)) }
         ensures kept { OnErr result (self.new.names.items ≡ self.old.names.items) }
+        ensures counted { self.new.counted ≡ self.old.counted }
     {
         if !self.has(&name) {
             let place = place_in(&self.names, name.as_bytes());
@@ -165,7 +172,8 @@ pub(crate) fn list<S: Shelf + Drop>(
         (S.gave shelf.new) names.names.items) }
     ensures unread { IsUnread nothing (S.gave shelf.new) }
     ensures shown { IfOk result (λ names. AreShown names.names.items) }
-    ensures why { IfErr result (λ unlisted. IsUnlisted unlisted.refusal) }
+    ensures why { IfErr result (λ unlisted. IsUnlisted types.now (S.path shelf.old)
+        (S.gave shelf.new) unlisted.refusal) }
 {
     let mut names = FileNames::new(alloc);
     if let Err(error) = shelf.open(alloc) {
@@ -186,10 +194,11 @@ fn read_names<S: Shelf + Drop>(
     ensures same { S.path shelf.new ≡ S.path shelf.old }
     ensures told { TellsMore (TellsAnswers report.old) (TellsAnswers report.new) [] }
     ensures gave { OnOk result (GivesAll types.now (S.gave shelf.old) (S.gave shelf.new)
-        names.old.names.items names.new.names.items) }
+        names.old.counted names.new.counted names.old.names.items names.new.names.items) }
     ensures unread { IsUnread (S.gave shelf.old) (S.gave shelf.new) }
     ensures shown { AreShown names.old.names.items → AreShown names.new.names.items }
-    ensures why { IfErr result (λ unlisted. IsUnlisted unlisted.refusal) }
+    ensures why { IfErr result (λ unlisted. GivesNoMore types.now (S.gave shelf.old)
+        (S.gave shelf.new) names.old.counted names.old.names.items unlisted.refusal) }
 {
     let mut room = [0; ROOM];
     for _ in 0..u64::MAX {
@@ -214,10 +223,13 @@ fn add_all<S: Shelf + Drop>(
     ensures same { S.path shelf.new ≡ S.path shelf.old }
     ensures told { TellsMore (TellsAnswers report.old) (TellsAnswers report.new) [] }
     ensures goes { OnOk result (GoesOn types.now (names_in bytes.now) (S.gave shelf.old)
-        (S.gave shelf.new) names.old.names.items names.new.names.items) }
+        (S.gave shelf.new) names.old.counted names.new.counted
+        names.old.names.items names.new.names.items) }
     ensures asked { WereAsked (S.gave shelf.old) (S.gave shelf.new) }
     ensures shown { AreShown names.old.names.items → AreShown names.new.names.items }
-    ensures why { IfErr result (λ unlisted. IsUnlisted unlisted.refusal) }
+    ensures why { IfErr result (λ unlisted. StopsAt types.now (names_in bytes.now)
+        (S.gave shelf.old) (S.gave shelf.new) names.old.counted names.old.names.items
+        unlisted.refusal) }
 {
     let mut rest = bytes;
     while let Some((name, others)) = cut_name(rest) {
@@ -249,10 +261,13 @@ fn add_one<S: Shelf + Drop>(
     ensures same { S.path shelf.new ≡ S.path shelf.old }
     ensures told { TellsMore (TellsAnswers report.old) (TellsAnswers report.new) [] }
     ensures goes { OnOk result (GoesOn types.now (name.now ∷ []) (S.gave shelf.old)
-        (S.gave shelf.new) names.old.names.items names.new.names.items) }
+        (S.gave shelf.new) names.old.counted names.new.counted
+        names.old.names.items names.new.names.items) }
     ensures asked { WereAsked (S.gave shelf.old) (S.gave shelf.new) }
     ensures shown { AreShown names.old.names.items → AreShown names.new.names.items }
-    ensures why { IfErr result (λ unlisted. IsUnlisted unlisted.refusal) }
+    ensures why { IfErr result (λ unlisted. StopsAt types.now (name.now ∷ [])
+        (S.gave shelf.old) (S.gave shelf.new) names.old.counted names.old.names.items
+        unlisted.refusal) }
 {
     if !is_object(types, name) {
         tell_skipped(shelf, alloc, name, false, report);
@@ -309,6 +324,11 @@ fn add_file(
     ensures added { OnOk result
         (names.new.names.items ≡ and_object names.old.names.items name.now) }
     ensures kept { OnErr result (names.new.names.items ≡ names.old.names.items) }
+    ensures counted { names.new.counted ≡ names.old.counted }
+
+    // A file whose name can't be an object's is told.
+    ensures nameless { OnOk result (is_name MAX_NAME name.now ≡ false
+        → TellsFile report.old report.new name.now) }
 {
     match Name::new(Vec::from_slice(alloc, name)?) {
         Ok(name) => names.add(name)?,
@@ -333,6 +353,7 @@ fn name_text(name: &[u8]) -> TextLine {
 /// Tells that the folder of this path is not listed, and why.
 pub(crate) fn tell_unlisted(report: &mut Report, path: &[u8], unlisted: Unlisted)
     ensures any { report.new.any_refused ≡ true }
+    ensures memory { unlisted.refusal ≡ OutOfMemory → report.new.any_without_memory ≡ true }
     ensures told { (why : Option (List ℕ)) × TellsOne report.old report.new
         (with_reason (entry (codes "look") path.now (Refused unlisted.refusal)) why) }
 {
@@ -360,7 +381,7 @@ fn reason_of(unlisted: Unlisted) -> Option<Reason> {
 
 /// Why something could not be read.
 pub(crate) fn read_refusal(error: io::Error) -> Refusal
-    ensures { IsUnlisted result }
+    ensures { IsCallRefusal result }
 {
     match error.kind() {
         ErrorKind::OutOfMemory => Refusal::OutOfMemory,

@@ -1,5 +1,6 @@
 //! A look at a folder, and looks between the packets of a feed.
-ghost use Rattle.std.specs.Prelude.{◌≡◌, ◌∷◌, ◌++◌, [], OnOk, true, false, ℕ, List, length};
+ghost use Rattle.std.specs.Prelude.{◌≡◌, ◌&&◌, ◌||◌, ◌+◌, ◌∷◌, ◌++◌, [], OnOk, true, false, ℕ};
+ghost use Rattle.std.specs.Prelude.{List, if◌then◌else◌, length, min};
 ghost use Rattle.disk_model.specs.Disk.{KeepsLength};
 ghost use Rattle.mot_update.specs.Between.{IsUpdating, may_look};
 ghost use Rattle.mot_folder.specs.Log.{TellsAnswers, TellsOf};
@@ -169,6 +170,8 @@ impl<'a, S: Shelf + Drop, W: Write + Drop> Looks<'a, S, W> {
         ensures within { result.within ≡ false }
         ensures folder { result.folder ≡ folder.entry }
         ensures none { result.looks.all ≡ [] }
+        ensures uncounted { result.count ≡ 0 }
+        ensures fine { result.any_refused ≡ false }
     {
         Looks {
             folder,
@@ -219,6 +222,12 @@ impl<'a, S: Shelf + Drop, W: Write + Drop> Update for Looks<'a, S, W> {
         ensures looks { is_due self.old.left (may_look moment) ≡ true
             → (self.new.left ≡ packets_left self.new.folder.report.any_left self.old.every)
             × (self.new.looks.all ≡ self.old.looks.all ++ S.gave self.new.folder.shelf ∷ []) }
+
+        // It counts its looks, and keeps whether something was refused in any of them.
+        ensures counted { self.new.count ≡ (if is_due self.old.left (may_look moment)
+            then min (self.old.count + 1) 18446744073709551615 else self.old.count) }
+        ensures kept { self.new.any_refused ≡ (self.old.any_refused
+            || is_due self.old.left (may_look moment) && self.new.folder.report.any_refused) }
         ensures looked { is_due self.old.left (may_look moment) ≡ true
             → (s : Standing) → Holds server.old.view s (D.state server.old.disk)
             → (D.state server.new.disk).IsHonest

@@ -1,7 +1,7 @@
 //! The log of a look at a folder, line by line.
 ghost use Rattle.std.specs.Prelude.{◌≡◌, ◌↔◌, ◌++◌, [], List, Option, Some, ℕ, true, false, codes};
-ghost use Rattle.std.specs.Prelude.{IfErr, IsOk, OnOk};
-ghost use Rattle.mot_folder.specs.Log.{ReportTells, TellsOne, entry, entry_with, kept_entry};
+ghost use Rattle.std.specs.Prelude.{IfErr, IsOk, OnOk, nat_le};
+ghost use Rattle.mot_folder.specs.Log.{BeginsAnew, ReportTells, TellsOne, entry, entry_with, kept_entry};
 ghost use Rattle.mot_folder.specs.Log.{log_line, with_reason};
 ghost use Rattle.mot_numbers.specs.declared.refusal.Refusal.TheVariants.{OutOfMemory};
 ghost use Rattle.mot_server.specs.declared.running.Attempt.TheVariants.{Accepted, Refused};
@@ -50,6 +50,7 @@ impl Report {
     pub fn new(alloc: Global) -> Report
         ensures fine { result.any_refused ≡ false }
         ensures whole { result.any_left_out ≡ false }
+        ensures anew { BeginsAnew result }
         ensures told { ReportTells result [] }
     {
         Report {
@@ -67,6 +68,7 @@ impl Report {
     pub fn begin(&mut self)
         ensures fine { self.new.any_refused ≡ false }
         ensures whole { self.new.any_left_out ≡ false }
+        ensures anew { BeginsAnew self.new }
         ensures told { ReportTells self.new [] }
     {
         self.lines.clear();
@@ -223,7 +225,9 @@ impl Report {
     }
 
     /// Whether as many names were skipped as have lines.
-    pub fn is_full(&self) -> bool {
+    pub fn is_full(&self) -> bool
+        ensures { result ≡ nat_le MAX_SKIPPED self.now.skipped }
+    {
         self.skipped >= MAX_SKIPPED
     }
 

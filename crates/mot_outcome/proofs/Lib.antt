@@ -1,3 +1,4 @@
 mod Explained
 pub mod Laws
+mod Parts
 mod Results

@@ -1,9 +1,9 @@
 //! How a run of the program ends, and what it prints of that.
-ghost use Rattle.std.specs.Prelude.{◌≡◌, ◌≢◌, ◌⊎◌, None, Some};
+ghost use Rattle.std.specs.Prelude.{ℕ, ◌≡◌, ◌≢◌, ◌⊎◌, List, None, Some, true};
 ghost use Rattle.std.specs.Io.KnownBytes.{Keeps};
 ghost use Rattle.clap.specs.Words.{kind_of};
-ghost use Rattle.mot_numbers.specs.declared.refusal.Refusal.TheVariants.{OutOfMemory, WriteFault};
-ghost use Rattle.mot_outcome.specs.Outcome.{Prints, PrintsFront};
+ghost use Rattle.mot_numbers.specs.declared.refusal.Refusal.TheVariants.{OutOfMemory};
+ghost use Rattle.mot_outcome.specs.Outcome.{Prints, status_of};
 ghost use Rattle.mot_outcome.specs.declared.used.UsedDisk.TheVariants.{Untouched};
 
 use crate::printing::write_last;
@@ -49,18 +49,15 @@ pub fn explain<S: Start, W: Write, E: Write>(
     error: &Error,
     start: S,
 ) -> Exit<S>
-    ensures status { (result.status ≡ 0) ⊎ (result.status ≡ 1) ⊎ (result.status ≡ 2) }
     ensures untouched { result.disk ≡ Untouched start }
-    ensures help { result.status ≡ 0 → (kind_of error.now ≡ ErrorKind.DisplayHelp)
-        × Prints (W.contents writer.old) (W.contents writer.new) }
-    ensures usage { result.status ≡ 2 → (kind_of error.now ≢ ErrorKind.DisplayHelp)
-        × (kind_of error.now ≢ ErrorKind.OutOfMemory)
-        × Keeps (W.contents writer.old) (W.contents writer.new) }
-    ensures refused { result.status ≡ 1
-        → ((result.refusal ≡ Some OutOfMemory)
+    ensures told { ((result.status ≡ 1) × (result.refusal ≡ Some OutOfMemory)
         × Keeps (W.contents writer.old) (W.contents writer.new))
-        ⊎ ((result.refusal ≡ Some WriteFault) × (kind_of error.now ≡ ErrorKind.DisplayHelp)
-        × PrintsFront (W.contents writer.old) (W.contents writer.new)) }
+        ⊎ ((result.status ≡ 2) × (result.refusal ≡ None)
+        × (kind_of error.now ≢ ErrorKind.DisplayHelp) × (kind_of error.now ≢ ErrorKind.OutOfMemory)
+        × Keeps (W.contents writer.old) (W.contents writer.new))
+        ⊎ ((result.status ≡ status_of true result.refusal)
+        × (kind_of error.now ≡ ErrorKind.DisplayHelp) × (text : List ℕ)
+        × Prints result.refusal text (W.contents writer.old) (W.contents writer.new)) }
 {
     let kind = error.kind();
     let disk = UsedDisk::Untouched(start);

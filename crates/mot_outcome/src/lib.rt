@@ -10,4 +10,4 @@ mod used;
 pub use exit::{Exit, explain, refuse};
 pub use printing::{write_bytes, write_last};
 pub use subject::{Subject, subject_of};
-pub use used::{Beside, Finished, UsedDisk};
+pub use used::{Beside, Finished, Inputs, UsedDisk};

@@ -1,8 +1,6 @@
 //! Printing bytes, whole or up to a fault.
-ghost use Rattle.std.specs.Prelude.{◌≡◌, OnOk, IfErr};
-ghost use Rattle.std.specs.Io.KnownBytes.{Appends};
-ghost use Rattle.mot_numbers.specs.declared.refusal.Refusal.TheVariants.{WriteFault};
-ghost use Rattle.mot_session.specs.Served.{WritesFront};
+ghost use Rattle.mot_outcome.specs.Outcome.{Prints};
+ghost use Rattle.mot_server.specs.Attempts.{fault_of};
 
 use mot_numbers::Refusal;
 use mot_session::write_whole;
@@ -10,10 +8,8 @@ use std::io::Write;
 
 /// Writes all of the bytes; after a fault some first of them were written.
 pub fn write_bytes<W: Write>(writer: &mut W, bytes: &[u8]) -> Result<(), Refusal>
-    ensures written { OnOk result
-        (Appends (W.contents writer.old) (W.contents writer.new) bytes.now) }
-    ensures front { IfErr result (λ refusal. (refusal ≡ WriteFault)
-        × WritesFront bytes.now (W.contents writer.old) (W.contents writer.new)) }
+    ensures { Prints (fault_of result) bytes.now
+        (W.contents writer.old) (W.contents writer.new) }
 {
     match write_whole(writer, bytes) {
         Ok(()) => Ok(()),
@@ -23,10 +19,8 @@ pub fn write_bytes<W: Write>(writer: &mut W, bytes: &[u8]) -> Result<(), Refusal
 
 /// Writes the end of what is printed, and hands all of it on.
 pub fn write_last<W: Write>(writer: &mut W, bytes: &[u8]) -> Result<(), Refusal>
-    ensures written { OnOk result
-        (Appends (W.contents writer.old) (W.contents writer.new) bytes.now) }
-    ensures front { IfErr result (λ refusal. (refusal ≡ WriteFault)
-        × WritesFront bytes.now (W.contents writer.old) (W.contents writer.new)) }
+    ensures { Prints (fault_of result) bytes.now
+        (W.contents writer.old) (W.contents writer.new) }
 {
     write_bytes(writer, bytes)?;
     match writer.flush() {

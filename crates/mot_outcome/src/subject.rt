@@ -2,7 +2,7 @@
 //! number is out of its range. It is printed, and nothing is decided by it.
 use clap::ArgMatches;
 use disk_store::OpenFault;
-use mot_files::{Cause, OUTPUT, SUFFIX};
+use mot_endpoints::{Cause, OUTPUT, SUFFIX};
 use mot_numbers::Refusal;
 use mot_reason::Reason;
 use std::io::{ErrorKind, Write};

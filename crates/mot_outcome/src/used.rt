@@ -1,13 +1,13 @@
 //! The disk that a task worked on, as it is left.
-ghost use Rattle.std.specs.Prelude.{◌≡◌, Err, None, Some};
-ghost use Rattle.mot_files.specs.declared.fault.Cause.TheVariants.{Disk};
+ghost use Rattle.std.specs.Prelude.{◌≡◌, [], Err, None, Some};
+ghost use Rattle.mot_endpoints.specs.declared.fault.Cause.TheVariants.{Disk};
 ghost use Rattle.mot_numbers.specs.declared.refusal.Refusal.TheVariants.{DeviceFault};
 ghost use Rattle.mot_outcome.specs.declared.used.UsedDisk.TheVariants.{OfFile, Untouched};
 
 use disk_store::{Beginning, BegunFile, FileDiskFrom, RamDisk, Start, Unopened};
-use mot_files::{Cause, Taken};
+use mot_endpoints::{Cause, LineNotes, Taken};
+use mot_export::Ended;
 use mot_numbers::Refusal;
-use mot_reading::Ended;
 use mot_reason::Reason;
 use mot_shelf::{LookNotes, Seen};
 
@@ -30,25 +30,47 @@ pub struct Beside {
     pub taken: Taken,
     /// What the folder gave that the carousel was to be made equal to.
     pub seen: Seen,
-    /// What the folder gave in each look while a disk was played.
+    /// What was given while a disk was played.
+    pub inputs: Inputs,
+}
+
+/// What was given while a disk was played, as lists that only clauses read.
+#[derive(Drop)]
+pub struct Inputs {
+    /// What the folder gave in each look.
     pub looks: LookNotes,
+    /// What each read of lines gave.
+    pub lines: LineNotes,
+}
+
+impl Inputs {
+    /// Nothing but what these looks gave.
+    pub fn of_looks(looks: LookNotes) -> Inputs
+        ensures looks { result.looks ≡ looks }
+        ensures lines { result.lines.notes.all ≡ [] }
+    {
+        Inputs {
+            looks,
+            lines: LineNotes::new(),
+        }
+    }
 }
 
 impl Beside {
     /// Nothing.
     pub fn nothing() -> Beside {
-        Beside::played(Taken::nothing(), LookNotes::new())
+        Beside::folder(Seen::nothing())
     }
 
-    /// Packets were written, with these looks.
-    pub fn played(taken: Taken, looks: LookNotes) -> Beside
+    /// Packets were written, and this was given.
+    pub fn played(taken: Taken, inputs: Inputs) -> Beside
         ensures taken { result.taken ≡ taken }
-        ensures looks { result.looks ≡ looks }
+        ensures inputs { result.inputs ≡ inputs }
     {
         Beside {
             taken,
             seen: Seen::nothing(),
-            looks,
+            inputs,
         }
     }
 
@@ -59,7 +81,7 @@ impl Beside {
         Beside {
             taken: Taken::nothing(),
             seen,
-            looks: LookNotes::new(),
+            inputs: Inputs::of_looks(LookNotes::new()),
         }
     }
 }

@@ -5,5 +5,5 @@ mod header;
 mod outlet;
 mod packet;
 
-pub use outlet::{Direct, Outlet};
+pub use outlet::Outlet;
 pub use packet::{MAX_PACKET, Packet, cut_packet, cut_packet_into, packet_count};

@@ -1,10 +1,9 @@
 //! Outlets: where packets go.
 ghost use Rattle.std.specs.Prelude.{◌≤◌, ◌∷◌, ℕ, List, [], None, Option, length, take, IfOk};
 ghost use Rattle.std.specs.Prelude.{MatchResult};
-ghost use Rattle.std.specs.Io.KnownBytes.{WriteAppends};
 ghost use Rattle.mot_packets.specs.Outlet.{Grows};
 
-use std::io::{self, Write};
+use std::io;
 
 /// Takes packets, each in one write of its own: a pipe, a device or a file.
 pub trait Outlet {
@@ -17,26 +16,4 @@ pub trait Outlet {
         ensures one { MatchResult result
             (λ count. Grows (writes self.old) (writes self.new) (take count bytes.now ∷ []))
             (λ _. Grows (writes self.old) (writes self.new) ([] ∷ [])) };
-}
-
-/// A writer as it is: each write is one call of its `write`.
-#[derive(Drop)]
-pub struct Direct<W: Write + Drop> {
-    /// The writer.
-    pub writer: W,
-}
-
-impl<W: Write + Drop> Outlet for Direct<W> {
-    fn write_once(&mut self, bytes: &[u8]) -> io::Result<usize>
-        ensures bound { IfOk result (λ count. count ≤ length bytes.now) }
-        ensures one { MatchResult result
-            (λ count. Grows None None (take count bytes.now ∷ []))
-            (λ _. Grows {A = List ℕ} None None ([] ∷ [])) }
-
-        // The writer takes the noted bytes, and nothing else.
-        ensures written { WriteAppends (W.contents self.old.writer) (W.contents self.new.writer)
-            result bytes.now }
-    {
-        self.writer.write(bytes)
-    }
 }

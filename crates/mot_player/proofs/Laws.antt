@@ -1,7 +1,7 @@
 -- What holds of the definitions, for the crates above.
 
 -- the packets of a whole turn of a carousel read as exactly the carousel
-pub use Rattle.mot_player.proofs.WholeTurn.{turns_read_as_their_carousels}
+pub use Rattle.mot_player.proofs.TurnOnce.{turns_read_as_their_carousels}
 -- and so they do where the directory is asked for within it
 pub use Rattle.mot_player.proofs.TurnOnce.{turns-read-with_directories}
 -- packets and groups have their continuity indexes, whatever comes between the requests

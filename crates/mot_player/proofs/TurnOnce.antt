@@ -2,7 +2,7 @@
 -- its carousel.
 use Rattle.std.proofs.Common.{◌≡◌, ℕ, ◌+◌, ◌<◌, List, [], ◌∷◌, ◌++◌, Bool, true, false}
 use Rattle.std.proofs.Common.{Option, Some, None, ◌⊎◌, inl, inr, refl, sym, subst, map, length}
-use Rattle.std.proofs.Common.{take}
+use Rattle.std.proofs.Common.{take, drop, replicate, suc, zero, arith}
 use Rattle.std.proofs.Common.{ap, ◌∙◌}
 use Rattle.std.proofs.lemmas.Bool.{and_parts}
 use Rattle.std.proofs.lemmas.Option.{none-some, same_Some}
@@ -17,7 +17,7 @@ use Rattle.mot_packets.specs.Cut.{piece_at}
 use Rattle.mot_packets.specs.Gather.{groups_after, gather, gather_front}
 use Rattle.mot_packets.specs.Packet.{PacketFields}
 use Rattle.mot_packets.proofs.Laws.{groups_after-last_piece, groups_after-piece, more_left}
-use Rattle.mot_player.specs.Laws.{AreSent, IsAtTurnsBeginning, IsPlace}
+use Rattle.mot_player.specs.Laws.{AreSent, IsAtTurnsBeginning, IsPlace, TurnsReadAsTheirCarousels}
 use Rattle.mot_player.specs.Place.{Place, Sent, Step, Request, NewTurn, Directory, Follow, UnderWay}
 use Rattle.mot_player.specs.Place.{directory_segments, first_sent, group_for, hear_directory}
 use Rattle.mot_player.specs.Place.{left_of, left_with, next_sent, of_bodies, packet_sent, request}
@@ -37,7 +37,7 @@ use Rattle.mot_player.proofs.Requests.{place_behind}
 use Rattle.mot_player.proofs.TurnReads.{EntityLaws, read_segments-turn}
 use Rattle.mot_player.proofs.WholeTurn.{IsFit, KeepsIndexes, append-fit, are_fit-turn, begun-keeps}
 use Rattle.mot_player.proofs.WholeTurn.{entity-laws, group-index_fits, groups-read, is_group}
-use Rattle.mot_player.proofs.WholeTurn.{whole_or_none}
+use Rattle.mot_player.proofs.WholeTurn.{ends_of, head-false, head-true, last_ends, whole_or_none}
 
 -- where a group is under way: it, and what was sent of it
 abbrev pub group_of : Option UnderWay → List (List ℕ)
@@ -411,3 +411,37 @@ module _ (old : Place) (c : Carousel) (place : IsPlace old)
 pub turns-read-with_directories : TurnsReadWithDirectories
 turns-read-with_directories old new c steps sents packets place is_turn sound begins keep h ends =
     turn-reads old c place is_turn sound begins new steps sents packets keep h ends
+
+-- where nothing but requests come, no turn comes and the directory is not asked for
+keep-requests : (n : ℕ) → keep_turn (replicate n Request) ≡ true
+keep-requests zero = refl
+keep-requests (suc n) = keep-requests n
+
+ask-requests : (n : ℕ) → ask_directory (replicate n Request) ≡ false
+ask-requests zero = refl
+ask-requests (suc n) = ask-requests n
+
+none_end : (n : ℕ) → [] ≡ last_ends n → ⊥
+none_end zero e = absurd (omega (arith, ap length e))
+none_end (suc n) e = absurd (omega (arith, ap length e))
+
+-- of n + 1 packets the last alone ends the turn
+ends-last : (b : Bool) (n : ℕ) (sents : List Sent) → b ∷ ends_of sents ≡ last_ends n →
+    (if b then is_empty sents else ends_at_last sents) ≡ true
+ends-last true zero [] e = refl
+ends-last true zero (s ∷ sents) e = absurd (omega (arith, ap (λ bs. length (drop 1 bs)) e))
+ends-last true (suc n) sents e = absurd (head-true (ends_of sents) (last_ends n) e)
+ends-last false zero sents e = absurd (head-false (ends_of sents) [] e)
+ends-last false (suc n) [] e = absurd (none_end n (ap (drop 1) e))
+ends-last false (suc n) (s ∷ sents) e = ends-last s.ends_turn n sents (ap (drop 1) e)
+
+-- the packets of a turn from its beginning on read as its carousel
+pub turns_read_as_their_carousels : TurnsReadAsTheirCarousels
+turns_read_as_their_carousels old new c n sents packets place is_turn sound begins h flags sent =
+    let q : FirstRequest old (replicate n Request) sents new =
+    first_request old (replicate n Request) sents new h in
+    let ends : ends_at_last sents ≡ true =
+    ap ends_at_last q.all
+    ∙ ends-last q.first.ends_turn n q.others (ap ends_of (sym q.all) ∙ flags) in
+    (turn-reads old c place is_turn sound begins new (Request ∷ replicate n Request) sents packets
+    (keep-requests n) h ends sent).plain (ask-requests n)

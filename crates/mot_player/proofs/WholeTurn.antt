@@ -1,36 +1,24 @@
--- The packets of a turn gather to its groups, and these read as its carousel.
+-- The segments of a turn fit their groups, and these read as the segments.
 use Rattle.std.proofs.Common.{◌≡◌, ℕ, suc, zero, ◌+◌, ◌*◌, ◌%◌, ◌^◌, ◌<◌, ◌≤◌, List, [], ◌∷◌, ◌++◌}
-use Rattle.std.proofs.Common.{Bool, true, false, ◌&&◌, Option, Some, None, ◌⊎◌, inl, inr, refl, sym}
-use Rattle.std.proofs.Common.{subst, length, map, take, drop, replicate, All, ap, ◌∙◌, arith}
+use Rattle.std.proofs.Common.{Bool, true, false, Option, Some, None, ◌⊎◌, inl, inr, refl, sym}
+use Rattle.std.proofs.Common.{subst, length, map, drop, replicate, All, ap, arith}
 use Rattle.std.proofs.Math.Nat.{mul-le-mul_right}
 use Rattle.std.proofs.lemmas.Bool.{cases_lt, false≢true}
 use Rattle.std.proofs.lemmas.Grind.{div_ceil_times}
 use Rattle.std.proofs.lemmas.List.Elements.{All-head, All-tail}
-use Rattle.std.proofs.lemmas.Option.{none-some, same_Some}
 use Rattle.std.specs.Prelude.{◌==◌, if◌then◌else◌, bytes_eq, IfSome}
 use Rattle.std.specs.Int.{div_ceil}
-use Rattle.std.specs.List.{list_all, AllByRecursion}
+use Rattle.std.specs.List.{AllByRecursion}
 use Rattle.mot_groups.specs.Entity.{first_pieces, numbered_segments, pieces, segments_of}
 use Rattle.mot_groups.specs.Group.{Segment, GroupFields, IsGroup, read_group, bytes_of_group}
 use Rattle.mot_groups.specs.Group.{segment_content}
 use Rattle.mot_groups.proofs.Laws.{IsCut-pieces, entity_of-own, read_group-bytes_of_group}
 use Rattle.mot_numbers.specs.Reading.{is_empty, read_each}
 use Rattle.mot_objects.specs.Carousel.{Object, Carousel, IsSound}
-use Rattle.mot_packets.specs.Cut.{piece_at}
-use Rattle.mot_packets.specs.Gather.{groups_after, gather_front, gather}
-use Rattle.mot_packets.specs.Packet.{PacketFields, read_packet}
-use Rattle.mot_packets.proofs.Laws.{groups_after-last_piece, groups_after-piece, more_left}
-use Rattle.mot_player.specs.Laws.{AreSent, IsAtTurnsBeginning, IsPlace, TurnsReadAsTheirCarousels}
-use Rattle.mot_player.specs.Place.{Last, Place, Sent, Request, next_index, group_for, with_begun}
-use Rattle.mot_player.specs.Place.{packet_sent, first_sent, to_send, next_sent, request, sent_by}
-use Rattle.mot_player.specs.Reading.{ReadsAs, read_turn}
+use Rattle.mot_player.specs.Place.{Last, Place, Sent, next_index, group_for, with_begun}
 use Rattle.mot_player.specs.Turn.{Turn, IsTurnOf, IsPlayable, IsSendable, bodies_with_ids}
 use Rattle.mot_player.specs.Turn.{segments_of_turn, segments_of_bodies}
-use Rattle.mot_player.proofs.Indexes.{some_bytes-group}
-use Rattle.mot_player.proofs.Requests.{FirstRequest, first_request, no_steps, packets_of}
-use Rattle.mot_player.proofs.Requests.{place_behind}
-use Rattle.mot_player.proofs.Addresses.{one_address, steps-address}
-use Rattle.mot_player.proofs.TurnReads.{EntityLaws, read_segments-turn}
+use Rattle.mot_player.proofs.TurnReads.{EntityLaws}
 
 -- the indexes that are kept fit a group's header
 pub record KeepsIndexes (place : Place) : Type 0 where
@@ -164,14 +152,6 @@ begun-keeps place s others keeps =
       body = kept-cases (s.kind == 6) place.last_body last keeps.body fits;
     }
 
--- the packets of these segments' groups, behind the front of one more
-record SendsBehind (front group : List ℕ) (segments : List Segment) (packets : List PacketFields) :
-    Type 0 where
-  groups : List GroupFields
-  gathered : groups_after front packets ≡ Some (group ∷ map bytes_of_group groups, [])
-  carry : map (λ (g : GroupFields). g.segment) groups ≡ segments
-  are_groups : AllByRecursion IsGroup groups
-
 -- of what was sent, which ends a turn
 abbrev pub ends_of : List Sent → List Bool
 ends_of sents = map (λ (s : Sent). s.ends_turn) sents
@@ -205,130 +185,6 @@ is_group index s i f =
           f.fits;
     }
 
-turn-behind : (n : ℕ) (last : Bool) (place : Place) (waiting : List Segment) (group : List ℕ)
-    (at : ℕ)
-    (sents : List Sent) (new : Place)
-    → (piece_at place.room place.address place.index group at).last ≡ last →
-    at < length group → 0 < place.room → KeepsIndexes place → AllByRecursion IsFit waiting →
-    sent_by (place_behind (record place { waiting = waiting }) group at last) (replicate n Request)
-    ≡ Some (sents, new) →
-    (last && is_empty waiting) ∷ ends_of sents ≡ last_ends n →
-    SendsBehind (take at group) group waiting
-    (piece_at place.room place.address place.index group at ∷ packets_of sents)
-unfolding request groups_after
-turn-behind zero true place [] group at sents new l inside r keeps fit h f =
-    let none : [] ≡ sents = no_steps (place_behind (record place { waiting = [] }) group at true)
-    sents new h in
-    let piece : PacketFields = piece_at place.room place.address place.index group at in
-    subst (λ ss. SendsBehind (take at group) group [] (piece ∷ packets_of ss)) none (record {
-      groups = [];
-      gathered = groups_after-last_piece place.room place.address place.index at group [] [] [] r
-          inside l refl;
-      carry = refl;
-      are_groups = tt;
-    })
-turn-behind zero true place (t ∷ waiting) group at sents new l inside r keeps fit h f =
-    absurd (head-false (ends_of sents) [] f)
-turn-behind zero false place waiting group at sents new l inside r keeps fit h f =
-    absurd (head-false (ends_of sents) [] f)
-turn-behind (suc m) true place [] group at sents new l inside r keeps fit h f =
-    absurd (head-true (ends_of sents) (last_ends m) f)
-turn-behind (suc m) true place (t ∷ waiting) group at sents new l inside r keeps fit h f =
-    let here : Place = place_behind (record place { waiting = t ∷ waiting }) group at true in
-    let q : FirstRequest here (replicate m Request) sents new =
-    first_request here (replicate m Request) sents new h in
-    let g : GroupFields = group_for here t in
-    let begun : Place = with_begun here g waiting in
-    let first : Sent = packet_sent begun (bytes_of_group g) 0 in
-    let same : first ≡ q.first = same_Some first q.first q.asked in
-    let rest : sent_by first.place (replicate m Request) ≡ Some (q.others, new) =
-    ap (λ (x : Sent). sent_by x.place (replicate m Request)) same ∙ q.rest in
-    let flags : first.ends_turn ∷ ends_of q.others ≡ last_ends m =
-    ap (λ (x : Sent). x.ends_turn ∷ ends_of q.others) same ∙ ap ends_of (sym q.all)
-    ∙ ap (drop 1) f in
-    let others : SendsBehind [] (bytes_of_group g) waiting (first.packet ∷ packets_of q.others) =
-    turn-behind m first.packet.last begun waiting (bytes_of_group g) 0 q.others new refl
-    (some_bytes-group g) r
-    (begun-keeps here t waiting (record { directory = keeps.directory; body = keeps.body })) fit.1
-    rest flags in
-    let piece : PacketFields = piece_at place.room place.address place.index group at in
-    let all : first.packet ∷ packets_of q.others ≡ packets_of sents =
-    ap (λ (x : Sent). x.packet ∷ packets_of q.others) same ∙ ap packets_of (sym q.all) in
-    subst (λ ps. SendsBehind (take at group) group (t ∷ waiting) (piece ∷ ps)) all (record {
-      groups = g ∷ others.groups;
-      gathered = groups_after-last_piece place.room place.address place.index at group
-          (first.packet ∷ packets_of q.others) (bytes_of_group g ∷ map bytes_of_group others.groups)
-          [] r inside l others.gathered;
-      carry = ap (λ segments. t ∷ segments) others.carry;
-      are_groups = (
-        is_group g.index t
-            (group-index_fits here t (record { directory = keeps.directory; body = keeps.body }))
-            fit.0,
-        others.are_groups,
-      );
-    })
-turn-behind (suc m) false place waiting group at sents new l inside r keeps fit h f =
-    let here : Place = place_behind (record place { waiting = waiting }) group at false in
-    let q : FirstRequest here (replicate m Request) sents new =
-    first_request here (replicate m Request) sents new h in
-    let first : Sent = packet_sent here group (at + place.room) in
-    let same : first ≡ q.first = same_Some first q.first q.asked in
-    let rest : sent_by first.place (replicate m Request) ≡ Some (q.others, new) =
-    ap (λ (x : Sent). sent_by x.place (replicate m Request)) same ∙ q.rest in
-    let flags : first.ends_turn ∷ ends_of q.others ≡ last_ends m =
-    ap (λ (x : Sent). x.ends_turn ∷ ends_of q.others) same ∙ ap ends_of (sym q.all)
-    ∙ ap (drop 1) f in
-    let others : SendsBehind (take (at + place.room) group) group waiting
-    (first.packet ∷ packets_of q.others) =
-    turn-behind m first.packet.last here waiting group (at + place.room) q.others new refl
-    (more_left place.room place.address place.index at group l) r
-    (record { directory = keeps.directory; body = keeps.body }) fit rest flags in
-    let piece : PacketFields = piece_at place.room place.address place.index group at in
-    let all : first.packet ∷ packets_of q.others ≡ packets_of sents =
-    ap (λ (x : Sent). x.packet ∷ packets_of q.others) same ∙ ap packets_of (sym q.all) in
-    subst (λ ps. SendsBehind (take at group) group waiting (piece ∷ ps)) all (record {
-      groups = others.groups;
-      gathered = groups_after-piece place.room place.address place.index at group
-          (first.packet ∷ packets_of q.others) (group ∷ map bytes_of_group others.groups) [] r
-          inside l others.gathered;
-      carry = others.carry;
-      are_groups = others.are_groups;
-    })
-
--- the packets of these segments' groups
-record Sends (segments : List Segment) (packets : List PacketFields) : Type 0 where
-  groups : List GroupFields
-  gathered : groups_after [] packets ≡ Some (map bytes_of_group groups, [])
-  carry : map (λ (g : GroupFields). g.segment) groups ≡ segments
-  are_groups : AllByRecursion IsGroup groups
-
-turn-sends : (n : ℕ) (place : Place) (segments : List Segment) (s : Sent) (others : List Sent)
-    (new : Place) →
-    0 < place.room → KeepsIndexes place → place.under_way ≡ None → AllByRecursion IsFit segments →
-    first_sent place segments ≡ Some s → sent_by s.place (replicate n Request) ≡ Some (others, new)
-    →
-    s.ends_turn ∷ ends_of others ≡ last_ends n → Sends segments (s.packet ∷ packets_of others)
-turn-sends n place [] s others new r keeps u fit e h f = absurd (none-some s e)
-turn-sends n place (t ∷ segments) s others new r keeps u fit e h f =
-    let g : GroupFields = group_for place t in
-    let begun : Place = with_begun place g segments in
-    let first : Sent = packet_sent begun (bytes_of_group g) 0 in
-    let same : first ≡ s = same_Some first s e in
-    let rest : sent_by first.place (replicate n Request) ≡ Some (others, new) =
-    ap (λ (x : Sent). sent_by x.place (replicate n Request)) same ∙ h in
-    let flags : first.ends_turn ∷ ends_of others ≡ last_ends n =
-    ap (λ (x : Sent). x.ends_turn ∷ ends_of others) same ∙ f in
-    let behind : SendsBehind [] (bytes_of_group g) segments (first.packet ∷ packets_of others) =
-    turn-behind n first.packet.last begun segments (bytes_of_group g) 0 others new refl
-    (some_bytes-group g) r
-    (begun-keeps place t segments keeps) fit.1 rest flags in
-    subst (λ (x : Sent). Sends (t ∷ segments) (x.packet ∷ packets_of others)) same (record {
-      groups = g ∷ behind.groups;
-      gathered = behind.gathered;
-      carry = ap (λ ss. t ∷ ss) behind.carry;
-      are_groups = (is_group g.index t (group-index_fits place t keeps) fit.0, behind.are_groups);
-    })
-
 -- at the beginning of a turn its segments are to be sent
 pub whole_or_none : (segments whole : List Segment) → (segments ≡ []) ⊎ (segments ≡ whole) →
     (if is_empty segments then whole else segments) ≡ whole
@@ -342,52 +198,8 @@ module _ (size : ℕ) (laws : EntityLaws size) (s : size ≤ 8189) where
   groups-read [] h = refl
   groups-read (g ∷ groups) h = rw (read_group-bytes_of_group g h.0, groups-read groups h.1) refl
 
-  turns-read : (old new : Place) (c : Carousel) (n : ℕ) (sents : List Sent)
-      (packets : List (List ℕ)) →
-      old.segment_size ≡ size → IsPlace old → IsTurnOf old.turn c size → IsSound c
-      → IsAtTurnsBeginning old →
-      sent_by old (Request ∷ replicate n Request) ≡ Some (sents, new) →
-      map (λ (s : Sent). s.ends_turn) sents ≡ replicate n false ++ true ∷ [] →
-      AreSent sents packets → ReadsAs packets c size
-  unfolding request read_turn gather gather_front
-  turns-read old new c n sents packets same_size place is_turn sound begins h flags sent =
-      let keeps : KeepsIndexes old = record { directory = place.directory; body = place.body } in
-      let playable : IsPlayable old.turn size =
-      subst (IsPlayable old.turn) same_size place.playable in
-      let q : FirstRequest old (replicate n Request) sents new =
-      first_request old (replicate n Request) sents new h in
-      let whole : to_send old ≡ segments_of_turn old.turn size =
-      whole_or_none old.waiting (segments_of_turn old.turn old.segment_size) begins.waiting
-      ∙ ap (segments_of_turn old.turn) same_size in
-      let first : first_sent old (segments_of_turn old.turn size) ≡ Some q.first =
-      ap (first_sent old) (sym whole) ∙ ap (next_sent old) (sym begins.under_way) ∙ q.asked in
-      let sends : Sends (segments_of_turn old.turn size) (q.first.packet ∷ packets_of q.others) =
-      turn-sends n old (segments_of_turn old.turn size) q.first q.others new place.room keeps
-      begins.under_way
-      (are_fit-turn size laws s old.turn c is_turn sound playable) first q.rest
-      (ap ends_of (sym q.all) ∙ flags) in
-      let read : read_each read_packet packets ≡ Some (q.first.packet ∷ packets_of q.others) =
-      sent ∙ ap (λ ss. Some (packets_of ss)) q.all in
-      let address = one_address old.address (q.first.packet ∷ packets_of q.others)
-      (subst (λ ss. list_all (λ (p : PacketFields). p.address == old.address) (packets_of ss)
-      ≡ true) q.all
-      (steps-address (Request ∷ replicate n Request) old sents new h)) in
-      rw (
-        read,
-        address,
-        sends.gathered,
-        groups-read sends.groups sends.are_groups,
-        sends.carry,
-      ) (read_segments-turn size laws old.turn c is_turn sound playable)
-
 pub entity-laws : (size : ℕ) → 0 < size → EntityLaws size
 entity-laws size some = record {
   cut = λ bytes. IsCut-pieces size bytes some;
   entity = λ kind tid bytes segments h own. entity_of-own kind tid size bytes segments some h own;
 }
-
--- the packets of a turn from its beginning on read as its carousel
-pub turns_read_as_their_carousels : TurnsReadAsTheirCarousels
-turns_read_as_their_carousels old new c n sents packets place =
-    turns-read old.segment_size (entity-laws old.segment_size place.size.0) place.size.1
-    old new c n sents packets refl place

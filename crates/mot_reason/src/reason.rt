@@ -73,12 +73,19 @@ pub enum ListFault {
 }
 
 impl Reason {
-    ghost use Rattle.std.specs.Prelude.{◌≡◌, ◌<◌, IfSome};
+    ghost use Rattle.std.specs.Prelude.{◌≡◌, ◌<◌, IfSome, IsSome};
+    ghost use Rattle.mot_numbers.specs.Geometry.{length_of};
+    ghost use Rattle.mot_numbers.specs.declared.refusal.Refusal.TheVariants.{AlreadyFormatted};
+    ghost use Rattle.mot_numbers.specs.declared.refusal.Refusal.TheVariants.{DiskTooSmall};
     ghost use Rattle.mot_reason.specs.Reason.{IsFormattingReason};
 
     /// Why formatting a disk of so many bytes with this geometry was refused.
     pub fn of_formatting(refusal: Refusal, len: u64, geometry: &Geometry) -> Option<Reason>
-        ensures { IfSome result (IsFormattingReason refusal len geometry.now) }
+        ensures so { IfSome result (IsFormattingReason refusal len geometry.now) }
+
+        // It is found.
+        ensures formatted { refusal ≡ AlreadyFormatted → IsSome result }
+        ensures small { refusal ≡ DiskTooSmall → len < length_of geometry.now → IsSome result }
     {
         let asked = geometry.length();
         match refusal {

@@ -1,8 +1,8 @@
 -- What answers a request.
 use Rattle.std.proofs.Common.{◌≡◌, ℕ, ◌≤◌, inl, inr, Bool, true, false, List, [], ◌∷◌, ◌++◌}
-use Rattle.std.proofs.Common.{Ok, Err, Result, refl, sym, ap, ◌∙◌, subst, arith, append-nil}
+use Rattle.std.proofs.Common.{Ok, Err, Result, refl, sym, ap, ◌∙◌, subst, append-nil}
 use Rattle.std.specs.Prelude.{IsTrue, IsFalse, if◌then◌else◌}
-use Rattle.disk_model.proofs.Laws.{unchanged_on}
+use Rattle.disk_model.proofs.Laws.{keeps_none, unchanged_none, unchanged_on}
 use Rattle.disk_model.specs.Disk.{State, IsHonestDisk, IsUnchanged, Throughout}
 use Rattle.disk_model.proofs.Laws.{begins, stays, weakens}
 use Rattle.mot_groups.specs.Group.{bytes_of_group}
@@ -29,7 +29,7 @@ use Rattle.mot_server.specs.Server.{ServerView, place_in, bodies_of}
 use Rattle.mot_server.proofs.Laws.{after_none, before_or_after, holds_still, more}
 use Rattle.mot_server.proofs.Laws.{none_of, not_halted, still_agrees}
 use Rattle.mot_session.specs.Raw.{raw_group, packets_at}
-use Rattle.mot_session.specs.Inner.Decision.{Decides, may_be_done, written_by}
+use Rattle.mot_session.specs.Inner.Decision.{Decides, MayWrite, may_be_done, written_by}
 use Rattle.mot_session.specs.Session as session
 use Rattle.mot_session.specs.Session.{Reply, Answers, IsAnswer, NeedsCarousel}
 use Rattle.mot_session.specs.Session.{decided, no_memory, accepts, refuses, fails}
@@ -39,32 +39,9 @@ use Rattle.mot_session.specs.declared.deciding.Decision.TheVariants.{Packets, Ne
 use Rattle.mot_session.specs.State.{ServerState, StandsFor, Stays, state_of}
 use Rattle.mot_session.specs.Stored.{command_in}
 use Rattle.mot_session.specs.Inner.Writes.{Crosses, ReadsAlone, may_have_done}
+use Rattle.mot_session.proofs.Anyhow.{not_ok, plays-parsed, same_done, same_refusal}
 use Rattle.mot_session.proofs.Outcomes.{done_by, failed_by_reply}
-
-pub stays-none : (state : ServerState) → Stays state state
-stays-none state = record {
-  keeps = record {
-    standing = refl;
-    layout = refl;
-    halted = refl;
-    later = record { moment = omega arith; failures = omega arith };
-  };
-  place = refl;
-}
-
--- a refusal is one
-same_refusal : (a b : Refusal) → (let e : Result Done Refusal = Err a in e ≡ Err b) → a ≡ b
-same_refusal a b e = cc
-
-same_done : (a b : Done) → (let e : Result Done Refusal = Ok a in e ≡ Ok b) → a ≡ b
-same_done a b e = cc
-
-abbrev IsFailure : Result Done Refusal → Type 0
-IsFailure (Ok done) = ⊥
-IsFailure (Err refusal) = Unit {0}
-
-not_ok : (done : Done) (refusal : Refusal) → Err refusal ≡ Ok done → ⊥
-not_ok done refusal e = subst IsFailure e tt
+use Rattle.mot_session.proofs.Written.{stays-none}
 
 -- ---- a command
 
@@ -76,7 +53,7 @@ module _ {D : Type 0} (old new : ServerView D) (s : Standing) (start now : State
   change_of : (done : Done) → IsAnswered old.view new.view start now c (Ok done)
       → IsChanged old.view c done new.view
   change_of done (accepted d e change) =
-      subst (λ x. IsChanged old.view c x new.view) (sym (same_done done d e)) change
+      subst (λ x. IsChanged old.view c x new.view) (same_done d done e) change
   change_of done (refused refusal e why same still) = absurd (not_ok done refusal (sym e))
   change_of done (failed e going rises halts) = absurd (not_ok done DeviceFault (sym e))
 
@@ -94,11 +71,11 @@ module _ {D : Type 0} (old new : ServerView D) (s : Standing) (start now : State
       let change = change_of done answer in (
         next,
         record { agrees = holds.agrees; holds = λ is. holds },
-        decided (λ needs. going) (accepts done refl (record {
-          outcome = step;
-          layout = change.layout;
-          halted = change.halted;
+        decided (λ needs. going) (accepts done next refl step (record {
+          standing = refl;
           place = place;
+          halted = change.halted;
+          layout = change.layout;
           later = record { moment = (any_moment (stands.holds going)).later; failures = later };
         })),
       )
@@ -107,13 +84,11 @@ module _ {D : Type 0} (old new : ServerView D) (s : Standing) (start now : State
   stays-refused : start.moment ≤ now.moment → new.view ≡ old.view → new.player ≡ old.player
       → Stays (state_of old s start) (state_of new s now)
   stays-refused time same player_same = record {
-    keeps = record {
-      standing = refl;
-      layout = ap (λ (v : RepositoryView). v.journal.layout) same;
-      halted = ap (λ (v : RepositoryView). v.halted) same;
-      later = record { moment = time; failures = later };
-    };
+    standing = refl;
     place = ap (λ (p : player.PlayerView). player.place_of p (bodies_of s.carousel)) player_same;
+    halted = ap (λ (v : RepositoryView). v.halted) same;
+    layout = ap (λ (v : RepositoryView). v.journal.layout) same;
+    later = record { moment = time; failures = later };
   }
 
   why-refused : (r : Refusal) → IsRefusal old.view c r
@@ -142,7 +117,7 @@ module _ {D : Type 0} (old new : ServerView D) (s : Standing) (start now : State
           (stands.holds (subst (λ (v : RepositoryView). IsFalse v.halted) same is)) honest
           still same;
     },
-    why-refused r (subst (λ y. IsRefusal old.view c y) (sym (same_refusal r x e)) why)
+    why-refused r (subst (λ y. IsRefusal old.view c y) (same_refusal r x e) why)
         (stays-refused still.time.later same still_player),
   )
   Answers-refused_command r (failed e going rises halts) still_player honest = (
@@ -151,14 +126,15 @@ module _ {D : Type 0} (old new : ServerView D) (s : Standing) (start now : State
       agrees = still_agrees old.view new.view s halts stands.agrees;
       holds = λ is. absurd (not_halted new.view.halted halts.halted is);
     },
-    decided (λ needs. going) (fails (ap session.refused (same_refusal r DeviceFault e)) (record {
-      rises = rises;
-      standing = refl;
-      layout = halts.layout;
-      place = ap (λ (p : player.PlayerView). player.place_of p (bodies_of s.carousel)) still_player;
-      halted = halts.halted;
-      later = record { moment = (any_moment (stands.holds going)).later; failures = later };
-    })),
+    decided (λ needs. going) (fails (ap session.refused (sym (same_refusal r DeviceFault e))) rises
+        (record {
+          standing = refl;
+          place =
+              ap (λ (p : player.PlayerView). player.place_of p (bodies_of s.carousel)) still_player;
+          halted = halts.halted;
+          layout = halts.layout;
+          later = record { moment = (any_moment (stands.holds going)).later; failures = later };
+        })),
   )
 
 -- ---- what a crash leaves of it
@@ -174,12 +150,20 @@ crosses-unchanged view s start now commands sound holds still =
     (λ image left. none_of s [] commands s image (after_none s) (holds.each image left))) still.time
 
 -- nothing was asked of the disk
-pub crosses-none : (view : RepositoryView) (s : Standing) (start : State) (commands : List Command)
+crosses-none : (view : RepositoryView) (s : Standing) (start : State) (commands : List Command)
     → IsHonestDisk start → Holds view s start
     → Throughout start start (StandsAfterSome s [] commands)
 crosses-none view s start commands sound holds =
     begins start (StandsAfterSome s [] commands) sound
     (λ image left. none_of s [] commands s image (after_none s) (holds.each image left))
+
+pub writes-none : (view : RepositoryView) (state : State) (commands : List Command)
+    → (state.IsHonest → IsHonestDisk state) → MayWrite view view state state commands
+writes-none view state commands sound = record {
+  crosses = λ s holds. crosses-none view s state commands (sound holds.journal.honest) holds;
+  halted = λ is. (refl, unchanged_none state);
+  keeps = keeps_none state;
+}
 
 tried : (layout : Layout) (s : Standing) (start now : State) (c : Command)
     → Throughout start now (IsBeforeOrAfter layout s c)
@@ -209,7 +193,7 @@ crosses-refused view view' s start now c r sound holds (refused x e why same sti
 crosses-refused view view' s start now c r sound holds (failed e going rises halts) time =
     subst (λ x. Throughout start now
     (StandsAfterSome s [] (written_by (Refused x) (Ok (asks.Command c)))))
-    (sym (same_refusal r DeviceFault e)) (tried view.journal.layout s start now c time)
+    (same_refusal r DeviceFault e) (tried view.journal.layout s start now c time)
 
 -- a halted server refuses, and nothing changes
 pub stays_halted : (view view' : RepositoryView) (start now : State) (c : Command) (r : Refusal)
@@ -279,12 +263,6 @@ module _ (before after : ServerState) where
   answers-parsed reply request asked (inr e) a =
       answers-no_memory reply asked e.1 (subst (λ r. Answers before r reply after) e.0 a)
 
-  -- a line that asks for packets was parsed
-  plays-parsed : (line : Line) (request asked : Result Line Refusal) → IsParsed request asked
-      → request ≡ Ok line → asked ≡ Ok line
-  plays-parsed line request asked (inl e) h = sym e ∙ h
-  plays-parsed line request asked (inr e) h = let failed = e.0 in absurd (cc)
-
   -- a decision on what was parsed is one on what was asked
   pub Decides-parsed : (decision : Decision) (request asked : Result Line Refusal)
       → IsParsed request asked → Decides before request decision after
@@ -333,8 +311,7 @@ line_did (session.refused r) request = refl
 line_did (session.accepted d) request = sym (append-nil (command_in request))
 line_did (session.listing c) request = refl
 line_did (session.packets ps) request = refl
-line_did (session.played sents) request = refl
-line_did (session.cut_short sents) request = refl
+line_did (session.played sents behind) request = refl
 
 -- what a crash leaves of a line, from what it leaves of its command and of the reply
 pub Crosses-line : {D : Type 0} (old mid new : ServerView D) (s : Standing)

@@ -38,19 +38,19 @@ abbrev IsFailure : Result Done Refusal → Type 0
 IsFailure (Ok done) = ⊥
 IsFailure (Err refusal) = Unit {0}
 
-not_ok : (done : Done) (refusal : Refusal) → Err refusal ≡ Ok done → ⊥
+pub not_ok : (done : Done) (refusal : Refusal) → Err refusal ≡ Ok done → ⊥
 not_ok done refusal e = subst IsFailure e tt
 
-abbrev failure : Refusal → Result Done Refusal
+abbrev pub failure : Refusal → Result Done Refusal
 failure refusal = Err refusal
 
-same_refusal : (r was : Refusal) → failure r ≡ failure was → was ≡ r
+pub same_refusal : (r was : Refusal) → failure r ≡ failure was → was ≡ r
 same_refusal r was e = cc
 
-abbrev success : Done → Result Done Refusal
+abbrev pub success : Done → Result Done Refusal
 success done = Ok done
 
-same_done : (d done : Done) → success done ≡ success d → d ≡ done
+pub same_done : (d done : Done) → success done ≡ success d → d ≡ done
 same_done d done e = cc
 
 module _ (view view' : RepositoryView) (state state' : State) (c : Command) where
@@ -91,6 +91,12 @@ anyhow-shown view count request decision result needs is isnt decides = by_case 
     by_case false e = subst (λ d. DecidesAnyhow view view count count request d) (sym (isnt e))
         (decides e)
 
+-- a line that asks for packets was parsed
+pub plays-parsed : (line : Line) (request asked : Result Line Refusal) → IsParsed request asked
+    → request ≡ Ok line → asked ≡ Ok line
+plays-parsed line request asked (inl e) h = sym e ∙ h
+plays-parsed line request asked (inr e) h = let failed = e.0 in absurd (cc)
+
 abbrev asked_wrong : Result Line Refusal
 asked_wrong = Err OutOfMemory
 
@@ -127,11 +133,6 @@ module _ (old new : RepositoryView) (before now : ℕ) where
       subst (λ r. AnswersAnyhow old new before now r text) e a
   answers-parsed text request asked (inr e) a =
       answers-unparsed text request asked e.0 e.1 a
-
-  plays-parsed : (line : Line) (request asked : Result Line Refusal) → IsParsed request asked
-      → request ≡ Ok line → asked ≡ Ok line
-  plays-parsed line request asked (inl e) h = sym e ∙ h
-  plays-parsed line request asked (inr e) h = let failed = e.0 in absurd (cc)
 
   -- a decision on what was parsed is one on what was asked, on every disk
   pub anyhow-parsed : (decision : Decision) (request asked : Result Line Refusal)

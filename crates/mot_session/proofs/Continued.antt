@@ -1,5 +1,5 @@
 -- The packets of a session, in order.
-use Rattle.std.proofs.Common.{◌≡◌, ℕ, ◌+◌, ◌-◌, ◌<◌, Bool, true, false, List, [], ◌∷◌, ◌++◌, Some}
+use Rattle.std.proofs.Common.{◌≡◌, ℕ, ◌-◌, ◌<◌, Bool, true, false, List, [], ◌∷◌, ◌++◌, Some}
 use Rattle.std.proofs.Common.{Result, Ok, Err}
 use Rattle.std.specs.Prelude.{if◌then◌else◌}
 use Rattle.std.proofs.Common.{refl, sym, ap}
@@ -20,16 +20,16 @@ use Rattle.mot_player.specs.Continuity.{IsContinuous}
 use Rattle.mot_player.specs.Laws.{AreSent}
 use Rattle.mot_player.specs.Place.{Place, Sent, Step, Request, NewTurn, Follow, change_turn}
 use Rattle.mot_player.specs.Place.{changed, follow, sent_by}
-use Rattle.mot_player.specs.Sending.{packets_sent}
 use Rattle.mot_player.specs.Turn.{Turn, turn_of_carousel}
 use Rattle.mot_player.proofs.Laws.{steps-are-continuous, steps-go_on}
-use Rattle.std.specs.Prelude.{replicate}
-use Rattle.mot_session.specs.Laws.{SessionsAreContinuous, StoppedSessionsAreContinuous}
-use Rattle.mot_session.specs.Played.{FailsToSend, Sends}
-use Rattle.mot_session.specs.Served.{Begins, whole, next_begun, turn_begun}
-use Rattle.mot_session.specs.Session.{Exchange, Reply, refused, listing, IsCommandAnswer, accepts}
+use Rattle.std.specs.Prelude.{length, replicate}
+use Rattle.mot_session.specs.Laws.{SessionsAreContinuous}
+use Rattle.mot_session.specs.Played.{Plays}
+use Rattle.mot_session.specs.Served.{Begins, whole, begun}
+use Rattle.mot_session.specs.Session.{Exchange, Reply, refused, listing, played, IsCommandAnswer}
+use Rattle.mot_session.specs.Session.{accepts}
 use Rattle.mot_session.specs.Session.{refuses}
-use Rattle.mot_session.specs.Session.{fails, IsNextAnswer, IsTurnAnswer, all, cut, IsAnswer}
+use Rattle.mot_session.specs.Session.{fails, IsAnswer}
 use Rattle.mot_session.specs.Session.{Answers}
 use Rattle.mot_session.specs.Session.{decided, halted, no_memory, Session, packets_in}
 use Rattle.mot_session.specs.Session.{packets_played}
@@ -88,48 +88,26 @@ stays : (before after : ServerState) (reply empty : Reply) → packets_in empty 
     → after.place ≡ before.place → Leads before.place after.place (packets_in reply)
 stays before after reply empty none e same = rw (e, none, same) (Leads-none before.place)
 
-sends : (before after : ServerState) (reply : Reply) (count : ℕ) (sents : List Sent)
-    → packets_in reply ≡ packets_sent sents → Sends before count sents after
+plays : (before after : ServerState) (request : Result Line Refusal) (reply : Reply)
+    (sents : List Sent) (some failed : Bool) → reply ≡ played sents failed
+    → Plays before request some sents after
     → Leads before.place after.place (packets_in reply)
-sends before after reply count sents e s = rw e (record {
-  steps = replicate count Request;
+plays before after request reply sents some failed e p = rw e (record {
+  steps = replicate (length sents) Request;
   sents = sents;
-  taken = s.sent.steps;
-  read = s.sent.read;
+  taken = p.sent.steps;
+  read = p.sent.read;
 })
-
--- the packets before a request that failed
-cut-behind : (before between after : ServerState) (reply : Reply) (count : ℕ) (sents : List Sent)
-    → packets_in reply ≡ packets_sent sents → Sends before count sents between
-    → FailsToSend between after → Leads before.place after.place (packets_in reply)
-cut-behind before between after reply count sents e s f =
-    subst (λ (p : Place). Leads before.place p (packets_in reply)) (sym f.stays.place)
-    (sends before between reply count sents e s)
 
 commanded : (before after : ServerState) (c : Command) (reply : Reply)
     → IsCommandAnswer before c reply after
     → Leads before.place after.place (packets_in reply)
-commanded before after c reply (accepts d e a) = rw (e, a.place)
-    (Leads-change before.place after.standing.carousel after.standing.geometry.segment_size)
+commanded before after c reply (accepts d next e outcome a) = rw (e, a.place)
+    (Leads-change before.place next.carousel next.geometry.segment_size)
 commanded before after c reply (refuses r e why s) =
     stays before after reply (refused r) refl e s.place
-commanded before after c reply (fails e h) =
+commanded before after c reply (fails e rises h) =
     stays before after reply (refused DeviceFault) refl e h.place
-
-nexts : (before after : ServerState) (count : ℕ) (reply : Reply)
-    → IsNextAnswer before count reply after
-    → Leads before.place after.place (packets_in reply)
-nexts before after count reply (all sents e s) =
-    sends before after reply count sents (ap packets_in e) s
-nexts before after count reply (cut made sents between few e s f) =
-    cut-behind before between after reply made sents (ap packets_in e) s f
-
-turns : (before after : ServerState) (reply : Reply) → IsTurnAnswer before reply after
-    → Leads before.place after.place (packets_in reply)
-turns before after reply (all others sents e s) =
-    sends before after reply (others + 1) sents (ap packets_in e) s.sends
-turns before after reply (cut made sents between e s f) =
-    cut-behind before between after reply made sents (ap packets_in e) s.sends f
 
 answered : (before after : ServerState) (request : Result Line Refusal) (reply : Reply)
     → IsAnswer before request reply after → Leads before.place after.place (packets_in reply)
@@ -140,8 +118,10 @@ answered before after (Ok asks.List) reply a =
     stays before after reply (listing before.standing.carousel) refl a.0 a.1.place
 answered before after (Ok (asks.Raw kind tid body)) reply a =
     stays before after reply _ refl a.0 a.1.place
-answered before after (Ok (asks.Next count)) reply a = nexts before after count reply a
-answered before after (Ok asks.Turn) reply a = turns before after reply a
+answered before after (Ok (asks.Next count)) reply a =
+    plays before after (Ok (asks.Next count)) reply a.0 a.1 a.1 a.2 a.3
+answered before after (Ok asks.Turn) reply a =
+    plays before after (Ok asks.Turn) reply a.0 a.1 a.1 a.2 a.3
 
 answers : (before after : ServerState) (request : Result Line Refusal) (reply : Reply)
     → Answers before request reply after → Leads before.place after.place (packets_in reply)
@@ -152,10 +132,8 @@ answers before after request reply (no_memory needs e s) = stays before after re
 begins : (before after : ServerState) (request : Result Line Refusal) (reply : Reply)
     → Begins before request reply after → Leads before.place after.place (packets_in reply)
 begins before after request reply (whole a) = answers before after request reply a
-begins before after request reply (next_begun count made sents e going few f s) =
-    sends before after reply made sents (ap packets_in f) s
-begins before after request reply (turn_begun made sents e going f s) =
-    sends before after reply made sents (ap packets_in f) s.sends
+begins before after request reply (begun sents going e p) =
+    plays before after request reply sents true false e p
 
 session : (exchanges : List Exchange) (before after : ServerState)
     → Session before exchanges after → Leads before.place after.place (packets_played exchanges)
@@ -184,13 +162,7 @@ continuous before after sent v opened l =
 
 -- all packets of a session on a server just opened have their indexes
 pub sessions-are-continuous : SessionsAreContinuous
-sessions-are-continuous before exchanges after v opened s =
-    continuous before after.place (packets_played exchanges) v opened
-    (session exchanges before after s)
-
--- so they do with those of a reply that was broken off
-pub stopped_sessions-are-continuous : StoppedSessionsAreContinuous
-stopped_sessions-are-continuous before exchanges between request reply after v opened s b =
+sessions-are-continuous before exchanges between request reply after v opened s b =
     continuous before after.place (packets_played exchanges ++ packets_in reply) v opened
     (Leads-on before.place between.place after.place (packets_played exchanges) (packets_in reply)
     (session exchanges before between s) (begins between after request reply b))

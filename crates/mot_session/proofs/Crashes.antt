@@ -10,8 +10,7 @@ use Rattle.mot_server.proofs.Laws.{after_none, after_one}
 use Rattle.mot_server.proofs.Laws.{after_history_none}
 use Rattle.mot_session.specs.Session.{Exchange, Session}
 use Rattle.mot_session.specs.State.{ServerState, IsLater}
-use Rattle.mot_session.specs.Stored.{accepted_in}
-use Rattle.mot_session.specs.Stored.{failed_in}
+use Rattle.mot_session.specs.Inner.Writes.{accepted_in, failed_in}
 use Rattle.mot_session.proofs.Outcomes.{Outcome, nothing, one, halts, later-answers}
 
 -- ---- a session, from its lines

@@ -2,7 +2,7 @@
 use Rattle.std.proofs.Common.{◌≡◌, ◌⊎◌, inl, inr, ℕ, ◌+◌, ◌≤◌, Bool, true, false, List, []}
 use Rattle.std.proofs.Common.{◌∷◌}
 use Rattle.std.proofs.Common.{Result, Ok, Err, refl, sym, ap, ◌∙◌, subst, arith}
-use Rattle.std.specs.Prelude.{if◌then◌else◌}
+use Rattle.std.specs.Prelude.{if◌then◌else◌, IsTrue}
 use Rattle.disk_model.specs.Failures.{Rises, most_failures}
 use Rattle.mot_lines.specs.Line.{line_of}
 use Rattle.mot_lines.specs.declared.line.Line.{Line}
@@ -12,11 +12,10 @@ use Rattle.mot_numbers.specs.declared.refusal.Refusal.{Refusal}
 use Rattle.mot_numbers.specs.declared.refusal.Refusal.TheVariants as refusal
 use Rattle.mot_numbers.specs.Refusal.{is_device_fault}
 use Rattle.mot_objects.specs.declared.command.Command.{Command}
-use Rattle.mot_server.proofs.Laws.{rises_on}
+use Rattle.mot_player.specs.Place.{Sent}
 use Rattle.mot_session.specs.Laws.{FaultsAreTheDisks, faults_in, has_fault}
 use Rattle.mot_session.specs.Session.{Reply, refused, listing, played, accepted}
-use Rattle.mot_session.specs.Session.{IsCommandAnswer, accepts, refuses, fails, IsNextAnswer}
-use Rattle.mot_session.specs.Session.{IsTurnAnswer, all, cut}
+use Rattle.mot_session.specs.Session.{IsCommandAnswer, accepts, refuses, fails}
 use Rattle.mot_session.specs.Session.{IsAnswer, Answers, decided, halted, no_memory, Session}
 use Rattle.mot_session.specs.State.{ServerState}
 use Rattle.mot_session.proofs.Crashes.{session-later}
@@ -31,22 +30,15 @@ module _ (before after : ServerState) (reply : Reply) where
   fine is e f = inl (ap has_fault e ∙ f)
 
   commanded : (c : Command) → IsCommandAnswer before c reply after → Counted before reply after
-  commanded c (accepts d e a) = fine (accepted d) e refl
+  commanded c (accepts d next e outcome a) = fine (accepted d) e refl
   commanded c (refuses r e why s) =
       fine (refused r) e (refused-fine before.layout before.standing c r why)
-  commanded c (fails e h) = inr h.rises
+  commanded c (fails e rises h) = inr rises
 
-  nexts : (count : ℕ) → IsNextAnswer before count reply after → Counted before reply after
-  nexts count (all sents e s) = fine (played sents) e refl
-  nexts count (cut made sents between few e s f) = inr
-      (rises_on before.failures between.failures after.failures s.keeps.later.failures
-      f.stays.keeps.later.failures f.rises)
-
-  turns : IsTurnAnswer before reply after → Counted before reply after
-  turns (all others sents e s) = fine (played sents) e refl
-  turns (cut made sents between e s f) = inr
-      (rises_on before.failures between.failures after.failures s.sends.keeps.later.failures
-      f.stays.keeps.later.failures f.rises)
+  plays : (sents : List Sent) (failed : Bool) → reply ≡ played sents failed
+      → (IsTrue failed → Rises before.failures after.failures) → Counted before reply after
+  plays sents true e rises = inr (rises refl)
+  plays sents false e rises = fine (played sents false) e refl
 
 -- a refusal that is none for a fault of the disk
 other-refusal : (r : Refusal) → ((r ≡ refusal.DeviceFault) → ⊥) → is_device_fault r ≡ false
@@ -66,8 +58,9 @@ answered before after line (Ok asks.List) reply is a =
 answered before after line (Ok (asks.Raw kind tid body)) reply is a =
     fine before after reply _ a.0 refl
 answered before after line (Ok (asks.Next count)) reply is a =
-    nexts before after reply count a
-answered before after line (Ok asks.Turn) reply is a = turns before after reply a
+    plays before after reply a.0 a.1 a.2 a.4
+answered before after line (Ok asks.Turn) reply is a =
+    plays before after reply a.0 a.1 a.2 a.4
 
 counted : (before after : ServerState) (line : List ℕ) (reply : Reply)
     → Answers before (line_of line) reply after → Counted before reply after

@@ -40,18 +40,17 @@ use Rattle.mot_objects.specs.Rules.{AllKeepRules}
 use Rattle.mot_repository.proofs.Laws.{rules_kept}
 use Rattle.mot_session.specs.LineByLine.{BreaksOff, ServesEach, ServesOne, ServesSome}
 use Rattle.mot_session.specs.Served.{EndsServing, TakesInput}
-use Rattle.mot_session.specs.Session.{Exchange, Reply, text_of}
-use Rattle.mot_session.specs.Session.{accepted, refused, listing, packets, played, cut_short}
+use Rattle.mot_session.specs.Session.{text_of}
 use Rattle.mot_session.specs.State.{ServerState, StandsFor, state_of}
-use Rattle.mot_session.specs.Stored.{HoldsSince, IsToldAndStored, accepted_in, command_in}
-use Rattle.mot_session.specs.Stored.{failed_in}
-use Rattle.mot_session.specs.Stored.{is_accepting, is_failing}
+use Rattle.mot_session.specs.Stored.{command_in}
+use Rattle.mot_session.specs.Kept.{HoldsSince, IsToldAndStored}
 use Rattle.mot_session.proofs.Crashes.{halted_or_not}
-use Rattle.mot_session.proofs.Outcomes.{Outcome, nothing, one, halts, begun_outcome, outcome}
+use Rattle.mot_session.proofs.Outcomes.{Outcome, nothing, one, halts}
 use Rattle.mot_session.proofs.Ruled.{HasImage, carousel_at, layout_stays, line-short, right_more}
 use Rattle.mot_session.proofs.Ruled.{right_reply}
 use Rattle.mot_session.proofs.Shown.{begun, front_begun, replied}
-use Rattle.mot_session.proofs.Telling.{done_of_front, done_told, failing_told, sure_flight}
+use Rattle.mot_session.proofs.Telling.{begun_told, done_of_front, not_both, sure_flight}
+use Rattle.mot_session.proofs.Telling.{told_outcome}
 use Rattle.mot_session.proofs.Telling as telling
 use Rattle.mot_session.proofs.Told.{less_of_sure}
 
@@ -103,15 +102,6 @@ few_if true (Ok (asks.Next count)) = omega arith
 few_if true (Ok asks.Turn) = omega arith
 few_if false request = omega arith
 
--- no reply accepts a command and tells a fault
-pub not_both : (reply : Reply) → (is_accepting reply ≡ false) ⊎ (is_failing reply ≡ false)
-not_both (accepted d) = inr refl
-not_both (refused r) = inl refl
-not_both (listing c) = inl refl
-not_both (packets ps) = inl refl
-not_both (played sents) = inl refl
-not_both (cut_short sents) = inl refl
-
 pub one_at_most : (b c : Bool) (l : List command.Command) → (b ≡ false) ⊎ (c ≡ false)
     → ((if b then l else []) ++ (if c then l else []) ≡ [])
     ⊎ ((if b then l else []) ++ (if c then l else []) ≡ l)
@@ -121,75 +111,76 @@ one_at_most true false l e = inr (append-nil l)
 one_at_most false true l e = inr refl
 one_at_most false false l e = inl refl
 
-module _ (s : Standing) (start now : State) (before : ServerState) (x : Exchange)
+module _ (s : Standing) (start now : State) (before behind : ServerState) (t : Told)
     (sound : IsHonestDisk now) (still : IsTrue before.halted → IsUnchanged start now)
-    (told : IsToldAndStored start now before x) (sure early : List command.Command)
+    (told : IsToldAndStored start now before (done_in t) (fails_in t) behind)
+    (sure early : List command.Command)
     (after : IsAfter s sure before.standing) (at : At s start before.halted sure early) where
   abbrev Told-Outcome : Type 0
-  Told-Outcome = Outcome before x.after (accepted_in x) (failed_in x)
+  Told-Outcome = Outcome before behind (done_in t) (fails_in t)
 
-  quiet : Told-Outcome → IsTrue before.halted → (accepted_in x ≡ []) × (failed_in x ≡ [])
-      × (x.after.standing ≡ before.standing) × IsTrue x.after.halted
+  quiet : Told-Outcome → IsTrue before.halted → (done_in t ≡ []) × (fails_in t ≡ [])
+      × (behind.standing ≡ before.standing) × IsTrue behind.halted
   quiet (nothing none fine standing same) is = (none, fine, standing, same ∙ is)
   quiet (one c d e fine going same step) is = absurd (not_halted before.halted is going)
   quiet (halts none going so standing rises) is = absurd (not_halted before.halted is going)
 
-  fine_behind : Told-Outcome → IsFalse x.after.halted → failed_in x ≡ []
+  fine_behind : Told-Outcome → IsFalse behind.halted → fails_in t ≡ []
   fine_behind (nothing none fine standing same) going = fine
   fine_behind (one c d e fine was same step) going = fine
-  fine_behind (halts none was so standing rises) going = absurd (not_halted x.after.halted so going)
+  fine_behind (halts none was so standing rises) going = absurd (not_halted behind.halted so going)
 
-  stops_of : Told-Outcome → (failed_in x ≡ []) ⊎ ((accepted_in x ≡ []) × IsTrue x.after.halted)
+  stops_of : Told-Outcome → (fails_in t ≡ []) ⊎ ((done_in t ≡ []) × IsTrue behind.halted)
   stops_of (nothing none fine standing same) = inl fine
   stops_of (one c d e fine was same step) = inl fine
   stops_of (halts none was so standing rises) = inr (none, so)
 
-  few_done : length (accepted_in x) ≤ 1
-  few_done = few_if (is_accepting x.reply) (line_of x.line)
+  few_done : length (done_in t) ≤ 1
+  few_done = few_if (is_done t.text) (line_of t.line)
 
-  few_failed : length (failed_in x) ≤ 1
-  few_failed = few_if (is_failing x.reply) (line_of x.line)
+  few_failed : length (fails_in t) ≤ 1
+  few_failed = few_if (telling.is_fault t.text) (line_of t.line)
 
-  few_both : (failed_in x ≡ []) ⊎ ((accepted_in x ≡ []) × IsTrue x.after.halted)
-      → length (accepted_in x ++ failed_in x) ≤ 1
+  few_both : (fails_in t ≡ []) ⊎ ((done_in t ≡ []) × IsTrue behind.halted)
+      → length (done_in t ++ fails_in t) ≤ 1
   few_both (inl none) = subst (λ l. length l ≤ 1)
-      (sym (ap (λ l. accepted_in x ++ l) none ∙ append-nil (accepted_in x))) few_done
+      (sym (ap (λ l. done_in t ++ l) none ∙ append-nil (done_in t))) few_done
   few_both (inr (none, so)) =
-      subst (λ l. length l ≤ 1) (sym (ap (λ l. l ++ failed_in x) none)) few_failed
+      subst (λ l. length l ≤ 1) (sym (ap (λ l. l ++ fails_in t) none)) few_failed
 
   step_halted : Told-Outcome → IsTrue before.halted
-      → Step s start now before.halted x.after.halted x.after.standing sure early
-      (accepted_in x) (failed_in x)
+      → Step s start now before.halted behind.halted behind.standing sure early
+      (done_in t) (fails_in t)
   step_halted what is =
       let none = quiet what is in
       let unchanged = still is in
-      let same_sure : sure ++ accepted_in x ≡ sure =
+      let same_sure : sure ++ done_in t ≡ sure =
       ap (λ l. sure ++ l) none.0 ∙ append-nil sure in
-      let same_early : early ++ failed_in x ≡ early =
+      let same_early : early ++ fails_in t ≡ early =
       ap (λ l. early ++ l) none.1 ∙ append-nil early in
       record {
         later = unchanged.time.later;
-        after = subst (λ l. IsAfter s l x.after.standing) (sym same_sure)
+        after = subst (λ l. IsAfter s l behind.standing) (sym same_sure)
             (subst (λ a. IsAfter s sure a) (sym none.2) after);
-        leaves = λ image left. subst (λ l. StandsAfterSome s l (early ++ failed_in x) image)
+        leaves = λ image left. subst (λ l. StandsAfterSome s l (early ++ fails_in t) image)
             (sym same_sure) (subst (λ l. StandsAfterSome s sure l image) (sym same_early)
             (at.leaves image ((unchanged.images image).0 left)));
-        going = λ going. absurd (not_halted x.after.halted none.3 going);
-        before = λ t image early_enough left.
-            ⊎_elim {C = start.LeftSince t image ⊎ (IsFalse before.halted
-            × StandsAfterSome s sure (accepted_in x ++ failed_in x) image)}
+        going = λ going. absurd (not_halted behind.halted none.3 going);
+        before = λ moment image early_enough left.
+            ⊎_elim {C = start.LeftSince moment image ⊎ (IsFalse before.halted
+            × StandsAfterSome s sure (done_in t ++ fails_in t) image)}
             (λ was. inl was) (λ never. absurd never)
-            (unchanged.time.nothing_else t image early_enough left);
+            (unchanged.time.nothing_else moment image early_enough left);
         halted = λ was. (none.3, none.0, none.1);
         stops = inl none.1;
         few = subst (λ l. length l ≤ 1) (sym same_early) at.few;
         few_all = subst (λ l. length l ≤ 1)
-            (sym (ap (λ l. early ++ (l ++ failed_in x)) none.0 ∙ same_early)) at.few;
+            (sym (ap (λ l. early ++ (l ++ fails_in t)) none.0 ∙ same_early)) at.few;
       }
 
   step_going : Told-Outcome → IsFalse before.halted
-      → Step s start now before.halted x.after.halted x.after.standing sure early
-      (accepted_in x) (failed_in x)
+      → Step s start now before.halted behind.halted behind.standing sure early
+      (done_in t) (fails_in t)
   step_going what going =
       let kept = told going s sure after in
       let none = at.going going in
@@ -197,25 +188,25 @@ module _ (s : Standing) (start now : State) (before : ServerState) (x : Exchange
         later = kept.any_moment.later;
         after = kept.after;
         leaves = λ image left.
-            subst (λ l. StandsAfterSome s (sure ++ accepted_in x) (l ++ failed_in x) image)
+            subst (λ l. StandsAfterSome s (sure ++ done_in t) (l ++ fails_in t) image)
             (sym none)
             (kept.at_end image (sound.counts_now now.moment image (omega arith) left));
-        going = λ is. subst (λ l. l ++ failed_in x ≡ []) (sym none) (fine_behind what is);
-        before = λ t image early_enough left.
-            ⊎_elim {C = start.LeftSince t image ⊎ (IsFalse before.halted
-            × StandsAfterSome s sure (accepted_in x ++ failed_in x) image)}
+        going = λ is. subst (λ l. l ++ fails_in t ≡ []) (sym none) (fine_behind what is);
+        before = λ moment image early_enough left.
+            ⊎_elim {C = start.LeftSince moment image ⊎ (IsFalse before.halted
+            × StandsAfterSome s sure (done_in t ++ fails_in t) image)}
             (λ was. inl was) (λ came. inr (going, came))
-            (kept.any_moment.before t image early_enough left);
+            (kept.any_moment.before moment image early_enough left);
         halted = λ was. absurd (not_halted before.halted was going);
         stops = stops_of what;
-        few = subst (λ l. length (l ++ failed_in x) ≤ 1) (sym none) few_failed;
-        few_all = subst (λ l. length (l ++ (accepted_in x ++ failed_in x)) ≤ 1) (sym none)
+        few = subst (λ l. length (l ++ fails_in t) ≤ 1) (sym none) few_failed;
+        few_all = subst (λ l. length (l ++ (done_in t ++ fails_in t)) ≤ 1) (sym none)
             (few_both (stops_of what));
       }
 
   pub step_made : Told-Outcome
-      → Step s start now before.halted x.after.halted x.after.standing sure early
-      (accepted_in x) (failed_in x)
+      → Step s start now before.halted behind.halted behind.standing sure early
+      (done_in t) (fails_in t)
   step_made what = ⊎_elim (step_halted what) (step_going what) (halted_or_not before.halted)
 
 -- What a crash leaves of lines that follow, with the commands that may be in flight behind them;
@@ -537,19 +528,11 @@ module _ {D : Type 0} (state : D → State)
         let served = led.2 in
         let before = state_of old standing (state old.disk) in
         let behind = state_of mid led.0 (state mid.disk) in
-        let x : Exchange = record { line = line; reply = served.reply; after = behind } in
         let t : Told = record { line = line; text = text_of served.reply } in
-        let made = step_made s (state old.disk) (state mid.disk) before x (sound mid.disk honest)
-        (λ h. (one_line.goes.halted h).1 honest) served.stored sure early after at
-        (outcome before behind (line_of line) served.reply served.answers) in
-        let told_done = done_told (line_of line) before behind served.reply served.answers in
-        let told_failing = failing_told (line_of line) before behind served.reply served.answers in
-        let step : Step s (state old.disk) (state mid.disk) old.view.halted mid.view.halted led.0
-        sure early (done_in t) (fails_in t) =
-        subst (λ l. Step s (state old.disk) (state mid.disk) old.view.halted mid.view.halted led.0
-        sure early (done_in t) l) (sym told_failing)
-        (subst (λ l. Step s (state old.disk) (state mid.disk) old.view.halted mid.view.halted led.0
-        sure early l (failed_in x)) (sym told_done) made) in
+        let what = told_outcome before behind line served.reply served.answers in
+        let step = step_made s (state old.disk) (state mid.disk) before behind t
+        (sound mid.disk honest) (λ h. (one_line.goes.halted h).1 honest) served.stored sure early
+        after at what in
         let others = rest led.0 (sure ++ done_in t) (early ++ fails_in t) led.1 step.after
         (record { leaves = step.leaves; going = step.going; few = step.few }) in (
           t ∷ others.0,
@@ -584,10 +567,7 @@ module _ {D : Type 0} (state : D → State)
               ∙ two)),
           fails_more (state old.disk).failures (state mid.disk).failures last.failures t others.0
               one_line.goes.keeps.later
-              (subst (λ l. (l ≡ []) ⊎ Rises (state old.disk).failures (state mid.disk).failures)
-              (sym told_failing)
-              (line_failed before behind (accepted_in x) (failed_in x)
-              (outcome before behind (line_of line) served.reply served.answers))) others.10,
+              (line_failed before behind (done_in t) (fails_in t) what) others.10,
         )
 
   pub kept_each : (last : State) (next : List command.Command) (Begun : List ℕ → Type 0)
@@ -620,23 +600,23 @@ module _ {D : Type 0} (state : D → State)
       let stopped = led.2 in
       let before = state_of old standing (state old.disk) in
       let behind = state_of new led.0 (state new.disk) in
-      let x : Exchange = record { line = line; reply = stopped.reply; after = behind } in
-      let step = step_made s (state old.disk) (state new.disk) before x (sound new.disk honest)
-      (λ h. (breaks.goes.halted h).1 honest) stopped.stored sure early after at
-      (begun_outcome before behind (line_of line) stopped.reply stopped.broken.begins) in
+      let t : Told = record { line = line; text = text_of stopped.reply } in
+      let step = step_made s (state old.disk) (state new.disk) before behind t
+      (sound new.disk honest) (λ h. (breaks.goes.halted h).1 honest) stopped.stored sure early after
+      at (begun_told before behind line stopped.reply stopped.broken.begins) in
       let goes = front_begun s.geometry (line_of line) (text_of stopped.reply)
       stopped.broken.written.written stopped.broken.written.unwritten stopped.broken.written.split
       (begun s.geometry before behind (line_of line) stopped.reply after.geometry
       (rules_of old standing was_honest stands) stopped.broken.begins) in (
         [],
-        accepted_in x ++ failed_in x,
+        done_in t ++ fails_in t,
         refl,
         Appends-nil known,
         kept_broken s (state new.disk) (state old.disk) (state new.disk) old.view.halted
             new.view.halted led.0 sure early (sound old.disk was_honest) at
-            (accepted_in x) (failed_in x) (command_in (line_of line)) step (sound new.disk honest)
-            (one_at_most (is_accepting stopped.reply) (is_failing stopped.reply)
-            (command_in (line_of line)) (not_both stopped.reply)),
+            (done_in t) (fails_in t) (command_in (line_of line)) step (sound new.disk honest)
+            (one_at_most (is_done t.text) (telling.is_fault t.text) (command_in (line_of line))
+            (not_both t.text)),
         tt,
         stopped.broken.written.written,
         (
@@ -644,13 +624,12 @@ module _ {D : Type 0} (state : D → State)
           goes.0,
           goes.1,
         ),
-        λ so. let is = telling.sure before behind (line_of line) stopped.reply
-            stopped.broken.begins
-            (subst (λ t. is_done t ≡ true) (sym stopped.broken.written.split)
-            (done_of_front stopped.broken.written.written stopped.broken.written.unwritten so)) in (
-              is.0,
-              sure_flight (is_accepting stopped.reply) (is_failing stopped.reply)
-                  (command_in (line_of line)) is.1 (not_both stopped.reply),
+        λ so. let is : is_done t.text ≡ true =
+            subst (λ text. is_done text ≡ true) (sym stopped.broken.written.split)
+            (done_of_front stopped.broken.written.written stopped.broken.written.unwritten so) in (
+              telling.sure before behind (line_of line) stopped.reply stopped.broken.begins is,
+              sure_flight (is_done t.text) (telling.is_fault t.text) (command_in (line_of line)) is
+                  (not_both t.text),
             ),
         λ two. tt,
         record { later = breaks.goes.keeps.later; cause = inl refl },

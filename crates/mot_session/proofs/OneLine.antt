@@ -16,15 +16,15 @@ use Rattle.mot_server.specs.Runs.{StandsAfterSome}
 use Rattle.mot_server.specs.Server.{ServerView}
 use Rattle.mot_session.specs.Life.{AreRight, Told, TellsLine, done_in, fails_in, is_done}
 use Rattle.mot_session.specs.LineByLine.{BreaksOff, ServesOne}
-use Rattle.mot_session.specs.Session.{Exchange, text_of}
+use Rattle.mot_session.specs.Session.{text_of}
 use Rattle.mot_session.specs.State.{StandsFor, state_of}
-use Rattle.mot_session.specs.Stored.{accepted_in, command_in, failed_in, is_accepting, is_failing}
-use Rattle.mot_session.proofs.Lives.{Step, done_at, done_stands, not_both, one_at_most, rules_of}
+use Rattle.mot_session.specs.Stored.{command_in}
+use Rattle.mot_session.proofs.Lives.{Step, done_at, done_stands, one_at_most, rules_of}
 use Rattle.mot_session.proofs.Lives.{image_of, kept_by, line_failed, since_before, step_made}
-use Rattle.mot_session.proofs.Outcomes.{begun_outcome, outcome}
 use Rattle.mot_session.proofs.Ruled.{carousel_at, line-short, right_more, right_reply}
 use Rattle.mot_session.proofs.Shown.{begun, front_begun, replied}
-use Rattle.mot_session.proofs.Telling.{done_of_front, done_told, failing_told, made_sure}
+use Rattle.mot_session.proofs.Telling.{begun_told, done_of_front, made_sure, not_both}
+use Rattle.mot_session.proofs.Telling.{told_outcome}
 use Rattle.mot_session.proofs.Telling as telling
 
 module _ {D : Type 0} (state : D → State)
@@ -78,20 +78,11 @@ module _ {D : Type 0} (state : D → State)
       let served = led.2 in
       let before = state_of old has.standing (state old.disk) in
       let behind = state_of new led.0 (state new.disk) in
-      let x : Exchange = record { line = line; reply = served.reply; after = behind } in
       let t : Told = record { line = line; text = text_of served.reply } in
-      let made = step_made (standing_from g first) (state old.disk) (state new.disk) before x
+      let what = told_outcome before behind line served.reply served.answers in
+      let step = step_made (standing_from g first) (state old.disk) (state new.disk) before behind t
       (sound new.disk honest) (λ h. (one.goes.halted h).1 honest) served.stored done others
-      has.after (done_at state g first done others old has)
-      (outcome before behind (line_of line) served.reply served.answers) in
-      let told_done = done_told (line_of line) before behind served.reply served.answers in
-      let told_failing = failing_told (line_of line) before behind served.reply served.answers in
-      let step : Step (standing_from g first) (state old.disk) (state new.disk) old.view.halted
-      new.view.halted led.0 done others (done_in t) (fails_in t) =
-      subst (λ l. Step (standing_from g first) (state old.disk) (state new.disk) old.view.halted
-      new.view.halted led.0 done others (done_in t) l) (sym told_failing)
-      (subst (λ l. Step (standing_from g first) (state old.disk) (state new.disk) old.view.halted
-      new.view.halted led.0 done others l (failed_in x)) (sym told_done) made) in (
+      has.after (done_at state g first done others old has) what in (
         done_in t,
         fails_in t,
         (
@@ -113,9 +104,7 @@ module _ {D : Type 0} (state : D → State)
           refl,
         ),
         leaves_by led.0 (done_in t) (fails_in t) (sound old.disk was_honest) led.1 step
-            (subst (λ l. (l ≡ []) ⊎ Rises (state old.disk).failures (state new.disk).failures)
-            (sym told_failing) (line_failed before behind (accepted_in x) (failed_in x)
-            (outcome before behind (line_of line) served.reply served.answers))),
+            (line_failed before behind (done_in t) (fails_in t) what),
       )
 
   -- the reply was broken off
@@ -132,34 +121,31 @@ module _ {D : Type 0} (state : D → State)
       let stopped = led.2 in
       let before = state_of old has.standing (state old.disk) in
       let behind = state_of new led.0 (state new.disk) in
-      let x : Exchange = record { line = line; reply = stopped.reply; after = behind } in
-      let step = step_made (standing_from g first) (state old.disk) (state new.disk) before x
+      let t : Told = record { line = line; text = text_of stopped.reply } in
+      let what = begun_told before behind line stopped.reply stopped.broken.begins in
+      let step = step_made (standing_from g first) (state old.disk) (state new.disk) before behind t
       (sound new.disk honest) (λ h. (breaks.goes.halted h).1 honest) stopped.stored done others
-      has.after (done_at state g first done others old has)
-      (begun_outcome before behind (line_of line) stopped.reply stopped.broken.begins) in
+      has.after (done_at state g first done others old has) what in
       let goes = front_begun g (line_of line) (text_of stopped.reply)
       stopped.broken.written.written stopped.broken.written.unwritten stopped.broken.written.split
       (begun g before behind (line_of line) stopped.reply has.after.geometry
       (rules_of state sound (standing_from g first) old has.standing was_honest stands)
       stopped.broken.begins) in (
-        accepted_in x,
-        failed_in x,
+        done_in t,
+        fails_in t,
         (
           stopped.broken.written.written,
           goes.0,
           goes.1,
           stopped.broken.written.appended,
-          one_at_most (is_accepting stopped.reply) (is_failing stopped.reply)
-              (command_in (line_of line)) (not_both stopped.reply),
-          λ so. let is = telling.sure before behind (line_of line) stopped.reply
-              stopped.broken.begins
-              (subst (λ t. is_done t ≡ true) (sym stopped.broken.written.split)
-              (done_of_front stopped.broken.written.written stopped.broken.written.unwritten so)) in
-              made_sure (is_accepting stopped.reply) (command_in (line_of line)) is.1,
+          one_at_most (is_done t.text) (telling.is_fault t.text) (command_in (line_of line))
+              (not_both t.text),
+          λ so. made_sure (is_done t.text) (command_in (line_of line))
+              (subst (λ text. is_done text ≡ true) (sym stopped.broken.written.split)
+              (done_of_front stopped.broken.written.written stopped.broken.written.unwritten so)),
         ),
-        leaves_by led.0 (accepted_in x) (failed_in x) (sound old.disk was_honest) led.1 step
-            (line_failed before behind (accepted_in x) (failed_in x)
-            (begun_outcome before behind (line_of line) stopped.reply stopped.broken.begins)),
+        leaves_by led.0 (done_in t) (fails_in t) (sound old.disk was_honest) led.1 step
+            (line_failed before behind (done_in t) (fails_in t) what),
       )
 
   -- either

@@ -1,7 +1,6 @@
 -- What one line makes of the carousel.
 use Rattle.std.proofs.Common.{◌≡◌, Bool, true, false, List, [], ◌∷◌, Result, Ok, Err, refl, ap}
-use Rattle.std.proofs.Common.{◌∙◌}
-use Rattle.std.proofs.Common.{ℕ, arith}
+use Rattle.std.proofs.Common.{◌∙◌, subst, sym}
 use Rattle.std.specs.Prelude.{IsTrue, IsFalse, if◌then◌else◌}
 use Rattle.disk_model.specs.Failures.{Rises}
 use Rattle.mot_journal.specs.declared.layout.Layout.{Layout}
@@ -16,14 +15,17 @@ use Rattle.mot_objects.specs.declared.command.Command as command
 use Rattle.mot_objects.specs.declared.command.Done.{Done}
 use Rattle.mot_repository.specs.Outcome.{after_command}
 use Rattle.mot_repository.proofs.Laws.{refused_so}
-use Rattle.mot_session.specs.Session.{Reply, refused, listing, packets, played, cut_short}
+use Rattle.mot_session.specs.Session.{Reply, refused, listing, packets, played}
 use Rattle.mot_session.specs.Session.{IsCommandAnswer, accepts, refuses, fails}
-use Rattle.mot_session.specs.Session.{IsNextAnswer, IsTurnAnswer, IsAnswer, all, cut}
-use Rattle.mot_session.specs.Served.{Begins, whole, next_begun, turn_begun}
+use Rattle.mot_session.specs.Session.{IsAnswer}
+use Rattle.mot_session.specs.Played.{Plays}
+use Rattle.mot_session.specs.Served.{Begins, whole, begun}
+use Rattle.mot_player.specs.Place.{Sent}
 use Rattle.mot_session.specs.Session.{Answers, decided, halted, no_memory}
 use Rattle.mot_session.specs.Session as session
 use Rattle.mot_session.specs.State.{ServerState, IsLater}
-use Rattle.mot_session.specs.Stored.{command_in, is_accepting, is_failing}
+use Rattle.mot_session.specs.Stored.{command_in}
+use Rattle.mot_session.specs.Inner.Writes.{is_accepting, is_failing}
 
 -- nothing is done; a command is done; or the disk fails, and the server is halted
 pub data Outcome (before after : ServerState) (done failed : List command.Command) : Type 0 where
@@ -78,53 +80,42 @@ commanded : (before after : ServerState) (c : command.Command) (reply : Reply)
     → IsCommandAnswer before c reply after
     → Outcome before after (done_by reply (Ok (asks.Command c)))
     (failed_by_reply reply (Ok (asks.Command c)))
-commanded before after c reply going (accepts d e a) = one c d
+commanded before after c reply going (accepts d next e outcome a) = one c d
     (ap (λ (r : Reply). done_by r (Ok (asks.Command c))) e)
     (ap (λ (r : Reply). failed_by_reply r (Ok (asks.Command c))) e)
-    going a.halted a.outcome
+    going a.halted (subst (λ n. after_command before.layout before.standing c ≡ Ok (n, d))
+    (sym a.standing) outcome)
 commanded before after c reply going (refuses refusal e why stays) =
     unchanged_so before after (Ok (asks.Command c)) reply (refused refusal) e refl
-    (refused-fine before.layout before.standing c refusal why) stays.keeps.standing
-    stays.keeps.halted
-commanded before after c reply going (fails e h) = halts
-    (ap (λ (r : Reply). done_by r (Ok (asks.Command c))) e) going h.halted h.standing h.rises
+    (refused-fine before.layout before.standing c refusal why) stays.standing
+    stays.halted
+commanded before after c reply going (fails e rises h) = halts
+    (ap (λ (r : Reply). done_by r (Ok (asks.Command c))) e) going h.halted h.standing rises
 
-nexts : (before after : ServerState) (request : Result Line Refusal) (count : ℕ) (reply : Reply)
-    → IsNextAnswer before count reply after
+plays : (before after : ServerState) (request : Result Line Refusal) (reply : Reply)
+    (sents : List Sent) (some failed : Bool) → reply ≡ played sents failed
+    → Plays before request some sents after
     → Outcome before after (done_by reply request) (failed_by_reply reply request)
-nexts before after request count reply (all sents e s) =
-    unchanged_so before after request reply
-    (played sents) e refl refl s.keeps.standing s.keeps.halted
-nexts before after request count reply (cut made sents between few e s f) =
-    unchanged_so before after request reply (cut_short sents) e refl refl
-    (f.stays.keeps.standing ∙ s.keeps.standing) (f.stays.keeps.halted ∙ s.keeps.halted)
-
-turns : (before after : ServerState) (request : Result Line Refusal) (reply : Reply)
-    → IsTurnAnswer before reply after
-    → Outcome before after (done_by reply request) (failed_by_reply reply request)
-turns before after request reply (all others sents e s) =
-    unchanged_so before after request reply (played sents) e refl refl s.sends.keeps.standing
-    s.sends.keeps.halted
-turns before after request reply (cut made sents between e s f) =
-    unchanged_so before after request reply (cut_short sents) e refl refl
-    (f.stays.keeps.standing ∙ s.sends.keeps.standing) (f.stays.keeps.halted ∙ s.sends.keeps.halted)
+plays before after request reply sents some failed e p = unchanged_so before after request reply
+    (played sents failed) e refl refl p.keeps.standing p.keeps.halted
 
 answered : (before after : ServerState) (request : Result Line Refusal) (reply : Reply)
     → (session.NeedsCarousel request → IsFalse before.halted) → IsAnswer before request reply after
     → Outcome before after (done_by reply request) (failed_by_reply reply request)
 unfolding IsAnswer
 answered before after (Err r) reply going a = nothing (no_command (is_accepting reply))
-    (no_command (is_failing reply)) a.1.keeps.standing a.1.keeps.halted
+    (no_command (is_failing reply)) a.1.standing a.1.halted
 answered before after (Ok (asks.Command c)) reply going a =
     commanded before after c reply (going tt) a
 answered before after (Ok asks.List) reply going a = nothing (no_command (is_accepting reply))
-    (no_command (is_failing reply)) a.1.keeps.standing a.1.keeps.halted
+    (no_command (is_failing reply)) a.1.standing a.1.halted
 answered before after (Ok (asks.Raw kind tid body)) reply going a =
-    nothing (no_command (is_accepting reply)) (no_command (is_failing reply)) a.1.keeps.standing
-    a.1.keeps.halted
+    nothing (no_command (is_accepting reply)) (no_command (is_failing reply)) a.1.standing
+    a.1.halted
 answered before after (Ok (asks.Next count)) reply going a =
-    nexts before after (Ok (asks.Next count)) count reply a
-answered before after (Ok asks.Turn) reply going a = turns before after (Ok asks.Turn) reply a
+    plays before after (Ok (asks.Next count)) reply a.0 a.1 a.1 a.2 a.3
+answered before after (Ok asks.Turn) reply going a =
+    plays before after (Ok asks.Turn) reply a.0 a.1 a.1 a.2 a.3
 
 -- an answer leaves the carousel, makes one command's, or halts on a disk that fails
 pub outcome : (before after : ServerState) (request : Result Line Refusal) (reply : Reply)
@@ -132,71 +123,48 @@ pub outcome : (before after : ServerState) (request : Result Line Refusal) (repl
     → Outcome before after (done_by reply request) (failed_by_reply reply request)
 outcome before after request reply (decided going a) = answered before after request reply going a
 outcome before after request reply (halted is needs e s) =
-    unchanged_so before after request reply (refused Halted) e refl refl s.keeps.standing
-    s.keeps.halted
+    unchanged_so before after request reply (refused Halted) e refl refl s.standing
+    s.halted
 outcome before after request reply (no_memory needs e s) =
-    unchanged_so before after request reply (refused OutOfMemory) e refl refl s.keeps.standing
-    s.keeps.halted
+    unchanged_so before after request reply (refused OutOfMemory) e refl refl s.standing
+    s.halted
 
 -- also where its reply was broken off
 pub begun_outcome : (before after : ServerState) (request : Result Line Refusal) (reply : Reply)
     → Begins before request reply after
     → Outcome before after (done_by reply request) (failed_by_reply reply request)
 begun_outcome before after request reply (whole a) = outcome before after request reply a
-begun_outcome before after request reply (next_begun count made sents e going few f s) =
-    unchanged_so before after request reply
-    (played sents) f refl refl s.keeps.standing s.keeps.halted
-begun_outcome before after request reply (turn_begun made sents e going f s) =
-    unchanged_so before after request reply (played sents) f refl refl s.sends.keeps.standing
-    s.sends.keeps.halted
+begun_outcome before after request reply (begun sents going e p) =
+    plays before after request reply sents true false e p
 
 -- time goes on
 
 module _ (before after : ServerState) where
   later-commanded : (c : command.Command) (reply : Reply) → IsCommandAnswer before c reply after
       → IsLater before after
-  later-commanded c reply (accepts d e a) = a.later
-  later-commanded c reply (refuses refusal e why stays) = stays.keeps.later
-  later-commanded c reply (fails e h) = h.later
-
-  later-two : (between : ServerState) → IsLater before between → IsLater between after
-      → IsLater before after
-  later-two between a b = record {
-    moment = omega (arith, a.moment, b.moment);
-    failures = omega (arith, a.failures, b.failures);
-  }
-
-  later-next : (count : ℕ) (reply : Reply) → IsNextAnswer before count reply after
-      → IsLater before after
-  later-next count reply (all sents e s) = s.keeps.later
-  later-next count reply (cut made sents between few e s f) =
-      later-two between s.keeps.later f.stays.keeps.later
-
-  later-turn : (reply : Reply) → IsTurnAnswer before reply after → IsLater before after
-  later-turn reply (all others sents e s) = s.sends.keeps.later
-  later-turn reply (cut made sents between e s f) =
-      later-two between s.sends.keeps.later f.stays.keeps.later
+  later-commanded c reply (accepts d next e outcome a) = a.later
+  later-commanded c reply (refuses refusal e why stays) = stays.later
+  later-commanded c reply (fails e rises h) = h.later
 
   later-answered : (request : Result Line Refusal) (reply : Reply)
       → IsAnswer before request reply after → IsLater before after
   unfolding IsAnswer
-  later-answered (Err r) reply a = a.1.keeps.later
+  later-answered (Err r) reply a = a.1.later
   later-answered (Ok (asks.Command c)) reply a = later-commanded c reply a
-  later-answered (Ok asks.List) reply a = a.1.keeps.later
-  later-answered (Ok (asks.Raw kind tid body)) reply a = a.1.keeps.later
-  later-answered (Ok (asks.Next count)) reply a = later-next count reply a
-  later-answered (Ok asks.Turn) reply a = later-turn reply a
+  later-answered (Ok asks.List) reply a = a.1.later
+  later-answered (Ok (asks.Raw kind tid body)) reply a = a.1.later
+  later-answered (Ok (asks.Next count)) reply a = a.3.keeps.later
+  later-answered (Ok asks.Turn) reply a = a.3.keeps.later
 
   -- a server is later behind an answer than before it
   pub later-answers : (request : Result Line Refusal) (reply : Reply)
       → Answers before request reply after → IsLater before after
   later-answers request reply (decided going a) = later-answered request reply a
-  later-answers request reply (halted is needs e s) = s.keeps.later
-  later-answers request reply (no_memory needs e s) = s.keeps.later
+  later-answers request reply (halted is needs e s) = s.later
+  later-answers request reply (no_memory needs e s) = s.later
 
   -- a server is later behind an answer that was begun than before it
   pub later-begins : (request : Result Line Refusal) (reply : Reply)
       → Begins before request reply after → IsLater before after
   later-begins request reply (whole a) = later-answers request reply a
-  later-begins request reply (next_begun count made sents e going few f s) = s.keeps.later
-  later-begins request reply (turn_begun made sents e going f s) = s.sends.keeps.later
+  later-begins request reply (begun sents going e p) = p.keeps.later

@@ -8,12 +8,13 @@ use Rattle.mot_lines.specs.declared.line.Line.TheVariants as asks
 use Rattle.mot_player.specs.Place.{Sent}
 use Rattle.mot_session.specs.declared.serving.output.WriteFault.{WriteFault}
 use Rattle.mot_session.specs.Inner.Writes.{AnswersOne, AnswersRequest, sends, fails}
-use Rattle.mot_session.specs.Played.{Sends, SendsWithinTurn, sent_lines}
+use Rattle.mot_session.specs.Played.{sent_lines}
 use Rattle.mot_session.specs.State.{ServerState}
 use Rattle.mot_session.proofs.Written.{Answered-turn, AnswersRequest-next_cut}
 use Rattle.mot_session.proofs.Written.{AnswersRequest-turn_cut}
-use Rattle.mot_session.proofs.Written.{BrokenOff-next, BrokenOff-turn, Sends-more, SendsTurn-ended}
-use Rattle.mot_session.proofs.Written.{SendsWithinTurn-more, appended-more}
+use Rattle.mot_session.proofs.Written.{BrokenOff-next, BrokenOff-turn, Sends, Sends-more}
+use Rattle.mot_session.proofs.Written.{SendsTurn-ended, SendsWithinTurn, SendsWithinTurn-more}
+use Rattle.mot_session.proofs.Written.{appended-more}
 
 same_bool : (shown : Option Bool) (a b : Bool) → shown ≡ Some a → shown ≡ Some b → a ≡ b
 same_bool shown a b e f = let both : Some a ≡ Some b = sym e ∙ f in cc

@@ -26,8 +26,9 @@ module _ {D : Type 0} (old new : ServerView D) (start now : State)
   pub keeps-read : (s : Standing) → KeepsCarousel (state_of old s start) (state_of new s now)
   keeps-read s = record {
     standing = refl;
-    layout = ap (λ (v : RepositoryView). v.journal.layout) reads.view;
+    place = refl;
     halted = ap (λ (v : RepositoryView). v.halted) reads.view;
+    layout = ap (λ (v : RepositoryView). v.journal.layout) reads.view;
     later = record {
       moment = (reads.disk.unchanged honest).time.later;
       failures =

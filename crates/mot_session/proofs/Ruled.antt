@@ -39,12 +39,12 @@ use Rattle.mot_repository.proofs.Laws.{accepted_parts}
 use Rattle.mot_server.proofs.Laws.{IsRefused, refused_by}
 use Rattle.mot_session.specs.Life.{AreRight, Told}
 use Rattle.mot_session.specs.Replies.{IsRight, IsShown}
-use Rattle.mot_session.specs.Session.{Accepts, Answers, IsAnswer, IsCommandAnswer}
-use Rattle.mot_session.specs.Session.{IsNextAnswer, IsTurnAnswer, NeedsCarousel, Reply, accepted}
+use Rattle.mot_session.specs.Session.{Answers, IsAnswer, IsCommandAnswer}
+use Rattle.mot_session.specs.Session.{NeedsCarousel, Reply, accepted}
 use Rattle.mot_session.specs.Session.{accepts, decided, fails, halted, no_memory, refused}
 use Rattle.mot_session.specs.Session.{refuses, text_of}
-use Rattle.mot_session.specs.State.{KeepsCarousel, ServerState}
-use Rattle.mot_session.proofs.Shown.{list-reply, next-shown, raw-reply, turn-shown}
+use Rattle.mot_session.specs.State.{KeepsCarousel, ServerState, Stays}
+use Rattle.mot_session.proofs.Shown.{list-reply, plays-shown, raw-reply}
 
 -- ---- a command of a line has no name that is too long
 
@@ -200,11 +200,19 @@ at_going s going = ap (λ b. if b then None else Some s.standing.carousel) going
 at_halted : (s : ServerState) → IsTrue s.halted → carousel_at s ≡ None
 at_halted s is = ap (λ b. if b then None else Some s.standing.carousel) is
 
-at_same : (before after : ServerState) → KeepsCarousel before after
+at_same : (before after : ServerState) → after.standing ≡ before.standing
+    → after.halted ≡ before.halted → carousel_at after ≡ carousel_at before
+at_same before after standing same =
+    ap (λ b. if b then None else Some after.standing.carousel) same
+    ∙ ap (λ (s : Standing). if before.halted then None else Some s.carousel) standing
+
+at_kept : (before after : ServerState) → KeepsCarousel before after
     → carousel_at after ≡ carousel_at before
-at_same before after keeps =
-    ap (λ b. if b then None else Some after.standing.carousel) keeps.halted
-    ∙ ap (λ (s : Standing). if before.halted then None else Some s.carousel) keeps.standing
+at_kept before after keeps = at_same before after keeps.standing keeps.halted
+
+at_stayed : (before after : ServerState) → Stays before after
+    → carousel_at after ≡ carousel_at before
+at_stayed before after stays = at_same before after stays.standing stays.halted
 
 text-accepted : (d : Done) → text_of (accepted d) ≡ done_line d
 unfolding text_of
@@ -243,11 +251,12 @@ module _ (before after : ServerState) (layout : before.layout ≡ Two) where
       (subst (λ n. IsRight g old' request text n) (sym f)
       (subst (λ t. IsRight g old' request t new') (sym h) is))
 
-  accepted-right : (x : command.Command) (d : Done) → Accepts before x d after
-      → IsRight g (Some c) (Ok (asks.Command x)) (done_line d) (Some after.standing.carousel)
-  accepted-right x d a =
-      let parts = accepted_parts Two before.standing x d after.standing
-      (subst (λ l. after_command l before.standing x ≡ Ok (after.standing, d)) layout a.outcome) in
+  accepted-right : (x : command.Command) (d : Done) (next : Standing)
+      → after_command before.layout before.standing x ≡ Ok (next, d)
+      → IsRight g (Some c) (Ok (asks.Command x)) (done_line d) (Some next.carousel)
+  accepted-right x d next outcome =
+      let parts = accepted_parts Two before.standing x d next
+      (subst (λ l. after_command l before.standing x ≡ Ok (next, d)) layout outcome) in
       inl (d, parts.rules, refl)
 
   refused-so : (x : command.Command) (r : Refusal) → IsRefused before.standing x r
@@ -267,16 +276,17 @@ module _ (before after : ServerState) (layout : before.layout ≡ Two) where
       → IsShort (Ok (asks.Command x)) → HasImage before.standing
       → IsCommandAnswer before x reply after
       → IsRight g (carousel_at before) (Ok (asks.Command x)) (text_of reply) (carousel_at after)
-  command-right x reply going short has (accepts d e a) =
-      as_told (carousel_at before) (Some c) (carousel_at after) (Some after.standing.carousel)
+  command-right x reply going short has (accepts d next e outcome a) =
+      as_told (carousel_at before) (Some c) (carousel_at after) (Some next.carousel)
       (Ok (asks.Command x)) (text_of reply) (done_line d) (at_going before going)
-      (at_going after (a.halted ∙ going)) (ap text_of e ∙ text-accepted d) (accepted-right x d a)
+      (at_going after (a.halted ∙ going) ∙ ap (λ (s : Standing). Some s.carousel) a.standing)
+      (ap text_of e ∙ text-accepted d) (accepted-right x d next outcome)
   command-right x reply going short has (refuses r e reason stays) =
       as_told (carousel_at before) (Some c) (carousel_at after) (Some c)
       (Ok (asks.Command x)) (text_of reply) (refusal_line r) (at_going before going)
-      (at_same before after stays.keeps ∙ at_going before going) (refused-text reply r e)
+      (at_stayed before after stays ∙ at_going before going) (refused-text reply r e)
       (refused-right x r short has reason)
-  command-right x reply going short has (fails e h) =
+  command-right x reply going short has (fails e rises h) =
       as_told (carousel_at before) (Some c) (carousel_at after) None
       (Ok (asks.Command x)) (text_of reply) (refusal_line why.DeviceFault) (at_going before going)
       (at_halted after h.halted) (refused-text reply why.DeviceFault e) refl
@@ -308,19 +318,6 @@ module _ (before after : ServerState) (layout : before.layout ≡ Two) where
       (text_of reply) (at_going before going) (same ∙ at_going before going) refl
       (read-some request (text_of reply) is shown)
 
-  next-same : (count : ℕ) (reply : Reply) → IsNextAnswer before count reply after
-      → carousel_at after ≡ carousel_at before
-  next-same count reply (IsNextAnswer.all sents e sends) = at_same before after sends.keeps
-  next-same count reply (IsNextAnswer.cut made sents between few e sends broken) =
-      at_same between after broken.stays.keeps ∙ at_same before between sends.keeps
-
-  turn-same : (reply : Reply) → IsTurnAnswer before reply after
-      → carousel_at after ≡ carousel_at before
-  turn-same reply (IsTurnAnswer.all others sents e sends) =
-      at_same before after sends.sends.keeps
-  turn-same reply (IsTurnAnswer.cut made sents between e sends broken) =
-      at_same between after broken.stays.keeps ∙ at_same before between sends.sends.keeps
-
   answer-right : (request : Result Line Refusal) (reply : Reply)
       → (NeedsCarousel request → IsFalse before.halted) → IsShort request
       → (IsFalse before.halted → HasImage before.standing)
@@ -329,24 +326,24 @@ module _ (before after : ServerState) (layout : before.layout ≡ Two) where
       → IsRight g (carousel_at before) request (text_of reply) (carousel_at after)
   unfolding IsAnswer
   answer-right (Err r) reply going short has rules a =
-      (refused-text reply r a.0, at_same before after a.1.keeps)
+      (refused-text reply r a.0, at_stayed before after a.1)
   answer-right (Ok (asks.Command x)) reply going short has rules a =
       command-right x reply (going tt) short (has (going tt)) a
   answer-right (Ok asks.List) reply going short has rules a =
-      read-right (Ok asks.List) reply tt (going tt) (at_same before after a.1.keeps)
+      read-right (Ok asks.List) reply tt (going tt) (at_stayed before after a.1)
       (subst (λ x. IsShown g (Ok asks.List) (text_of x)) (sym a.0)
       (list-reply g c (rules (going tt))))
   answer-right (Ok (asks.Raw kind tid body)) reply going short has rules a = (
-    at_same before after a.1.keeps,
+    at_stayed before after a.1,
     subst (λ x. IsShown g (Ok (asks.Raw kind tid body)) (text_of x)) (sym a.0)
         (raw-reply g kind tid body),
   )
   answer-right (Ok (asks.Next count)) reply going short has rules a =
-      read-right (Ok (asks.Next count)) reply tt (going tt) (next-same count reply a)
-      (next-shown g before after count reply a)
+      read-right (Ok (asks.Next count)) reply tt (going tt) (at_kept before after a.3.keeps)
+      (plays-shown g before after (Ok (asks.Next count)) reply a.0 a.1 refl a.2 a.3)
   answer-right (Ok asks.Turn) reply going short has rules a =
-      read-right (Ok asks.Turn) reply tt (going tt) (turn-same reply a)
-      (turn-shown g before after reply a)
+      read-right (Ok asks.Turn) reply tt (going tt) (at_kept before after a.3.keeps)
+      (plays-shown g before after (Ok asks.Turn) reply a.0 a.1 refl a.2 a.3)
 
   halted-some : (request : Result Line Refusal) → NeedsCarousel request
       → IsRight g None request (refusal_line why.Halted) None
@@ -368,10 +365,10 @@ module _ (before after : ServerState) (layout : before.layout ≡ Two) where
   right_reply request reply short has rules (halted is needs e s) =
       inr (as_told (carousel_at before) None (carousel_at after) None request (text_of reply)
       (refusal_line why.Halted) (at_halted before is)
-      (at_same before after s.keeps ∙ at_halted before is) (refused-text reply why.Halted e)
+      (at_stayed before after s ∙ at_halted before is) (refused-text reply why.Halted e)
       (halted-some request needs))
   right_reply request reply short has rules (no_memory needs e s) =
-      inl (refused-text reply why.OutOfMemory e, at_same before after s.keeps)
+      inl (refused-text reply why.OutOfMemory e, at_stayed before after s)
 
   -- so are all where those behind it are
   pub right_more : (h : Geometry) → g ≡ h → (line text : List ℕ) (told : List Told)
@@ -382,36 +379,25 @@ module _ (before after : ServerState) (layout : before.layout ≡ Two) where
   right_more h same line text told old new (inr is) rest =
       inr (new, subst (λ (x : Geometry). IsRight x old (line_of line) text new) same is, rest)
 
-  next-layout : (count : ℕ) (reply : Reply) → IsNextAnswer before count reply after
-      → after.layout ≡ before.layout
-  next-layout count reply (IsNextAnswer.all sents e sends) = sends.keeps.layout
-  next-layout count reply (IsNextAnswer.cut made sents between few e sends broken) =
-      broken.stays.keeps.layout ∙ sends.keeps.layout
-
-  turn-layout : (reply : Reply) → IsTurnAnswer before reply after → after.layout ≡ before.layout
-  turn-layout reply (IsTurnAnswer.all others sents e sends) = sends.sends.keeps.layout
-  turn-layout reply (IsTurnAnswer.cut made sents between e sends broken) =
-      broken.stays.keeps.layout ∙ sends.sends.keeps.layout
-
   command-layout : (x : command.Command) (reply : Reply)
       → IsCommandAnswer before x reply after → after.layout ≡ before.layout
-  command-layout x reply (accepts d e a) = a.layout
-  command-layout x reply (refuses r e reason stays) = stays.keeps.layout
-  command-layout x reply (fails e h) = h.layout
+  command-layout x reply (accepts d next e outcome a) = a.layout
+  command-layout x reply (refuses r e reason stays) = stays.layout
+  command-layout x reply (fails e rises h) = h.layout
 
   answer-layout : (request : Result Line Refusal) (reply : Reply)
       → IsAnswer before request reply after → after.layout ≡ before.layout
   unfolding IsAnswer
-  answer-layout (Err r) reply a = a.1.keeps.layout
+  answer-layout (Err r) reply a = a.1.layout
   answer-layout (Ok (asks.Command x)) reply a = command-layout x reply a
-  answer-layout (Ok asks.List) reply a = a.1.keeps.layout
-  answer-layout (Ok (asks.Raw kind tid body)) reply a = a.1.keeps.layout
-  answer-layout (Ok (asks.Next count)) reply a = next-layout count reply a
-  answer-layout (Ok asks.Turn) reply a = turn-layout reply a
+  answer-layout (Ok asks.List) reply a = a.1.layout
+  answer-layout (Ok (asks.Raw kind tid body)) reply a = a.1.layout
+  answer-layout (Ok (asks.Next count)) reply a = a.3.keeps.layout
+  answer-layout (Ok asks.Turn) reply a = a.3.keeps.layout
 
   -- the layout stays
   pub layout_stays : (request : Result Line Refusal) (reply : Reply)
       → Answers before request reply after → after.layout ≡ before.layout
   layout_stays request reply (decided going a) = answer-layout request reply a
-  layout_stays request reply (halted is needs e s) = s.keeps.layout
-  layout_stays request reply (no_memory needs e s) = s.keeps.layout
+  layout_stays request reply (halted is needs e s) = s.layout
+  layout_stays request reply (no_memory needs e s) = s.layout

@@ -1,11 +1,11 @@
 -- What a whole reply shows of the line that it answers.
-use Rattle.std.proofs.Common.{◌≡◌, ◌⊎◌, inl, inr, ⊎_elim, ℕ, zero, suc, ◌+◌, ◌-◌, ◌*◌, ◌≤◌, ◌<◌}
+use Rattle.std.proofs.Common.{◌≡◌, inl, inr, ℕ, zero, suc, ◌+◌, ◌-◌, ◌*◌, ◌<◌}
 use Rattle.std.proofs.Common.{◌/◌, ◌%◌}
 use Rattle.std.proofs.Common.{Bool, true, false, List, [], ◌∷◌, ◌++◌, length, map, Option, Some}
 use Rattle.std.proofs.Common.{None}
 use Rattle.std.proofs.Common.{Result, Ok, Err, refl, sym, ap, ◌∙◌, subst, arith, append_assoc}
 use Rattle.std.proofs.Common.{append-nil, length-append}
-use Rattle.std.proofs.lemmas.Bool.Decides.{leb_tells, nat_tests}
+use Rattle.std.proofs.lemmas.Bool.Decides.{nat_tests}
 use Rattle.std.proofs.lemmas.List.Elements.{All-append, All-cons, All-nil, All-weaker}
 use Rattle.std.specs.Fmt.{decimal, digit_glyph, digits, digits_onto}
 use Rattle.std.specs.Int.{div_ceil, to_be_bytes, w16}
@@ -35,14 +35,14 @@ use Rattle.mot_objects.specs.declared.command.Done.{Done}
 use Rattle.mot_packets.specs.Written.{bytes_of_packet}
 use Rattle.mot_packets.proofs.Laws.{length-packets_of_group}
 use Rattle.mot_player.specs.Place.{Place, Request, Sent, request, sent_by}
-use Rattle.mot_session.specs.Played.{Sends, sent_lines}
+use Rattle.mot_session.specs.Played.{Plays, sent_lines}
 use Rattle.mot_session.specs.Replies.{AreAsked, IsReply, IsShown, Shown, ends_of, shown_lines}
 use Rattle.mot_session.specs.Raw.{raw_group, raw_packets}
-use Rattle.mot_session.specs.Served.{Begins, whole, next_begun, turn_begun}
+use Rattle.mot_session.specs.Served.{Begins, whole}
 use Rattle.mot_session.specs.Session.{Answers, decided, halted, no_memory, IsAnswer}
 use Rattle.mot_session.specs.Session.{IsCommandAnswer}
-use Rattle.mot_session.specs.Session.{IsNextAnswer, IsTurnAnswer, NeedsCarousel, Reply, all, cut}
-use Rattle.mot_session.specs.Session.{accepted, accepts, cut_short, fails, listing, packets, played}
+use Rattle.mot_session.specs.Session.{NeedsCarousel, Reply}
+use Rattle.mot_session.specs.Session.{accepted, accepts, fails, listing, packets, played}
 use Rattle.mot_session.specs.Session.{refused, refuses, text_of}
 use Rattle.mot_session.specs.State.{ServerState}
 
@@ -239,10 +239,6 @@ sents-ends : (sents : List Sent)
 sents-ends [] = refl
 sents-ends (s ∷ sents) = ap (λ (l : List Bool). s.ends_turn ∷ l) (sents-ends sents)
 
-ends-length : (sents : List Sent) → length (ends_of (shown_of sents)) ≡ length sents
-ends-length [] = refl
-ends-length (s ∷ sents) = ap suc (ends-length sents)
-
 abbrev length_sent : Option (List Sent × Place) → ℕ
 length_sent None = 0
 length_sent (Some x) = length x.0
@@ -269,7 +265,7 @@ sent-one n (Some s) sents new h e =
     sent-behind n s (sent_by s.place (replicate n Request)) sents new (h s) e
 
 -- so many requests send so many packets
-sent-length : (n : ℕ) (old new : Place) (sents : List Sent)
+pub sent-length : (n : ℕ) (old new : Place) (sents : List Sent)
     → sent_by old (replicate n Request) ≡ Some (sents, new) → length sents ≡ n
 unfolding sent_by
 sent-length zero old new sents e = sym (ap length_sent e)
@@ -296,11 +292,11 @@ module _ (g : Geometry) where
 
   command-shown : (before after : ServerState) (c : command.Command) (reply : Reply)
       → IsCommandAnswer before c reply after → IsReply g (Ok (asks.Command c)) (text_of reply)
-  command-shown before after c reply (accepts d e a) =
+  command-shown before after c reply (accepts d next e outcome a) =
       as_reply (Ok (asks.Command c)) reply (accepted d) e (done-reply c d)
   command-shown before after c reply (refuses r e reason stays) =
       as_reply (Ok (asks.Command c)) reply (refused r) e (refusal-shown (Ok (asks.Command c)) r)
-  command-shown before after c reply (fails e h) =
+  command-shown before after c reply (fails e rises h) =
       as_reply (Ok (asks.Command c)) reply (refused DeviceFault) e
       (refusal-shown (Ok (asks.Command c)) DeviceFault)
 
@@ -325,7 +321,7 @@ module _ (g : Geometry) where
 
   played-reply : (request : Result Line Refusal) (sents : List Sent)
       → AreAsked g request false (ends_of (shown_of sents))
-      → IsShown g request (text_of (played sents))
+      → IsShown g request (text_of (played sents false))
   unfolding text_of
   played-reply request sents asked = IsShown.packets (shown_of sents) false asked
       (sents-shown sents ∙ sym (append-nil (shown_lines (shown_of sents))))
@@ -338,33 +334,32 @@ module _ (g : Geometry) where
 
   cut-text : (request : Result Line Refusal) (sents : List Sent)
       → IsShown g request (sent_lines sents ++ refusal_line DeviceFault)
-      → IsShown g request (text_of (cut_short sents))
+      → IsShown g request (text_of (played sents true))
   unfolding text_of
   cut-text request sents is = is
 
-  pub next-shown : (before after : ServerState) (count : ℕ) (reply : Reply)
-      → IsNextAnswer before count reply after
-      → IsShown g (Ok (asks.Next count)) (text_of reply)
-  next-shown before after count reply (all sents e sends) =
-      as_shown (Ok (asks.Next count)) reply (played sents) e
-      (played-reply (Ok (asks.Next count)) sents (ends-length sents
-      ∙ sent-length count before.place after.place sents sends.sent.steps))
-  next-shown before after count reply (cut made sents between few e sends failing) =
-      let many : length (ends_of (shown_of sents)) ≡ made = ends-length sents
-      ∙ sent-length made before.place between.place sents sends.sent.steps in
-      as_shown (Ok (asks.Next count)) reply (cut_short sents) e
-      (cut-text (Ok (asks.Next count)) sents
-      (cut-reply (Ok (asks.Next count)) sents (omega (arith, few, many))))
+  -- packets that were sent show what was asked for
+  asked-so : (before after : ServerState) (request : Result Line Refusal) (some : Bool)
+      (sents : List Sent) → before.standing.geometry ≡ g → Plays before request some sents after
+      → AreAsked g request some (ends_of (shown_of sents))
+  asked-so before after request some sents same p =
+      subst (λ (h : Geometry). AreAsked h request some (ends_of (shown_of sents))) same
+      (subst (λ ends. AreAsked before.standing.geometry request some ends)
+      (sym (sents-ends sents)) p.asked)
 
-  pub turn-shown : (before after : ServerState) (reply : Reply)
-      → IsTurnAnswer before reply after → IsShown g (Ok asks.Turn) (text_of reply)
-  turn-shown before after reply (all others sents e sends) =
-      as_shown (Ok asks.Turn) reply (played sents) e
-      (played-reply (Ok asks.Turn) sents (others, sents-ends sents ∙ sends.ends))
-  turn-shown before after reply (cut made sents between e sends failing) =
-      as_shown (Ok asks.Turn) reply (cut_short sents) e
-      (cut-text (Ok asks.Turn) sents
-      (cut-reply (Ok asks.Turn) sents (made, sents-ends sents ∙ sends.ends)))
+  played-some : (request : Result Line Refusal) (sents : List Sent) (failed : Bool)
+      → AreAsked g request failed (ends_of (shown_of sents))
+      → IsShown g request (text_of (played sents failed))
+  played-some request sents true asked = cut-text request sents (cut-reply request sents asked)
+  played-some request sents false asked = played-reply request sents asked
+
+  pub plays-shown : (before after : ServerState) (request : Result Line Refusal) (reply : Reply)
+      (sents : List Sent) (failed : Bool) → before.standing.geometry ≡ g
+      → reply ≡ played sents failed → Plays before request failed sents after
+      → IsShown g request (text_of reply)
+  plays-shown before after request reply sents failed same e p =
+      as_shown request reply (played sents failed) e
+      (played-some request sents failed (asked-so before after request failed sents same p))
 
   answer-shown : (before after : ServerState) (request : Result Line Refusal) (reply : Reply)
       → before.standing.geometry ≡ g
@@ -383,9 +378,9 @@ module _ (g : Geometry) where
       (a.0 ∙ ap (λ h. packets (raw_packets h kind tid body)) same)
       (inr (inr (raw-reply kind tid body)))
   answer-shown before after (Ok (asks.Next count)) reply same rules a =
-      inr (inr (next-shown before after count reply a))
+      inr (inr (plays-shown before after (Ok (asks.Next count)) reply a.0 a.1 same a.2 a.3))
   answer-shown before after (Ok asks.Turn) reply same rules a =
-      inr (inr (turn-shown before after reply a))
+      inr (inr (plays-shown before after (Ok asks.Turn) reply a.0 a.1 same a.2 a.3))
 
   -- the text of a reply that answers a request is a whole reply to it
   pub replied : (before after : ServerState) (request : Result Line Refusal) (reply : Reply)
@@ -411,32 +406,13 @@ module _ (g : Geometry) where
 
   played-goes : (request : Result Line Refusal) (sents : List Sent)
       → IsReply g request (sent_lines sents ++ refusal_line DeviceFault)
-      → Goes request (text_of (played sents))
+      → Goes request (text_of (played sents false))
   unfolding text_of
   played-goes request sents is = (refusal_line DeviceFault, is)
 
-  next-goes : (before after : ServerState) (count made : ℕ) (sents : List Sent) → made ≤ count
-      → Sends before made sents after → Goes (Ok (asks.Next count)) (text_of (played sents))
-  next-goes before after count made sents few sends =
-      let request : Result Line Refusal = Ok (asks.Next count) in
-      let many : length (ends_of (shown_of sents)) ≡ made = ends-length sents
-      ∙ sent-length made before.place after.place sents sends.sent.steps in
-      ⊎_elim {C = Goes request (text_of (played sents))}
-      (λ less. played-goes request sents
-      (inr (inr (cut-reply request sents (omega (arith, less, many))))))
-      (λ same. whole-goes request (text_of (played sents))
-      (inr (inr (played-reply request sents (many ∙ same))))) (less_or_same made count few)
-    where
-      less_or_same : (m n : ℕ) → m ≤ n → (m < n) ⊎ (m ≡ n)
-      less_or_same m n le = ⊎_elim {C = (m < n) ⊎ (m ≡ n)}
-          (λ most. let more = most.1 in inr (omega (arith, le, more)))
-          (λ less. inl less.1) (leb_tells n m)
-
-  as_goes : (request asked : Result Line Refusal) (reply shown : Reply) → request ≡ asked
-      → reply ≡ shown → Goes asked (text_of shown) → Goes request (text_of reply)
-  as_goes request asked reply shown e f goes =
-      subst (λ q. Goes q (text_of reply)) (sym e)
-      (subst (λ r. Goes asked (text_of r)) (sym f) goes)
+  as_goes : (request : Result Line Refusal) (reply shown : Reply) → reply ≡ shown
+      → Goes request (text_of shown) → Goes request (text_of reply)
+  as_goes request reply shown e goes = subst (λ r. Goes request (text_of r)) (sym e) goes
 
   -- the text of a reply that was begun is the front of a whole one
   pub begun : (before after : ServerState) (request : Result Line Refusal) (reply : Reply)
@@ -445,13 +421,10 @@ module _ (g : Geometry) where
       → Begins before request reply after → Goes request (text_of reply)
   begun before after request reply same rules (whole a) =
       whole-goes request (text_of reply) (replied before after request reply same rules a)
-  begun before after request reply same rules (next_begun count made sents is going few e sends) =
-      as_goes request (Ok (asks.Next count)) reply (played sents) is e
-      (next-goes before after count made sents few sends)
-  begun before after request reply same rules (turn_begun made sents is going e sends) =
-      as_goes request (Ok asks.Turn) reply (played sents) is e
-      (played-goes (Ok asks.Turn) sents
-      (inr (inr (cut-reply (Ok asks.Turn) sents (made, sents-ends sents ∙ sends.ends)))))
+  begun before after request reply same rules (Begins.begun sents going e p) =
+      as_goes request reply (played sents false) e
+      (played-goes request sents (inr (inr (cut-reply request sents
+      (asked-so before after request true sents same p)))))
 
   -- and so is each front of it
   pub front_begun : (request : Result Line Refusal) (text front rest : List ℕ)

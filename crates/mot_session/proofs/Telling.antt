@@ -1,27 +1,35 @@
 -- What the text of a reply tells of the command of its line.
 use Rattle.std.proofs.Common.{◌≡◌, ◌⊎◌, inl, inr, Bool, true, false, List, [], Result, Ok, Err}
 use Rattle.std.proofs.Common.{refl, sym, ap, ◌∙◌, ℕ, ◌<◌, ◌∷◌, ◌++◌, length, take, append-nil}
-use Rattle.std.proofs.Common.{arith}
+use Rattle.std.proofs.Common.{arith, subst}
 use Rattle.std.proofs.lemmas.Slice.Eq.{bytes_eq-Decides}
 use Rattle.std.specs.Prelude.{IsFalse, bytes_eq, codes, if◌then◌else◌}
 use Rattle.std.specs.Fmt.{digits}
 use Rattle.mot_lines.specs.declared.line.Line.{Line}
 use Rattle.mot_lines.specs.declared.line.Line.TheVariants as asks
+use Rattle.disk_model.specs.Disk.{State}
+use Rattle.mot_lines.specs.Line.{line_of}
 use Rattle.mot_lines.specs.Text.{refusal_line}
 use Rattle.mot_numbers.specs.declared.refusal.Refusal.{Refusal}
 use Rattle.mot_numbers.specs.declared.refusal.Refusal.TheVariants as why
 use Rattle.mot_numbers.specs.Refusal.{is_device_fault}
 use Rattle.mot_objects.specs.declared.command.Command as command
 use Rattle.mot_objects.specs.declared.command.Done.{Done}
-use Rattle.mot_session.specs.Life.{is_done}
+use Rattle.mot_session.specs.Kept.{IsToldAndStored}
+use Rattle.mot_session.specs.Life.{Told, done_in, fails_in, is_done}
 use Rattle.mot_session.specs.Session.{Answers, decided, halted, no_memory, IsAnswer}
 use Rattle.mot_session.specs.Session.{IsCommandAnswer}
 use Rattle.mot_session.specs.Session.{NeedsCarousel, packets}
 use Rattle.mot_session.specs.Raw.{raw_packets}
-use Rattle.mot_session.specs.Served.{Begins, whole, next_begun, turn_begun}
-use Rattle.mot_session.specs.Session.{Reply, accepted, refused, accepts, refuses, fails, text_of}
+use Rattle.mot_session.specs.Replies.{AreAsked}
+use Rattle.mot_session.specs.Served.{Begins, whole, begun}
+use Rattle.mot_numbers.specs.declared.geometry.Geometry.{Geometry}
+use Rattle.mot_session.specs.Session.{Exchange, Reply, accepted, refused, accepts, refuses, fails}
+use Rattle.mot_session.specs.Session.{text_of}
 use Rattle.mot_session.specs.State.{ServerState}
-use Rattle.mot_session.specs.Stored.{command_in, is_accepting, is_failing}
+use Rattle.mot_session.proofs.Outcomes.{Outcome, begun_outcome, done_by, failed_by_reply, outcome}
+use Rattle.mot_session.specs.Stored.{command_in}
+use Rattle.mot_session.specs.Inner.Writes.{accepted_in, failed_in, is_accepting, is_failing}
 
 -- the text is that of a fault of the disk
 abbrev pub is_fault : List ℕ → Bool
@@ -65,15 +73,15 @@ fault_of_refused why.ReadFault = refl
 fault_of_refused why.WriteFault = refl
 
 -- a request that is a command is accepted or refused
-abbrev Kinds : Result Line Refusal → Reply → Type 0
+abbrev pub Kinds : Result Line Refusal → Reply → Type 0
 Kinds request reply = (command_in request ≡ [])
     ⊎ (((d : Done) × (reply ≡ accepted d)) ⊎ ((r : Refusal) × (reply ≡ refused r)))
 
 commanded : (before after : ServerState) (c : command.Command) (reply : Reply)
     → IsCommandAnswer before c reply after → Kinds (Ok (asks.Command c)) reply
-commanded before after c reply (accepts d e a) = inr (inl (d, e))
+commanded before after c reply (accepts d next e outcome a) = inr (inl (d, e))
 commanded before after c reply (refuses r e reason stays) = inr (inr (r, e))
-commanded before after c reply (fails e h) = inr (inr (why.DeviceFault, e))
+commanded before after c reply (fails e rises h) = inr (inr (why.DeviceFault, e))
 
 answered : (before after : ServerState) (request : Result Line Refusal) (reply : Reply)
     → IsAnswer before request reply after → Kinds request reply
@@ -85,11 +93,27 @@ answered before after (Ok (asks.Raw kind tid body)) reply a = inl refl
 answered before after (Ok (asks.Next count)) reply a = inl refl
 answered before after (Ok asks.Turn) reply a = inl refl
 
-kinds : (before after : ServerState) (request : Result Line Refusal) (reply : Reply)
+pub kinds : (before after : ServerState) (request : Result Line Refusal) (reply : Reply)
     → Answers before request reply after → Kinds request reply
 kinds before after request reply (decided going a) = answered before after request reply a
 kinds before after request reply (halted is needs e s) = inr (inr (why.Halted, e))
 kinds before after request reply (no_memory needs e s) = inr (inr (why.OutOfMemory, e))
+
+-- what asks for packets is no command
+asked-none : (g : Geometry) (request : Result Line Refusal) (ends : List Bool)
+    → AreAsked g request true ends → command_in request ≡ []
+asked-none g (Err r) ends asked = refl
+asked-none g (Ok (asks.Command c)) ends asked = absurd asked
+asked-none g (Ok asks.List) ends asked = refl
+asked-none g (Ok (asks.Raw kind tid body)) ends asked = refl
+asked-none g (Ok (asks.Next count)) ends asked = refl
+asked-none g (Ok asks.Turn) ends asked = refl
+
+pub kinds_begun : (before after : ServerState) (request : Result Line Refusal) (reply : Reply)
+    → Begins before request reply after → Kinds request reply
+kinds_begun before after request reply (whole a) = kinds before after request reply a
+kinds_begun before after request reply (begun sents going e p) =
+    inl (asked-none before.standing.geometry request _ p.asked)
 
 no_matter : (b c : Bool) (l : List command.Command) → l ≡ []
     → (if b then l else []) ≡ (if c then l else [])
@@ -120,16 +144,47 @@ module _ (request : Result Line Refusal) where
   failing_by_kind reply (inr (inr (r, e))) = ap where_so
       (ap (λ (r : Reply). is_fault (text_of r)) e ∙ fault_of_refused r ∙ sym (ap is_failing e))
 
-  module _ (before after : ServerState) (reply : Reply)
-      (answers : Answers before request reply after)
-    where
-      -- the text says `done` where the command was accepted
-      pub done_told : where_so (is_done (text_of reply)) ≡ where_so (is_accepting reply)
-      done_told = done_by_kind reply (kinds before after request reply answers)
+-- so what was told stored is what the reply's text tells
+module _ (before after : ServerState) (line : List ℕ) (reply : Reply)
+    (k : Kinds (line_of line) reply) where
+  abbrev told : Told
+  told = record { line = line; text = text_of reply }
 
-      -- and `refused 15` where the disk failed
-      pub failing_told : where_so (is_fault (text_of reply)) ≡ where_so (is_failing reply)
-      failing_told = failing_by_kind reply (kinds before after request reply answers)
+  abbrev exchange : Exchange
+  exchange = record { line = line; reply = reply; after = after }
+
+  pub stored_so : (start now : State)
+      → IsToldAndStored start now before (accepted_in exchange) (failed_in exchange) after
+      → IsToldAndStored start now before (done_in told) (fails_in told) after
+  stored_so start now stored =
+      subst (λ l. IsToldAndStored start now before (done_in told) l after)
+      (sym (failing_by_kind (line_of line) reply k))
+      (subst (λ l. IsToldAndStored start now before l (failed_in exchange) after)
+      (sym (done_by_kind (line_of line) reply k)) stored)
+
+  -- and what came of the line is what it tells
+  outcome_so : Outcome before after (done_by reply (line_of line))
+      (failed_by_reply reply (line_of line))
+      → Outcome before after (done_in told) (fails_in told)
+  outcome_so what =
+      subst (λ l. Outcome before after (done_in told) l)
+      (sym (failing_by_kind (line_of line) reply k))
+      (subst (λ l. Outcome before after l (failed_by_reply reply (line_of line)))
+      (sym (done_by_kind (line_of line) reply k)) what)
+
+module _ (before after : ServerState) (line : List ℕ) (reply : Reply) where
+  abbrev OutcomeSo : Type 0
+  OutcomeSo = let t : Told = record { line = line; text = text_of reply } in
+      Outcome before after (done_in t) (fails_in t)
+
+  pub told_outcome : Answers before (line_of line) reply after → OutcomeSo
+  told_outcome a = outcome_so before after line reply (kinds before after (line_of line) reply a)
+      (outcome before after (line_of line) reply a)
+
+  pub begun_told : Begins before (line_of line) reply after → OutcomeSo
+  begun_told b = outcome_so before after line reply
+      (kinds_begun before after (line_of line) reply b)
+      (begun_outcome before after (line_of line) reply b)
 
 -- ---- a front that says `done`
 
@@ -163,62 +218,48 @@ unfolding text_of
 packets-never [] = refl
 packets-never (p ∷ ps) = refl
 
--- of a reply that says `done`: the server was not halted, and it accepts the command, if there is
--- one
-abbrev pub IsSure : ServerState → Result Line Refusal → Reply → Type 0
-IsSure before request reply =
-    IsFalse before.halted × ((is_accepting reply ≡ true) ⊎ (command_in request ≡ []))
-
-command-sure : (before after : ServerState) (c : command.Command) (reply : Reply)
-    → IsFalse before.halted → is_done (text_of reply) ≡ true → IsCommandAnswer before c reply after
-    → IsSure before (Ok (asks.Command c)) reply
-command-sure before after c reply going so (accepts d e a) = (going, inl (ap is_accepting e))
-command-sure before after c reply going so (refuses r e reason stays) =
-    absurd (refused_never reply r e so)
-command-sure before after c reply going so (fails e h) =
-    absurd (refused_never reply why.DeviceFault e so)
-
 answer-sure : (before after : ServerState) (request : Result Line Refusal) (reply : Reply)
     → (NeedsCarousel request → IsFalse before.halted) → is_done (text_of reply) ≡ true
-    → IsAnswer before request reply after → IsSure before request reply
+    → IsAnswer before request reply after → IsFalse before.halted
 unfolding IsAnswer
 answer-sure before after (Err r) reply going so a = absurd (refused_never reply r a.0 so)
-answer-sure before after (Ok (asks.Command c)) reply going so a =
-    command-sure before after c reply (going tt) so a
-answer-sure before after (Ok asks.List) reply going so a = (going tt, inr refl)
+answer-sure before after (Ok (asks.Command c)) reply going so a = going tt
+answer-sure before after (Ok asks.List) reply going so a = going tt
 answer-sure before after (Ok (asks.Raw kind tid body)) reply going so a =
     absurd (never (text_of reply) (ap (λ (x : Reply). is_done (text_of x)) a.0
     ∙ packets-never (raw_packets before.standing.geometry kind tid body)) so)
-answer-sure before after (Ok (asks.Next count)) reply going so a = (going tt, inr refl)
-answer-sure before after (Ok asks.Turn) reply going so a = (going tt, inr refl)
+answer-sure before after (Ok (asks.Next count)) reply going so a = going tt
+answer-sure before after (Ok asks.Turn) reply going so a = going tt
 
+-- where a reply says `done`, the server was not halted
 pub sure : (before after : ServerState) (request : Result Line Refusal) (reply : Reply)
-    → Begins before request reply after → is_done (text_of reply) ≡ true
-    → IsSure before request reply
+    → Begins before request reply after → is_done (text_of reply) ≡ true → IsFalse before.halted
 sure before after request reply (whole (decided going a)) so =
     answer-sure before after request reply going so a
 sure before after request reply (whole (halted is needs e s)) so =
     absurd (refused_never reply why.Halted e so)
 sure before after request reply (whole (no_memory needs e s)) so =
     absurd (refused_never reply why.OutOfMemory e so)
-sure before after request reply (next_begun count made sents is going few e sends) so =
-    (going, inr (ap command_in is))
-sure before after request reply (turn_begun made sents is going e sends) so =
-    (going, inr (ap command_in is))
+sure before after request reply (begun sents going e p) so = going
+
+-- no text says both
+pub not_both : (text : List ℕ) → (is_done text ≡ false) ⊎ (is_fault text ≡ false)
+not_both text = by_case (is_fault text) refl
+  where
+    by_case : (b : Bool) → is_fault text ≡ b → (is_done text ≡ false) ⊎ (is_fault text ≡ false)
+    by_case true e =
+        inl (ap is_done ((bytes_eq-Decides text (refusal_line why.DeviceFault)).0 e))
+    by_case false e = inr e
 
 -- so its command is the one in flight
-pub sure_flight : (b c : Bool) (l : List command.Command) → (b ≡ true) ⊎ (l ≡ [])
+pub sure_flight : (b c : Bool) (l : List command.Command) → b ≡ true
     → (b ≡ false) ⊎ (c ≡ false) → (if b then l else []) ++ (if c then l else []) ≡ l
 sure_flight true true l is (inl e) = cc
 sure_flight true true l is (inr e) = cc
 sure_flight true false l is not = append-nil l
-sure_flight false c l (inl e) not = cc
-sure_flight false true l (inr e) not = refl
-sure_flight false false l (inr e) not = sym e
+sure_flight false c l e not = cc
 
 -- and it is made
-pub made_sure : (b : Bool) (l : List command.Command) → (b ≡ true) ⊎ (l ≡ [])
-    → (if b then l else []) ≡ l
+pub made_sure : (b : Bool) (l : List command.Command) → b ≡ true → (if b then l else []) ≡ l
 made_sure true l is = refl
-made_sure false l (inl e) = cc
-made_sure false l (inr e) = sym e
+made_sure false l e = cc

@@ -15,11 +15,14 @@ use Rattle.mot_server.proofs.Laws.{after_both, more, none_of}
 use Rattle.mot_session.specs.declared.serving.output.WriteFault.{WriteFault}
 use Rattle.mot_session.specs.Inner.Writes.{AnswersLine, Crosses}
 use Rattle.mot_session.specs.Served.{ServedLine, StoppedLine}
-use Rattle.mot_session.specs.Session.{Exchange, Reply}
+use Rattle.mot_session.specs.Life.{Told, done_in, fails_in}
+use Rattle.mot_session.specs.Session.{Exchange, Reply, text_of}
 use Rattle.mot_session.specs.State.{Leads, ServerState, StandsFor, state_of}
-use Rattle.mot_session.specs.Stored.{IsToldAndStored, KeepsAcknowledged, accepted_in, failed_in}
+use Rattle.mot_session.specs.Kept.{IsToldAndStored, KeepsAcknowledged}
+use Rattle.mot_session.specs.Inner.Writes.{accepted_in, failed_in}
 use Rattle.mot_session.proofs.Crashes.{behind, made}
 use Rattle.mot_session.proofs.Outcomes.{Outcome, nothing, one, halts, begun_outcome, outcome}
+use Rattle.mot_session.proofs.Telling.{Kinds, kinds, kinds_begun, stored_so}
 
 -- some of what is sure may be told as what may be
 pub less_of_sure : (s : Standing) (sure done others : List Command) (image : List ℕ)
@@ -71,7 +74,7 @@ module _ (start now : State) (before : ServerState) (x : Exchange) (sound : IsHo
       (subst (λ l. StandsAfterSome s l (failed_in x) image) (sym (append-nil acknowledged))
       (subst (λ l. StandsAfterSome s acknowledged (l ++ failed_in x) image) none all))
 
-  keeps : KeepsAcknowledged start now s acknowledged x
+  keeps : KeepsAcknowledged start now s x.after.standing acknowledged (accepted_in x) (failed_in x)
   keeps = record {
     after = accepted_more;
     at_end = λ image left. leaves what image (sound.only_now image left);
@@ -102,16 +105,21 @@ module _ {D : Type 0} (state : D → State) (old new : ServerView D) (line : Lis
   AnswersSo result before after =
       AnswersLine result (state old.disk) (state new.disk) before line after known next
 
+  abbrev told : Reply → Told
+  told reply = record { line = line; text = text_of reply }
+
   stored : (s last : Standing) (reply : Reply) → StandsFor new.view last (state new.disk)
-      → (state new.disk).IsHonest
+      → (state new.disk).IsHonest → Kinds (line_of line) reply
       → Outcome (start s) (state_of new last (state new.disk)) (accepted_in (exchange last reply))
       (failed_in (exchange last reply))
       → Crosses (state old.disk) (state new.disk) (start s) (exchange last reply)
-      → IsToldAndStored (state old.disk) (state new.disk) (start s) (exchange last reply)
-  stored s last reply stands honest what crosses =
-      keeps (state old.disk) (state new.disk) (start s) (exchange last reply)
+      → IsToldAndStored (state old.disk) (state new.disk) (start s) (done_in (told reply))
+      (fails_in (told reply)) (state_of new last (state new.disk))
+  stored s last reply stands honest kinds what crosses =
+      stored_so (start s) (state_of new last (state new.disk)) line reply kinds
+      (state old.disk) (state new.disk) (keeps (state old.disk) (state new.disk) (start s) (exchange last reply)
       (sound honest) what crosses
-      (λ going image left. (stands.holds going).each image left)
+      (λ going image left. (stands.holds going).each image left))
 
   -- a line whose whole reply was written is served, and what was told is stored
   pub ServedLine-told : {T : Type 0} (result : Result T WriteFault)
@@ -128,7 +136,8 @@ module _ {D : Type 0} (state : D → State) (old new : ServerView D) (line : Lis
           answers = told.answers.answers;
           appended = told.answers.written;
           stored = stored s a.0 told.reply a.1 honest
-              (outcome (start s) (state_of new a.0 (state new.disk)) (line_of line) told.reply
+              (kinds (start s) (state_of new a.0 (state new.disk)) (line_of line) told.reply
+              told.answers.answers) (outcome (start s) (state_of new a.0 (state new.disk)) (line_of line) told.reply
               told.answers.answers) told.crosses;
         },
       )
@@ -149,7 +158,8 @@ module _ {D : Type 0} (state : D → State) (old new : ServerView D) (line : Lis
           reply = told.reply;
           broken = told.answers;
           stored = stored s a.0 told.reply a.1 honest
-              (begun_outcome (start s) (state_of new a.0 (state new.disk)) (line_of line) told.reply
+              (kinds_begun (start s) (state_of new a.0 (state new.disk)) (line_of line) told.reply
+              told.answers.begins) (begun_outcome (start s) (state_of new a.0 (state new.disk)) (line_of line) told.reply
               told.answers.begins) told.crosses;
         },
       )

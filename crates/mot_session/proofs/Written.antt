@@ -2,13 +2,15 @@
 use Rattle.std.proofs.Common.{◌≡◌, ℕ, ◌+◌, ◌<◌, ◌≤◌, true, false, Bool, List, [], ◌∷◌, ◌++◌, map}
 use Rattle.std.proofs.Common.{Option, Some}
 use Rattle.std.proofs.Common.{Result, Ok, Err, refl, sym, ap, ◌∙◌, subst, arith, append_assoc}
-use Rattle.std.proofs.Common.{append-nil}
+use Rattle.std.proofs.Common.{append-nil, ◌⊎◌, inl, inr, ⊎_elim}
 use Rattle.std.proofs.Common.{length, length-append}
-use Rattle.std.specs.Prelude.{replicate, IsFalse}
+use Rattle.std.specs.Prelude.{replicate, IsFalse, IsTrue}
 use Rattle.std.specs.Io.KnownBytes.{Appends, Keeps}
 use Rattle.std.proofs.KnownBytes.{Appends-trans, Appends-kept}
-use Rattle.std.proofs.lemmas.List.{replicate_more}
+use Rattle.std.proofs.lemmas.Bool.Decides.{leb_tells}
+use Rattle.std.proofs.lemmas.List.{length-map, replicate_more}
 use Rattle.std.proofs.lemmas.List.Concat.{flat_map-append}
+use Rattle.disk_model.specs.Failures.{Rises}
 use Rattle.mot_groups.specs.Entity.{all_but_last}
 use Rattle.mot_lines.specs.declared.line.Line.{Line}
 use Rattle.mot_lines.specs.declared.line.Line.TheVariants as asks
@@ -19,18 +21,21 @@ use Rattle.mot_numbers.specs.declared.refusal.Refusal.TheVariants.{DeviceFault}
 use Rattle.mot_packets.specs.Packet.{read_packet}
 use Rattle.mot_packets.specs.Written.{bytes_of_packet}
 use Rattle.mot_player.specs.Place.{Place, Sent, Step, Request, sent_by}
-use Rattle.mot_player.specs.Sending.{packets_sent}
+use Rattle.mot_player.specs.Sending.{HasSent, packets_sent}
 use Rattle.mot_player.proofs.Laws.{requests-go_on}
+use Rattle.mot_server.proofs.Laws.{rises_on}
 use Rattle.mot_session.specs.declared.serving.output.WriteFault.{WriteFault}
-use Rattle.mot_session.specs.Inner.Writes.{Answered, AnswersWith, AnswersRequest, SendsOne}
+use Rattle.mot_session.specs.Inner.Writes.{Answered, AnswersWith, AnswersRequest, FailsToSend}
+use Rattle.mot_session.specs.Inner.Writes.{SendsOne}
 use Rattle.mot_session.specs.Output.{Writes}
 use Rattle.mot_session.specs.Inner.Writes.{may_have_done}
-use Rattle.mot_session.specs.Played.{FailsToSend, Sends, SendsTurn, SendsWithinTurn, sent_line}
-use Rattle.mot_session.specs.Played.{sent_lines}
-use Rattle.mot_session.specs.Served.{Begins, whole, next_begun, turn_begun, WritesFront}
+use Rattle.mot_session.specs.Played.{Plays, sent_line, sent_lines}
+use Rattle.mot_session.specs.Replies.{AreAsked}
+use Rattle.mot_session.specs.Served.{Begins, whole, begun, WritesFront}
 use Rattle.mot_session.specs.Session.{Reply, Answers, IsAnswer, decided, accepted, listing, packets}
-use Rattle.mot_session.specs.Session.{played, refused, cut_short, text_of, all, cut}
-use Rattle.mot_session.specs.State.{ServerState, KeepsCarousel}
+use Rattle.mot_session.specs.Session.{played, refused, text_of}
+use Rattle.mot_session.specs.State.{ServerState, KeepsCarousel, Stays}
+use Rattle.mot_session.proofs.Shown.{sent-length}
 
 pub sent_lines-more : (sents : List Sent) (s : Sent)
     → sent_lines (sents ++ s ∷ []) ≡ sent_lines sents ++ sent_line s
@@ -45,16 +50,14 @@ sents_of (refused r) = []
 sents_of (accepted d) = []
 sents_of (listing c) = []
 sents_of (packets ps) = []
-sents_of (played sents) = sents
-sents_of (cut_short sents) = sents
+sents_of (played sents failed) = sents
 
 abbrev is_cut_short : Reply → Bool
 is_cut_short (refused r) = false
 is_cut_short (accepted d) = false
 is_cut_short (listing c) = false
 is_cut_short (packets ps) = false
-is_cut_short (played sents) = false
-is_cut_short (cut_short sents) = true
+is_cut_short (played sents failed) = failed
 
 all_but_last-more : (sents : List Sent) (s : Sent) → all_but_last (sents ++ s ∷ []) ≡ sents
 all_but_last-more [] s = refl
@@ -63,7 +66,7 @@ all_but_last-more (t ∷ u ∷ sents) s = ap (λ l. t ∷ l) (all_but_last-more 
 
 -- no packet was played
 in_order-none : (reply : Reply) (first : List Sent) (last : Sent) (count : ℕ) → sents_of reply ≡ []
-    → reply ≡ played (first ++ last ∷ []) → length (sent_lines first) ≤ count
+    → reply ≡ played (first ++ last ∷ []) false → length (sent_lines first) ≤ count
 in_order-none reply first last count none e =
     let counted : length (sents_of reply) ≡ length (first ++ last ∷ []) =
     ap (λ r. length (sents_of r)) e in
@@ -72,7 +75,7 @@ in_order-none reply first last count none e =
     omega (arith, counted, nothing, grown)
 
 cut_in_order-none : (reply : Reply) (sents : List Sent) (count : ℕ) → sents_of reply ≡ []
-    → reply ≡ cut_short sents → length (sent_lines sents) ≤ count
+    → reply ≡ played sents true → length (sent_lines sents) ≤ count
 cut_in_order-none reply sents count none e =
     let nothing : sents ≡ [] = sym (ap sents_of e) ∙ none in
     let lines : length (sent_lines sents) ≡ 0 = ap (λ l. length (sent_lines l)) nothing in
@@ -80,7 +83,7 @@ cut_in_order-none reply sents count none e =
 
 -- all of the reply was written
 in_order-whole : (reply : Reply) (first : List Sent) (last : Sent)
-    → reply ≡ played (first ++ last ∷ [])
+    → reply ≡ played (first ++ last ∷ []) false
     → length (sent_lines first) ≤ length (text_of reply)
 unfolding text_of
 in_order-whole reply first last e =
@@ -91,7 +94,7 @@ in_order-whole reply first last e =
     ap length (sent_lines-more first last) in
     omega (arith, text, grown, length-append (sent_lines first) (sent_line last))
 
-cut_in_order-whole : (reply : Reply) (sents : List Sent) → reply ≡ cut_short sents
+cut_in_order-whole : (reply : Reply) (sents : List Sent) → reply ≡ played sents true
     → length (sent_lines sents) ≤ length (text_of reply)
 unfolding text_of
 cut_in_order-whole reply sents e =
@@ -101,7 +104,7 @@ cut_in_order-whole reply sents e =
 
 -- the line of the last packet was begun
 in_order-begun : (sents : List Sent) (s : Sent) (front : List ℕ) (first : List Sent) (last : Sent)
-    → played (sents ++ s ∷ []) ≡ played (first ++ last ∷ [])
+    → played (sents ++ s ∷ []) false ≡ played (first ++ last ∷ []) false
     → length (sent_lines first) ≤ length (sent_lines sents ++ front)
 in_order-begun sents s front first last e =
     let same : sents ≡ first = sym (all_but_last-more sents s)
@@ -114,10 +117,10 @@ abbrev Yes : Bool → Type 0
 Yes true = Unit {0}
 Yes false = ⊥
 
-not_cut : (sents others : List Sent) → played sents ≡ cut_short others → ⊥
+not_cut : (sents others : List Sent) → played sents false ≡ played others true → ⊥
 not_cut sents others e = subst (λ r. Yes (is_cut_short r)) (sym e) tt
 
-not_played : (sents others : List Sent) → cut_short sents ≡ played others → ⊥
+not_played : (sents others : List Sent) → played sents true ≡ played others false → ⊥
 not_played sents others e = subst (λ r. Yes (is_cut_short r)) e tt
 
 -- ---- replies that were decided at once
@@ -165,11 +168,12 @@ AnswersWith-kept (Err fault) before after request reply old mid new a k = record
 
 -- ---- packets, one after the other
 
-keeps-none : (state : ServerState) → KeepsCarousel state state
-keeps-none state = record {
+pub stays-none : (state : ServerState) → Stays state state
+stays-none state = record {
   standing = refl;
-  layout = refl;
+  place = refl;
   halted = refl;
+  layout = refl;
   later = record { moment = omega arith; failures = omega arith };
 }
 
@@ -177,19 +181,47 @@ keeps-more : (before mid after : ServerState) → KeepsCarousel before mid → K
     → KeepsCarousel before after
 keeps-more before mid after a b = record {
   standing = b.standing ∙ a.standing;
-  layout = b.layout ∙ a.layout;
+  place = refl;
   halted = b.halted ∙ a.halted;
+  layout = b.layout ∙ a.layout;
   later = record {
     moment = omega (arith, a.later.moment, b.later.moment);
     failures = omega (arith, a.later.failures, b.later.failures);
   };
 }
 
+-- so many requests sent these packets, and nothing else changed
+pub record Sends (before : ServerState) (count : ℕ) (sents : List Sent) (after : ServerState) :
+    Type 0 where
+  pub sent : HasSent before.place count sents after.place
+  pub keeps : KeepsCarousel before after
+
+-- so many requests sent packets of which none ends a turn
+pub record SendsWithinTurn (before : ServerState) (count : ℕ) (sents : List Sent)
+    (after : ServerState) : Type 0 where
+  pub sends : Sends before count sents after
+  pub ends : map (λ (s : Sent). s.ends_turn) sents ≡ replicate count false
+
+-- the requests up to the first that ends a turn, behind so many others, sent these packets
+pub record SendsTurn (before : ServerState) (others : ℕ) (sents : List Sent)
+    (after : ServerState) : Type 0 where
+  pub sends : Sends before (others + 1) sents after
+  pub ends : map (λ (s : Sent). s.ends_turn) sents ≡ replicate others false ++ true ∷ []
+
+keeps-stayed : (before after : ServerState) → Stays before after → KeepsCarousel before after
+keeps-stayed before after stays = record {
+  standing = stays.standing;
+  place = refl;
+  halted = stays.halted;
+  layout = stays.layout;
+  later = stays.later;
+}
+
 -- nothing was asked for yet
 pub Sends-none : (state : ServerState) → Sends state 0 [] state
 unfolding sent_by
 Sends-none state =
-    record { sent = record { steps = refl; read = refl }; keeps = keeps-none state }
+    record { sent = record { steps = refl; read = refl }; keeps = stays-none state }
 
 map-more : {A B : Type 0} (f : A → B) (xs : List A) (x : A)
     → map f (xs ++ x ∷ []) ≡ map f xs ++ f x ∷ []
@@ -260,6 +292,59 @@ front-more sents s old now new a w = record {
 
 -- ---- replies that were played
 
+module _ (before after : ServerState) (count : ℕ) (sents : List Sent)
+    (s : Sends before count sents after) where
+  many : length sents ≡ count
+  many = sent-length count before.place after.place sents s.sent.steps
+
+  ends-many : length (map (λ (x : Sent). x.ends_turn) sents) ≡ count
+  ends-many = length-map sents (λ (x : Sent). x.ends_turn) ∙ many
+
+  -- what was sent is what a request asks for, or some first packets of it
+  plays : (request : Result Line Refusal) (some : Bool)
+      → AreAsked before.standing.geometry request some (map (λ (x : Sent). x.ends_turn) sents)
+      → Plays before request some sents after
+  plays request some asked = record {
+    asked = asked;
+    sent = subst (λ n. HasSent before.place n sents after.place) (sym many) s.sent;
+    keeps = s.keeps;
+  }
+
+  plays-next : Plays before (Ok (asks.Next count)) false sents after
+  plays-next = plays (Ok (asks.Next count)) false ends-many
+
+  plays-some : (all : ℕ) → count < all → Plays before (Ok (asks.Next all)) true sents after
+  plays-some all few = plays (Ok (asks.Next all)) true
+      (subst (λ n. n < all) (sym ends-many) few)
+
+plays-within : (before after : ServerState) (count : ℕ) (sents : List Sent)
+    → SendsWithinTurn before count sents after → Plays before (Ok asks.Turn) true sents after
+plays-within before after count sents s =
+    plays before after count sents s.sends (Ok asks.Turn) true (count, s.ends)
+
+plays-turn : (before after : ServerState) (others : ℕ) (sents : List Sent)
+    → SendsTurn before others sents after → Plays before (Ok asks.Turn) false sents after
+plays-turn before after others sents s =
+    plays before after (others + 1) sents s.sends (Ok asks.Turn) false (others, s.ends)
+
+-- the request behind them failed
+Plays-behind : (before mid after : ServerState) (request : Result Line Refusal) (sents : List Sent)
+    → Plays before request true sents mid → Stays mid after
+    → Plays before request true sents after
+Plays-behind before mid after request sents p stays = record {
+  asked = p.asked;
+  sent = subst (λ (q : Place). HasSent before.place (length sents) sents q) (sym stays.place) p.sent;
+  keeps = keeps-more before mid after p.keeps (keeps-stayed mid after stays);
+}
+
+abbrev never : (before after : ServerState) → IsTrue false → Rises before.failures after.failures
+never before after e = absurd (cc)
+
+less_or_same : (m n : ℕ) → m ≤ n → (m < n) ⊎ (m ≡ n)
+less_or_same m n le = ⊎_elim {C = (m < n) ⊎ (m ≡ n)}
+    (λ most. let more = most.1 in inr (omega (arith, le, more)))
+    (λ less. inl less.1) (leb_tells n m)
+
 module _ (before after : ServerState) (going : IsFalse before.halted)
     (old new : Option (List ℕ)) where
   -- a `next` line was answered
@@ -268,9 +353,18 @@ module _ (before after : ServerState) (going : IsFalse before.halted)
       → AnswersRequest {T = Unit {0}} (Ok tt) false before (Ok (asks.Next count)) after old new
   unfolding IsAnswer text_of
   Answered-next count sents s w = (
-    played sents,
+    played sents false,
     refl,
-    record { answers = decided (λ needs. going) (all sents refl s); written = w },
+    record {
+      answers = decided (λ needs. going) (
+        sents,
+        false,
+        refl,
+        plays-next before after count sents s,
+        never before after,
+      );
+      written = w;
+    },
   )
 
   -- a `turn` line was answered
@@ -279,9 +373,18 @@ module _ (before after : ServerState) (going : IsFalse before.halted)
       → AnswersRequest {T = Unit {0}} (Ok tt) false before (Ok asks.Turn) after old new
   unfolding IsAnswer text_of
   Answered-turn others sents s w = (
-    played sents,
+    played sents false,
     refl,
-    record { answers = decided (λ needs. going) (all others sents refl s); written = w },
+    record {
+      answers = decided (λ needs. going) (
+        sents,
+        false,
+        refl,
+        plays-turn before after others sents s,
+        never before after,
+      );
+      written = w;
+    },
   )
 
 -- the refusal's line ends the reply
@@ -289,13 +392,14 @@ module _ {T : Type 0} (result : Result T WriteFault) (before mid after : ServerS
     (going : IsFalse before.halted) (old now new : Option (List ℕ)) (made : ℕ) (sents : List Sent)
     (so_far : Appends old now (sent_lines sents)) (failing : FailsToSend mid after)
     (written : Writes result (refusal_line DeviceFault) now new) where
-  answers-cut : (request : Result Line Refusal) → IsAnswer before request (cut_short sents) after
+  answers-cut : (request : Result Line Refusal)
+      → IsAnswer before request (played sents true) after
       → AnswersRequest result false before request after old new
   unfolding text_of
-  answers-cut request a = (cut_short sents, refl, with result written)
+  answers-cut request a = (played sents true, refl, with result written)
     where
       with : (r : Result T WriteFault) → Writes r (refusal_line DeviceFault) now new
-          → AnswersWith r before request (cut_short sents) after old new
+          → AnswersWith r before request (played sents true) after old new
       with (Ok done) w = record {
         answers = decided (λ needs. going) a;
         written = Appends-trans old now new (sent_lines sents) (refusal_line DeviceFault) so_far w;
@@ -317,29 +421,49 @@ module _ {T : Type 0} (result : Result T WriteFault) (before mid after : ServerS
             omega (arith, long, length-append (sent_lines sents) w.written);
       }
 
+  risen : (keeps : KeepsCarousel before mid) → Rises before.failures after.failures
+  risen keeps = rises_on before.failures mid.failures after.failures keeps.later.failures
+      failing.stays.later.failures failing.rises
+
   -- fewer packets than a `next` line asks for, and the line of the fault behind them
   pub AnswersRequest-next_cut : (count : ℕ) → made < count → Sends before made sents mid
       → AnswersRequest result false before (Ok (asks.Next count)) after old new
   unfolding IsAnswer
   AnswersRequest-next_cut count few s =
-      answers-cut (Ok (asks.Next count)) (cut made sents mid few refl s failing)
+      let all = plays-some before mid made sents s count few in
+      answers-cut (Ok (asks.Next count)) (
+        sents,
+        true,
+        refl,
+        Plays-behind before mid after (Ok (asks.Next count)) sents all failing.stays,
+        λ e. risen s.keeps,
+      )
 
   -- packets within a turn, and the line of the fault behind them
   pub AnswersRequest-turn_cut : SendsWithinTurn before made sents mid
       → AnswersRequest result false before (Ok asks.Turn) after old new
   unfolding IsAnswer
-  AnswersRequest-turn_cut s = answers-cut (Ok asks.Turn) (cut made sents mid refl s failing)
+  AnswersRequest-turn_cut s =
+      let all = plays-within before mid made sents s in
+      answers-cut (Ok asks.Turn) (
+        sents,
+        true,
+        refl,
+        Plays-behind before mid after (Ok asks.Turn) sents all failing.stays,
+        λ e. risen s.sends.keeps,
+      )
 
 -- the line of a packet was broken off
 module _ (fault : WriteFault) (before mid after : ServerState) (going : IsFalse before.halted)
     (old now new : Option (List ℕ)) (s : Sent) (one : SendsOne mid s after)
     (written : WritesFront (sent_line s) now new) (made : ℕ) (sents : List Sent)
     (so_far : Appends old now (sent_lines sents)) where
-  broken : (request : Result Line Refusal) → Begins before request (played (sents ++ s ∷ [])) after
+  broken : (request : Result Line Refusal)
+      → Begins before request (played (sents ++ s ∷ []) false) after
       → AnswersRequest {T = Unit {0}} (Err fault) false before request after old new
   unfolding text_of
   broken request b = (
-    played (sents ++ s ∷ []),
+    played (sents ++ s ∷ []) false,
     refl,
     record {
       begins = b;
@@ -349,20 +473,44 @@ module _ (fault : WriteFault) (before mid after : ServerState) (going : IsFalse 
     },
   )
 
+  so_more : Sends before made sents mid → Sends before (made + 1) (sents ++ s ∷ []) after
+  so_more so = Sends-more before mid after s one made sents so
+
+  whole-next : (count : ℕ) → Sends before count (sents ++ s ∷ []) after
+      → Begins before (Ok (asks.Next count)) (played (sents ++ s ∷ []) false) after
+  unfolding IsAnswer
+  whole-next count so = whole (decided (λ needs. going) (
+    sents ++ s ∷ [],
+    false,
+    refl,
+    plays-next before after count (sents ++ s ∷ []) so,
+    never before after,
+  ))
+
   -- of a `next` line
   pub BrokenOff-next : (count : ℕ) → made + 1 ≤ count → Sends before made sents mid
       → AnswersRequest {T = Unit {0}} (Err fault) false before (Ok (asks.Next count)) after old new
   BrokenOff-next count few so = broken (Ok (asks.Next count))
-      (next_begun count (made + 1) (sents ++ s ∷ []) refl going few refl
-      (Sends-more before mid after s one made sents so))
+      (⊎_elim {C = Begins before (Ok (asks.Next count)) (played (sents ++ s ∷ []) false) after}
+      (λ less. begun (sents ++ s ∷ []) going refl
+      (plays-some before after (made + 1) (sents ++ s ∷ []) (so_more so) count less))
+      (λ same. whole-next count (subst (λ n. Sends before n (sents ++ s ∷ []) after) same
+      (so_more so))) (less_or_same (made + 1) count few))
 
   begun-turn : (ends : Bool) → s.ends_turn ≡ ends → SendsWithinTurn before made sents mid
-      → Begins before (Ok asks.Turn) (played (sents ++ s ∷ [])) after
+      → Begins before (Ok asks.Turn) (played (sents ++ s ∷ []) false) after
   unfolding IsAnswer
-  begun-turn true e so = whole (decided (λ needs. going) (all made (sents ++ s ∷ []) refl
-      (SendsTurn-ended before mid after s one made sents so e)))
-  begun-turn false e so = turn_begun (made + 1) (sents ++ s ∷ []) refl going refl
-      (SendsWithinTurn-more before mid after s one made sents so e)
+  begun-turn true e so = whole (decided (λ needs. going) (
+    sents ++ s ∷ [],
+    false,
+    refl,
+    plays-turn before after made (sents ++ s ∷ [])
+        (SendsTurn-ended before mid after s one made sents so e),
+    never before after,
+  ))
+  begun-turn false e so = begun (sents ++ s ∷ []) going refl
+      (plays-within before after (made + 1) (sents ++ s ∷ [])
+      (SendsWithinTurn-more before mid after s one made sents so e))
 
   -- and of a `turn` line
   pub BrokenOff-turn : SendsWithinTurn before made sents mid

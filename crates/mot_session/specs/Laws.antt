@@ -1,5 +1,5 @@
 -- What holds of every raw reply, of every session, and of the replies to lines.
-use Rattle.std.specs.Prelude.{ℕ, ◌≡◌, ◌+◌, ◌⊎◌, ◌<◌, ◌≤◌, Bool, true, false, List, [], ◌∷◌, ◌++◌}
+use Rattle.std.specs.Prelude.{ℕ, ◌≡◌, ◌+◌, ◌⊎◌, ◌<◌, ◌≤◌, Bool, false, List, [], ◌∷◌, ◌++◌}
 use Rattle.std.specs.Prelude.{length, if◌then◌else◌, Option, Some, Result}
 use Rattle.disk_model.specs.Failures.{most_failures}
 use Rattle.mot_groups.specs.Group.{read_group}
@@ -16,7 +16,7 @@ use Rattle.mot_player.specs.Continuity.{IsContinuous}
 use Rattle.mot_session.specs.Life.{Tells, Told}
 use Rattle.mot_session.specs.Raw.{raw_group, raw_packets}
 use Rattle.mot_session.specs.Served.{Begins}
-use Rattle.mot_session.specs.Session.{Exchange, Reply, Session, cut_short}
+use Rattle.mot_session.specs.Session.{Exchange, Reply, Session, played}
 use Rattle.mot_session.specs.Session.{packets_in, packets_played, refused}
 use Rattle.mot_session.specs.State.{HasJustOpened, ServerState}
 
@@ -30,16 +30,10 @@ RawRepliesRead =
     × (read_group group ≡ Some (raw_group kind tid body))
 
 -- On a server just opened all packets of the replies to `next` and `turn` lines, in order, have
--- their continuity indexes, whatever lines come between them.
+-- their continuity indexes, whatever lines come between them, with those of the reply behind them,
+-- whole or broken off.
 abbrev pub SessionsAreContinuous : Type 0
 SessionsAreContinuous =
-    (before : ServerState) (exchanges : List Exchange) (after : ServerState)
-    → IsValid before.standing.geometry → HasJustOpened before → Session before exchanges after
-    → IsContinuous (packets_played exchanges)
-
--- so, too, where the reply to the line after them was broken off
-abbrev pub StoppedSessionsAreContinuous : Type 0
-StoppedSessionsAreContinuous =
     (before : ServerState) (exchanges : List Exchange) (between : ServerState)
     (request : Result Line Refusal) (reply : Reply) (after : ServerState)
     → IsValid before.standing.geometry → HasJustOpened before → Session before exchanges between
@@ -49,7 +43,7 @@ StoppedSessionsAreContinuous =
 -- a reply that holds a device fault
 abbrev pub has_fault : Reply → Bool
 has_fault (refused r) = is_device_fault r
-has_fault (cut_short sents) = true
+has_fault (played sents failed) = failed
 has_fault reply = false
 
 -- how many replies hold one
@@ -70,7 +64,6 @@ FaultsAreTheDisks =
 pub record SessionLaws : Type 0 where
   pub raw : RawRepliesRead
   pub continuous : SessionsAreContinuous
-  pub stopped : StoppedSessionsAreContinuous
   pub device_faults : FaultsAreTheDisks
 
 -- Two ways to cut what was written into whole replies to the lines that were read are one: so what

@@ -1,4 +1,5 @@
 pub mod Inner
+pub mod Kept
 pub mod Laws
 pub mod Life
 pub mod LineByLine

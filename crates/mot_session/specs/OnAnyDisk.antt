@@ -25,12 +25,10 @@ use Rattle.mot_session.specs.Session.{NeedsCarousel}
 
 -- what a request asks for where a server is only read: no command, and no packets of the carousel
 abbrev pub read_only : Result Line Refusal → Result Line Refusal
-read_only (Err r) = Err r
 read_only (Ok (Command c)) = Err BadLine
-read_only (Ok asks.List) = Ok asks.List
-read_only (Ok (Raw kind tid body)) = Ok (Raw kind tid body)
 read_only (Ok (Next count)) = Err BadLine
 read_only (Ok Turn) = Err BadLine
+read_only request = request
 
 -- What was kept in memory was old and is new, the disk had failed so many times before and now, and
 -- the text is the whole reply. The packets of a `next` and a `turn` line are counted: they are all

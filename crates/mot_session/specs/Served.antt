@@ -1,20 +1,20 @@
 -- What was read and written so far.
 use Rattle.std.specs.Prelude.{ℕ, ◌≡◌, ◌≤◌, ◌*◌, ◌⊎◌, List, [], ◌∷◌, ◌++◌, length, Option, Some}
-use Rattle.std.specs.Prelude.{None, Result, Ok, IsFalse}
+use Rattle.std.specs.Prelude.{None, Result, IsFalse, true, false}
 use Rattle.std.specs.Io.KnownBytes.{Appends, Consumes}
 use Rattle.disk_model.specs.Disk.{State}
 use Rattle.mot_lines.specs.Line.{line_of}
 use Rattle.mot_lines.specs.declared.line.Line.{Line}
-use Rattle.mot_lines.specs.declared.line.Line.TheVariants as asks
 use Rattle.mot_numbers.specs.declared.refusal.Refusal.{Refusal}
 use Rattle.mot_numbers.specs.declared.refusal.Refusal.TheVariants.{OutOfMemory, ReadFault}
 use Rattle.mot_numbers.specs.declared.refusal.Refusal.TheVariants.{WriteFault}
 use Rattle.mot_player.specs.Place.{Sent}
 use Rattle.mot_session.specs.declared.serving.TheConstants.{READ_SIZE}
-use Rattle.mot_session.specs.Played.{Sends, SendsWithinTurn, sent_lines}
-use Rattle.mot_session.specs.Session.{Reply, played, cut_short, Answers, text_of}
+use Rattle.mot_session.specs.Kept.{IsToldAndStored}
+use Rattle.mot_session.specs.Life.{Told, done_in, fails_in}
+use Rattle.mot_session.specs.Played.{Plays, sent_lines}
+use Rattle.mot_session.specs.Session.{Reply, played, Answers, text_of}
 use Rattle.mot_session.specs.State.{ServerState}
-use Rattle.mot_session.specs.Stored.{IsToldAndStored}
 
 -- the reader gave these bytes, in at most so many reads
 pub record TakesInput (reads : ℕ) (unread left : Option (List ℕ)) (input : List ℕ) : Type 0 where
@@ -35,12 +35,8 @@ pub record WritesFront (bytes : List ℕ) (old new : Option (List ℕ)) : Type 0
 pub data Begins (before : ServerState) (request : Result Line Refusal) (reply : Reply)
     (after : ServerState) : Type 0 where
   whole : Answers before request reply after → Begins before request reply after
-  next_begun : (count made : ℕ) (sents : List Sent) → request ≡ Ok (asks.Next count)
-      → IsFalse before.halted → made ≤ count → reply ≡ played sents
-      → Sends before made sents after → Begins before request reply after
-  turn_begun : (made : ℕ) (sents : List Sent) → request ≡ Ok asks.Turn → IsFalse before.halted
-      → reply ≡ played sents → SendsWithinTurn before made sents after
-      → Begins before request reply after
+  begun : (sents : List Sent) → IsFalse before.halted → reply ≡ played sents false
+      → Plays before request true sents after → Begins before request reply after
 
 -- The request was answered, or its answer was begun, and some first bytes of the reply were
 -- written; a packet was asked for only where the lines of those before it were.
@@ -48,9 +44,9 @@ pub record BrokenOff (before : ServerState) (request : Result Line Refusal) (rep
     (after : ServerState) (old new : Option (List ℕ)) : Type 0 where
   pub begins : Begins before request reply after
   pub written : WritesFront (text_of reply) old new
-  pub in_order : (first : List Sent) (last : Sent) → reply ≡ played (first ++ last ∷ [])
+  pub in_order : (first : List Sent) (last : Sent) → reply ≡ played (first ++ last ∷ []) false
       → length (sent_lines first) ≤ length written.written
-  pub cut_in_order : (sents : List Sent) → reply ≡ cut_short sents
+  pub cut_in_order : (sents : List Sent) → reply ≡ played sents true
       → length (sent_lines sents) ≤ length written.written
 
 -- The line was answered on a disk that was in a state start and is in a state now, the whole reply
@@ -60,16 +56,16 @@ pub record ServedLine (start now : State) (before : ServerState) (line : List �
   pub reply : Reply
   pub answers : Answers before (line_of line) reply after
   pub appended : Appends old new (text_of reply)
-  pub stored : IsToldAndStored start now before
-      (record { line = line; reply = reply; after = after })
+  pub stored : let t : Told = record { line = line; text = text_of reply } in
+      IsToldAndStored start now before (done_in t) (fails_in t) after
 
 -- So, but the reply was broken off. Its command is stored all the same.
 pub record StoppedLine (start now : State) (before : ServerState) (line : List ℕ)
     (after : ServerState) (old new : Option (List ℕ)) : Type 0 where
   pub reply : Reply
   pub broken : BrokenOff before (line_of line) reply after old new
-  pub stored : IsToldAndStored start now before
-      (record { line = line; reply = reply; after = after })
+  pub stored : let t : Told = record { line = line; text = text_of reply } in
+      IsToldAndStored start now before (done_in t) (fails_in t) after
 
 -- what ends serving: the end of the input, or one of three faults
 abbrev pub EndsServing : Option Refusal → Type 0

@@ -1,9 +1,11 @@
 -- What a server answers, line by line.
-use Rattle.std.specs.Prelude.{ℕ, ◌≡◌, ◌<◌, ⊤, List, [], ◌∷◌, ◌++◌, Result, Ok, Err, IsTrue, IsFalse}
+use Rattle.std.specs.Prelude.{ℕ, ◌≡◌, ⊤, Bool, true, false, List, [], ◌∷◌, ◌++◌, Result, Ok, Err}
+use Rattle.std.specs.Prelude.{IsTrue, IsFalse}
 use Rattle.std.specs.List.{flat_map}
 use Rattle.disk_model.specs.Failures.{Rises}
+use Rattle.mot_journal.specs.Image.{Standing}
 use Rattle.mot_lines.specs.declared.line.Line.{Line}
-use Rattle.mot_lines.specs.declared.line.Line.TheVariants.{Command, Raw, Next, Turn}
+use Rattle.mot_lines.specs.declared.line.Line.TheVariants.{Command, Raw}
 use Rattle.mot_lines.specs.declared.line.Line.TheVariants as asks
 use Rattle.mot_lines.specs.Line.{NeedsMemory, line_of}
 use Rattle.mot_lines.specs.Listing.{listing_text}
@@ -17,18 +19,17 @@ use Rattle.mot_player.specs.Place.{Sent, changed}
 use Rattle.mot_player.specs.Sending.{packets_sent}
 use Rattle.mot_player.specs.Turn.{turn_of_carousel}
 use Rattle.mot_repository.specs.Outcome.{after_command}
-use Rattle.mot_session.specs.Played.{FailsToSend, Sends, SendsTurn, SendsWithinTurn, sent_lines}
+use Rattle.mot_session.specs.Played.{Plays, sent_lines}
 use Rattle.mot_session.specs.Raw.{raw_packets}
-use Rattle.mot_session.specs.State.{ServerState, IsLater, Stays}
+use Rattle.mot_session.specs.State.{Becomes, ServerState, Stays}
 
 pub data Reply : Type 0 where
   refused : Refusal → Reply
   accepted : Done → Reply
   listing : Carousel → Reply
   packets : List (List ℕ) → Reply
-  played : List Sent → Reply
-  -- packets, and then the device fault of the request behind them
-  cut_short : List Sent → Reply
+  -- packets, and whether a device fault stands behind them
+  played : List Sent → Bool → Reply
 
 -- a reply's bytes
 unfoldable pub text_of : Reply → List ℕ
@@ -36,67 +37,37 @@ text_of (refused r) = refusal_line r
 text_of (accepted d) = done_line d
 text_of (listing c) = listing_text c
 text_of (packets ps) = flat_map packet_line ps
-text_of (played sents) = sent_lines sents
-text_of (cut_short sents) = sent_lines sents ++ refusal_line DeviceFault
+text_of (played sents false) = sent_lines sents
+text_of (played sents true) = sent_lines sents ++ refusal_line DeviceFault
 
--- a command is accepted: the disk stands for what it comes to, and the new carousel's turn comes
--- behind the group under way: on a server that was told to follow changes the turn goes on, and on
--- every other one it begins
-pub record Accepts (s : ServerState) (c : command.Command) (done : Done) (after : ServerState) :
-    Type 0 where
-  pub outcome : after_command s.layout s.standing c ≡ Ok (after.standing, done)
-  pub layout : after.layout ≡ s.layout
-  pub halted : after.halted ≡ s.halted
-  pub place : after.place ≡ changed (turn_of_carousel after.standing.carousel
-      after.standing.geometry.segment_size) s.place
-  pub later : IsLater s after
-
--- the disk fails, and the server is halted, with the carousel from before
-pub record Halts (s after : ServerState) : Type 0 where
-  pub rises : Rises s.failures after.failures
-  pub standing : after.standing ≡ s.standing
-  pub layout : after.layout ≡ s.layout
-  pub place : after.place ≡ s.place
-  pub halted : IsTrue after.halted
-  pub later : IsLater s after
-
--- what a command is answered
+-- What a command is answered. It is accepted: the disk stands for what it comes to, and the new
+-- carousel's turn comes behind the group under way. (On a server that was told to follow changes the
+-- turn goes on, and on every other one it begins.) Or it is refused, and nothing changes; or the disk
+-- fails, and the server is halted, with the carousel from before.
 pub data IsCommandAnswer (s : ServerState) (c : command.Command) (reply : Reply)
     (after : ServerState) : Type 0 where
-  accepts : (done : Done) → reply ≡ accepted done → Accepts s c done after
-      → IsCommandAnswer s c reply after
+  accepts : (done : Done) (next : Standing) → reply ≡ accepted done
+      → after_command s.layout s.standing c ≡ Ok (next, done)
+      → Becomes s next (changed (turn_of_carousel next.carousel next.geometry.segment_size) s.place)
+      s.halted after → IsCommandAnswer s c reply after
   refuses : (refusal : Refusal) → reply ≡ refused refusal
       → after_command s.layout s.standing c ≡ Err refusal → Stays s after
       → IsCommandAnswer s c reply after
-  fails : reply ≡ refused DeviceFault → Halts s after → IsCommandAnswer s c reply after
-
--- what so many requests of packets are answered: all packets, or those before a request that fails
-pub data IsNextAnswer (s : ServerState) (count : ℕ) (reply : Reply) (after : ServerState) :
-    Type 0 where
-  all : (sents : List Sent) → reply ≡ played sents → Sends s count sents after
-      → IsNextAnswer s count reply after
-  cut : (made : ℕ) (sents : List Sent) (between : ServerState) → made < count
-      → reply ≡ cut_short sents → Sends s made sents between → FailsToSend between after
-      → IsNextAnswer s count reply after
-
--- so, too, of the requests up to the first packet that ends a turn
-pub data IsTurnAnswer (s : ServerState) (reply : Reply) (after : ServerState) : Type 0 where
-  all : (others : ℕ) (sents : List Sent) → reply ≡ played sents → SendsTurn s others sents after
-      → IsTurnAnswer s reply after
-  cut : (made : ℕ) (sents : List Sent) (between : ServerState) → reply ≡ cut_short sents
-      → SendsWithinTurn s made sents between → FailsToSend between after
-      → IsTurnAnswer s reply after
+  fails : reply ≡ refused DeviceFault → Rises s.failures after.failures
+      → Becomes s s.standing s.place true after → IsCommandAnswer s c reply after
 
 -- What answers a request, and the state after it. A line that is no request gets its refusal, a
--- list line the carousel, a raw line the packets of its group, and none of them changes anything.
+-- list line the carousel, a raw line the packets of its group, and none of them changes anything. A
+-- `next` and a `turn` line get the packets that they ask for, or those before a device fault.
 unfoldable pub IsAnswer : ServerState → Result Line Refusal → Reply → ServerState → Type 0
 IsAnswer s (Err r) reply after = (reply ≡ refused r) × Stays s after
 IsAnswer s (Ok (Command c)) reply after = IsCommandAnswer s c reply after
 IsAnswer s (Ok asks.List) reply after = (reply ≡ listing s.standing.carousel) × Stays s after
 IsAnswer s (Ok (Raw kind tid body)) reply after =
     (reply ≡ packets (raw_packets s.standing.geometry kind tid body)) × Stays s after
-IsAnswer s (Ok (Next count)) reply after = IsNextAnswer s count reply after
-IsAnswer s (Ok Turn) reply after = IsTurnAnswer s reply after
+IsAnswer s request reply after = (sents : List Sent) × (failed : Bool)
+    × (reply ≡ played sents failed) × Plays s request failed sents after
+    × (IsTrue failed → Rises s.failures after.failures)
 
 -- a request that needs a server which is not halted: every one but a raw line
 abbrev pub NeedsCarousel : Result Line Refusal → Type 0
@@ -129,8 +100,7 @@ Session before (x ∷ exchanges) after =
 
 -- the packets of the replies to `next` and `turn` lines
 abbrev pub packets_in : Reply → List (List ℕ)
-packets_in (played sents) = packets_sent sents
-packets_in (cut_short sents) = packets_sent sents
+packets_in (played sents failed) = packets_sent sents
 packets_in reply = []
 
 abbrev pub packets_played : List Exchange → List (List ℕ)

@@ -52,17 +52,23 @@ pub record IsLater (before after : ServerState) : Type 0 where
   pub moment : before.moment ≤ after.moment
   pub failures : before.failures ≤ after.failures
 
--- nothing is stored or halted
-pub record KeepsCarousel (before after : ServerState) : Type 0 where
-  pub standing : after.standing ≡ before.standing
+-- This is what the server stands for then, where it stands in playing that, and whether it is
+-- halted. The layout stays, and time goes on.
+pub record Becomes (before : ServerState) (s : Standing) (p : Place) (b : Bool)
+    (after : ServerState) : Type 0 where
+  pub standing : after.standing ≡ s
+  pub place : after.place ≡ p
+  pub halted : after.halted ≡ b
   pub layout : after.layout ≡ before.layout
-  pub halted : after.halted ≡ before.halted
   pub later : IsLater before after
 
+-- nothing is stored or halted
+abbrev pub KeepsCarousel : ServerState → ServerState → Type 0
+KeepsCarousel before after = Becomes before before.standing after.place before.halted after
+
 -- nor is anything played
-pub record Stays (before after : ServerState) : Type 0 where
-  pub keeps : KeepsCarousel before after
-  pub place : after.place ≡ before.place
+abbrev pub Stays : ServerState → ServerState → Type 0
+Stays before after = Becomes before before.standing before.place before.halted after
 
 -- nothing was played yet
 abbrev pub HasJustOpened : ServerState → Type 0

@@ -1,11 +1,7 @@
 //! Deciding the answer to a line.
-ghost use Rattle.std.specs.Prelude.{◌≡◌, [], Ok, IsTrue, IsFalse};
-ghost use Rattle.disk_model.specs.Disk.{IsUnchanged, KeepsLength, Throughout};
-ghost use Rattle.mot_journal.specs.Image.{Standing};
-ghost use Rattle.mot_repository.specs.Repository.{Holds};
-ghost use Rattle.mot_server.specs.Runs.{StandsAfterSome};
+ghost use Rattle.std.specs.Prelude.{◌≡◌, Ok, IsTrue, IsFalse};
 ghost use Rattle.mot_session.specs.Inner.Anyhow.{DecidesAnyhow};
-ghost use Rattle.mot_session.specs.Inner.Decision.{Decides, written_by};
+ghost use Rattle.mot_session.specs.Inner.Decision.{Decides, MayWrite, written_by};
 ghost use Rattle.mot_session.specs.State.{Leads};
 
 mod group;
@@ -50,12 +46,8 @@ pub(crate) fn decide<D: Disk>(
         (D.state server.old.disk).failures (D.state server.new.disk).failures request result }
 
     // At each moment a crash leaves the carousel from before, or after the request's command.
-    ensures crosses { (s : Standing) → Holds server.old.view s (D.state server.old.disk)
-        → Throughout (D.state server.old.disk) (D.state server.new.disk)
-        (StandsAfterSome s [] (written_by result request)) }
-    ensures halted { IsTrue server.old.view.halted → (server.new.view ≡ server.old.view)
-        × IsUnchanged (D.state server.old.disk) (D.state server.new.disk) }
-    ensures keeps { KeepsLength (D.state server.old.disk) (D.state server.new.disk) }
+    ensures writes { MayWrite server.old.view server.new.view
+        (D.state server.old.disk) (D.state server.new.disk) (written_by result request) }
 {
     match request {
         Ok(request) => decide_request(alloc, &request, server),
@@ -70,12 +62,8 @@ fn decide_request<D: Disk>(alloc: Global, request: &Line, server: &mut Server<D>
     ensures anyhow { DecidesAnyhow server.old.view server.new.view
         (D.state server.old.disk).failures (D.state server.new.disk).failures
         (Ok request.now) result }
-    ensures crosses { (s : Standing) → Holds server.old.view s (D.state server.old.disk)
-        → Throughout (D.state server.old.disk) (D.state server.new.disk)
-        (StandsAfterSome s [] (written_by result (Ok request.now))) }
-    ensures halted { IsTrue server.old.view.halted → (server.new.view ≡ server.old.view)
-        × IsUnchanged (D.state server.old.disk) (D.state server.new.disk) }
-    ensures keeps { KeepsLength (D.state server.old.disk) (D.state server.new.disk) }
+    ensures writes { MayWrite server.old.view server.new.view
+        (D.state server.old.disk) (D.state server.new.disk) (written_by result (Ok request.now)) }
 {
     match request {
         Line::Command(command) => decide_command(alloc, command, server),
@@ -108,12 +96,8 @@ fn decide_command<D: Disk>(alloc: Global, command: &Command, server: &mut Server
     ensures anyhow { DecidesAnyhow server.old.view server.new.view
         (D.state server.old.disk).failures (D.state server.new.disk).failures
         (Ok (Line.Command command.now)) result }
-    ensures crosses { (s : Standing) → Holds server.old.view s (D.state server.old.disk)
-        → Throughout (D.state server.old.disk) (D.state server.new.disk)
-        (StandsAfterSome s [] (written_by result (Ok (Line.Command command.now)))) }
-    ensures halted { IsTrue server.old.view.halted → (server.new.view ≡ server.old.view)
-        × IsUnchanged (D.state server.old.disk) (D.state server.new.disk) }
-    ensures keeps { KeepsLength (D.state server.old.disk) (D.state server.new.disk) }
+    ensures writes { MayWrite server.old.view server.new.view
+        (D.state server.old.disk) (D.state server.new.disk) (written_by result (Ok (Line.Command command.now))) }
 {
     match server.execute(alloc, command) {
         Ok(done) => Decision::Accepted(done),

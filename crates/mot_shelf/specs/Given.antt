@@ -13,53 +13,30 @@ pub record Given : Type 0 where
   pub read : List (List ℕ × List ℕ)
   -- the names of those that could not be
   pub missed : List (List ℕ)
+  -- what else failed: the path, where it was not opened or did not give its names; and each name
+  -- that was asked for in vain
+  pub failed : List (List ℕ)
 
 abbrev pub nothing : Given
-nothing = record { listed = []; files = []; others = []; read = []; missed = [] }
+nothing = record { listed = []; files = []; others = []; read = []; missed = []; failed = [] }
 
 -- it is opened by this path, or gives these names
 abbrev pub and_listed : Given → List ℕ → Given
-and_listed g bytes = record {
-  listed = g.listed ++ bytes ∷ [];
-  files = g.files;
-  others = g.others;
-  read = g.read;
-  missed = g.missed;
-}
+and_listed g bytes = record g { listed = g.listed ++ bytes ∷ [] }
 
 -- this name is that of a regular file, or is not
 abbrev pub and_asked : Given → List ℕ → (is_file : Bool) → Given
-and_asked g name true = record {
-  listed = g.listed;
-  files = g.files ++ name ∷ [];
-  others = g.others;
-  read = g.read;
-  missed = g.missed;
-}
-and_asked g name false = record {
-  listed = g.listed;
-  files = g.files;
-  others = g.others ++ name ∷ [];
-  read = g.read;
-  missed = g.missed;
-}
+and_asked g name true = record g { files = g.files ++ name ∷ [] }
+and_asked g name false = record g { others = g.others ++ name ∷ [] }
 
 -- the file of this name has these bytes
 abbrev pub and_read : Given → List ℕ → List ℕ → Given
-and_read g name bytes = record {
-  listed = g.listed;
-  files = g.files;
-  others = g.others;
-  read = g.read ++ (name, bytes) ∷ [];
-  missed = g.missed;
-}
+and_read g name bytes = record g { read = g.read ++ (name, bytes) ∷ [] }
 
 -- or it can't be read
 abbrev pub and_missed : Given → List ℕ → Given
-and_missed g name = record {
-  listed = g.listed;
-  files = g.files;
-  others = g.others;
-  read = g.read;
-  missed = g.missed ++ name ∷ [];
-}
+and_missed g name = record g { missed = g.missed ++ name ∷ [] }
+
+-- the folder of this path can't be listed, or it can't be said what this name in it names
+abbrev pub and_failed : Given → List ℕ → Given
+and_failed g of = record g { failed = g.failed ++ of ∷ [] }

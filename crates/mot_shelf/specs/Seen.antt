@@ -9,4 +9,5 @@ given_of seen = record {
   others = seen.others.all;
   read = seen.read.all;
   missed = seen.missed.all;
+  failed = seen.failed.all;
 }

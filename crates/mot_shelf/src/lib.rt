@@ -1,6 +1,8 @@
-//! A folder of files as a program sees it: clauses can say what was listed and read of it.
+//! A folder of files as a program sees it: clauses can say what was listed and read of it, and what
+//! was given of lines.
 #![tactic(auto)]
 
+mod inlet;
 mod memory;
 mod pairs;
 mod seen;
@@ -8,6 +10,7 @@ mod shelf;
 mod system;
 mod unread;
 
+pub use inlet::Inlet;
 pub use memory::MemoryShelf;
 pub use pairs::Pairs;
 pub use seen::{LookNotes, Seen};

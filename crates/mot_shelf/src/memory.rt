@@ -1,6 +1,7 @@
 //! A folder in memory, for tests: its path is `memory`.
-ghost use Rattle.std.specs.Prelude.{codes};
+ghost use Rattle.std.specs.Prelude.{◌≢◌, ℕ, IfErr, codes, true};
 ghost use Rattle.mot_shelf.specs.Seen.{given_of};
+ghost use Rattle.mot_shelf.specs.declared.unread.Unread.TheVariants.{TooLong, Young};
 
 use crate::{Kind, LookNotes, Seen, Shelf, Unread};
 use std::alloc::Global;
@@ -33,7 +34,10 @@ impl MemoryShelf {
     }
 
     /// The bytes of the file of this name.
-    fn bytes_of(&self, alloc: Global, name: &[u8]) -> Result<Vec<u8>, Unread> {
+    fn bytes_of(&self, alloc: Global, name: &[u8]) -> Result<Vec<u8>, Unread>
+        ensures young { IfErr result (λ unread. unread ≢ Young) }
+        ensures long { IfErr result (λ unread. (count : ℕ) → unread ≢ TooLong count) }
+    {
         for (other, bytes) in self.files {
             if *other == name {
                 return Ok(Vec::from_slice(alloc, bytes)?);
@@ -47,6 +51,8 @@ impl Shelf for MemoryShelf {
     ghost path = { λ _. codes "memory" };
 
     ghost gave = { λ shelf. given_of shelf.seen };
+
+    ghost at_once = { λ _. true };
 
     fn shown(&self) -> &str {
         "memory"
@@ -62,6 +68,7 @@ impl Shelf for MemoryShelf {
 
     fn open(&mut self, _alloc: Global) -> io::Result<()> {
         let Some(names) = self.names else {
+            self.seen.failed.note(b"memory");
             return Err(io::Error::from(ErrorKind::NotFound));
         };
         self.rest = names;
@@ -76,6 +83,7 @@ impl Shelf for MemoryShelf {
     fn names(&mut self, room: &mut [u8]) -> io::Result<usize> {
         let count = self.rest.len();
         if count > room.len() {
+            self.seen.failed.note(b"memory");
             return Err(io::Error::from(ErrorKind::InvalidData));
         }
         room[..count].copy_from_slice(self.rest);

@@ -17,6 +17,7 @@ pub struct Seen {
     pub(crate) others: Notes,
     pub(crate) read: Pairs,
     pub(crate) missed: Notes,
+    pub(crate) failed: Notes,
 }
 
 impl Seen {
@@ -27,6 +28,7 @@ impl Seen {
         ensures others { result.others.all ≡ [] }
         ensures read { result.read.all ≡ [] }
         ensures missed { result.missed.all ≡ [] }
+        ensures failed { result.failed.all ≡ [] }
     {
         Seen {
             listed: Notes::new(),
@@ -34,6 +36,7 @@ impl Seen {
             others: Notes::new(),
             read: Pairs::new(),
             missed: Notes::new(),
+            failed: Notes::new(),
         }
     }
 }

@@ -1,8 +1,9 @@
 //! What a program has to come to the files of one folder by.
-ghost use Rattle.std.specs.Prelude.{◌≡◌, ◌≤◌, ℕ, List, [], ◌∷◌, ◌++◌, IfOk, MatchResult, length};
-ghost use Rattle.std.specs.Prelude.{take};
-ghost use Rattle.mot_shelf.specs.Given.{Given, and_asked, and_listed, and_missed, and_read};
-ghost use Rattle.mot_shelf.specs.Given.{nothing};
+ghost use Rattle.std.specs.Prelude.{◌≡◌, ◌≢◌, ◌<◌, ◌≤◌, ℕ, Bool, true, List, [], ◌∷◌, ◌++◌, IfErr, IfOk};
+ghost use Rattle.std.specs.Prelude.{MatchResult, length, take};
+ghost use Rattle.mot_shelf.specs.declared.unread.Unread.TheVariants.{TooLong, Young};
+ghost use Rattle.mot_shelf.specs.Given.{Given, and_asked, and_failed, and_listed, and_missed};
+ghost use Rattle.mot_shelf.specs.Given.{and_read, nothing};
 
 use crate::{LookNotes, Unread};
 use std::alloc::Global;
@@ -30,6 +31,9 @@ pub trait Shelf {
     // What it gave since the look began.
     ghost gave: { Self → Given };
 
+    // Whether a file is given however young it is.
+    ghost at_once: { Self → Bool };
+
     /// Its path, to be shown.
     fn shown(&self) -> &str
         ensures { result.now ≡ path self.now };
@@ -41,15 +45,17 @@ pub trait Shelf {
     /// A look begins.
     fn begin(&mut self)
         ensures same { path self.new ≡ path self.old }
+        ensures rule { at_once self.new ≡ at_once self.old }
         ensures gave { gave self.new ≡ nothing };
 
     /// Opens it, or the folder that it is a link to, so that its names are listed from the first
     /// on.
     fn open(&mut self, alloc: Global) -> io::Result<()>
         ensures same { path self.new ≡ path self.old }
+        ensures rule { at_once self.new ≡ at_once self.old }
         ensures gave { MatchResult result
             (λ _. gave self.new ≡ and_listed (gave self.old) (path self.old))
-            (λ _. gave self.new ≡ gave self.old) };
+            (λ _. gave self.new ≡ and_failed (gave self.old) (path self.old)) };
 
     /// Why it was not opened, if a look last tried to in vain. It is printed, and decides nothing.
     fn fault(&self) -> Option<io::Error>;
@@ -58,17 +64,19 @@ pub trait Shelf {
     /// are no further ones.
     fn names(&mut self, room: &mut [u8]) -> io::Result<usize>
         ensures same { path self.new ≡ path self.old }
+        ensures rule { at_once self.new ≡ at_once self.old }
         ensures fits { IfOk result (λ count. count ≤ length room.new) }
         ensures gave { MatchResult result
             (λ count. gave self.new ≡ and_listed (gave self.old) (take count room.new))
-            (λ _. gave self.new ≡ gave self.old) };
+            (λ _. gave self.new ≡ and_failed (gave self.old) (path self.old)) };
 
     /// Whether there is a regular file of this name in it. A link is none.
     fn is_file(&mut self, alloc: Global, name: &[u8]) -> io::Result<bool>
         ensures same { path self.new ≡ path self.old }
+        ensures rule { at_once self.new ≡ at_once self.old }
         ensures gave { MatchResult result
             (λ is_file. gave self.new ≡ and_asked (gave self.old) name.now is_file)
-            (λ _. gave self.new ≡ gave self.old) };
+            (λ _. gave self.new ≡ and_failed (gave self.old) name.now) };
 
     /// What this name in it names, to be told; `None` if the system does not say.
     fn kind(&self, alloc: Global, name: &[u8]) -> Option<Kind>;
@@ -77,7 +85,11 @@ pub trait Shelf {
     /// it was not read.
     fn read(&mut self, alloc: Global, name: &[u8], most: u64) -> Result<Vec<u8>, Unread>
         ensures same { path self.new ≡ path self.old }
+        ensures rule { at_once self.new ≡ at_once self.old }
         ensures gave { MatchResult result
             (λ bytes. gave self.new ≡ and_read (gave self.old) name.now bytes.items)
-            (λ _. gave self.new ≡ and_missed (gave self.old) name.now) };
+            (λ _. gave self.new ≡ and_missed (gave self.old) name.now) }
+        ensures young { at_once self.old ≡ true → IfErr result (λ unread. unread ≢ Young) }
+        ensures long { IfErr result (λ unread.
+            (count : ℕ) → unread ≡ TooLong count → most < count) };
 }

@@ -1,7 +1,8 @@
 //! A folder of the system. Each method asks the system for what it notes, of the folder's path, and
 //! notes the answer: no contract can say so, and a reader of this file has to see it.
-ghost use Rattle.std.specs.Prelude.{◌≡◌};
+ghost use Rattle.std.specs.Prelude.{◌≡◌, ◌≢◌, ◌<◌, ◌≤◌, ℕ, IfErr, IfOk, length, true};
 ghost use Rattle.mot_shelf.specs.Seen.{given_of};
+ghost use Rattle.mot_shelf.specs.declared.unread.Unread.TheVariants.{TooLong, Young};
 
 use crate::{Kind, LookNotes, Seen, Shelf, Unread};
 use std::alloc::{AllocError, Global};
@@ -34,6 +35,7 @@ impl<'a, T: Files<File = File>> SystemShelf<'a, T> {
     /// change is two seconds ago.
     pub fn new(rt: &'a T, path: &'a str, at_once: bool) -> SystemShelf<'a, T>
         ensures path { result.path.now ≡ path.now }
+        ensures rule { result.at_once ≡ at_once }
     {
         SystemShelf {
             rt,
@@ -58,6 +60,8 @@ impl<'a, T: Files<File = File> + Clock> Shelf for SystemShelf<'a, T> {
 
     ghost gave = { λ shelf. given_of shelf.seen };
 
+    ghost at_once = { λ shelf. shelf.at_once };
+
     fn shown(&self) -> &str {
         self.path
     }
@@ -80,6 +84,7 @@ impl<'a, T: Files<File = File> + Clock> Shelf for SystemShelf<'a, T> {
                 Ok(())
             }
             Err(error) => {
+                self.seen.failed.note(self.path.as_bytes());
                 self.fault = Some(error);
                 Err(error)
             }
@@ -91,25 +96,26 @@ impl<'a, T: Files<File = File> + Clock> Shelf for SystemShelf<'a, T> {
     }
 
     fn names(&mut self, room: &mut [u8]) -> io::Result<usize> {
-        let Some(folder) = &mut self.folder else {
-            return Err(io::Error::from(ErrorKind::NotFound));
-        };
-        let count = folder.read(room)?;
-        self.seen.listed.note(&room[..count]);
-        if count == 0 {
-            self.folder = None;
+        match next_names(&mut self.folder, room) {
+            Ok(count) => {
+                self.seen.listed.note(&room[..count]);
+                Ok(count)
+            }
+            Err(error) => {
+                self.seen.failed.note(self.path.as_bytes());
+                Err(error)
+            }
         }
-        Ok(count)
     }
 
     fn is_file(&mut self, alloc: Global, name: &[u8]) -> io::Result<bool> {
-        let is_file = is_regular(self.rt, alloc, self.path, name)?;
-        if is_file {
-            self.seen.files.note(name);
-        } else {
-            self.seen.others.note(name);
+        let answer = is_regular(self.rt, alloc, self.path, name);
+        match answer {
+            Ok(true) => self.seen.files.note(name),
+            Ok(false) => self.seen.others.note(name),
+            Err(_) => self.seen.failed.note(name),
         }
-        Ok(is_file)
+        answer
     }
 
     fn kind(&self, alloc: Global, name: &[u8]) -> Option<Kind> {
@@ -139,6 +145,20 @@ fn open_folder<T: Files<File = File>>(rt: &T, alloc: Global, path: &str) -> io::
     // A link to a folder is opened by no other path.
     let inside = joined(alloc, path, ".")?;
     rt.open_dir(inside.as_str())
+}
+
+/// The next names of the open folder; behind the last it is closed.
+fn next_names<D: Read + Drop>(folder: &mut Option<D>, room: &mut [u8]) -> io::Result<usize>
+    ensures fits { IfOk result (λ count. count ≤ length room.new) }
+{
+    let Some(open) = folder else {
+        return Err(io::Error::from(ErrorKind::NotFound));
+    };
+    let count = open.read(room)?;
+    if count == 0 {
+        *folder = None;
+    }
+    Ok(count)
 }
 
 /// Whether there is a regular file of this name in the folder. A link is none.
@@ -184,7 +204,10 @@ fn read_file<T: Files<File = File> + Clock>(
     name: &[u8],
     most: u64,
     at_once: bool,
-) -> Result<Vec<u8>, Unread> {
+) -> Result<Vec<u8>, Unread>
+    ensures young { at_once ≡ true → IfErr result (λ unread. unread ≢ Young) }
+    ensures long { IfErr result (λ unread. (count : ℕ) → unread ≡ TooLong count → most < count) }
+{
     let Ok(name) = from_utf8(name) else {
         return Err(Unread::Changed);
     };

@@ -1,4 +1,8 @@
 //! Why a file of a folder was not read.
+ghost use Rattle.std.specs.Prelude.{◌≡◌};
+ghost use Rattle.mot_shelf.specs.declared.unread.Unread.TheVariants.{System};
+ghost use Rattle.std.specs.declared.io.Error.{Error};
+
 use std::alloc::AllocError;
 use std::io;
 
@@ -16,12 +20,16 @@ pub enum Unread {
 }
 
 impl From<io::Error> for Unread {
+    ghost from_gives = { λ error unread. unread ≡ System error };
+
     fn from(error: io::Error) -> Unread {
         Unread::System(error)
     }
 }
 
 impl From<AllocError> for Unread {
+    ghost from_gives = { λ _ unread. (error : Error) × (unread ≡ System error) };
+
     fn from(error: AllocError) -> Unread {
         Unread::System(io::Error::from(error))
     }

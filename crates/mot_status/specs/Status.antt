@@ -1,8 +1,8 @@
 -- The status of a carousel on air, in the text format of Prometheus.
-use Rattle.std.specs.Prelude.{ℕ, ◌≡◌, ◌==◌, ◌&&◌, ◌||◌, nat_le, Bool, true, false, not, if◌then◌else◌}
-use Rattle.std.specs.Prelude.{List, [], ◌∷◌, ◌++◌, bytes_eq, flat_map, codes}
+use Rattle.std.specs.Prelude.{ℕ, ◌≡◌, ◌⊎◌, ◌==◌, ◌&&◌, ◌||◌, nat_le, Bool, true, false, not}
+use Rattle.std.specs.Prelude.{if◌then◌else◌, List, [], ◌∷◌, ◌++◌, bytes_eq, flat_map, codes}
 use Rattle.std.specs.Fmt.{decimal}
-use Rattle.mot_lines.specs.Lines.{pieces_between}
+use Rattle.std.specs.List.{list_any}
 use Rattle.mot_status.specs.declared.text.Figures.{Figures}
 
 -- a byte of a label's value: a backslash, a quotation mark and a line end have a backslash in front
@@ -93,20 +93,38 @@ is_of_no_file command =
     bytes_eq command (codes "look") || bytes_eq command (codes "skip")
     || bytes_eq command (codes "note")
 
+-- no byte is a space
+abbrev pub is_word : List ℕ → Bool
+is_word bytes = not (list_any (λ b. b == 32) bytes)
+
 abbrev pub begins_with_digit : List ℕ → Bool
 begins_with_digit [] = false
 begins_with_digit (byte ∷ bytes) = nat_le 48 byte && nat_le byte 57
 
--- what such a line tells: a reason begins with its number
+-- what such a line tells: the command is one word, and a reason begins with its number
 abbrev pub tells_of_file : RefusedFile → Bool
-tells_of_file file = not (is_of_no_file file.command) && begins_with_digit file.reason
+tells_of_file file =
+    is_word file.command && (not (is_of_no_file file.command) && begins_with_digit file.reason)
 
--- one of these lines tells of it
-pub record IsRefusedIn (lines : List ℕ) (file : RefusedFile) : Type 0 where
-  pub before : List (List ℕ)
-  pub behind : List (List ℕ)
-  pub split : pieces_between lines ≡ before ++ refused_line file ∷ behind
-  pub told : tells_of_file file ≡ true
+-- the line tells of no file
+abbrev pub TellsOfNone : List ℕ → Type 0
+TellsOfNone line =
+    (file : RefusedFile) → line ≡ refused_line file → tells_of_file file ≡ false
+
+abbrev pub is_among : List (List ℕ) → List ℕ → Bool
+is_among lines line = list_any (bytes_eq line) lines
+
+-- The files that these lines tell of, in order: each line that tells of one adds it, unless it is
+-- equal to a line before it.
+pub data AreRefused : List (List ℕ) → List RefusedFile → Type 0 where
+  no_line : AreRefused [] []
+  one_file : (lines : List (List ℕ)) (files : List RefusedFile) (file : RefusedFile)
+      → AreRefused lines files → tells_of_file file ≡ true
+      → is_among lines (refused_line file) ≡ false
+      → AreRefused (lines ++ refused_line file ∷ []) (files ++ file ∷ [])
+  no_file : (lines : List (List ℕ)) (files : List RefusedFile) (line : List ℕ)
+      → AreRefused lines files → TellsOfNone line ⊎ (is_among lines line ≡ true)
+      → AreRefused (lines ++ line ∷ []) files
 
 abbrev pub refused_sample : List ℕ → RefusedFile → List ℕ
 refused_sample disk file =

@@ -1,9 +1,13 @@
 //! The text of the status.
-ghost use Rattle.std.specs.Prelude.{◌≡◌, ◌++◌, All, IfSome, List, OnOk, codes, flat_map, true};
-ghost use Rattle.mot_status.specs.Status.{IsRefusedIn, RefusedFile, begins_with_digit, head_text};
-ghost use Rattle.mot_status.specs.Status.{is_of_no_file, label, label_byte};
+ghost use Rattle.std.specs.Prelude.{◌≡◌, ◌≢◌, ◌∷◌, ◌++◌, IfNone, IfSome, List, OnOk, codes};
+ghost use Rattle.std.specs.Prelude.{flat_map, true, ℕ};
+ghost use Rattle.mot_lines.specs.Lines.{whole_lines};
+ghost use Rattle.mot_status.specs.Status.{AreRefused, RefusedFile, TellsOfNone, begins_with_digit};
+ghost use Rattle.mot_status.specs.Status.{head_text, is_among, is_of_no_file, is_word, label};
+ghost use Rattle.mot_status.specs.Status.{label_byte};
 ghost use Rattle.mot_status.specs.Status.{refused_sample, refused_text, row_text, rows_text};
 ghost use Rattle.mot_status.specs.Status.{sample_text, status_text, version_text};
+ghost use Rattle.mot_status.specs.Inner.Rows.{AreOfLine, BeginsWithNoReason, HasNoReason};
 ghost use Rattle.mot_status.specs.Inner.Rows.{IsRefusedLine, label_of, row_of};
 
 use itoa::Buffer;
@@ -67,7 +71,7 @@ pub fn write_status(
     figures: &Figures<'_>,
     lines: &[u8],
 ) -> Result<(), AllocError>
-    ensures { OnOk result ((files : List RefusedFile) × All (IsRefusedIn lines.now) files
+    ensures { OnOk result ((files : List RefusedFile) × AreRefused (whole_lines lines.now) files
         × (text.new.items ≡ status_text figures.now files)) }
 {
     text.clear();
@@ -195,7 +199,7 @@ fn add_version(text: &mut Vec<u8>, disk: &str, version: &[u8]) -> Result<(), All
 
 /// Adds the files that are refused in these lines.
 fn add_refused(text: &mut Vec<u8>, disk: &str, lines: &[u8]) -> Result<(), AllocError>
-    ensures { OnOk result ((files : List RefusedFile) × All (IsRefusedIn lines.now) files
+    ensures { OnOk result ((files : List RefusedFile) × AreRefused (whole_lines lines.now) files
         × (text.new.items ≡ text.old.items ++ refused_text disk.now files)) }
 {
     add_head(
@@ -209,34 +213,36 @@ fn add_refused(text: &mut Vec<u8>, disk: &str, lines: &[u8]) -> Result<(), Alloc
 
 /// Adds a sample for each file that is refused in these lines, each of which has its end.
 fn add_samples(text: &mut Vec<u8>, disk: &str, lines: &[u8]) -> Result<(), AllocError>
-    ensures { OnOk result ((files : List RefusedFile) × All (IsRefusedIn lines.now) files
+    ensures { OnOk result ((files : List RefusedFile) × AreRefused (whole_lines lines.now) files
         × (text.new.items ≡ text.old.items ++ flat_map (refused_sample disk.now) files)) }
 {
     let mut rest = lines;
-    let mut number: usize = 0;
     while let Some((line, others)) = cut_at_line_end(rest) {
-        let is_first = is_first(lines, number, line);
-        add_line(text, disk, line, is_first)?;
-        number = number.saturating_add(1);
+        let before = &lines[..lines.len() - rest.len()];
+        add_line(text, disk, line, !has_line(before, line))?;
         rest = others;
     }
     Ok(())
 }
 
-/// Whether none of so many first lines is this one.
-fn is_first(lines: &[u8], number: usize, line: &[u8]) -> bool {
-    for other in lines.split(|byte| *byte == b'\n').take(number) {
-        if other == line {
-            return false;
+/// Whether one of the lines, each of which has its end, is this one.
+fn has_line(lines: &[u8], line: &[u8]) -> bool
+    ensures { result ≡ is_among (whole_lines lines.now) line.now }
+{
+    let mut rest = lines;
+    while let Some((other, others)) = cut_at_line_end(rest) {
+        if line == other {
+            return true;
         }
+        rest = others;
     }
-    true
+    false
 }
 
 /// Adds a sample for the file that is refused in this line, if one is, and if it is the first of its
 /// kind.
 fn add_line(text: &mut Vec<u8>, disk: &str, line: &[u8], is_first: bool) -> Result<(), AllocError>
-    ensures { OnOk result ((files : List RefusedFile) × All (IsRefusedLine line.now) files
+    ensures { OnOk result ((files : List RefusedFile) × AreOfLine line.now is_first files
         × (text.new.items ≡ text.old.items ++ flat_map (refused_sample disk.now) files)) }
 {
     match refused_in(line) {
@@ -247,19 +253,33 @@ fn add_line(text: &mut Vec<u8>, disk: &str, line: &[u8], is_first: bool) -> Resu
 
 /// The command, the name and the reason of a line about a file that was refused.
 fn refused_in(line: &[u8]) -> Option<(&[u8], &[u8], &[u8])>
-    ensures { IfSome result (λ told. IsRefusedLine line.now (record {
+    ensures told { IfSome result (λ told. IsRefusedLine line.now (record {
       command = told.0.now;
       name = told.1.now;
       reason = told.2.now;
     })) }
+    ensures none { IfNone result (TellsOfNone line.now) }
 {
-    let space = line.iter().position(|byte| *byte == b' ')?;
-    let (command, rest) = line.split_at(space);
+    let (command, rest) = cut_at_space(line)?;
     if is_of_no_file(command) {
         return None;
     }
-    let (name, reason) = cut_at_reason(behind(rest, b" ")?)?;
+    let (name, reason) = cut_at_reason(rest)?;
     Some((command, name, reason))
+}
+
+/// The word before the first space of a line, and what stands behind it.
+fn cut_at_space(line: &[u8]) -> Option<(&[u8], &[u8])>
+    ensures parts { IfSome result (λ cut. line.now ≡ cut.0.now ++ 32 ∷ cut.1.now) }
+    ensures word { IfSome result (λ cut. is_word cut.0.now ≡ true) }
+    ensures none { IfNone result (is_word line.now ≡ true) }
+{
+    for place in 0..line.len() {
+        if line[place] == b' ' {
+            return Some((&line[..place], &line[place + 1..]));
+        }
+    }
+    None
 }
 
 /// Whether lines of this command tell of no file.
@@ -273,6 +293,7 @@ fn is_of_no_file(command: &[u8]) -> bool
 fn cut_at_reason(rest: &[u8]) -> Option<(&[u8], &[u8])>
     ensures words { IfSome result (λ cut. rest.now ≡ cut.0.now ++ codes " refused " ++ cut.1.now) }
     ensures number { IfSome result (λ cut. begins_with_digit cut.1.now ≡ true) }
+    ensures none { IfNone result (HasNoReason rest.now) }
 {
     let mut at = rest.len();
     while at > 0 {
@@ -289,6 +310,7 @@ fn cut_at_reason(rest: &[u8]) -> Option<(&[u8], &[u8])>
 fn reason_in(words: &[u8]) -> Option<&[u8]>
     ensures words { IfSome result (λ reason. words.now ≡ codes " refused " ++ reason.now) }
     ensures number { IfSome result (λ reason. begins_with_digit reason.now ≡ true) }
+    ensures none { IfNone result (BeginsWithNoReason words.now) }
 {
     let reason = behind(words, b" refused ")?;
     if !begins_with_digit(reason) {
@@ -299,7 +321,8 @@ fn reason_in(words: &[u8]) -> Option<&[u8]>
 
 /// What stands behind these words, if the line begins with them.
 fn behind<'a>(line: &'a [u8], words: &[u8]) -> Option<&'a [u8]>
-    ensures { IfSome result (λ rest. line.now ≡ words.now ++ rest.now) }
+    ensures rest { IfSome result (λ rest. line.now ≡ words.now ++ rest.now) }
+    ensures none { IfNone result ((rest : List ℕ) → line.now ≢ words.now ++ rest) }
 {
     line.strip_prefix(words)
 }

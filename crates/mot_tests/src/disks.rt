@@ -89,17 +89,3 @@ pub fn open(alloc: Global, disk: MemoryDisk) -> Result<Server, Refusal> {
 pub fn new_server(alloc: Global, geometry: &Geometry) -> Result<Server, Refusal> {
     open(alloc, new_disk(alloc, geometry)?)
 }
-
-/// A server of the default geometry but for its packet length.
-pub fn server_of(alloc: Global, packet_length: u16) -> Result<Server, Refusal> {
-    let geometry = Geometry {
-        packet_length,
-        ..Geometry::default()
-    };
-    new_server(alloc, &geometry)
-}
-
-/// The server on its disk, opened again.
-pub fn reopened(alloc: Global, server: Server) -> Result<Server, Refusal> {
-    open(alloc, server.into_disk())
-}

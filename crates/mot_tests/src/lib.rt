@@ -1,28 +1,30 @@
-//! The tests of the layers that stand on a disk, at their public calls.
+//! The tests of the layers that stand on a disk, at their public calls: what no clause says and no row
+//! of the built program shows.
 #![tactic(auto)]
 
-#[cfg(test)]
-mod control;
 #[cfg(test)]
 mod disks;
 #[cfg(test)]
 mod expecting;
 #[cfg(test)]
-mod feed;
+mod files;
 #[cfg(test)]
 mod folder;
 #[cfg(test)]
-mod packet_streams;
+mod gaps;
+#[cfg(test)]
+mod journal;
+#[cfg(test)]
+mod lives;
+#[cfg(test)]
+mod memory;
+#[cfg(test)]
+mod objects;
+#[cfg(test)]
+mod reads;
 #[cfg(test)]
 mod receiver;
 #[cfg(test)]
-mod repository;
-#[cfg(test)]
-mod server;
-#[cfg(test)]
 mod serving;
 #[cfg(test)]
-mod session;
-#[cfg(test)]
-#[cfg(test)]
-mod streams;
+mod stops;

@@ -33,7 +33,9 @@ use Rattle.mot_update.specs.Laws.{names_of}
 use Rattle.mot_update.specs.HasRun.{marks_of_settling}
 use Rattle.mot_update.specs.Looking.{AreAccepted, Gives, HasLooked, HasSettled, RunsThrough}
 use Rattle.mot_update.specs.Looking.{unknown_names, was_settled, withdraw_all}
-use Rattle.mot_update.specs.Told.{Answer, AreAnswers, Withdrew, was_accepted}
+use Rattle.mot_update.specs.Told.{Answer, AreAnswers, AreRight, IsRight, Withdrew, was_accepted}
+use Rattle.mot_update.specs.Told.AreRight.{no_answer}
+use Rattle.mot_update.proofs.Right.{right-cut, right-join, right-one}
 use Rattle.mot_update.proofs.Answers.{answer-withdrew, answers-cut, answers-join}
 use Rattle.mot_update.specs.declared.settling.Settled.{Settled}
 use Rattle.mot_update.specs.declared.settling.Settled.TheVariants.{Right, Put, Replaced}
@@ -216,6 +218,9 @@ pub record SettledSoFar {D : Type 0} (old new : ServerView D) (start now : State
   pub answers : List Answer
   -- each answer is told, in order
   pub told : AreAnswers answers (flat_map (settling s.carousel.objects) wanted) marks
+  -- and rightly
+  pub right : AreRight old.view.journal.layout s (flat_map (settling s.carousel.objects) wanted)
+      answers
 
 -- a look that begins has settled nothing
 abbrev pub settled_none : {D : Type 0} (old : ServerView D) (start : State) (s : Standing)
@@ -234,6 +239,7 @@ settled_none old start s names place given fine sound honest still holds = recor
   accepted = λ e. tt;
   answers = [];
   told = refl;
+  right = no_answer s [];
 }
 
 module _ {D : Type 0} (old mid new : ServerView D) (start between now : State) (s : Standing)
@@ -281,6 +287,36 @@ module _ {D : Type 0} (old mid new : ServerView D) (start between now : State) (
       so_far.told (so_far.run.whole refl) (subst (λ l. AreAnswers answers l marks) same
       (told t (so_far.run.leaves.going refl))))
 
+  pub right_more : (answers : List Answer)
+      → ((t : Standing) → Holds mid.view t between
+      → AreRight mid.view.journal.layout t (settling t.carousel.objects w) answers)
+      → AreRight old.view.journal.layout s
+      (flat_map (settling s.carousel.objects) (so_far.wanted ++ w ∷ []))
+      (so_far.answers ++ answers)
+  right_more answers right =
+      let f : Wanted → List Command = settling s.carousel.objects in
+      let t : Standing = so_far.run.leaves.last in
+      let layout = old.view.journal.layout in
+      let same : settling t.carousel.objects w ≡ f w =
+      settles_on s.carousel t.carousel s.geometry.objects so_far.wanted so_far.marks w new_name
+      so_far.run.leaves.after.carousel in
+      subst (λ l. AreRight layout s l (so_far.answers ++ answers))
+      (sym (flat_map-push f so_far.wanted w))
+      (right-join layout s t (flat_map f so_far.wanted) (f w) so_far.marks so_far.answers answers
+      so_far.run.leaves.marked (so_far.run.whole refl) so_far.told so_far.right
+      (subst (λ l. AreRight layout t l answers) same
+      (subst (λ k. AreRight k t (settling t.carousel.objects w) answers) so_far.run.layout
+      (right t (so_far.run.leaves.going refl)))))
+
+  pub right_cut : AreRight old.view.journal.layout s
+      (flat_map (settling s.carousel.objects) (so_far.wanted ++ w ∷ [])) so_far.answers
+  right_cut =
+      let f : Wanted → List Command = settling s.carousel.objects in
+      subst (λ l. AreRight old.view.journal.layout s l so_far.answers)
+      (sym (flat_map-push f so_far.wanted w))
+      (right-cut old.view.journal.layout s (flat_map f so_far.wanted) (f w) so_far.answers
+      so_far.right)
+
   pub told_cut : AreAnswers so_far.answers
       (flat_map (settling s.carousel.objects) (so_far.wanted ++ w ∷ [])) (so_far.marks ++ [])
   told_cut =
@@ -324,9 +360,11 @@ module _ {D : Type 0} (old mid new : ServerView D) (start between now : State) (
       → HasRun mid new between now t (settling t.carousel.objects w) marks None)
       → ((t : Standing) → Holds mid.view t between
       → AreAnswers answers (settling t.carousel.objects w) marks)
+      → ((t : Standing) → Holds mid.view t between
+      → AreRight mid.view.journal.layout t (settling t.carousel.objects w) answers)
       → (later ≡ true → (fine ≡ true) × (further ≡ place + 1) × AreAccepted marks)
       → SettledSoFar old new start now s names first further before last later
-  settled_more marks answers later run are told = record {
+  settled_more marks answers later run are right told = record {
     wanted = so_far.wanted ++ w ∷ [];
     gives = gives_more;
     known = known_more;
@@ -342,6 +380,7 @@ module _ {D : Type 0} (old mid new : ServerView D) (start between now : State) (
         accepted-append so_far.marks marks (so_far.accepted t.0) t.2;
     answers = so_far.answers ++ answers;
     told = told_more answers marks are;
+    right = right_more answers right;
   }
 
   -- a fault came in settling it
@@ -364,6 +403,7 @@ module _ {D : Type 0} (old mid new : ServerView D) (start between now : State) (
       accepted = λ e n. absurd (not_none refusal n);
       answers = so_far.answers;
       told = told_cut;
+      right = right_cut;
     };
   }
 
@@ -390,6 +430,7 @@ settled_all old new start now s names first place before after last fine later s
         accepted = λ e n. so_far.accepted (told e).0;
         answers = so_far.answers;
         told = so_far.told;
+        right = so_far.right;
       };
     }
 
@@ -398,12 +439,13 @@ settled_all old new start now s names first place before after last fine later s
 -- a fault came before the next command
 abbrev cut_fault : {D : Type 0} (old mid : ServerView D) (start between : State) (s : Standing)
     (all commands others : List Command) (marks : List Bool) (answers : List Answer) (fine : Bool)
-    (refusal : Refusal) → AreAnswers answers commands marks → all ≡ commands ++ others
+    (refusal : Refusal) → AreAnswers answers commands marks
+    → AreRight old.view.journal.layout s commands answers → all ≡ commands ++ others
     → IsHonestDisk between → between.IsHonest
     → IsUnchanged between between → HasRun old mid start between s commands marks None
     → RunsThrough old mid start between s all fine (Some refusal)
-cut_fault old mid start between s all commands others marks answers fine refusal told split sound
-    honest still one =
+cut_fault old mid start between s all commands others marks answers fine refusal told right split
+    sound honest still one =
     let t : Standing = one.leaves.last in
     let two = (has_read mid mid between between t (Some refusal) sound refl refl honest still
     (one.leaves.going refl)).0 in
@@ -417,6 +459,7 @@ cut_fault old mid start between s all commands others marks answers fine refusal
       accepted = λ e n. absurd (not_none refusal n);
       answers = answers;
       told = answers-cut answers commands [] marks told;
+      right = right-cut old.view.journal.layout s commands [] answers right;
     }
 
 -- these withdrawals were run
@@ -432,6 +475,8 @@ pub record WithdrewSoFar {D : Type 0} (old new : ServerView D) (start now : Stat
   pub answers : List Answer
   -- each answer is told, in order
   pub told : AreAnswers answers commands marks
+  -- and rightly
+  pub right : AreRight old.view.journal.layout s commands answers
 
 module _ {D : Type 0} (old mid : ServerView D) (start between : State) (s : Standing)
     (names : List (List ℕ)) (i : ℕ) (fine : Bool)
@@ -442,7 +487,7 @@ module _ {D : Type 0} (old mid : ServerView D) (start between : State) (s : Stan
       → RunsThrough old mid start between s (withdraw_all names) fine (Some refusal)
   withdrew_cut refusal sound honest still =
       cut_fault old mid start between s (withdraw_all names) (withdraw_all (take i names))
-      (withdraw_all (drop i names)) one.marks one.answers fine refusal one.told
+      (withdraw_all (drop i names)) one.marks one.answers fine refusal one.told one.right
       (ap withdraw_all (sym (take-append-drop i names))
       ∙ map-append Withdraw (take i names) (drop i names))
       sound honest still one.run
@@ -460,6 +505,7 @@ module _ {D : Type 0} (old mid : ServerView D) (start between : State) (s : Stan
     accepted = λ e n. one.accepted e;
     answers = one.answers;
     told = one.told;
+    right = one.right;
   }
 
   module _ (new : ServerView D) (now : State) (n : List ℕ) (there : i < length names)
@@ -483,9 +529,11 @@ module _ {D : Type 0} (old mid : ServerView D) (start between : State) (s : Stan
     abbrev pub withdrew_next : (attempt : Attempt) (later : Bool)
         → ((t : Standing) → Holds mid.view t between → HasRun mid new between now t
         (Withdraw n ∷ []) (attempts.marks_of (Ok attempt)) None)
+        → ((t : Standing) → Holds mid.view t between
+        → IsRight mid.view.journal.layout t (Withdraw n) attempt)
         → (later ≡ true → (fine ≡ true) × (was_accepted attempt ≡ true))
         → WithdrewSoFar old new start now s (withdraw_all (take (i + 1) names)) later
-    withdrew_next attempt later run told =
+    withdrew_next attempt later run right told =
         let marks = attempts.marks_of (Ok attempt) in
         record {
           marks = one.marks ++ marks;
@@ -499,6 +547,15 @@ module _ {D : Type 0} (old mid : ServerView D) (start between : State) (s : Stan
               (answers-join one.answers (Withdrew n attempt ∷ []) (withdraw_all (take i names))
               (Withdraw n ∷ []) one.marks marks one.told (one.run.whole refl)
               (answer-withdrew n attempt));
+          right = subst (λ l. AreRight old.view.journal.layout s l
+              (one.answers ++ Withdrew n attempt ∷ [])) (sym withdraw_one_more)
+              (right-join old.view.journal.layout s one.run.leaves.last
+              (withdraw_all (take i names)) (Withdraw n ∷ []) one.marks one.answers
+              (Withdrew n attempt ∷ []) one.run.leaves.marked (one.run.whole refl) one.told
+              one.right (right-one old.view.journal.layout one.run.leaves.last (Withdraw n)
+              (Withdrew n attempt)
+              (subst (λ k. IsRight k one.run.leaves.last (Withdraw n) attempt) one.run.layout
+              (right one.run.leaves.last (one.run.leaves.going refl)))));
         }
 
     -- one more withdraw that a fault ended
@@ -519,6 +576,8 @@ module _ {D : Type 0} (old mid : ServerView D) (start between : State) (s : Stan
       answers = one.answers;
       told = answers-cut one.answers (withdraw_all (take i names)) (Withdraw n ∷ []) one.marks
           one.told;
+      right = right-cut old.view.journal.layout s (withdraw_all (take i names)) (Withdraw n ∷ [])
+          one.answers one.right;
     }
 
 -- a look that begins has withdrawn nothing
@@ -532,6 +591,7 @@ withdrew_none old start s fine sound honest still holds = record {
   accepted = λ e. tt;
   answers = [];
   told = refl;
+  right = no_answer s [];
 }
 
 -- ---- the look
@@ -601,6 +661,7 @@ look_cut old new start now s names gone first before after fine refusal are give
     accepted = runs.accepted;
     answers = runs.answers;
     told = runs.told;
+    right = runs.right;
   };
 }
 
@@ -642,6 +703,10 @@ look_on old mid new start between now s names gone first before after last fine 
         answers = one.answers ++ two.runs.answers;
         told = answers-join one.answers two.runs.answers one.commands two.runs.commands one.marks
             two.runs.marks one.told (one.run.whole refl) two.runs.told;
+        right = right-join old.view.journal.layout s t one.commands two.runs.commands one.marks
+            one.answers two.runs.answers one.run.leaves.marked (one.run.whole refl) one.told
+            one.right (subst (λ k. AreRight k t two.runs.commands two.runs.answers) one.run.layout
+            two.runs.right);
       };
     }
 

@@ -1,5 +1,5 @@
 -- What changes a carousel between its packets: where it is called, and what it tells of a call.
-use Rattle.std.specs.Prelude.{◌≡◌, Bool, true, false, List, Option}
+use Rattle.std.specs.Prelude.{Bool, true, false, List, Option}
 use Rattle.disk_model.specs.Disk.{State}
 use Rattle.mot_journal.specs.Image.{Standing}
 use Rattle.mot_numbers.specs.declared.refusal.Refusal.{Refusal}

@@ -1,7 +1,13 @@
 -- What a source learns of a look: what came of each command, in order.
-use Rattle.std.specs.Prelude.{◌≡◌, ℕ, Bool, true, false, List, [], ◌∷◌, ◌++◌}
+use Rattle.std.specs.Prelude.{◌≡◌, ◌⊎◌, ℕ, Bool, true, false, List, [], ◌∷◌, ◌++◌, Ok, Err}
+use Rattle.mot_journal.specs.Image.{Standing}
+use Rattle.mot_journal.specs.declared.layout.Layout.{Layout}
+use Rattle.mot_numbers.specs.declared.refusal.Refusal.{Refusal}
+use Rattle.mot_numbers.specs.declared.refusal.Refusal.TheVariants.{OutOfMemory}
 use Rattle.mot_objects.specs.declared.command.Command.{Command}
 use Rattle.mot_objects.specs.declared.command.Command.TheVariants as command
+use Rattle.mot_objects.specs.declared.command.Done.{Done}
+use Rattle.mot_repository.specs.Outcome.{after_command}
 use Rattle.mot_server.specs.declared.running.Attempt.{Attempt}
 use Rattle.mot_server.specs.declared.running.Attempt.TheVariants.{Accepted, Refused}
 use Rattle.mot_update.specs.declared.settling.Settled.{Settled}
@@ -47,6 +53,33 @@ AreAnswers [] commands (mark ∷ marks) = ⊥
 AreAnswers (answer ∷ answers) [] (mark ∷ marks) = ⊥
 AreAnswers (answer ∷ answers) (command ∷ commands) (mark ∷ marks) =
     IsAnswerTo answer command mark × AreAnswers answers commands marks
+
+-- what came of its command
+abbrev pub came_of : Answer → Attempt
+came_of (Withdrew name attempt) = attempt
+came_of (Put name attempt) = attempt
+came_of (Replaced name attempt) = attempt
+
+-- It is what comes of this command, on a disk of this layout that stands for this: the ids that it
+-- takes, or why it is refused. In the place of a refusal want of memory may be told.
+abbrev pub IsRight : Layout → Standing → Command → Attempt → Type 0
+IsRight layout s command (Accepted done) =
+    (next : Standing) × (after_command layout s command ≡ Ok (next, done))
+IsRight layout s command (Refused refusal) =
+    (after_command layout s command ≡ Err refusal) ⊎ (refusal ≡ OutOfMemory)
+
+-- each answer tells what comes of its command, behind those before it
+pub data AreRight (layout : Layout) : Standing → List Command → List Answer → Type 0 where
+  no_answer : (s : Standing) (commands : List Command) → AreRight layout s commands []
+  one_accepted : (s next : Standing) (command : Command) (commands : List Command)
+      (answer : Answer) (answers : List Answer) (done : Done) → came_of answer ≡ Accepted done
+      → after_command layout s command ≡ Ok (next, done) → AreRight layout next commands answers
+      → AreRight layout s (command ∷ commands) (answer ∷ answers)
+  one_refused : (s : Standing) (command : Command) (commands : List Command)
+      (answer : Answer) (answers : List Answer) (refusal : Refusal)
+      → came_of answer ≡ Refused refusal → IsRight layout s command (Refused refusal)
+      → AreRight layout s commands answers
+      → AreRight layout s (command ∷ commands) (answer ∷ answers)
 
 -- what was told goes on by these
 abbrev pub TellsMore : (List Answer → Type 0) → (List Answer → Type 0) → List Answer → Type 0

@@ -5,9 +5,9 @@ mod version;
 
 use disk_store::{SystemFiles, Unknown};
 use mot_air::{Station, is_air, run_air_on};
+use mot_commands::run_on;
 use mot_numbers::Refusal;
 use mot_outcome::{Exit, Subject, UsedDisk, refuse};
-use mot_program::run_on;
 use std::fs::File;
 use std::io::{BufWriter, ErrorKind, Write};
 use std::os::fd::AsRawFd;

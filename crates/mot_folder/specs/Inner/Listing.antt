@@ -1,22 +1,48 @@
 -- A folder while its names are listed.
-use Rattle.std.specs.Prelude.{◌≡◌, ℕ, List, [], ◌∷◌, ◌++◌}
+use Rattle.std.specs.Prelude.{◌≡◌, ◌≢◌, ◌⊎◌, ◌<◌, ◌≤◌, ℕ, List, [], ◌∷◌, ◌++◌, length}
 use Rattle.std.specs.List.{flat_map}
 use Rattle.mot_folder.specs.Listed.{AreEither, names_in, object_names, with_type}
+use Rattle.mot_folder.specs.declared.listing.TheConstants.{MAX_NAMES}
+use Rattle.mot_numbers.specs.declared.refusal.Refusal.{Refusal}
+use Rattle.mot_numbers.specs.declared.refusal.Refusal.TheVariants.{OutOfMemory, ReadFault}
+use Rattle.mot_numbers.specs.declared.refusal.Refusal.TheVariants.{TooManyObjects}
 use Rattle.mot_shelf.specs.Given.{Given}
 use Rattle.mot_suffixes.specs.Types.{SuffixType}
 
--- of these names each with one of the suffixes was asked for, and these are those of objects
-pub record IsSoFar (types : List SuffixType) (seen : List (List ℕ)) (given : Given)
+-- of these names so many have one of the suffixes, each of which was asked for, and these are those
+-- of objects
+pub record IsSoFar (types : List SuffixType) (seen : List (List ℕ)) (given : Given) (counted : ℕ)
     (names : List (List ℕ)) : Type 0 where
+  pub count : counted ≡ length (with_type types seen)
   pub asked : AreEither (with_type types seen) given.files given.others
   pub are : names ≡ object_names given.files
 
 -- these further names were seen
-abbrev pub GoesOn : List SuffixType → (seen : List (List ℕ)) → (old new : Given)
-    → (names after : List (List ℕ)) → Type 0
-GoesOn types more old new names after =
-    (seen : List (List ℕ)) → IsSoFar types seen old names
-    → IsSoFar types (seen ++ more) new after
+abbrev pub GoesOn : List SuffixType → (more : List (List ℕ)) → (old new : Given)
+    → (counted then_counted : ℕ) → (names after : List (List ℕ)) → Type 0
+GoesOn types more old new counted then_counted names after =
+    (seen : List (List ℕ)) → IsSoFar types seen old counted names
+    → IsSoFar types (seen ++ more) new then_counted after
+
+-- why a call of the system failed
+abbrev pub IsCallRefusal : Refusal → Type 0
+IsCallRefusal refusal = (refusal ≡ ReadFault) ⊎ (refusal ≡ OutOfMemory)
+
+-- why no more of these names are gone over: a call failed, or too many have one of the suffixes, or
+-- memory was wanted
+pub data IsWhyNot (types : List SuffixType) (seen : List (List ℕ)) (given : Given)
+    (refusal : Refusal) : Type 0 where
+  failed : refusal ≡ ReadFault → given.failed ≢ [] → IsWhyNot types seen given refusal
+  many : refusal ≡ TooManyObjects → MAX_NAMES < length (with_type types seen)
+      → IsWhyNot types seen given refusal
+  no_memory : refusal ≡ OutOfMemory → IsWhyNot types seen given refusal
+
+-- the same of further names, behind any
+abbrev pub StopsAt : List SuffixType → (more : List (List ℕ)) → (old new : Given)
+    → (counted : ℕ) → (names : List (List ℕ)) → Refusal → Type 0
+StopsAt types more old new counted names refusal =
+    (seen : List (List ℕ)) → IsSoFar types seen old counted names
+    → IsWhyNot types (seen ++ more) new refusal
 
 -- no file was read
 pub record IsUnread (old new : Given) : Type 0 where
@@ -29,15 +55,25 @@ pub record WereAsked (old new : Given) : Type 0 where
   pub unread : IsUnread old new
 
 -- it gave all further names
-pub record GivesAll (types : List SuffixType) (old new : Given) (names after : List (List ℕ)) :
-    Type 0 where
+pub record GivesAll (types : List SuffixType) (old new : Given)
+    (counted then_counted : ℕ) (names after : List (List ℕ)) : Type 0 where
   pub pieces : List (List ℕ)
   pub whole : new.listed ≡ old.listed ++ (pieces ++ [] ∷ [])
-  pub goes : GoesOn types (flat_map names_in pieces) old new names after
+  pub goes : GoesOn types (flat_map names_in pieces) old new counted then_counted names after
 
 -- so it gives names, so far
-pub record GivesSome (types : List SuffixType) (old new : Given) (names after : List (List ℕ)) :
-    Type 0 where
+pub record GivesSome (types : List SuffixType) (old new : Given)
+    (counted then_counted : ℕ) (names after : List (List ℕ)) : Type 0 where
   pub pieces : List (List ℕ)
   pub so_far : new.listed ≡ old.listed ++ pieces
-  pub goes : GoesOn types (flat_map names_in pieces) old new names after
+  pub goes : GoesOn types (flat_map names_in pieces) old new counted then_counted names after
+
+-- or it gives no further ones: a call of it failed, or such names as were gone over last, or names
+-- without an end
+pub data GivesNoMore (types : List SuffixType) (old new : Given) (counted : ℕ)
+    (names : List (List ℕ)) (refusal : Refusal) : Type 0 where
+  stops : (pieces : List (List ℕ)) → new.listed ≡ old.listed ++ pieces
+      → StopsAt types (flat_map names_in pieces) old new counted names refusal
+      → GivesNoMore types old new counted names refusal
+  endless : refusal ≡ ReadFault → 18446744073709551615 ≤ length new.listed
+      → GivesNoMore types old new counted names refusal

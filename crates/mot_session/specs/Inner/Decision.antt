@@ -1,10 +1,15 @@
 -- What the server decides, before it is written.
-use Rattle.std.specs.Prelude.{◌≡◌, List, [], Result, Ok, IsFalse, if◌then◌else◌, Bool, true, false}
+use Rattle.std.specs.Prelude.{◌≡◌, List, [], Result, Ok, IsTrue, IsFalse, if◌then◌else◌, Bool}
+use Rattle.std.specs.Prelude.{true, false}
+use Rattle.disk_model.specs.Disk.{State, IsUnchanged, KeepsLength, Throughout}
+use Rattle.mot_journal.specs.Image.{Standing}
 use Rattle.mot_lines.specs.declared.line.Line.{Line}
 use Rattle.mot_lines.specs.declared.line.Line.TheVariants as asks
 use Rattle.mot_numbers.specs.declared.refusal.Refusal.{Refusal}
 use Rattle.mot_numbers.specs.Refusal.{is_device_fault}
 use Rattle.mot_objects.specs.declared.command.Command as command
+use Rattle.mot_repository.specs.Repository.{Holds, RepositoryView}
+use Rattle.mot_server.specs.Runs.{StandsAfterSome}
 use Rattle.mot_session.specs.declared.deciding.Decision.{Decision}
 use Rattle.mot_session.specs.declared.deciding.Decision.TheVariants.{Refused, Accepted, Listing}
 use Rattle.mot_session.specs.declared.deciding.Decision.TheVariants.{Packets, Next, Turn}
@@ -38,3 +43,12 @@ may_be_done Turn = false
 
 abbrev pub written_by : Decision → Result Line Refusal → List command.Command
 written_by decision request = if may_be_done decision then command_in request else []
+
+-- At most these commands were written: at each moment a crash leaves the carousel from before, or
+-- after them. On a halted server nothing changes, and the disk keeps its length.
+pub record MayWrite (old new : RepositoryView) (start now : State)
+    (commands : List command.Command) : Type 0 where
+  pub crosses : (s : Standing) → Holds old s start
+      → Throughout start now (StandsAfterSome s [] commands)
+  pub halted : IsTrue old.halted → (new ≡ old) × IsUnchanged start now
+  pub keeps : KeepsLength start now

@@ -1,15 +1,19 @@
 -- What a call that writes did. The writer's known bytes were old and are new.
-use Rattle.std.specs.Prelude.{ℕ, ◌≡◌, Bool, ◌||◌, List, [], ◌++◌, Option, Some, None, Result}
+use Rattle.std.specs.Prelude.{ℕ, ◌≡◌, Bool, true, false, ◌||◌, List, [], ◌++◌, Option, Some}
+use Rattle.std.specs.Prelude.{None, Result, if◌then◌else◌}
 use Rattle.std.specs.Prelude.{Ok}
 use Rattle.std.specs.Prelude.{Err}
 use Rattle.std.specs.Prelude.{IfOk, IsTrue, IsFalse}
 use Rattle.std.specs.Io.KnownBytes.{Appends}
 use Rattle.disk_model.specs.Disk.{State, IsUnchanged, OnlyReads, Throughout}
+use Rattle.disk_model.specs.Failures.{Rises}
 use Rattle.mot_lines.specs.declared.line.Line.{Line}
 use Rattle.mot_lines.specs.Line.{line_of}
 use Rattle.mot_lines.specs.Text.{refusal_line}
 use Rattle.mot_numbers.specs.declared.refusal.Refusal.{Refusal}
 use Rattle.mot_numbers.specs.declared.refusal.Refusal.TheVariants.{DeviceFault}
+use Rattle.mot_numbers.specs.Refusal.{is_device_fault}
+use Rattle.mot_objects.specs.declared.command.Command.{Command}
 use Rattle.mot_packets.specs.Packet.{read_packet}
 use Rattle.mot_packets.specs.Written.{bytes_of_packet}
 use Rattle.mot_player.specs.Place.{Sent, request}
@@ -17,11 +21,11 @@ use Rattle.mot_server.specs.Runs.{StandsAfterSome}
 use Rattle.mot_server.specs.Server.{ServerView}
 use Rattle.mot_session.specs.declared.serving.output.WriteFault.{WriteFault}
 use Rattle.mot_session.specs.Output.{Writes}
-use Rattle.mot_session.specs.Played.{FailsToSend, sent_line}
+use Rattle.mot_session.specs.Played.{sent_line}
 use Rattle.mot_session.specs.Served.{BrokenOff}
-use Rattle.mot_session.specs.Session.{Reply, Answers, Exchange, text_of}
-use Rattle.mot_session.specs.State.{KeepsCarousel, ServerState}
-use Rattle.mot_session.specs.Stored.{accepted_in, failed_in, is_accepting, is_failing}
+use Rattle.mot_session.specs.Session.{Reply, Answers, Exchange, accepted, refused, text_of}
+use Rattle.mot_session.specs.State.{KeepsCarousel, ServerState, Stays}
+use Rattle.mot_session.specs.Stored.{command_in}
 
 -- a request was answered, and the whole reply was written
 pub record Answered (before : ServerState) (request : Result Line Refusal) (reply : Reply)
@@ -36,6 +40,21 @@ AnswersWith (Ok done) before request reply after old new =
     Answered before request reply after old new
 AnswersWith (Err fault) before request reply after old new =
     BrokenOff before request reply after old new
+
+abbrev pub is_accepting : Reply → Bool
+is_accepting (accepted d) = true
+is_accepting reply = false
+
+abbrev pub is_failing : Reply → Bool
+is_failing (refused r) = is_device_fault r
+is_failing reply = false
+
+-- the command that a reply accepts, and the one that a device fault cut off
+abbrev pub accepted_in : Exchange → List Command
+accepted_in x = if is_accepting x.reply then command_in (line_of x.line) else []
+
+abbrev pub failed_in : Exchange → List Command
+failed_in x = if is_failing x.reply then command_in (line_of x.line) else []
 
 -- a reply behind which a command may be done
 abbrev pub may_have_done : Reply → Bool
@@ -69,6 +88,11 @@ pub record SendsOne (before : ServerState) (sent : Sent) (after : ServerState) :
   pub read : read_packet (bytes_of_packet sent.packet) ≡ Some sent.packet
   pub place : after.place ≡ sent.place
   pub keeps : KeepsCarousel before after
+
+-- a request failed, since a body could not be read; nothing changed, and the next one tries again
+pub record FailsToSend (before after : ServerState) : Type 0 where
+  pub rises : Rises before.failures after.failures
+  pub stays : Stays before after
 
 -- a request of a packet was made, and the line of what came was written: the packet's, with whether
 -- it ends the turn, or the device fault's

@@ -1,36 +1,34 @@
-use Rattle.std.proofs.Common.{◌≡◌, Result, Ok, Err, inl, inr, refl, subst}
-use Rattle.std.specs.Prelude.{◌⊎◌, IfErr, OnOk}
-use Rattle.mot_air.specs.Program.{stopped, unplaced}
+use Rattle.std.proofs.Common.{◌≡◌, ◌⊎◌, List, ℕ, Result, Ok, Err, ap, inl, inr, refl, subst, sym}
+use Rattle.std.proofs.Common.{Some}
+use Rattle.disk_model.specs.Disk.{State}
+use Rattle.mot_air.specs.Playing.{Manner, Plays, Tale}
+use Rattle.mot_air.specs.Program.{PlaysInto}
 use Rattle.mot_air.proofs.on_air.play_new_file.Goals as goal
+use Rattle.mot_endpoints.specs.declared.packets.Target.TheVariants.{File}
 use Rattle.mot_numbers.specs.declared.refusal.Refusal.{Refusal}
 use Rattle.mot_numbers.specs.declared.refusal.Refusal.TheVariants.{WriteFault}
+use Rattle.mot_server.specs.Attempts.{fault_of}
 
--- what ended well was played
-all_played : (P : Type 0) (a b : Result Unit Refusal) → OnOk b (IfErr a (λ e. ⊥)) → OnOk a P
-    → OnOk b P
-all_played P a (Err e) fine p = tt
-all_played P (Ok x) (Ok y) fine p = p
-all_played P (Err e) (Ok y) fine p = absurd fine
+-- what was played took its place, or did not
+placed : (tale : Tale) (how : Manner) (first begun taken : List (List ℕ)) (start now : State)
+    (a b : Result Unit Refusal) → first ≡ begun
+    → (b ≡ a) ⊎ ((a ≡ Ok tt) × (b ≡ Err WriteFault))
+    → Plays tale how (fault_of a) (Some first) (Some taken) start now
+    → PlaysInto File tale how (fault_of b) begun taken start now
+placed tale how first begun taken start now a b begins came plays =
+    subst (λ (l : List (List ℕ)). PlaysInto File tale how (fault_of b) l taken start now) begins
+    (elim came [
+      | inl same ↦ inl (subst (λ (r : Result Unit Refusal). Plays tale how (fault_of r) (Some first)
+          (Some taken) start now) (sym same) plays)
+      | inr lost ↦ inr (
+        refl,
+        ap (λ (r : Result Unit Refusal). fault_of r) lost.1,
+        subst (λ (r : Result Unit Refusal). Plays tale how (fault_of r) (Some first) (Some taken)
+            start now) lost.0 plays,
+      )
+    ])
 
--- and what did not was not, or had no place
-not_played : (P : Type 0) (Q R : Refusal → Type 0) (a b : Result Unit Refusal)
-    → IfErr b (λ r. (a ≡ Err r) ⊎ ((r ≡ WriteFault) × IfErr a (λ e. ⊥)))
-    → OnOk a P → IfErr a Q → ((r : Refusal) → Q r → R r)
-    → ((r : Refusal) → r ≡ WriteFault → P → R r) → IfErr b R
-not_played P Q R a (Ok y) why p q f g = tt
-not_played P Q R a (Err r) (inl same) p q f g = f r (subst (λ x. IfErr x Q) same q)
-not_played P Q R (Ok x) (Err r) (inr fault) p q f g = g r fault.0 p
-not_played P Q R (Err e) (Err r) (inr fault) p q f g = absurd fault.1
-
-pub returns-clause-done : goal.returns-clause-done
-returns-clause-done g c =
-    rw (← c.writer.ensures)
-    (all_played _ c.play_writer-ended.result.ended.result c.placed-result.result.0 c.placed-result.ensures.ok
-    c.play_writer-ended.ensures.done)
-
-pub returns-clause-refused : goal.returns-clause-refused
-returns-clause-refused g c =
-    rw (← c.writer.ensures)
-    (not_played _ _ _ c.play_writer-ended.result.ended.result c.placed-result.result.0 c.placed-result.ensures.fault
-    c.play_writer-ended.ensures.done c.play_writer-ended.ensures.refused (λ r stops. stopped stops)
-    (λ r same plays. unplaced refl same plays))
+pub returns : goal.returns
+returns g c =
+    placed _ _ _ _ _ _ _ c.play_writer-ended.result.ended.result c.placed-result.result.0
+    c.writer.ensures c.placed-result.ensures c.play_writer-ended.ensures

@@ -11,8 +11,8 @@ returns-in_err-looked-clause-looked g c = λ s holds honest.
     (same_error c.from_residual.result c.in_err-looked.field-0.0 c.from_residual.ensures.1)
     (c.in_err-looked.ensures.looked s holds honest)
 
-pub returns-in_err-looked-clause-fault : goal.returns-in_err-looked-clause-fault
-returns-in_err-looked-clause-fault g c =
+pub returns-in_err-looked-clause-faults : goal.returns-in_err-looked-clause-faults
+returns-in_err-looked-clause-faults g c =
     rw (same_error c.from_residual.result c.in_err-looked.field-0.0 c.from_residual.ensures.1)
     (inl c.in_err-looked.ensures.faults)
 
@@ -23,8 +23,8 @@ returns-in_err-told-clause-looked g c = λ s holds honest.
     c.from_residual-in_err-told.ensures.1 ∙ ap Err c.in_err-told.ensures.fault)
     (c.in_ok-looked.ensures.looked s holds honest)
 
-pub returns-in_err-told-clause-fault : goal.returns-in_err-told-clause-fault
-returns-in_err-told-clause-fault g c =
+pub returns-in_err-told-clause-faults : goal.returns-in_err-told-clause-faults
+returns-in_err-told-clause-faults g c =
     rw (same_error c.from_residual-in_err-told.result c.in_err-told.field-0.0
     c.from_residual-in_err-told.ensures.1)
     (inr (unwritten c.in_err-told.ensures.fault c.in_ok-looked.ensures.faults.failures))

@@ -1,42 +1,42 @@
-use Rattle.std.proofs.Common.{◌≡◌, ◌⊎◌, Ok, inr, subst, sym, true}
-use Rattle.std.specs.Prelude.{IfErr}
-use Rattle.std.proofs.lemmas.Result.{on_ok_weaker}
+use Rattle.std.proofs.Common.{◌≡◌, refl, subst, sym, true}
+use Rattle.std.specs.Prelude.{None}
+use Rattle.disk_model.specs.Disk.{State}
 use Rattle.disk_store.proofs.Laws.{since_opened}
-use Rattle.mot_air.proofs.Begun.{done-is, refused-is}
+use Rattle.disk_store.specs.Begun.{begun_state}
+use Rattle.mot_air.proofs.Begun.{both_ways, concludes}
 use Rattle.mot_air.proofs.program.inspect_file.Goals as goal
-use Rattle.mot_numbers.specs.declared.refusal.Refusal.TheVariants.{DeviceFault}
-use Rattle.mot_outcome.proofs.Laws.{IfErr-one}
-use Rattle.mot_outcome.specs.Outcome.{IsUntold, OnOpened}
+use Rattle.mot_air.specs.Inner.Concluded.{ConcludesTask}
+use Rattle.mot_air.specs.Program.{Ends, IsBeginningRefusal}
+use Rattle.mot_cli.specs.declared.air.task.AirTask.{AirTask}
+use Rattle.mot_cli.specs.declared.air.task.AirTask.TheVariants.{Inspect}
+use Rattle.mot_numbers.specs.declared.refusal.Refusal.{Refusal}
+use Rattle.mot_outcome.specs.Outcome.{OnOpened}
 use Rattle.mot_outcome.specs.declared.used.UsedDisk.TheVariants.{OfFile}
-use Rattle.mot_reading.specs.Inspecting.{Inspects, StopsInspecting}
+use Rattle.mot_export.specs.Inspecting.{Inspects, StopsInspecting}
 
-pub returns-in-Ok-clause-done : goal.returns-in-Ok-clause-done
-returns-in-Ok-clause-done g c =
+pub returns-in-Ok-clause-ended : goal.returns-in-Ok-clause-ended
+returns-in-Ok-clause-ended g c =
     let ended = c.inspect_disk-ended.result in
     let old = g.W.Write.contents c.args.writer.now in
     let new = g.W.Write.contents c.inspect_disk-ended.new.writer in
-    subst (λ (f : _). f.result ≡ Ok true → OnOpened (Inspects c.args.rate old new) f.disk)
-    (sym c.of_file.ensures) (λ is.
-    subst (λ (d : _). OnOpened (Inspects c.args.rate old new) (OfFile d.disk c.nothing.result))
-    (sym c.answered.ensures.disk) (done-is true ended.result c.answered.result.result
-    (on_ok_weaker ended.result (since_opened c.in-Ok.disk.disk ended.disk.disk
-    (Inspects c.args.rate old new)
-    c.in-Ok.ensures.first ended.disk.begins c.inspect_disk-ended.ensures.keeps)
-    c.inspect_disk-ended.ensures.done) c.answered.ensures.refused is))
-
-pub returns-in-Ok-clause-refused : goal.returns-in-Ok-clause-refused
-returns-in-Ok-clause-refused g c =
-    let ended = c.inspect_disk-ended.result in
-    let old = g.W.Write.contents c.args.writer.now in
-    let new = g.W.Write.contents c.inspect_disk-ended.new.writer in
-    subst (λ (f : _). IfErr f.result (λ r. ((r ≡ DeviceFault) × IsUntold f.disk old new)
-    ⊎ OnOpened (StopsInspecting c.args.rate r old new) f.disk)) (sym c.of_file.ensures)
-    (subst (λ (d : _). IfErr c.answered.result.result (λ r. ((r ≡ DeviceFault)
-    × IsUntold (OfFile d.disk c.nothing.result) old new)
-    ⊎ OnOpened (StopsInspecting c.args.rate r old new) (OfFile d.disk c.nothing.result)))
-    (sym c.answered.ensures.disk)
-    (refused-is _ true ended.result c.answered.result.result c.answered.ensures.done
-    c.answered.ensures.refused (IfErr-one ended.result (λ r p. inr (since_opened
-    c.in-Ok.disk.disk ended.disk.disk (StopsInspecting c.args.rate r old new)
-    c.in-Ok.ensures.first ended.disk.begins c.inspect_disk-ended.ensures.keeps p))
-    c.inspect_disk-ended.ensures.refused)))
+    let task : AirTask = Inspect c.args.path c.args.rate in
+    let whole : State → State → Type 0 = Inspects c.args.rate old new in
+    let part : Refusal → State → State → Type 0 = λ r. StopsInspecting c.args.rate r old new in
+    let start = begun_state c.in-Ok.disk in
+    let now = begun_state ended.disk in
+    subst (λ (f : _). ConcludesTask task f.result f.disk old new) (sym c.of_file.ensures)
+    (subst (λ (d : _). ConcludesTask task c.answered.result.result (OfFile d.disk c.nothing.result)
+    old new) (sym c.answered.ensures.disk)
+    (let used = OfFile ended.disk.disk c.nothing.result in
+    concludes (IsBeginningRefusal task) (λ all ending. Ends task all ending used None None old new)
+    used old new true ended.result c.answered.result.result c.answered.ensures.answer
+    (both_ways (whole start now) ((true ≡ true) × OnOpened whole used) (λ r. part r start now)
+    (λ r. OnOpened (part r) used) ended.result
+    (λ p. (
+      refl,
+      since_opened c.in-Ok.disk.disk ended.disk.disk whole
+          c.in-Ok.ensures.first ended.disk.begins c.inspect_disk-ended.ensures.keeps p,
+    ))
+    (λ r p. since_opened c.in-Ok.disk.disk ended.disk.disk (part r)
+    c.in-Ok.ensures.first ended.disk.begins c.inspect_disk-ended.ensures.keeps p)
+    c.inspect_disk-ended.ensures.done c.inspect_disk-ended.ensures.refused)))

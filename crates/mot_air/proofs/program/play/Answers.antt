@@ -1,88 +1,90 @@
-use Rattle.std.proofs.Common.{◌≡◌, ◌⊎◌, ℕ, List, [], ◌∷◌, ◌++◌, Option, inl, inr, subst, sym}
-use Rattle.std.specs.Prelude.{IfErr, codes}
+use Rattle.std.proofs.Common.{◌≡◌, ◌⊎◌, ◌∙◌, ◌-◌, ℕ, List, [], ◌∷◌, ◌++◌, Option, Some, None, Result, Bool, ap, inl, inr, refl, subst}
+use Rattle.std.proofs.Common.{sym}
+use Rattle.std.specs.Prelude.{IfSome, codes, option_map, unwrap_or}
+use Rattle.std.specs.Borrow.{Bor}
 use Rattle.disk_store.specs.declared.file.start.Start.{Ghosts}
-use Rattle.mot_air.specs.Program.{OpensFor, PlaysTo, StopsPlayingAsked, StopsPlayingTo, played_as}
+use Rattle.mot_air.specs.Inner.Concluded.{Concludes, ConcludesTask}
+use Rattle.mot_air.specs.Program.{OpensFor, PlaysTo, played_as, watch_asked}
+use Rattle.mot_air.specs.Telling.{tale_with}
 use Rattle.mot_folder.specs.Looked.{Watch}
 use Rattle.mot_numbers.specs.declared.refusal.Refusal.{Refusal}
 use Rattle.mot_outcome.specs.declared.used.UsedDisk.{UsedDisk}
-use Rattle.mot_words.specs.declared.air.task.PlayTask.{PlayTask}
-use Rattle.mot_outcome.specs.Outcome.{IsUntold}
+use Rattle.mot_cli.specs.declared.air.task.PlayTask.{PlayTask}
 use Rattle.std.proofs.KnownBytes.{Keeps-refl}
-use Rattle.mot_outcome.proofs.Laws.{IfErr-one}
+use Rattle.mot_air.proofs.Begun.{concludes_task}
 use Rattle.mot_air.proofs.Used.{begun_after, begun_first, opened_after}
 use Rattle.mot_air.proofs.program.play.Goals as goal
-use Rattle.mot_files.specs.Lines.{IsUnlined}
-use Rattle.mot_files.specs.Opened.{named}
-use Rattle.mot_files.specs.Types.{IsUntyped}
+use Rattle.mot_endpoints.specs.Opened.{named}
+use Rattle.mot_endpoints.specs.declared.lines.LineFolder.{LineFolder}
+use Rattle.mot_endpoints.specs.Types.{IsTyped}
+use Rattle.mot_suffixes.specs.Types.{SuffixType}
 use Rattle.mot_numbers.specs.declared.refusal.Refusal.TheVariants.{DeviceFault, WriteFault}
-use Rattle.mot_words.specs.declared.air.task.AirTask.TheVariants.{Play}
+use Rattle.mot_cli.specs.declared.air.task.AirTask.TheVariants.{Play}
 
 -- the same folder and lines, told of the words
-module _ {S : Type 0} {start : Ghosts S} (task : PlayTask) (used : UsedDisk S start)
-    {w v : Option Watch} {h k : Option (List ℕ)} (same : w ≡ v) (held : h ≡ k) where
-  plays_asked : PlaysTo task w h used → PlaysTo task v k used
-  plays_asked plays = subst (λ x. PlaysTo task x k used) same
-      (subst (λ x. PlaysTo task w x used) held plays)
+asked : {S : Type 0} {start : Ghosts S} (task : PlayTask) (used : UsedDisk S start)
+    {w v : Option Watch} {h k : Option (List ℕ × ℕ)} (ending : Option Refusal) → w ≡ v → h ≡ k
+    → PlaysTo task (tale_with w h (played_as task)) ending used
+    → PlaysTo task (tale_with v k (played_as task)) ending used
+asked task used {w} {v} {h} {k} ending same held plays =
+    subst (λ x. PlaysTo task (tale_with x k (played_as task)) ending used) same
+    (subst (λ x. PlaysTo task (tale_with w x (played_as task)) ending used) held plays)
 
-  stops_asked : (r : Refusal) → StopsPlayingTo task w h r used → StopsPlayingTo task v k r used
-  stops_asked r stops = subst (λ x. StopsPlayingTo task x k r used) same
-      (subst (λ x. StopsPlayingTo task w x r used) held stops)
-
-pub returns-in-Err-clause-refused : goal.returns-in-Err-clause-refused
-returns-in-Err-clause-refused g c =
-    let task = c.args.task in
+pub returns-in-Err-clause-ended : goal.returns-in-Err-clause-ended
+returns-in-Err-clause-ended g c =
     let old = g.W.Write.contents c.args.writer.now in
-    subst (λ (f : _). IfErr f.result (λ r.
-    ((IsUntyped task.types r ⊎ IsUnlined task.lines r ⊎ (r ≡ DeviceFault) ⊎ (r ≡ WriteFault))
-    × IsUntold f.disk old old) ⊎ StopsPlayingAsked task r f.disk))
+    subst (λ (f : _). ConcludesTask (Play c.args.task) f.result f.disk old old)
     (sym c.unbegun.ensures)
     (inl (inl c.in-Err.ensures.refused, record { untouched = tt; silent = Keeps-refl _ }))
 
-pub returns-in-Err-line_folder-clause-refused : goal.returns-in-Err-line_folder-clause-refused
-returns-in-Err-line_folder-clause-refused g c =
-    let task = c.args.task in
+pub returns-in-Err-line_folder-clause-ended : goal.returns-in-Err-line_folder-clause-ended
+returns-in-Err-line_folder-clause-ended g c =
     let old = g.W.Write.contents c.args.writer.now in
-    subst (λ (f : _). IfErr f.result (λ r.
-    ((IsUntyped task.types r ⊎ IsUnlined task.lines r ⊎ (r ≡ DeviceFault) ⊎ (r ≡ WriteFault))
-    × IsUntold f.disk old old) ⊎ StopsPlayingAsked task r f.disk))
+    subst (λ (f : _). ConcludesTask (Play c.args.task) f.result f.disk old old)
     (sym c.unbegun-in-Err-line_folder.ensures) (inl (
       inr (inl c.in-Err-line_folder.ensures.refused),
       record { untouched = tt; silent = Keeps-refl _ },
     ))
 
-pub returns-clause-done : goal.returns-clause-done
-returns-clause-done g c = λ is.
-    let task = c.args.task in
-    let used = c.play_file.result.disk in (
-      c.in-Ok.types,
-      c.in-Ok.ensures.typed,
-      plays_asked task used (c.followed-folder.ensures.given (played_as task))
-          c.in-Ok-line_folder.ensures.hand (c.play_file.ensures.done is),
-    )
+-- the lines that are read are those of the words
+reads_asked : (eight : ℕ) (every : Option ℕ) (path : Option (Bor (List ℕ)))
+    (lines : Option LineFolder) → option_map (λ (l : LineFolder). l.hand) lines
+    ≡ option_map (λ _. []) path
+    → IfSome lines (λ (l : LineFolder). l.every ≡ unwrap_or every eight)
+    → option_map {U = List ℕ × ℕ} (λ (l : LineFolder). (l.hand, l.every - 1)) lines
+    ≡ option_map {U = List ℕ × ℕ} (λ _. ([], unwrap_or every eight - 1)) path
+reads_asked eight every None None same is = refl
+reads_asked eight every (Some path) None same is = absurd (let e : None ≡ Some [] = same in cc)
+reads_asked eight every None (Some lines) same is = absurd (let e : Some lines.hand ≡ None = same in cc)
+reads_asked eight every (Some path) (Some lines) same is =
+    let with_count : ℕ → Option (List ℕ × ℕ) = λ n. Some (lines.hand, n - 1) in
+    ap with_count is
+    ∙ ap (λ (h : Option (List ℕ)). option_map {U = List ℕ × ℕ} (λ (x : List ℕ). (x, unwrap_or every eight - 1)) h) same
 
-pub returns-clause-told : goal.returns-clause-told
-returns-clause-told g c = λ is.
-    let task = c.args.task in
-    let used = c.play_file.result.disk in (
-      c.in-Ok.types,
-      c.in-Ok.ensures.typed,
-      plays_asked task used (c.followed-folder.ensures.given (played_as task))
-          c.in-Ok-line_folder.ensures.hand (c.play_file.ensures.told is),
-    )
+-- what was played is told of the words
+played : {S : Type 0} {start : Ghosts S} (task : PlayTask) (table : List SuffixType)
+    (used : UsedDisk S start) (old new : Option (List ℕ)) (result : Result Bool Refusal)
+    (w : Option Watch) (hand : Option (List ℕ × ℕ)) → IsTyped task.types table
+    → w ≡ watch_asked table task
+    → hand ≡ option_map (λ path. ([], unwrap_or task.every 8 - 1)) task.lines
+    → Concludes (λ r. (r ≡ DeviceFault) ⊎ (r ≡ WriteFault)) (λ all ending.
+    PlaysTo task (tale_with w hand (played_as task)) ending used) result used old new
+    → ConcludesTask (Play task) result used old new
+played task table used old new result w hand typed same held plays =
+    concludes_task (Play task) (λ r. (r ≡ DeviceFault) ⊎ (r ≡ WriteFault)) (λ all ending.
+    PlaysTo task (tale_with w hand (played_as task)) ending used) used old new result
+    (λ r early. inr (inr early))
+    (λ all ending so. (table, typed, asked task used ending same held so)) plays
 
-pub returns-clause-refused : goal.returns-clause-refused
-returns-clause-refused g c =
-    let task = c.args.task in
-    let ended = c.play_file.result in
-    IfErr-one ended.result (λ r why. elim why [
-      | inl early ↦ inl (inr (inr early.0), early.1)
-      | inr stops ↦ inr (
-        c.in-Ok.types,
-        c.in-Ok.ensures.typed,
-        stops_asked task ended.disk (c.followed-folder.ensures.given (played_as task))
-            c.in-Ok-line_folder.ensures.hand r stops,
-      )
-    ]) c.play_file.ensures.refused
+pub returns-clause-ended : goal.returns-clause-ended
+returns-clause-ended g c =
+    played c.args.task c.in-Ok.types c.play_file.result.disk
+    (g.W.Write.contents c.args.writer.now) (g.W.Write.contents c.play_file.new.writer)
+    c.play_file.result.result _ _ c.in-Ok.ensures.typed
+    (c.followed-folder.ensures.given (played_as c.args.task)) (reads_asked 8 c.args.task.every
+    c.args.task.lines c.in-Ok-line_folder.lines c.in-Ok-line_folder.ensures.hand
+    c.in-Ok-line_folder.ensures.every)
+    c.play_file.ensures.ended
 
 pub returns-in-Err-clause-opens : goal.returns-in-Err-clause-opens
 returns-in-Err-clause-opens g c =

@@ -1,68 +1,67 @@
-use Rattle.std.proofs.Common.{◌≡◌, ◌∙◌, ◌⊎◌, arith, Ok, Some, None, ap, inl, inr, refl}
-use Rattle.std.proofs.Common.{subst, sym}
+use Rattle.std.proofs.Common.{◌∙◌, Bool, Ok, Result, None, ap, false, inl, inr}
+use Rattle.std.proofs.Common.{refl, subst, sym, true}
 use Rattle.std.proofs.KnownBytes.{Keeps-refl}
-use Rattle.std.specs.Prelude.{IfErr}
-use Rattle.mot_air.specs.Program.{DoesInPart, IsBeginningRefusal, OpensFor}
+use Rattle.mot_air.specs.Inner.Concluded.{ConcludesTask}
+use Rattle.mot_air.specs.Program.{AskForNothing, Ends, IsBeginningRefusal, OpensFor}
 use Rattle.mot_air.proofs.program.run_command.Goals as goal
+use Rattle.mot_numbers.specs.declared.refusal.Refusal.{Refusal}
 use Rattle.mot_numbers.specs.declared.refusal.Refusal.TheVariants.{BadNumber}
-use Rattle.mot_outcome.specs.Outcome.{IsRefused, IsUntold, IsUntouched, UsesFiles}
-use Rattle.mot_outcome.specs.Outcome.IsRefused.{begun, no_task, unbegun}
+use Rattle.mot_outcome.specs.Outcome.{ComesTo, IsUntold, IsUntouched, UsesFiles}
+use Rattle.mot_outcome.specs.Outcome.ComesTo.{begun, no_task, unbegun, wrong}
 use Rattle.mot_outcome.specs.Outcome.UsesFiles.{asked}
-use Rattle.mot_words.specs.Air.Task.{IsAirTask}
+use Rattle.mot_cli.specs.Air.Task.{IsAirTask}
 
-pub returns-in_default-clause-refused : goal.returns-in_default-clause-refused
-returns-in_default-clause-refused g c = λ words asks z. elim c.tell_no_task.ensures.told [
-  | inl one ↦ no_task one.1 (λ task asked. c.in_default.ensures.none task ((asks task).0 asked))
-      (record {
-        untouched = subst (λ (d : _). IsUntouched d) (sym c.tell_no_task.ensures.untouched) tt;
-        silent = Keeps-refl _;
-      }) tt
-  | inr two ↦ absurd (let e : 1 ≡ 2 = sym z ∙ two in omega (arith, e))
-]
+pub returns-in_default-clause-ended : goal.returns-in_default-clause-ended
+returns-in_default-clause-ended g c = λ words asks.
+    let old = g.W.Write.contents c.args.writer.now in
+    let untold : IsUntold c.tell_no_task.result.disk old old = record {
+      untouched = subst (λ (d : _). IsUntouched d) (sym c.tell_no_task.ensures.untouched) tt;
+      silent = Keeps-refl _;
+    } in
+    elim c.tell_no_task.ensures.told [
+      | inl one ↦ no_task (λ task asked. c.in_default.ensures.none task ((asks task).0 asked))
+          (one.0, one.1, untold, tt)
+      | inr two ↦ wrong (inr (λ task asked. c.in_default.ensures.none task ((asks task).0 asked)))
+          (two.0, two.1, untold, tt)
+    ]
 
-pub returns-in_default-clause-status : goal.returns-in_default-clause-status
-returns-in_default-clause-status g c = elim c.tell_no_task.ensures.told [
-  | inl one ↦ inr (inl one.0)
-  | inr two ↦ inr (inr two)
-]
-
-pub returns-in_default-clause-done : goal.returns-in_default-clause-done
-returns-in_default-clause-done g c = λ words asks z. elim c.tell_no_task.ensures.told [
-  | inl one ↦ absurd (let e : 0 ≡ 1 = sym z ∙ one.0 in omega (arith, e))
-  | inr two ↦ absurd (let e : 0 ≡ 2 = sym z ∙ two in omega (arith, e))
-]
-
-pub returns-in_default-clause-usage : goal.returns-in_default-clause-usage
-returns-in_default-clause-usage g c = λ words asks z. (
-  inr (λ task asked. c.in_default.ensures.none task ((asks task).0 asked)),
-  subst (λ (d : _). IsUntouched d) (sym c.tell_no_task.ensures.untouched) tt,
-  Keeps-refl _,
-)
-
-pub returns-in-Ok-false-clause-refused : goal.returns-in-Ok-false-clause-refused
-returns-in-Ok-false-clause-refused g c = λ words asks.
+pub returns-in-Ok-true-clause-ended : goal.returns-in-Ok-true-clause-ended
+returns-in-Ok-true-clause-ended g c = λ words asks.
     let old = g.W.Write.contents c.args.writer.now in
     let new = g.W.Write.contents c.execute-result.new.writer in
     let task = c.in-Some.task in
-    subst (λ (e : _). e.status ≡ 1 → IsRefused IsAirTask BadNumber IsBeginningRefusal DoesInPart
-    words e.refusal e.disk None None old new) (sym c.unrefused-in-Ok-false.ensures) (λ z.
-    begun task ((asks task).1 c.in-Some.ensures.some)
-    (c.execute-result.ensures.told (c.in-Ok-false.is ∙ ap Ok c.in-Ok-false.field-0-test)))
+    let used = c.execute-result.result.disk in
+    subst (λ (e : _). ComesTo IsAirTask AskForNothing BadNumber IsBeginningRefusal Ends words e None
+    None old new) (sym c.unrefused.ensures)
+    (begun task ((asks task).1 c.in-Some.ensures.some) true refl
+    (subst (λ (r : Result Bool Refusal). ConcludesTask task r used old new)
+    (c.in-Ok-true.is ∙ ap Ok c.in-Ok-true.field-0-test) c.execute-result.ensures.ended))
 
-pub returns-in-Err-clause-refused : goal.returns-in-Err-clause-refused
-returns-in-Err-clause-refused g c = λ words asks.
+pub returns-in-Ok-false-clause-ended : goal.returns-in-Ok-false-clause-ended
+returns-in-Ok-false-clause-ended g c = λ words asks.
+    let old = g.W.Write.contents c.args.writer.now in
+    let new = g.W.Write.contents c.execute-result.new.writer in
+    let task = c.in-Some.task in
+    let used = c.execute-result.result.disk in
+    subst (λ (e : _). ComesTo IsAirTask AskForNothing BadNumber IsBeginningRefusal Ends words e None
+    None old new) (sym c.unrefused-in-Ok-false.ensures)
+    (begun task ((asks task).1 c.in-Some.ensures.some) false refl
+    (subst (λ (r : Result Bool Refusal). ConcludesTask task r used old new)
+    (c.in-Ok-false.is ∙ ap Ok c.in-Ok-false.field-0-test) c.execute-result.ensures.ended))
+
+pub returns-in-Err-clause-ended : goal.returns-in-Err-clause-ended
+returns-in-Err-clause-ended g c = λ words asks.
     let old = g.W.Write.contents c.args.writer.now in
     let new = g.W.Write.contents c.execute-result.new.writer in
     let task = c.in-Some.task in
     let used = c.execute-result.result.disk in
     let asked = (asks task).1 c.in-Some.ensures.some in
-    subst (λ (e : _). e.status ≡ 1 → IsRefused IsAirTask BadNumber IsBeginningRefusal DoesInPart
-    words e.refusal e.disk None None old new) (sym c.refuse.ensures) (λ z.
-    elim (subst (λ r. IfErr r (λ x. (IsBeginningRefusal task x × IsUntold used old new)
-    ⊎ DoesInPart task (Some x) used None None old new))
-    c.in-Err.is c.execute-result.ensures.refused) [
-      | inl why ↦ unbegun task c.in-Err.refusal refl asked why.0 why.1 tt
-      | inr part ↦ begun task asked part
+    subst (λ (e : _). ComesTo IsAirTask AskForNothing BadNumber IsBeginningRefusal Ends words e None
+    None old new) (sym c.refuse.ensures)
+    (elim (subst (λ (r : Result Bool Refusal). ConcludesTask task r used old new) c.in-Err.is
+    c.execute-result.ensures.ended) [
+      | inl why ↦ unbegun task asked c.in-Err.refusal why.0 (refl, refl, why.1, tt)
+      | inr part ↦ begun task asked false refl part
     ])
 
 pub returns-in-Ok-true-clause-files : goal.returns-in-Ok-true-clause-files

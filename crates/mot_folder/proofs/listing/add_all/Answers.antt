@@ -23,7 +23,8 @@ loop-name-preserved g c =
         done ++ name ∷ [],
         was.goes.1 ∙ ap (λ l. done ++ l) c.in-Some.ensures.first
             ∙ sym (append_assoc done (name ∷ []) (names_in c.in-Some.others.now)),
-        goes_on c.args.types.now done (name ∷ []) first old new c.args.names.now.names.items
+        goes_on c.args.types.now done (name ∷ []) first old new c.args.names.now.counted
+            c.loop-name.names.counted c.add_one.new.names.counted c.args.names.now.names.items
             c.loop-name.names.names.items c.add_one.new.names.names.items was.goes.2 one.goes,
       );
       shown = λ shown. one.shown (was.shown shown);

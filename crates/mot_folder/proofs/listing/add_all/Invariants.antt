@@ -13,7 +13,7 @@ invariant-loop-name g l = record {
   asked : WereAsked (g.S.Shelf.gave l.initial.shelf) (g.S.Shelf.gave l.shelf);
   goes : (done : List (List ℕ)) × (names_in l.bytes ≡ done ++ names_in l.rest)
       × GoesOn l.types done (g.S.Shelf.gave l.initial.shelf) (g.S.Shelf.gave l.shelf)
-      l.initial.names.names.items l.names.names.items;
+      l.initial.names.counted l.names.counted l.initial.names.names.items l.names.names.items;
   shown : AreShown l.initial.names.names.items → AreShown l.names.names.items;
 }
 

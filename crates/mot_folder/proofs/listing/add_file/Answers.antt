@@ -1,4 +1,6 @@
-use Rattle.std.proofs.Common.{◌∙◌, refl, subst, sym}
+use Rattle.std.proofs.Common.{◌≡◌, ◌∙◌, false, refl, subst, sym, true}
+use Rattle.mot_objects.proofs.Laws.{name_true}
+use Rattle.mot_objects.specs.declared.name.TheConstants.{MAX_NAME}
 use Rattle.mot_objects.specs.Name.{IsName}
 use Rattle.mot_folder.proofs.Log.{tells_same, tells_unread}
 use Rattle.mot_folder.proofs.Seen.{object_added, object_left_out}
@@ -29,3 +31,10 @@ returns-in_err-add-in-Ok-clause-told c = tells_same c.args.report.now
 
 pub returns-in_ok-add-in-Ok-clause-told : goal.returns-in_ok-add-in-Ok-clause-told
 returns-in_ok-add-in-Ok-clause-told c = tells_same c.args.report.now
+
+pub returns-in_ok-add-in-Ok-clause-nameless : goal.returns-in_ok-add-in-Ok-clause-nameless
+returns-in_ok-add-in-Ok-clause-nameless c = λ bad.
+    let named : IsName c.args.name.now = subst IsName c.in_ok-from_slice.ensures.items
+    (c.in-Ok.ensures.valid.0 refl) in
+    absurd (let no : false ≡ true = sym bad ∙ name_true MAX_NAME c.args.name.now named named.short
+    in cc)

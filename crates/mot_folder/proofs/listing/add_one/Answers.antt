@@ -16,8 +16,10 @@ returns-in_ok-add_file-in-Ok-true-clause-goes g c =
     let name = c.args.name.now in
     let old = g.S.Shelf.gave c.args.shelf.now in
     of_file c.args.types.now name old (g.S.Shelf.gave c.is_file.new.self)
+    c.args.names.now.counted c.add_file.new.names.counted
     c.args.names.now.names.items c.add_file.new.names.names.items
     (sym c.if-not-is_object.ensures.typed)
+    (c.in_ok-add_file-in-Ok-true.ensures.counted ∙ c.in_ok-count.ensures.counted)
     (c.in-Ok-true.ensures.gave ∙ ap (λ t. and_asked old name t) c.in-Ok-true.field-0-test)
     (c.in_ok-add_file-in-Ok-true.ensures.added
     ∙ ap (λ (v : _). and_object v.items name) c.in_ok-count.ensures.same)
@@ -28,9 +30,11 @@ returns-in-Ok-false-clause-goes g c =
     let old = g.S.Shelf.gave c.args.shelf.now in
     let new = g.S.Shelf.gave c.is_file.new.self in
     let names = c.args.names.now.names.items in
-    subst (λ (v : _). GoesOn c.args.types.now (name ∷ []) old new names v.items)
+    subst (λ (v : _). GoesOn c.args.types.now (name ∷ []) old new c.args.names.now.counted
+    c.count.new.self.counted names v.items)
     (sym c.in_ok-count.ensures.same)
-    (of_other c.args.types.now name old new names (sym c.if-not-is_object.ensures.typed)
+    (of_other c.args.types.now name old new c.args.names.now.counted c.count.new.self.counted names
+    (sym c.if-not-is_object.ensures.typed) c.in_ok-count.ensures.counted
     (c.in-Ok-false.ensures.gave ∙ ap (λ t. and_asked old name t) c.in-Ok-false.field-0-test))
 
 pub returns-in_ok-add_file-in-Ok-true-clause-shown :

@@ -1,4 +1,4 @@
-use Rattle.std.proofs.Common.{◌≡◌, []}
+use Rattle.std.proofs.Common.{◌≡◌, ◌≤◌, [], length}
 use Rattle.mot_folder.specs.Inner.Listing.{GivesSome, IsUnread}
 use Rattle.mot_folder.specs.Log.{TellsAnswers}
 use Rattle.mot_suffixes.specs.Types.{AreShown}
@@ -11,6 +11,7 @@ invariant-loop g l = record {
   told : TellsMore (TellsAnswers l.initial.report) (TellsAnswers l.report) [];
   unread : IsUnread (g.S.Shelf.gave l.initial.shelf) (g.S.Shelf.gave l.shelf);
   gave : GivesSome l.types (g.S.Shelf.gave l.initial.shelf) (g.S.Shelf.gave l.shelf)
-      l.initial.names.names.items l.names.names.items;
+      l.initial.names.counted l.names.counted l.initial.names.names.items l.names.names.items;
+  long : l.counter ≤ length (g.S.Shelf.gave l.shelf).listed;
   shown : AreShown l.initial.names.names.items → AreShown l.names.names.items;
 }

@@ -10,7 +10,8 @@ use Rattle.mot_folder.specs.Listed.{IsListing}
 use Rattle.mot_folder.specs.Log.{LogEntry, ReportTells, TellsAnswers, TellsOf, entry, kept_entry}
 use Rattle.mot_folder.specs.Log.{with_reason}
 use Rattle.mot_folder.specs.declared.report.Report.{Report}
-use Rattle.mot_folder.specs.Looked.{HasLookedAtFolder, is_kept, kept, listed, unlisted}
+use Rattle.mot_folder.specs.Looked.{HasLookedAtFolder, IsUnlisted, is_kept, kept, listed}
+use Rattle.mot_folder.specs.Looked.{unlisted}
 use Rattle.mot_folder.specs.Looked as look
 use Rattle.mot_objects.specs.Stands.{objects_of}
 use Rattle.mot_objects.specs.Carousel.{Carousel}
@@ -31,7 +32,7 @@ use Rattle.mot_shelf.specs.Given.{Given, nothing}
 use Rattle.mot_update.specs.HasRun.{HasRun}
 use Rattle.mot_update.specs.Told.{Answer, TellsBoth}
 use Rattle.mot_update.specs.declared.wanted.Wanted.{Wanted}
-use Rattle.std.specs.Prelude.{◌⊎◌}
+use Rattle.std.specs.Prelude.{◌≢◌, ◌⊎◌, IsOk}
 use Rattle.mot_server.specs.declared.running.Attempt.TheVariants.{Refused}
 use Rattle.mot_server.specs.Attempts.{fault_of}
 use Rattle.mot_suffixes.specs.Types.{AreShown, SuffixType}
@@ -43,6 +44,15 @@ ended : (r : Result Unit Refusal) → IfErr r (λ e. e ≡ OutOfMemory)
     → (fault_of r ≡ None) ⊎ (fault_of r ≡ Some OutOfMemory)
 ended (Ok x) is = inl refl
 ended (Err e) is = inr (ap Some is)
+
+-- and one that was not listed, for another reason or by want of memory
+ended_unlisted : (r : Result Unit Refusal) (refusal : Refusal) (left_out without : Bool)
+    → IfErr r (λ e. e ≡ OutOfMemory) → (IsOk r → (left_out ≡ false) × (without ≡ false))
+    → (refusal ≡ OutOfMemory → without ≡ true)
+    → ((fault_of r ≡ None) × (refusal ≢ OutOfMemory)) ⊎ (fault_of r ≡ Some OutOfMemory)
+ended_unlisted (Ok x) refusal left_out without is fine memory =
+    inl (refl, λ e. absurd (let no : true ≡ false = sym (memory e) ∙ (fine refl).1 in cc))
+ended_unlisted (Err e) refusal left_out without is fine memory = inr (ap Some is)
 
 -- commands that were all run, as those up to want of memory
 run_without_memory : {D : Type 0} (old new : ServerView D) (start now : State) (s : Standing)
@@ -80,6 +90,7 @@ of_nothing old new start now s types allows path given report fault entries run 
   wanted = [];
   entries = entries;
   look = look;
+  right = inl refl;
   told = told;
 }
 
@@ -110,6 +121,7 @@ of_names old new start now s types allows path given report names fault shown li
             read = told.read;
             taken = told.taken;
           });
+      right = inr (looked.runs.answers, told.are, looked.runs.right);
       told = told.told;
     }
 
@@ -134,6 +146,7 @@ without_memory old new start now s names fine looked = record {
     accepted = λ all e. absurd (cc (e));
     answers = looked.runs.answers;
     told = looked.runs.told;
+    right = looked.runs.right;
   };
 }
 
@@ -267,8 +280,12 @@ returns-in-Err-clause-looked g c = λ s holds honest.
     of_nothing old old state state s _ _ _ _ _ fault (told.entries ++ last ∷ [])
     (has_read old old state state s fault
     (g.met.D.Disk.sound old.disk honest) refl refl honest (unchanged_none state) holds).0
-    (unlisted refusal c.in-Err.ensures.why (ap not c.tell_unlisted.ensures.any)
-    (ended c.end.result c.end.ensures.fault) refl
+    (unlisted refusal (subst (λ p. IsUnlisted c.args.folder.now.types.now p
+    (g.S.Shelf.gave c.list.new.shelf) refusal) c.begin.ensures.same c.in-Err.ensures.why)
+    (ap not c.tell_unlisted.ensures.any)
+    (ended_unlisted c.end.result refusal c.tell_unlisted.new.report.any_left_out
+    c.tell_unlisted.new.report.any_without_memory c.end.ensures.fault c.end.ensures.ends.0
+    c.tell_unlisted.ensures.memory) refl
     (look-more told.entries (last ∷ []) ∙ ap (λ l. l ++ bare ∷ []) told.are
     ∙ ap (λ n. entry (codes "look") n (Refused refusal) ∷ [])
     (c.as_bytes-path.ensures.value ∙ c.shown.ensures ∙ c.in-Err.ensures.same

@@ -1,11 +1,11 @@
-use Rattle.mot_session.proofs.Answered.{Answers-refused, crosses-none}
+use Rattle.mot_session.proofs.Answered.{Answers-refused, writes-none}
 use Rattle.mot_session.specs.State.{state_of}
 use Rattle.std.proofs.Common.{refl}
 use Rattle.mot_session.specs.OnAnyDisk.{no_request}
 use Rattle.mot_session.proofs.deciding.decide.Goals as goal
 
-pub returns-in-Ok-clause-crosses : goal.returns-in-Ok-clause-crosses
-returns-in-Ok-clause-crosses g c = rw c.in-Ok.is c.decide_request.ensures.crosses
+pub returns-in-Ok-clause-writes : goal.returns-in-Ok-clause-writes
+returns-in-Ok-clause-writes g c = rw c.in-Ok.is c.decide_request.ensures.writes
 
 pub returns-in-Ok-clause-decides : goal.returns-in-Ok-clause-decides
 returns-in-Ok-clause-decides g c = rw c.in-Ok.is c.decide_request.ensures.decides
@@ -18,10 +18,9 @@ returns-in-Err-clause-decides g c = rw c.in-Err.is (λ s stands honest. (
       c.in-Err.refusal,
 ))
 
-pub returns-in-Err-clause-crosses : goal.returns-in-Err-clause-crosses
-returns-in-Err-clause-crosses g c = λ s holds.
-    crosses-none c.args.server.now.view s (g.D.Disk.state c.args.server.now.disk) _
-    (g.met.D.Disk.sound c.args.server.now.disk holds.journal.honest) holds
+pub returns-in-Err-clause-writes : goal.returns-in-Err-clause-writes
+returns-in-Err-clause-writes g c = writes-none c.args.server.now.view
+    (g.D.Disk.state c.args.server.now.disk) _ (g.met.D.Disk.sound c.args.server.now.disk)
 
 pub returns-in-Ok-clause-anyhow : goal.returns-in-Ok-clause-anyhow
 returns-in-Ok-clause-anyhow g c = rw c.in-Ok.is c.decide_request.ensures.anyhow

@@ -16,17 +16,6 @@ returns-in-Ok-clause-decides g c = λ s stands honest.
     step.2
     (run.place s step.0 holds step.2.agrees step.1)
 
-pub returns-in-Ok-clause-crosses : goal.returns-in-Ok-clause-crosses
-returns-in-Ok-clause-crosses g c = λ s holds.
-    let state = g.D.Disk.state in
-    crosses-accepted c.args.server.now.view.journal.layout s (state c.args.server.now.disk)
-    (state c.execute.new.self.disk) c.args.command.now
-    c.in-Ok.done (c.in-Ok.ensures.any_moment s holds)
-
-pub returns-in-Ok-clause-halted : goal.returns-in-Ok-clause-halted
-returns-in-Ok-clause-halted g c =
-    λ is. absurd (not_halted c.args.server.now.view.halted is c.in-Ok.ensures.going)
-
 pub returns-in-Err-clause-decides : goal.returns-in-Err-clause-decides
 returns-in-Err-clause-decides g c = λ s stands honest.
     let state = g.D.Disk.state in
@@ -34,20 +23,6 @@ returns-in-Err-clause-decides g c = λ s stands honest.
     Answers-refused_command c.args.server.now c.execute.new.self s (state c.args.server.now.disk)
     (state c.execute.new.self.disk) c.args.command.now stands
     run.keeps.frame.later (run.any_moment s) c.in-Err.refusal run.answered run.stays honest
-
-pub returns-in-Err-clause-crosses : goal.returns-in-Err-clause-crosses
-returns-in-Err-clause-crosses g c = λ s holds.
-    let state = g.D.Disk.state in
-    crosses-refused c.args.server.now.view c.execute.new.self.view s (state c.args.server.now.disk)
-    (state c.execute.new.self.disk) c.args.command.now c.in-Err.refusal
-    (g.met.D.Disk.sound c.args.server.now.disk holds.journal.honest) holds c.in-Err.ensures.answered
-    (c.in-Err.ensures.any_moment s holds)
-
-pub returns-in-Err-clause-halted : goal.returns-in-Err-clause-halted
-returns-in-Err-clause-halted g c = λ is.
-    let state = g.D.Disk.state in
-    stays_halted c.args.server.now.view c.execute.new.self.view (state c.args.server.now.disk)
-    (state c.execute.new.self.disk) c.args.command.now c.in-Err.refusal is c.in-Err.ensures.answered
 
 pub returns-in-Ok-clause-anyhow : goal.returns-in-Ok-clause-anyhow
 returns-in-Ok-clause-anyhow g c =
@@ -62,3 +37,32 @@ returns-in-Err-clause-anyhow g c =
     anyhow-refused c.args.server.now.view c.execute.new.self.view (state c.args.server.now.disk)
     (state c.execute.new.self.disk) c.args.command.now c.in-Err.refusal
     c.in-Err.ensures.answered
+
+pub returns-in-Ok-clause-writes : goal.returns-in-Ok-clause-writes
+returns-in-Ok-clause-writes g c =
+    let state = g.D.Disk.state in
+    let run = c.in-Ok.ensures in
+    record {
+      crosses = λ s holds.
+          crosses-accepted c.args.server.now.view.journal.layout s (state c.args.server.now.disk)
+          (state c.execute.new.self.disk) c.args.command.now c.in-Ok.done (run.any_moment s holds);
+      halted = λ is. absurd (not_halted c.args.server.now.view.halted is run.going);
+      keeps = run.keeps.frame;
+    }
+
+pub returns-in-Err-clause-writes : goal.returns-in-Err-clause-writes
+returns-in-Err-clause-writes g c =
+    let state = g.D.Disk.state in
+    let old = c.args.server.now in
+    let new = c.execute.new.self in
+    let run = c.in-Err.ensures in
+    record {
+      crosses = λ s holds.
+          crosses-refused old.view new.view s (state old.disk) (state new.disk) c.args.command.now
+          c.in-Err.refusal (g.met.D.Disk.sound old.disk holds.journal.honest) holds run.answered
+          (run.any_moment s holds);
+      halted = λ is.
+          stays_halted old.view new.view (state old.disk) (state new.disk) c.args.command.now
+          c.in-Err.refusal is run.answered;
+      keeps = run.keeps.frame;
+    }

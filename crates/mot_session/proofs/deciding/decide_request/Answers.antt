@@ -1,10 +1,9 @@
 use Rattle.std.proofs.Common.{refl}
 use Rattle.std.specs.Prelude.{Ok}
-use Rattle.disk_model.proofs.Laws.{keeps_none, unchanged_none}
 use Rattle.mot_lines.specs.declared.line.Line.TheVariants as asks
 use Rattle.mot_session.specs.declared.deciding.Decision.TheVariants as decision
 use Rattle.mot_session.specs.State.{state_of}
-use Rattle.mot_session.proofs.Answered.{Answers-list, Answers-raw, Decides-shown, crosses-none}
+use Rattle.mot_session.proofs.Answered.{Answers-list, Answers-raw, Decides-shown, writes-none}
 use Rattle.std.proofs.Common.{ap}
 use Rattle.std.specs.List.{flat_map}
 use Rattle.mot_lines.specs.Text.{packet_line}
@@ -13,8 +12,8 @@ use Rattle.mot_session.specs.OnAnyDisk.{listed, no_memory, raw}
 use Rattle.mot_session.proofs.Anyhow.{anyhow-shown}
 use Rattle.mot_session.proofs.deciding.decide_request.Goals as goal
 
-pub returns-in-Command-clause-crosses : goal.returns-in-Command-clause-crosses
-returns-in-Command-clause-crosses g c = rw c.in-Command.is c.decide_command.ensures.crosses
+pub returns-in-Command-clause-writes : goal.returns-in-Command-clause-writes
+returns-in-Command-clause-writes g c = rw c.in-Command.is c.decide_command.ensures.writes
 
 pub returns-in-Ok-clause-decides : goal.returns-in-Ok-clause-decides
 returns-in-Ok-clause-decides g c = rw c.in-Raw.is (λ s stands honest. (
@@ -24,15 +23,13 @@ returns-in-Ok-clause-decides g c = rw c.in-Raw.is (λ s stands honest. (
       c.in-Raw.tid c.in-Raw.body c.in-Ok.group.items c.in-Ok.ensures,
 ))
 
-pub returns-in-Ok-clause-crosses : goal.returns-in-Ok-clause-crosses
-returns-in-Ok-clause-crosses g c = λ s holds.
-    crosses-none c.args.server.now.view s (g.D.Disk.state c.args.server.now.disk) _
-    (g.met.D.Disk.sound c.args.server.now.disk holds.journal.honest) holds
+pub returns-in-Ok-clause-writes : goal.returns-in-Ok-clause-writes
+returns-in-Ok-clause-writes g c = writes-none c.args.server.now.view
+    (g.D.Disk.state c.args.server.now.disk) _ (g.met.D.Disk.sound c.args.server.now.disk)
 
-pub returns-in-Err-clause-crosses : goal.returns-in-Err-clause-crosses
-returns-in-Err-clause-crosses g c = λ s holds.
-    crosses-none c.args.server.now.view s (g.D.Disk.state c.args.server.now.disk) _
-    (g.met.D.Disk.sound c.args.server.now.disk holds.journal.honest) holds
+pub returns-in-Err-clause-writes : goal.returns-in-Err-clause-writes
+returns-in-Err-clause-writes g c = writes-none c.args.server.now.view
+    (g.D.Disk.state c.args.server.now.disk) _ (g.met.D.Disk.sound c.args.server.now.disk)
 
 pub returns-in-List-clause-decides : goal.returns-in-List-clause-decides
 returns-in-List-clause-decides g c = rw c.in-List.is (λ s stands honest.
@@ -43,10 +40,9 @@ returns-in-List-clause-decides g c = rw c.in-List.is (λ s stands honest.
           c.show.ensures.going (λ going. Answers-list before going),
     ))
 
-pub returns-in-List-clause-crosses : goal.returns-in-List-clause-crosses
-returns-in-List-clause-crosses g c = λ s holds.
-    crosses-none c.args.server.now.view s (g.D.Disk.state c.args.server.now.disk) _
-    (g.met.D.Disk.sound c.args.server.now.disk holds.journal.honest) holds
+pub returns-in-List-clause-writes : goal.returns-in-List-clause-writes
+returns-in-List-clause-writes g c = writes-none c.args.server.now.view
+    (g.D.Disk.state c.args.server.now.disk) _ (g.met.D.Disk.sound c.args.server.now.disk)
 
 pub returns-in-Next-clause-decides : goal.returns-in-Next-clause-decides
 returns-in-Next-clause-decides g c = rw c.in-Next.is (λ s stands honest.
@@ -58,10 +54,9 @@ returns-in-Next-clause-decides g c = rw c.in-Next.is (λ s stands honest.
           (λ going. (refl, going, refl)),
     ))
 
-pub returns-in-Next-clause-crosses : goal.returns-in-Next-clause-crosses
-returns-in-Next-clause-crosses g c = λ s holds.
-    crosses-none c.args.server.now.view s (g.D.Disk.state c.args.server.now.disk) _
-    (g.met.D.Disk.sound c.args.server.now.disk holds.journal.honest) holds
+pub returns-in-Next-clause-writes : goal.returns-in-Next-clause-writes
+returns-in-Next-clause-writes g c = writes-none c.args.server.now.view
+    (g.D.Disk.state c.args.server.now.disk) _ (g.met.D.Disk.sound c.args.server.now.disk)
 
 pub returns-in-Turn-clause-decides : goal.returns-in-Turn-clause-decides
 returns-in-Turn-clause-decides g c = rw c.in-Turn.is (λ s stands honest.
@@ -72,10 +67,9 @@ returns-in-Turn-clause-decides g c = rw c.in-Turn.is (λ s stands honest.
           c.show-in-Turn.ensures.halted c.show-in-Turn.ensures.going (λ going. (refl, going, refl)),
     ))
 
-pub returns-in-Turn-clause-crosses : goal.returns-in-Turn-clause-crosses
-returns-in-Turn-clause-crosses g c = λ s holds.
-    crosses-none c.args.server.now.view s (g.D.Disk.state c.args.server.now.disk) _
-    (g.met.D.Disk.sound c.args.server.now.disk holds.journal.honest) holds
+pub returns-in-Turn-clause-writes : goal.returns-in-Turn-clause-writes
+returns-in-Turn-clause-writes g c = writes-none c.args.server.now.view
+    (g.D.Disk.state c.args.server.now.disk) _ (g.met.D.Disk.sound c.args.server.now.disk)
 
 pub returns-in-Command-clause-anyhow : goal.returns-in-Command-clause-anyhow
 returns-in-Command-clause-anyhow g c = rw c.in-Command.is c.decide_command.ensures.anyhow
@@ -107,44 +101,3 @@ returns-in-Turn-clause-anyhow g c = rw c.in-Turn.is (
 
 pub returns-in-Command-clause-decides : goal.returns-in-Command-clause-decides
 returns-in-Command-clause-decides g c = rw c.in-Command.is c.decide_command.ensures.decides
-
-pub returns-in-Command-clause-halted : goal.returns-in-Command-clause-halted
-returns-in-Command-clause-halted g c = c.decide_command.ensures.halted
-
-pub returns-in-Command-clause-keeps : goal.returns-in-Command-clause-keeps
-returns-in-Command-clause-keeps g c = c.decide_command.ensures.keeps
-
-pub returns-in-Ok-clause-halted : goal.returns-in-Ok-clause-halted
-returns-in-Ok-clause-halted g c =
-    λ is. (refl, unchanged_none (g.D.Disk.state c.args.server.now.disk))
-
-pub returns-in-Ok-clause-keeps : goal.returns-in-Ok-clause-keeps
-returns-in-Ok-clause-keeps g c = keeps_none (g.D.Disk.state c.args.server.now.disk)
-
-pub returns-in-Err-clause-halted : goal.returns-in-Err-clause-halted
-returns-in-Err-clause-halted g c =
-    λ is. (refl, unchanged_none (g.D.Disk.state c.args.server.now.disk))
-
-pub returns-in-Err-clause-keeps : goal.returns-in-Err-clause-keeps
-returns-in-Err-clause-keeps g c = keeps_none (g.D.Disk.state c.args.server.now.disk)
-
-pub returns-in-List-clause-halted : goal.returns-in-List-clause-halted
-returns-in-List-clause-halted g c =
-    λ is. (refl, unchanged_none (g.D.Disk.state c.args.server.now.disk))
-
-pub returns-in-List-clause-keeps : goal.returns-in-List-clause-keeps
-returns-in-List-clause-keeps g c = keeps_none (g.D.Disk.state c.args.server.now.disk)
-
-pub returns-in-Next-clause-halted : goal.returns-in-Next-clause-halted
-returns-in-Next-clause-halted g c =
-    λ is. (refl, unchanged_none (g.D.Disk.state c.args.server.now.disk))
-
-pub returns-in-Next-clause-keeps : goal.returns-in-Next-clause-keeps
-returns-in-Next-clause-keeps g c = keeps_none (g.D.Disk.state c.args.server.now.disk)
-
-pub returns-in-Turn-clause-halted : goal.returns-in-Turn-clause-halted
-returns-in-Turn-clause-halted g c =
-    λ is. (refl, unchanged_none (g.D.Disk.state c.args.server.now.disk))
-
-pub returns-in-Turn-clause-keeps : goal.returns-in-Turn-clause-keeps
-returns-in-Turn-clause-keeps g c = keeps_none (g.D.Disk.state c.args.server.now.disk)

@@ -3,7 +3,7 @@ use Rattle.mot_journal.specs.Journal.{standing_from}
 use Rattle.mot_server.specs.Playing.{bytes_of_packets}
 use Rattle.mot_server.proofs.Laws.{if_err, passing}
 use Rattle.mot_session.specs.Life.{AreRight, commands_done}
-use Rattle.mot_session.specs.Stored.{HoldsSince}
+use Rattle.mot_session.specs.Kept.{HoldsSince}
 use Rattle.mot_session.proofs.Lives.{done_at, done_stands, kept_by, kept_first, lives_on, served_so}
 use Rattle.mot_session.proofs.Lives.{some_of}
 use Rattle.mot_session.proofs.life.serve_and_restart.Goals as goal

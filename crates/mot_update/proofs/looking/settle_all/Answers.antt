@@ -140,6 +140,7 @@ loop-wanted-preserved g c =
                 (λ t held. two.run t held honest)
                 (λ t held. subst (λ l. AreAnswers answers l (marks_of_settling (Ok settled)))
                 (sym (two.told t held honest)) (answers-settled settled c.in-Some.wanted))
+                (λ t held. two.right t held honest)
                 (λ e. let f = told.fine e in (
                   next.fine f.0,
                   told.stays ∙ next.every f.0,

@@ -1,5 +1,5 @@
 use Rattle.std.proofs.Common.{◌≡◌, ◌∙◌, ℕ, Bool, true, false, not, List, ◌∷◌, ◌++◌, Option, None, []}
-use Rattle.std.proofs.Common.{ap, refl, sym, subst}
+use Rattle.std.proofs.Common.{ap, refl, sym}
 use Rattle.disk_model.specs.Disk.{State}
 use Rattle.disk_model.proofs.Laws.{unchanged_none}
 use Rattle.mot_folder.specs.declared.report.Report.{Report}
@@ -11,7 +11,6 @@ use Rattle.mot_numbers.specs.declared.refusal.Refusal.{Refusal}
 use Rattle.mot_server.specs.Attempts.{fault_of}
 use Rattle.mot_server.specs.Server.{ServerView}
 use Rattle.mot_shelf.specs.Given.{Given}
-use Rattle.mot_suffixes.specs.Types.{SuffixType}
 use Rattle.mot_update.specs.Between.{IsUpdating, may_look}
 use Rattle.mot_update.specs.declared.moment.Moment.{Moment}
 use Rattle.mot_update.proofs.Laws.{has_read}

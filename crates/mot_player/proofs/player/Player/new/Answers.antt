@@ -9,7 +9,7 @@ use Rattle.mot_player.proofs.Continuous.{steps-are-continuous}
 use Rattle.mot_player.proofs.Ending.{turns-end}
 use Rattle.mot_player.proofs.GoesOn.{changes-go_on, requests-go_on}
 use Rattle.mot_player.proofs.TurnOnce.{turns-read-with_directories}
-use Rattle.mot_player.proofs.WholeTurn.{turns_read_as_their_carousels}
+use Rattle.mot_player.proofs.TurnOnce.{turns_read_as_their_carousels}
 use Rattle.mot_player.proofs.Segments.{segments_from-end}
 use Rattle.mot_player.proofs.Rounds.{rounds_are_continuous}
 use Rattle.mot_player.proofs.Followed.{changes-come-next, put-comes-at_the_end}

@@ -34,7 +34,8 @@ returns-in_err-write_reply-clause-answers g c = λ line parsed s stands honest.
         crosses = Crosses-line old mid new s (state old.disk) (state mid.disk)
             (state new.disk) line written.0
             after c.decide-decision.result c.args.request stands honest reads parsed written.1
-            (c.decide-decision.ensures.crosses s) (λ is. (c.decide-decision.ensures.halted is).1);
+            (c.decide-decision.ensures.writes.crosses s)
+            (λ is. (c.decide-decision.ensures.writes.halted is).1);
       },
     )
 
@@ -64,7 +65,8 @@ returns-clause-answers g c = λ line parsed s stands honest.
         crosses = Crosses-line old mid new s (state old.disk) (state mid.disk)
             (state new.disk) line written.0
             after c.decide-decision.result c.args.request stands honest reads parsed written.1
-            (c.decide-decision.ensures.crosses s) (λ is. (c.decide-decision.ensures.halted is).1);
+            (c.decide-decision.ensures.writes.crosses s)
+            (λ is. (c.decide-decision.ensures.writes.halted is).1);
       },
     )
 
@@ -87,9 +89,9 @@ returns-in_err-write_reply-clause-goes g c =
     let reads = c.in_err-write_reply.ensures.reads in
     let decided = c.decide-decision.ensures in
     record {
-      keeps = keeps_on _ _ _ decided.keeps reads.disk.keeps;
+      keeps = keeps_on _ _ _ decided.writes.keeps reads.disk.keeps;
       halted = λ is.
-          let same = decided.halted is in
+          let same = decided.writes.halted is in
           (reads.view ∙ same.0, λ honest. unchanged_on _ _ _ same.1 (reads.disk.unchanged honest));
     }
 
@@ -98,8 +100,8 @@ returns-clause-goes g c =
     let reads = c.in_ok-write_reply.ensures.reads in
     let decided = c.decide-decision.ensures in
     record {
-      keeps = keeps_on _ _ _ decided.keeps reads.disk.keeps;
+      keeps = keeps_on _ _ _ decided.writes.keeps reads.disk.keeps;
       halted = λ is.
-          let same = decided.halted is in
+          let same = decided.writes.halted is in
           (reads.view ∙ same.0, λ honest. unchanged_on _ _ _ same.1 (reads.disk.unchanged honest));
     }

@@ -2,11 +2,10 @@ use Rattle.std.proofs.Common.{◌≡◌, [], arith, subst}
 use Rattle.std.specs.Prelude.{IsFalse}
 use Rattle.std.proofs.KnownBytes.{Appends-nil}
 use Rattle.std.proofs.lemmas.Result.{err_from_is_err_and}
-use Rattle.mot_session.specs.Played.{Sends}
 use Rattle.mot_session.specs.State.{state_of}
 use Rattle.mot_session.proofs.Replies.{next-broken, next-cut, next-more}
 use Rattle.mot_session.proofs.Requests.{holds-read, reads-more, reads-none}
-use Rattle.mot_session.proofs.Written.{Answered-next, Sends-none}
+use Rattle.mot_session.proofs.Written.{Answered-next, Sends, Sends-none}
 use Rattle.std.proofs.Common.{◌<◌, ◌+◌, ◌∷◌, ◌++◌, ◌∙◌, ap, length-append, refl, sym}
 use Rattle.mot_journal.specs.Image.{Standing}
 use Rattle.mot_repository.specs.Repository.{RepositoryView, Holds}

@@ -1,0 +1,74 @@
+-- Words that give no geometry, and ask for no task.
+use Rattle.std.proofs.Common.{◌≡◌, ◌∙◌, ℕ, List, Option, Some, None, arith, ap, refl, sym}
+use Rattle.std.proofs.Common.{◌≢◌, slice_index}
+use Rattle.std.specs.Prelude.{IfNone, codes}
+use Rattle.clap.specs.Words.{Row, Text}
+use Rattle.mot_numbers.specs.declared.geometry.Geometry.{Geometry}
+use Rattle.mot_cli.specs.Given.{IsGiven}
+use Rattle.mot_cli.specs.Program.Options.{AreGiven, GiveDirectory, GiveGeometry}
+use Rattle.mot_cli.specs.Program.Options.{geometry_asked}
+use Rattle.mot_cli.specs.Program.Task.{IsTask}
+use Rattle.mot_cli.specs.declared.program.options.Options.{Options}
+use Rattle.mot_cli.specs.declared.program.task.Task.{Task}
+use Rattle.mot_cli.specs.declared.program.task.Task.TheVariants.{Memory, Format, Serve, Check}
+use Rattle.mot_cli.specs.declared.program.task.Task.TheVariants.{Migrate}
+
+-- what holds anyhow holds where there is nothing
+pub IfNone-always : {T P : Type 0} (o : Option T) → P → IfNone o P
+IfNone-always None p = p
+IfNone-always (Some x) p = tt
+
+-- texts that differ in a byte are not the same
+clash : (i m n : ℕ) (a b : Text) → slice_index a i ≡ m → slice_index b i ≡ n → m ≢ n → a ≡ b → ⊥
+clash i m n a b p q d e = d (sym p ∙ ap (λ t. slice_index t i) e ∙ q)
+
+given_same : (text : Option (List ℕ)) (m n : Option ℕ) → IsGiven text m → IsGiven text n → m ≡ n
+given_same None m n a b = a ∙ sym b
+given_same (Some text) m n a b = a.1 ∙ sym b.1
+
+geometry_same : (rows : List Row) (o p : Options) → AreGiven rows o → AreGiven rows p
+    → geometry_asked o ≡ geometry_asked p
+unfolding geometry_asked
+geometry_same rows o p a b =
+    let objects = given_same _ o.objects p.objects a.objects b.objects in
+    let data_area = given_same _ o.data_area p.data_area a.data_area b.data_area in
+    let segment = given_same _ o.segment p.segment a.segment b.segment in
+    let address = given_same _ o.address p.address a.address b.address in
+    let packet = given_same _ o.packet p.packet a.packet b.packet in
+    rw (objects, data_area, segment, address, packet) refl
+
+-- options that make no geometry are words that give none
+pub no_geometry : (rows : List Row) (o : Options) → AreGiven rows o → (made : Option Geometry)
+    → made ≡ geometry_asked o → IfNone made ((g : Geometry) → GiveGeometry rows g → ⊥)
+no_geometry rows o a (Some g) is = tt
+no_geometry rows o a None is = λ g gives. let same = geometry_same rows o gives.0 a gives.1 in
+    let none : None ≡ Some g = is ∙ same ∙ gives.2 in absurd (cc)
+
+module _ (rows : List Row) (none : (g : Geometry) → GiveGeometry rows g → ⊥) where
+  -- words without a geometry ask for no disk in memory
+  pub memory_needs_geometry : (name : Text) → name ≡ codes "memory" → (task : Task)
+      → IsTask name rows task → ⊥
+  memory_needs_geometry name is (Memory g) t = none g t.1
+  memory_needs_geometry name is (Format path g directory) t =
+      clash 0 109 102 (codes "memory") (codes "format") refl refl (omega arith) (sym is ∙ t.0)
+  memory_needs_geometry name is (Serve path) t =
+      clash 0 109 115 (codes "memory") (codes "serve") refl refl (omega arith) (sym is ∙ t.0)
+  memory_needs_geometry name is (Check path) t =
+      clash 0 109 99 (codes "memory") (codes "check") refl refl (omega arith) (sym is ∙ t.0)
+  memory_needs_geometry name is (Migrate path) t =
+      clash 1 101 105 (codes "memory") (codes "migrate") refl refl (omega arith) (sym is ∙ t.0)
+
+module _ (rows : List Row)
+    (none : (g : Geometry) (d : ℕ) → GiveGeometry rows g → GiveDirectory rows d → ⊥) where
+  -- words without a geometry, or a directory's id, ask for no formatting
+  pub format_needs_both : (name : Text) → name ≡ codes "format" → (task : Task)
+      → IsTask name rows task → ⊥
+  format_needs_both name is (Format path g directory) t = none g directory t.2 t.3
+  format_needs_both name is (Memory g) t =
+      clash 0 102 109 (codes "format") (codes "memory") refl refl (omega arith) (sym is ∙ t.0)
+  format_needs_both name is (Serve path) t =
+      clash 0 102 115 (codes "format") (codes "serve") refl refl (omega arith) (sym is ∙ t.0)
+  format_needs_both name is (Check path) t =
+      clash 0 102 99 (codes "format") (codes "check") refl refl (omega arith) (sym is ∙ t.0)
+  format_needs_both name is (Migrate path) t =
+      clash 0 102 109 (codes "format") (codes "migrate") refl refl (omega arith) (sym is ∙ t.0)

@@ -1,0 +1,55 @@
+-- The command line, in the words of `clap`.
+use Rattle.std.specs.Prelude.{[], codes}
+use Rattle.clap.specs.Words.{App, new_app, with_rule, with_subcommand}
+use Rattle.mot_cli.specs.Parts.{disk_app, flag_rule, motcar_top, number_rule, path_rule}
+use Rattle.mot_cli.specs.Parts.{word_rule}
+
+-- the five options of a geometry, behind what a command has
+abbrev pub with_options : App → App
+with_options a =
+    with_rule (with_rule (with_rule (with_rule (with_rule a
+    (number_rule (codes "objects"))) (number_rule (codes "data"))) (number_rule (codes "segment")))
+    (number_rule (codes "address"))) (number_rule (codes "packet"))
+
+-- `memory` and `format`, with their options; a new disk's ids may begin behind one
+abbrev pub memory_app : App
+memory_app = with_options (new_app (codes "memory"))
+
+abbrev pub format_app : App
+format_app = with_rule (with_options (disk_app (codes "format"))) (number_rule (codes "after"))
+
+-- how a folder is looked at, behind what a command has
+abbrev pub with_looks : App → App
+with_looks a =
+    with_rule (with_rule (with_rule a (path_rule (codes "types"))) (flag_rule (codes "allow-empty")))
+    (flag_rule (codes "at-once"))
+
+abbrev pub play_app : App
+play_app =
+    with_rule (with_rule (with_rule (with_rule (with_rule (with_rule (with_rule (with_looks
+    (with_rule (with_rule (disk_app (codes "play")) (word_rule (codes "PACKETS")))
+    (path_rule (codes "folder")))) (path_rule (codes "lines")))
+    (number_rule (codes "every"))) (number_rule (codes "turns"))) (number_rule (codes "directory")))
+    (number_rule (codes "look"))) (path_rule (codes "status"))) (flag_rule (codes "levels"))
+
+abbrev pub sync_app : App
+sync_app = with_looks (with_rule (disk_app (codes "sync")) (word_rule (codes "DIR")))
+
+abbrev pub inspect_app : App
+inspect_app = with_rule (disk_app (codes "inspect")) (number_rule (codes "rate"))
+
+-- the program with all its commands
+abbrev pub motcar_app : App
+motcar_app =
+    with_subcommand (with_subcommand (with_subcommand (with_subcommand (with_subcommand
+    (with_subcommand (with_subcommand (with_subcommand (with_subcommand
+    (record { top = motcar_top; subs = [] })
+    format_app.top)
+    play_app.top)
+    sync_app.top)
+    (disk_app (codes "serve")).top)
+    inspect_app.top)
+    (disk_app (codes "check")).top)
+    (disk_app (codes "export")).top)
+    (disk_app (codes "migrate")).top)
+    memory_app.top

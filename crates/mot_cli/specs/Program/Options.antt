@@ -1,0 +1,59 @@
+-- The numbers of the command line, and the geometry that they make.
+use Rattle.std.specs.Prelude.{ℕ, ◌≡◌, nat_le, if◌then◌else◌, List, Option, Some, None, codes}
+use Rattle.std.specs.Prelude.{unwrap_or}
+use Rattle.clap.specs.Words.{Row, first_of}
+use Rattle.mot_numbers.specs.Reading.{◌>>=◌}
+use Rattle.mot_numbers.specs.declared.geometry.Geometry.{Geometry}
+use Rattle.mot_objects.specs.Ids.{id_after}
+use Rattle.mot_cli.specs.Given.{IsGiven}
+use Rattle.mot_cli.specs.declared.program.options.Options.{Options}
+
+-- these are the numbers that the words give
+pub record AreGiven (rows : List Row) (o : Options) : Type 0 where
+  pub objects : IsGiven (first_of (codes "objects") rows) o.objects
+  pub data_area : IsGiven (first_of (codes "data") rows) o.data_area
+  pub segment : IsGiven (first_of (codes "segment") rows) o.segment
+  pub address : IsGiven (first_of (codes "address") rows) o.address
+  pub packet : IsGiven (first_of (codes "packet") rows) o.packet
+
+-- the numbers of no option
+abbrev pub default_geometry : Geometry
+default_geometry = record {
+  objects = 16;
+  data_area = 65536;
+  segment_size = 1024;
+  address = 1;
+  packet_length = 96;
+}
+
+-- a number of 16 bits, where the number fits; the default, where none is given
+abbrev pub field_in : Option ℕ → ℕ → Option ℕ
+field_in None default = Some default
+field_in (Some n) default = if nat_le n 65535 then Some n else None
+
+-- whether its numbers are in their ranges is the geometry's concern
+unfoldable pub geometry_asked : Options → Option Geometry
+geometry_asked o = do
+  objects ← field_in o.objects default_geometry.objects
+  segment_size ← field_in o.segment default_geometry.segment_size
+  address ← field_in o.address default_geometry.address
+  packet_length ← field_in o.packet default_geometry.packet_length
+  Some (record {
+    objects = objects;
+    data_area = unwrap_or o.data_area default_geometry.data_area;
+    segment_size = segment_size;
+    address = address;
+    packet_length = packet_length;
+  })
+
+-- the words give this geometry
+abbrev pub GiveGeometry : List Row → Geometry → Type 0
+GiveGeometry rows geometry =
+    (options : Options) × AreGiven rows options × (geometry_asked options ≡ Some geometry)
+
+-- the words give this transport id to the directory of a new disk: the one behind the id that they
+-- name, or the first
+abbrev pub GiveDirectory : List Row → ℕ → Type 0
+GiveDirectory rows directory =
+    (number : Option ℕ) × (after : ℕ) × IsGiven (first_of (codes "after") rows) number
+    × (field_in number 0 ≡ Some after) × (directory ≡ id_after after)

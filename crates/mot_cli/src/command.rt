@@ -1,0 +1,220 @@
+//! The command line, in clap's words.
+ghost use Rattle.std.specs.Prelude.{map, IfErr, IfOk};
+ghost use Rattle.clap.specs.Words.{HasKind, HasMatchesOf, fault_of};
+ghost use Rattle.mot_cli.specs.Command.{motcar_app};
+
+use crate::parts::{Argument, DISK, Kind, Verb, command_line};
+use clap::{ArgMatches, Error};
+use std::alloc::Global;
+use std::convert::AsStr;
+
+/// What the top help says below the list of commands.
+const NOTES: &str = "\
+motcar COMMAND --help lists the arguments of a command.
+motcar --version prints the version, the commit and the toolchain that proved it.
+
+docs/OPERATING.md is the manual. docs/FORMATS.md describes the lines that motcar reads, and its
+replies.
+Exit status: 0 if everything was done, 1 after a refusal, which standard error or the log describes,
+2 if the command line is wrong.";
+
+/// The commands, those that a station needs first.
+const VERBS: &[Verb] = &[
+    Verb {
+        name: "format",
+        about: "Make a disk, and its file if there is none",
+        arguments: &[DISK, OBJECTS, DATA, SEGMENT, ADDRESS, PACKET, AFTER],
+    },
+    Verb {
+        name: "play",
+        about: "Play a disk into a pipe, a device or a file, each packet in one write",
+        arguments: &[
+            DISK,
+            PACKETS,
+            FOLDER,
+            TYPES,
+            ALLOW_EMPTY,
+            AT_ONCE,
+            LINES,
+            EVERY,
+            TURNS,
+            DIRECTORY,
+            LOOK,
+            STATUS,
+            LEVELS,
+        ],
+    },
+    Verb {
+        name: "sync",
+        about: "Make the carousel of a disk equal to a folder",
+        arguments: &[DISK, DIR, TYPES, ALLOW_EMPTY, AT_ONCE],
+    },
+    Verb {
+        name: "serve",
+        about: "Answer lines of standard input on standard output, from a disk",
+        arguments: &[DISK],
+    },
+    Verb {
+        name: "inspect",
+        about: "Print the sizes of a disk, what is free of them, and how long a turn takes",
+        arguments: &[DISK, RATE],
+    },
+    Verb {
+        name: "check",
+        about: "Print the carousel of a disk, whether the disk is clean, and its layout",
+        arguments: &[DISK],
+    },
+    Verb {
+        name: "export",
+        about: "Print the lines that rebuild the carousel of a disk",
+        arguments: &[DISK],
+    },
+    Verb {
+        name: "migrate",
+        about: "Rewrite a disk of layout 1 into layout 2",
+        arguments: &[DISK],
+    },
+    Verb {
+        name: "memory",
+        about: "Answer lines of standard input on standard output, from memory",
+        arguments: &[OBJECTS, DATA, SEGMENT, ADDRESS, PACKET],
+    },
+];
+
+/// The numbers of a geometry.
+const OBJECTS: Argument = Argument {
+    name: "objects",
+    kind: Kind::Number,
+    help: "Objects at most, 1 to 250 [default: 16]",
+};
+
+const DATA: Argument = Argument {
+    name: "data",
+    kind: Kind::Number,
+    help: "Bytes for all bodies, 1 to 268435456 [default: 65536]",
+};
+
+const SEGMENT: Argument = Argument {
+    name: "segment",
+    kind: Kind::Number,
+    help: "Bytes of a segment, 64 to 8189 [default: 1024]",
+};
+
+const ADDRESS: Argument = Argument {
+    name: "address",
+    kind: Kind::Number,
+    help: "Address of the packets, 1 to 1023 [default: 1]",
+};
+
+const PACKET: Argument = Argument {
+    name: "packet",
+    kind: Kind::Number,
+    help: "Bytes of a packet: 24, 48, 72 or 96 [default: 96]",
+};
+
+/// The beginning of a new disk's ids.
+const AFTER: Argument = Argument {
+    name: "after",
+    kind: Kind::Number,
+    help: "Transport id after which the ids begin, 0 to 65535 [default: 0]",
+};
+
+/// What `play` needs besides a disk, and may be given.
+const PACKETS: Argument = Argument {
+    name: "PACKETS",
+    kind: Kind::Word,
+    help: "A named pipe or a device, - for standard output, or a file if --turns is given",
+};
+
+const FOLDER: Argument = Argument {
+    name: "folder",
+    kind: Kind::Path("DIR"),
+    help: "Make the carousel equal to this folder, at the start and then again and again",
+};
+
+const TYPES: Argument = Argument {
+    name: "types",
+    kind: Kind::Path("FILE"),
+    help: "Take files of these suffixes, too: lines SUFFIX TYPE SUBTYPE MIME",
+};
+
+const ALLOW_EMPTY: Argument = Argument {
+    name: "allow-empty",
+    kind: Kind::Flag,
+    help: "Withdraw all objects if the folder has none",
+};
+
+const AT_ONCE: Argument = Argument {
+    name: "at-once",
+    kind: Kind::Flag,
+    help: "Take files that were changed less than two seconds ago, too",
+};
+
+const LINES: Argument = Argument {
+    name: "lines",
+    kind: Kind::Path("DIR"),
+    help: "Answer the lines of the files in this folder, between packets, and remove the files",
+};
+
+const EVERY: Argument = Argument {
+    name: "every",
+    kind: Kind::Number,
+    help: "Read lines every so many packets [default: 8]",
+};
+
+const TURNS: Argument = Argument {
+    name: "turns",
+    kind: Kind::Number,
+    help: "End after so many whole turns; a file is written only with it [default: without end]",
+};
+
+const DIRECTORY: Argument = Argument {
+    name: "directory",
+    kind: Kind::Number,
+    help: "Send the directory again after so many packets; 0: at each turn's beginning \
+        [default: 340 without end, else 0]",
+};
+
+const LOOK: Argument = Argument {
+    name: "look",
+    kind: Kind::Number,
+    help: "Look at the folder after so many packets of a turn, too; 0: between turns \
+        [default: 700 without end, else 0]",
+};
+
+const STATUS: Argument = Argument {
+    name: "status",
+    kind: Kind::Path("FILE"),
+    help: "Write what monitoring asks for into this file: at the start, at each look and every \
+        1,000 packets",
+};
+
+const LEVELS: Argument = Argument {
+    name: "levels",
+    kind: Kind::Flag,
+    help: "Put <4> before log lines that tell of a refusal, and <6> before others, for systemd",
+};
+
+/// The folder of `sync`.
+const DIR: Argument = Argument {
+    name: "DIR",
+    kind: Kind::Word,
+    help: "The folder",
+};
+
+/// The rate of `inspect`.
+const RATE: Argument = Argument {
+    name: "rate",
+    kind: Kind::Number,
+    help: "Time the turn at N kbit/s, a multiple of 8 up to 1824 [default: twelve rates]",
+};
+
+/// What the words after the program's own name match in the command line. The error is that a word
+/// is wrong, that help is asked for, or that memory ran out.
+pub fn motcar_matches<'a, S: AsStr>(alloc: Global, words: &'a [S]) -> Result<ArgMatches<'a>, Error>
+    ensures matches { IfOk result (HasMatchesOf motcar_app (map S.text words.now)) }
+    ensures kinds { IfErr result (HasKind (fault_of motcar_app (map S.text words.now))) }
+{
+    let command = command_line(alloc, VERBS)?;
+    command.after_help(NOTES).try_get_matches_from(words)
+}

@@ -1,0 +1,44 @@
+//! The words and numbers that were given.
+ghost use Rattle.std.specs.Prelude.{◌≡◌, ℕ, Option, IfNone, IfSome};
+ghost use Rattle.clap.specs.Words.{Text, first_of, found_of, rows_of};
+ghost use Rattle.mot_cli.specs.Given.{IsGiven, NameWord, is_set};
+
+use clap::ArgMatches;
+
+/// The word that was given for this one.
+#[tactic(auto, using(crate::proofs::Values::first_found))]
+pub(crate) fn word_of<'a>(words: &ArgMatches<'a>, name: &str) -> Option<&'a str>
+    ensures some { IfSome result
+        (λ word. NameWord (rows_of (found_of words.now)) name.now word.now) }
+    ensures none { IfNone result ((word : Text)
+        → NameWord (rows_of (found_of words.now)) name.now word → ⊥) }
+{
+    words.get_str(name)
+}
+
+/// The number of an option, if it was given; `None` if it is not a number.
+#[tactic(auto, using(crate::proofs::Values::first_found))]
+pub(crate) fn number_of(words: &ArgMatches<'_>, name: &str) -> Option<Option<u32>>
+    ensures some { IfSome result (IsGiven (first_of name.now (rows_of (found_of words.now)))) }
+    ensures none { IfNone result ((number : Option ℕ)
+        → IsGiven (first_of name.now (rows_of (found_of words.now))) number → ⊥) }
+{
+    match words.get_str(name) {
+        Some(text) => match text.parse::<u32>() {
+            Ok(number) => Some(Some(number)),
+            Err(_) => None,
+        },
+        None => Some(None),
+    }
+}
+
+/// Whether a flag was given.
+#[tactic(auto, using(crate::proofs::Values::first_found))]
+pub(crate) fn is_set(words: &ArgMatches<'_>, name: &str) -> bool
+    ensures { result ≡ is_set (rows_of (found_of words.now)) name.now }
+{
+    match words.get_str(name) {
+        Some(word) => word == "true",
+        None => false,
+    }
+}

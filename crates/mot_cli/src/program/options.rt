@@ -1,0 +1,90 @@
+//! The numbers of the command line.
+ghost use Rattle.std.specs.Prelude.{ℕ, ◌≡◌, IfNone, IfSome};
+ghost use Rattle.clap.specs.Words.{found_of, rows_of};
+ghost use Rattle.mot_numbers.specs.declared.geometry.Geometry.{Geometry};
+ghost use Rattle.mot_cli.specs.Program.Options.{AreGiven, GiveDirectory, GiveGeometry, field_in};
+ghost use Rattle.mot_cli.specs.declared.program.options.Options.{Options};
+
+use crate::given::number_of;
+use clap::ArgMatches;
+use mot_numbers::{Geometry, TransportId};
+
+/// The numbers that the words of the command line give.
+#[derive(Clone, Copy, Debug, PartialEq, Eq)]
+pub struct Options {
+    /// `--objects`.
+    pub objects: Option<u32>,
+    /// `--data`.
+    pub data_area: Option<u32>,
+    /// `--segment`.
+    pub segment: Option<u32>,
+    /// `--address`.
+    pub address: Option<u32>,
+    /// `--packet`.
+    pub packet: Option<u32>,
+}
+
+impl Options {
+    ghost use Rattle.mot_cli.specs.Program.Options.{geometry_asked};
+
+    /// The geometry of these numbers, with the default for each that is not given; `None` if one
+    /// does not fit its field.
+    pub fn geometry(self) -> Option<Geometry>
+        ensures { result ≡ geometry_asked self }
+    {
+        let default = Geometry::default();
+        Some(Geometry {
+            objects: field(self.objects, default.objects)?,
+            data_area: self.data_area.unwrap_or(default.data_area),
+            segment_size: field(self.segment, default.segment_size)?,
+            address: field(self.address, default.address)?,
+            packet_length: field(self.packet, default.packet_length)?,
+        })
+    }
+}
+
+/// The number, if it fits; the default, if none is given.
+fn field(number: Option<u32>, default: u16) -> Option<u16>
+    ensures { result ≡ field_in number default }
+{
+    match number {
+        Some(number) => u16::try_from(number).ok(),
+        None => Some(default),
+    }
+}
+
+/// The geometry that the words give; `None` if a number does not fit its field.
+pub(crate) fn geometry_of(matches: &ArgMatches<'_>) -> Option<Geometry>
+    ensures some { IfSome result (GiveGeometry (rows_of (found_of matches.now))) }
+    ensures none { IfNone result ((geometry : Geometry)
+        → GiveGeometry (rows_of (found_of matches.now)) geometry → ⊥) }
+{
+    options_of(matches)?.geometry()
+}
+
+/// The transport id of a new disk's directory: the one after the id that the words give, or else
+/// the first; `None` if the word is not a number, or fits no id.
+pub(crate) fn directory_of(matches: &ArgMatches<'_>) -> Option<TransportId>
+    ensures some { IfSome result (GiveDirectory (rows_of (found_of matches.now))) }
+    ensures none { IfNone result ((directory : ℕ)
+        → GiveDirectory (rows_of (found_of matches.now)) directory → ⊥) }
+{
+    let after = field(number_of(matches, "after")?, 0)?;
+    // Behind the last id comes the first.
+    TransportId::new(after % 65_535 + 1)
+}
+
+/// The numbers of the options that were given; `None` if a word is not a number.
+fn options_of(matches: &ArgMatches<'_>) -> Option<Options>
+    ensures some { IfSome result (AreGiven (rows_of (found_of matches.now))) }
+    ensures none { IfNone result ((options : Options)
+        → AreGiven (rows_of (found_of matches.now)) options → ⊥) }
+{
+    Some(Options {
+        objects: number_of(matches, "objects")?,
+        data_area: number_of(matches, "data")?,
+        segment: number_of(matches, "segment")?,
+        address: number_of(matches, "address")?,
+        packet: number_of(matches, "packet")?,
+    })
+}

@@ -1,0 +1,141 @@
+use Rattle.mot_server.specs.Attempts.{fault_of}
+use Rattle.std.proofs.Common.{inl, inr, ◌≡◌, ℕ, List, Some, ◌++◌, ◌∙◌, ap, refl, sym, subst}
+use Rattle.std.proofs.KnownBytes.{Keeps-refl}
+use Rattle.std.specs.Prelude.{◌↔◌, IsTrue}
+use Rattle.disk_model.specs.Disk.{OnlyReads, OnlySyncs, State}
+use Rattle.disk_model.proofs.Laws.{keeps_on}
+use Rattle.mot_journal.specs.Image.{stands_for, IsClean}
+use Rattle.mot_journal.specs.Journal.{StandsWhere, with_records}
+use Rattle.mot_lines.specs.Listing.{listing_text}
+use Rattle.mot_lines.proofs.Laws.{listing_text-beside}
+use Rattle.mot_commands.specs.Report.{Checks, IsReport, clean_line, layout_line}
+use Rattle.mot_outcome.specs.Outcome.{Prints}
+use Rattle.mot_commands.proofs.Ends.{rises_later, still_unchanged}
+use Rattle.mot_commands.proofs.checking.check_disk.Given as given
+use Rattle.mot_commands.proofs.checking.check_disk.Goals as goal
+use Rattle.mot_commands.proofs.checking.check_disk.Goals.{After-into_disk}
+use Rattle.mot_lines.specs.Listing.{listing_text_beside}
+use Rattle.mot_repository.specs.OnDisk.IsCheckRefusal.{failed, halted}
+use Rattle.mot_journal.specs.Journal.IsReadingRefusal.{device}
+use Rattle.mot_repository.specs.Repository.{RepositoryView}
+use Rattle.mot_repository.proofs.Laws.{stands_where}
+
+pub returns-in-Err : goal.returns-in-Err
+returns-in-Err g c =
+    let state = g.D.Disk.state in
+    let opens = c.in-Err.ensures in
+    let old = g.W.Write.contents c.args.writer.now in
+    subst (λ (e : _). Checks (fault_of e.result) old old (state c.args.disk) (state e.disk))
+    (sym c.unopened.ensures) (
+      opens.only_syncs,
+      inl (
+        c.in-Err.refused.refusal,
+        refl,
+        record { why = opens.refused; calm = opens.calm; still = opens.only_syncs.still },
+        Keeps-refl _,
+      ),
+    )
+
+-- the disk was synced, and then only read
+only_syncs : (start mid now : State) → OnlySyncs start mid → OnlyReads mid now
+    → OnlySyncs start now
+only_syncs start mid now syncs reads = record {
+  keeps = keeps_on start mid now syncs.keeps reads.keeps;
+  still = λ honest. still_unchanged start mid now
+      (syncs.still (reads.keeps.was_honest honest)) (reads.unchanged honest);
+}
+
+-- what is told of the disk's bytes
+text_of : (g : given.Over) → After-into_disk g → List ℕ
+text_of g c =
+    let view = c.in-Ok.repository.view in
+    listing_text_beside view.carousel ++ clean_line c.in-Ok-is_clean.is_clean
+    ++ layout_line view.journal.layout
+
+-- which is what was handed to be printed
+same_text : (g : given.Over) (c : After-into_disk g)
+    → listing_text_beside c.carousel.result.now ++ clean_line c.in-Ok-is_clean.is_clean
+    ++ layout_line c.layout.result ≡ text_of g c
+unfolding text_of
+same_text g c =
+    let view = c.in-Ok.repository.view in
+    let same = c.is_clean.ensures.view in
+    let clean = clean_line c.in-Ok-is_clean.is_clean in
+    ap (λ d. listing_text_beside d ++ clean ++ layout_line c.layout.result)
+    (c.carousel.ensures.value ∙ ap (λ (v : RepositoryView). v.carousel) same)
+    ∙ ap (λ l. listing_text_beside view.carousel ++ clean ++ l)
+    (ap layout_line c.layout.ensures.value
+    ∙ ap (λ (v : RepositoryView). layout_line v.journal.layout) same)
+
+-- and a report of these bytes
+reported : (g : given.Over) (c : After-into_disk g)
+    → (g.D.Disk.state c.into_disk.result).IsHonest
+    → IsReport (g.D.Disk.state c.args.disk).bytes (text_of g c)
+unfolding text_of
+reported g c honest =
+    let state = g.D.Disk.state in
+    let view = c.in-Ok.repository.view in
+    let clean = c.in-Ok-is_clean.is_clean in
+    let opens = c.in-Ok.ensures in
+    let calls = c.in-Ok-is_clean.ensures in
+    let now = subst (λ d. (state d).IsHonest) c.into_disk.ensures honest in
+    let was = calls.only_reads.keeps.was_honest now in
+    let opened = opens.opened was in
+    let same = (opens.only_syncs.still was).bytes in
+    let bytes = (state c.args.disk).bytes in
+    let exact = calls.exact opened.standing now (ap stands_for same ∙ opened.stands)
+    (subst (StandsWhere view.journal) (sym same)
+    (stands_where view.journal opened.records bytes opened.read)) in
+    record {
+      standing = opened.standing;
+      stands = opened.stands;
+      clean = clean;
+      exact = subst (λ b. IsTrue clean ↔ IsClean b) same exact;
+      journal = with_records view.journal opened.records;
+      read = opened.read;
+      shown = ap (λ l. l ++ clean_line clean ++ layout_line view.journal.layout)
+          (listing_text-beside view.carousel opened.agrees.bodies opened.agrees.are_bodies
+          ∙ ap listing_text (sym opened.agrees.carousel));
+    }
+
+pub returns-in-Ok-is_clean : goal.returns-in-Ok-is_clean
+returns-in-Ok-is_clean g c =
+    let state = g.D.Disk.state in
+    let old = g.W.Write.contents c.args.writer.now in
+    let new = g.W.Write.contents c.write_report.new.writer in
+    let ending = fault_of c.write_report.result in (
+      subst (λ d. OnlySyncs (state c.args.disk) (state d)) (sym c.into_disk.ensures)
+          (only_syncs _ _ _ c.in-Ok.ensures.only_syncs c.in-Ok-is_clean.ensures.only_reads),
+      inr (
+        text_of g c,
+        reported g c,
+        subst (λ text. Prints ending text old new) (same_text g c) c.write_report.ensures,
+      ),
+    )
+
+pub returns-in-Err-is_clean : goal.returns-in-Err-is_clean
+returns-in-Err-is_clean g c =
+    let state = g.D.Disk.state in
+    let opens = c.in-Ok.ensures in
+    let calls = c.in-Err-is_clean.ensures in
+    let old = g.W.Write.contents c.args.writer.now in
+    let refusal = c.in-Err-is_clean.refusal in
+    let syncs = only_syncs _ _ _ opens.only_syncs calls.only_reads in
+    subst (λ d. Checks (Some refusal) old old (state c.args.disk) (state d))
+    (sym c.into_disk-in-Err-is_clean.ensures) (elim calls.refused [
+      | halted on is same ↦ absurd (cc (on, opens.going))
+      | failed off is rises ↦ (
+        syncs,
+        inl (
+          refusal,
+          refl,
+          record {
+            why = device is
+                (rises_later _ _ _ opens.only_syncs.keeps.later calls.only_reads.keeps.later rises);
+            calm = inl is;
+            still = syncs.still;
+          },
+          Keeps-refl _,
+        ),
+      )
+    ])

@@ -1,0 +1,33 @@
+use Rattle.mot_server.specs.Attempts.{fault_of}
+use Rattle.std.proofs.Common.{inl, inr, refl, subst, sym}
+use Rattle.std.proofs.KnownBytes.{Keeps-refl}
+use Rattle.disk_store.specs.File.{file_state}
+use Rattle.disk_store.proofs.Laws.{since_opened}
+use Rattle.mot_cli.specs.declared.program.task.Task.TheVariants.{Serve}
+use Rattle.mot_commands.specs.Inner.Finishing.{Finishes}
+use Rattle.mot_commands.specs.Serving.{Serves}
+use Rattle.mot_commands.proofs.Served.{serves-on}
+use Rattle.mot_commands.proofs.serving.serve_file.Goals as goal
+
+pub returns-in-Ok-clause-ended : goal.returns-in-Ok-clause-ended
+returns-in-Ok-clause-ended g c =
+    let remains = g.R.Read.remaining c.args.reader.now in
+    let left = g.R.Read.remaining c.serve_disk-ended.new.reader in
+    let old = g.W.Write.contents c.args.writer.now in
+    let new = g.W.Write.contents c.serve_disk-ended.new.writer in
+    let ended = c.serve_disk-ended.result in
+    let ending = fault_of ended.result in
+    subst (λ (f : _). Finishes (Serve c.args.path) f remains left old new) (sym c.of_file.ensures)
+    (inr (since_opened c.in-Ok.disk.disk ended.disk.disk
+    (λ first now. Serves file_state ended.disk.disk ending remains left old new first)
+    c.in-Ok.ensures.first ended.disk.begins c.serve_disk-ended.ensures.keeps
+    (serves-on (λ d. d.disk) file_state ended.disk (file_state c.in-Ok.disk.disk)
+    remains left old new ending c.serve_disk-ended.ensures.ended)))
+
+pub returns-in-Err-clause-ended : goal.returns-in-Err-clause-ended
+returns-in-Err-clause-ended g c =
+    let remains = g.R.Read.remaining c.args.reader.now in
+    let old = g.W.Write.contents c.args.writer.now in
+    subst (λ (f : _). Finishes (Serve c.args.path) f remains remains old old)
+    (sym c.unopened.ensures)
+    (inl (refl, record { untouched = tt; silent = Keeps-refl _ }, Keeps-refl _))

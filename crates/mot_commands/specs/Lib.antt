@@ -1,0 +1,4 @@
+pub mod Inner
+pub mod Program
+pub mod Report
+pub mod Serving

@@ -1,0 +1,95 @@
+-- What `format`, `check` and `migrate` print, and what they leave of a disk.
+use Rattle.std.specs.Prelude.{◌≡◌, ◌≢◌, ◌⊎◌, ◌↔◌, ℕ, Bool, List, [], ◌∷◌, ◌++◌, Option, Some}
+use Rattle.std.specs.Prelude.{Ok, Err, IsTrue, if◌then◌else◌, codes}
+use Rattle.std.specs.Fmt.{decimal}
+use Rattle.std.specs.Io.KnownBytes.{Keeps}
+use Rattle.disk_model.specs.Disk.{State, IsStill, KeepsLength, OnlySyncs, Throughout}
+use Rattle.mot_export.specs.Opening.{IsUnopened, OfStanding}
+use Rattle.mot_journal.specs.Image.{DiskRecords, Standing, records_of, stands_for}
+use Rattle.mot_journal.specs.Image.{IsClean, IsInLayoutTwo}
+use Rattle.mot_journal.specs.Making.{MakesDisk}
+use Rattle.mot_journal.specs.declared.layout.Layout.{Layout}
+use Rattle.mot_journal.specs.declared.layout.Layout.TheVariants.{One, Two}
+use Rattle.mot_lines.specs.Listing.{listing_text}
+use Rattle.mot_numbers.specs.Geometry.{length_of}
+use Rattle.mot_numbers.specs.Refusal.{IsCalm}
+use Rattle.mot_numbers.specs.declared.geometry.Geometry.{Geometry}
+use Rattle.mot_numbers.specs.declared.refusal.Refusal.{Refusal}
+use Rattle.mot_numbers.specs.declared.refusal.Refusal.TheVariants.{DeviceFault}
+use Rattle.mot_outcome.specs.Outcome.{Prints}
+use Rattle.mot_repository.specs.Opening.{IsOpeningRefusal}
+use Rattle.mot_repository.specs.Repository.{IsOf}
+
+-- In all of these the disk was in a state start and is in a state now, the task ended with this
+-- refusal or with none, and the writer's known bytes were old and are new.
+
+-- The work was refused, and nothing printed; or it was done, and this text printed, or some first
+-- bytes of it.
+abbrev pub Reports : (Refused : Refusal → Type 0) → (Done : List ℕ → Type 0) → Option Refusal
+    → (old new : Option (List ℕ)) → Type 0
+Reports Refused Done ending old new =
+    ((refusal : Refusal) × (ending ≡ Some refusal) × Refused refusal × Keeps old new)
+    ⊎ ((text : List ℕ) × Done text × Prints ending text old new)
+
+-- ---- `format`
+
+abbrev pub formatted_line : Geometry → List ℕ
+formatted_line g = codes "formatted " ++ decimal (length_of g) ++ 10 ∷ []
+
+-- the disk was made, and its length printed; or it could not be made
+abbrev pub Formats : Geometry → (directory : ℕ) → Option Refusal → (old new : Option (List ℕ))
+    → (start now : State) → Type 0
+Formats g directory ending old new start now =
+    Reports (λ refusal. MakesDisk g directory start now (Err refusal))
+    (λ text. MakesDisk g directory start now (Ok tt) × (text ≡ formatted_line g)) ending old new
+
+-- ---- `check`
+
+abbrev pub clean_line : Bool → List ℕ
+clean_line clean = if clean then codes "clean\n" else codes "not clean\n"
+
+abbrev pub layout_line : Layout → List ℕ
+layout_line One = codes "layout 1\n"
+layout_line Two = codes "layout 2\n"
+
+-- what is told of a disk of these bytes: what `list` shows of it, whether it is clean, its layout
+pub record IsReport (bytes text : List ℕ) : Type 0 where
+  pub standing : Standing
+  pub stands : stands_for bytes ≡ Ok standing
+  pub clean : Bool
+  pub exact : IsTrue clean ↔ IsClean bytes
+  pub journal : DiskRecords
+  pub read : records_of bytes ≡ Ok journal
+  pub shown : text
+      ≡ listing_text standing.carousel ++ clean_line clean ++ layout_line journal.layout
+
+-- the disk was only synced, and what it stands for was printed; or it could not be read
+abbrev pub Checks : Option Refusal → (old new : Option (List ℕ)) → (start now : State) → Type 0
+Checks ending old new start now =
+    OnlySyncs start now × Reports (λ refusal. IsUnopened refusal start now)
+    (λ text. now.IsHonest → IsReport start.bytes text) ending old new
+
+-- ---- `migrate`
+
+abbrev pub migrated_line : Bool → List ℕ
+migrated_line done = if done then codes "migrated\n" else codes "already layout 2\n"
+
+-- it stands for what it stood for, in layout 2, and the text tells whether it was of layout 1
+pub record IsMigrated (text : List ℕ) (start now : State) : Type 0 where
+  pub done : Bool
+  pub line : text ≡ migrated_line done
+  pub rewritten : now.IsHonest → (journal : DiskRecords) × (records_of start.bytes ≡ Ok journal)
+      × (IsTrue done ↔ (journal.layout ≡ One))
+  pub is_two : OfStanding
+      (λ s. (image : List ℕ) → now.MayLeave image → IsOf s image × IsInLayoutTwo image) start now
+
+-- A crash at any moment leaves what the disk stood for, clean. It was brought to layout 2; or it
+-- could not be, and was only synced if it did not fail.
+pub record Migrates (ending : Option Refusal) (old new : Option (List ℕ)) (start now : State) :
+    Type 0 where
+  pub keeps : KeepsLength start now
+  pub under : OfStanding (λ s. Throughout start now (IsOf s)) start now
+  pub told : Reports (λ refusal. IsOpeningRefusal start now refusal
+      × IsCalm refusal start.failures now.failures
+      × (refusal ≢ DeviceFault → now.IsHonest → IsStill start now))
+      (λ text. IsMigrated text start now) ending old new

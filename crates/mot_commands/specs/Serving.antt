@@ -1,0 +1,58 @@
+-- What serving says, and what it leaves of a disk.
+use Rattle.std.specs.Prelude.{ℕ, ◌≡◌, ◌⊎◌, List, Option, None, Some, IsFalse}
+use Rattle.std.specs.Io.KnownBytes.{IsAtEnd, Keeps}
+use Rattle.disk_model.specs.Disk.{State}
+use Rattle.mot_export.specs.Opening.{IsUnopened, OfStanding}
+use Rattle.mot_journal.specs.Image.{Standing}
+use Rattle.mot_lines.specs.Lines.{whole_lines, lines_of}
+use Rattle.mot_numbers.specs.declared.refusal.Refusal.{Refusal}
+use Rattle.mot_numbers.specs.declared.refusal.Refusal.TheVariants.{ReadFault, WriteFault}
+use Rattle.mot_server.specs.Server.{ServerView}
+use Rattle.mot_session.specs.LineByLine.{ServesEach, ServesSome}
+use Rattle.mot_session.specs.declared.serving.TheConstants.{MAX_READS}
+use Rattle.mot_session.specs.Served.{TakesInput}
+use Rattle.mot_session.specs.State.{HasJustOpened, StandsFor, state_of}
+
+-- a server just opened, of a disk that stands for this
+pub record IsFresh {D : Type 0} (state : D → State) (s : Standing) (server : ServerView D) :
+    Type 0 where
+  pub stands : StandsFor server.view s (state server.disk)
+  pub opened : HasJustOpened (state_of server s (state server.disk))
+
+-- In these the disk was in a state start, and this is the disk at the end; serving ended with this
+-- refusal or with none; what the reader had left was unread and is left, and the writer's known
+-- bytes were old and are new.
+module _ {D : Type 0} (state : D → State) (disk : D) where
+  -- A server was opened, and between it and the one at the end there is P. If all that a crash
+  -- could leave at the start stood for something, clean, it was opened of that, on a disk that was
+  -- honest till then.
+  pub record OpensTo (start : State) (P : ServerView D → ServerView D → Type 0) : Type 0 where
+    pub first : ServerView D
+    pub last : ServerView D
+    pub on_disk : last.disk ≡ disk
+    pub going : IsFalse first.view.halted
+    pub fresh : OfStanding (λ s. IsFresh state s first) start (state first.disk)
+    pub leads : P first last
+
+  -- Each line of the input was answered; where a read failed, each that has its end; where a write
+  -- failed, the first of them, and the reply to the one behind them was broken off.
+  abbrev pub ServesTill : Option Refusal → (left : Option (List ℕ)) → (input : List ℕ)
+      → (old new : Option (List ℕ)) → (first last : ServerView D) → Type 0
+  ServesTill None left input old new first last =
+      IsAtEnd left × ServesEach state first (lines_of input) last old new
+  ServesTill (Some ReadFault) left input old new first last =
+      ServesEach state first (whole_lines input) last old new
+  ServesTill (Some WriteFault) left input old new first last =
+      (count : ℕ) × (ServesSome state first (whole_lines input) count last old new
+      ⊎ (IsAtEnd left × ServesSome state first (lines_of input) count last old new))
+  ServesTill (Some refusal) left input old new first last = ⊥
+
+  -- no server was opened, and nothing read or printed; or one was, and an input was served
+  pub data Serves (ending : Option Refusal) (unread left old new : Option (List ℕ))
+      (start : State) : Type 0 where
+    unopened : (refusal : Refusal) → ending ≡ Some refusal
+        → IsUnopened refusal start (state disk) → Keeps unread left → Keeps old new
+        → Serves ending unread left old new start
+    opened : (input : List ℕ) → TakesInput MAX_READS unread left input
+        → OpensTo start (ServesTill ending left input old new)
+        → Serves ending unread left old new start

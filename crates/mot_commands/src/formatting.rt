@@ -1,0 +1,126 @@
+//! What `format` does.
+ghost use Rattle.mot_server.specs.Attempts.{fault_of};
+ghost use Rattle.std.specs.Prelude.{List, Option, ℕ};
+ghost use Rattle.mot_cli.specs.declared.program.task.Task.TheVariants.{Format};
+ghost use Rattle.mot_numbers.specs.Geometry.{IsValid};
+ghost use Rattle.mot_outcome.specs.Outcome.{Prints};
+ghost use Rattle.mot_commands.specs.Inner.Finishing.{Finishes};
+ghost use Rattle.mot_commands.specs.Program.{UsesFor};
+ghost use Rattle.mot_commands.specs.Report.{Formats, formatted_line};
+
+use disk_model::Disk;
+use disk_store::{DiskFiles, Start, Unopened};
+use itoa::Buffer;
+use mot_export::Ended;
+use mot_journal::format_from;
+use mot_numbers::{Geometry, Refusal, TransportId};
+use mot_outcome::{Beside, Finished, write_bytes, write_last};
+use mot_reason::Reason;
+use std::io::Write;
+
+/// Makes a disk of the file at the path. The file is made if it can't be opened, and removed again
+/// if the disk could not be made of it. No file is touched for a geometry out of range.
+pub(crate) fn format_file<F: DiskFiles, S: Start, W: Write>(
+    files: &mut F,
+    path: &str,
+    start: S,
+    geometry: Geometry,
+    directory: TransportId,
+    writer: &mut W,
+) -> Finished<S, ()>
+    ensures ended { (unread : Option (List ℕ))
+        → Finishes (Format path.entry geometry directory) result unread unread
+        (W.contents writer.old) (W.contents writer.new) }
+    ensures files { UsesFor (Format path.entry geometry directory) result.disk
+        (F.opened files.old, F.taken_away files.old)
+        (F.opened files.new, F.taken_away files.new) }
+{
+    if !geometry.is_valid() {
+        return Finished::unbegun(Refusal::BadGeometry, None, start);
+    }
+    match files.open_disk(path, start) {
+        Ok(mut disk) => {
+            let result = format_disk(&mut disk, &geometry, directory, writer);
+            let ended = Ended {
+                reason: reason_of(&result, &disk, &geometry),
+                disk,
+                result,
+            };
+            Finished::of_file(ended, Beside::nothing(), None)
+        }
+        Err(unopened) => format_new_file(files, path, unopened, geometry, directory, writer),
+    }
+}
+
+/// Makes a new file, and a disk of it. If it can't be formatted, it is removed again.
+fn format_new_file<F: DiskFiles, S: Start, W: Write>(
+    files: &mut F,
+    path: &str,
+    unopened: Unopened<S>,
+    geometry: Geometry,
+    directory: TransportId,
+    writer: &mut W,
+) -> Finished<S, ()>
+    requires { IsValid geometry }
+    ensures ended { (unread : Option (List ℕ))
+        → Finishes (Format path.entry geometry directory) result unread unread
+        (W.contents writer.old) (W.contents writer.new) }
+    ensures files { UsesFor (Format path.entry geometry directory) result.disk
+        (F.opened files.old, F.taken_away files.old)
+        (F.opened files.new, F.taken_away files.new) }
+{
+    let mut disk = match files.make_disk(path, geometry.length(), unopened.start) {
+        Ok(disk) => disk,
+        Err(unmade) => return Finished::unopened(unmade.behind(unopened.fault)),
+    };
+    let result = format_disk(&mut disk, &geometry, directory, writer);
+    if is_unformatted(&result) {
+        files.take_away(path);
+    }
+    let ended = Ended {
+        disk,
+        result,
+        reason: None,
+    };
+    Finished::of_file(ended, Beside::nothing(), None)
+}
+
+/// Why a disk that was there was not formatted.
+fn reason_of<D: Disk>(made: &Result<(), Refusal>, disk: &D, geometry: &Geometry) -> Option<Reason> {
+    match made {
+        Ok(()) => None,
+        Err(refusal) => Reason::of_formatting(*refusal, disk.len(), geometry),
+    }
+}
+
+/// Whether formatting failed, and not only the telling of it.
+fn is_unformatted(made: &Result<(), Refusal>) -> bool {
+    matches!(made, Err(refusal) if *refusal != Refusal::WriteFault)
+}
+
+/// Makes a disk, and prints how many bytes it has.
+pub(crate) fn format_disk<D: Disk, W: Write>(
+    disk: &mut D,
+    geometry: &Geometry,
+    directory: TransportId,
+    writer: &mut W,
+) -> Result<(), Refusal>
+    ensures { Formats geometry.now directory (fault_of result)
+        (W.contents writer.old) (W.contents writer.new) (D.state disk.old) (D.state disk.new) }
+{
+    match format_from(disk, geometry, directory) {
+        Ok(()) => write_formatted(writer, geometry),
+        Err(refusal) => Err(refusal),
+    }
+}
+
+/// Prints how many bytes a disk has that was formatted.
+fn write_formatted<W: Write>(writer: &mut W, geometry: &Geometry) -> Result<(), Refusal>
+    ensures { Prints (fault_of result) (formatted_line geometry.now)
+        (W.contents writer.old) (W.contents writer.new) }
+{
+    let mut digits = Buffer::new();
+    write_bytes(writer, b"formatted ")?;
+    write_bytes(writer, digits.format(geometry.length()).as_bytes())?;
+    write_last(writer, b"\n")
+}

@@ -1,0 +1,110 @@
+//! What `memory` and `serve` do.
+ghost use Rattle.mot_server.specs.Attempts.{fault_of};
+ghost use Rattle.std.specs.Prelude.{◌≡◌};
+ghost use Rattle.disk_model.specs.Disk.{KeepsLength};
+ghost use Rattle.mot_cli.specs.declared.program.task.Task.TheVariants.{Memory, Serve};
+ghost use Rattle.mot_commands.specs.Inner.Finishing.{Finishes};
+ghost use Rattle.mot_commands.specs.Program.{UsesFor};
+ghost use Rattle.mot_commands.specs.Serving.{Serves};
+
+use disk_model::Disk;
+use disk_store::{DiskFiles, RamDisk, Start};
+use mot_export::Ended;
+use mot_journal::format;
+use mot_numbers::{Geometry, Refusal};
+use mot_outcome::{Beside, Finished, UsedDisk};
+use mot_reason::open_server;
+use mot_session::{MAX_READS, serve};
+use std::alloc::Global;
+use std::io::{Read, Write};
+
+/// Serves the reader's lines from a new disk in memory; answers what ended it before the input's
+/// end.
+pub(crate) fn serve_memory<S: Start, R: Read, W: Write>(
+    alloc: Global,
+    geometry: Geometry,
+    start: S,
+    reader: &mut R,
+    writer: &mut W,
+) -> Finished<S, ()>
+    ensures { Finishes (Memory geometry) result (R.remaining reader.old) (R.remaining reader.new)
+        (W.contents writer.old) (W.contents writer.new) }
+{
+    if !geometry.is_valid() {
+        return Finished::unbegun(Refusal::BadGeometry, None, start);
+    }
+    let Some(mut disk) = RamDisk::new(alloc, geometry.length()) else {
+        return Finished::unbegun(Refusal::OutOfMemory, None, start);
+    };
+    // A disk of zeros that is long enough fails for nothing else.
+    let Ok(()) = format(&mut disk, &geometry) else {
+        return Finished::unbegun(Refusal::OutOfMemory, None, start);
+    };
+    let ended = serve_disk(alloc, disk, reader, writer);
+    Finished {
+        result: ended.result,
+        disk: UsedDisk::InMemory(ended.disk, start),
+        cause: None,
+        reason: None,
+    }
+}
+
+/// Serves the reader's lines from the disk of the file at the path; answers what ended it before
+/// the input's end.
+pub(crate) fn serve_file<F: DiskFiles, S: Start, R: Read, W: Write>(
+    files: &mut F,
+    alloc: Global,
+    path: &str,
+    start: S,
+    reader: &mut R,
+    writer: &mut W,
+) -> Finished<S, ()>
+    ensures ended { Finishes (Serve path.entry) result
+        (R.remaining reader.old) (R.remaining reader.new)
+        (W.contents writer.old) (W.contents writer.new) }
+    ensures files { UsesFor (Serve path.entry) result.disk
+        (F.opened files.old, F.taken_away files.old)
+        (F.opened files.new, F.taken_away files.new) }
+{
+    match files.open_disk(path, start) {
+        Ok(disk) => {
+            let ended = serve_disk(alloc, disk, reader, writer);
+            Finished::of_file(ended, Beside::nothing(), None)
+        }
+        Err(unopened) => Finished::unopened(unopened),
+    }
+}
+
+/// Serves the reader's lines from a disk that it opens.
+fn serve_disk<R: Read, W: Write, D: Disk>(
+    alloc: Global,
+    disk: D,
+    reader: &mut R,
+    writer: &mut W,
+) -> Ended<D, ()>
+    ensures keeps { KeepsLength (D.state disk) (D.state result.disk) }
+    ensures ended { Serves D.state result.disk (fault_of result.result)
+        (R.remaining reader.old) (R.remaining reader.new)
+        (W.contents writer.old) (W.contents writer.new) (D.state disk) }
+{
+    let mut server = match open_server(alloc, disk) {
+        Ok(server) => server,
+        Err(refused) => return Ended::unopened(refused),
+    };
+    let fault = serve(alloc, reader, writer, &mut server, MAX_READS).fault;
+    Ended {
+        disk: server.into_disk(),
+        result: result_of(fault),
+        reason: None,
+    }
+}
+
+/// What serving came to, that this fault ended, or the input's end.
+fn result_of(fault: Option<Refusal>) -> Result<(), Refusal>
+    ensures { fault_of result ≡ fault }
+{
+    match fault {
+        None => Ok(()),
+        Some(refusal) => Err(refusal),
+    }
+}

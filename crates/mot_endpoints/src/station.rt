@@ -1,0 +1,129 @@
+//! What a station has of the system to come to its files by: below `main` nothing is opened but
+//! through it.
+ghost use Rattle.std.specs.Prelude.{◌≡◌, ◌≢◌, ◌≤◌, ◌∷◌, ◌++◌, [], None, Some, IfOk, MatchResult};
+ghost use Rattle.std.specs.Prelude.{codes, false, length};
+ghost use Rattle.disk_store.specs.Beginning.{IsFirst};
+ghost use Rattle.mot_endpoints.specs.Packets.{IsTarget, begun_of, target_of};
+
+use crate::fault::{Cause, LinesFault, TypesFault};
+use crate::lines::{LinePlace, Others, check_folder};
+use crate::packets::{OpenPackets, Target, open_packets};
+use crate::status_file::StatusFile;
+use crate::types::read_text;
+use disk_store::{BegunFile, Start, Unopened, WasThere, open_file};
+use mot_shelf::{Pairs, SystemShelf};
+use std::alloc::Global;
+
+/// The files of a station, by their paths. Each method comes to the files of the path that it
+/// notes, and what it hands out to no others: no contract can say so, and a reader of this file has
+/// to see it.
+#[derive(Drop)]
+pub struct Station<'a> {
+    rt: &'a HostRuntime,
+    /// What was opened so far, in order: what it was opened as, and its path.
+    opened: Pairs,
+}
+
+impl<'a> Station<'a> {
+    /// Nothing was opened.
+    pub fn new(rt: &'a HostRuntime) -> Station<'a>
+        ensures { result.opened.all ≡ [] }
+    {
+        Station {
+            rt,
+            opened: Pairs::new(),
+        }
+    }
+
+    /// Opens the file at the path as a disk.
+    pub fn disk<S: Start>(
+        &mut self,
+        path: &str,
+        start: S,
+    ) -> Result<BegunFile<S, WasThere>, Unopened<S>>
+        ensures first { IfOk result (λ file. IsFirst false file.disk) }
+        ensures opened { MatchResult result
+            (λ _. self.new.opened.all ≡ self.old.opened.all ++ (codes "disk", path.now) ∷ [])
+            (λ _. self.new.opened.all ≡ self.old.opened.all) }
+    {
+        let file = open_file(self.rt, path, start)?;
+        self.opened.note(b"disk", path.as_bytes());
+        Ok(file)
+    }
+
+    /// Opens what the path names, to write packets to it. A pipe or a device is opened for reading
+    /// and writing: so a pipe's opening waits for no reader, and its reader may go and come back.
+    /// The pipe is locked, so that no other program of ours writes to it. A file is written only if
+    /// some turns are asked for: so a pipe that is not there is refused. So is the disk itself, and
+    /// a terminal.
+    pub fn packets(
+        &mut self,
+        path: &'a str,
+        disk: &str,
+        turns: Option<u32>,
+    ) -> Result<OpenPackets<'a>, Cause>
+        ensures target { IfOk result (λ opened. IsTarget path.now (target_of opened)) }
+        ensures begun { IfOk result (λ opened. begun_of opened ≡ path.now ∷ []) }
+        ensures turns { IfOk result (λ opened. target_of opened ≡ Target.File
+            → (turns ≢ None) × (turns ≢ Some 0)) }
+        ensures opened { MatchResult result
+            (λ _. self.new.opened.all ≡ self.old.opened.all ++ (codes "packets", path.now) ∷ [])
+            (λ _. self.new.opened.all ≡ self.old.opened.all) }
+    {
+        let opened = open_packets(self.rt, path, disk, turns)?;
+        self.opened.note(b"packets", path.as_bytes());
+        Ok(opened)
+    }
+
+    /// The folder of objects at the path, of which nothing was read. Files are read `at_once`, or
+    /// once their last change is two seconds ago.
+    pub fn folder(&mut self, path: &'a str, at_once: bool) -> SystemShelf<'a, HostRuntime>
+        ensures path { result.path.now ≡ path.now }
+        ensures rule { result.at_once ≡ at_once }
+        ensures opened { self.new.opened.all
+            ≡ self.old.opened.all ++ (codes "folder", path.now) ∷ [] }
+    {
+        self.opened.note(b"folder", path.as_bytes());
+        SystemShelf::new(self.rt, path, at_once)
+    }
+
+    /// The folder of lines at the path, of which nothing was read. It is not that of the objects,
+    /// and none of the other files stands in it.
+    pub fn lines(
+        &mut self,
+        alloc: Global,
+        path: &'a str,
+        others: Others<'_>,
+    ) -> Result<LinePlace<'a>, LinesFault>
+        ensures path { IfOk result (λ place. place.path ≡ path.entry) }
+        ensures opened { MatchResult result
+            (λ _. self.new.opened.all ≡ self.old.opened.all ++ (codes "lines", path.now) ∷ [])
+            (λ _. self.new.opened.all ≡ self.old.opened.all) }
+    {
+        check_folder(self.rt, alloc, path, others)?;
+        self.opened.note(b"lines", path.as_bytes());
+        Ok(LinePlace::new(self.rt, path))
+    }
+
+    /// The bytes of the file that adds suffixes: 65,536 at most.
+    pub fn types(&mut self, alloc: Global, path: &str) -> Result<Vec<u8>, TypesFault>
+        ensures len { IfOk result (λ text. length text.items ≤ 65536) }
+        ensures opened { MatchResult result
+            (λ _. self.new.opened.all ≡ self.old.opened.all ++ (codes "types", path.now) ∷ [])
+            (λ _. self.new.opened.all ≡ self.old.opened.all) }
+    {
+        let text = read_text(self.rt, alloc, path)?;
+        self.opened.note(b"types", path.as_bytes());
+        Ok(text)
+    }
+
+    /// The file of the status at the path, to which nothing was written.
+    pub fn status(&mut self, path: &'a str, disk: &'a str) -> StatusFile<'a>
+        ensures path { result.path.now ≡ path.now }
+        ensures opened { self.new.opened.all
+            ≡ self.old.opened.all ++ (codes "status", path.now) ∷ [] }
+    {
+        self.opened.note(b"status", path.as_bytes());
+        StatusFile::new(self.rt, path, disk)
+    }
+}

@@ -1,0 +1,185 @@
+-- A disk inspected, from its opening on.
+use Rattle.std.proofs.Common.{◌≡◌, ◌∙◌, ℕ, suc, ◌+◌, List, [], ◌∷◌, ◌++◌, length, map, Option}
+use Rattle.std.proofs.Common.{Result, Ok, Err, refl, sym, ap, subst, arith, inl, inr}
+use Rattle.std.proofs.lemmas.List.Sums.{sum_by-append}
+use Rattle.std.specs.Prelude.{IfErr, IsFalse, OnOk}
+use Rattle.std.specs.List.{fold, sum_by}
+use Rattle.std.specs.Io.KnownBytes.{Appends}
+use Rattle.disk_model.specs.Disk.{IsHonestDisk, IsStill, State, OnlyReads, OnlySyncs}
+use Rattle.mot_journal.specs.Image.{Standing}
+use Rattle.mot_journal.specs.Journal.{with_records}
+use Rattle.mot_numbers.specs.declared.geometry.Geometry.{Geometry}
+use Rattle.mot_numbers.specs.declared.refusal.Refusal.{Refusal}
+use Rattle.mot_numbers.specs.declared.refusal.Refusal.TheVariants.{WriteFault}
+use Rattle.mot_objects.specs.Carousel.{Object}
+use Rattle.mot_objects.specs.Carousel as whole
+use Rattle.mot_objects.specs.declared.object.Object as beside
+use Rattle.mot_objects.specs.Stands.{carousel_of, objects_of}
+use Rattle.mot_player.specs.Place.{Place}
+use Rattle.mot_player.specs.Turn.{turn_of_carousel}
+use Rattle.mot_export.specs.Inspecting.{Inspects, StopsInspecting, bytes_of_all, bytes_of_bodies}
+use Rattle.mot_export.specs.Inspecting.{inspection_text, rates_of, sizes_text, turn_lengths_text}
+use Rattle.mot_export.specs.Inspecting.{TellsOfDisk, no_memory, uncounted, unprinted, unread}
+use Rattle.mot_export.specs.Inspecting.{turn_text, use_text}
+use Rattle.mot_export.specs.Inner.Inspected.{HasInspected, IsInspectingFault}
+use Rattle.mot_export.specs.Opening.{OfStanding, first_place}
+use Rattle.mot_export.proofs.Opened.{all_hold, rises_later}
+use Rattle.mot_repository.specs.Opening.{IsOpened}
+use Rattle.mot_repository.specs.Repository.{Agrees, Holds, RepositoryView}
+use Rattle.mot_server.specs.Playing.{HasPlayedTurn}
+use Rattle.mot_server.specs.Server.{ServerView, place_in}
+use Rattle.mot_server.proofs.Laws.{still_unchanged}
+use Rattle.mot_session.specs.Served.{WritesFront}
+
+-- one packet more
+pub bytes_more : (packets : List (List ℕ)) (packet : List ℕ)
+    → bytes_of_all (packets ++ packet ∷ []) ≡ bytes_of_all packets + length packet
+bytes_more packets packet =
+    let both = sum_by-append length packets (packet ∷ []) in omega (arith, both)
+
+abbrev AreLengths : List beside.Object → List (List ℕ) → Type 0
+AreLengths os bodies = map length bodies ≡ map (λ (o : beside.Object). o.length) os
+
+others : (o : beside.Object) (os : List beside.Object) (b : List ℕ) (bodies : List (List ℕ))
+    → AreLengths (o ∷ os) (b ∷ bodies) → AreLengths os bodies
+others o os b bodies e = cc
+
+first_length : (o : beside.Object) (os : List beside.Object) (b : List ℕ) (bodies : List (List ℕ))
+    → AreLengths (o ∷ os) (b ∷ bodies) → o.length ≡ length b
+first_length o os b bodies e = cc
+
+-- as many objects with their bodies as without
+same_count : (os : List beside.Object) (bodies : List (List ℕ)) → AreLengths os bodies
+    → length os ≡ length (objects_of os bodies)
+same_count [] bodies e = refl
+same_count (o ∷ os) [] e = absurd (cc)
+same_count (o ∷ os) (b ∷ bodies) e = ap suc (same_count os bodies (others o os b bodies e))
+
+-- and as many bytes
+same_bytes : (a : ℕ) (os : List beside.Object) (bodies : List (List ℕ)) → AreLengths os bodies
+    → fold (λ (n : ℕ) (o : beside.Object). n + o.length) a os
+    ≡ fold (λ (n : ℕ) (o : Object). n + length o.body) a (objects_of os bodies)
+same_bytes a [] bodies e = refl
+same_bytes a (o ∷ os) [] e = absurd (cc)
+same_bytes a (o ∷ os) (b ∷ bodies) e =
+    same_bytes (a + o.length) os bodies (others o os b bodies e)
+    ∙ ap (λ m. fold (λ (n : ℕ) (o : Object). n + length o.body) (a + m) (objects_of os bodies))
+    (first_length o os b bodies e)
+
+-- a text of eight parts, with the same parts
+same_text : (text : Geometry → Geometry → ℕ → ℕ → ℕ → ℕ → Geometry → whole.Carousel → List ℕ)
+    (a b e g : Geometry) (n n' u u' k k' m m' : ℕ) (c c' : whole.Carousel)
+    → a ≡ g → b ≡ g → n ≡ n' → u ≡ u' → k ≡ k' → m ≡ m' → e ≡ g → c ≡ c'
+    → text a b n u k m e c ≡ text g g n' u' k' m' g c'
+same_text text a b e g n n' u u' k k' m m' c c' first second ns us ks ms third cs = cc
+
+module _ (view : RepositoryView) (s : Standing) (agrees : Agrees view s) where
+  abbrev items : List beside.Object
+  items = view.carousel.objects.items
+
+  number : length items ≡ length s.carousel.objects
+  number =
+      same_count items agrees.bodies agrees.are_bodies
+      ∙ ap (λ (c : whole.Carousel). length c.objects) (sym agrees.carousel)
+
+  used : sum_by (λ (o : beside.Object). o.length) items ≡ bytes_of_bodies s.carousel.objects
+  used =
+      same_bytes 0 items agrees.bodies agrees.are_bodies
+      ∙ ap (λ (c : whole.Carousel). bytes_of_bodies c.objects) (sym agrees.carousel)
+
+  -- what was told of what is kept in memory is told of what the disk stands for
+  pub told_text : (g : Geometry) (gap count bytes : ℕ) (packets : List (List ℕ)) (rates : List ℕ)
+      → g ≡ view.journal.geometry → count ≡ length packets → bytes ≡ bytes_of_all packets
+      → sizes_text g ++ use_text view.journal.geometry view.journal.layout (length items)
+      (sum_by (λ (o : beside.Object). o.length) items) gap view.journal.count
+      ++ turn_text count bytes ++ turn_lengths_text rates view.journal.geometry.segment_size
+      (turn_of_carousel (carousel_of view.carousel agrees.bodies)
+      view.journal.geometry.segment_size)
+      ≡ inspection_text s view.journal.layout view.journal.count gap packets rates
+  told_text g gap count bytes packets rates sizes counted all =
+      same_text (λ a b n u k m e c. sizes_text a
+      ++ use_text b view.journal.layout n u gap view.journal.count
+      ++ turn_text k m
+      ++ turn_lengths_text rates e.segment_size (turn_of_carousel c e.segment_size))
+      g view.journal.geometry view.journal.geometry s.geometry
+      (length items) (length s.carousel.objects)
+      (sum_by (λ (o : beside.Object). o.length) items) (bytes_of_bodies s.carousel.objects)
+      count (length packets) bytes (bytes_of_all packets)
+      (carousel_of view.carousel agrees.bodies) s.carousel
+      (sizes ∙ agrees.geometry) agrees.geometry number used counted all agrees.geometry
+      (sym agrees.carousel)
+
+module _ {D : Type 0} (state : D → State) (disk : D) (server new : ServerView D)
+    (sound : (d : D) → (state d).IsHonest → IsHonestDisk (state d))
+    (opens : OnlySyncs (state disk) (state server.disk))
+    (opened : (state server.disk).IsHonest → IsOpened (state disk) (state server.disk) server.view)
+    (going : IsFalse server.view.halted)
+    (at_start : (s : Standing) → Agrees server.view s → place_in server s ≡ first_place s)
+    (reads : OnlyReads (state server.disk) (state new.disk))
+    (rate : Option ℕ) (before after : Option (List ℕ)) where
+  still_all : (state new.disk).IsHonest → IsStill (state disk) (state new.disk)
+  still_all honest =
+      still_unchanged (state disk) (state server.disk) (state new.disk)
+      (opens.still (reads.keeps.was_honest honest)) (reads.unchanged honest)
+
+  -- what is told of an open server is told of the disk, from its opening on
+  tells_of : (is_printed : List ℕ → Type 0)
+      → ((s : Standing) → Holds server.view s (state server.disk) → (state new.disk).IsHonest
+      → HasInspected rate server.view.journal (place_in server s) s is_printed)
+      → OfStanding (λ s. TellsOfDisk (rates_of rate) s (state disk).bytes is_printed) (state disk) (state new.disk)
+  tells_of is_printed told = λ s honest all.
+      let was = reads.keeps.was_honest honest in
+      let first = opened was in
+      let holds = all_hold (state disk) (state server.disk) server.view s
+      (sound disk (opens.keeps.was_honest was)) all first was (sound server.disk was)
+      (opens.still was) going in
+      let has = told s holds honest in
+      record {
+        journal = with_records server.view.journal first.records;
+        read = first.read;
+        gap = has.gap;
+        longest = has.longest;
+        packets = has.packets;
+        place = has.last;
+        turn = subst (λ (p : Place). HasPlayedTurn p has.packets has.last)
+            (at_start s holds.agrees) has.turn;
+        printed = subst (λ n. is_printed
+            (inspection_text s server.view.journal.layout n has.gap has.packets (rates_of rate)))
+            first.count
+            has.printed;
+      }
+
+  -- so it inspects the disk
+  pub inspects : (result : Result Unit Refusal)
+      → ((s : Standing) → Holds server.view s (state server.disk) → (state new.disk).IsHonest
+      → OnOk result (HasInspected rate server.view.journal (place_in server s) s
+      (Appends before after)))
+      → OnOk result (Inspects rate before after (state disk) (state new.disk))
+  inspects (Err refusal) told = tt
+  inspects (Ok done) told = record {
+    still = still_all;
+    told = tells_of (Appends before after) told;
+  }
+
+  -- a fault of the telling stops the inspection, from the disk's opening on
+  pub stops : (result : Result Unit Refusal)
+      → ((s : Standing) → Holds server.view s (state server.disk) → (state new.disk).IsHonest
+      → IfErr result (λ r. r ≡ WriteFault → HasInspected rate server.view.journal (place_in server s) s
+      (λ text. WritesFront text before after)))
+      → IfErr result (λ r. IsInspectingFault r (state server.disk).failures
+      (state new.disk).failures before after)
+      → IfErr result (λ r. StopsInspecting rate r before after (state disk) (state new.disk))
+  stops (Ok done) broken why = tt
+  stops (Err refusal) broken (inl is) =
+      unprinted is still_all
+      (tells_of (λ text. WritesFront text before after) (λ s holds honest. broken s holds honest
+      is))
+  stops (Err refusal) broken (inr silent) = elim silent.0 [
+    | inl counting ↦ elim counting [
+      | inl is ↦ uncounted is silent.1 still_all
+      | inr failed ↦ unread failed.0 (rises_later (state disk).failures
+          (state server.disk).failures (state new.disk).failures opens.keeps.later
+          reads.keeps.later failed.1) silent.1 still_all
+    ]
+    | inr is ↦ no_memory is silent.1 still_all
+  ]

@@ -1,0 +1,59 @@
+-- Frames filled, as they were measured behind a multiplexer.
+use Rattle.std.proofs.Common.{◌≡◌, true, false, [], ◌∷◌, replicate, refl}
+use Rattle.mot_player.specs.Turn.{Turn}
+use Rattle.mot_export.specs.Filling.{frame_size, frames_of, lengths_of_group, lengths_of_turn}
+use Rattle.mot_export.specs.Filling.{tenths_of}
+use Rattle.mot_export.specs.Inspecting.{filled_above, filled_below}
+
+-- forty objects of 90 bytes, with names of three
+abbrev small : Turn
+small = record {
+  tid = 1;
+  directory = replicate 693 0;
+  bodies = replicate 40 (2, replicate 90 0);
+}
+
+-- a group's last packet is the shortest that holds the rest
+cut-96 : lengths_of_group 91 101 ≡ 96 ∷ 24 ∷ []
+cut-96 = refl
+
+cut-72 : lengths_of_group 67 101 ≡ 72 ∷ 48 ∷ []
+cut-72 = refl
+
+-- at 32 kbit/s they were 2.11 seconds in packets of 96 bytes, and 2.18 in those of 72
+frames-96 : (frames_of (frame_size 32) (lengths_of_turn 91 1024 small)).begun ≡ 88
+frames-96 = refl
+
+frames-72 : (frames_of (frame_size 32) (lengths_of_turn 67 1024 small)).begun ≡ 91
+frames-72 = refl
+
+told-88 : tenths_of 88 ≡ 22
+told-88 = refl
+
+-- at 8 and 16 kbit/s no packet of 96 bytes is sent, and at 16 one of 48
+never-8 : (frames_of (frame_size 8) (96 ∷ 24 ∷ [])).fits ≡ false
+never-8 = refl
+
+never-16 : (frames_of (frame_size 16) (96 ∷ 24 ∷ [])).fits ≡ false
+never-16 = refl
+
+sent-16 : (frames_of (frame_size 16) (48 ∷ 24 ∷ 24 ∷ [])).fits ≡ true
+sent-16 = refl
+
+-- at 48 kbit/s a frame has one packet of 96 bytes, and two of 72
+one-96 : (frames_of (frame_size 48) (96 ∷ 96 ∷ 96 ∷ [])).begun ≡ 3
+one-96 = refl
+
+two-72 : (frames_of (frame_size 48) (72 ∷ 72 ∷ 72 ∷ 72 ∷ [])).begun ≡ 2
+two-72 = refl
+
+-- a short packet behind long ones fills their frame
+filled : (frames_of (frame_size 40) (96 ∷ 24 ∷ 96 ∷ 24 ∷ [])).begun ≡ 2
+filled = refl
+
+-- beside 1,024 bytes the groups of these segments fill packets of 96 bytes
+below : filled_below 1024 91 ≡ 990
+below = refl
+
+above : filled_above 1024 91 ≡ 1081
+above = refl

@@ -1,0 +1,34 @@
+use Rattle.std.proofs.Common.{◌≡◌, ◌∙◌, ◌+◌, ◌-◌, min, ap, arith}
+use Rattle.std.specs.List.{fold}
+use Rattle.mot_numbers.specs.PacketLength.{room_of}
+use Rattle.mot_export.specs.Filling.{with_packet}
+use Rattle.mot_export.specs.Inner.Lengths.{segment_lengths}
+use Rattle.mot_export.proofs.Filled.{segment-more}
+use Rattle.mot_export.proofs.filling.fill_entity.Goals as goal
+
+pub loop-preserved : goal.loop-preserved
+loop-preserved c =
+    let size = c.args.size in
+    let room = room_of c.args.full_length in
+    let full = c.args.segment_size in
+    let count = c.segment_count-count.result in
+    let is = c.loop.invariant in
+    let end = fold (with_packet size) c.args.frames.now
+    (segment_lengths count room full c.args.len) in
+    let full_is : c.from-full.result ≡ full = c.from-full.ensures ∙ c.get.ensures.value in
+    record {
+      filled =
+          ap (λ n. fold (with_packet size) c.fill_group.new.frames
+          (segment_lengths (count - (c.loop.counter + 1)) room full n))
+          (c.saturating_sub-rest.ensures ∙ ap (λ f. c.loop.rest - f) full_is)
+          ∙ segment-more size room end full count c.loop.counter c.loop.rest (c.min.result + 11)
+          c.loop.frames c.fill_group.new.frames c.loop-test.true is.filled
+          (ap (λ n. n + 11) (c.min.ensures ∙ ap (λ f. min f c.loop.rest) full_is))
+          c.fill_group.ensures.filled;
+      few =
+          let so_far = is.few in
+          let one = c.fill_group.ensures.few in
+          let least = c.min.ensures in
+          let range = c.get.ensures.range.1 in
+          omega (arith, so_far, one, least, full_is, range);
+    }

@@ -1,0 +1,83 @@
+use Rattle.std.proofs.Common.{◌≡◌, ◌∙◌, ◌++◌, ℕ, List, Result, Ok, Err, ap, length, refl, sym}
+use Rattle.std.proofs.Common.{subst}
+use Rattle.std.specs.Prelude.{IfErr}
+use Rattle.mot_numbers.specs.declared.refusal.Refusal.{Refusal}
+use Rattle.std.specs.List.{sum_by}
+use Rattle.std.specs.Io.KnownBytes.{Appends}
+use Rattle.std.proofs.lemmas.Result.{on_ok_weaker}
+use Rattle.mot_journal.specs.Image.{Standing}
+use Rattle.mot_objects.specs.Stands.{carousel_of}
+use Rattle.mot_objects.specs.declared.object.Object.{Object}
+use Rattle.mot_player.specs.Turn.{turn_of_carousel}
+use Rattle.mot_export.proofs.Inspected.{told_text}
+use Rattle.mot_export.specs.Inspecting.{inspection_text, rates_of, sizes_text, turn_lengths_text}
+use Rattle.mot_export.specs.Inspecting.{turn_text}
+use Rattle.mot_export.specs.Inspecting.{use_text}
+use Rattle.mot_export.specs.Inner.Inspected.{HasInspected}
+use Rattle.mot_repository.specs.Gap.{IsLongestGap}
+use Rattle.mot_repository.specs.Repository.{Agrees, Holds, RepositoryView}
+use Rattle.mot_server.specs.Server.{place_in}
+use Rattle.mot_session.specs.Served.{WritesFront}
+use Rattle.mot_export.proofs.inspecting.write_inspection.Given as given
+use Rattle.mot_export.proofs.inspecting.write_inspection.Goals as goal
+use Rattle.mot_export.proofs.inspecting.write_inspection.Goals.{After-drop-text-2}
+
+-- what holds of a refusal, of one that it came with
+if_err : {P Q : Refusal → Type 0} (r : Result Unit Refusal) → ((e : Refusal) → P e → Q e)
+    → IfErr r P → IfErr r Q
+if_err (Ok done) more p = tt
+if_err (Err e) more p = more e p
+
+-- what is known of the text that was to be printed is known of what is told of the disk
+inspected : (g : given.Over) (c : After-drop-text-2 g) (is_printed : List ℕ → Type 0)
+    → is_printed c.deref.result.now → (s : Standing)
+    → Holds c.args.server.now.view s (g.D.Disk.state c.args.server.now.disk)
+    → (g.D.Disk.state c.count_turn.new.server.disk).IsHonest
+    → HasInspected c.args.rate c.args.server.now.view.journal (place_in c.args.server.now s) s
+    is_printed
+inspected g c is_printed printed s holds honest =
+    let view = c.args.server.now.view in
+    let now = c.count_turn.new.server.view in
+    let same = c.in_ok-packets.ensures.view in
+    let size = c.in_ok-packets.ensures.counted s holds honest in
+    let packets = c.in_ok-packets.field-0.packets in
+    let bytes = c.in_ok-packets.field-0.bytes in
+    let agrees : Agrees now s =
+    subst (λ (v : RepositoryView). Agrees v s) (sym same) holds.agrees in
+    let told = c.in-Ok.ensures agrees.bodies agrees.are_bodies in
+    let gap = told.0 in
+    let objects = now.carousel.objects.items in
+    let whole = sizes_text now.journal.geometry
+    ++ use_text now.journal.geometry now.journal.layout (length objects)
+    (sum_by (λ (o : Object). o.length) objects) gap now.journal.count
+    ++ turn_text packets bytes
+    ++ turn_lengths_text (rates_of c.args.rate) now.journal.geometry.segment_size
+    (turn_of_carousel (carousel_of now.carousel agrees.bodies) now.journal.geometry.segment_size) in
+    let text : c.deref.result.now ≡ whole =
+    c.deref.ensures.value ∙ told.2 ∙ ap (λ l. l ++ whole) c.new-text.ensures.items in
+    record {
+      gap = gap;
+      longest = subst (λ e. IsLongestGap e s.geometry.data_area gap) agrees.extents
+          (subst (λ (g : _). IsLongestGap now.extents g.data_area gap) agrees.geometry told.1);
+      packets = size.packets;
+      last = size.last;
+      turn = size.turn;
+      printed = subst (λ (v : RepositoryView). is_printed
+          (inspection_text s v.journal.layout v.journal.count gap size.packets (rates_of c.args.rate))) same
+          (subst is_printed (text ∙ told_text now s agrees now.journal.geometry gap packets bytes
+          size.packets (rates_of c.args.rate) refl size.count_is size.bytes_are) printed);
+    }
+
+pub returns-clause-told : goal.returns-clause-told
+returns-clause-told g c = λ s holds honest.
+    let old = g.W.Write.contents c.args.writer.now in
+    let new = g.W.Write.contents c.print.new.writer in
+    on_ok_weaker c.print.result (λ printed. inspected g c (Appends old new) printed s holds honest)
+    c.print.ensures.written
+
+pub returns-clause-broken : goal.returns-clause-broken
+returns-clause-broken g c = λ s holds honest.
+    let old = g.W.Write.contents c.args.writer.now in
+    let new = g.W.Write.contents c.print.new.writer in
+    if_err c.print.result (λ r broken is. inspected g c (λ text. WritesFront text old new)
+    broken.1 s holds honest) c.print.ensures.front

@@ -1,0 +1,171 @@
+-- The lines about a disk's sizes, what is free of them, and its turn.
+use Rattle.std.specs.Prelude.{◌≡◌, ℕ, ◌+◌, ◌-◌, ◌*◌, ◌/◌, ◌%◌, ◌&&◌, nat_le, if◌then◌else◌, List, []}
+use Rattle.std.specs.Prelude.{◌∷◌, ◌++◌, length, flat_map, Option, Some, None, Ok, codes}
+use Rattle.std.specs.Fmt.{decimal}
+use Rattle.std.specs.List.{sum_by}
+use Rattle.std.specs.Io.KnownBytes.{Appends, Keeps}
+use Rattle.disk_model.specs.Disk.{State, IsStill}
+use Rattle.disk_model.specs.Failures.{Rises}
+use Rattle.mot_journal.specs.Image.{DiskRecords, Standing, records_of}
+use Rattle.mot_journal.specs.Slot.{slot_count}
+use Rattle.mot_journal.specs.declared.layout.Layout.{Layout}
+use Rattle.mot_numbers.specs.declared.geometry.Geometry.{Geometry}
+use Rattle.mot_numbers.specs.declared.numbers.TheConstants.{MAX_SEGMENT, MIN_SEGMENT}
+use Rattle.mot_numbers.specs.declared.refusal.Refusal.{Refusal}
+use Rattle.mot_numbers.specs.declared.refusal.Refusal.TheVariants.{BadNumber, DeviceFault}
+use Rattle.mot_numbers.specs.declared.refusal.Refusal.TheVariants.{OutOfMemory, WriteFault}
+use Rattle.mot_objects.specs.Carousel.{Object}
+use Rattle.mot_player.specs.Place.{Place}
+use Rattle.mot_player.specs.Turn.{Turn, turn_of_carousel}
+use Rattle.mot_export.specs.Filling.{frame_size, frames_of, lengths_of_turn, tenths_of}
+use Rattle.mot_export.specs.declared.filling.Frames.{Frames}
+use Rattle.mot_export.specs.Opening.{IsUnopened, OfStanding, first_place}
+use Rattle.mot_repository.specs.Gap.{IsLongestGap}
+use Rattle.mot_server.specs.Playing.{HasPlayedTurn}
+use Rattle.mot_session.specs.Served.{WritesFront}
+
+-- a word and a number
+abbrev pub number_line : List ℕ → ℕ → List ℕ
+number_line word n = word ++ codes " " ++ decimal n ++ 10 ∷ []
+
+-- so many in all, of which so many are used
+abbrev pub shares_line : List ℕ → ℕ → ℕ → List ℕ
+shares_line word all used =
+    word ++ codes " " ++ decimal all ++ codes " used " ++ decimal used ++ codes " free "
+    ++ decimal (all - used) ++ 10 ∷ []
+
+-- what the multiplexer and the receiver have to know
+abbrev pub sizes_text : Geometry → List ℕ
+sizes_text g =
+    number_line (codes "address") g.address ++ number_line (codes "packet") g.packet_length
+    ++ number_line (codes "segment") g.segment_size
+
+-- the bytes for bodies, and the most that lie free in one piece
+abbrev pub data_text : ℕ → ℕ → ℕ → List ℕ
+data_text all used gap = shares_line (codes "data") all used ++ number_line (codes "gap") gap
+
+-- what is used and free: objects, bytes for bodies, and slots for commands before a rewrite
+abbrev pub use_text : Geometry → Layout → (objects bytes gap records : ℕ) → List ℕ
+use_text g layout objects bytes gap records =
+    shares_line (codes "objects") g.objects objects ++ data_text g.data_area bytes gap
+    ++ shares_line (codes "slots") (slot_count layout g) records
+
+-- how long frames are in seconds and their tenths; or that a packet fits in none, so that the turn
+-- stays in front of it
+abbrev pub seconds_column : Frames → List ℕ
+seconds_column f =
+    if f.fits
+    then codes " " ++ decimal (tenths_of f.begun / 10) ++ codes "." ++ decimal (tenths_of f.begun % 10)
+    else codes " never"
+
+-- how long the packets of a turn take at so many kbit/s: in packets of 24, 48, 72 and 96 bytes they
+-- have these lengths
+abbrev pub seconds_line : (rate : ℕ) → (in_24 in_48 in_72 in_96 : List ℕ) → List ℕ
+seconds_line rate in_24 in_48 in_72 in_96 =
+    codes "seconds " ++ decimal rate ++ seconds_column (frames_of (frame_size rate) in_24)
+    ++ seconds_column (frames_of (frame_size rate) in_48)
+    ++ seconds_column (frames_of (frame_size rate) in_72)
+    ++ seconds_column (frames_of (frame_size rate) in_96) ++ 10 ∷ []
+
+-- the longest segment no longer than this one whose group fills its packets, and the shortest that
+-- is longer: a group has 11 bytes more
+abbrev pub filled_below : (size room : ℕ) → ℕ
+filled_below size room = (size + 11) / room * room - 11
+
+abbrev pub filled_above : (size room : ℕ) → ℕ
+filled_above size room = (size + 11) / room * room + room - 11
+
+abbrev pub size_column : ℕ → List ℕ
+size_column size =
+    if nat_le MIN_SEGMENT size && nat_le size MAX_SEGMENT then codes " " ++ decimal size
+    else codes " none"
+
+abbrev pub filled_line : List ℕ → (ℕ → ℕ) → List ℕ
+filled_line word size_for =
+    word ++ size_column (size_for 19) ++ size_column (size_for 43) ++ size_column (size_for 67)
+    ++ size_column (size_for 91) ++ 10 ∷ []
+
+-- the rates that are printed, in kbit/s
+abbrev pub usual_rates : List ℕ
+usual_rates = 8 ∷ 16 ∷ 24 ∷ 32 ∷ 40 ∷ 48 ∷ 56 ∷ 64 ∷ 80 ∷ 96 ∷ 112 ∷ 128 ∷ []
+
+abbrev pub rates_of : Option ℕ → List ℕ
+rates_of None = usual_rates
+rates_of (Some rate) = rate ∷ []
+
+-- the same turn in packets of each length
+abbrev pub lengths_text : (rates : List ℕ) → (size : ℕ) → (in_24 in_48 in_72 in_96 : List ℕ) → List ℕ
+lengths_text rates size in_24 in_48 in_72 in_96 =
+    codes "packets 24 48 72 96" ++ 10 ∷ [] ++ filled_line (codes "shorter") (filled_below size)
+    ++ filled_line (codes "longer") (filled_above size)
+    ++ flat_map (λ (rate : ℕ). seconds_line rate in_24 in_48 in_72 in_96) rates
+
+-- a turn of so many packets and bytes
+abbrev pub turn_text : ℕ → ℕ → List ℕ
+turn_text packets bytes =
+    codes "turn " ++ decimal packets ++ codes " packets " ++ decimal bytes ++ codes " bytes" ++ 10
+    ∷ []
+
+-- the bytes of all bodies, and of all packets
+abbrev pub bytes_of_bodies : List Object → ℕ
+bytes_of_bodies objects = sum_by (λ (o : Object). length o.body) objects
+
+abbrev pub bytes_of_all : List (List ℕ) → ℕ
+bytes_of_all packets = sum_by length packets
+
+-- the lines about a turn in packets of each length
+abbrev pub turn_lengths_text : List ℕ → ℕ → Turn → List ℕ
+turn_lengths_text rates size turn =
+    lengths_text rates size (lengths_of_turn 19 size turn) (lengths_of_turn 43 size turn)
+    (lengths_of_turn 67 size turn) (lengths_of_turn 91 size turn)
+
+-- all that is told, with the longest gap, the packets of a turn, and the rates of sub-channels
+abbrev pub inspection_text : Standing → Layout → ℕ → ℕ → List (List ℕ) → List ℕ → List ℕ
+inspection_text s layout records gap packets rates =
+    sizes_text s.geometry
+    ++ use_text s.geometry layout (length s.carousel.objects) (bytes_of_bodies s.carousel.objects)
+    gap records
+    ++ turn_text (length packets) (bytes_of_all packets)
+    ++ turn_lengths_text rates s.geometry.segment_size
+    (turn_of_carousel s.carousel s.geometry.segment_size)
+
+-- In these the disk was in a state start and is in a state now, and the writer's known bytes were
+-- old and are new.
+
+-- what was printed, of which this is known, tells of a disk of these bytes, which stands for s
+pub record TellsOfDisk (rates : List ℕ) (s : Standing) (bytes : List ℕ)
+    (is_printed : List ℕ → Type 0) : Type 0 where
+  pub journal : DiskRecords
+  pub read : records_of bytes ≡ Ok journal
+  pub gap : ℕ
+  pub longest : IsLongestGap s.extents s.geometry.data_area gap
+  pub packets : List (List ℕ)
+  pub place : Place
+  pub turn : HasPlayedTurn (first_place s) packets place
+  pub printed : is_printed (inspection_text s journal.layout (length journal.records) gap packets
+      rates)
+
+-- the disk was only synced, and that was told of it
+pub record Inspects (rate : Option ℕ) (old new : Option (List ℕ)) (start now : State) :
+    Type 0 where
+  pub still : now.IsHonest → IsStill start now
+  pub told : OfStanding
+      (λ s. TellsOfDisk (rates_of rate) s start.bytes (Appends old new)) start now
+
+-- Why it could not be; the disk was only synced all the same. If printing had begun, what was
+-- printed is a beginning of what is told.
+pub data StopsInspecting (rate : Option ℕ) (refusal : Refusal) (old new : Option (List ℕ))
+    (start now : State) : Type 0 where
+  unopened : IsUnopened refusal start now → Keeps old new
+      → StopsInspecting rate refusal old new start now
+  unread : refusal ≡ DeviceFault → Rises start.failures now.failures → Keeps old new
+      → (now.IsHonest → IsStill start now) → StopsInspecting rate refusal old new start now
+  -- the turn has more packets than a number of 64 bits counts
+  uncounted : refusal ≡ BadNumber → Keeps old new
+      → (now.IsHonest → IsStill start now) → StopsInspecting rate refusal old new start now
+  no_memory : refusal ≡ OutOfMemory → Keeps old new
+      → (now.IsHonest → IsStill start now) → StopsInspecting rate refusal old new start now
+  unprinted : refusal ≡ WriteFault → (now.IsHonest → IsStill start now)
+      → OfStanding (λ s. TellsOfDisk (rates_of rate) s start.bytes
+      (λ text. WritesFront text old new)) start now
+      → StopsInspecting rate refusal old new start now

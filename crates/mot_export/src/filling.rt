@@ -1,0 +1,130 @@
+//! Frames of a sub-channel, filled as a multiplexer fills them.
+ghost use Rattle.std.specs.Prelude.{◌≡◌, ◌+◌, ◌*◌, ◌^◌, ◌<◌, ◌≤◌, ◌∷◌, map};
+ghost use Rattle.std.specs.List.{fold};
+ghost use Rattle.mot_numbers.specs.PacketLength.{room_of};
+ghost use Rattle.mot_objects.specs.declared.body.TheConstants.{MAX_BODY};
+ghost use Rattle.mot_objects.specs.declared.object.Object.{Object};
+ghost use Rattle.mot_export.specs.Filling.{frames_of, no_frames, with_packet};
+ghost use Rattle.mot_export.specs.Inner.Lengths.{entity_lengths, group_lengths, packet_length};
+ghost use Rattle.mot_export.specs.Inner.Lengths.{turn_lengths};
+
+use mot_groups::segment_count;
+use mot_numbers::{PacketLength, SegmentSize};
+use mot_objects::Object;
+use mot_packets::packet_count;
+
+/// How many bytes of a group are none of its segment.
+const GROUP_FRAME: usize = 11;
+
+/// Frames that packets fill, each packet whole in one.
+#[derive(Clone, Copy)]
+pub(crate) struct Frames {
+    /// How many were begun.
+    pub(crate) begun: u128,
+    /// How many bytes of the last are left.
+    pub(crate) left: usize,
+    /// Whether each packet fits in a frame.
+    pub(crate) fits: bool,
+}
+
+impl Frames {
+    /// No frame was begun.
+    fn none() -> Self
+        ensures { result ≡ no_frames }
+    {
+        Frames {
+            begun: 0,
+            left: 0,
+            fits: true,
+        }
+    }
+
+    /// Puts a packet into the frame, or into the next if it has no room there.
+    fn fill(&mut self, size: usize, packet: usize)
+        requires { self.old.begun < 2 ^ 120 }
+        ensures filled { self.new ≡ with_packet size self.old packet }
+        ensures few { self.new.begun ≤ self.old.begun + 1 }
+    {
+        if packet <= self.left {
+            self.left -= packet;
+        } else {
+            self.begun += 1;
+            self.left = size.saturating_sub(packet);
+            self.fits = self.fits && packet <= size;
+        }
+    }
+}
+
+/// The frames of so many bytes that a turn fills, of a directory of this length and these objects,
+/// from the beginning of a frame on.
+pub(crate) fn turn_frames(
+    size: usize,
+    full_length: PacketLength,
+    segment_size: SegmentSize,
+    directory: usize,
+    objects: &[Object],
+) -> Frames
+    requires { directory ≤ MAX_BODY }
+    ensures filled { result ≡ frames_of size (turn_lengths (room_of full_length) segment_size
+        (directory ∷ map (λ (o : Object). o.length) objects.now)) }
+    ensures few { result.begun < 2 ^ 110 }
+{
+    let mut frames = Frames::none();
+    fill_entity(&mut frames, size, full_length, segment_size, directory);
+    for object in objects {
+        let len = object.length.get() as usize;
+        fill_entity(&mut frames, size, full_length, segment_size, len);
+    }
+    frames
+}
+
+/// Fills frames with the packets of a directory or body of so many bytes.
+fn fill_entity(
+    frames: &mut Frames,
+    size: usize,
+    full_length: PacketLength,
+    segment_size: SegmentSize,
+    len: usize,
+)
+    requires few { frames.old.begun < 2 ^ 110 }
+    requires short { len ≤ MAX_BODY }
+    ensures filled { frames.new ≡ fold (with_packet size) frames.old
+        (entity_lengths (room_of full_length) segment_size len) }
+    ensures few { frames.new.begun ≤ frames.old.begun + 2 ^ 40 }
+{
+    let count = segment_count(len, segment_size);
+    let full = usize::from(segment_size.get());
+    let mut rest = len;
+    for _ in 0..count {
+        fill_group(frames, size, full_length, full.min(rest) + GROUP_FRAME);
+        rest = rest.saturating_sub(full);
+    }
+}
+
+/// Fills frames with the packets of a group of so many bytes.
+fn fill_group(frames: &mut Frames, size: usize, full_length: PacketLength, len: usize)
+    requires few { frames.old.begun < 2 ^ 115 }
+    requires short { len < 2 ^ 20 }
+    ensures filled { frames.new ≡ fold (with_packet size) frames.old
+        (group_lengths (room_of full_length) len) }
+    ensures few { frames.new.begun ≤ frames.old.begun + len }
+{
+    let count = packet_count(len, full_length);
+    let room = full_length.room();
+    let mut rest = len;
+    for _ in 0..count {
+        frames.fill(size, packet_for(rest, full_length));
+        rest = rest.saturating_sub(room);
+    }
+}
+
+/// How many bytes the packet has that carries the next of what is left of a group.
+fn packet_for(rest: usize, full_length: PacketLength) -> usize
+    ensures { result ≡ packet_length (room_of full_length) rest }
+{
+    if rest <= full_length.room() {
+        PacketLength::shortest_for(rest).bytes()
+    } else {
+        full_length.bytes()
+    }
+}

@@ -1,0 +1,295 @@
+//! Printing a disk's sizes, what is free of them, and its turn.
+ghost use Rattle.std.specs.Prelude.{◌≡◌, ◌≤◌, ◌<◌, ◌^◌, ◌++◌, ℕ, List, IfErr, IfOk, IsFalse, OnOk};
+ghost use Rattle.std.specs.Prelude.{length};
+ghost use Rattle.std.specs.List.{sum_by};
+ghost use Rattle.std.specs.Io.KnownBytes.{Appends};
+ghost use Rattle.disk_model.specs.Disk.{KeepsLength, OnlyReads};
+ghost use Rattle.mot_journal.specs.Image.{Standing};
+ghost use Rattle.mot_numbers.specs.declared.refusal.Refusal.TheVariants.{WriteFault};
+ghost use Rattle.mot_objects.specs.declared.object.Object.{Object};
+ghost use Rattle.mot_objects.specs.Stands.{AreBodiesOf, carousel_of};
+ghost use Rattle.mot_player.specs.Turn.{turn_of_carousel};
+ghost use Rattle.mot_export.specs.Filling.{TurnsHaveTheirLengths};
+ghost use Rattle.mot_export.specs.Inspecting.{Inspects, StopsInspecting, data_text, number_line};
+ghost use Rattle.mot_export.specs.Inspecting.{rates_of, shares_line, sizes_text, turn_text};
+ghost use Rattle.mot_export.specs.Inspecting.{turn_lengths_text, use_text};
+ghost use Rattle.mot_export.specs.Inner.Inspected.{HasInspected, IsCountingFault};
+ghost use Rattle.mot_export.specs.Inner.Inspected.{IsInspectingFault, IsTurnSize};
+ghost use Rattle.mot_repository.specs.Gap.{IsLongestGap};
+ghost use Rattle.mot_repository.specs.Repository.{Holds};
+ghost use Rattle.mot_server.specs.Server.{place_in};
+ghost use Rattle.mot_session.specs.Served.{WritesFront};
+
+use crate::Ended;
+use crate::lengths::write_lengths;
+use disk_model::Disk;
+use mot_journal::Layout;
+use mot_numbers::{Geometry, Refusal};
+use mot_objects::Object;
+use mot_player::Played;
+use mot_reason::open_server;
+use mot_server::Server;
+use mot_session::write_whole;
+use std::alloc::Global;
+use std::io::Write;
+
+/// How many packets a turn has, and how many bytes these.
+#[derive(Clone, Copy)]
+struct TurnSize {
+    packets: u64,
+    bytes: u128,
+}
+
+/// Opens the disk, plays a turn of it to nobody, and writes its sizes, what is used and free of
+/// them, what the turn takes, and how long it is in packets of each length: in a sub-channel of
+/// this rate in kbit/s or, if none is given, of the usual ones.
+pub fn inspect_disk<D: Disk, W: Write>(
+    alloc: Global,
+    disk: D,
+    rate: Option<u32>,
+    writer: &mut W,
+) -> Ended<D, ()>
+    ensures keeps { KeepsLength (D.state disk) (D.state result.disk) }
+    ensures done { OnOk result.result (Inspects rate (W.contents writer.old) (W.contents writer.new)
+        (D.state disk) (D.state result.disk)) }
+    ensures refused { IfErr result.result (λ r. StopsInspecting rate r
+        (W.contents writer.old) (W.contents writer.new) (D.state disk) (D.state result.disk)) }
+
+    // The lengths that are told of the disk's own packets are those of the turn that is played.
+    ensures lengths { TurnsHaveTheirLengths }
+{
+    let mut server = match open_server(alloc, disk) {
+        Ok(server) => server,
+        Err(refused) => return Ended::unopened(refused),
+    };
+    let result = write_inspection(alloc, &mut server, rate, writer);
+    Ended {
+        disk: server.into_disk(),
+        result,
+        reason: None,
+    }
+}
+
+/// Writes the lines about an open server, for a sub-channel of this rate or the usual ones; all of
+/// them are known before the first byte.
+fn write_inspection<D: Disk, W: Write>(
+    alloc: Global,
+    server: &mut Server<D>,
+    rate: Option<u32>,
+    writer: &mut W,
+) -> Result<(), Refusal>
+    requires { IsFalse server.old.view.halted }
+    ensures only_reads { OnlyReads (D.state server.old.disk) (D.state server.new.disk) }
+    ensures told { (s : Standing) → Holds server.old.view s (D.state server.old.disk)
+        → (D.state server.new.disk).IsHonest → OnOk result
+        (HasInspected rate server.old.view.journal (place_in server.old s) s
+        (Appends (W.contents writer.old) (W.contents writer.new))) }
+    ensures broken { (s : Standing) → Holds server.old.view s (D.state server.old.disk)
+        → (D.state server.new.disk).IsHonest → IfErr result (λ r. r ≡ WriteFault
+        → HasInspected rate server.old.view.journal (place_in server.old s) s
+        (λ text. WritesFront text (W.contents writer.old) (W.contents writer.new))) }
+    ensures fault { IfErr result (λ r. IsInspectingFault r (D.state server.old.disk).failures
+        (D.state server.new.disk).failures (W.contents writer.old) (W.contents writer.new)) }
+{
+    let TurnSize { packets, bytes } = count_turn(server)?;
+    let mut text = Vec::new(alloc);
+    let Ok(()) = tell(alloc, server, packets, bytes, rate, &mut text) else {
+        return Err(Refusal::OutOfMemory);
+    };
+    print(writer, &text)
+}
+
+/// Adds the lines about an open server, whose turn has these packets and bytes.
+fn tell<D: Disk>(
+    alloc: Global,
+    server: &Server<D>,
+    packets: u64,
+    bytes: u128,
+    rate: Option<u32>,
+    text: &mut Vec<u8>,
+) -> Result<(), Refusal>
+    ensures { (bodies : List (List ℕ)) → AreBodiesOf server.now.view.carousel bodies
+        → OnOk result ((gap : ℕ) × IsLongestGap server.now.view.extents
+        server.now.view.journal.geometry.data_area gap
+        × (text.new.items ≡ text.old.items ++ (sizes_text server.now.view.journal.geometry
+        ++ use_text server.now.view.journal.geometry server.now.view.journal.layout
+        (length server.now.view.carousel.objects.items)
+        (sum_by (λ (o : Object). o.length) server.now.view.carousel.objects.items)
+        gap server.now.view.journal.count
+        ++ turn_text packets bytes
+        ++ turn_lengths_text (rates_of rate) server.now.view.journal.geometry.segment_size
+        (turn_of_carousel (carousel_of server.now.view.carousel bodies)
+        server.now.view.journal.geometry.segment_size)))) }
+{
+    write_sizes(text, &server.geometry())?;
+    write_use(text, server)?;
+    write_turn(text, packets, bytes)?;
+    let size = server.geometry().size_of_segments();
+    write_lengths(alloc, text, rate, server.carousel(), size)
+}
+
+/// Prints the text, and hands it on; after a fault some first bytes of it were printed.
+fn print<W: Write>(writer: &mut W, text: &[u8]) -> Result<(), Refusal>
+    ensures written { OnOk result (Appends (W.contents writer.old) (W.contents writer.new)
+        text.now) }
+    ensures front { IfErr result (λ r. (r ≡ WriteFault)
+        × WritesFront text.now (W.contents writer.old) (W.contents writer.new)) }
+{
+    let Ok(()) = write_whole(writer, text) else {
+        return Err(Refusal::WriteFault);
+    };
+    match writer.flush() {
+        Ok(()) => Ok(()),
+        Err(_) => Err(Refusal::WriteFault),
+    }
+}
+
+/// Plays a turn, and counts its packets and their bytes. The refusals are `DeviceFault` if a body
+/// can't be read, and `BadNumber` for more packets than are counted.
+fn count_turn<D: Disk>(server: &mut Server<D>) -> Result<TurnSize, Refusal>
+    requires { IsFalse server.old.view.halted }
+    ensures only_reads { OnlyReads (D.state server.old.disk) (D.state server.new.disk) }
+    ensures view { server.new.view ≡ server.old.view }
+    ensures counted { (s : Standing) → Holds server.old.view s (D.state server.old.disk)
+        → (D.state server.new.disk).IsHonest → IfOk result
+        (λ size. IsTurnSize (place_in server.old s) size.packets size.bytes) }
+    ensures fault { IfErr result (λ r. IsCountingFault r (D.state server.old.disk).failures
+        (D.state server.new.disk).failures) }
+{
+    let mut bytes: u128 = 0;
+    for others in 0..u64::MAX {
+        let Played { packet, ends_turn } = server.next_packet()?;
+        // It has no more bytes than its room. (The line is there for the proof.)
+        let _ = packet.is_full();
+        bytes += packet.len() as u128;
+        if ends_turn {
+            return Ok(TurnSize {
+                packets: others + 1,
+                bytes,
+            });
+        }
+    }
+    Err(Refusal::BadNumber)
+}
+
+/// Writes the address and the lengths of packets and segments.
+fn write_sizes<W: Write>(writer: &mut W, geometry: &Geometry) -> Result<(), Refusal>
+    ensures written { OnOk result (Appends (W.contents writer.old) (W.contents writer.new)
+        (sizes_text geometry.now)) }
+    ensures fault { IfErr result (λ r. r ≡ WriteFault) }
+{
+    write_number(writer, "address", u128::from(geometry.address))?;
+    write_number(writer, "packet", u128::from(geometry.packet_length))?;
+    write_number(writer, "segment", u128::from(geometry.segment_size))
+}
+
+/// Writes what is used and free.
+fn write_use<D: Disk, W: Write>(writer: &mut W, server: &Server<D>) -> Result<(), Refusal>
+    ensures written { OnOk result ((gap : ℕ) × IsLongestGap server.now.view.extents
+        server.now.view.journal.geometry.data_area gap
+        × Appends (W.contents writer.old) (W.contents writer.new)
+        (use_text server.now.view.journal.geometry server.now.view.journal.layout
+        (length server.now.view.carousel.objects.items)
+        (sum_by (λ (o : Object). o.length) server.now.view.carousel.objects.items)
+        gap server.now.view.journal.count)) }
+    ensures fault { IfErr result (λ r. r ≡ WriteFault) }
+{
+    let gap = server.longest_gap();
+    let records = server.record_count();
+    write_used(
+        writer,
+        &server.geometry(),
+        server.layout(),
+        &server.carousel().objects,
+        gap,
+        records,
+    )
+}
+
+/// Writes what these objects use, and so many records.
+fn write_used<W: Write>(
+    writer: &mut W,
+    geometry: &Geometry,
+    layout: Layout,
+    objects: &[Object],
+    gap: u32,
+    records: usize,
+) -> Result<(), Refusal>
+    ensures written { OnOk result (Appends (W.contents writer.old) (W.contents writer.new)
+        (use_text geometry.now layout (length objects.now)
+        (sum_by (λ (o : Object). o.length) objects.now) gap records)) }
+    ensures fault { IfErr result (λ r. r ≡ WriteFault) }
+{
+    write_shares(
+        writer,
+        "objects",
+        u128::from(geometry.objects),
+        objects.len() as u128,
+    )?;
+    write_data(
+        writer,
+        u128::from(geometry.data_area),
+        used_bytes(objects),
+        gap,
+    )?;
+    let slots = layout.slot_count(geometry);
+    write_shares(writer, "slots", slots as u128, records as u128)
+}
+
+/// Writes the bytes for bodies, and the longest gap.
+fn write_data<W: Write>(writer: &mut W, all: u128, used: u128, gap: u32) -> Result<(), Refusal>
+    ensures written { OnOk result (Appends (W.contents writer.old) (W.contents writer.new)
+        (data_text all used gap)) }
+    ensures fault { IfErr result (λ r. r ≡ WriteFault) }
+{
+    write_shares(writer, "data", all, used)?;
+    write_number(writer, "gap", u128::from(gap))
+}
+
+/// The bytes of all bodies.
+fn used_bytes(objects: &[Object]) -> u128
+    ensures { result ≡ sum_by (λ (o : Object). o.length) objects.now }
+{
+    let mut bytes: u128 = 0;
+    for object in objects {
+        bytes += u128::from(object.length.get());
+    }
+    bytes
+}
+
+/// Writes how many packets and bytes a turn has.
+fn write_turn<W: Write>(writer: &mut W, packets: u64, bytes: u128) -> Result<(), Refusal>
+    ensures written { OnOk result (Appends (W.contents writer.old) (W.contents writer.new)
+        (turn_text packets bytes)) }
+    ensures fault { IfErr result (λ r. r ≡ WriteFault) }
+{
+    match writeln!(writer, "turn {packets} packets {bytes} bytes") {
+        Ok(()) => Ok(()),
+        Err(_) => Err(Refusal::WriteFault),
+    }
+}
+
+/// Writes a word and a number.
+fn write_number<W: Write>(writer: &mut W, word: &str, number: u128) -> Result<(), Refusal>
+    ensures written { OnOk result (Appends (W.contents writer.old) (W.contents writer.new)
+        (number_line word.now number)) }
+    ensures fault { IfErr result (λ r. r ≡ WriteFault) }
+{
+    match writeln!(writer, "{word} {number}") {
+        Ok(()) => Ok(()),
+        Err(_) => Err(Refusal::WriteFault),
+    }
+}
+
+/// Writes how many there are in all, and how many of them are used and free.
+fn write_shares<W: Write>(writer: &mut W, word: &str, all: u128, used: u128) -> Result<(), Refusal>
+    ensures written { OnOk result (Appends (W.contents writer.old) (W.contents writer.new)
+        (shares_line word.now all used)) }
+    ensures fault { IfErr result (λ r. r ≡ WriteFault) }
+{
+    let free = all.saturating_sub(used);
+    match writeln!(writer, "{word} {all} used {used} free {free}") {
+        Ok(()) => Ok(()),
+        Err(_) => Err(Refusal::WriteFault),
+    }
+}

@@ -1,0 +1,161 @@
+-- What lines are answered that come between the packets of a feed.
+use Rattle.std.specs.Prelude.{◌≡◌, ◌≢◌, ◌⊎◌, ℕ, ◌<◌, ◌≤◌, Bool, true, bytes_eq, if◌then◌else◌}
+use Rattle.std.specs.Prelude.{List, [], ◌∷◌, ◌++◌}
+use Rattle.std.specs.Prelude.{length, map, Option, None, Result, Ok, zero, suc}
+use Rattle.std.specs.List.{flat_map}
+use Rattle.std.specs.Io.KnownBytes.{Appends}
+use Rattle.disk_model.specs.Disk.{State}
+use Rattle.mot_journal.specs.Image.{Standing}
+use Rattle.mot_lines.specs.Hand.{bytes_in_hand}
+use Rattle.mot_lines.specs.Line.{line_of}
+use Rattle.mot_lines.specs.Lines.{rest_of, whole_lines}
+use Rattle.mot_lines.specs.Text.{refusal_line}
+use Rattle.mot_lines.specs.declared.line.Line.{Line}
+use Rattle.mot_lines.specs.declared.line.Line.TheVariants.{Command}
+use Rattle.mot_numbers.specs.declared.refusal.Refusal.{Refusal}
+use Rattle.mot_numbers.specs.declared.refusal.Refusal.TheVariants.{OutOfMemory}
+use Rattle.mot_objects.specs.Carousel.{Carousel}
+use Rattle.mot_objects.specs.declared.command.Command as command
+use Rattle.mot_repository.specs.Repository.{Holds}
+use Rattle.mot_server.specs.Runs.{accepted_commands}
+use Rattle.mot_server.specs.Server.{ServerView}
+use Rattle.mot_session.specs.Life.{Told, commands_done}
+use Rattle.mot_session.specs.OnAnyDisk.{AnswersAnyhow, read_only}
+use Rattle.mot_session.specs.Stored.{command_in}
+use Rattle.mot_session.specs.declared.serving.TheConstants.{READ_SIZE}
+use Rattle.mot_update.specs.Between.{IsUpdating, Telling}
+use Rattle.mot_update.specs.HasRun.{HasRun}
+
+-- what a request asks for here: a line that asks for packets is none, for these are the feed's
+abbrev pub asked_here : Result Line Refusal → Result Line Refusal
+asked_here (Ok (Command c)) = Ok (Command c)
+asked_here request = read_only request
+
+abbrev pub is_want_of_memory : List ℕ → Bool
+is_want_of_memory text = bytes_eq text (refusal_line OutOfMemory)
+
+-- the command that was run for a request with this reply: none, where memory was wanted for it
+abbrev pub run_of : Result Line Refusal → List ℕ → List command.Command
+run_of request text = if is_want_of_memory text then [] else command_in request
+
+abbrev pub run_in : Told → List command.Command
+run_in t = run_of (asked_here (line_of t.line)) t.text
+
+abbrev pub commands_run : List Told → List command.Command
+commands_run told = flat_map run_in told
+
+-- of an input that was taken before, each of these lines has ended since and was answered, up to a
+-- fault
+pub record HaveEnded (before after : List ℕ) (told : List Told) (fault : Option Refusal) :
+    Type 0 where
+  pub unanswered : List (List ℕ)
+  pub lines : whole_lines after
+      ≡ whole_lines before ++ map (λ (t : Told). t.line) told ++ unanswered
+  pub whole : fault ≡ None → unanswered ≡ []
+
+-- a hand that has what comes behind a line end
+abbrev pub IsInHand : List ℕ → Type 0
+IsInHand hand = hand ≡ bytes_in_hand (rest_of hand)
+
+-- Behind what earlier reads gave one more read gave this, and behind what was in hand these lines
+-- have ended with it: these are their commands, and those of them were accepted whose replies say
+-- so.
+pub record AreOfLines (hand then_hand : List ℕ) (earlier later : List (List ℕ))
+    (commands : List command.Command) (marks : List Bool) (fault : Option Refusal) :
+    Type 0 where
+  pub more : List ℕ
+  pub given : later ≡ earlier ++ more ∷ []
+  pub told : List Told
+  pub ended : HaveEnded hand (hand ++ more) told fault
+  pub are : commands ≡ commands_run told
+  pub accepted : accepted_commands commands marks ≡ commands_done told
+  pub in_hand : fault ≡ None → then_hand ≡ bytes_in_hand (rest_of (hand ++ more))
+
+-- what is told of lines where the hand has what comes behind a line end
+abbrev pub TellsLines : (hand then_hand : List ℕ) → (earlier later : List (List ℕ))
+    → List command.Command → List Bool → Option Refusal → Type 0
+TellsLines hand then_hand earlier later commands marks fault =
+    IsInHand hand → AreOfLines hand then_hand earlier later commands marks fault
+
+-- What is told of a call before which so many more come: what the other update tells, where that
+-- broke off or none of the lines was due, nothing is read, and the hand stays; or that, and behind
+-- it what is told of the lines.
+pub data TellsBetween (left : ℕ) (hand then_hand : List ℕ) (earlier later : List (List ℕ))
+    (other : Telling) (c : Carousel) :
+    List command.Command → List Bool → Option Refusal → Type 0 where
+  other_alone : (commands : List command.Command) (marks : List Bool) (fault : Option Refusal)
+      → (0 < left) ⊎ (fault ≢ None) → then_hand ≡ hand → later ≡ earlier
+      → other c commands marks fault
+      → TellsBetween left hand then_hand earlier later other c commands marks fault
+  then_lines : (commands others : List command.Command) (marks rest : List Bool)
+      (fault : Option Refusal) → left ≡ 0 → other c commands marks None
+      → TellsLines hand then_hand earlier later others rest fault
+      → TellsBetween left hand then_hand earlier later other c (commands ++ others)
+      (marks ++ rest) fault
+
+-- how many come before the next call that reads, behind one before which so many came
+abbrev pub late_behind : (between left : ℕ) → ℕ
+late_behind between zero = between
+late_behind between (suc left) = left
+
+-- The same of a call where so many come between two that read, before which so many more came and
+-- behind which so many come, up to a fault.
+abbrev pub TellsInTurn : (between left then_left : ℕ) → (hand then_hand : List ℕ)
+    → (earlier later : List (List ℕ)) → (other : Telling) → Telling
+TellsInTurn between left then_left hand then_hand earlier later other c commands marks fault =
+    (fault ≡ None → then_left ≡ late_behind between left)
+    × TellsBetween left hand then_hand earlier later other c commands marks fault
+
+-- calls that go on, with so many between two that read
+abbrev pub TellsOnTime : (between then_between left then_left : ℕ) → (hand then_hand : List ℕ)
+    → (earlier later : List (List ℕ)) → (other : Telling) → Telling
+TellsOnTime between then_between left then_left hand then_hand earlier later other c commands marks
+    fault =
+    (then_between ≡ between)
+    × TellsInTurn between left then_left hand then_hand earlier later other c commands marks fault
+
+module _ {D : Type 0} (state : D → State) where
+  -- one after the other each reply is, on every disk, right for what the server kept in memory
+  abbrev pub AreReplies : ServerView D → List Told → ServerView D → Type 0
+  AreReplies old [] new = new ≡ old
+  AreReplies old (t ∷ told) new =
+      (mid : ServerView D)
+      × AnswersAnyhow old.view mid.view (state old.disk).failures (state mid.disk).failures
+      (asked_here (line_of t.line)) t.text
+      × AreReplies mid told new
+
+  -- Of an input that was taken before, each line that has ended since was answered, up to a fault;
+  -- their commands were run, of which those were accepted whose replies say so; and, where each
+  -- reply was told, the log has them.
+  pub record AnswersMore (old new : ServerView D) (before after : List ℕ) (fault : Option Refusal)
+      (was_told is_told : Bool) (written now : Option (List ℕ)) : Type 0 where
+    pub told : List Told
+    pub ended : HaveEnded before after told fault
+    pub replies : AreReplies old told new
+    pub run : (s : Standing) → Holds old.view s (state old.disk) → (state new.disk).IsHonest
+        → (marks : List Bool)
+        × (accepted_commands (commands_run told) marks ≡ commands_done told)
+        × HasRun old new (state old.disk) (state new.disk) s (commands_run told) marks fault
+    pub log : is_told ≡ true → (was_told ≡ true)
+        × Appends written now (flat_map (λ (t : Told). t.text) told)
+
+  -- A read gave so much more of an input, of which the rest behind its last line end was in hand;
+  -- its lines were answered; and then the new rest is in hand.
+  pub record TakesMore (old new : ServerView D) (before more : List ℕ) (fault : Option Refusal)
+      (hand : List ℕ) (was_told is_told : Bool) (written now : Option (List ℕ)) : Type 0 where
+    pub short : length more ≤ READ_SIZE
+    pub answers : AnswersMore old new before (before ++ more) fault was_told is_told written now
+    pub in_hand : fault ≡ None → hand ≡ bytes_in_hand (rest_of (before ++ more))
+
+  -- Another update was called, and then more was taken of one read, or nothing was read.
+  pub record TakesBetween (other : Telling) (old new : ServerView D) (before : List ℕ)
+      (earlier later : List (List ℕ)) (hand : List ℕ) (was_told is_told : Bool)
+      (written now : Option (List ℕ)) : Type 0 where
+    pub mid : ServerView D
+    pub stopped : Option Refusal
+    pub updated : (s : Standing) → Holds old.view s (state old.disk) → (state mid.disk).IsHonest
+        → IsUpdating other old mid (state old.disk) (state mid.disk) s stopped
+    pub more : List ℕ
+    pub given : (later ≡ earlier ++ more ∷ []) ⊎ ((later ≡ earlier) × (more ≡ []))
+    pub fault : Option Refusal
+    pub takes : TakesMore mid new before more fault hand was_told is_told written now

@@ -1,4 +1,0 @@
--- What holds of the definitions, for the crates above.
-
--- what a disk that was just opened stands for, and one that an opening refused
-pub use Rattle.mot_reading.proofs.Opened.{AllAre, all_hold, unopened_is}
