@@ -53,34 +53,20 @@ no_content = at_start []
 
 -- the answer is what a file of the model that holds this gives: of a read, its bytes
 abbrev pub IsRight : Call → Content → Type 0
-IsRight Locked s = Unit {0}
-IsRight (Opened len) s = Unit {0}
-IsRight (Made len) s = Unit {0}
 IsRight (Gave at bytes) s = bytes ≡ slice_range s.bytes at (at + length bytes)
-IsRight (FailedRead at) s = Unit {0}
-IsRight (Wrote at bytes) s = Unit {0}
-IsRight (FailedWrite at bytes) s = Unit {0}
-IsRight Synced s = Unit {0}
-IsRight FailedSync s = Unit {0}
-IsRight Dropped s = Unit {0}
-IsRight Named s = Unit {0}
+IsRight call s = Unit {0}
 
 -- a file that holds these bytes as it is opened
 module _ (first : List ℕ) where
   -- What a file of the model holds after a call. One that was made has zeros, loose up to its sync.
   -- A write that failed leaves the old bytes to be read.
   abbrev pub after_call : Call → Content → Content
-  after_call Locked s = s
   after_call (Opened len) s = at_start (first_bytes len first)
   after_call (Made len) s = new_zeros len
-  after_call (Gave at bytes) s = s
-  after_call (FailedRead at) s = s
   after_call (Wrote at bytes) s = after_write at bytes s
   after_call (FailedWrite at bytes) s = after_touch at (length bytes) s
   after_call Synced s = after_sync s
-  after_call FailedSync s = s
-  after_call Dropped s = s
-  after_call Named s = s
+  after_call call s = s
 
   -- each answer is the one of a file of the model that held this before
   abbrev pub AreRight : List Call → Content → Type 0

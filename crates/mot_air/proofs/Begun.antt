@@ -1,6 +1,6 @@
 -- What the result of a task says that came of another one.
-use Rattle.std.proofs.Common.{◌≡◌, ℕ, Bool, false, List, Option, Some, None, Result, Ok, Err}
-use Rattle.std.proofs.Common.{inl, inr, subst, sym}
+use Rattle.std.proofs.Common.{◌≡◌, ℕ, Bool, true, false, List, Option, Some, None, Result, Ok, Err}
+use Rattle.std.proofs.Common.{inl, inr, refl, subst, sym}
 use Rattle.std.specs.Prelude.{IfErr, MatchResult, OnOk}
 use Rattle.std.specs.Result.{result_unwrap_or}
 use Rattle.disk_store.specs.declared.file.start.Start.{Ghosts}
@@ -17,6 +17,13 @@ pub ending-cases : (P : Option Refusal → Type 0) (ended : Result Unit Refusal)
 ending-cases P (Ok done) p = p
 ending-cases P (Err r) p = p
 
+-- the same of what was to be done, all of which is if it came to its end so
+pub ended_so : (P : Bool → Option Refusal → Type 0) (whole : Bool) (ended : Result Unit Refusal)
+    → ((all : Bool) → (fault_of ended ≡ None → all ≡ whole) → P all (fault_of ended))
+    → MatchResult ended (λ _. P whole None) (λ r. P false (Some r))
+ended_so P whole (Ok done) p = p whole (λ none. refl)
+ended_so P whole (Err r) p = p false (λ none. absurd (cc (none)))
+
 -- what ended so is what the result of the task says
 pub concludes : {S : Type 0} {start : Ghosts S} (IsEarly : Refusal → Type 0)
     (IsEnded : Bool → Option Refusal → Type 0) (used : UsedDisk S start)
@@ -29,6 +36,20 @@ concludes IsEarly IsEnded used old new all (Ok done) result is p =
     subst (λ (r : Result Bool Refusal). Concludes IsEarly IsEnded r used old new) (sym is) p
 concludes IsEarly IsEnded used old new all (Err e) result is p =
     subst (λ (r : Result Bool Refusal). Concludes IsEarly IsEnded r used old new) (sym is) (inr p)
+
+-- the same of a task that, if none ended it, is done whole
+pub concludes_whole : {S : Type 0} {start : Ghosts S} (IsEarly : Refusal → Type 0)
+    (IsEnded : Option Refusal → Type 0) (used : UsedDisk S start) (old new : Option (List ℕ))
+    (ended : Result Unit Refusal) (result : Result Bool Refusal)
+    → MatchResult ended (λ _. result ≡ Ok true) (λ r. result ≡ Err r) → IsEnded (fault_of ended)
+    → Concludes IsEarly (λ all ending. (ending ≡ None → all ≡ true) × IsEnded ending) result used
+    old new
+concludes_whole IsEarly IsEnded used old new (Ok done) result is p = subst (λ (r : Result Bool
+    Refusal). Concludes IsEarly (λ all ending. (ending ≡ None → all ≡ true) × IsEnded ending) r used
+    old new) (sym is) (λ none. refl, p)
+concludes_whole IsEarly IsEnded used old new (Err e) result is p = subst (λ (r : Result Bool
+    Refusal). Concludes IsEarly (λ all ending. (ending ≡ None → all ≡ true) × IsEnded ending) r used
+    old new) (sym is) (inr (λ none. absurd cc, p))
 
 -- the same of a result that tells both
 pub concludes_so : {S : Type 0} {start : Ghosts S} (IsEarly : Refusal → Type 0)
@@ -52,10 +73,3 @@ concludes_task task IsEarly IsEnded used old new (Err r) early ended (inl p) =
     inl (early r p.0, p.1)
 concludes_task task IsEarly IsEnded used old new (Err r) early ended (inr p) =
     inr (ended false (Some r) p)
-
--- what is told of both ways that something ended
-pub both_ways : (P Q : Type 0) (R T : Refusal → Type 0) (ended : Result Unit Refusal)
-    → (P → Q) → ((r : Refusal) → R r → T r) → OnOk ended P → IfErr ended R
-    → MatchResult ended (λ _. Q) T
-both_ways P Q R T (Ok done) f h p r = f p
-both_ways P Q R T (Err e) f h p r = h e r

@@ -1,15 +1,15 @@
 -- Playing goes on from what was done in the lives before.
-use Rattle.std.proofs.Common.{◌≡◌, ℕ, ◌≤◌, Bool, true, false, List, [], ◌∷◌, ◌++◌}
-use Rattle.std.proofs.Common.{append_assoc}
-use Rattle.std.proofs.Common.{ap, append-nil, arith, drop, length, refl, subst, sym, take}
+use Rattle.std.proofs.Common.{◌≡◌, ℕ, false, List, [], ◌++◌, append_assoc}
+use Rattle.std.proofs.Common.{ap, append-nil, arith, refl, subst, sym, take}
 use Rattle.std.proofs.Common.{◌⊎◌, Option, Some, None, inl, inr}
-use Rattle.std.specs.Prelude.{IsFalse, IsSomeAnd, if◌then◌else◌}
+use Rattle.std.specs.Prelude.{IsFalse, IsSomeAnd}
 use Rattle.std.specs.Option.{option_map_or}
 use Rattle.disk_model.specs.Disk.{IsHonestDisk, OnlySyncs, State}
 use Rattle.disk_model.proofs.Laws.{weakens}
 use Rattle.mot_air.specs.Lives.{KeepsDone, AirsOn}
 use Rattle.mot_air.specs.Playing.{Manner, Plays, Tale, WritesPackets}
-use Rattle.mot_feed.specs.Feeding.{commands_among}
+use Rattle.mot_feed.specs.Feeding.{EndsFeed, Event, Stage, commands_among, fault_at}
+use Rattle.mot_feed.specs.Feeding.EndsFeed.{all_numbers, all_turns, of_call, of_packet, of_write}
 use Rattle.mot_journal.specs.Image.{Standing}
 use Rattle.mot_journal.specs.Journal.{standing_from}
 use Rattle.mot_numbers.specs.Refusal.{is_device_fault}
@@ -23,6 +23,7 @@ use Rattle.mot_server.specs.Lives.{HasDone}
 use Rattle.mot_server.specs.Server.{ServerView}
 use Rattle.mot_server.specs.Runs.{IsAfter, StandsAfterSome, accepted_commands, commands_in_flight}
 use Rattle.mot_server.proofs.Laws.{after_both, none_of}
+use Rattle.mot_update.proofs.Laws.{not_none}
 
 -- more that was done before
 behind : (s mid : Standing) (done sure others : List Command) (image : List ℕ)
@@ -48,18 +49,20 @@ behind_some s mid done others image first is =
     subst (λ l. StandsAfterSome s l others image) (append-nil done)
     (behind s mid done [] others image first is)
 
--- at most one is
-take_one : (commands : List Command) → length (take 1 commands) ≤ 1
-take_one [] = omega arith
-take_one (command ∷ commands) = omega arith
-
-few_of : (b : Bool) (commands : List Command) → length (if b then take 1 commands else []) ≤ 1
-few_of true commands = take_one commands
-few_of false commands = omega arith
-
-abbrev IsNothing : Option Refusal → Type 0
-IsNothing None = Unit {0}
-IsNothing (Some r) = ⊥
+-- where nothing ended feeding before, no fault broke off a command
+unbroken : (turns : ℕ) (events : List Event) (packets : List (List ℕ))
+    (before after : Option (List (List ℕ))) (ending : Option Refusal) (stage : Stage)
+    → ending ≡ None → EndsFeed turns events packets before after ending stage
+    → fault_at stage ≡ None
+unbroken turns events packets before after ending stage none (all_turns ended between written) =
+    refl
+unbroken turns events packets before after ending stage none (all_numbers many written) = refl
+unbroken turns events packets before after ending stage none (of_call refusal other written) =
+    absurd (not_none _ none)
+unbroken turns events packets before after ending stage none (of_packet refusal other written) =
+    absurd (not_none _ none)
+unbroken turns events packets before after ending stage none (of_write others last n is lt w) =
+    absurd (not_none _ none)
 
 module _ (g : Geometry) (first : ℕ) (done : List Command) (tale : Tale) (how : Manner)
     (before after : Option (List (List ℕ))) (start now : State) where
@@ -67,21 +70,21 @@ module _ (g : Geometry) (first : ℕ) (done : List Command) (tale : Tale) (how :
   goes_on : (s : Standing) (ending : Option Refusal)
       (writes : WritesPackets tale how ending before after start now s)
       → IsAfter (standing_from g first) done s → ending ≡ None
-      → (commands_in_flight writes.played.commands writes.played.marks writes.fault ≡ [])
+      → (commands_in_flight writes.played.commands writes.played.marks (fault_at writes.stage) ≡ [])
       × KeepsDone g first (done ++ commands_among writes.events) now
-  goes_on s (Some r) writes was whole = absurd (subst IsNothing (sym whole) tt)
-  goes_on s None writes was whole =
+  goes_on s ending writes was none =
       let aired = writes.played in
       let accepted = accepted_commands aired.commands aired.marks in
-      let unbroken = writes.written.0 in (
-        ap (λ (f : Option Refusal). commands_in_flight aired.commands aired.marks f) unbroken,
+      let whole = unbroken how.turns writes.events writes.packets before after ending writes.stage
+      none writes.ends in (
+        ap (λ (f : Option Refusal). commands_in_flight aired.commands aired.marks f) whole,
         record {
           standing = aired.last;
           after = subst (λ l. IsAfter (standing_from g first) (done ++ l) aired.last)
               (sym aired.accepted)
               (after_both (standing_from g first) done accepted s aired.last was aired.after);
           each = aired.stands
-              (ap (λ (f : Option Refusal). option_map_or is_device_fault f false) unbroken);
+              (ap (λ (f : Option Refusal). option_map_or is_device_fault f false) whole);
         },
       )
 
@@ -93,15 +96,14 @@ module _ (g : Geometry) (first : ℕ) (done : List Command) (tale : Tale) (how :
       let s = was.standing in
       let aired = writes.played in
       let accepted = accepted_commands aired.commands aired.marks in
-      let in_flight = commands_in_flight aired.commands aired.marks writes.fault in
+      let in_flight = commands_in_flight aired.commands aired.marks (fault_at writes.stage) in
       let same = sym aired.accepted in
       record {
         standing = s;
         was = was.after;
         writes = writes;
         in_flight = in_flight;
-        few = few_of (option_map_or is_device_fault writes.fault false)
-            (drop (length aired.marks) aired.commands);
+        is = refl;
         any_moment =
             weakens start now (StandsAfterSome s [] (accepted ++ in_flight))
             (StandsAfterSome (standing_from g first) done
@@ -125,7 +127,7 @@ module _ (g : Geometry) (first : ℕ) (done : List Command) (tale : Tale) (how :
       ⊎ AirsOn g first done tale how ending before after start now
   lives ending was honest plays = elim plays.came [
     | inl none ↦ inl none.0
-    | inr came ↦ inr (plays_on ending was (came.1 was.standing honest was.each))
+    | inr came ↦ inr (plays_on ending was (came.2 was.standing honest was.each))
   ]
 
 -- what a server has done its disk keeps

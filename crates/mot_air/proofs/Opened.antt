@@ -8,7 +8,6 @@ use Rattle.disk_model.proofs.Laws.{begins, joins, stays}
 use Rattle.mot_air.specs.Opening.{IsEnd, Leaves}
 use Rattle.mot_air.specs.Opening as opening
 use Rattle.mot_feed.specs.Feeding.{IsFeedFault}
-use Rattle.mot_feed.specs.Sending as sending
 use Rattle.mot_journal.specs.Image.{Standing}
 use Rattle.mot_numbers.specs.declared.refusal.Refusal.{Refusal}
 use Rattle.mot_objects.specs.declared.command.Command.{Command}
@@ -56,12 +55,8 @@ breaks_off server start old now refusal going calm (inl (update.no_memory e same
     opening.no_memory (ap Some e) (same ∙ calm)
 breaks_off server start old now refusal going calm (inl (update.device is e rises)) =
     opening.device (ap Some e) (subst (λ n. Rises n now.failures) calm rises)
-breaks_off server start old now refusal going calm (inr (sending.halted is e same)) =
-    absurd (not_halted server.view.halted is going)
-breaks_off server start old now refusal going calm (inr (sending.device is e rises)) =
-    opening.device (ap Some e) (subst (λ n. Rises n now.failures) calm rises)
-breaks_off server start old now refusal going calm (inr (sending.unwritten e same)) =
-    opening.unwritten (ap Some e) (same ∙ calm)
+breaks_off server start old now refusal going calm (inr unwritten) =
+    opening.unwritten (ap Some unwritten.0) (unwritten.1 ∙ calm)
 
 -- how they ended whose result this is
 pub ends_off : {A D : Type 0} (server new : ServerView D) (start old now : State)

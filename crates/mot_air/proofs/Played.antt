@@ -1,18 +1,16 @@
 -- Playing a disk, from its opening on.
-use Rattle.std.proofs.Common.{◌≡◌, ◌<◌, arith, ℕ, true, List, Option, None}
-use Rattle.std.proofs.Common.{Result, Ok, Err, inl, inr, refl, subst}
+use Rattle.std.proofs.Common.{◌≡◌, ◌<◌, arith, ℕ, Bool, true, List, Option}
+use Rattle.std.proofs.Common.{Result, Ok, Err, inl, inr, subst}
 use Rattle.std.specs.Prelude.{IsFalse, OnOk, IfErr, MatchResult}
 use Rattle.std.proofs.lemmas.Bool.Decides.{nat_tests}
 use Rattle.disk_model.proofs.Laws.{keeps_on}
 use Rattle.disk_model.specs.Disk.{State, IsHonestDisk, KeepsLength, OnlySyncs}
-use Rattle.mot_air.specs.Playing.{HasAired, Manner, Plays, Tale, WritesPackets, look_of_feed}
-use Rattle.mot_air.specs.Playing.{tale_of}
+use Rattle.mot_air.specs.Playing.{HasAired, Manner, Plays, Tale, look_of_feed, tale_of}
 use Rattle.mot_air.specs.Program.{PlaysInto}
 use Rattle.mot_air.proofs.Opened.{ends_off, opened_leaves}
 use Rattle.mot_endpoints.specs.declared.packets.Target.{Target}
 use Rattle.mot_feed.specs.Feeding.{AreOf, AreTold, Event, FedPacketsAreContinuous}
-use Rattle.mot_feed.specs.Feeding.{Feeds, FeedsPart, Happen, HasFed, IsFeedFault, Stage}
-use Rattle.mot_feed.specs.Feeding.Stage.{Ready}
+use Rattle.mot_feed.specs.Feeding.{Feeds, Happen, HasFed, IsFeedFault, Stage, fault_at}
 use Rattle.mot_feed.specs.Often.{place_for, server_for}
 use Rattle.mot_feed.specs.OnAir.{ChangedTurnsOnAirRead, TurnsOnAirRead}
 use Rattle.mot_journal.specs.Image.{Standing}
@@ -21,10 +19,11 @@ use Rattle.mot_numbers.specs.declared.geometry.Geometry.{Geometry}
 use Rattle.mot_numbers.specs.declared.refusal.Refusal.{Refusal}
 use Rattle.mot_numbers.specs.Geometry.{is_valid}
 use Rattle.mot_objects.specs.Carousel.{IsSound}
+use Rattle.mot_objects.specs.declared.command.Command.{Command}
 use Rattle.mot_player.specs.Place.{Place}
 use Rattle.mot_player.specs.Turn.{turn_of_carousel}
-use Rattle.mot_export.proofs.Laws.{AllAre, all_hold}
-use Rattle.mot_export.specs.Opening.{first_place}
+use Rattle.mot_export.proofs.Laws.{AllAre, all_hold, openable}
+use Rattle.mot_export.specs.Opening.{IsOpenable, first_place}
 use Rattle.mot_repository.proofs.Laws.{standings-are_sound}
 use Rattle.mot_repository.specs.Opening.{IsOpened}
 use Rattle.mot_repository.specs.Repository.{Agrees, Holds}
@@ -67,6 +66,11 @@ module _ {D : Type 0} (state : D → State) (disk : D) (server new : ServerView 
   keeps_from : KeepsLength (state disk) (state new.disk)
   keeps_from = keeps_on (state disk) (state server.disk) (state new.disk) opens.keeps keeps
 
+  openable_from : IsOpenable (state disk) (state new.disk)
+  openable_from =
+      openable (state disk) (state server.disk) (state new.disk) server.view (sound disk)
+      (sound server.disk) opens opened going keeps.was_honest
+
   room : (s : Standing) → Agrees server.view s → 0 < packet_room s.geometry
   room s agrees =
       subst (λ (g : Geometry). 0 < packet_room g) agrees.geometry
@@ -88,15 +92,16 @@ module _ {D : Type 0} (state : D → State) (disk : D) (server new : ServerView 
     abbrev tale : Tale
     tale = tale_of tells how first last
 
-    has_played : (s : Standing) (fault : Option Refusal) (stage : Stage) (events : List Event)
-        (packets : List (List ℕ)) → (state new.disk).IsHonest → AllAre s (state disk)
+    has_played : (s : Standing) (stage : Stage) (events : List Event) (commands : List Command)
+        (marks : List Bool) (packets : List (List ℕ)) → (state new.disk).IsHonest
+        → AllAre s (state disk)
         → (fed : HasFed (server_for how.directory server) new (state server.disk) (state new.disk) s
-        fault events)
+        commands marks (fault_at stage) events)
         → AreOf events packets
-        → AreTold tells (look_of_feed how) s.geometry.objects first s.carousel stage events last
-        fed.leaves.last.carousel
-        → HasAired s tale how fault stage events packets (state disk) (state new.disk)
-    has_played s fault stage events packets honest all fed are told =
+        → AreTold tells (look_of_feed how) s.geometry.objects first s.carousel stage events commands
+        marks last fed.leaves.last.carousel
+        → HasAired s tale how stage events packets (state disk) (state new.disk)
+    has_played s stage events commands marks packets honest all fed are told =
         let was = keeps.was_honest honest in
         let holds = holds_opened s honest all in
         let made : Standing = fed.leaves.last in
@@ -107,14 +112,15 @@ module _ {D : Type 0} (state : D → State) (disk : D) (server new : ServerView 
           last = made;
           place = place_in new made;
           happened = happened;
+          commands = commands;
+          marks = marks;
           told = told;
-          commands = fed.commands;
-          marks = fed.marks;
           accepted = fed.accepted;
           after = fed.leaves.after;
           stands = λ fine. (fed.leaves.going fine).each;
           leaves = opened_leaves (state disk) (state server.disk) (state new.disk) server.view
-              new.view s fed.commands fed.marks fault (sound disk (opens.keeps.was_honest was)) all
+              new.view s commands marks (fault_at stage)
+              (sound disk (opens.keeps.was_honest was)) all
               (opens.still was) fed.leaves;
           are = are;
           continuous = continuous s.geometry.objects s.geometry.segment_size s.carousel
@@ -143,50 +149,26 @@ module _ {D : Type 0} (state : D → State) (disk : D) (server new : ServerView 
         → OnOk result (StaysCalm server new (state server.disk) (state new.disk))
         → IfErr result (λ r. IsFeedFault server (state server.disk) (state new.disk) r)
         → ((s : Standing) → Holds server.view s (state server.disk) → (state new.disk).IsHonest
-        → OnOk result (Feeds tells (look_of_feed how) first last (server_for how.directory server)
-        new (state server.disk) (state new.disk) s how.turns before after))
-        → ((s : Standing) → Holds server.view s (state server.disk) → (state new.disk).IsHonest
-        → IfErr result (λ r. FeedsPart tells (look_of_feed how) r first last
-        (server_for how.directory server) new (state server.disk) (state new.disk) s before after))
+        → Feeds tells (look_of_feed how) how.turns (fault_of result) first last
+        (server_for how.directory server) new (state server.disk) (state new.disk) s before after)
         → Plays tale how (fault_of result) before after (state disk) (state new.disk)
-    plays before after result stays why feeds part = record {
+    plays before after result stays why feeds = record {
       keeps = keeps_from;
       came = inr (
+        openable_from,
         ends_off server new (state disk) (state server.disk) (state new.disk) result going calm
             (both (StaysCalm server new (state server.disk) (state new.disk))
             (λ r. IsFeedFault server (state server.disk) (state new.disk) r) result stays why),
-        λ s honest all. let holds = holds_opened s honest all in
-            writes s honest all result (feeds s holds honest) (part s holds honest),
-      );
-    }
-      where
-        writes : (s : Standing) → (state new.disk).IsHonest → AllAre s (state disk)
-            → (result : Result Unit Refusal)
-            → OnOk result (Feeds tells (look_of_feed how) first last
-            (server_for how.directory server) new (state server.disk) (state new.disk) s how.turns
-            before after)
-            → IfErr result (λ r. FeedsPart tells (look_of_feed how) r first last
-            (server_for how.directory server) new (state server.disk) (state new.disk) s before
-            after)
-            → WritesPackets tale how (fault_of result) before after (state disk) (state new.disk) s
-        writes s honest all (Ok done) fed part = record {
-          fault = None;
-          stage = Ready;
-          events = fed.events;
-          packets = fed.packets;
-          played = has_played s None Ready fed.events fed.packets honest all fed.fed fed.are
-              fed.told;
-          written = (refl, refl, fed.written, fed.ended);
-        }
-        writes s honest all (Err refusal) feeds fed = record {
-          fault = fed.fault;
+        λ s honest all. let fed = feeds s (holds_opened s honest all) honest in record {
           stage = fed.stage;
           events = fed.events;
           packets = fed.packets;
-          played = has_played s fed.fault fed.stage fed.events fed.packets honest all fed.fed
-              fed.are fed.told;
-          written = (fed.comes, fed.written);
-        }
+          played = has_played s fed.stage fed.events fed.commands fed.marks fed.packets honest all
+              fed.fed fed.are fed.told;
+          ends = fed.ends;
+        },
+      );
+    }
 
 -- a disk that was played into a target kept its length
 pub into_keeps : (target : Target) (told : Tale) (how : Manner) (ending : Option Refusal)

@@ -14,17 +14,22 @@ use Rattle.mot_air.specs.Syncing.{HasSynced, IsEqual, Syncs, SyncsAndTells}
 use Rattle.mot_air.proofs.Opened.{ends_off, opened_leaves}
 use Rattle.mot_feed.specs.Feeding.{IsFeedFault}
 use Rattle.mot_folder.specs.Log.{LogEntry, ReportTells}
-use Rattle.mot_folder.specs.Looked.{HasLookedAtFolder, IsLook, kept, listed, unlisted}
+use Rattle.mot_folder.proofs.Laws.{every_named}
+use Rattle.mot_folder.specs.Looked.{HasLookedAtFolder, IsLook, TellsRightly, kept, listed}
+use Rattle.mot_folder.specs.Looked.{unlisted}
 use Rattle.mot_folder.specs.declared.report.Report.{Report}
-use Rattle.mot_journal.specs.Image.{Standing}
+use Rattle.mot_journal.specs.Image.{Standing, half_of}
+use Rattle.mot_journal.specs.Slot.{layout_of}
+use Rattle.mot_journal.specs.declared.layout.Layout.{Layout}
 use Rattle.mot_numbers.specs.declared.geometry.Geometry.{Geometry}
 use Rattle.mot_numbers.specs.declared.geometry.TheConstants.{MAX_OBJECTS}
 use Rattle.mot_numbers.specs.declared.refusal.Refusal.{Refusal}
 use Rattle.mot_numbers.specs.Geometry.{is_valid}
 use Rattle.mot_objects.specs.Carousel.{IsSound, carousel_after}
 use Rattle.mot_objects.specs.declared.command.Command.{Command}
-use Rattle.mot_export.proofs.Laws.{AllAre, all_hold}
-use Rattle.mot_repository.proofs.Laws.{standings-are_sound}
+use Rattle.mot_export.proofs.Laws.{AllAre, all_hold, openable}
+use Rattle.mot_export.specs.Opening.{IsOpenable}
+use Rattle.mot_repository.proofs.Laws.{standings-are_sound, stands_where}
 use Rattle.mot_repository.specs.Opening.{IsOpened}
 use Rattle.mot_repository.specs.Repository.{Agrees, Holds}
 use Rattle.mot_server.proofs.Laws.{valid_is}
@@ -71,6 +76,11 @@ module _ {D : Type 0} (state : D → State) (disk : D) (server new : ServerView 
   keeps_from : KeepsLength (state disk) (state new.disk)
   keeps_from = keeps_on (state disk) (state server.disk) (state new.disk) opens.keeps keeps
 
+  openable_from : IsOpenable (state disk) (state new.disk)
+  openable_from =
+      openable (state disk) (state server.disk) (state new.disk) server.view (sound disk)
+      (sound server.disk) opens opened going keeps.was_honest
+
   sound_carousel : (s : Standing) → (state new.disk).IsHonest → AllAre s (state disk)
       → IsSound s.carousel
   sound_carousel s honest all =
@@ -83,6 +93,15 @@ module _ {D : Type 0} (state : D → State) (disk : D) (server new : ServerView 
   few_objects s agrees =
       subst (λ (g : Geometry). g.objects ≤ MAX_OBJECTS) agrees.geometry
       (valid_is server.view.journal.geometry valid).1
+
+  -- the journal is in the layout that the disk's records are in
+  layout_is : (s : Standing) → (state new.disk).IsHonest → AllAre s (state disk)
+      → server.view.journal.layout ≡ layout_of (half_of s.geometry (state disk).bytes)
+  layout_is s honest all =
+      let is = opened (keeps.was_honest honest) in
+      let agrees = (holds_opened s honest all).agrees in
+      sym (stands_where server.view.journal is.records (state disk).bytes is.read).layout
+      ∙ ap (λ (g : Geometry). layout_of (half_of g (state disk).bytes)) agrees.geometry
 
   -- what a look came to of the disk, from its opening on
   has_synced : (s : Standing) (types : List SuffixType) (allows : Bool) (path : List ℕ)
@@ -105,6 +124,8 @@ module _ {D : Type 0} (state : D → State) (disk : D) (server new : ServerView 
           names = looked.names;
           wanted = looked.wanted;
           look = looked.look;
+          right = subst (λ (l : Layout). TellsRightly l s looked.commands looked.entries)
+              (layout_is s honest all) looked.right;
           equal = equal (not report.any_refused) fault looked.commands looked.marks looked.names
               looked.wanted looked.entries looked.run looked.look;
         },
@@ -126,14 +147,14 @@ module _ {D : Type 0} (state : D → State) (disk : D) (server new : ServerView 
       equal fine fault commands marks names wanted entries run
           (listed shown listing updates is_update others split whole exact answers told are seen
           gone each) e n =
-          let fine_is = exact e n in
+          let fine_is = exact.0 e in
           let all_run : commands ≡ updating s.carousel names wanted =
           sym (append-nil commands) ∙ ap (λ l. commands ++ l) (sym (whole n)) ∙ sym split in
           let done = all_accepted commands marks fine_is.1 (run.whole n) ∙ all_run in
           let after = subst (λ l. carousel_after s.carousel s.geometry.objects l
           ≡ Some run.leaves.last.carousel) done run.leaves.after.carousel in
           record {
-            every = fine_is.0;
+            every = every_named types given seen wanted fault entries each fine_is.0 ∙ gone n;
             last = run.leaves.last;
             geometry = run.leaves.after.geometry;
             updated = made s.carousel run.leaves.last.carousel s.geometry.objects names wanted
@@ -204,6 +225,7 @@ module _ {D : Type 0} (state : D → State) (disk : D) (server new : ServerView 
     syncs result why looked = record {
       keeps = keeps_from;
       came = inr (
+        openable_from,
         ends_off server new (state disk) (state server.disk) (state new.disk) result going calm why,
         λ s honest each. tells s result honest each (looked s (holds_opened s honest each) honest),
       );

@@ -2,7 +2,7 @@
 use Rattle.std.specs.Prelude.{◌≡◌, ◌⊎◌, ℕ, List, [], ◌++◌, Bool, Option, Some, None, IsSomeAnd}
 use Rattle.disk_model.specs.Disk.{KeepsLength, State, Throughout}
 use Rattle.disk_model.specs.Failures.{Rises}
-use Rattle.mot_export.specs.Opening.{IsUnopened, OfStanding}
+use Rattle.mot_export.specs.Opening.{IsOpenable, IsUnopened, OfStanding}
 use Rattle.mot_journal.specs.Image.{Standing}
 use Rattle.mot_numbers.specs.declared.refusal.Refusal.{Refusal}
 use Rattle.mot_numbers.specs.declared.refusal.Refusal.TheVariants.{DeviceFault, OutOfMemory}
@@ -21,13 +21,13 @@ pub data IsEnd (ending : Option Refusal) (start now : State) : Type 0 where
   device : ending ≡ Some DeviceFault → Rises start.failures now.failures → IsEnd ending start now
   unwritten : ending ≡ Some WriteFault → now.failures ≡ start.failures → IsEnd ending start now
 
--- The disk is as long as it was. It was not opened, and there is Nothing; or it was, and there is P
--- of what it stood for.
+-- The disk is as long as it was. It was not opened, and there is Nothing; or its bytes stood for
+-- something, if it was honest to the end, and there is P of what it stood for, clean.
 pub record EndsBy (ending : Option Refusal) (Nothing : Type 0) (P : Standing → Type 0)
     (start now : State) : Type 0 where
   pub keeps : KeepsLength start now
   pub came : (IsSomeAnd ending (λ r. IsUnopened r start now) × Nothing)
-      ⊎ (IsEnd ending start now × OfStanding P start now)
+      ⊎ (IsOpenable start now × IsEnd ending start now × OfStanding P start now)
 
 -- What commands leave of a disk that stood for s, each answered with its mark up to a fault: at
 -- each moment a crash leaves what a beginning of the accepted ones makes of it, or all of them and

@@ -1,15 +1,13 @@
 -- What playing a disk writes, and what it leaves of the disk.
-use Rattle.std.specs.Prelude.{◌≡◌, ◌⊎◌, ℕ, Bool, true, false, List, [], ◌++◌, length, Option}
-use Rattle.std.specs.Prelude.{None, MatchOption}
+use Rattle.std.specs.Prelude.{◌≡◌, ℕ, Bool, true, false, List, [], ◌++◌, Option}
 use Rattle.std.specs.Option.{option_map_or}
 use Rattle.disk_model.specs.Disk.{State}
 use Rattle.mot_air.specs.Opening.{EndsBy, Leaves}
-use Rattle.mot_feed.specs.Feeding.{AreOf, AreTold, ComesAt, Event, Happen, Stage}
-use Rattle.mot_feed.specs.Feeding.{commands_among, has_ended, turns_in}
+use Rattle.mot_feed.specs.Feeding.{AreOf, AreTold, EndsFeed, Event, Happen, Stage}
+use Rattle.mot_feed.specs.Feeding.{commands_among, fault_at, is_between_turns}
 use Rattle.mot_feed.specs.Feeding.Stage.{Ready}
 use Rattle.mot_feed.specs.Often.{look_in, place_for}
 use Rattle.mot_feed.specs.OnAir.{asks, begins_turn, is_turn}
-use Rattle.mot_feed.specs.Writing.{GrowsPart}
 use Rattle.mot_journal.specs.Image.{Standing}
 use Rattle.mot_numbers.specs.Refusal.{is_device_fault}
 use Rattle.mot_numbers.specs.declared.refusal.Refusal.{Refusal}
@@ -42,14 +40,15 @@ abbrev pub look_of_feed : Manner → ℕ
 look_of_feed how = look_in how.directory how.look
 
 -- What is told of the events of a feed, up to a stage: with room for so many objects they lead from
--- one carousel to the other, by commands that come of something beside the disk.
+-- one carousel to the other, by these commands with their marks, which come of something beside the
+-- disk.
 abbrev pub Tale : Type 1
-Tale = (limit : ℕ) → Carousel → Stage → List Event → Carousel → Type 0
+Tale = (limit : ℕ) → Carousel → Stage → List Event → List Command → List Bool → Carousel → Type 0
 
 -- what an update tells, call by call, that was the first before and is the last now
 abbrev pub tale_of : {U : Type 0} → (U → U → Moment → Telling) → Manner → (first last : U) → Tale
-tale_of tells how first last limit c stage events made =
-    AreTold tells (look_of_feed how) limit first c stage events last made
+tale_of tells how first last limit c stage events commands marks made =
+    AreTold tells (look_of_feed how) limit first c stage events commands marks last made
 
 -- Where a whole turn comes behind these events of a server just opened, its packets read as exactly
 -- the carousel that stands there, if that keeps the rules of its fields. If the turn before ended,
@@ -63,49 +62,44 @@ TurnReads s how before during =
     → is_turn during ≡ true → AreOf during packets
     → (begins_turn (place_for how.directory (first_place s)).follows true true before ≡ true
     → ReadAsTurn (asks during) packets c s.geometry.segment_size)
-    × (has_ended true before ≡ true → ReadsOnceAs packets c s.geometry.segment_size)
+    × (is_between_turns true before ≡ true → ReadsOnceAs packets c s.geometry.segment_size)
 
--- These happened on a server that was opened of a disk that stood for s: their commands, of which
--- this is told, left this of the disk, and their packets are these, with their continuity indexes.
-pub record HasAired (s : Standing) (tale : Tale) (how : Manner) (fault : Option Refusal)
-    (stage : Stage) (events : List Event) (packets : List (List ℕ)) (start now : State) :
-    Type 0 where
+-- These happened on a server that was opened of a disk that stood for s: the commands, of which
+-- this is told, left this of the disk, and the packets are these, with their continuity indexes.
+pub record HasAired (s : Standing) (tale : Tale) (how : Manner) (stage : Stage)
+    (events : List Event) (packets : List (List ℕ)) (start now : State) : Type 0 where
   pub last : Standing
   pub place : Place
   pub happened : Happen s.geometry.objects s.geometry.segment_size s.carousel
       (place_for how.directory (first_place s)) events last.carousel place
-  pub told : tale s.geometry.objects s.carousel stage events last.carousel
   pub commands : List Command
   pub marks : List Bool
+  pub told : tale s.geometry.objects s.carousel stage events commands marks last.carousel
   pub accepted : commands_among events ≡ accepted_commands commands marks
   -- where the disk did not fail it stands for what they make of it
   pub after : IsAfter s (accepted_commands commands marks) last
-  pub stands : option_map_or is_device_fault fault false ≡ false
+  pub stands : option_map_or is_device_fault (fault_at stage) false ≡ false
       → (image : List ℕ) → now.MayLeave image → IsOf last image
-  pub leaves : Leaves s commands marks fault start now
+  pub leaves : Leaves s commands marks (fault_at stage) start now
   pub are : AreOf events packets
   pub continuous : IsContinuous packets
   pub turns_read : (before during others : List Event) → before ++ (during ++ others) ≡ events
       → TurnReads s how before during
 
--- So many turns were written, each packet in one write; or else so many packets that their number
--- fits no word of 64 bits. Or this refusal came of an update, of a packet or of writing it: where a
--- write failed, the last packet is cut or missing, and no command was in flight.
+-- The packets were written up to this ending: where a write failed, the last of them is cut or
+-- missing, and no command was in flight.
 pub record WritesPackets (tale : Tale) (how : Manner) (ending : Option Refusal)
     (before after : Option (List (List ℕ))) (start now : State) (s : Standing) : Type 0 where
-  pub fault : Option Refusal
   pub stage : Stage
   pub events : List Event
   pub packets : List (List ℕ)
-  pub played : HasAired s tale how fault stage events packets start now
-  pub written : MatchOption ending ((fault ≡ None) × (stage ≡ Ready) × Grows before after packets
-      × (((turns_in events ≡ how.turns) × (has_ended true events ≡ true))
-      ⊎ (length packets ≡ 18446744073709551615)))
-      (λ r. ComesAt r fault stage × GrowsPart r packets before after)
+  pub played : HasAired s tale how stage events packets start now
+  pub ends : EndsFeed how.turns events packets before after ending stage
 
 -- the disk was played, up to this ending; where it was not opened, nothing was written or run
 abbrev pub Plays : Tale → Manner → Option Refusal → (before after : Option (List (List ℕ)))
     → (start now : State) → Type 0
 Plays tale how ending before after start now =
-    EndsBy ending (Grows before after [] × ((limit : ℕ) (c : Carousel) → tale limit c Ready [] c))
+    EndsBy ending
+    (Grows before after [] × ((limit : ℕ) (c : Carousel) → tale limit c Ready [] [] [] c))
     (WritesPackets tale how ending before after start now) start now

@@ -1,7 +1,7 @@
 -- What the commands on air do.
-use Rattle.std.specs.Prelude.{ℕ, ◌≡◌, ◌⊎◌, ◌++◌, ◌-◌, Bool, true, List, [], ◌∷◌, Option}
+use Rattle.std.specs.Prelude.{ℕ, ◌≡◌, ◌⊎◌, ◌++◌, ◌-◌, Bool, true, false, not, List, [], ◌∷◌, Option}
 use Rattle.std.specs.Prelude.{Some, None, codes, option_map, unwrap_or}
-use Rattle.clap.specs.Words.{Text}
+use Rattle.clap.specs.Words.{Row, Text, subcommand_of}
 use Rattle.disk_model.specs.Disk.{State}
 use Rattle.disk_store.specs.Beginning.{SinceOpened}
 use Rattle.disk_store.specs.declared.file.start.Start.{Ghosts}
@@ -21,14 +21,14 @@ use Rattle.mot_outcome.specs.Outcome.{OnFile, OnOpened}
 use Rattle.mot_outcome.specs.declared.used.Inputs.{Inputs}
 use Rattle.mot_outcome.specs.declared.used.UsedDisk.{UsedDisk}
 use Rattle.mot_outcome.specs.declared.used.UsedDisk.TheVariants.{InMemory, OfFile, Untouched}
-use Rattle.mot_export.specs.Exporting.{Exports, StopsExporting}
-use Rattle.mot_export.specs.Inspecting.{Inspects, StopsInspecting}
+use Rattle.mot_export.specs.Exporting.{Exports}
+use Rattle.mot_export.specs.Inspecting.{Inspects}
 use Rattle.mot_shelf.specs.Seen.{given_of}
 use Rattle.mot_folder.specs.Looked.{Watch}
 use Rattle.mot_suffixes.specs.Types.{SuffixType}
 use Rattle.mot_cli.specs.Command.{motcar_app}
-use Rattle.mot_cli.specs.Air.Task.{IsAirTask}
-use Rattle.mot_cli.specs.Asked.{AreWrong, AskFor}
+use Rattle.mot_cli.specs.Air.Task.{is_whole}
+use Rattle.mot_cli.specs.Asked.{AreWrong}
 use Rattle.mot_cli.specs.declared.air.task.AirTask.{AirTask}
 use Rattle.mot_cli.specs.declared.air.task.AirTask.TheVariants.{Play, Sync, Export, Inspect}
 use Rattle.mot_cli.specs.declared.air.task.LookRules.{LookRules}
@@ -46,9 +46,9 @@ abbrev pub watch_asked : List SuffixType → PlayTask → Option Watch
 watch_asked table p = watched p.folder
     (λ path. watch_in (played_as p) path.now table p.rules.allow_empty (unwrap_or p.look 700))
 
--- what is told of playing it: no line has begun, and lines are read at every eighth packet, where no
--- other number is asked for
-abbrev pub tale_asked : List SuffixType → PlayTask → Inputs → Tale
+-- what is told of playing it: no line has begun, and lines are read at every eighth packet, where
+-- no other number is asked for
+abbrev pub tale_asked : List SuffixType → PlayTask → Inputs → (refused : Bool) → Tale
 tale_asked table p = tale_with (watch_asked table p)
     (option_map (λ path. ([], unwrap_or p.every 8 - 1)) p.lines) (played_as p)
 
@@ -61,15 +61,23 @@ PlaysInto target tale how ending begun taken start now =
     ⊎ ((target ≡ File) × (ending ≡ Some WriteFault)
     × Plays tale how None (Some begun) (Some taken) start now)
 
+-- Whether all is done that playing into this target is to do. A file is to show the folder: it does
+-- not where something was refused in a look.
+abbrev pub is_all_done : Target → (refused : Bool) → Bool
+is_all_done File refused = not refused
+is_all_done target refused = true
+
 module _ {S : Type 0} {start : Ghosts S} where
-  -- The disk of a file was played into what takes packets, up to this ending. What each write took
-  -- is told, as a list that begins with the path by which that was opened; and what was given
-  -- by the folder in each look, and by each read of lines.
-  abbrev pub PlaysTo : PlayTask → (Inputs → Tale) → Option Refusal → UsedDisk S start → Type 0
-  PlaysTo p tale ending used =
+  -- The disk of a file was played into what takes packets, up to this ending; where it came to its
+  -- end, true if all is done. What each write took is told, as a list that begins with the path by
+  -- which that was opened; and what was given by the folder in each look, and by each read of lines.
+  abbrev pub PlaysTo : PlayTask → (Inputs → Bool → Tale) → (all : Bool) → Option Refusal
+      → UsedDisk S start → Type 0
+  PlaysTo p tale all ending used =
       (target : Target) × IsTarget p.packets.now target
-      × OnFile (λ disk beside. SinceOpened (PlaysInto target (tale beside.inputs) (played_as p)
-      ending (p.packets.now ∷ []) beside.taken.notes.all) disk) used
+      × ((refused : Bool) × (ending ≡ None → all ≡ is_all_done target refused)
+      × OnFile (λ disk beside. SinceOpened (PlaysInto target (tale beside.inputs refused)
+      (played_as p) ending (p.packets.now ∷ []) beside.taken.notes.all) disk) used)
 
   -- the carousel of the disk of a file was made equal to the folder of this path, up to this
   -- ending, by this table of suffixes and these rules
@@ -87,18 +95,15 @@ module _ {S : Type 0} {start : Ghosts S} where
   abbrev pub Ends : AirTask → (all : Bool) → Option Refusal → UsedDisk S start
       → (unread left old new : Option (List ℕ)) → Type 0
   Ends (Play p) all ending used unread left old new =
-      (table : List SuffixType) × IsTyped p.types table × PlaysTo p (tale_asked table p) ending used
+      (table : List SuffixType) × IsTyped p.types table
+      × PlaysTo p (tale_asked table p) all ending used
   Ends (Sync disk folder types rules) all ending used unread left old new =
       (table : List SuffixType) × IsTyped types table
       × SyncsTo table rules folder.now all ending old new used
-  Ends (Export disk) all None used unread left old new =
-      (all ≡ true) × OnOpened (Exports old new) used
-  Ends (Export disk) all (Some r) used unread left old new =
-      OnOpened (StopsExporting r old new) used
-  Ends (Inspect disk rate) all None used unread left old new =
-      (all ≡ true) × OnOpened (Inspects rate old new) used
-  Ends (Inspect disk rate) all (Some r) used unread left old new =
-      OnOpened (StopsInspecting rate r old new) used
+  Ends (Export disk) all ending used unread left old new =
+      (ending ≡ None → all ≡ true) × OnOpened (Exports ending old new) used
+  Ends (Inspect disk rate) all ending used unread left old new =
+      (ending ≡ None → all ≡ true) × OnOpened (Inspects rate ending old new) used
 
 -- In these a list of what was opened has of each what it was opened as, and its path.
 
@@ -138,8 +143,11 @@ IsBeginningRefusal (Play p) r =
 IsBeginningRefusal (Sync disk folder types rules) r = IsUntyped types r ⊎ (r ≡ DeviceFault)
 IsBeginningRefusal task r = r ≡ DeviceFault
 
--- a word is wrong, or none names a command; or the words ask for no task, since an option is given
--- without the other of which it says more
+-- the words name `play`, and give an option without the other of which it says more
+abbrev pub LackOption : List Text → Type 0
+LackOption words = (rows : List Row) × (subcommand_of motcar_app words ≡ Some (codes "play", rows))
+    × (is_whole rows ≡ false)
+
+-- a word is wrong, or none names a command; or the words lack an option
 abbrev pub AskForNothing : List Text → Type 0
-AskForNothing words =
-    AreWrong motcar_app words ⊎ ((task : AirTask) → AskFor motcar_app IsAirTask words task → ⊥)
+AskForNothing words = AreWrong motcar_app words ⊎ LackOption words

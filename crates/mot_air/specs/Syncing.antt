@@ -5,8 +5,9 @@ use Rattle.std.specs.List.{flat_map}
 use Rattle.disk_model.specs.Disk.{State}
 use Rattle.mot_air.specs.Opening.{EndsBy, Leaves}
 use Rattle.mot_folder.specs.Log.{LogEntry, log_line}
-use Rattle.mot_folder.specs.Looked.{IsLook}
-use Rattle.mot_journal.specs.Image.{Standing}
+use Rattle.mot_folder.specs.Looked.{IsLook, TellsRightly}
+use Rattle.mot_journal.specs.Image.{Standing, half_of}
+use Rattle.mot_journal.specs.Slot.{layout_of}
 use Rattle.mot_numbers.specs.declared.refusal.Refusal.{Refusal}
 use Rattle.mot_numbers.specs.declared.refusal.Refusal.TheVariants.{WriteFault}
 use Rattle.mot_objects.specs.declared.command.Command.{Command}
@@ -41,6 +42,8 @@ module _ (types : List SuffixType) (allows : Bool) (path : List ℕ) (given : Gi
     pub wanted : List Wanted
     pub look : IsLook types allows path given s.carousel commands marks fault names wanted all
         entries
+    -- what is told of a command is what comes of it, in the layout of the records of the disk
+    pub right : TellsRightly (layout_of (half_of s.geometry start.bytes)) s commands entries
     pub equal : all ≡ true → fault ≡ None → IsEqual s names wanted now
 
   -- A look came to its end, and a line for each thing that is told of it was written to the log. Or

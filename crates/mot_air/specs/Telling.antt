@@ -1,11 +1,11 @@
 -- What the commands come of that run while a disk is played: looks at a folder, and lines.
-use Rattle.std.specs.Prelude.{◌≡◌, ℕ, ◌&&◌, nat_lt, Bool, if◌then◌else◌, List, [], Option, Some, None}
+use Rattle.std.specs.Prelude.{◌≡◌, ℕ, ◌&&◌, nat_lt, Bool, false, if◌then◌else◌, List, []}
+use Rattle.std.specs.Prelude.{Option, Some, None}
 use Rattle.mot_air.specs.Playing.{Manner, Tale, look_of_feed}
 use Rattle.mot_feed_lines.specs.Answering.{TellsInTurn}
 use Rattle.mot_feed.specs.Feeding.{AreTold}
-use Rattle.mot_folder.specs.Looked.{TellsLooks, Watch, watch}
+use Rattle.mot_folder.specs.Looked.{LooksSoFar, TellsLooks, Watch, so_far, watch}
 use Rattle.mot_outcome.specs.declared.used.Inputs.{Inputs}
-use Rattle.mot_shelf.specs.Given.{Given}
 use Rattle.mot_suffixes.specs.Types.{SuffixType}
 use Rattle.mot_update.specs.Between.{Telling}
 use Rattle.mot_update.specs.declared.moment.Moment.{Moment}
@@ -24,26 +24,24 @@ abbrev pub watched : {F : Type 0} → Option F → (F → Watch) → Option Watc
 watched None of = None
 watched (Some folder) of = Some (of folder)
 
--- beside the disk: how many packets are to come before the next look, what the folder gave in each
--- look so far, how many before the next read of lines, what each of these gave so far, and what has
--- come of the next line
+-- beside the disk: the looks so far, how many packets are to come before the next read of lines,
+-- what each of these gave so far, and what has come of the next line
 pub record Sources : Type 0 where
-  pub left : ℕ
-  pub looks : List Given
+  pub looks : LooksSoFar
   pub late : ℕ
   pub lines : List (List ℕ)
   pub hand : List ℕ
 
 -- no look has come, and nothing was read
 abbrev pub first_sources : List ℕ → Sources
-first_sources hand = record { left = 0; looks = []; late = 0; lines = []; hand = hand }
+first_sources hand = record { looks = so_far 0 [] false; late = 0; lines = []; hand = hand }
 
 -- commands come of looks alone; without a folder there are none
 abbrev pub tells_looks : Option Watch → (old new : Sources) → Moment → Telling
 tells_looks None old new moment c commands marks fault =
     (new.looks ≡ old.looks) × (commands ≡ [])
 tells_looks (Some w) old new moment c commands marks fault =
-    TellsLooks w moment old.left new.left old.looks new.looks c commands marks fault
+    TellsLooks w moment old.looks new.looks c commands marks fault
 
 -- or of looks, and of the lines that end in what was read, where so many packets come between two
 -- reads
@@ -52,13 +50,21 @@ tells_lines between w old new moment =
     TellsInTurn between old.late new.late old.hand new.hand old.lines new.lines
     (tells_looks w old new moment)
 
--- The commands are those of looks, in order, and this is what the folder gave in each of them; or,
--- with this in hand and so many packets between two reads, those of looks and of lines, and this is
--- what each read of lines gave.
-abbrev pub tale_with : Option Watch → (reads : Option (List ℕ × ℕ)) → Manner → Inputs → Tale
-tale_with w None how given limit c stage events made =
-    (end : Sources) × (end.looks ≡ given.looks.all) × (given.lines.notes.all ≡ [])
-    × AreTold (tells_looks w) (look_of_feed how) limit (first_sources []) c stage events end made
-tale_with w (Some (hand, between)) how given limit c stage events made =
-    (end : Sources) × (end.looks ≡ given.looks.all) × (end.lines ≡ given.lines.notes.all)
-    × AreTold (tells_lines between w) (look_of_feed how) limit (first_sources hand) c stage events end made
+-- of these sources the looks gave that, and something was refused in them, or not
+pub record HasSeen (end : Sources) (given : Inputs) (refused : Bool) : Type 0 where
+  pub looks : end.looks.given ≡ given.looks.all
+  pub any : end.looks.refused ≡ refused
+
+-- The commands are those of looks, in order, this is what the folder gave in each of them, and
+-- something was refused in them, or not; or, with this in hand and so many packets between two
+-- reads, those of looks and of lines, and this is what each read of lines gave.
+abbrev pub tale_with : Option Watch → (reads : Option (List ℕ × ℕ)) → Manner → Inputs
+    → (refused : Bool) → Tale
+tale_with w None how given refused limit c stage events commands marks made =
+    (end : Sources) × HasSeen end given refused × (given.lines.notes.all ≡ [])
+    × AreTold (tells_looks w) (look_of_feed how) limit (first_sources []) c stage events commands
+    marks end made
+tale_with w (Some (hand, between)) how given refused limit c stage events commands marks made =
+    (end : Sources) × HasSeen end given refused × (end.lines ≡ given.lines.notes.all)
+    × AreTold (tells_lines between w) (look_of_feed how) limit (first_sources hand) c stage events
+    commands marks end made

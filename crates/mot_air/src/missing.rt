@@ -4,30 +4,14 @@ use disk_store::OpenFault;
 use mot_endpoints::Cause;
 use std::io::Write;
 
-/// The option that is missing among the words, as help shows it, if another one that qualifies it
-/// was given.
-pub(crate) fn missing_option(words: &ArgMatches<'_>) -> Option<&'static str> {
-    if is_alone(words, "every", "lines") {
-        Some("--lines <DIR>")
-    } else if is_alone(words, "types", "folder")
-        || is_alone(words, "look", "folder")
-        || is_flag_alone(words, "allow-empty", "folder")
-        || is_flag_alone(words, "at-once", "folder")
-    {
-        Some("--folder <DIR>")
+/// The option that is missing among the words, as help shows it. (Another one qualifies it, so that
+/// the words are not whole.)
+pub(crate) fn missing_option(words: &ArgMatches<'_>) -> &'static str {
+    if words.get_str("every").is_some() && words.get_str("lines").is_none() {
+        "--lines <DIR>"
     } else {
-        None
+        "--folder <DIR>"
     }
-}
-
-/// Whether an option was given, and another one was not.
-fn is_alone(words: &ArgMatches<'_>, name: &str, other: &str) -> bool {
-    words.get_str(name).is_some() && words.get_str(other).is_none()
-}
-
-/// Whether a flag was given, and an option was not.
-fn is_flag_alone(words: &ArgMatches<'_>, name: &str, other: &str) -> bool {
-    words.get_str(name) == Some("true") && words.get_str(other).is_none()
 }
 
 /// Prints that an option is missing, as the parser prints it of a word.

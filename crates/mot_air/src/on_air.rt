@@ -1,9 +1,10 @@
 //! Playing the disk of a file into what a path names.
-ghost use Rattle.std.specs.Prelude.{◌≡◌, ◌⊎◌, ◌-◌, [], ◌∷◌, Some, Err, Ok, codes, option_map, unwrap_or};
+ghost use Rattle.std.specs.Prelude.{◌≡◌, ◌⊎◌, ◌-◌, [], ◌∷◌, Some, Err, Ok, codes, option_map};
+ghost use Rattle.std.specs.Prelude.{unwrap_or};
 ghost use Rattle.mot_air.specs.Directory.{directory_of, look_of};
 ghost use Rattle.mot_air.specs.Inner.Concluded.{Concludes};
 ghost use Rattle.mot_air.specs.Playing.{Plays};
-ghost use Rattle.mot_air.specs.Program.{Opens, PlaysInto, PlaysTo, played_as};
+ghost use Rattle.mot_air.specs.Program.{Opens, PlaysInto, PlaysTo, is_all_done, played_as};
 ghost use Rattle.mot_air.specs.Telling.{tale_with, watch_in, watched};
 ghost use Rattle.mot_endpoints.specs.declared.lines.LineFolder.{LineFolder};
 ghost use Rattle.mot_endpoints.specs.Packets.{begun_of, target_of};
@@ -13,7 +14,6 @@ ghost use Rattle.mot_server.specs.Attempts.{fault_of};
 use crate::Ended;
 use crate::answered::answered;
 use crate::playing::{Aired, Followed, play_and_answer, play_disk};
-use crate::reported::Telling;
 use disk_model::Disk;
 use disk_store::Start;
 use mot_cli::PlayTask;
@@ -25,6 +25,7 @@ use mot_numbers::Refusal;
 use mot_outcome::{Beside, Finished, Inputs};
 use mot_packets::Outlet;
 use mot_shelf::Shelf;
+use mot_status::Telling;
 use std::alloc::Global;
 use std::io::Write;
 
@@ -49,8 +50,8 @@ pub(crate) struct Airing<'a, 't, F: Shelf + Drop> {
 #[derive(Drop)]
 struct Played<D: Disk> {
     ended: Ended<D, ()>,
-    /// Whether nothing was refused of the folder that a file of packets was to show.
-    is_fine: bool,
+    /// Whether a look at the folder refused a file, or did not list it.
+    any_refused: bool,
     /// What each write of packets took.
     taken: Taken,
     /// What was given.
@@ -73,7 +74,7 @@ pub(crate) fn play_file<'a, B: Start, F: Shelf + Drop, W: Write, E: Write>(
         (tale_with (watched airing.entry.folder (λ followed. watch_in how (F.path followed.shelf)
         followed.types.now followed.allows_empty followed.every))
         (option_map (λ (lines : LineFolder). (lines.hand, lines.every - 1)) airing.entry.lines) how)
-        ending result.disk)
+        all ending result.disk)
         result.result result.disk (W.contents writer.old) (W.contents writer.new) }
     ensures opens { Opens ((codes "packets", airing.entry.task.packets.now) ∷ [])
         airing.entry.task.disk.now result.disk station.old.opened.all station.new.opened.all }
@@ -90,15 +91,42 @@ pub(crate) fn play_file<'a, B: Start, F: Shelf + Drop, W: Write, E: Write>(
             return Finished::unopened(unopened);
         }
     };
+    let target = target_of(&opened);
     let Played {
         ended,
-        is_fine,
+        any_refused,
         taken,
         inputs,
         cause,
     } = play_into(alloc, disk, opened, airing, writer, errors);
     let beside = Beside::played(taken, inputs);
-    Finished::of_file(answered(ended, is_fine), beside, cause)
+    Finished::of_file(
+        answered(ended, is_all_done(target, any_refused)),
+        beside,
+        cause,
+    )
+}
+
+/// What takes the packets.
+fn target_of(opened: &OpenPackets<'_>) -> Target
+    ensures { result ≡ target_of opened.now }
+{
+    match opened {
+        OpenPackets::Standard(_) => Target::Output,
+        OpenPackets::Through(_) => Target::Stream,
+        OpenPackets::Beside(_) => Target::File,
+    }
+}
+
+/// Whether all is done that playing into the target is to do. A file is to show the folder; of a
+/// stream the log alone says what was refused.
+fn is_all_done(target: Target, any_refused: bool) -> bool
+    ensures { result ≡ is_all_done target any_refused }
+{
+    match target {
+        Target::File => !any_refused,
+        Target::Output | Target::Stream => true,
+    }
 }
 
 /// Plays the disk into what was opened.
@@ -114,41 +142,19 @@ fn play_into<D: Disk, F: Shelf + Drop, W: Write, E: Write>(
         (tale_with (watched airing.entry.folder (λ followed. watch_in how (F.path followed.shelf)
         followed.types.now followed.allows_empty followed.every))
         (option_map (λ (lines : LineFolder). (lines.hand, lines.every - 1)) airing.entry.lines) how
-        result.inputs) how (fault_of result.ended.result)
+        result.inputs result.any_refused) how (fault_of result.ended.result)
         (begun_of opened.entry) result.taken.notes.all
         (D.state disk) (D.state result.ended.disk) }
 {
     match opened {
-        OpenPackets::Standard(outlet) => { play_stream(alloc, disk, outlet, airing, errors) }
-        OpenPackets::Through(outlet) => { play_stream(alloc, disk, outlet, airing, writer) }
+        OpenPackets::Standard(outlet) => play_writer(alloc, disk, outlet, airing, errors),
+        OpenPackets::Through(outlet) => play_writer(alloc, disk, outlet, airing, writer),
         OpenPackets::Beside(new) => play_new_file(alloc, disk, new, airing, writer),
     }
 }
 
-/// Plays the disk into a stream: the log alone says what was refused.
-fn play_stream<D: Disk, F: Shelf + Drop, P: Write + Drop, L: Write>(
-    alloc: Global,
-    disk: D,
-    outlet: PacketWriter<P>,
-    airing: Airing<'_, '_, F>,
-    log: &mut L,
-) -> Played<D>
-    ensures { let how = played_as airing.entry.task in Plays
-        (tale_with (watched airing.entry.folder (λ followed. watch_in how (F.path followed.shelf)
-        followed.types.now followed.allows_empty followed.every))
-        (option_map (λ (lines : LineFolder). (lines.hand, lines.every - 1)) airing.entry.lines) how
-        result.inputs) how (fault_of result.ended.result)
-        (Some outlet.taken.notes.all) (Some result.taken.notes.all)
-        (D.state disk) (D.state result.ended.disk) }
-{
-    let played = play_writer(alloc, disk, outlet, airing, log);
-    Played {
-        is_fine: true,
-        ..played
-    }
-}
-
-/// Plays the disk into the outlet, with looks at the folder and answers to lines, if they are given.
+/// Plays the disk into the outlet, with looks at the folder and answers to lines, if these are
+/// given.
 fn air<D: Disk, F: Shelf + Drop, O: Outlet, L: Write>(
     alloc: Global,
     disk: D,
@@ -160,7 +166,7 @@ fn air<D: Disk, F: Shelf + Drop, O: Outlet, L: Write>(
         (tale_with (watched airing.entry.folder (λ followed. watch_in how (F.path followed.shelf)
         followed.types.now followed.allows_empty followed.every))
         (option_map (λ (lines : LineFolder). (lines.hand, lines.every - 1)) airing.entry.lines) how
-        result.inputs) how (fault_of result.ended.result)
+        result.inputs result.any_refused) how (fault_of result.ended.result)
         (O.writes outlet.old) (O.writes outlet.new)
         (D.state disk) (D.state result.ended.disk) }
 {
@@ -173,7 +179,11 @@ fn air<D: Disk, F: Shelf + Drop, O: Outlet, L: Write>(
     let directory = directory_of(task.turns, task.directory);
     let look = look_of(task.turns, task.look);
     let turns = turns_of(task.turns);
-    let telling = Telling::of(&task, status);
+    let telling = Telling {
+        disk: task.disk,
+        status,
+        levels: task.levels,
+    };
     match lines {
         Some(lines) => play_and_answer(
             alloc, disk, outlet, folder, lines, telling, log, turns, directory, look,
@@ -196,7 +206,7 @@ fn play_writer<D: Disk, F: Shelf + Drop, P: Write + Drop, L: Write>(
         (tale_with (watched airing.entry.folder (λ followed. watch_in how (F.path followed.shelf)
         followed.types.now followed.allows_empty followed.every))
         (option_map (λ (lines : LineFolder). (lines.hand, lines.every - 1)) airing.entry.lines) how
-        result.inputs) how (fault_of result.ended.result)
+        result.inputs result.any_refused) how (fault_of result.ended.result)
         (Some outlet.taken.notes.all) (Some result.taken.notes.all)
         (D.state disk) (D.state result.ended.disk) }
 {
@@ -214,7 +224,7 @@ fn play_writer<D: Disk, F: Shelf + Drop, P: Write + Drop, L: Write>(
     };
     Played {
         ended,
-        is_fine: !any_refused,
+        any_refused,
         taken: outlet.taken,
         inputs,
         cause,
@@ -233,13 +243,13 @@ fn play_new_file<D: Disk, F: Shelf + Drop, L: Write>(
         (tale_with (watched airing.entry.folder (λ followed. watch_in how (F.path followed.shelf)
         followed.types.now followed.allows_empty followed.every))
         (option_map (λ (lines : LineFolder). (lines.hand, lines.every - 1)) airing.entry.lines) how
-        result.inputs) how (fault_of result.ended.result)
+        result.inputs result.any_refused) how (fault_of result.ended.result)
         (new.entry.path.now ∷ []) result.taken.notes.all
         (D.state disk) (D.state result.ended.disk) }
 {
     let Played {
         ended,
-        is_fine,
+        any_refused,
         taken,
         inputs,
         cause,
@@ -256,7 +266,7 @@ fn play_new_file<D: Disk, F: Shelf + Drop, L: Write>(
             result,
             reason,
         },
-        is_fine,
+        any_refused,
         taken,
         inputs,
         cause,

@@ -1,6 +1,6 @@
 //! Playing a disk, and making its carousel equal to a folder.
-ghost use Rattle.std.specs.Prelude.{◌≡◌, ◌⊎◌, ◌-◌, ℕ, [], IfErr, IsSomeAnd, List, MatchResult, None};
-ghost use Rattle.std.specs.Prelude.{OnOk, Some, false};
+ghost use Rattle.std.specs.Prelude.{◌≡◌, ◌⊎◌, ◌-◌, ℕ, [], IfErr, IsSomeAnd, List, MatchResult};
+ghost use Rattle.std.specs.Prelude.{None, OnOk, Some, false};
 ghost use Rattle.std.specs.Result.{result_unwrap_or};
 ghost use Rattle.std.specs.Io.KnownBytes.{Appends};
 ghost use Rattle.disk_model.specs.Disk.{KeepsLength};
@@ -10,7 +10,7 @@ ghost use Rattle.mot_air.specs.Syncing.{Syncs};
 ghost use Rattle.mot_air.specs.Telling.{tale_with, watch_in, watched};
 ghost use Rattle.mot_air.specs.Inner.Looked.{LooksAndTells};
 ghost use Rattle.mot_feed.specs.Feeding.{IsFeedFault};
-ghost use Rattle.mot_folder.specs.Looked.{watch};
+ghost use Rattle.mot_folder.specs.Looked.{so_far, watch};
 ghost use Rattle.mot_journal.specs.Image.{Standing};
 ghost use Rattle.mot_numbers.specs.declared.geometry.Geometry.{Geometry};
 ghost use Rattle.mot_numbers.specs.declared.refusal.Refusal.TheVariants.{WriteFault};
@@ -21,7 +21,7 @@ ghost use Rattle.mot_server.specs.Attempts.{fault_of};
 ghost use Rattle.mot_update.specs.Faults.{StaysCalm};
 
 use crate::Ended;
-use crate::reported::{Reported, Reporter, Telling};
+use crate::reported::Reported;
 use disk_model::Disk;
 use mot_endpoints::{Asked, Heard, LineFolder, LineLog, LineNotes, Replies, SharedLog, Spool};
 use mot_feed::feed_every;
@@ -33,6 +33,7 @@ use mot_packets::Outlet;
 use mot_reason::open_server;
 use mot_server::Server;
 use mot_shelf::{LookNotes, Shelf};
+use mot_status::{Reporter, Telling};
 use mot_update::{NoUpdate, Update};
 use std::alloc::Global;
 use std::cell::RefCell;
@@ -64,11 +65,52 @@ pub struct Aired<D: Disk> {
     pub inputs: Inputs,
 }
 
+impl<D: Disk> Aired<D> {
+    /// Playing ended so, after these looks and with what these reads of lines gave.
+    fn looking<S: Shelf + Drop, W: Write + Drop>(
+        ended: Ended<D, ()>,
+        looks: Looks<'_, S, W>,
+        lines: LineNotes,
+    ) -> Self
+        ensures ended { result.ended ≡ ended }
+        ensures looks { result.inputs.looks ≡ looks.entry.looks }
+        ensures lines { result.inputs.lines ≡ lines }
+        ensures refused { result.any_refused ≡ looks.entry.any_refused }
+    {
+        Aired {
+            ended,
+            any_refused: looks.any_refused,
+            fault: looks.folder.shelf.fault(),
+            inputs: Inputs {
+                looks: looks.looks,
+                lines,
+            },
+        }
+    }
+
+    /// Playing ended so, without a folder, with what these reads of lines gave.
+    fn unwatched(ended: Ended<D, ()>, lines: LineNotes) -> Self
+        ensures ended { result.ended ≡ ended }
+        ensures looks { result.inputs.looks.all ≡ [] }
+        ensures lines { result.inputs.lines ≡ lines }
+        ensures refused { result.any_refused ≡ false }
+    {
+        Aired {
+            ended,
+            any_refused: false,
+            fault: None,
+            inputs: Inputs {
+                looks: LookNotes::new(),
+                lines,
+            },
+        }
+    }
+}
+
 /// Opens the disk and plays it into the outlet, so many turns, with looks at the folder if there is
 /// one. The directory is sent again after so many packets, and a look may come after so many, as
-/// `feed_every` does.
-/// The lines of the looks, of the start and of the end are written to the log, and the status to its
-/// file.
+/// `feed_every` does. The lines of the looks, of the start and of the end are written to the log,
+/// and the status to its file.
 pub fn play_disk<S: Shelf + Drop, D: Disk, O: Outlet, L: Write + Drop>(
     alloc: Global,
     disk: D,
@@ -82,8 +124,8 @@ pub fn play_disk<S: Shelf + Drop, D: Disk, O: Outlet, L: Write + Drop>(
 ) -> Aired<D>
     ensures { let how = manner directory look turns in Plays (tale_with
         (watched folder.entry (λ followed. watch_in how (S.path followed.shelf)
-        followed.types.now followed.allows_empty followed.every)) None how result.inputs)
-        how (fault_of result.ended.result) (O.writes outlet.old) (O.writes outlet.new)
+        followed.types.now followed.allows_empty followed.every)) None how result.inputs
+        result.any_refused) how (fault_of result.ended.result) (O.writes outlet.old) (O.writes outlet.new)
         (D.state disk) (D.state result.ended.disk) }
 {
     let log = RefCell::new(LineLog::new(alloc, log, telling.levels));
@@ -98,13 +140,7 @@ pub fn play_disk<S: Shelf + Drop, D: Disk, O: Outlet, L: Write + Drop>(
             if ended.result.is_ok() {
                 looks.reporter.tell_end(turns);
             }
-            let looks = looks.into_update();
-            Aired {
-                ended,
-                any_refused: looks.any_refused,
-                fault: looks.folder.shelf.fault(),
-                inputs: Inputs::of_looks(notes_of(looks)),
-            }
+            Aired::looking(ended, looks.into_update(), LineNotes::new())
         }
         None => {
             let mut none = Reported {
@@ -115,19 +151,15 @@ pub fn play_disk<S: Shelf + Drop, D: Disk, O: Outlet, L: Write + Drop>(
             if ended.result.is_ok() {
                 none.reporter.tell_end(turns);
             }
-            Aired {
-                ended,
-                any_refused: false,
-                fault: None,
-                inputs: Inputs::of_looks(LookNotes::new()),
-            }
+            Aired::unwatched(ended, LineNotes::new())
         }
     }
 }
 
 /// Opens the disk and plays it into the outlet as `play_disk` does, and answers the lines of the
-/// files in a folder before the first packet and then after every so many, as `mot_feed_lines::Lines`
-/// does: a command may come within a turn. The lines about both are written to the log.
+/// files in a folder before the first packet and then after every so many, as
+/// `mot_feed_lines::Lines` does: a command may come within a turn. The lines about both are written
+/// to the log.
 pub fn play_and_answer<S: Shelf + Drop, D: Disk, O: Outlet, L: Write + Drop>(
     alloc: Global,
     disk: D,
@@ -143,7 +175,8 @@ pub fn play_and_answer<S: Shelf + Drop, D: Disk, O: Outlet, L: Write + Drop>(
     ensures { let how = manner directory look turns in Plays (tale_with
         (watched folder.entry (λ followed. watch_in how (S.path followed.shelf)
         followed.types.now followed.allows_empty followed.every))
-        (Some (lines.entry.hand, lines.entry.every - 1)) how result.inputs) how (fault_of result.ended.result) (O.writes outlet.old) (O.writes outlet.new)
+        (Some (lines.entry.hand, lines.entry.every - 1)) how result.inputs result.any_refused)
+        how (fault_of result.ended.result) (O.writes outlet.old) (O.writes outlet.new)
         (D.state disk) (D.state result.ended.disk) }
 {
     let log = RefCell::new(LineLog::new(alloc, log, telling.levels));
@@ -161,16 +194,7 @@ pub fn play_and_answer<S: Shelf + Drop, D: Disk, O: Outlet, L: Write + Drop>(
                 lines.update.reporter.tell_end(turns);
             }
             let (lines, update) = parts_of(lines);
-            let looks = update.into_update();
-            Aired {
-                ended,
-                any_refused: looks.any_refused,
-                fault: looks.folder.shelf.fault(),
-                inputs: Inputs {
-                    looks: notes_of(looks),
-                    lines,
-                },
-            }
+            Aired::looking(ended, update.into_update(), lines)
         }
         None => {
             let none = Reported {
@@ -183,15 +207,7 @@ pub fn play_and_answer<S: Shelf + Drop, D: Disk, O: Outlet, L: Write + Drop>(
                 lines.update.reporter.tell_end(turns);
             }
             let (lines, _) = parts_of(lines);
-            Aired {
-                ended,
-                any_refused: false,
-                fault: None,
-                inputs: Inputs {
-                    looks: LookNotes::new(),
-                    lines,
-                },
-            }
+            Aired::unwatched(ended, lines)
         }
     }
 }
@@ -209,8 +225,7 @@ fn looks_at<'a, S: Shelf + Drop, W: Write + Drop>(
         result.folder.allows_empty result.every result.within
         ≡ watch_in (manner directory look turns) (S.path followed.entry.shelf)
         followed.entry.types.now followed.entry.allows_empty followed.entry.every }
-    ensures due { result.left ≡ 0 }
-    ensures none { result.looks.all ≡ [] }
+    ensures none { so_far result.left result.looks.all result.any_refused ≡ so_far 0 [] false }
 {
     let Followed {
         shelf,
@@ -225,13 +240,6 @@ fn looks_at<'a, S: Shelf + Drop, W: Write + Drop>(
         looks.within = true;
     }
     looks
-}
-
-/// What the folder gave in each of these looks.
-fn notes_of<S: Shelf + Drop, W: Write + Drop>(looks: Looks<'_, S, W>) -> LookNotes
-    ensures { result ≡ looks.entry.looks }
-{
-    looks.looks
 }
 
 /// What the reads of these lines gave, and the updates that they are answered with.
@@ -265,9 +273,9 @@ fn lines_between<'a, L: Write + Drop, U: Update + Drop>(
     Lines::new(spool, hand, replies, every, update)
 }
 
-/// Opens the disk and plays it into the outlet, so many turns, with these updates before the first
-/// packet and after each. The directory is sent again after so many packets, and a look may
-/// come after so many, as `feed_every` does.
+/// Opens the disk and plays it into the outlet, so many turns, with one of these updates in front
+/// of each packet. The directory is sent again after so many packets, and a look may come after so
+/// many, as `feed_every` does.
 pub fn play_with<D: Disk, U: Update, O: Outlet>(
     alloc: Global,
     disk: D,
@@ -347,7 +355,8 @@ fn look_and_tell<S: Shelf + Drop, D: Disk, L: Write>(
         → (D.state server.new.disk).IsHonest
         → LooksAndTells server.old server.new (D.state server.old.disk)
         (D.state server.new.disk) s folder.old.types.now folder.old.allows_empty
-        (S.path folder.old.shelf) (S.gave folder.new.shelf) (L.contents log.old) (L.contents log.new) result }
+        (S.path folder.old.shelf) (S.gave folder.new.shelf)
+        (L.contents log.old) (L.contents log.new) result }
 {
     let looked = look_at_folder(alloc, server, folder);
     let told = write_lines(log, folder.report.lines.as_slice());

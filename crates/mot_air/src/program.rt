@@ -1,10 +1,10 @@
 //! The commands on air, over any streams and files.
 ghost use Rattle.std.specs.Prelude.{◌≡◌, ◌⊎◌, ◌↔◌, ◌++◌, ◌∷◌, [], map, option_map, unwrap_or};
-ghost use Rattle.std.specs.Prelude.{IsTrue, List, None, Some, codes};
-ghost use Rattle.clap.specs.Words.{Text, found_of, rows_of};
+ghost use Rattle.std.specs.Prelude.{◌≢◌, IsTrue, List, None, Some, codes, false, true};
+ghost use Rattle.clap.specs.Words.{Text, found_of, rows_of, subcommand_of};
 ghost use Rattle.mot_air.specs.Inner.Concluded.{Concludes, ConcludesTask};
 ghost use Rattle.mot_air.specs.Playing.{Manner};
-ghost use Rattle.mot_air.specs.Program.{AskForNothing, Ends, IsBeginningRefusal};
+ghost use Rattle.mot_air.specs.Program.{AskForNothing, Ends, IsBeginningRefusal, LackOption};
 ghost use Rattle.mot_air.specs.Program.{Opens, OpensFor, SyncsTo};
 ghost use Rattle.mot_air.specs.Telling.{watch_in, watched};
 ghost use Rattle.mot_endpoints.specs.Opened.{named};
@@ -12,7 +12,7 @@ ghost use Rattle.mot_numbers.specs.declared.refusal.Refusal.TheVariants.{BadNumb
 ghost use Rattle.mot_outcome.specs.Outcome.{ComesTo, UsesFiles};
 ghost use Rattle.mot_outcome.specs.declared.used.UsedDisk.TheVariants.{Untouched};
 ghost use Rattle.mot_cli.specs.Command.{motcar_app};
-ghost use Rattle.mot_cli.specs.Air.Task.{IsAirTask};
+ghost use Rattle.mot_cli.specs.Air.Task.{IsAirTask, is_whole};
 ghost use Rattle.mot_cli.specs.Asked.{AskBy};
 ghost use Rattle.mot_cli.specs.declared.air.task.AirTask.TheVariants.{Export, Inspect, Play, Sync};
 ghost use Rattle.mot_endpoints.specs.declared.status_file.StatusFile.{StatusFile};
@@ -23,7 +23,7 @@ use crate::on_air::{Airing, play_file};
 use crate::playing::{Followed, sync_disk};
 use clap::ArgMatches;
 use disk_store::Start;
-use mot_cli::{AirTask, LookRules, PlayTask, air_task, motcar_matches};
+use mot_cli::{AirTask, LookRules, PlayTask, air_task, is_whole, motcar_matches};
 use mot_endpoints::{Cause, Others, Station, StatusFile, file_types, line_folder};
 use mot_export::{export_disk, inspect_disk};
 use mot_folder::{FileTypes, Folder};
@@ -61,6 +61,9 @@ pub fn run_air_on<'a, S: AsStr, B: Start, W: Write, E: Write>(
     ensures ended { ComesTo IsAirTask AskForNothing BadNumber IsBeginningRefusal Ends
         (map S.text words.now) result None None (W.contents writer.old) (W.contents writer.new) }
 
+    // An option of `play` that lacks the one of which it says more is not told as a bad number.
+    ensures lacking { LackOption (map S.text words.now) → result.refusal ≢ Some BadNumber }
+
     // Nothing was opened but what the words name, each at most once.
     ensures files { UsesFiles IsAirTask OpensFor (map S.text words.now) result.disk
         station.old.opened.all station.new.opened.all }
@@ -87,15 +90,18 @@ fn run_command<'a, B: Start, W: Write, E: Write>(
 ) -> Exit<B>
     ensures ended { (all : List Text)
         → AskBy motcar_app IsAirTask name.now (rows_of (found_of words.now)) all
+        → subcommand_of motcar_app all ≡ Some (name.now, rows_of (found_of words.now))
         → ComesTo IsAirTask AskForNothing BadNumber IsBeginningRefusal Ends all result
         None None (W.contents writer.old) (W.contents writer.new) }
+    ensures lacking { name.now ≡ codes "play" → is_whole (rows_of (found_of words.now)) ≡ false
+        → result.refusal ≢ Some BadNumber }
     ensures files { (all : List Text)
         → AskBy motcar_app IsAirTask name.now (rows_of (found_of words.now)) all
         → UsesFiles IsAirTask OpensFor all result.disk station.old.opened.all
         station.new.opened.all }
 {
     let Some(task) = air_task(name, words) else {
-        return tell_no_task(errors, words, start);
+        return tell_no_task(errors, name, words, start);
     };
     let Finished {
         result,
@@ -118,29 +124,32 @@ fn run_command<'a, B: Start, W: Write, E: Write>(
     }
 }
 
-/// Prints why the words ask for no task: the option is missing that another one qualifies, or a
-/// number is out of its range.
-fn tell_no_task<B: Start, E: Write>(errors: &mut E, words: &ArgMatches<'_>, start: B) -> Exit<B>
+/// Prints why the words of a command of this name ask for no task: the option is missing that
+/// another one qualifies, or a number is out of its range.
+fn tell_no_task<B: Start, E: Write>(
+    errors: &mut E,
+    name: &str,
+    words: &ArgMatches<'_>,
+    start: B,
+) -> Exit<B>
     ensures untouched { result.disk ≡ Untouched start }
-    ensures told { ((result.status ≡ 1) × (result.refusal ≡ Some BadNumber))
-        ⊎ ((result.status ≡ 2) × (result.refusal ≡ None)) }
+    ensures told { ((result.status ≡ 1) × (result.refusal ≡ Some BadNumber)
+        × (name.now ≡ codes "play" → is_whole (rows_of (found_of words.now)) ≡ true))
+        ⊎ ((result.status ≡ 2) × (result.refusal ≡ None) × (name.now ≡ codes "play")
+        × (is_whole (rows_of (found_of words.now)) ≡ false)) }
 {
     let disk = UsedDisk::Untouched(start);
-    match missing_option(words) {
-        Some(option) => {
-            tell_missing(errors, option);
-            Exit::unrefused(2, disk)
-        }
-        None => {
-            let refusal = Refusal::BadNumber;
-            refuse(
-                errors,
-                refusal,
-                subject_of(refusal, words, None, None),
-                disk,
-            )
-        }
+    if name == "play" && !is_whole(words) {
+        tell_missing(errors, missing_option(words));
+        return Exit::unrefused(2, disk);
     }
+    let refusal = Refusal::BadNumber;
+    refuse(
+        errors,
+        refusal,
+        subject_of(refusal, words, None, None),
+        disk,
+    )
 }
 
 /// Does a task.

@@ -5,4 +5,9 @@ pub use Rattle.mot_carousel.proofs.Runs.{goes_on}
 -- and each refusal of the rules is one of three
 pub use Rattle.mot_carousel.proofs.Refused.{refused_by_rules}
 -- the place of the first object of a name, by recursion, and what it being there or not comes to
-pub use Rattle.mot_carousel.proofs.Beside.{Located, located, nowhere-cases, place, index_of-place}
+pub use Rattle.mot_carousel.proofs.Beside.{Located, located, place, index_of-place}
+-- the same of any test
+pub use Rattle.mot_carousel.proofs.Places.{LocatedWhere, located_where, nowhere-cases, place_where}
+pub use Rattle.mot_carousel.proofs.Places.{position-place_where}
+-- lists of numbers that are equal
+pub use Rattle.mot_carousel.proofs.Beside.{head, tail, same_step}

@@ -7,6 +7,6 @@ mod given;
 mod parts;
 mod program;
 
-pub use air::{AirTask, LookRules, PlayTask, air_task};
+pub use air::{AirTask, LookRules, PlayTask, air_task, is_whole};
 pub use command::motcar_matches;
 pub use program::{Options, Task, program_task};

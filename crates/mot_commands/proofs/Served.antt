@@ -22,6 +22,7 @@ module _ {D E : Type 0} (of : D → E) (state : E → State) (disk : D) (start :
     last = server_on of o.last;
     on_disk = ap of o.on_disk;
     going = o.going;
+    openable = o.openable;
     fresh = λ s honest all. let fresh = o.fresh s honest all in record {
       stands = fresh.stands;
       opened = fresh.opened;

@@ -2,7 +2,7 @@
 use Rattle.std.specs.Prelude.{ℕ, ◌≡◌, ◌⊎◌, List, Option, None, Some, IsFalse}
 use Rattle.std.specs.Io.KnownBytes.{IsAtEnd, Keeps}
 use Rattle.disk_model.specs.Disk.{State}
-use Rattle.mot_export.specs.Opening.{IsUnopened, OfStanding}
+use Rattle.mot_export.specs.Opening.{IsOpenable, IsUnopened, OfStanding}
 use Rattle.mot_journal.specs.Image.{Standing}
 use Rattle.mot_lines.specs.Lines.{whole_lines, lines_of}
 use Rattle.mot_numbers.specs.declared.refusal.Refusal.{Refusal}
@@ -23,14 +23,15 @@ pub record IsFresh {D : Type 0} (state : D → State) (s : Standing) (server : S
 -- refusal or with none; what the reader had left was unread and is left, and the writer's known
 -- bytes were old and are new.
 module _ {D : Type 0} (state : D → State) (disk : D) where
-  -- A server was opened, and between it and the one at the end there is P. If all that a crash
-  -- could leave at the start stood for something, clean, it was opened of that, on a disk that was
-  -- honest till then.
+  -- A server was opened of a disk whose bytes stood for something, if it was honest till then, and
+  -- between it and the one at the end there is P. If all that a crash could leave at the start stood
+  -- for something, clean, it was opened of that.
   pub record OpensTo (start : State) (P : ServerView D → ServerView D → Type 0) : Type 0 where
     pub first : ServerView D
     pub last : ServerView D
     pub on_disk : last.disk ≡ disk
     pub going : IsFalse first.view.halted
+    pub openable : IsOpenable start (state first.disk)
     pub fresh : OfStanding (λ s. IsFresh state s first) start (state first.disk)
     pub leads : P first last
 

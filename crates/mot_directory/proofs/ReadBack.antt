@@ -6,6 +6,7 @@ use Rattle.std.proofs.Math.Seq.{take-append_seam, drop-append_seam}
 use Rattle.std.proofs.lemmas.Bool.{lt-ltb, le-leb, le-ltb}
 use Rattle.std.proofs.lemmas.List.Elements.{All-head, All-tail}
 use Rattle.std.specs.Int.{w16, to_be_bytes}
+use Rattle.mot_numbers.proofs.Laws.{cons_eq}
 use Rattle.mot_directory.specs.Parameter.{Parameter, NoData, OneByte, FourBytes, Short, Long}
 use Rattle.mot_directory.specs.Parameter.{IsParameter, bytes_of_parameter, read_parameter}
 use Rattle.mot_directory.specs.Parameter.{parameter_with, parameters_within, read_parameters}
@@ -18,9 +19,6 @@ use Rattle.mot_directory.specs.Directory.{bytes_of_directory_header, directory_h
 use Rattle.mot_directory.specs.Directory.{directory_with, bytes_of_directory, read_directory}
 use Rattle.mot_numbers.specs.Fields.{number_in}
 use Rattle.mot_objects.specs.Content.{ContentNumbers}
-
-cons_eq : {x y : ℕ} {xs ys : List ℕ} → x ≡ y → xs ≡ ys → x ∷ xs ≡ y ∷ ys
-cons_eq p q = cc
 
 -- data that is cut off at its length
 parameter_with-append : (make : List ℕ → Parameter) (n : ℕ) (text rest : List ℕ) → n ≡ length text →

@@ -1,4 +1,4 @@
-//! What a station has of the system to come to its files by: below `main` nothing is opened but
+//! What a station has of the system to come to its files by: the commands on air open nothing but
 //! through it.
 ghost use Rattle.std.specs.Prelude.{◌≡◌, ◌≢◌, ◌≤◌, ◌∷◌, ◌++◌, [], None, Some, IfOk, MatchResult};
 ghost use Rattle.std.specs.Prelude.{codes, false, length};

@@ -1,21 +1,25 @@
 -- A carousel printed as lines, from the disk's opening on.
-use Rattle.std.proofs.Common.{◌≡◌, ◌<◌, ◌≤◌, ℕ, List, length, Option, Result, Ok, Err, inl, inr}
+use Rattle.std.proofs.Common.{◌≡◌, ◌∙◌, ◌<◌, ◌≤◌, ℕ, List, length, Option, Some, Result, Ok, Err}
+use Rattle.std.proofs.Common.{inl, inr, subst, sym}
 use Rattle.std.specs.Prelude.{All, IfErr, IsFalse, OnOk}
-use Rattle.disk_model.specs.Disk.{IsHonestDisk, IsStill, State, OnlyReads, OnlySyncs}
+use Rattle.disk_model.specs.Disk.{IsHonestDisk, KeepsLength, State, OnlyReads, OnlySyncs}
+use Rattle.disk_model.specs.Failures.{Rises}
 use Rattle.mot_journal.specs.Image.{Standing, stands_for}
 use Rattle.mot_lines.proofs.Laws.{export_text-asks}
 use Rattle.mot_lines.specs.Export.{export_text}
 use Rattle.mot_numbers.specs.declared.refusal.Refusal.{Refusal}
 use Rattle.mot_objects.specs.Carousel.{Carousel}
 use Rattle.mot_objects.specs.Rebuilding.{rebuilding}
-use Rattle.mot_export.specs.Exporting.{Exports, RebuildsByLines, StopsExporting, unprinted, unread}
+use Rattle.mot_export.specs.Exporting.{Exports, PrintsLines, RebuildsByLines}
 use Rattle.mot_export.specs.Inner.Printing.{IsPrintingFault}
-use Rattle.mot_export.proofs.Opened.{all_hold, rises_later}
+use Rattle.mot_export.specs.Opening.{OfStanding}
+use Rattle.mot_export.proofs.Opened.{AllAre, held, openable}
 use Rattle.mot_repository.proofs.Laws.{rules_kept, standings-are_sound}
 use Rattle.mot_repository.specs.OnDisk.{OnDisk}
 use Rattle.mot_repository.specs.Opening.{IsOpened}
-use Rattle.mot_repository.specs.Repository.{Holds, IsOf}
-use Rattle.mot_server.proofs.Laws.{still_unchanged}
+use Rattle.mot_repository.specs.Repository.{Holds}
+use Rattle.mot_server.proofs.Laws.{syncs_read}
+use Rattle.mot_server.specs.Attempts.{fault_of}
 use Rattle.mot_session.specs.Output.{Writes}
 use Rattle.mot_update.proofs.Laws.{exports_are_taken}
 use Rattle.mot_update.specs.Export.{IsEmpty}
@@ -32,58 +36,67 @@ rebuilds_by_lines image s bytes stands first limit empty few = (
       (standings-are_sound image s bytes stands).0.names,
 )
 
+-- and so does that of what a disk stood for, which is as long as it was
+pub rebuilds_standing : (start now : State) → (start.IsHonest → IsHonestDisk start)
+    → KeepsLength start now
+    → OfStanding (λ s. (first : Carousel) (limit : ℕ) → IsEmpty first
+    → length s.carousel.objects ≤ limit
+    → RebuildsByLines first limit (export_text s.carousel) s.carousel) start now
+rebuilds_standing start now sound keeps = λ s honest all.
+    let first = sound (keeps.was_honest honest) in
+    rebuilds_by_lines start.bytes s (first.images start.bytes first.bytes).are_bytes
+    (all start.bytes first.bytes).stands
+
 module _ {D : Type 0} (state : D → State) (disk : D) (repository new : OnDisk D)
     (sound : (d : D) → (state d).IsHonest → IsHonestDisk (state d))
     (opens : OnlySyncs (state disk) (state repository.disk))
     (opened : (state repository.disk).IsHonest
     → IsOpened (state disk) (state repository.disk) repository.view)
+    (same : (state repository.disk).failures ≡ (state disk).failures)
     (going : IsFalse repository.view.halted)
     (reads : OnlyReads (state repository.disk) (state new.disk))
     (before after : Option (List ℕ)) where
-  still_all : (state new.disk).IsHonest → IsStill (state disk) (state new.disk)
-  still_all honest =
-      still_unchanged (state disk) (state repository.disk) (state new.disk)
-      (opens.still (reads.keeps.was_honest honest)) (reads.unchanged honest)
-
   -- what the disk stood for is what the repository holds
-  held : (s : Standing) → (state new.disk).IsHonest
-      → ((image : List ℕ) → (state disk).MayLeave image → IsOf s image)
+  holds : (s : Standing) → (state new.disk).IsHonest → AllAre s (state disk)
       → Holds repository.view s (state repository.disk)
-  held s honest all =
-      let was = reads.keeps.was_honest honest in
-      all_hold (state disk) (state repository.disk) repository.view s
-      (sound disk (opens.keeps.was_honest was)) all (opened was) was (sound repository.disk was)
-      (opens.still was) going
+  holds = held (state disk) (state repository.disk) (state new.disk) repository.view (sound disk)
+      (sound repository.disk) opens opened going reads.keeps.was_honest
 
-  -- lines that print what an open repository holds export the disk's carousel, from its opening on
-  pub exports : (result : Result Unit Refusal)
+  -- what was printed of what an open repository holds was printed of the disk
+  printed : (result : Result Unit Refusal)
       → ((s : Standing) → Holds repository.view s (state repository.disk)
-      → (state new.disk).IsHonest
-      → Writes result (export_text s.carousel) before after)
-      → OnOk result (Exports before after (state disk) (state new.disk))
-  exports (Err refusal) written = tt
-  exports (Ok done) written = record {
-    still = still_all;
-    printed = λ s honest all. written s (held s honest all) honest;
-    rebuilds = λ s honest all.
-        let first = sound disk (opens.keeps.was_honest (reads.keeps.was_honest honest)) in
-        let bytes = (state disk).bytes in
-        rebuilds_by_lines bytes s (first.images bytes first.bytes).are_bytes
-        (all bytes first.bytes).stands;
-  }
-
-  -- a fault of the printing stops the export, from the disk's opening on
-  pub stops : (result : Result Unit Refusal)
-      → ((s : Standing) → Holds repository.view s (state repository.disk)
-      → (state new.disk).IsHonest
-      → Writes result (export_text s.carousel) before after)
+      → (state new.disk).IsHonest → Writes result (export_text s.carousel) before after)
+      → OnOk result ((state new.disk).failures ≡ (state repository.disk).failures)
       → IfErr result (λ r. IsPrintingFault r (state repository.disk).failures
       (state new.disk).failures)
-      → IfErr result (λ r. StopsExporting r before after (state disk) (state new.disk))
-  stops (Ok done) written why = tt
-  stops (Err refusal) written (inl is) = unprinted is still_all
-      (λ s honest all. written s (held s honest all) honest)
-  stops (Err refusal) written (inr failed) = unread failed.0
-      (rises_later (state disk).failures (state repository.disk).failures (state new.disk).failures
-      opens.keeps.later reads.keeps.later failed.1) still_all
-      (λ s honest all. written s (held s honest all) honest)
+      → PrintsLines (fault_of result) before after (state disk) (state new.disk)
+  printed (Ok done) written calm why =
+      (calm ∙ same, λ s honest all. written s (holds s honest all) honest)
+  printed (Err refusal) written calm (inl is) =
+      subst (λ r. PrintsLines (Some r) before after (state disk) (state new.disk)) (sym is.0)
+      (is.1 ∙ same, λ s honest all. written s (holds s honest all) honest)
+  printed (Err refusal) written calm (inr is) =
+      subst (λ r. PrintsLines (Some r) before after (state disk) (state new.disk)) (sym is.0) (
+        subst (λ n. Rises n (state new.disk).failures) same is.1,
+        λ s honest all. written s (holds s honest all) honest,
+      )
+
+  -- so the disk is exported, from its opening on
+  pub exports : (result : Result Unit Refusal)
+      → ((s : Standing) → Holds repository.view s (state repository.disk)
+      → (state new.disk).IsHonest → Writes result (export_text s.carousel) before after)
+      → OnOk result ((state new.disk).failures ≡ (state repository.disk).failures)
+      → IfErr result (λ r. IsPrintingFault r (state repository.disk).failures
+      (state new.disk).failures)
+      → Exports (fault_of result) before after (state disk) (state new.disk)
+  exports result written calm why =
+      let syncs = syncs_read (state disk) (state repository.disk) (state new.disk) opens reads in
+      record {
+        syncs = syncs;
+        came = inr (
+          openable (state disk) (state repository.disk) (state new.disk) repository.view (sound disk)
+              (sound repository.disk) opens opened going reads.keeps.was_honest,
+          printed result written calm why,
+        );
+        rebuilds = rebuilds_standing (state disk) (state new.disk) (sound disk) syncs.keeps;
+      }

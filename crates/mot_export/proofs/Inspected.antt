@@ -1,34 +1,35 @@
 -- A disk inspected, from its opening on.
-use Rattle.std.proofs.Common.{◌≡◌, ◌∙◌, ℕ, suc, ◌+◌, List, [], ◌∷◌, ◌++◌, length, map, Option}
-use Rattle.std.proofs.Common.{Result, Ok, Err, refl, sym, ap, subst, arith, inl, inr}
+use Rattle.std.proofs.Common.{◌≡◌, ◌∙◌, ◌⊎◌, ℕ, suc, ◌+◌, List, [], ◌∷◌, ◌++◌, length, map, Option}
+use Rattle.std.proofs.Common.{Some, Result, Ok, Err, refl, sym, ap, subst, arith, inl, inr}
 use Rattle.std.proofs.lemmas.List.Sums.{sum_by-append}
 use Rattle.std.specs.Prelude.{IfErr, IsFalse, OnOk}
 use Rattle.std.specs.List.{fold, sum_by}
-use Rattle.std.specs.Io.KnownBytes.{Appends}
-use Rattle.disk_model.specs.Disk.{IsHonestDisk, IsStill, State, OnlyReads, OnlySyncs}
+use Rattle.std.specs.Io.KnownBytes.{Appends, Keeps}
+use Rattle.disk_model.specs.Disk.{IsHonestDisk, State, OnlyReads, OnlySyncs}
+use Rattle.disk_model.specs.Failures.{Rises}
 use Rattle.mot_journal.specs.Image.{Standing}
 use Rattle.mot_journal.specs.Journal.{with_records}
 use Rattle.mot_numbers.specs.declared.geometry.Geometry.{Geometry}
 use Rattle.mot_numbers.specs.declared.refusal.Refusal.{Refusal}
-use Rattle.mot_numbers.specs.declared.refusal.Refusal.TheVariants.{WriteFault}
+use Rattle.mot_numbers.specs.declared.refusal.Refusal.TheVariants.{BadNumber, OutOfMemory, WriteFault}
 use Rattle.mot_objects.specs.Carousel.{Object}
 use Rattle.mot_objects.specs.Carousel as whole
 use Rattle.mot_objects.specs.declared.object.Object as beside
 use Rattle.mot_objects.specs.Stands.{carousel_of, objects_of}
 use Rattle.mot_player.specs.Place.{Place}
 use Rattle.mot_player.specs.Turn.{turn_of_carousel}
-use Rattle.mot_export.specs.Inspecting.{Inspects, StopsInspecting, bytes_of_all, bytes_of_bodies}
-use Rattle.mot_export.specs.Inspecting.{inspection_text, rates_of, sizes_text, turn_lengths_text}
-use Rattle.mot_export.specs.Inspecting.{TellsOfDisk, no_memory, uncounted, unprinted, unread}
-use Rattle.mot_export.specs.Inspecting.{turn_text, use_text}
-use Rattle.mot_export.specs.Inner.Inspected.{HasInspected, IsInspectingFault}
+use Rattle.mot_export.specs.Inspecting.{Inspects, IsUncounted, PrintsFigures, TellsOfDisk}
+use Rattle.mot_export.specs.Inspecting.{bytes_of_all, bytes_of_bodies, inspection_text, rates_of}
+use Rattle.mot_export.specs.Inspecting.{sizes_text, turn_lengths_text, turn_text, use_text}
+use Rattle.mot_export.specs.Inner.Inspected.{HasInspected, IsCountingFault, IsInspectingFault}
 use Rattle.mot_export.specs.Opening.{OfStanding, first_place}
-use Rattle.mot_export.proofs.Opened.{all_hold, rises_later}
+use Rattle.mot_export.proofs.Opened.{AllAre, held, openable}
 use Rattle.mot_repository.specs.Opening.{IsOpened}
 use Rattle.mot_repository.specs.Repository.{Agrees, Holds, RepositoryView}
 use Rattle.mot_server.specs.Playing.{HasPlayedTurn}
 use Rattle.mot_server.specs.Server.{ServerView, place_in}
-use Rattle.mot_server.proofs.Laws.{still_unchanged}
+use Rattle.mot_server.specs.Attempts.{fault_of}
+use Rattle.mot_server.proofs.Laws.{syncs_read}
 use Rattle.mot_session.specs.Served.{WritesFront}
 
 -- one packet more
@@ -113,27 +114,27 @@ module _ {D : Type 0} (state : D → State) (disk : D) (server new : ServerView 
     (sound : (d : D) → (state d).IsHonest → IsHonestDisk (state d))
     (opens : OnlySyncs (state disk) (state server.disk))
     (opened : (state server.disk).IsHonest → IsOpened (state disk) (state server.disk) server.view)
+    (same : (state server.disk).failures ≡ (state disk).failures)
     (going : IsFalse server.view.halted)
     (at_start : (s : Standing) → Agrees server.view s → place_in server s ≡ first_place s)
     (reads : OnlyReads (state server.disk) (state new.disk))
     (rate : Option ℕ) (before after : Option (List ℕ)) where
-  still_all : (state new.disk).IsHonest → IsStill (state disk) (state new.disk)
-  still_all honest =
-      still_unchanged (state disk) (state server.disk) (state new.disk)
-      (opens.still (reads.keeps.was_honest honest)) (reads.unchanged honest)
+  -- what the disk stood for is what the server holds
+  holds : (s : Standing) → (state new.disk).IsHonest → AllAre s (state disk)
+      → Holds server.view s (state server.disk)
+  holds = held (state disk) (state server.disk) (state new.disk) server.view (sound disk)
+      (sound server.disk) opens opened going reads.keeps.was_honest
 
   -- what is told of an open server is told of the disk, from its opening on
   tells_of : (is_printed : List ℕ → Type 0)
       → ((s : Standing) → Holds server.view s (state server.disk) → (state new.disk).IsHonest
       → HasInspected rate server.view.journal (place_in server s) s is_printed)
-      → OfStanding (λ s. TellsOfDisk (rates_of rate) s (state disk).bytes is_printed) (state disk) (state new.disk)
+      → OfStanding (λ s. TellsOfDisk (rates_of rate) s (state disk).bytes is_printed) (state disk)
+      (state new.disk)
   tells_of is_printed told = λ s honest all.
-      let was = reads.keeps.was_honest honest in
-      let first = opened was in
-      let holds = all_hold (state disk) (state server.disk) server.view s
-      (sound disk (opens.keeps.was_honest was)) all first was (sound server.disk was)
-      (opens.still was) going in
-      let has = told s holds honest in
+      let first = opened (reads.keeps.was_honest honest) in
+      let is = holds s honest all in
+      let has = told s is honest in
       record {
         journal = with_records server.view.journal first.records;
         read = first.read;
@@ -142,44 +143,69 @@ module _ {D : Type 0} (state : D → State) (disk : D) (server new : ServerView 
         packets = has.packets;
         place = has.last;
         turn = subst (λ (p : Place). HasPlayedTurn p has.packets has.last)
-            (at_start s holds.agrees) has.turn;
+            (at_start s is.agrees) has.turn;
         printed = subst (λ n. is_printed
             (inspection_text s server.view.journal.layout n has.gap has.packets (rates_of rate)))
             first.count
             has.printed;
       }
 
-  -- so it inspects the disk
-  pub inspects : (result : Result Unit Refusal)
+  -- this ended it
+  abbrev Printed : Option Refusal → Type 0
+  Printed ending = PrintsFigures rate ending before after (state disk) (state new.disk)
+
+  -- a refusal did, that is of what was counted, or of memory
+  silent : (refusal : Refusal)
+      → ((s : Standing) → Holds server.view s (state server.disk) → (state new.disk).IsHonest
+      → refusal ≡ BadNumber → IsUncounted (place_in server s))
+      → IsCountingFault refusal (state server.disk).failures (state new.disk).failures
+      ⊎ ((refusal ≡ OutOfMemory) × ((state new.disk).failures ≡ (state server.disk).failures))
+      → Keeps before after → Printed (Some refusal)
+  silent refusal uncounted (inl (inl is)) keeps = subst (λ r. Printed (Some r)) (sym is.0) (
+    is.1 ∙ same,
+    keeps,
+    λ s honest all.
+        let whole = holds s honest all in
+        subst IsUncounted (at_start s whole.agrees) (uncounted s whole honest is.0),
+  )
+  silent refusal uncounted (inl (inr is)) keeps = subst (λ r. Printed (Some r)) (sym is.0)
+      (subst (λ n. Rises n (state new.disk).failures) same is.1, keeps)
+  silent refusal uncounted (inr is) keeps = subst (λ r. Printed (Some r)) (sym is.0)
+      (is.1 ∙ same, keeps)
+
+  -- what was printed of an open server was printed of the disk
+  pub printed : (result : Result Unit Refusal)
       → ((s : Standing) → Holds server.view s (state server.disk) → (state new.disk).IsHonest
       → OnOk result (HasInspected rate server.view.journal (place_in server s) s
       (Appends before after)))
-      → OnOk result (Inspects rate before after (state disk) (state new.disk))
-  inspects (Err refusal) told = tt
-  inspects (Ok done) told = record {
-    still = still_all;
-    told = tells_of (Appends before after) told;
-  }
-
-  -- a fault of the telling stops the inspection, from the disk's opening on
-  pub stops : (result : Result Unit Refusal)
       → ((s : Standing) → Holds server.view s (state server.disk) → (state new.disk).IsHonest
-      → IfErr result (λ r. r ≡ WriteFault → HasInspected rate server.view.journal (place_in server s) s
+      → IfErr result (λ r. r ≡ WriteFault
+      → HasInspected rate server.view.journal (place_in server s) s
       (λ text. WritesFront text before after)))
+      → ((s : Standing) → Holds server.view s (state server.disk) → (state new.disk).IsHonest
+      → IfErr result (λ r. r ≡ BadNumber → IsUncounted (place_in server s)))
+      → OnOk result ((state new.disk).failures ≡ (state server.disk).failures)
       → IfErr result (λ r. IsInspectingFault r (state server.disk).failures
       (state new.disk).failures before after)
-      → IfErr result (λ r. StopsInspecting rate r before after (state disk) (state new.disk))
-  stops (Ok done) broken why = tt
-  stops (Err refusal) broken (inl is) =
-      unprinted is still_all
-      (tells_of (λ text. WritesFront text before after) (λ s holds honest. broken s holds honest
-      is))
-  stops (Err refusal) broken (inr silent) = elim silent.0 [
-    | inl counting ↦ elim counting [
-      | inl is ↦ uncounted is silent.1 still_all
-      | inr failed ↦ unread failed.0 (rises_later (state disk).failures
-          (state server.disk).failures (state new.disk).failures opens.keeps.later
-          reads.keeps.later failed.1) silent.1 still_all
-    ]
-    | inr is ↦ no_memory is silent.1 still_all
-  ]
+      → Printed (fault_of result)
+  printed (Ok done) told broken uncounted calm why =
+      (calm ∙ same, tells_of (Appends before after) told)
+  printed (Err refusal) told broken uncounted calm (inl is) =
+      subst (λ r. Printed (Some r)) (sym is.0) (
+        is.1 ∙ same,
+        tells_of (λ text. WritesFront text before after)
+            (λ s holds honest. broken s holds honest is.0),
+      )
+  printed (Err refusal) told broken uncounted calm (inr is) = silent refusal uncounted is.0 is.1
+
+  -- so the disk is inspected, from its opening on
+  pub inspects : (result : Result Unit Refusal) → Printed (fault_of result)
+      → Inspects rate (fault_of result) before after (state disk) (state new.disk)
+  inspects result printed = record {
+    syncs = syncs_read (state disk) (state server.disk) (state new.disk) opens reads;
+    came = inr (
+      openable (state disk) (state server.disk) (state new.disk) server.view (sound disk)
+          (sound server.disk) opens opened going reads.keeps.was_honest,
+      printed,
+    );
+  }

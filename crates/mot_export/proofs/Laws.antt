@@ -1,4 +1,5 @@
 -- What holds of the definitions, for the crates above.
 
 -- what a disk that was just opened stands for, and one that an opening refused
-pub use Rattle.mot_export.proofs.Opened.{AllAre, all_hold, unopened_is}
+pub use Rattle.mot_export.proofs.Opened.{AllAre, all_hold, held, openable}
+pub use Rattle.mot_export.proofs.Opened.{opened_throughout, unopened_is}

@@ -1,14 +1,12 @@
 -- What is known of a disk that was just opened.
-use Rattle.std.proofs.Common.{◌⊎◌, ℕ, List, ◌≤◌, inl, arith, sym, subst}
-use Rattle.std.specs.Prelude.{IsFalse}
-use Rattle.std.proofs.Math.Logic.{⊎_elim}
-use Rattle.std.proofs.Math.Nat.{eq-or-lt_of_le}
-use Rattle.disk_model.specs.Disk.{IsHonestDisk, IsStill, State}
-use Rattle.disk_model.specs.Failures.{Rises}
+use Rattle.std.proofs.Common.{ℕ, List, refl, subst, sym}
+use Rattle.std.specs.Prelude.{IsFalse, IsOk}
+use Rattle.disk_model.specs.Disk.{IsHonestDisk, IsStill, OnlySyncs, State, Throughout}
+use Rattle.disk_model.proofs.Laws.{begins, stays}
 use Rattle.mot_journal.specs.Image.{Standing}
 use Rattle.mot_numbers.specs.Refusal.{IsCalm}
 use Rattle.mot_numbers.specs.declared.refusal.Refusal.{Refusal}
-use Rattle.mot_export.specs.Opening.{IsUnopened}
+use Rattle.mot_export.specs.Opening.{IsOpenable, IsUnopened}
 use Rattle.mot_repository.specs.Opening.{IsOpened, IsOpeningRefusal}
 use Rattle.mot_repository.specs.Repository.{RepositoryView, IsOf, Holds}
 use Rattle.mot_server.proofs.Laws.{opened_holds}
@@ -24,11 +22,27 @@ pub all_hold : (start old : State) (view : RepositoryView) (s : Standing)
 all_hold start old view s before all opened honest sound still going =
     opened_holds start old view s (all start.bytes before.bytes) opened honest sound still going
 
--- a disk that fails after some calls has failed in all of them
-pub rises_later : (old mid new : ℕ) → old ≤ mid → mid ≤ new → Rises mid new → Rises old new
-rises_later old mid new first second rises =
-    ⊎_elim (λ e. subst (λ n. Rises n new) (sym e) rises) (λ lt. inl (omega (arith, lt, second)))
-    (eq-or-lt_of_le first)
+-- a disk that a server was opened of, only syncing it, and that is honest later
+module _ (start old now : State) (view : RepositoryView)
+    (sound : start.IsHonest → IsHonestDisk start) (sound_then : old.IsHonest → IsHonestDisk old)
+    (opens : OnlySyncs start old) (opened : old.IsHonest → IsOpened start old view)
+    (going : IsFalse view.halted) (was : now.IsHonest → old.IsHonest) where
+  -- its bytes stand for something
+  pub openable : IsOpenable start now
+  openable honest = subst IsOk (sym (opened (was honest)).stands) refl
+
+  -- what it stood for, clean, is held
+  pub held : (s : Standing) → now.IsHonest → AllAre s start → Holds view s old
+  held s honest all =
+      let then = was honest in
+      all_hold start old view s (sound (opens.keeps.was_honest then)) all (opened then) then
+      (sound_then then) (opens.still then) going
+
+-- no image came while it was opened
+pub opened_throughout : (start old : State) (P : List ℕ → Type 0) → IsHonestDisk start
+    → ((c : List ℕ) → start.MayLeave c → P c) → IsStill start old → Throughout start old P
+opened_throughout start old P sound here still =
+    stays start start old P (begins start P sound here) still.time
 
 -- a disk that an opening refused, and that was only synced, is unopened
 pub unopened_is : (refusal : Refusal) (start now : State) → IsOpeningRefusal start now refusal

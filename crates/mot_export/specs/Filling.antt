@@ -1,6 +1,6 @@
 -- How a multiplexer fills the frames of a sub-channel with the packets of a turn.
-use Rattle.std.specs.Prelude.{◌≡◌, ℕ, ◌+◌, ◌-◌, ◌*◌, ◌/◌, ◌<◌, ◌≤◌, true, ◌&&◌, nat_le, if◌then◌else◌, List, length}
-use Rattle.std.specs.Prelude.{map, flat_map, replicate}
+use Rattle.std.specs.Prelude.{◌≡◌, ℕ, ◌+◌, ◌-◌, ◌*◌, ◌/◌, ◌<◌, ◌≤◌, true, ◌&&◌, nat_le}
+use Rattle.std.specs.Prelude.{if◌then◌else◌, List, length, map, flat_map, replicate}
 use Rattle.std.specs.List.{fold}
 use Rattle.mot_groups.specs.Group.{Segment}
 use Rattle.mot_packets.specs.Cut.{pieces_of}
@@ -41,7 +41,8 @@ tenths_of frames = (24 * frames + 99) / 100
 -- the lengths of the packets that a group of so many bytes is cut into: each has 5 bytes more than
 -- its data field
 abbrev pub lengths_of_group : (room : ℕ) → ℕ → List ℕ
-lengths_of_group room n = map (λ (p : PacketFields). p.room + 5) (pieces_of room 0 0 (replicate n 0))
+lengths_of_group room n =
+    map (λ (p : PacketFields). p.room + 5) (pieces_of room 0 0 (replicate n 0))
 
 -- those of the groups of segments: each has 11 bytes more than its segment
 abbrev pub lengths_of_segments : (room : ℕ) → List Segment → List ℕ

@@ -1,10 +1,11 @@
 -- The lines about a disk's sizes, what is free of them, and its turn.
-use Rattle.std.specs.Prelude.{◌≡◌, ℕ, ◌+◌, ◌-◌, ◌*◌, ◌/◌, ◌%◌, ◌&&◌, nat_le, if◌then◌else◌, List, []}
-use Rattle.std.specs.Prelude.{◌∷◌, ◌++◌, length, flat_map, Option, Some, None, Ok, codes}
+use Rattle.std.specs.Prelude.{◌≡◌, ◌⊎◌, ℕ, ◌+◌, ◌-◌, ◌*◌, ◌/◌, ◌%◌, ◌&&◌, nat_le, if◌then◌else◌}
+use Rattle.std.specs.Prelude.{List, [], ◌∷◌, ◌++◌, length, flat_map, Option, Some, None, IsSomeAnd}
+use Rattle.std.specs.Prelude.{◌≤◌, Ok, codes}
 use Rattle.std.specs.Fmt.{decimal}
 use Rattle.std.specs.List.{sum_by}
 use Rattle.std.specs.Io.KnownBytes.{Appends, Keeps}
-use Rattle.disk_model.specs.Disk.{State, IsStill}
+use Rattle.disk_model.specs.Disk.{State, OnlySyncs}
 use Rattle.disk_model.specs.Failures.{Rises}
 use Rattle.mot_journal.specs.Image.{DiskRecords, Standing, records_of}
 use Rattle.mot_journal.specs.Slot.{slot_count}
@@ -19,9 +20,9 @@ use Rattle.mot_player.specs.Place.{Place}
 use Rattle.mot_player.specs.Turn.{Turn, turn_of_carousel}
 use Rattle.mot_export.specs.Filling.{frame_size, frames_of, lengths_of_turn, tenths_of}
 use Rattle.mot_export.specs.declared.filling.Frames.{Frames}
-use Rattle.mot_export.specs.Opening.{IsUnopened, OfStanding, first_place}
+use Rattle.mot_export.specs.Opening.{IsOpenable, IsUnopened, OfStanding, first_place}
 use Rattle.mot_repository.specs.Gap.{IsLongestGap}
-use Rattle.mot_server.specs.Playing.{HasPlayedTurn}
+use Rattle.mot_server.specs.Playing.{HasPlayedTurn, IsGoing}
 use Rattle.mot_session.specs.Served.{WritesFront}
 
 -- a word and a number
@@ -55,7 +56,8 @@ use_text g layout objects bytes gap records =
 abbrev pub seconds_column : Frames → List ℕ
 seconds_column f =
     if f.fits
-    then codes " " ++ decimal (tenths_of f.begun / 10) ++ codes "." ++ decimal (tenths_of f.begun % 10)
+    then codes " " ++ decimal (tenths_of f.begun / 10) ++ codes "."
+    ++ decimal (tenths_of f.begun % 10)
     else codes " never"
 
 -- how long the packets of a turn take at so many kbit/s: in packets of 24, 48, 72 and 96 bytes they
@@ -94,7 +96,8 @@ rates_of None = usual_rates
 rates_of (Some rate) = rate ∷ []
 
 -- the same turn in packets of each length
-abbrev pub lengths_text : (rates : List ℕ) → (size : ℕ) → (in_24 in_48 in_72 in_96 : List ℕ) → List ℕ
+abbrev pub lengths_text : (rates : List ℕ) → (size : ℕ) → (in_24 in_48 in_72 in_96 : List ℕ)
+    → List ℕ
 lengths_text rates size in_24 in_48 in_72 in_96 =
     codes "packets 24 48 72 96" ++ 10 ∷ [] ++ filled_line (codes "shorter") (filled_below size)
     ++ filled_line (codes "longer") (filled_above size)
@@ -145,27 +148,33 @@ pub record TellsOfDisk (rates : List ℕ) (s : Standing) (bytes : List ℕ)
   pub printed : is_printed (inspection_text s journal.layout (length journal.records) gap packets
       rates)
 
--- the disk was only synced, and that was told of it
-pub record Inspects (rate : Option ℕ) (old new : Option (List ℕ)) (start now : State) :
-    Type 0 where
-  pub still : now.IsHonest → IsStill start now
-  pub told : OfStanding
-      (λ s. TellsOfDisk (rates_of rate) s start.bytes (Appends old new)) start now
+-- a turn from this place on has more packets than a number of 64 bits counts
+abbrev pub IsUncounted : Place → Type 0
+IsUncounted place = (packets : List (List ℕ)) × (last : Place) × IsGoing place packets last
+    × (18446744073709551615 ≤ length packets)
 
--- Why it could not be; the disk was only synced all the same. If printing had begun, what was
--- printed is a beginning of what is told.
-pub data StopsInspecting (rate : Option ℕ) (refusal : Refusal) (old new : Option (List ℕ))
+-- This refusal ended the telling, or none did. All of what is told of the disk was printed; or some
+-- first bytes of it, since the writer failed; or nothing, since the disk failed, memory was wanted,
+-- or a turn was not counted. A fault of the disk is told where it has failed, and nowhere else.
+abbrev pub PrintsFigures : (rate : Option ℕ) → Option Refusal → (old new : Option (List ℕ))
+    → (start now : State) → Type 0
+PrintsFigures rate None old new start now = (now.failures ≡ start.failures)
+    × OfStanding (λ s. TellsOfDisk (rates_of rate) s start.bytes (Appends old new)) start now
+PrintsFigures rate (Some WriteFault) old new start now = (now.failures ≡ start.failures)
+    × OfStanding (λ s. TellsOfDisk (rates_of rate) s start.bytes
+    (λ text. WritesFront text old new)) start now
+PrintsFigures rate (Some DeviceFault) old new start now =
+    Rises start.failures now.failures × Keeps old new
+PrintsFigures rate (Some OutOfMemory) old new start now =
+    (now.failures ≡ start.failures) × Keeps old new
+PrintsFigures rate (Some BadNumber) old new start now = (now.failures ≡ start.failures)
+    × Keeps old new × OfStanding (λ s. IsUncounted (first_place s)) start now
+PrintsFigures rate (Some refusal) old new start now = ⊥
+
+-- The disk was only synced. It was not opened, and nothing was printed; or it was, and its figures
+-- were.
+pub record Inspects (rate : Option ℕ) (ending : Option Refusal) (old new : Option (List ℕ))
     (start now : State) : Type 0 where
-  unopened : IsUnopened refusal start now → Keeps old new
-      → StopsInspecting rate refusal old new start now
-  unread : refusal ≡ DeviceFault → Rises start.failures now.failures → Keeps old new
-      → (now.IsHonest → IsStill start now) → StopsInspecting rate refusal old new start now
-  -- the turn has more packets than a number of 64 bits counts
-  uncounted : refusal ≡ BadNumber → Keeps old new
-      → (now.IsHonest → IsStill start now) → StopsInspecting rate refusal old new start now
-  no_memory : refusal ≡ OutOfMemory → Keeps old new
-      → (now.IsHonest → IsStill start now) → StopsInspecting rate refusal old new start now
-  unprinted : refusal ≡ WriteFault → (now.IsHonest → IsStill start now)
-      → OfStanding (λ s. TellsOfDisk (rates_of rate) s start.bytes
-      (λ text. WritesFront text old new)) start now
-      → StopsInspecting rate refusal old new start now
+  pub syncs : OnlySyncs start now
+  pub came : (IsSomeAnd ending (λ r. IsUnopened r start now) × Keeps old new)
+      ⊎ (IsOpenable start now × PrintsFigures rate ending old new start now)

@@ -1,7 +1,7 @@
 -- A command on the server of a disk that it opens.
-use Rattle.std.specs.Prelude.{ℕ, List}
+use Rattle.std.specs.Prelude.{ℕ, List, IsOk}
 use Rattle.disk_model.specs.Disk.{State, IsStill}
-use Rattle.mot_journal.specs.Image.{Standing}
+use Rattle.mot_journal.specs.Image.{Standing, stands_for}
 use Rattle.mot_numbers.specs.Geometry.{packet_room}
 use Rattle.mot_numbers.specs.Refusal.{IsCalm}
 use Rattle.mot_numbers.specs.declared.refusal.Refusal.{Refusal}
@@ -16,6 +16,10 @@ use Rattle.mot_repository.specs.Repository.{IsOf}
 abbrev pub OfStanding : (Standing → Type 0) → State → State → Type 0
 OfStanding P start now =
     (s : Standing) → now.IsHonest → ((image : List ℕ) → start.MayLeave image → IsOf s image) → P s
+
+-- the disk's bytes stand for something, if it is honest to the end
+abbrev pub IsOpenable : State → State → Type 0
+IsOpenable start now = now.IsHonest → IsOk (stands_for start.bytes)
 
 -- the disk was not opened, and only synced
 pub record IsUnopened (refusal : Refusal) (start now : State) : Type 0 where

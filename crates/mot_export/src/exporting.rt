@@ -1,15 +1,16 @@
 //! A carousel as the lines that rebuild it.
 ghost use Rattle.std.specs.Prelude.{◌≡◌, ◌≤◌, ◌<◌, Some, length, vec_len, IfErr, OnOk};
 ghost use Rattle.std.specs.Prelude.{slice_get};
-ghost use Rattle.disk_model.specs.Disk.{KeepsLength, OnlyReads};
+ghost use Rattle.disk_model.specs.Disk.{OnlyReads};
 ghost use Rattle.hex.specs.Hex.{encode_lower};
 ghost use Rattle.mot_journal.specs.Image.{Standing};
 ghost use Rattle.mot_lines.specs.Export.{export_text, put_line};
 ghost use Rattle.mot_numbers.specs.declared.refusal.Refusal.TheVariants.{WriteFault};
 ghost use Rattle.mot_objects.specs.Carousel as whole;
-ghost use Rattle.mot_export.specs.Exporting.{Exports, StopsExporting};
+ghost use Rattle.mot_export.specs.Exporting.{Exports};
 ghost use Rattle.mot_export.specs.Inner.Printing.{IsPrintingFault};
 ghost use Rattle.mot_repository.specs.Repository.{Holds, object_body};
+ghost use Rattle.mot_server.specs.Attempts.{fault_of};
 ghost use Rattle.mot_session.specs.Output.{Writes};
 
 use crate::Ended;
@@ -29,11 +30,8 @@ const PIECE: usize = 4_096;
 /// `period` line if the period is not 0. If it is refused in the middle, it has written a beginning
 /// of them.
 pub fn export_disk<D: Disk, W: Write>(alloc: Global, disk: D, writer: &mut W) -> Ended<D, ()>
-    ensures keeps { KeepsLength (D.state disk) (D.state result.disk) }
-    ensures done { OnOk result.result (Exports (W.contents writer.old) (W.contents writer.new)
-        (D.state disk) (D.state result.disk)) }
-    ensures refused { IfErr result.result (λ r. StopsExporting r
-        (W.contents writer.old) (W.contents writer.new) (D.state disk) (D.state result.disk)) }
+    ensures { Exports (fault_of result.result) (W.contents writer.old) (W.contents writer.new)
+        (D.state disk) (D.state result.disk) }
 {
     let mut repository = match open_repository(alloc, disk) {
         Ok(repository) => repository,
@@ -56,6 +54,8 @@ fn write_export<D: Disk, W: Write>(
     ensures written { (s : Standing) → Holds repository.old.view s (D.state repository.old.disk)
         → (D.state repository.new.disk).IsHonest
         → Writes result (export_text s.carousel) (W.contents writer.old) (W.contents writer.new) }
+    ensures calm { OnOk result ((D.state repository.new.disk).failures
+        ≡ (D.state repository.old.disk).failures) }
     ensures fault { IfErr result (λ r. IsPrintingFault r (D.state repository.old.disk).failures
         (D.state repository.new.disk).failures) }
 {
@@ -83,6 +83,8 @@ fn write_object<D: Disk, W: Write>(
         → (D.state repository.new.disk).IsHonest
         → slice_get s.carousel.objects place ≡ Some o
         → Writes result (put_line o) (W.contents writer.old) (W.contents writer.new) }
+    ensures calm { OnOk result ((D.state repository.new.disk).failures
+        ≡ (D.state repository.old.disk).failures) }
     ensures fault { IfErr result (λ r. IsPrintingFault r (D.state repository.old.disk).failures
         (D.state repository.new.disk).failures) }
 {
@@ -107,6 +109,8 @@ fn write_body<D: Disk, W: Write>(
         → (D.state repository.new.disk).IsHonest
         → Writes result (encode_lower (object_body s.carousel.objects place))
         (W.contents writer.old) (W.contents writer.new) }
+    ensures calm { OnOk result ((D.state repository.new.disk).failures
+        ≡ (D.state repository.old.disk).failures) }
     ensures fault { IfErr result (λ r. IsPrintingFault r (D.state repository.old.disk).failures
         (D.state repository.new.disk).failures) }
 {

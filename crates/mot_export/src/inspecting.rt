@@ -3,20 +3,21 @@ ghost use Rattle.std.specs.Prelude.{◌≡◌, ◌≤◌, ◌<◌, ◌^◌, ◌+
 ghost use Rattle.std.specs.Prelude.{length};
 ghost use Rattle.std.specs.List.{sum_by};
 ghost use Rattle.std.specs.Io.KnownBytes.{Appends};
-ghost use Rattle.disk_model.specs.Disk.{KeepsLength, OnlyReads};
+ghost use Rattle.disk_model.specs.Disk.{OnlyReads};
 ghost use Rattle.mot_journal.specs.Image.{Standing};
-ghost use Rattle.mot_numbers.specs.declared.refusal.Refusal.TheVariants.{WriteFault};
+ghost use Rattle.mot_numbers.specs.declared.refusal.Refusal.TheVariants.{BadNumber, WriteFault};
 ghost use Rattle.mot_objects.specs.declared.object.Object.{Object};
 ghost use Rattle.mot_objects.specs.Stands.{AreBodiesOf, carousel_of};
 ghost use Rattle.mot_player.specs.Turn.{turn_of_carousel};
 ghost use Rattle.mot_export.specs.Filling.{TurnsHaveTheirLengths};
-ghost use Rattle.mot_export.specs.Inspecting.{Inspects, StopsInspecting, data_text, number_line};
+ghost use Rattle.mot_export.specs.Inspecting.{Inspects, IsUncounted, data_text, number_line};
 ghost use Rattle.mot_export.specs.Inspecting.{rates_of, shares_line, sizes_text, turn_text};
 ghost use Rattle.mot_export.specs.Inspecting.{turn_lengths_text, use_text};
 ghost use Rattle.mot_export.specs.Inner.Inspected.{HasInspected, IsCountingFault};
 ghost use Rattle.mot_export.specs.Inner.Inspected.{IsInspectingFault, IsTurnSize};
 ghost use Rattle.mot_repository.specs.Gap.{IsLongestGap};
 ghost use Rattle.mot_repository.specs.Repository.{Holds};
+ghost use Rattle.mot_server.specs.Attempts.{fault_of};
 ghost use Rattle.mot_server.specs.Server.{place_in};
 ghost use Rattle.mot_session.specs.Served.{WritesFront};
 
@@ -49,11 +50,8 @@ pub fn inspect_disk<D: Disk, W: Write>(
     rate: Option<u32>,
     writer: &mut W,
 ) -> Ended<D, ()>
-    ensures keeps { KeepsLength (D.state disk) (D.state result.disk) }
-    ensures done { OnOk result.result (Inspects rate (W.contents writer.old) (W.contents writer.new)
-        (D.state disk) (D.state result.disk)) }
-    ensures refused { IfErr result.result (λ r. StopsInspecting rate r
-        (W.contents writer.old) (W.contents writer.new) (D.state disk) (D.state result.disk)) }
+    ensures ended { Inspects rate (fault_of result.result)
+        (W.contents writer.old) (W.contents writer.new) (D.state disk) (D.state result.disk) }
 
     // The lengths that are told of the disk's own packets are those of the turn that is played.
     ensures lengths { TurnsHaveTheirLengths }
@@ -88,6 +86,11 @@ fn write_inspection<D: Disk, W: Write>(
         → (D.state server.new.disk).IsHonest → IfErr result (λ r. r ≡ WriteFault
         → HasInspected rate server.old.view.journal (place_in server.old s) s
         (λ text. WritesFront text (W.contents writer.old) (W.contents writer.new))) }
+    ensures uncounted { (s : Standing) → Holds server.old.view s (D.state server.old.disk)
+        → (D.state server.new.disk).IsHonest → IfErr result (λ r. r ≡ BadNumber
+        → IsUncounted (place_in server.old s)) }
+    ensures calm { OnOk result ((D.state server.new.disk).failures
+        ≡ (D.state server.old.disk).failures) }
     ensures fault { IfErr result (λ r. IsInspectingFault r (D.state server.old.disk).failures
         (D.state server.new.disk).failures (W.contents writer.old) (W.contents writer.new)) }
 {
@@ -153,6 +156,11 @@ fn count_turn<D: Disk>(server: &mut Server<D>) -> Result<TurnSize, Refusal>
     ensures counted { (s : Standing) → Holds server.old.view s (D.state server.old.disk)
         → (D.state server.new.disk).IsHonest → IfOk result
         (λ size. IsTurnSize (place_in server.old s) size.packets size.bytes) }
+    ensures uncounted { (s : Standing) → Holds server.old.view s (D.state server.old.disk)
+        → (D.state server.new.disk).IsHonest → IfErr result (λ r. r ≡ BadNumber
+        → IsUncounted (place_in server.old s)) }
+    ensures calm { OnOk result ((D.state server.new.disk).failures
+        ≡ (D.state server.old.disk).failures) }
     ensures fault { IfErr result (λ r. IsCountingFault r (D.state server.old.disk).failures
         (D.state server.new.disk).failures) }
 {

@@ -1,29 +1,28 @@
 -- Updates and packets, one after the other.
 use Rattle.std.proofs.Common.{◌≡◌, ℕ, zero, suc, ◌+◌, ◌-◌, Bool, true, false, List, []}
-use Rattle.std.proofs.Common.{◌∷◌, ◌++◌, length, map, Option, Some, None, Result, Ok, Err, refl}
+use Rattle.std.proofs.Common.{◌∷◌, ◌++◌, length, map, Option, Some, None, Ok, Err, refl}
 use Rattle.std.proofs.Common.{sym, ap}
-use Rattle.std.proofs.Common.{◌∙◌, subst, arith, length-append, append-nil, inl, inr}
+use Rattle.std.proofs.Common.{◌∙◌, subst, arith, length-append, append-nil, inl, inr, take}
 use Rattle.std.proofs.lemmas.List.{map-append}
+use Rattle.std.proofs.lemmas.Option.{none-some}
 use Rattle.std.specs.Prelude.{◌⊎◌, ◌≢◌, if◌then◌else◌}
 use Rattle.std.specs.Option.{option_map_or}
 use Rattle.disk_model.specs.Disk.{State, IsHonestDisk, IsUnchanged}
-use Rattle.mot_feed.specs.Feeding.{AreOf, AreTold, Event, FedPacketsAreContinuous}
-use Rattle.mot_feed.specs.Feeding.{Feeds, FeedsPart, Happen, HasFed, Stage}
-use Rattle.mot_feed.specs.Feeding.{behind_call, commands_among, has_ended, left_after, left_behind}
-use Rattle.mot_feed.specs.Feeding.{moment_at, moment_behind, sents_in, turns_in}
+use Rattle.mot_feed.specs.Feeding.{AreOf, AreTold, EndsFeed, Event, FedPacketsAreContinuous}
+use Rattle.mot_feed.specs.Feeding.{Feeds, Happen, HasFed, Stage}
+use Rattle.mot_feed.specs.Feeding.{commands_among, is_between_turns, left_after}
+use Rattle.mot_feed.specs.Feeding.{left_behind, moment_at, moment_behind, sents_in, turns_in}
 use Rattle.mot_feed.specs.Feeding.AreTold.{no_call, one_asked, one_call, one_played}
-use Rattle.mot_feed.specs.Feeding.ComesAt.{of_call, of_packet, of_write}
-use Rattle.mot_feed.specs.Feeding.Stage.{Broken, Called, Ready}
+use Rattle.mot_feed.specs.Feeding.EndsFeed.{all_numbers, all_turns, of_call, of_packet, of_write}
+use Rattle.mot_feed.specs.Feeding.Stage.{Called, Ready}
 use Rattle.mot_feed.specs.Feeding.Event.{Accepted, Asked, Played}
-use Rattle.mot_feed.specs.Often.{FeedsOften, FeedsPartOften, IsOften, is_due, pause}
+use Rattle.mot_feed.specs.Often.{IsOften, is_due, pause}
 use Rattle.mot_feed.specs.Sending.{SendsPacket}
 use Rattle.mot_feed.specs.Sending as one
-use Rattle.mot_feed.specs.Writing.{GrowsPart}
-use Rattle.mot_feed.specs.Writing as part
 use Rattle.mot_feed.proofs.Hearing.{OftenUpTo, asks, left_for, often-accepted, often-all}
 use Rattle.mot_feed.proofs.Hearing.{often-asked, often-cut, often-none, often-sent}
-use Rattle.mot_feed.proofs.Grown.{grows_nil, grows_trans, grows_kept, part_after}
-use Rattle.mot_feed.proofs.Sent.{not_fine, same_refusal}
+use Rattle.mot_feed.proofs.Grown.{grows_nil, grows_trans, grows_kept}
+use Rattle.mot_feed.proofs.Sent.{not_fine}
 use Rattle.mot_journal.specs.Image.{Standing}
 use Rattle.mot_numbers.specs.Reading.{◌>>=◌}
 use Rattle.mot_numbers.proofs.Laws.{read_each-append}
@@ -48,6 +47,7 @@ use Rattle.mot_server.specs.Server.{ServerView, place_in}
 use Rattle.mot_server.proofs.Laws.{accepted-join, reads_leave, runs_join}
 use Rattle.mot_update.specs.Between.{IsUpdating, Telling}
 use Rattle.mot_update.specs.HasRun.{HasRun}
+use Rattle.mot_update.proofs.Laws.{same_err, same_ok, same_some}
 use Rattle.mot_update.specs.declared.moment.Moment.{Moment}
 
 -- ---- events in a row
@@ -86,7 +86,8 @@ sents_in-append (Accepted command ∷ events) others = sents_in-append events ot
 sents_in-append (Asked ∷ events) others = sents_in-append events others
 
 ended-append : (ended : Bool) (events others : List Event)
-    → has_ended ended (events ++ others) ≡ has_ended (has_ended ended events) others
+    → is_between_turns ended (events ++ others)
+    ≡ is_between_turns (is_between_turns ended events) others
 ended-append ended [] others = refl
 ended-append ended (Played sent ∷ events) others = ended-append sent.ends_turn events others
 ended-append ended (Accepted command ∷ events) others = ended-append ended events others
@@ -94,7 +95,7 @@ ended-append ended (Asked ∷ events) others = ended-append ended events others
 
 left-append : (look : ℕ) (ended : Bool) (left : ℕ) (events others : List Event)
     → left_after look ended left (events ++ others)
-    ≡ left_after look (has_ended ended events) (left_after look ended left events) others
+    ≡ left_after look (is_between_turns ended events) (left_after look ended left events) others
 left-append look ended left [] others = refl
 left-append look ended left (Played sent ∷ events) others =
     left-append look sent.ends_turn (left_behind look ended left sent) events others
@@ -134,16 +135,6 @@ are-none = record { bytes = refl; read = refl }
 
 -- ---- the commands of an update
 
-abbrev IsThere : Option Carousel → Type 0
-IsThere None = ⊥
-IsThere (Some c) = Unit {0}
-
-not_there : (c : Carousel) → None ≡ Some c → ⊥
-not_there c e = subst IsThere (sym e) tt
-
-same_carousel : (c d : Carousel) → Some c ≡ Some d → c ≡ d
-same_carousel c d e = cc
-
 happen-cases : (limit size : ℕ) (command : Command) (commands : List Command) (c last : Carousel)
     (place : Place) (o : Option Carousel) → carousel_if_accepted (change c limit command) ≡ o
     → (o >>= λ next. carousel_after next limit commands) ≡ Some last
@@ -154,7 +145,7 @@ happen-cases : (limit size : ℕ) (command : Command) (commands : List Command) 
     (option_map_or (λ next.
     place_after limit size next commands (changed (turn_of_carousel next size) place)) o place)
 happen-cases limit size command commands c last place None is rest tail =
-    absurd (not_there last rest)
+    absurd (none-some last rest)
 happen-cases limit size command commands c last place (Some next) is rest tail =
     (next, is, tail next (changed (turn_of_carousel next size) place) rest)
 
@@ -163,7 +154,7 @@ happen-commands : (limit size : ℕ) (commands : List Command) (c last : Carouse
     → Happen limit size c place (map Accepted commands) last
     (place_after limit size c commands place)
 unfolding carousel_after
-happen-commands limit size [] c last place e = (same_carousel c last e, refl)
+happen-commands limit size [] c last place e = (same_some c last e, refl)
 happen-commands limit size (command ∷ commands) c last place e =
     happen-cases limit size command commands c last place
     (carousel_if_accepted (change c limit command)) refl e
@@ -178,7 +169,7 @@ sents-map [] = refl
 sents-map (command ∷ commands) = sents-map commands
 
 ended-map : (ended : Bool) (commands : List Command)
-    → has_ended ended (map Accepted commands) ≡ ended
+    → is_between_turns ended (map Accepted commands) ≡ ended
 ended-map ended [] = refl
 ended-map ended (command ∷ commands) = ended-map ended commands
 
@@ -213,7 +204,7 @@ sents-asked : (due : Bool) → sents_in (asks due) ≡ []
 sents-asked true = refl
 sents-asked false = refl
 
-ended-asked : (ended due : Bool) → has_ended ended (asks due) ≡ ended
+ended-asked : (ended due : Bool) → is_between_turns ended (asks due) ≡ ended
 ended-asked ended true = refl
 ended-asked ended false = refl
 
@@ -247,16 +238,13 @@ are-asked events due packets are =
 
 -- where a call comes behind these
 behind-is : (look : ℕ) (ended : Bool) (left : ℕ) (events : List Event)
-    → has_ended true events ≡ ended → left_after look true 0 events ≡ left
+    → is_between_turns true events ≡ ended → left_after look true 0 events ≡ left
     → moment_behind look events ≡ moment_at look ended left
 behind-is look ended left events is behind =
     ap (λ e. moment_at look e (left_after look true 0 events)) is
     ∙ ap (moment_at look ended) behind
 
 -- ---- counting turns
-
-same_ends : (a b : Bool) → ◌≡◌ {A = Result Bool Refusal} (Ok a) (Ok b) → a ≡ b
-same_ends a b e = cc
 
 more_turns : (events : List Event) (sent : Sent) (ends : Bool) (rest left turns : ℕ)
     → sent.ends_turn ≡ ends → rest + (if ends then 1 else 0) ≡ left
@@ -303,77 +291,67 @@ are-one old new packet ends step =
 -- ---- what runs and packets leave
 
 module _ {D : Type 0} where
-  fed-join : (old mid new : ServerView D) (start between now : State) (s : Standing)
-      (fault : Option Refusal) (events others : List Event)
-      → (first : HasFed old mid start between s None events)
-      → HasFed mid new between now first.leaves.last fault others
-      → HasFed old new start now s fault (events ++ others)
-  fed-join old mid new start between now s fault events others first two =
-      let joined = runs_join old.view mid.view new.view start between now s first.commands
-      two.commands first.marks two.marks fault first.layout (first.whole refl) first.leaves
-      two.leaves in
-      let d : Standing = first.leaves.last in
-      let rest = subst (λ (g : Geometry).
-      Happen g.objects g.segment_size d.carousel (place_in mid d)
-      others two.leaves.last.carousel (place_in new two.leaves.last)) first.leaves.after.geometry
-      two.happened in
-      record {
-        commands = first.commands ++ two.commands;
-        marks = first.marks ++ two.marks;
-        leaves = joined.0;
-        whole = λ e. length-append first.marks two.marks
-            ∙ omega (
-              arith,
-              first.whole refl,
-              two.whole e,
-              length-append first.commands two.commands,
-            );
-        layout = two.layout ∙ first.layout;
-        accepted = commands_among-append events others
-            ∙ ap (λ l. l ++ commands_among others) first.accepted
-            ∙ ap (λ l. accepted_commands first.commands first.marks ++ l) two.accepted
-            ∙ sym (accepted-join first.commands two.commands first.marks two.marks
-            (first.whole refl));
-        happened = subst (λ (l : Standing). Happen s.geometry.objects s.geometry.segment_size
-            s.carousel (place_in old s) (events ++ others) l.carousel (place_in new l))
-            (sym joined.1)
-            (happen-join s.geometry.objects s.geometry.segment_size s.carousel d.carousel
-            two.leaves.last.carousel (place_in old s) (place_in mid d)
-            (place_in new two.leaves.last) events others first.happened rest);
-      }
+  -- this was fed, and leads to that
+  abbrev pub FedTo : (old new : ServerView D) (start now : State) → Standing → List Command
+      → List Bool → Option Refusal → List Event → Standing → Type 0
+  FedTo old new start now s commands marks fault events last =
+      (fed : HasFed old new start now s commands marks fault events) × (fed.leaves.last ≡ last)
 
-  -- what they lead to in the end
-  fed-join-last : (old mid new : ServerView D) (start between now : State) (s : Standing)
-      (fault : Option Refusal) (events others : List Event)
-      (first : HasFed old mid start between s None events)
-      (two : HasFed mid new between now first.leaves.last fault others)
-      → (fed-join old mid new start between now s fault events others first two).leaves.last
-      ≡ two.leaves.last
-  unfolding fed-join
-  fed-join-last old mid new start between now s fault events others first two =
-      (runs_join old.view mid.view new.view start between now s first.commands
-      two.commands first.marks two.marks fault first.layout (first.whole refl) first.leaves
-      two.leaves).1
+  fed-join : (old mid new : ServerView D) (start between now : State) (s last : Standing)
+      (commands others : List Command) (marks rest : List Bool) (fault : Option Refusal)
+      (events more : List Event)
+      → (first : HasFed old mid start between s commands marks None events)
+      → FedTo mid new between now first.leaves.last others rest fault more last
+      → FedTo old new start now s (commands ++ others) (marks ++ rest) fault (events ++ more) last
+  fed-join old mid new start between now s last commands others marks rest fault events more first
+      second =
+      let two = second.0 in
+      let joined = runs_join old.view mid.view new.view start between now s commands others marks
+      rest fault first.layout (first.whole refl) first.leaves two.leaves in
+      let d : Standing = first.leaves.last in
+      let happened = subst (λ (g : Geometry).
+      Happen g.objects g.segment_size d.carousel (place_in mid d)
+      more two.leaves.last.carousel (place_in new two.leaves.last)) first.leaves.after.geometry
+      two.happened in (
+        record {
+          leaves = joined.0;
+          whole = λ e. length-append marks rest
+              ∙ omega (arith, first.whole refl, two.whole e, length-append commands others);
+          layout = two.layout ∙ first.layout;
+          accepted = commands_among-append events more
+              ∙ ap (λ l. l ++ commands_among more) first.accepted
+              ∙ ap (λ l. accepted_commands commands marks ++ l) two.accepted
+              ∙ sym (accepted-join commands others marks rest (first.whole refl));
+          happened = subst (λ (l : Standing). Happen s.geometry.objects s.geometry.segment_size
+              s.carousel (place_in old s) (events ++ more) l.carousel (place_in new l))
+              (sym joined.1)
+              (happen-join s.geometry.objects s.geometry.segment_size s.carousel d.carousel
+              two.leaves.last.carousel (place_in old s) (place_in mid d)
+              (place_in new two.leaves.last) events more first.happened happened);
+        },
+        joined.1 ∙ second.1,
+      )
 
   fed-run : (old new : ServerView D) (start now : State) (s : Standing) (fault : Option Refusal)
       (commands : List Command) (marks : List Bool)
-      → HasRun old new start now s commands marks fault
-      → HasFed old new start now s fault (map Accepted (accepted_commands commands marks))
+      → (run : HasRun old new start now s commands marks fault)
+      → FedTo old new start now s commands marks fault
+      (map Accepted (accepted_commands commands marks)) run.leaves.last
   fed-run old new start now s fault commands marks run =
       let done : List Command = accepted_commands commands marks in
-      let last : Standing = run.leaves.last in
-      record {
-        commands = commands;
-        marks = marks;
-        leaves = run.leaves;
-        whole = run.whole;
-        layout = run.layout;
-        accepted = accepted-map done;
-        happened = subst (λ (p : Place). Happen s.geometry.objects s.geometry.segment_size
-            s.carousel (place_in old s) (map Accepted done) last.carousel p) (sym run.place)
-            (happen-commands s.geometry.objects s.geometry.segment_size done s.carousel
-            last.carousel (place_in old s) run.leaves.after.carousel);
-      }
+      let last : Standing = run.leaves.last in (
+        record {
+          leaves = run.leaves;
+          whole = run.whole;
+          layout = run.layout;
+          accepted = accepted-map done;
+          happened = subst (λ (p : Place). Happen s.geometry.objects s.geometry.segment_size
+              s.carousel (place_in old s) (map Accepted done) last.carousel p) (sym run.place)
+              (happen-commands s.geometry.objects s.geometry.segment_size done s.carousel
+              last.carousel (place_in old s) run.leaves.after.carousel);
+        },
+        refl,
+      )
 
   -- nothing but packets
   fed-read : (old new : ServerView D) (start now : State) (s : Standing) (fault : Option Refusal)
@@ -381,39 +359,34 @@ module _ {D : Type 0} where
       → IsUnchanged start now → Holds old.view s start → commands_among events ≡ []
       → Happen s.geometry.objects s.geometry.segment_size s.carousel (place_in old s) events
       s.carousel (place_in new s)
-      → HasFed old new start now s fault events
+      → FedTo old new start now s [] [] fault events s
   fed-read old new start now s fault events sound view honest still holds none happened =
       let leaves = reads_leave old.view new.view start now s fault sound view honest still holds in
-      let last : leaves.last ≡ s = leaves.marked in
-      record {
-        commands = [];
-        marks = [];
-        leaves = leaves;
-        whole = λ e. refl;
-        layout = ap (λ (v : RepositoryView). v.journal.layout) view;
-        accepted = none;
-        happened = subst (λ (d : Standing). Happen s.geometry.objects s.geometry.segment_size
-            s.carousel (place_in old s) events d.carousel (place_in new d)) (sym last) happened;
-      }
+      let last : leaves.last ≡ s = leaves.marked in (
+        record {
+          leaves = leaves;
+          whole = λ e. refl;
+          layout = ap (λ (v : RepositoryView). v.journal.layout) view;
+          accepted = none;
+          happened = subst (λ (d : Standing). Happen s.geometry.objects s.geometry.segment_size
+              s.carousel (place_in old s) events d.carousel (place_in new d)) (sym last) happened;
+        },
+        last,
+      )
 
-  fed-run-last : (old new : ServerView D) (start now : State) (s : Standing)
-      (fault : Option Refusal) (commands : List Command) (marks : List Bool)
-      (run : HasRun old new start now s commands marks fault)
-      → (fed-run old new start now s fault commands marks run).leaves.last ≡ run.leaves.last
-  unfolding fed-run
-  fed-run-last old new start now s fault commands marks run = refl
-
-  fed-read-last : (old new : ServerView D) (start now : State) (s : Standing)
-      (fault : Option Refusal) (events : List Event) (sound : IsHonestDisk start)
-      (view : new.view ≡ old.view) (honest : now.IsHonest) (still : IsUnchanged start now)
-      (holds : Holds old.view s start) (none : commands_among events ≡ [])
-      (happened : Happen s.geometry.objects s.geometry.segment_size s.carousel (place_in old s)
-      events s.carousel (place_in new s))
-      → (fed-read old new start now s fault events sound view honest still holds none
-      happened).leaves.last ≡ s
-  unfolding fed-read
-  fed-read-last old new start now s fault events sound view honest still holds none happened =
-      (reads_leave old.view new.view start now s fault sound view honest still holds).marked
+  -- packets behind commands
+  fed-on : (old mid new : ServerView D) (start between now : State) (s last : Standing)
+      (commands : List Command) (marks : List Bool) (events more : List Event)
+      → (first : HasFed old mid start between s commands marks None events)
+      → FedTo mid new between now first.leaves.last [] [] None more last
+      → FedTo old new start now s commands marks None (events ++ more) last
+  fed-on old mid new start between now s last commands marks events more first second =
+      subst (λ l. FedTo old new start now s l marks None (events ++ more) last)
+      (append-nil commands)
+      (subst (λ l. FedTo old new start now s (commands ++ []) l None (events ++ more) last)
+      (append-nil marks)
+      (fed-join old mid new start between now s last commands [] marks [] None events more first
+      second))
 
   -- ---- feeding
 
@@ -424,8 +397,11 @@ module _ {D : Type 0} where
       (before after : Option (List (List ℕ))) : Type 0 where
     -- what happened so far
     pub events : List Event
+    -- the commands that were run, and their marks
+    pub commands : List Command
+    pub marks : List Bool
     -- this is what was fed, without a fault
-    pub fed : HasFed old new start now s None events
+    pub fed : HasFed old new start now s commands marks None events
     -- the packets so far
     pub packets : List (List ℕ)
     -- they are what was sent
@@ -433,10 +409,10 @@ module _ {D : Type 0} where
     -- each was written in one write
     pub written : Grows before after packets
     -- the update tells of them
-    pub told : AreTold tells look s.geometry.objects first s.carousel stage events last
-        fed.leaves.last.carousel
+    pub told : AreTold tells look s.geometry.objects first s.carousel stage events commands marks
+        last fed.leaves.last.carousel
     -- whether a turn has ended behind them, or none was begun
-    pub ended : has_ended true events ≡ between_turns
+    pub ended : is_between_turns true events ≡ between_turns
     -- how many packets of the rest go out before a look may come
     pub behind : left_after look true 0 events ≡ rest
     -- the turns to come and those that ended are all
@@ -456,17 +432,18 @@ module _ {D : Type 0} where
       contents
   fed_none tells look first old mid start now s turns contents view same sound honest still
       holds =
-      let last = fed-read-last old mid start now s None [] sound view honest still holds refl
+      let fed = fed-read old mid start now s None [] sound view honest still holds refl
       (refl, sym same) in
       record {
         events = [];
-        fed = fed-read old mid start now s None [] sound view honest still holds refl
-            (refl, sym same);
+        commands = [];
+        marks = [];
+        fed = fed.0;
         packets = [];
         are = are-none;
         written = grows_nil contents;
         told = subst (λ (d : Standing). AreTold tells look s.geometry.objects first s.carousel
-            Ready [] first d.carousel) (sym last) no_call;
+            Ready [] [] [] first d.carousel) (sym fed.1) no_call;
         ended = refl;
         behind = refl;
         counted = omega arith;
@@ -498,48 +475,49 @@ module _ {D : Type 0} where
       moment = moment_at look between_turns rest
 
       -- what it tells so far, up to a carousel
-      abbrev Told : Stage → List Event → U → Carousel → Type 0
-      Told stage events last found =
-          AreTold tells look s.geometry.objects first s.carousel stage events last found
+      abbrev Told : Stage → List Event → List Command → List Bool → U → Carousel → Type 0
+      Told stage events commands marks last found =
+          AreTold tells look s.geometry.objects first s.carousel stage events commands marks last
+          found
 
       -- up to this stage
       so_far_told : (here : Stage) → stage ≡ here
-          → Told here so_far.events since so_far.fed.leaves.last.carousel
-      so_far_told here is = subst (λ t. Told t so_far.events since so_far.fed.leaves.last.carousel)
-          is so_far.told
+          → Told here so_far.events so_far.commands so_far.marks since
+          so_far.fed.leaves.last.carousel
+      so_far_told here is = subst (λ t. Told t so_far.events so_far.commands so_far.marks since
+          so_far.fed.leaves.last.carousel) is so_far.told
 
       -- all turns were fed, or too many packets
       pub fed_all : stage ≡ Ready → (left ≡ 0) ⊎ (count ≡ 18446744073709551615)
-          → Feeds tells look first since old mid start between s turns before after
+          → Feeds tells look turns None first since old mid start between s before after
       fed_all ready end = record {
+        stage = Ready;
         events = so_far.events;
+        commands = so_far.commands;
+        marks = so_far.marks;
         fed = so_far.fed;
+        told = so_far_told Ready ready;
         packets = so_far.packets;
         are = so_far.are;
-        written = so_far.written;
-        told = so_far_told Ready ready;
-        ended = all_ended end;
+        ends = all_ended end;
       }
         where
           all_ended : (left ≡ 0) ⊎ (count ≡ 18446744073709551615)
-              → ((turns_in so_far.events ≡ turns) × (has_ended true so_far.events ≡ true))
-              ⊎ (length so_far.packets ≡ 18446744073709551615)
-          all_ended (inl none) = inl (
-            let all = so_far.counted in omega (arith, none, all),
-            so_far.ended ∙ so_far.done none,
-          )
-          all_ended (inr many) = inr (so_far.many ∙ many)
+              → EndsFeed turns so_far.events so_far.packets before after None Ready
+          all_ended (inl none) = all_turns
+              (let all = so_far.counted in omega (arith, none, all))
+              (so_far.ended ∙ so_far.done none) so_far.written
+          all_ended (inr many) = all_numbers (so_far.many ∙ many) so_far.written
 
       -- the same, with the directory often
       pub fed_often : (every : ℕ) (until : Option ℕ)
           → OftenUpTo every between_turns until so_far.events
           → stage ≡ Ready → (left ≡ 0) ⊎ (count ≡ 18446744073709551615)
-          → FeedsOften every tells look first since old mid start between s turns before after
+          → (feeds : Feeds tells look turns None first since old mid start between s before after)
+          × IsOften every feeds.events
       unfolding fed_all
-      fed_often every until often ready end = record {
-        feeds = fed_all ready end;
-        often = often-all every between_turns until so_far.events often;
-      }
+      fed_often every until often ready end =
+          (fed_all ready end, often-all every between_turns until so_far.events often)
 
       -- an update more
       module _ {up : ServerView D} {then_state : State} {last : U} {fault : Option Refusal}
@@ -551,9 +529,17 @@ module _ {D : Type 0} where
         abbrev updated_events : List Event
         updated_events = so_far.events ++ map Accepted done_by
 
+        abbrev updated_commands : List Command
+        updated_commands = so_far.commands ++ update.commands
+
+        abbrev updated_marks : List Bool
+        updated_marks = so_far.marks ++ update.marks
+
         -- an update behind what was fed, as one run of all commands
-        updated_fed : HasFed old up start then_state s fault updated_events
-        updated_fed = fed-join old mid up start between then_state s fault so_far.events
+        updated_fed : FedTo old up start then_state s updated_commands updated_marks fault
+            updated_events update.run.leaves.last
+        updated_fed = fed-join old mid up start between then_state s update.run.leaves.last
+            so_far.commands update.commands so_far.marks update.marks fault so_far.events
             (map Accepted done_by) so_far.fed
             (fed-run mid up between then_state so_far.fed.leaves.last fault update.commands
             update.marks update.run)
@@ -563,17 +549,11 @@ module _ {D : Type 0} where
         updated_are = are-more so_far.events done_by so_far.packets so_far.are
 
         -- and it tells of its commands
-        updated_told : stage ≡ Ready
-            → Told (behind_call fault) updated_events last updated_fed.leaves.last.carousel
-        unfolding updated_fed
+        updated_told : stage ≡ Ready → Told (Called fault) updated_events updated_commands
+            updated_marks last updated_fed.0.leaves.last.carousel
         updated_told ready =
             let found : Standing = so_far.fed.leaves.last in
             let next : Standing = update.run.leaves.last in
-            let at = fed-join-last old mid up start between then_state s fault so_far.events
-            (map Accepted done_by) so_far.fed
-            (fed-run mid up between then_state found fault update.commands update.marks update.run)
-            ∙ fed-run-last mid up between then_state found fault update.commands update.marks
-            update.run in
             let made : carousel_after found.carousel s.geometry.objects done_by
             ≡ Some next.carousel =
             subst (λ (g : Geometry). carousel_after found.carousel g.objects done_by
@@ -583,19 +563,20 @@ module _ {D : Type 0} where
             update.marks fault)
             (sym (behind-is look between_turns rest so_far.events so_far.ended so_far.behind))
             update.told in
-            subst (λ (d : Standing). Told (behind_call fault) updated_events last d.carousel)
-            (sym at)
-            (one_call so_far.events since last found.carousel next.carousel update.commands
-            update.marks fault (so_far_told Ready ready) tells_here made)
+            subst (λ (d : Standing). Told (Called fault) updated_events updated_commands
+            updated_marks last d.carousel) (sym updated_fed.1)
+            (one_call so_far.events so_far.commands update.commands so_far.marks update.marks since
+            last found.carousel next.carousel fault (so_far_told Ready ready) tells_here
+            update.run.whole made)
 
-        updated_ended : has_ended true updated_events ≡ between_turns
+        updated_ended : is_between_turns true updated_events ≡ between_turns
         updated_ended = ended-append true so_far.events (map Accepted done_by)
-            ∙ ended-map (has_ended true so_far.events) done_by ∙ so_far.ended
+            ∙ ended-map (is_between_turns true so_far.events) done_by ∙ so_far.ended
 
         updated_behind : left_after look true 0 updated_events ≡ rest
         updated_behind = left-append look true 0 so_far.events (map Accepted done_by)
-            ∙ left-map look (has_ended true so_far.events) (left_after look true 0 so_far.events)
-            done_by ∙ so_far.behind
+            ∙ left-map look (is_between_turns true so_far.events)
+            (left_after look true 0 so_far.events) done_by ∙ so_far.behind
 
         -- it ends no turn
         updated_turns : left + turns_in updated_events ≡ turns
@@ -612,28 +593,30 @@ module _ {D : Type 0} where
           → IsUpdating (tells since last moment) mid up between then_state
           so_far.fed.leaves.last (Some refusal)
           → refusal ≢ WriteFault
-          → FeedsPart tells look refusal first last old up start then_state s before after
+          → Feeds tells look turns (Some refusal) first last old up start then_state s before after
       update_fault {up} {then_state} {last} {refusal} ready update other = record {
-        fault = Some refusal;
-        stage = Broken refusal;
-        comes = of_call other;
+        stage = Called (Some refusal);
         events = updated_events update;
-        fed = updated_fed update;
+        commands = updated_commands update;
+        marks = updated_marks update;
+        fed = (updated_fed update).0;
+        told = updated_told update ready;
         packets = so_far.packets;
         are = updated_are update;
-        written = part.whole other so_far.written;
-        told = updated_told update ready;
+        ends = of_call refusal other so_far.written;
       }
 
       -- what was fed so far, with an update that had no fault
       pub updated : {up : ServerView D} {then_state : State} {last : U}
           → stage ≡ Ready → IsUpdating (tells since last moment) mid up between then_state
           so_far.fed.leaves.last None
-          → SoFar tells look Called first last old up start then_state s turns left between_turns
-          rest count before after
+          → SoFar tells look (Called None) first last old up start then_state s turns left
+          between_turns rest count before after
       updated {up} {then_state} {last} ready update = record {
         events = updated_events update;
-        fed = updated_fed update;
+        commands = updated_commands update;
+        marks = updated_marks update;
+        fed = (updated_fed update).0;
         packets = so_far.packets;
         are = updated_are update;
         written = so_far.written;
@@ -663,14 +646,14 @@ module _ {D : Type 0} where
           → IsUpdating (tells since last moment) mid up between then_state
           so_far.fed.leaves.last (Some refusal)
           → refusal ≢ WriteFault
-          → FeedsPartOften every tells look refusal first last old up start then_state s before
-          after
+          → (feeds : Feeds tells look turns (Some refusal) first last old up start then_state s
+          before after) × IsOften every feeds.events
       unfolding update_fault
-      update_fault_often every until often ready update other = record {
-        feeds = update_fault ready update other;
-        often = often-all every between_turns until (updated_events update)
-            (often-accepted every between_turns until so_far.events (done_by update) often);
-      }
+      update_fault_often every until often ready update other = (
+        update_fault ready update other,
+        often-all every between_turns until (updated_events update)
+            (often-accepted every between_turns until so_far.events (done_by update) often),
+      )
 
       abbrev t : Standing
       t = so_far.fed.leaves.last
@@ -682,35 +665,36 @@ module _ {D : Type 0} where
       module _ (new : ServerView D) {now : State} (sound : IsHonestDisk between)
           (view : new.view ≡ mid.view) (honest : now.IsHonest)
           (still : IsUnchanged between now) where
+        -- these were fed behind what was fed so far, and no command
+        more_fed : (more : List Event) → commands_among more ≡ []
+            → Happen t.geometry.objects t.geometry.segment_size t.carousel (place_in mid t) more
+            t.carousel (place_in new t)
+            → FedTo old new start now s so_far.commands so_far.marks None (so_far.events ++ more) t
+        more_fed more none happened = fed-on old mid new start between now s t so_far.commands
+            so_far.marks so_far.events more so_far.fed
+            (fed-read mid new between now t None more sound view honest still held none happened)
+
         module _ {packet : List ℕ} {ends : Bool}
             (step : IsStep (place_in mid t) packet ends (place_in new t)) where
           abbrev sent_events : List Event
           sent_events = so_far.events ++ Played step.sent ∷ []
 
-          sent_fed : HasFed old new start now s None sent_events
-          sent_fed = fed-join old mid new start between now s None so_far.events
-              (Played step.sent ∷ []) so_far.fed
-              (fed-read mid new between now t None (Played step.sent ∷ []) sound view honest still
-              held refl (played t.geometry.objects t.geometry.segment_size t.carousel
-              (place_in mid t) (place_in new t) packet ends step))
+          sent_fed : FedTo old new start now s so_far.commands so_far.marks None sent_events t
+          sent_fed = more_fed (Played step.sent ∷ []) refl
+              (played t.geometry.objects t.geometry.segment_size t.carousel (place_in mid t)
+              (place_in new t) packet ends step)
 
           sent_are : AreOf sent_events (so_far.packets ++ packet ∷ [])
           sent_are = are-append so_far.events (Played step.sent ∷ []) so_far.packets (packet ∷ [])
               so_far.are (are-one (place_in mid t) (place_in new t) packet ends step)
 
-          sent_told : stage ≡ Called → Told Ready sent_events since sent_fed.leaves.last.carousel
-          unfolding sent_fed
+          sent_told : stage ≡ Called None → Told Ready sent_events so_far.commands so_far.marks
+              since sent_fed.0.leaves.last.carousel
           sent_told called =
-              let read = played t.geometry.objects t.geometry.segment_size t.carousel
-              (place_in mid t) (place_in new t) packet ends step in
-              let at = fed-join-last old mid new start between now s None so_far.events
-              (Played step.sent ∷ []) so_far.fed
-              (fed-read mid new between now t None (Played step.sent ∷ []) sound view honest still
-              held refl read)
-              ∙ fed-read-last mid new between now t None (Played step.sent ∷ []) sound view honest
-              still held refl read in
-              subst (λ (d : Standing). Told Ready sent_events since d.carousel) (sym at)
-              (one_played so_far.events step.sent since t.carousel (so_far_told Called called))
+              subst (λ (d : Standing). Told Ready sent_events so_far.commands so_far.marks since
+              d.carousel) (sym sent_fed.1)
+              (one_played so_far.events step.sent so_far.commands so_far.marks since t.carousel
+              (so_far_told (Called None) called))
 
         -- the directory asked for, or not
         module _ (due : Bool) (asked : place_in new t
@@ -718,47 +702,43 @@ module _ {D : Type 0} where
           abbrev asked_for : List Event
           asked_for = if due then Asked ∷ [] else []
 
-          asked_fed : HasFed old new start now s None (so_far.events ++ asked_for)
-          asked_fed = fed-join old mid new start between now s None so_far.events asked_for
-              so_far.fed
-              (fed-read mid new between now t None asked_for sound view honest still held
-              (commands-asked due)
+          asked_fed : FedTo old new start now s so_far.commands so_far.marks None
+              (so_far.events ++ asked_for) t
+          asked_fed = more_fed asked_for (commands-asked due)
               (happen-asked t.geometry.objects t.geometry.segment_size t.carousel
-              (place_in mid t) (place_in new t) due asked))
+              (place_in mid t) (place_in new t) due asked)
 
-          told-asked : (d : Bool) → Told Called so_far.events since t.carousel
-              → Told Called (so_far.events ++ asks d) since t.carousel
-          told-asked true is = one_asked so_far.events since t.carousel is
-          told-asked false is = subst (λ l. Told Called l since t.carousel)
-              (sym (append-nil so_far.events)) is
+          told-asked : (d : Bool)
+              → Told (Called None) so_far.events so_far.commands so_far.marks since t.carousel
+              → Told (Called None) (so_far.events ++ asks d) so_far.commands so_far.marks since
+              t.carousel
+          told-asked true is =
+              one_asked so_far.events so_far.commands so_far.marks since t.carousel is
+          told-asked false is = subst (λ l. Told (Called None) l so_far.commands so_far.marks since
+              t.carousel) (sym (append-nil so_far.events)) is
 
-          asked_told : stage ≡ Called
-              → Told Called (so_far.events ++ asked_for) since asked_fed.leaves.last.carousel
-          unfolding asked_fed
+          asked_told : stage ≡ Called None → Told (Called None) (so_far.events ++ asked_for)
+              so_far.commands so_far.marks since asked_fed.0.leaves.last.carousel
           asked_told called =
-              let read = happen-asked t.geometry.objects t.geometry.segment_size t.carousel
-              (place_in mid t) (place_in new t) due asked in
-              let at = fed-join-last old mid new start between now s None so_far.events asked_for
-              so_far.fed (fed-read mid new between now t None asked_for sound view honest still held
-              (commands-asked due) read)
-              ∙ fed-read-last mid new between now t None asked_for sound view honest still held
-              (commands-asked due) read in
-              subst (λ (d : Standing). Told Called (so_far.events ++ asked_for) since d.carousel)
-              (sym at) (told-asked due (so_far_told Called called))
+              subst (λ (d : Standing). Told (Called None) (so_far.events ++ asked_for)
+              so_far.commands so_far.marks since d.carousel) (sym asked_fed.1)
+              (told-asked due (so_far_told (Called None) called))
 
-          pub asked_on : stage ≡ Called → SoFar tells look Called first since old new start now s
-              turns left between_turns rest count before after
+          pub asked_on : stage ≡ Called None → SoFar tells look (Called None) first since old new
+              start now s turns left between_turns rest count before after
           asked_on called = record {
             events = so_far.events ++ asked_for;
-            fed = asked_fed;
+            commands = so_far.commands;
+            marks = so_far.marks;
+            fed = asked_fed.0;
             packets = so_far.packets;
             are = are-asked so_far.events due so_far.packets so_far.are;
             written = so_far.written;
             told = asked_told called;
             ended = ended-append true so_far.events asked_for
-                ∙ ended-asked (has_ended true so_far.events) due ∙ so_far.ended;
+                ∙ ended-asked (is_between_turns true so_far.events) due ∙ so_far.ended;
             behind = left-append look true 0 so_far.events asked_for
-                ∙ left-asked look (has_ended true so_far.events)
+                ∙ left-asked look (is_between_turns true so_far.events)
                 (left_after look true 0 so_far.events) due ∙ so_far.behind;
             counted = omega (
               arith,
@@ -770,7 +750,7 @@ module _ {D : Type 0} where
             done = so_far.done;
           }
 
-          pub asked_often : (called : stage ≡ Called) (every until : ℕ)
+          pub asked_often : (called : stage ≡ Called None) (every until : ℕ)
               → due ≡ is_due between_turns until
               → OftenUpTo every between_turns (Some until) so_far.events
               → OftenUpTo every between_turns (left_for due until) (asked_on called).events
@@ -780,61 +760,57 @@ module _ {D : Type 0} where
 
         -- where no packet was made, nothing more was fed
         unsent_fed : place_in new t ≡ place_in mid t
-            → HasFed old new start now s None (so_far.events ++ [])
-        unsent_fed same = fed-join old mid new start between now s None so_far.events [] so_far.fed
-            (fed-read mid new between now t None [] sound view honest still held refl
-            (refl, sym same))
+            → FedTo old new start now s so_far.commands so_far.marks None (so_far.events ++ []) t
+        unsent_fed same = more_fed [] refl (refl, sym same)
 
         -- and nothing more is told
-        unsent_told : (same : place_in new t ≡ place_in mid t) → stage ≡ Called
-            → Told Called (so_far.events ++ []) since (unsent_fed same).leaves.last.carousel
-        unfolding unsent_fed
+        unsent_told : (same : place_in new t ≡ place_in mid t) → stage ≡ Called None
+            → Told (Called None) (so_far.events ++ []) so_far.commands so_far.marks since
+            (unsent_fed same).0.leaves.last.carousel
         unsent_told same called =
-            let read : Happen t.geometry.objects t.geometry.segment_size t.carousel
-            (place_in mid t) [] t.carousel (place_in new t) = (refl, sym same) in
-            let at = fed-join-last old mid new start between now s None so_far.events [] so_far.fed
-            (fed-read mid new between now t None [] sound view honest still held refl read)
-            ∙ fed-read-last mid new between now t None [] sound view honest still held refl read in
-            subst (λ (d : Standing). Told Called (so_far.events ++ []) since d.carousel) (sym at)
-            (subst (λ l. Told Called l since t.carousel) (sym (append-nil so_far.events))
-            (so_far_told Called called))
+            subst (λ (d : Standing). Told (Called None) (so_far.events ++ []) so_far.commands
+            so_far.marks since d.carousel) (sym (unsent_fed same).1)
+            (subst (λ l. Told (Called None) l so_far.commands so_far.marks since t.carousel)
+            (sym (append-nil so_far.events)) (so_far_told (Called None) called))
 
         send_fault-cases : {last : Option (List (List ℕ))} (refusal : Refusal)
-            → stage ≡ Called
+            → stage ≡ Called None
             → SendsPacket (Err refusal) (place_in mid t) (place_in new t) after last
-            → FeedsPart tells look refusal first since old new start now s before last
+            → Feeds tells look turns (Some refusal) first since old new start now s before last
         send_fault-cases {last} refusal called (one.whole packet e is step w) =
             absurd (not_fine e refusal (sym is))
         send_fault-cases {last} refusal called (one.short packet e n is step lt w) = record {
-          fault = None;
           stage = Ready;
-          comes = of_write (same_refusal refusal WriteFault is);
           events = sent_events step;
-          fed = sent_fed step;
+          commands = so_far.commands;
+          marks = so_far.marks;
+          fed = (sent_fed step).0;
+          told = sent_told step called;
           packets = so_far.packets ++ packet ∷ [];
           are = sent_are step;
-          written = part_after refusal so_far.packets (packet ∷ []) before after last so_far.written
-              (part.short (same_refusal refusal WriteFault is) [] packet n refl lt w);
-          told = sent_told step called;
+          ends = subst (λ r. EndsFeed turns (sent_events step) (so_far.packets ++ packet ∷ [])
+              before last (Some r) Ready) (sym (same_err refusal WriteFault is))
+              (of_write so_far.packets packet n refl lt
+              (grows_trans before after last so_far.packets (take n packet ∷ []) so_far.written w));
         }
         send_fault-cases {last} refusal called (one.none r other is same w) = record {
-          fault = None;
-          stage = Called;
-          comes = of_packet (λ e. other (sym (same_refusal refusal r is) ∙ e));
+          stage = Called None;
           events = so_far.events ++ [];
-          fed = unsent_fed same;
+          commands = so_far.commands;
+          marks = so_far.marks;
+          fed = (unsent_fed same).0;
+          told = unsent_told same called;
           packets = so_far.packets;
           are = subst (λ l. AreOf l so_far.packets) (sym (append-nil so_far.events)) so_far.are;
-          written = part.whole (λ e. other (sym (same_refusal refusal r is) ∙ e))
+          ends = of_packet refusal (λ e. other (sym (same_err refusal r is) ∙ e))
               (grows_kept before after last so_far.packets so_far.written w);
-          told = unsent_told same called;
         }
 
         -- feeding that a fault of a packet or of its write ends
         pub send_fault : {last : Option (List (List ℕ))} (refusal : Refusal)
-            → stage ≡ Called → ((d : Standing) → Holds mid.view d between
+            → stage ≡ Called None → ((d : Standing) → Holds mid.view d between
             → SendsPacket (Err refusal) (place_in mid d) (place_in new d) after last)
-            → FeedsPart tells look refusal first since old new start now s before last
+            → Feeds tells look turns (Some refusal) first since old new start now s before last
         send_fault refusal called sends = send_fault-cases refusal called (sends t held)
 
         -- the same, with the directory often
@@ -842,7 +818,7 @@ module _ {D : Type 0} where
             (often : OftenUpTo every between_turns (left_for due until) so_far.events)
             (is_so : due ≡ is_due between_turns until) where
           fault_often-cases : {last : Option (List (List ℕ))} (refusal : Refusal)
-              (called : stage ≡ Called)
+              (called : stage ≡ Called None)
               (one : SendsPacket (Err refusal) (place_in mid t) (place_in new t) after last)
               → IsOften every (send_fault-cases refusal called one).events
           unfolding send_fault-cases
@@ -853,17 +829,16 @@ module _ {D : Type 0} where
           fault_often-cases {last} refusal called (one.none r other is same w) = often []
 
           pub send_fault_often : {last : Option (List (List ℕ))} (refusal : Refusal)
-              → stage ≡ Called → ((d : Standing) → Holds mid.view d between
+              → stage ≡ Called None → ((d : Standing) → Holds mid.view d between
               → SendsPacket (Err refusal) (place_in mid d) (place_in new d) after last)
-              → FeedsPartOften every tells look refusal first since old new start now s before last
+              → (feeds : Feeds tells look turns (Some refusal) first since old new start now s
+              before last) × IsOften every feeds.events
           unfolding send_fault
-          send_fault_often refusal called sends = record {
-            feeds = send_fault refusal called sends;
-            often = fault_often-cases refusal called (sends t held);
-          }
+          send_fault_often refusal called sends =
+              (send_fault refusal called sends, fault_often-cases refusal called (sends t held))
 
         -- one that was written whole
-        module _ (called : stage ≡ Called) (some : left ≡ 0 → ⊥) (ends : Bool) (fewer : ℕ)
+        module _ (called : stage ≡ Called None) (some : left ≡ 0 → ⊥) (ends : Bool) (fewer : ℕ)
             (is_fewer : fewer + (if ends then 1 else 0) ≡ left) (then_rest : ℕ)
             (is_rest : (sent : Sent) → place_in new t ≡ sent.place
             → left_behind look between_turns rest sent ≡ then_rest)
@@ -872,10 +847,12 @@ module _ {D : Type 0} where
               → SoFar tells look Ready first since old new start now s turns fewer ends then_rest
               (count + 1) before last
           sent_on-cases (one.whole packet e is step w) =
-              let same : step.sent.ends_turn ≡ ends = sym step.ends ∙ sym (same_ends ends e is) in
+              let same : step.sent.ends_turn ≡ ends = sym step.ends ∙ sym (same_ok ends e is) in
               record {
                 events = sent_events step;
-                fed = sent_fed step;
+                commands = so_far.commands;
+                marks = so_far.marks;
+                fed = (sent_fed step).0;
                 packets = so_far.packets ++ packet ∷ [];
                 are = sent_are step;
                 written = grows_trans before after last so_far.packets (packet ∷ [])
@@ -913,7 +890,7 @@ module _ {D : Type 0} where
             unfolding sent_on-cases
             sent_often-cases (one.whole packet e is step w) =
                 often-sent every until next between_turns ends due so_far.events step.sent often
-                is_so (sym step.ends ∙ sym (same_ends ends e is))
+                is_so (sym step.ends ∙ sym (same_ok ends e is))
                 (λ e. anew e t ∙ ap (pause every) step.place) less
             sent_often-cases (one.short packet e n is step lt w) = absurd (not_fine ends _ is)
             sent_often-cases (one.none refusal other is same w) =

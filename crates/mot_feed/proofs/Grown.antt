@@ -1,8 +1,6 @@
 -- What was added to what is known.
-use Rattle.std.proofs.Common.{ℕ, List, [], ◌∷◌, ◌++◌, take, Option, Some, None}
+use Rattle.std.proofs.Common.{List, [], ◌++◌, Option, Some, None}
 use Rattle.std.proofs.Common.{sym, ap, ◌∙◌, subst, append_assoc, append-nil}
-use Rattle.mot_feed.specs.Writing.{GrowsPart, whole, short}
-use Rattle.mot_numbers.specs.declared.refusal.Refusal.{Refusal}
 use Rattle.mot_packets.specs.Outlet.{Grows}
 
 -- what is known goes on by nothing
@@ -23,15 +21,3 @@ grows_trans (Some x) (Some y) (Some z) xs ys p q =
 pub grows_kept : {A : Type 0} (a b c : Option (List A)) (xs : List A) → Grows a b xs
     → Grows b c [] → Grows a c xs
 grows_kept a b c xs p q = subst (Grows a c) (append-nil xs) (grows_trans a b c xs [] p q)
-
--- a part behind what was written
-pub part_after : (refusal : Refusal) (front packets : List (List ℕ))
-    (a b c : Option (List (List ℕ))) → Grows a b front → GrowsPart refusal packets b c
-    → GrowsPart refusal (front ++ packets) a c
-part_after refusal front packets a b c p (whole other q) =
-    whole other (grows_trans a b c front packets p q)
-part_after refusal front packets a b c p (short cut others last count is lt q) =
-    short cut (front ++ others) last count
-    (ap (λ l. front ++ l) is ∙ sym (append_assoc front others (last ∷ []))) lt
-    (subst (Grows a c) (sym (append_assoc front others (take count last ∷ [])))
-    (grows_trans a b c front (others ++ take count last ∷ []) p q))

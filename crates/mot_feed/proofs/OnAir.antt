@@ -4,7 +4,7 @@ use Rattle.std.proofs.Common.{Some, Result, Ok, Err, refl, sym, ap, subst, ◌<�
 use Rattle.std.proofs.lemmas.Bool.{and_parts}
 use Rattle.std.proofs.lemmas.Option.{none-some}
 use Rattle.std.specs.Prelude.{if◌then◌else◌}
-use Rattle.mot_feed.specs.Feeding.{Event, Happen, has_ended, sents_in}
+use Rattle.mot_feed.specs.Feeding.{Event, Happen, is_between_turns, sents_in}
 use Rattle.mot_feed.specs.Feeding.Event.{Accepted, Asked, Played}
 use Rattle.mot_feed.specs.OnAir.{ChangedTurnsOnAirRead, TurnsOnAirRead, asks, begins_turn, is_turn}
 use Rattle.mot_numbers.specs.Reading.{is_empty}
@@ -18,11 +18,11 @@ use Rattle.mot_player.specs.Followable.{IsFollowable}
 use Rattle.mot_player.specs.Laws.{IsPlace}
 use Rattle.mot_player.specs.Place.{Place, Step, Request, Directory, changed, hear_directory}
 use Rattle.mot_player.specs.Place.{opened_place, sent_by}
-use Rattle.mot_player.specs.Repeats.{ReadAsTurn, ReadsOnceAs, ask_directory, ends_at_last}
-use Rattle.mot_player.specs.Repeats.{keep_turn}
+use Rattle.mot_player.specs.Repeats.{ReadAsTurn, ReadsOnceAs, ends_at_last}
 use Rattle.mot_player.specs.Staying.{HasDirectory}
 use Rattle.mot_player.specs.Turn.{IsTurnOf, Turn, turn_of_carousel}
-use Rattle.mot_player.proofs.Laws.{IsApartTurn, IsFresh, apart-carousel, fresh-changed}
+use Rattle.mot_player.proofs.Laws.{IsApartTurn, IsFresh, apart-carousel, ask_directory, keep_turn}
+use Rattle.mot_player.proofs.Laws.{fresh-changed}
 use Rattle.mot_player.proofs.Laws.{fresh-heard, fresh-opened, fresh-place, fresh-reads}
 use Rattle.mot_player.proofs.Laws.{fresh-sent, has-directory}
 use Rattle.mot_player.proofs.Laws.{StandsAt, place-begins, plays-carousel, stands-changed}
@@ -201,7 +201,7 @@ record StandsFresh (follows ended : Bool) (size : ℕ) (c : Carousel) (place : P
 fresh-behind : (limit size : ℕ) (c last : Carousel) (place new : Place) (follows ended : Bool)
     (events : List Event) → limit ≤ MAX_OBJECTS → 0 < size → IsSound c →
     StandsFresh follows ended size c place → Happen limit size c place events last new →
-    has_ended ended events ≡ true → StandsFresh follows true size last new
+    is_between_turns ended events ≡ true → StandsFresh follows true size last new
 fresh-behind limit size c last place new follows ended [] few some sound st is ends =
     subst (λ (k : Carousel). StandsFresh follows true size k new) is.0
     (subst (StandsFresh follows true size c) is.1

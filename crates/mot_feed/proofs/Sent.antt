@@ -1,12 +1,9 @@
 -- Packets in a row.
-use Rattle.std.proofs.Common.{◌≡◌, ◌∙◌, ℕ, ◌<◌, Bool, List, [], ◌∷◌, length}
-use Rattle.std.proofs.Common.{Some, Result, Ok, Err, sym, ap, subst, arith}
-use Rattle.std.specs.Prelude.{◌≢◌, IsFalse, IsTrue}
+use Rattle.std.proofs.Common.{◌≡◌, ◌∙◌, ℕ, ◌<◌, List, [], ◌∷◌, length}
+use Rattle.std.proofs.Common.{Some, Result, Ok, Err, sym, ap, subst, arith, inl, inr}
+use Rattle.std.specs.Prelude.{◌≢◌}
 use Rattle.disk_model.specs.Disk.{State}
-use Rattle.disk_model.specs.Failures.{Rises}
-use Rattle.mot_feed.specs.Sending.{IsSendFault}
-use Rattle.mot_feed.specs.Sending as one
-use Rattle.mot_feed.specs.Writing as part
+use Rattle.mot_feed.specs.Feeding.{IsFeedFault}
 use Rattle.mot_journal.specs.Image.{Standing}
 use Rattle.mot_numbers.specs.declared.refusal.Refusal.{Refusal}
 use Rattle.mot_numbers.specs.declared.refusal.Refusal.TheVariants.{DeviceFault, Halted, OutOfMemory}
@@ -19,6 +16,7 @@ use Rattle.mot_server.specs.Playing.{IsReadRefusal}
 use Rattle.mot_server.specs.Playing as reading
 use Rattle.mot_update.specs.Faults.{StaysCalm, IsUpdateFault}
 use Rattle.mot_update.specs.Faults as update
+use Rattle.mot_update.proofs.Laws.{fault_on}
 
 abbrev IsFine : {T : Type 0} → Result T Refusal → Type 0
 IsFine (Ok x) = Unit {0}
@@ -27,10 +25,6 @@ IsFine (Err e) = ⊥
 -- what is Ok is no error
 pub not_fine : {T : Type 0} (x : T) (e : Refusal) → Ok x ≡ Err e → ⊥
 not_fine x e same = subst IsFine same tt
-
--- refusals that are one as results are one
-pub same_refusal : (a b : Refusal) → ◌≡◌ {A = Result Bool Refusal} (Err a) (Err b) → a ≡ b
-same_refusal a b e = cc
 
 -- a packet has some bytes
 pub some_bytes : (packet : List ℕ) (p : PacketFields) → read_packet packet ≡ Some p
@@ -51,10 +45,10 @@ module _ {D : Type 0} (state : D → State) where
   -- why a packet could not be made
   pub unread : (old new : ServerView D) (refusal : Refusal)
       → IsReadRefusal old new (state old.disk).failures (state new.disk).failures refusal
-      → IsSendFault old (state old.disk) (state new.disk) refusal
+      → IsFeedFault old (state old.disk) (state new.disk) refusal
   unread old new refusal (reading.halted is e same) =
-      one.halted is e (ap (λ (v : ServerView D). (state v.disk).failures) same)
-  unread old new refusal (reading.failed is e rises) = one.device is e rises
+      inl (update.halted is e (ap (λ (v : ServerView D). (state v.disk).failures) same))
+  unread old new refusal (reading.failed is e rises) = inl (update.device is e rises)
 
 -- which is none of writing
 pub not_written : {D : Type 0} (old new : ServerView D) (before now : ℕ) (refusal : Refusal)
@@ -81,21 +75,10 @@ sent_calm old new start now calm view =
     record { failures = calm; halted = ap (λ (v : RepositoryView). v.halted) view }
 
 -- a fault behind updates without one
-pub send_fault_behind : {D : Type 0} (old mid : ServerView D) (start between now : State)
-    (refusal : Refusal) → StaysCalm old mid start between → IsSendFault mid between now refusal
-    → IsSendFault old start now refusal
-send_fault_behind old mid start between now refusal calm (one.halted is e same) =
-    one.halted (subst IsTrue calm.halted is) e (same ∙ calm.failures)
-send_fault_behind old mid start between now refusal calm (one.device is e rises) =
-    one.device (subst IsFalse calm.halted is) e
-    (subst (λ n. Rises n now.failures) calm.failures rises)
-send_fault_behind old mid start between now refusal calm (one.unwritten e same) =
-    one.unwritten e (same ∙ calm.failures)
-
--- a fault behind packets that were sent without one
-pub send_fault_on : {D : Type 0} (old mid : ServerView D) (start between now : State)
-    (refusal : Refusal) → mid.view ≡ old.view → between.failures ≡ start.failures
-    → IsSendFault mid between now refusal → IsSendFault old start now refusal
-send_fault_on old mid start between now refusal view calm fault =
-    send_fault_behind old mid start between now refusal (sent_calm old mid start between calm view)
-    fault
+pub feed_fault_on : {D : Type 0} (old mid : ServerView D) (start between now : State)
+    (refusal : Refusal) → StaysCalm old mid start between → IsFeedFault mid between now refusal
+    → IsFeedFault old start now refusal
+feed_fault_on old mid start between now refusal calm (inl fault) =
+    inl (fault_on old mid start between now refusal calm fault)
+feed_fault_on old mid start between now refusal calm (inr unwritten) =
+    inr (unwritten.0, unwritten.1 ∙ calm.failures)

@@ -1,10 +1,8 @@
 -- What taking turns between updates and packets does.
 use Rattle.std.specs.Prelude.{ℕ, ◌≡◌, ◌≢◌, ◌==◌, ◌⊎◌, ◌+◌, ◌-◌, ◌<◌, nat_eq, nat_lt, Bool, true}
 use Rattle.std.specs.Prelude.{false, ◌&&◌, if◌then◌else◌, List, [], ◌∷◌, ◌++◌, length, map, Option}
-use Rattle.std.specs.Prelude.{Some, None}
+use Rattle.std.specs.Prelude.{Some, None, take}
 use Rattle.disk_model.specs.Disk.{State}
-use Rattle.mot_feed.specs.Sending.{IsSendFault}
-use Rattle.mot_feed.specs.Writing.{GrowsPart}
 use Rattle.mot_journal.specs.Image.{Standing}
 use Rattle.mot_numbers.specs.declared.refusal.Refusal.{Refusal}
 use Rattle.mot_numbers.specs.declared.refusal.Refusal.TheVariants.{WriteFault}
@@ -35,15 +33,13 @@ pub data Event : Type 0 where
 abbrev pub commands_among : List Event → List Command
 commands_among [] = []
 commands_among (Accepted command ∷ events) = command ∷ commands_among events
-commands_among (Asked ∷ events) = commands_among events
-commands_among (Played sent ∷ events) = commands_among events
+commands_among (event ∷ events) = commands_among events
 
 -- what was sent among these
 abbrev pub sents_in : List Event → List Sent
 sents_in [] = []
-sents_in (Accepted command ∷ events) = sents_in events
-sents_in (Asked ∷ events) = sents_in events
 sents_in (Played sent ∷ events) = sent ∷ sents_in events
+sents_in (event ∷ events) = sents_in events
 
 -- These happen, with so many objects at most and segments of this size, from a carousel and a place
 -- on, and lead to another: what is sent is what the player sends there, and each accepted command
@@ -59,11 +55,10 @@ Happen limit size c place (Asked ∷ events) last new =
     Happen limit size c (hear_directory place) events last new
 
 -- whether a turn has ended behind these, or none was begun
-abbrev pub has_ended : Bool → List Event → Bool
-has_ended ended [] = ended
-has_ended ended (Accepted command ∷ events) = has_ended ended events
-has_ended ended (Asked ∷ events) = has_ended ended events
-has_ended ended (Played sent ∷ events) = has_ended sent.ends_turn events
+abbrev pub is_between_turns : Bool → List Event → Bool
+is_between_turns ended [] = ended
+is_between_turns ended (Played sent ∷ events) = is_between_turns sent.ends_turn events
+is_between_turns ended (event ∷ events) = is_between_turns ended events
 
 -- where an update comes: between turns; or within one, where a look may come, if it is to and no
 -- more packets of the rest go out before it
@@ -82,64 +77,69 @@ left_behind look ended left sent =
 -- the same behind what happened
 abbrev pub left_after : ℕ → Bool → ℕ → List Event → ℕ
 left_after look ended left [] = left
-left_after look ended left (Accepted command ∷ events) = left_after look ended left events
-left_after look ended left (Asked ∷ events) = left_after look ended left events
 left_after look ended left (Played sent ∷ events) =
     left_after look sent.ends_turn (left_behind look ended left sent) events
+left_after look ended left (event ∷ events) = left_after look ended left events
 
 -- where an update comes behind these
 abbrev pub moment_behind : ℕ → List Event → Moment
-moment_behind look events = moment_at look (has_ended true events) (left_after look true 0 events)
+moment_behind look events =
+    moment_at look (is_between_turns true events) (left_after look true 0 events)
 
--- behind what feeding stands: a packet, or nothing yet; a call of the update; or one that this
--- fault broke off
+-- behind what feeding stands: a packet, or nothing yet; or a call of the update, which this fault
+-- broke off, or none
 pub data Stage : Type 0 where
   Ready : Stage
-  Called : Stage
-  Broken : Refusal → Stage
+  Called : Option Refusal → Stage
 
-abbrev pub behind_call : Option Refusal → Stage
-behind_call None = Called
-behind_call (Some fault) = Broken fault
+-- what broke off the commands
+abbrev pub fault_at : Stage → Option Refusal
+fault_at Ready = None
+fault_at (Called fault) = fault
 
--- What an update tells of these events. It was called once in front of each packet, and nowhere
--- else. The commands among them are those of its calls, each of which found the carousel that
--- those before it had made.
+-- What an update tells of these events, and of these commands with their marks. It was called once
+-- in front of each packet, and nowhere else. The commands are those of its calls, one call behind
+-- the other: each that a fault did not break off had all of its commands answered, and found the
+-- carousel that those before it had made. The accepted ones are among the events.
 pub data AreTold {U : Type 0} (tells : U → U → Moment → Telling) (look limit : ℕ) (old : U)
-    (c : Carousel) : Stage → List Event → U → Carousel → Type 0 where
-  no_call : AreTold tells look limit old c Ready [] old c
-  one_call : (events : List Event) (mid new : U) (found next : Carousel)
-      (commands : List Command) (marks : List Bool) (fault : Option Refusal)
-      → AreTold tells look limit old c Ready events mid found
+    (c : Carousel) : Stage → List Event → List Command → List Bool → U → Carousel → Type 0 where
+  no_call : AreTold tells look limit old c Ready [] [] [] old c
+  one_call : (events : List Event) (earlier commands : List Command)
+      (earlier_marks marks : List Bool) (mid new : U) (found next : Carousel)
+      (fault : Option Refusal)
+      → AreTold tells look limit old c Ready events earlier earlier_marks mid found
       → tells mid new (moment_behind look events) found commands marks fault
+      → (fault ≡ None → length marks ≡ length commands)
       → carousel_after found limit (accepted_commands commands marks) ≡ Some next
-      → AreTold tells look limit old c (behind_call fault)
-      (events ++ map Accepted (accepted_commands commands marks)) new next
-  one_asked : (events : List Event) (mid : U) (found : Carousel)
-      → AreTold tells look limit old c Called events mid found
-      → AreTold tells look limit old c Called (events ++ Asked ∷ []) mid found
-  one_played : (events : List Event) (sent : Sent) (mid : U) (found : Carousel)
-      → AreTold tells look limit old c Called events mid found
-      → AreTold tells look limit old c Ready (events ++ Played sent ∷ []) mid found
+      → AreTold tells look limit old c (Called fault)
+      (events ++ map Accepted (accepted_commands commands marks)) (earlier ++ commands)
+      (earlier_marks ++ marks) new next
+  one_asked : (events : List Event) (commands : List Command) (marks : List Bool) (mid : U)
+      (found : Carousel)
+      → AreTold tells look limit old c (Called None) events commands marks mid found
+      → AreTold tells look limit old c (Called None) (events ++ Asked ∷ []) commands marks mid
+      found
+  one_played : (events : List Event) (sent : Sent) (commands : List Command) (marks : List Bool)
+      (mid : U) (found : Carousel)
+      → AreTold tells look limit old c (Called None) events commands marks mid found
+      → AreTold tells look limit old c Ready (events ++ Played sent ∷ []) commands marks mid found
 
 -- how many turns end in these
 abbrev pub turns_in : List Event → ℕ
 turns_in [] = 0
-turns_in (Accepted command ∷ events) = turns_in events
-turns_in (Asked ∷ events) = turns_in events
 turns_in (Played sent ∷ events) = (if sent.ends_turn then 1 else 0) + turns_in events
+turns_in (event ∷ events) = turns_in events
 
 -- these packets are what was sent
 pub record AreOf (events : List Event) (packets : List (List ℕ)) : Type 0 where
   pub bytes : packets ≡ packets_sent (sents_in events)
   pub read : AreSent (sents_in events) packets
 
--- Commands were run, and what they leave is told as of one run of them all; and packets were sent
--- between them.
+-- These commands were run, and what they leave is told as of one run of them all; and packets were
+-- sent between them.
 pub record HasFed {D : Type 0} (old new : ServerView D) (start now : State) (s : Standing)
-    (fault : Option Refusal) (events : List Event) : Type 0 where
-  pub commands : List Command
-  pub marks : List Bool
+    (commands : List Command) (marks : List Bool) (fault : Option Refusal) (events : List Event) :
+    Type 0 where
   pub leaves : RunLeaves old.view new.view start now s commands marks fault
   pub whole : fault ≡ None → length marks ≡ length commands
   pub layout : new.view.journal.layout ≡ old.view.journal.layout
@@ -147,49 +147,46 @@ pub record HasFed {D : Type 0} (old new : ServerView D) (start now : State) (s :
   pub happened : Happen s.geometry.objects s.geometry.segment_size s.carousel (place_in old s)
       events leaves.last.carousel (place_in new leaves.last)
 
--- In these, before and after are the writes of an outlet, as far as they are known, and the update
--- was the first and is the last.
+-- In these, before and after are the writes of an outlet, as far as they are known.
 
--- So many turns were fed; or else so many packets that their number fits no word of 64 bits.
-pub record Feeds {D U : Type 0} (tells : U → U → Moment → Telling) (look : ℕ) (first last : U)
-    (old new : ServerView D) (start now : State) (s : Standing) (turns : ℕ)
-    (before after : Option (List (List ℕ))) : Type 0 where
-  pub events : List Event
-  pub fed : HasFed old new start now s None events
-  pub packets : List (List ℕ)
-  pub are : AreOf events packets
-  pub written : Grows before after packets
-  pub told : AreTold tells look s.geometry.objects first s.carousel Ready events last
-      fed.leaves.last.carousel
-  pub ended : ((turns_in events ≡ turns) × (has_ended true events ≡ true))
-      ⊎ (length packets ≡ 18446744073709551615)
+-- How feeding ended, by this refusal or by none, and where: so many turns have ended, or so many
+-- packets were sent that their number fits no word of 64 bits; or the refusal came of a call, which
+-- it broke off, of a packet behind a call, or of the write of the last packet, which took less than
+-- the whole. Each other packet was written in one write.
+pub data EndsFeed (turns : ℕ) (events : List Event) (packets : List (List ℕ))
+    (before after : Option (List (List ℕ))) : (ending : Option Refusal) → Stage → Type 0 where
+  all_turns : turns_in events ≡ turns → is_between_turns true events ≡ true
+      → Grows before after packets → EndsFeed turns events packets before after None Ready
+  all_numbers : length packets ≡ 18446744073709551615 → Grows before after packets
+      → EndsFeed turns events packets before after None Ready
+  of_call : (refusal : Refusal) → refusal ≢ WriteFault → Grows before after packets
+      → EndsFeed turns events packets before after (Some refusal) (Called (Some refusal))
+  of_packet : (refusal : Refusal) → refusal ≢ WriteFault → Grows before after packets
+      → EndsFeed turns events packets before after (Some refusal) (Called None)
+  of_write : (others : List (List ℕ)) (last : List ℕ) (count : ℕ) → packets ≡ others ++ last ∷ []
+      → count < length last → Grows before after (others ++ take count last ∷ [])
+      → EndsFeed turns events packets before after (Some WriteFault) Ready
 
--- where this refusal came: of a call, which it broke off; of a packet, behind a call; or of a write,
--- behind a packet
-pub data ComesAt (refusal : Refusal) : (fault : Option Refusal) → Stage → Type 0 where
-  of_call : refusal ≢ WriteFault → ComesAt refusal (Some refusal) (Broken refusal)
-  of_packet : refusal ≢ WriteFault → ComesAt refusal None Called
-  of_write : refusal ≡ WriteFault → ComesAt refusal None Ready
-
--- This refusal came of an update, of a packet or of writing it: then no command was in flight.
-pub record FeedsPart {D U : Type 0} (tells : U → U → Moment → Telling) (look : ℕ)
-    (refusal : Refusal) (first last : U) (old new : ServerView D)
-    (start now : State) (s : Standing) (before after : Option (List (List ℕ))) : Type 0 where
-  pub fault : Option Refusal
+-- Turns were fed, so many if nothing ended feeding before. All commands that were run are those of
+-- the calls of the update, which was the first and is the last.
+pub record Feeds {D U : Type 0} (tells : U → U → Moment → Telling) (look turns : ℕ)
+    (ending : Option Refusal) (first last : U) (old new : ServerView D) (start now : State)
+    (s : Standing) (before after : Option (List (List ℕ))) : Type 0 where
   pub stage : Stage
-  pub comes : ComesAt refusal fault stage
   pub events : List Event
-  pub fed : HasFed old new start now s fault events
+  pub commands : List Command
+  pub marks : List Bool
+  pub fed : HasFed old new start now s commands marks (fault_at stage) events
+  pub told : AreTold tells look s.geometry.objects first s.carousel stage events commands marks
+      last fed.leaves.last.carousel
   pub packets : List (List ℕ)
   pub are : AreOf events packets
-  pub written : GrowsPart refusal packets before after
-  pub told : AreTold tells look s.geometry.objects first s.carousel stage events last
-      fed.leaves.last.carousel
+  pub ends : EndsFeed turns events packets before after ending stage
 
--- why feeding ended, on every disk: an update, a packet or a write did
+-- why feeding ended, on every disk: as an update does, or since a write failed
 abbrev pub IsFeedFault : {D : Type 0} → ServerView D → (start now : State) → Refusal → Type 0
-IsFeedFault old start now refusal =
-    IsUpdateFault old start now refusal ⊎ IsSendFault old start now refusal
+IsFeedFault old start now refusal = IsUpdateFault old start now refusal
+    ⊎ ((refusal ≡ WriteFault) × (now.failures ≡ start.failures))
 
 -- Of a server just opened, whether it follows or not, all packets have their continuity indexes,
 -- whatever updates come between them.

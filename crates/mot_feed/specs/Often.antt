@@ -2,14 +2,9 @@
 use Rattle.std.specs.Prelude.{◌≡◌, ◌==◌, ℕ, ◌*◌, ◌-◌, max, nat_eq, Bool, true, false, not, ◌||◌}
 use Rattle.std.specs.Prelude.{◌&&◌, if◌then◌else◌}
 use Rattle.std.specs.Prelude.{List, [], ◌∷◌, Option, Some, None}
-use Rattle.disk_model.specs.Disk.{State}
-use Rattle.mot_feed.specs.Feeding.{Accepted, Asked, Event, Feeds, FeedsPart, Played}
-use Rattle.mot_journal.specs.Image.{Standing}
-use Rattle.mot_numbers.specs.declared.refusal.Refusal.{Refusal}
+use Rattle.mot_feed.specs.Feeding.{Accepted, Asked, Event, Played}
 use Rattle.mot_player.specs.Place.{Place, directory_packets}
 use Rattle.mot_server.specs.Server.{ServerView}
-use Rattle.mot_update.specs.Between.{Telling}
-use Rattle.mot_update.specs.declared.moment.Moment.{Moment}
 
 -- how many packets go out before the directory is asked for again, at least ten times those that it
 -- takes itself
@@ -38,20 +33,6 @@ is_often every ended (Some left) (Played sent ∷ events) =
 -- it is asked for before the first packet, and then often, and no oftener
 abbrev pub IsOften : ℕ → List Event → Type 0
 IsOften every events = is_often every true (Some 0) events ≡ true
-
--- turns were fed, and the directory was asked for often
-pub record FeedsOften {D U : Type 0} (every : ℕ) (tells : U → U → Moment → Telling) (look : ℕ)
-    (first last : U) (old new : ServerView D) (start now : State) (s : Standing) (turns : ℕ)
-    (before after : Option (List (List ℕ))) : Type 0 where
-  pub feeds : Feeds tells look first last old new start now s turns before after
-  pub often : IsOften every feeds.events
-
--- this refusal came, and up to it the directory was asked for often
-pub record FeedsPartOften {D U : Type 0} (every : ℕ) (tells : U → U → Moment → Telling)
-    (look : ℕ) (refusal : Refusal) (first last : U) (old new : ServerView D) (start now : State)
-    (s : Standing) (before after : Option (List (List ℕ))) : Type 0 where
-  pub feeds : FeedsPart tells look refusal first last old new start now s before after
-  pub often : IsOften every feeds.events
 
 -- after how many packets a look may come within a turn, where the directory is sent again after so
 -- many: where that is 0, changes begin the turn anew, and looks come between turns

@@ -1,7 +1,8 @@
 -- What a server that is fed from has on air, turn by turn.
 use Rattle.std.specs.Prelude.{◌≡◌, ℕ, Bool, true, false, not, ◌&&◌, ◌||◌, ◌<◌, ◌≤◌, if◌then◌else◌}
 use Rattle.std.specs.Prelude.{List, [], ◌∷◌}
-use Rattle.mot_feed.specs.Feeding.{Accepted, AreOf, Asked, Event, Happen, Played, has_ended}
+use Rattle.mot_feed.specs.Feeding.{Accepted, AreOf, Asked, Event, Happen, Played}
+use Rattle.mot_feed.specs.Feeding.{is_between_turns}
 use Rattle.mot_numbers.specs.Reading.{is_empty}
 use Rattle.mot_numbers.specs.declared.geometry.TheConstants.{MAX_OBJECTS}
 use Rattle.mot_numbers.specs.declared.numbers.TheConstants.{MAX_SEGMENT, MIN_SEGMENT}
@@ -33,9 +34,8 @@ is_turn (Played sent ∷ events) = if sent.ends_turn then is_empty events else i
 -- the directory is asked for among these
 abbrev pub asks : List Event → Bool
 asks [] = false
-asks (Accepted command ∷ events) = asks events
 asks (Asked ∷ events) = true
-asks (Played sent ∷ events) = asks events
+asks (event ∷ events) = asks events
 
 -- Of a server just opened, whether it follows or not, each whole turn on air reads as exactly the
 -- carousel that stands there, if that keeps the rules of its fields: of each segment that is sent
@@ -63,6 +63,6 @@ ChangedTurnsOnAirRead =
     → Happen limit size c
     (record (opened_place address room size (turn_of_carousel c size)) { follows = follows })
     before now place
-    → has_ended true before ≡ true → AllKeepRules now
+    → is_between_turns true before ≡ true → AllKeepRules now
     → Happen limit size now place during last new → is_turn during ≡ true
     → AreOf during packets → ReadsOnceAs packets now size

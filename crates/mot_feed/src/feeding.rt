@@ -1,11 +1,10 @@
 //! Taking turns between updating the carousel and sending its packets.
 ghost use Rattle.std.specs.Prelude.{◌≡◌, IfErr, OnOk};
 ghost use Rattle.disk_model.specs.Disk.{KeepsLength};
-ghost use Rattle.mot_feed.specs.Feeding.{FedPacketsAreContinuous, Feeds, FeedsPart, IsFeedFault};
-ghost use Rattle.mot_feed.specs.Feeding.{moment_at};
-ghost use Rattle.mot_feed.specs.OnAir.{ChangedTurnsOnAirRead, TurnsOnAirRead};
+ghost use Rattle.mot_feed.specs.Feeding.{Feeds, IsFeedFault, moment_at};
 ghost use Rattle.mot_journal.specs.Image.{Standing};
 ghost use Rattle.mot_repository.specs.Repository.{Holds};
+ghost use Rattle.mot_server.specs.Attempts.{fault_of};
 ghost use Rattle.mot_update.specs.Faults.{StaysCalm};
 
 use crate::Outlet;
@@ -16,8 +15,8 @@ use mot_server::Server;
 use mot_update::{Moment, Update};
 use std::alloc::Global;
 
-/// Sends packets, each in one write, with updates before the first and after each, until so many
-/// turns have ended; `u64::MAX` turns are practically endless. The errors are those of the updates
+/// Sends packets, each in one write, with a call of the update before each, until so many turns
+/// have ended; `u64::MAX` turns are practically endless. The errors are those of the updates
 /// and of `Server::next_packet`, and `WriteFault`, if the outlet failed or took less than a packet.
 pub fn feed<D: Disk, O: Outlet, U: Update>(
     server: &mut Server<D>,
@@ -33,17 +32,9 @@ pub fn feed<D: Disk, O: Outlet, U: Update>(
         (D.state server.old.disk) (D.state server.new.disk) refusal) }
     ensures fed { (s : Standing) → Holds server.old.view s (D.state server.old.disk)
         → (D.state server.new.disk).IsHonest
-        → OnOk result (Feeds U.tells 0 update.old update.new server.old server.new
-        (D.state server.old.disk) (D.state server.new.disk) s turns
-        (O.writes outlet.old) (O.writes outlet.new)) }
-    ensures part { (s : Standing) → Holds server.old.view s (D.state server.old.disk)
-        → (D.state server.new.disk).IsHonest
-        → IfErr result (λ refusal. FeedsPart U.tells 0 refusal update.old update.new
-        server.old server.new (D.state server.old.disk) (D.state server.new.disk) s
-        (O.writes outlet.old) (O.writes outlet.new)) }
-    ensures continuous { FedPacketsAreContinuous }
-    ensures turns_read { TurnsOnAirRead }
-    ensures changed_turns_read { ChangedTurnsOnAirRead }
+        → Feeds U.tells 0 turns (fault_of result) update.old update.new server.old server.new
+        (D.state server.old.disk) (D.state server.new.disk) s
+        (O.writes outlet.old) (O.writes outlet.new) }
 {
     let mut left = turns;
     let mut between_turns = true;

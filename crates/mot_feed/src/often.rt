@@ -1,12 +1,13 @@
 //! Feeding with the directory often, changes next, and looks within a turn.
 ghost use Rattle.std.specs.Prelude.{◌≡◌, ◌==◌, ◌-◌, ◌<◌, if◌then◌else◌, IfErr, OnOk};
 ghost use Rattle.disk_model.specs.Disk.{KeepsLength};
-ghost use Rattle.mot_feed.specs.Feeding.{FedPacketsAreContinuous, Feeds, FeedsPart, IsFeedFault};
-ghost use Rattle.mot_feed.specs.Often.{FeedsOften, FeedsPartOften, look_in, pause, server_for};
+ghost use Rattle.mot_feed.specs.Feeding.{FedPacketsAreContinuous, Feeds, IsFeedFault};
+ghost use Rattle.mot_feed.specs.Often.{IsOften, look_in, pause, server_for};
 ghost use Rattle.mot_feed.specs.OnAir.{ChangedTurnsOnAirRead, TurnsOnAirRead};
 ghost use Rattle.mot_journal.specs.Image.{Standing};
 ghost use Rattle.mot_player.specs.Place.{hear_directory};
 ghost use Rattle.mot_repository.specs.Repository.{Agrees, Holds};
+ghost use Rattle.mot_server.specs.Attempts.{fault_of};
 ghost use Rattle.mot_server.specs.Server.{following_server, place_in};
 ghost use Rattle.mot_update.specs.Faults.{StaysCalm};
 
@@ -44,19 +45,11 @@ pub fn feed_often<D: Disk, O: Outlet, U: Update>(
         (D.state server.old.disk) (D.state server.new.disk) refusal) }
     ensures fed { (s : Standing) → Holds server.old.view s (D.state server.old.disk)
         → (D.state server.new.disk).IsHonest
-        → OnOk result (FeedsOften every U.tells look update.old update.new
+        → (feeds : Feeds U.tells look turns (fault_of result) update.old update.new
         (following_server server.old) server.new
-        (D.state server.old.disk) (D.state server.new.disk) s turns
-        (O.writes outlet.old) (O.writes outlet.new)) }
-    ensures part { (s : Standing) → Holds server.old.view s (D.state server.old.disk)
-        → (D.state server.new.disk).IsHonest
-        → IfErr result (λ refusal. FeedsPartOften every U.tells look refusal
-        update.old update.new (following_server server.old) server.new
         (D.state server.old.disk) (D.state server.new.disk) s
-        (O.writes outlet.old) (O.writes outlet.new)) }
-    ensures continuous { FedPacketsAreContinuous }
-    ensures turns_read { TurnsOnAirRead }
-    ensures changed_turns_read { ChangedTurnsOnAirRead }
+        (O.writes outlet.old) (O.writes outlet.new))
+        × IsOften every feeds.events }
 {
     server.follow_changes();
     let mut left = turns;
@@ -98,27 +91,16 @@ pub fn feed_every<D: Disk, O: Outlet, U: Update>(
         (D.state server.old.disk) (D.state server.new.disk) refusal) }
     ensures fed { (s : Standing) → Holds server.old.view s (D.state server.old.disk)
         → (D.state server.new.disk).IsHonest
-        → OnOk result (Feeds U.tells (look_in every look) update.old update.new
-        (server_for every server.old) server.new
-        (D.state server.old.disk) (D.state server.new.disk) s turns
-        (O.writes outlet.old) (O.writes outlet.new)) }
-    ensures part { (s : Standing) → Holds server.old.view s (D.state server.old.disk)
-        → (D.state server.new.disk).IsHonest
-        → IfErr result (λ refusal. FeedsPart U.tells (look_in every look) refusal
+        → (feeds : Feeds U.tells (look_in every look) turns (fault_of result)
         update.old update.new (server_for every server.old) server.new
         (D.state server.old.disk) (D.state server.new.disk) s
-        (O.writes outlet.old) (O.writes outlet.new)) }
+        (O.writes outlet.old) (O.writes outlet.new))
+        × (0 < every → IsOften every feeds.events) }
+
+    // Laws of what happens in any feed.
     ensures continuous { FedPacketsAreContinuous }
     ensures turns_read { TurnsOnAirRead }
     ensures changed_turns_read { ChangedTurnsOnAirRead }
-
-    // The directory is asked for often, and changes are followed, if it is to be.
-    ensures often { (s : Standing) → Holds server.old.view s (D.state server.old.disk)
-        → (D.state server.new.disk).IsHonest → 0 < every
-        → OnOk result (FeedsOften every U.tells look update.old update.new
-        (following_server server.old) server.new
-        (D.state server.old.disk) (D.state server.new.disk) s turns
-        (O.writes outlet.old) (O.writes outlet.new)) }
 {
     if every == 0 {
         return feed(server, alloc, update, outlet, turns);

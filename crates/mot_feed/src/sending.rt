@@ -1,7 +1,8 @@
 //! A packet, in one write.
 ghost use Rattle.std.specs.Prelude.{◌≡◌, IfErr, OnOk};
 ghost use Rattle.disk_model.specs.Disk.{OnlyReads};
-ghost use Rattle.mot_feed.specs.Sending.{IsSendFault, SendsPacket};
+ghost use Rattle.mot_feed.specs.Feeding.{IsFeedFault};
+ghost use Rattle.mot_feed.specs.Sending.{SendsPacket};
 ghost use Rattle.mot_journal.specs.Image.{Standing};
 ghost use Rattle.mot_repository.specs.Repository.{Holds};
 ghost use Rattle.mot_server.specs.Server.{place_in};
@@ -23,7 +24,7 @@ pub(crate) fn send_one<D: Disk, O: Outlet>(
     ensures only_reads { OnlyReads (D.state server.old.disk) (D.state server.new.disk) }
     ensures calm { OnOk result
         ((D.state server.new.disk).failures ≡ (D.state server.old.disk).failures) }
-    ensures fault { IfErr result (λ refusal. IsSendFault server.old
+    ensures fault { IfErr result (λ refusal. IsFeedFault server.old
         (D.state server.old.disk) (D.state server.new.disk) refusal) }
     ensures view { server.new.view ≡ server.old.view }
     ensures sent { (s : Standing) → Holds server.old.view s (D.state server.old.disk)

@@ -2,6 +2,8 @@
 use Rattle.std.proofs.Common.{◌≡◌, inl, inr, ℕ, Bool, true, false, List, [], Option}
 use Rattle.std.proofs.Common.{◌∷◌, None, Result, Ok, Err, refl, sym, ap, subst, ◌∙◌}
 use Rattle.std.specs.Prelude.{if◌then◌else◌}
+use Rattle.std.specs.Io.KnownBytes.{Keeps}
+use Rattle.std.proofs.KnownBytes.{Appends-kept}
 use Rattle.disk_model.specs.Disk.{State, IsHonestDisk}
 use Rattle.disk_model.proofs.Laws.{unchanged_none}
 use Rattle.mot_feed_lines.specs.Answering.{asked_here, is_want_of_memory, run_of}
@@ -20,15 +22,31 @@ use Rattle.mot_server.specs.Server.{ServerView}
 use Rattle.mot_session.specs.Life.{is_done}
 use Rattle.mot_session.specs.OnAnyDisk.{AnswersAnyhow, read_only}
 use Rattle.mot_session.specs.OnAnyDisk as anyhow
+use Rattle.mot_session.specs.Output.{Writes}
+use Rattle.mot_session.specs.Served.{WritesFront}
 use Rattle.mot_session.specs.Session.{NeedsCarousel}
 use Rattle.mot_session.specs.Stored.{command_in}
-use Rattle.mot_session.proofs.Laws.{answers-parsed}
+use Rattle.mot_session.proofs.Laws.{WritesFront-all, answers-parsed}
 use Rattle.mot_update.specs.HasRun.{HasRun}
 use Rattle.mot_update.proofs.Laws.{has_read}
 
 -- false is not true
 pub never : false ≡ true → ⊥
 never e = absurd (cc)
+
+-- ---- what was written
+
+-- whatever came of writing, some first bytes were written, and stay so
+pub front_of : {T E : Type 0} (r : Result T E) (bytes : List ℕ) (old mid new : Option (List ℕ))
+    → Writes r bytes old mid → Keeps mid new → WritesFront bytes old new
+front_of (Ok done) bytes old mid new whole keeps =
+    WritesFront-all bytes old new (Appends-kept old mid new bytes whole keeps)
+front_of (Err fault) bytes old mid new front keeps = record {
+  written = front.written;
+  unwritten = front.unwritten;
+  split = front.split;
+  appended = Appends-kept old mid new front.written front.appended keeps;
+}
 
 -- ---- a request that is shown
 

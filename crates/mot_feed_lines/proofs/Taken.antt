@@ -25,6 +25,8 @@ use Rattle.mot_server.specs.Runs.{accepted_commands}
 use Rattle.mot_server.specs.Server.{ServerView}
 use Rattle.mot_session.specs.Life.{Told, commands_done, done_in, is_done}
 use Rattle.mot_session.specs.OnAnyDisk.{AnswersAnyhow}
+use Rattle.mot_session.specs.Served.{WritesFront}
+use Rattle.mot_session.proofs.Laws.{WritesFront-after}
 use Rattle.mot_session.specs.Stored.{command_in}
 use Rattle.mot_update.specs.HasRun.{HasRun}
 use Rattle.mot_update.proofs.Laws.{has_read, join}
@@ -88,19 +90,26 @@ done_here line text =
     ap (λ l. if is_done text then l else []) (same_command (line_of line))
 
 module _ {D : Type 0} (state : D → State) where
-  replies-push : (old mid new : ServerView D) (told : List Told) (t : Told)
-      → AreReplies state old told mid
+  replies-push : (old mid new : ServerView D) (written so_far now : Option (List ℕ))
+      (told : List Told) (t : Told) → AreReplies state old written told mid so_far
       → AnswersAnyhow mid.view new.view (state mid.disk).failures (state new.disk).failures
-      (asked_here (line_of t.line)) t.text
-      → AreReplies state old (told ++ t ∷ []) new
-  replies-push old mid new [] t same reply = (
+      (asked_here (line_of t.line)) t.text → WritesFront t.text so_far now
+      → AreReplies state old written (told ++ t ∷ []) new now
+  replies-push old mid new written so_far now [] t none reply front = (
     new,
+    now,
     subst (λ (v : ServerView D). AnswersAnyhow v.view new.view (state v.disk).failures
-        (state new.disk).failures (asked_here (line_of t.line)) t.text) same reply,
-    refl,
+        (state new.disk).failures (asked_here (line_of t.line)) t.text) none.0 reply,
+    WritesFront-after [] t.text written so_far now none.1 front,
+    (refl, Appends-nil now),
   )
-  replies-push old mid new (first ∷ told) t replies reply =
-      (replies.0, replies.1, replies-push replies.0 mid new told t replies.2 reply)
+  replies-push old mid new written so_far now (first ∷ told) t replies reply front = (
+    replies.0,
+    replies.1,
+    replies.2,
+    replies.3,
+    replies-push replies.0 mid new replies.1 so_far now told t replies.4 reply front,
+  )
 
   -- no line has ended
   pub more_none : (server : ServerView D) (before after : List ℕ) (is_told : Bool)
@@ -115,7 +124,7 @@ module _ {D : Type 0} (state : D → State) where
           ∙ sym (append-nil (whole_lines before ++ []));
       whole = λ e. refl;
     };
-    replies = refl;
+    replies = (refl, Appends-nil known);
     run = λ s holds honest. (
       [],
       refl,
@@ -167,7 +176,8 @@ module _ {D : Type 0} (state : D → State) where
               ∙ lines-push (whole_lines before) extra more.told t;
           whole = none;
         };
-        replies = replies-push old mid new more.told t more.replies one.reply;
+        replies = replies-push old mid new written between now more.told t more.replies one.reply
+            one.log.0;
         run = λ s holds honest.
             let first = more.run s holds (was honest) in
             let second = one.run first.2.leaves.last (first.2.leaves.going refl) honest in (
@@ -185,7 +195,7 @@ module _ {D : Type 0} (state : D → State) where
                   (commands_run more.told) (run_in t) first.0 second.0 fault first.2 second.2),
             );
         log = λ e.
-            let last = one.log e in
+            let last = one.log.1 e in
             let first = more.log last.0 in (
               first.0,
               subst (Appends written now) (sym (flat_map-push text more.told t))

@@ -21,6 +21,7 @@ use Rattle.mot_server.specs.Runs.{accepted_commands}
 use Rattle.mot_server.specs.Server.{ServerView}
 use Rattle.mot_session.specs.Life.{Told, commands_done}
 use Rattle.mot_session.specs.OnAnyDisk.{AnswersAnyhow, read_only}
+use Rattle.mot_session.specs.Served.{WritesFront}
 use Rattle.mot_session.specs.Stored.{command_in}
 use Rattle.mot_session.specs.declared.serving.TheConstants.{READ_SIZE}
 use Rattle.mot_update.specs.Between.{IsUpdating, Telling}
@@ -115,23 +116,25 @@ TellsOnTime between then_between left then_left hand then_hand earlier later oth
     × TellsInTurn between left then_left hand then_hand earlier later other c commands marks fault
 
 module _ {D : Type 0} (state : D → State) where
-  -- one after the other each reply is, on every disk, right for what the server kept in memory
-  abbrev pub AreReplies : ServerView D → List Told → ServerView D → Type 0
-  AreReplies old [] new = new ≡ old
-  AreReplies old (t ∷ told) new =
-      (mid : ServerView D)
+  -- one after the other each reply is, on every disk, right for what the server kept in memory, and
+  -- it was written, or some first bytes of it
+  abbrev pub AreReplies : (old : ServerView D) (written : Option (List ℕ)) → List Told
+      → (new : ServerView D) (now : Option (List ℕ)) → Type 0
+  AreReplies old written [] new now = (new ≡ old) × Appends written now []
+  AreReplies old written (t ∷ told) new now =
+      (mid : ServerView D) × (so_far : Option (List ℕ))
       × AnswersAnyhow old.view mid.view (state old.disk).failures (state mid.disk).failures
       (asked_here (line_of t.line)) t.text
-      × AreReplies mid told new
+      × WritesFront t.text written so_far × AreReplies mid so_far told new now
 
   -- Of an input that was taken before, each line that has ended since was answered, up to a fault;
   -- their commands were run, of which those were accepted whose replies say so; and, where each
-  -- reply was told, the log has them.
+  -- reply was told, the log has them whole.
   pub record AnswersMore (old new : ServerView D) (before after : List ℕ) (fault : Option Refusal)
       (was_told is_told : Bool) (written now : Option (List ℕ)) : Type 0 where
     pub told : List Told
     pub ended : HaveEnded before after told fault
-    pub replies : AreReplies old told new
+    pub replies : AreReplies old written told new now
     pub run : (s : Standing) → Holds old.view s (state old.disk) → (state new.disk).IsHonest
         → (marks : List Bool)
         × (accepted_commands (commands_run told) marks ≡ commands_done told)

@@ -20,9 +20,9 @@ use mot_update::{Moment, Update};
 use std::alloc::Global;
 use std::io::Write;
 
-/// Answers lines between packets: before the first packet and after every so many it answers what
-/// there is of the reader, in one read, as `answer_there` does. Before each packet another update
-/// is called first.
+/// Answers lines between packets: at its first call, before the first packet, and then at one call
+/// of every so many it answers what there is of the inlet, in one read, as `answer_there` does. At
+/// each call another update is called first.
 #[derive(Drop)]
 pub struct Lines<R: Inlet + Drop, W: Write + Drop, U: Update + Drop> {
     /// What gives the lines.
@@ -91,7 +91,7 @@ impl<R: Inlet + Drop, W: Write + Drop, U: Update + Drop> Update for Lines<R, W, 
             × OnOk result (self.new.left ≡ self.old.left - 1) }
         ensures reads { self.old.left ≡ 0 → OnOk result (self.new.left ≡ self.old.between) }
 
-        // What the reader gave was answered, and nothing else was.
+        // What the inlet gave was answered, and nothing else was.
         ensures lines { (input : List ℕ) → self.old.hand ≡ bytes_in_hand (rest_of input)
             → TakesBetween D.state (U.tells self.old.update self.new.update moment)
             server.old server.new input

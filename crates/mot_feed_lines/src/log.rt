@@ -7,7 +7,7 @@ use disk_model::Disk;
 use mot_lines::Line;
 use mot_numbers::Refusal;
 use mot_server::Server;
-use mot_session::answer_reading;
+use mot_session::{answer_reading, write_whole};
 use std::alloc::Global;
 use std::io::Write;
 
@@ -21,12 +21,12 @@ pub struct Log<W: Write + Drop> {
 }
 
 impl<W: Write + Drop> Log<W> {
-    /// Writes a reply, and flushes.
+    /// Writes a reply, and flushes. If the writer fails, some first bytes of it were written.
     pub(crate) fn tell(&mut self, text: &[u8])
         ensures told { TellsThere self.old.is_told self.new.is_told
             (W.contents self.old.writer) (W.contents self.new.writer) text.now }
     {
-        if self.writer.write_all(text).is_err() || self.writer.flush().is_err() {
+        if write_whole(&mut self.writer, text).is_err() || self.writer.flush().is_err() {
             self.is_told = false;
         }
     }

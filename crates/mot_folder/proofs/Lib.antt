@@ -1,5 +1,7 @@
 pub mod Cut
+pub mod Laws
 pub mod Log
+pub mod Nameless
 pub mod Order
 pub mod Rows
 pub mod Seen

@@ -11,8 +11,8 @@ use Rattle.std.proofs.lemmas.Cmp.{same_from_slice_cmp_tested}
 use Rattle.std.specs.Cmp.Lexicographic.{slice_partial_cmp}
 use Rattle.std.specs.List.{insert}
 use Rattle.std.specs.Ordering.{is_lt, is_some_and, nat_cmp}
-use Rattle.std.specs.Prelude.{◌⊎◌, bytes_eq, nat_lt, slice_get}
-use Rattle.mot_folder.specs.Listed.{and_in_order, are_in_order, begins_behind, stands_before}
+use Rattle.std.specs.Prelude.{◌⊎◌, ◌&&◌, bytes_eq, nat_lt, slice_get}
+use Rattle.mot_folder.specs.Listed.{and_in_order, stands_before}
 use Rattle.mot_objects.specs.Carousel.{are_names_distinct}
 use Rattle.mot_suffixes.specs.Types.{AreShown, is_hidden}
 use Rattle.mot_update.specs.Updating.{is_known}
@@ -37,6 +37,15 @@ turned (x ∷ xs) [] e = absurd (cc (e))
 turned (x ∷ xs) (y ∷ ys) e = turned-cases x y xs ys (turned xs ys) e
 
 -- ---- names in order, and one more
+
+-- no name stands before the one in front of it
+abbrev pub begins_behind : List ℕ → List (List ℕ) → Bool
+begins_behind name [] = true
+begins_behind name (other ∷ names) = not (stands_before other name)
+
+abbrev pub are_in_order : List (List ℕ) → Bool
+are_in_order [] = true
+are_in_order (name ∷ names) = begins_behind name names && are_in_order names
 
 first-cases : (b : Bool) (other n m : List ℕ) (names : List (List ℕ))
     → stands_before n other ≡ false → not (stands_before m other) ≡ true

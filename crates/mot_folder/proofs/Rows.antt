@@ -7,7 +7,7 @@ use lib.Utf8.{encode}
 use Rattle.mot_folder.specs.Listed.{and_in_order, names_in, object_names, with_type}
 use Rattle.mot_folder.specs.Log.{entry, entry_with, kept_entry, log_entry_of, log_line}
 use Rattle.mot_folder.specs.Log.{of_look, with_reason}
-use Rattle.mot_folder.specs.Looked.{is_due, is_kept, left_behind, packets_left}
+use Rattle.mot_folder.specs.Looked.{is_look_due, is_kept, packets_left_behind, packets_left}
 use Rattle.mot_folder.specs.declared.listing.TheConstants.{MAX_NAMES}
 use Rattle.mot_folder.specs.declared.looking.TheConstants.{PACKETS, SOON}
 use Rattle.mot_numbers.specs.declared.refusal.Refusal.TheVariants.{EmptyBody, NoRoom}
@@ -108,16 +108,16 @@ beside : of_look (entry (codes "read") (codes "b") (Refused EmptyBody)
 beside = refl
 
 -- before the first packet, behind the thousandth where it ends a turn, and behind a later one
-due_first : is_due 0 true ≡ true
+due_first : is_look_due 0 true ≡ true
 due_first = refl
 
-due_thousandth : is_due 1 true ≡ true
+due_thousandth : is_look_due 1 true ≡ true
 due_thousandth = refl
 
-not_due_within : is_due 1 false ≡ false
+not_due_within : is_look_due 1 false ≡ false
 not_due_within = refl
 
-not_due_before : is_due 2 true ≡ false
+not_due_before : is_look_due 2 true ≡ false
 not_due_before = refl
 
 packets : packets_left false 700 ≡ 700
@@ -136,10 +136,10 @@ packets_between = refl
 packets_before_soon : SOON ≡ 100
 packets_before_soon = refl
 
-early_not_counted : left_behind true false 7 ≡ 7
+early_not_counted : packets_left_behind true false 7 ≡ 7
 early_not_counted = refl
 
-each_counted : left_behind false false 7 ≡ 6
+each_counted : packets_left_behind false false 7 ≡ 6
 each_counted = refl
 
 most_names : MAX_NAMES ≡ 1000

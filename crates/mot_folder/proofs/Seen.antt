@@ -14,9 +14,9 @@ use Rattle.mot_folder.specs.Looked.{IsUnlisted}
 use Rattle.mot_folder.specs.declared.listing.TheConstants.{MAX_NAMES}
 use Rattle.mot_numbers.specs.declared.refusal.Refusal.{Refusal}
 use Rattle.mot_numbers.specs.declared.refusal.Refusal.TheVariants.{TooManyObjects}
-use Rattle.mot_folder.proofs.Order.{stays_in_order}
+use Rattle.mot_folder.proofs.Order.{are_in_order, stays_in_order}
 use Rattle.mot_folder.specs.Listed.{AreEither, IsListing, and_in_order, and_object, and_objects}
-use Rattle.mot_folder.specs.Listed.{are_in_order, has_type}
+use Rattle.mot_folder.specs.Listed.{has_type, object_names}
 use Rattle.mot_folder.specs.Listed.{names_in, with_type}
 use Rattle.mot_folder.specs.Listed.AreEither.{no_name, one_first, one_other}
 use Rattle.mot_objects.proofs.Laws.{name_is, name_true}
@@ -65,6 +65,10 @@ objects-ordered names [] ordered = ordered
 objects-ordered names (file ∷ files) ordered =
     objects-ordered (and_object names file) files
     (one_in_order (is_name MAX_NAME file && not (is_known names file)) names file ordered)
+
+-- so the names of objects that are listed are
+pub listed_in_order : (files : List (List ℕ)) → are_in_order (object_names files) ≡ true
+listed_in_order files = objects-ordered [] files refl
 
 module _ (types : List SuffixType) (name : List ℕ) where
   one_typed : (t : Bool) → has_type types name ≡ t → with_type types (name ∷ []) ≡ cond t (name ∷ []) []
@@ -316,8 +320,6 @@ module _ (types : List SuffixType) where
             ∙ ap (λ (n : Given). n.listed ++ (all.pieces ++ [] ∷ [])) opened;
         asked = last.asked;
         are = last.are;
-        ordered = subst (λ l. are_in_order l ≡ true) (sym last.are)
-            (objects-ordered [] k.files refl);
       }
 
   -- or it gave not all of them

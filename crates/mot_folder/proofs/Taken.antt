@@ -2,36 +2,172 @@
 use Rattle.std.proofs.Common.{◌≡◌, ◌∙◌, ℕ, ◌+◌, ◌<◌, length, zero, suc, List, [], ◌∷◌, ◌++◌, ap}
 use Rattle.std.proofs.Common.{append_assoc}
 use Rattle.std.proofs.Common.{append-nil, codes, map, refl, subst, sym, take, arith}
-use Rattle.std.proofs.Common.{Some, Option}
-use Rattle.std.specs.Prelude.{slice_get, filter}
+use Rattle.std.proofs.Common.{Some, Option, Bool, true, false, not, ◌||◌, ◌≢◌, None, cond, inl, inr}
+use Rattle.std.specs.List.{list_any}
+use Rattle.std.specs.Prelude.{◌⊎◌, ◌↔◌, slice_get, filter}
+use Rattle.std.proofs.lemmas.Bool.{or_parts}
+use Rattle.std.proofs.lemmas.List.Folds.{list_any-append}
 use Rattle.std.proofs.lemmas.List.{length-map, map-append}
 use Rattle.std.proofs.lemmas.List.Elements.{filter-append}
 use Rattle.mot_folder.specs.Inner.Names.{name_or_none}
 use Rattle.mot_folder.specs.Inner.Reading.{Misses, Takes, TellsFile, TellsLook, as_wanted}
 use Rattle.mot_folder.specs.Inner.Reading.{heading}
 use Rattle.mot_folder.specs.Inner.Reading.Misses.{was_refused, was_unread}
-use Rattle.mot_folder.specs.Listed.{IsListing}
+use Rattle.mot_folder.specs.Inner.Listing.{TellsNameless}
+use Rattle.mot_folder.specs.Listed.{IsListing, nameless}
+use Rattle.mot_folder.specs.Looked.{EachIsTold}
 use Rattle.mot_folder.proofs.Log.{look-more}
-use Rattle.mot_folder.specs.Log.{LogEntry, TellsAnswers, TellsOf, TellsOne}
-use Rattle.mot_folder.specs.Log.{entry_with, is_read, log_entry_of, names_read, of_look}
-use Rattle.mot_folder.specs.Log.{with_reason}
+use Rattle.mot_folder.specs.Log.{LogEntry, TellsOf, TellsOne, entry_with, is_read, log_entry_of}
+use Rattle.mot_folder.specs.Log.{names_read, not_accepted, of_look, with_reason}
 use Rattle.mot_folder.specs.Taken.{AreTaken}
+use Rattle.mot_numbers.specs.declared.refusal.Refusal.{Refusal}
 use Rattle.mot_folder.specs.Taken.AreTaken.{no_file, one_refused, one_unread, one_wanted}
 use Rattle.mot_folder.specs.declared.report.Report.{Report}
 use Rattle.mot_objects.specs.Content.{ContentNumbers}
-use Rattle.mot_server.specs.declared.running.Attempt.TheVariants.{Accepted, Refused}
+use Rattle.mot_server.specs.declared.running.Attempt.TheVariants.{Accepted, Refused as WasRefused}
 use Rattle.mot_shelf.specs.Given.{Given, and_missed, and_read}
 use Rattle.mot_suffixes.specs.Types.{SuffixType}
-use Rattle.mot_update.specs.Told.{Answer, Put, Replaced, TellsBoth, Withdrew}
+use Rattle.mot_objects.specs.declared.command.Command.{Command}
+use Rattle.mot_objects.specs.declared.command.Command.TheVariants as command
+use Rattle.mot_server.specs.declared.running.Attempt.{Attempt}
+use Rattle.mot_update.specs.Laws.{names_of}
+use Rattle.mot_update.specs.Looking.{AreAccepted}
+use Rattle.mot_update.specs.Told.{Answer, AreAnswers, IsAnswerTo, Put, Replaced, TellsBoth, Withdrew}
+use Rattle.mot_update.specs.Told.{came_of, was_accepted}
 use Rattle.mot_update.specs.declared.wanted.Wanted.{Wanted}
 
 -- those that were read, of more entries
-read-more : (entries more : List LogEntry)
+pub read-more : (entries more : List LogEntry)
     → names_read (entries ++ more) ≡ names_read entries ++ names_read more
 read-more entries more =
     ap (λ (l : List LogEntry). map (λ (e : LogEntry). e.name) l)
     (filter-append is_read entries more)
     ∙ map-append (λ (e : LogEntry). e.name) (filter is_read entries) (filter is_read more)
+
+-- ---- whether anything was refused
+
+or_answer : (a b r : Bool) → ((a || b) || r) ≡ ((a || (r || false)) || (b || false))
+or_answer true b r = refl
+or_answer false true true = refl
+or_answer false true false = refl
+or_answer false false true = refl
+or_answer false false false = refl
+
+or_read : (a b : Bool) → true ≡ (a || (b || (true || false)))
+or_read true b = refl
+or_read false true = refl
+or_read false false = refl
+
+or_note : (a b : Bool) → (a || b) ≡ (a || (b || (false || false)))
+or_note true b = refl
+or_note false true = refl
+or_note false false = refl
+
+module _ (answers : List Answer) (entries : List LogEntry) (last : LogEntry) (old new : Bool) where
+  -- behind a further answer
+  any_answered : (answer : Answer) → is_read last ≡ false → new ≡ (old || not_accepted answer)
+      → old ≡ (list_any not_accepted answers || list_any is_read entries)
+      → new ≡ (list_any not_accepted (answers ++ answer ∷ [])
+      || list_any is_read (entries ++ last ∷ []))
+  any_answered answer none one was =
+      let a = list_any not_accepted answers in
+      let b = list_any is_read entries in
+      let r = not_accepted answer in
+      one ∙ ap (λ (x : Bool). x || r) was ∙ or_answer a b r
+      ∙ ap (λ (x : Bool). (a || (r || false)) || (b || (x || false))) (sym none)
+      ∙ ap (λ (x : Bool). x || (b || (is_read last || false)))
+      (sym (list_any-append not_accepted answers (answer ∷ [])))
+      ∙ ap (λ (x : Bool). list_any not_accepted (answers ++ answer ∷ []) || x)
+      (sym (list_any-append is_read entries (last ∷ [])))
+
+  -- behind a file that was not taken
+  pub any_read : is_read last ≡ true → new ≡ true
+      → new ≡ (list_any not_accepted answers || list_any is_read (entries ++ last ∷ []))
+  any_read one refused =
+      let a = list_any not_accepted answers in
+      let b = list_any is_read entries in
+      refused ∙ or_read a b
+      ∙ ap (λ (x : Bool). a || (b || (x || false))) (sym one)
+      ∙ ap (λ (x : Bool). a || x) (sym (list_any-append is_read entries (last ∷ [])))
+
+  -- behind a note
+  pub any_noted : is_read last ≡ false → new ≡ old
+      → old ≡ (list_any not_accepted answers || list_any is_read entries)
+      → new ≡ (list_any not_accepted answers || list_any is_read (entries ++ last ∷ []))
+  any_noted none same was =
+      let a = list_any not_accepted answers in
+      let b = list_any is_read entries in
+      same ∙ was ∙ or_note a b
+      ∙ ap (λ (x : Bool). a || (b || (x || false))) (sym none)
+      ∙ ap (λ (x : Bool). a || x) (sym (list_any-append is_read entries (last ∷ [])))
+
+read-cases : (b : Bool) (e : LogEntry) (entries : List LogEntry) → is_read e ≡ b
+    → (list_any is_read entries ≡ false → names_read entries ≡ [])
+    → (b || list_any is_read entries) ≡ false
+    → map (λ (x : LogEntry). x.name) (cond b (e ∷ filter is_read entries) (filter is_read entries)) ≡ []
+read-cases true e entries is rest any = absurd (cc (any))
+read-cases false e entries is rest any = rest any
+
+none_read : (entries : List LogEntry) → list_any is_read entries ≡ false → names_read entries ≡ []
+none_read [] any = refl
+none_read (e ∷ entries) any = read-cases (is_read e) e entries refl (none_read entries) any
+
+unread-cases : (b : Bool) (e : LogEntry) (entries : List LogEntry) → is_read e ≡ b
+    → (names_read entries ≡ [] → list_any is_read entries ≡ false)
+    → map (λ (x : LogEntry). x.name) (cond b (e ∷ filter is_read entries) (filter is_read entries)) ≡ []
+    → (b || list_any is_read entries) ≡ false
+unread-cases true e entries is rest none = absurd (cc (none))
+unread-cases false e entries is rest none = rest none
+
+read_none : (entries : List LogEntry) → names_read entries ≡ [] → list_any is_read entries ≡ false
+read_none [] none = refl
+read_none (e ∷ entries) none = unread-cases (is_read e) e entries refl (read_none entries) none
+
+unrefused : (m : Bool) → not m ≡ false → m ≡ true
+unrefused true e = refl
+unrefused false e = absurd (cc (e))
+
+accepted_of : (answers : List Answer) (commands : List Command) (marks : List Bool)
+    → AreAnswers answers commands marks → list_any not_accepted answers ≡ false → AreAccepted marks
+accepted_of answers commands [] are none = tt
+accepted_of [] commands (mark ∷ marks) are none = absurd are
+accepted_of (answer ∷ answers) [] (mark ∷ marks) are none = absurd are
+accepted_of (answer ∷ answers) (c ∷ commands) (mark ∷ marks) are none =
+    let parts = or_parts (not_accepted answer) (list_any not_accepted answers) none in (
+      sym are.1 ∙ unrefused (was_accepted (came_of answer)) parts.0,
+      accepted_of answers commands marks are.2 parts.1,
+    )
+
+refused_none : (answers : List Answer) (commands : List Command) (marks : List Bool)
+    → AreAnswers answers commands marks → AreAccepted marks → list_any not_accepted answers ≡ false
+refused_none answers commands [] are all = ap (list_any not_accepted) are
+refused_none [] commands (mark ∷ marks) are all = absurd are
+refused_none (answer ∷ answers) [] (mark ∷ marks) are all = absurd are
+refused_none (answer ∷ answers) (c ∷ commands) (mark ∷ marks) are all =
+    ap (λ (m : Bool). not m || list_any not_accepted answers) (are.1 ∙ all.0)
+    ∙ refused_none answers commands marks are.2 all.1
+
+not_any : (b : Bool) → not b ≡ true → b ≡ false
+not_any true e = absurd (cc (e))
+not_any false e = refl
+
+-- a look is fine exactly where no file is told and each command was accepted
+pub fine_is : (entries : List LogEntry) (answers : List Answer) (commands : List Command)
+    (marks : List Bool) (any : Bool) → AreAnswers answers commands marks
+    → any ≡ (list_any not_accepted answers || list_any is_read entries)
+    → (not any ≡ true) ↔ ((names_read entries ≡ []) × AreAccepted marks)
+fine_is entries answers commands marks any are is = (
+  λ fine.
+      let parts = or_parts (list_any not_accepted answers) (list_any is_read entries)
+      (sym is ∙ not_any any fine) in
+      (none_read entries parts.1, accepted_of answers commands marks are parts.0),
+  λ all. ap not (is
+      ∙ ap (λ (b : Bool). b || list_any is_read entries)
+      (refused_none answers commands marks are all.1)
+      ∙ read_none entries all.0),
+)
+
+-- ---- names that were gone over
 
 -- two lists that nothing was added to
 pub plain : (P : List Answer → List Wanted → Type 0) (answers : List Answer) (given : List Wanted)
@@ -46,7 +182,29 @@ pub behind : (P Q R : List Answer → List Wanted → Type 0) (more : List Wante
 behind P Q R more first last = λ given answers was.
     last given answers (plain Q answers given (first given answers was))
 
+why_so : {P E F : Type 0} → (E → F) → P ⊎ E → P ⊎ F
+why_so on (inl untakable) = inl untakable
+why_so on (inr none) = inr (on none)
+
 module _ (types : List SuffixType) where
+  -- what came of files, where memory may have been wanted for the one or for the other
+  pub taken_so : {E F : Type 0} → (E → F) → {names : List (List ℕ)}
+      {read : List (List ℕ × List ℕ)} {missed : List (List ℕ)} {wanted : List Wanted}
+      {told : List (List ℕ)} → AreTaken types E names read missed wanted told
+      → AreTaken types F names read missed wanted told
+  taken_so on no_file = no_file
+  taken_so on (one_wanted names missed told read others name bytes type typed was) =
+      one_wanted names missed told read others name bytes type typed (taken_so on was)
+  taken_so on (one_refused names missed told read others name bytes why was) =
+      one_refused names missed told read others name bytes (why_so on why) (taken_so on was)
+  taken_so on (one_unread names missed told read others name was) =
+      one_unread names missed told read others name (taken_so on was)
+
+  misses_so : {E F : Type 0} → (E → F) → {name : List ℕ} {old new : Given}
+      → Misses types name old new E → Misses types name old new F
+  misses_so on (was_unread is) = was_unread is
+  misses_so on (was_refused bytes is why) = was_refused bytes is (why_so on why)
+
   -- nothing happens
   pub of_same : (g : Given) (report : Report) (names : List (List ℕ))
       → TellsBoth (TellsOf types g report names) (TellsOf types g report names) [] []
@@ -58,10 +216,12 @@ module _ (types : List SuffixType) where
 
   -- an answer to a command is told
   told_one : (g : Given) (old new : Report) (names : List (List ℕ)) (answer : Answer)
-      (last : LogEntry) → names_read (last ∷ []) ≡ []
-      → of_look (last ∷ []) ≡ log_entry_of answer ∷ [] → TellsOne old new last
+      (last : LogEntry) → names_read (last ∷ []) ≡ [] → is_read last ≡ false
+      → of_look (last ∷ []) ≡ log_entry_of answer ∷ []
+      → new.any_refused ≡ (old.any_refused || not_accepted answer)
+      → (old.any_without_memory ≡ true → new.any_without_memory ≡ true) → TellsOne old new last
       → TellsBoth (TellsOf types g old names) (TellsOf types g new names) (answer ∷ []) []
-  told_one g old new names answer last none_read is one = λ given answers was.
+  told_one g old new names answer last none_read unread is any stays one = λ given answers was.
       subst (λ (l : List Wanted). TellsOf types g new names (answers ++ answer ∷ []) l)
       (sym (append-nil given)) (record {
         entries = was.entries ++ last ∷ [];
@@ -70,55 +230,66 @@ module _ (types : List SuffixType) where
             ∙ ap (λ l. l ++ of_look (last ∷ [])) was.are
             ∙ ap (λ l. map log_entry_of answers ++ l) is
             ∙ sym (map-append log_entry_of answers (answer ∷ []));
-        before = was.before;
+        any = any_answered answers was.entries last old.any_refused new.any_refused answer unread
+            any was.any;
         missed = was.missed;
         read = read-more was.entries (last ∷ [])
             ∙ ap (λ l. names_read was.entries ++ l) none_read
             ∙ append-nil (names_read was.entries) ∙ was.read;
-        taken = was.taken;
+        taken = taken_so stays was.taken;
       })
 
   pub of_answer : (g : Given) (old new : Report) (names : List (List ℕ)) (answer : Answer)
-      (why : Option (List ℕ)) → TellsOne old new (with_reason (log_entry_of answer) why)
+      (why : Option (List ℕ)) → new.any_refused ≡ (old.any_refused || not_accepted answer)
+      → (old.any_without_memory ≡ true → new.any_without_memory ≡ true)
+      → TellsOne old new (with_reason (log_entry_of answer) why)
       → TellsBoth (TellsOf types g old names) (TellsOf types g new names) (answer ∷ []) []
-  of_answer g old new names (Withdrew name came) why one =
-      told_one g old new names (Withdrew name came) _ refl refl one
-  of_answer g old new names (Put name came) why one =
-      told_one g old new names (Put name came) _ refl refl one
-  of_answer g old new names (Replaced name came) why one =
-      told_one g old new names (Replaced name came) _ refl refl one
+  of_answer g old new names (Withdrew name came) why any stays one =
+      told_one g old new names (Withdrew name came) _ refl refl refl any stays one
+  of_answer g old new names (Put name came) why any stays one =
+      told_one g old new names (Put name came) _ refl refl refl any stays one
+  of_answer g old new names (Replaced name came) why any stays one =
+      told_one g old new names (Replaced name came) _ refl refl refl any stays one
 
   -- a file of this name is gone over that is not taken
-  more_missed : (old new : Given) (names missed : List (List ℕ)) (given : List Wanted)
-      (name : List ℕ) → Misses name old new
-      → AreTaken types names old.read old.missed given missed
-      → AreTaken types (names ++ name ∷ []) new.read new.missed given (missed ++ name ∷ [])
-  more_missed old new names missed given name (was_unread is) was =
+  more_missed : {E : Type 0} (old new : Given) (names missed : List (List ℕ)) (given : List Wanted)
+      (name : List ℕ) → Misses types name old new E
+      → AreTaken types E names old.read old.missed given missed
+      → AreTaken types E (names ++ name ∷ []) new.read new.missed given (missed ++ name ∷ [])
+  more_missed {E} old new names missed given name (was_unread is) was =
       subst (λ (n : Given).
-      AreTaken types (names ++ name ∷ []) n.read n.missed given (missed ++ name ∷ []))
+      AreTaken types E (names ++ name ∷ []) n.read n.missed given (missed ++ name ∷ []))
       (sym is) (one_unread names old.missed missed old.read given name was)
-  more_missed old new names missed given name (was_refused bytes is) was =
+  more_missed {E} old new names missed given name (was_refused bytes is why) was =
       subst (λ (n : Given).
-      AreTaken types (names ++ name ∷ []) n.read n.missed given (missed ++ name ∷ []))
-      (sym is) (one_refused names old.missed missed old.read given name bytes was)
+      AreTaken types E (names ++ name ∷ []) n.read n.missed given (missed ++ name ∷ []))
+      (sym is) (one_refused names old.missed missed old.read given name bytes why was)
+
+  -- and the folder has the files that it had
+  files_missed : {E : Type 0} (old new : Given) (name : List ℕ) → Misses types name old new E
+      → new.files ≡ old.files
+  files_missed old new name (was_unread is) = ap (λ (n : Given). n.files) is
+  files_missed old new name (was_refused bytes is why) = ap (λ (n : Given). n.files) is
 
   -- one that is
-  more_taken : (old new : Given) (names missed : List (List ℕ)) (given : List Wanted)
+  more_taken : {E : Type 0} (old new : Given) (names missed : List (List ℕ)) (given : List Wanted)
       (name : List ℕ) (w : Wanted) → Takes types name old new w
-      → AreTaken types names old.read old.missed given missed
-      → AreTaken types (names ++ name ∷ []) new.read new.missed (given ++ w ∷ []) missed
-  more_taken old new names missed given name w is was =
+      → AreTaken types E names old.read old.missed given missed
+      → AreTaken types E (names ++ name ∷ []) new.read new.missed (given ++ w ∷ []) missed
+  more_taken {E} old new names missed given name w is was =
       subst (λ (n : Given).
-      AreTaken types (names ++ name ∷ []) n.read n.missed (given ++ w ∷ []) missed) (sym is.read)
-      (subst (λ (v : Wanted). AreTaken types (names ++ name ∷ []) (old.read ++ (name, is.bytes) ∷ [])
+      AreTaken types E (names ++ name ∷ []) n.read n.missed (given ++ w ∷ []) missed) (sym is.read)
+      (subst (λ (v : Wanted). AreTaken types E (names ++ name ∷ [])
+      (old.read ++ (name, is.bytes) ∷ [])
       old.missed (given ++ v ∷ []) missed) (sym is.made)
       (one_wanted names old.missed missed old.read given name is.bytes is.type is.typed was))
 
   -- a file that could not be taken is told
   pub of_missed : (g h : Given) (old new : Report) (names : List (List ℕ)) (name : List ℕ)
-      → Misses name g h → TellsFile old new name
+      → Misses types name g h (new.any_without_memory ≡ true) → new.any_refused ≡ true
+      → (old.any_without_memory ≡ true → new.any_without_memory ≡ true) → TellsFile old new name
       → TellsBoth (TellsOf types g old names) (TellsOf types h new (names ++ name ∷ [])) [] []
-  of_missed g h old new names name is one = λ given answers was.
+  of_missed g h old new names name is any stays one = λ given answers was.
       let last = entry_with (codes "read") name one.0 in
       subst (λ (l : List Wanted). TellsOf types h new (names ++ name ∷ []) (answers ++ []) l)
       (sym (append-nil given))
@@ -128,11 +299,12 @@ module _ (types : List SuffixType) where
         told = one.1 was.entries was.told;
         are = look-more was.entries (last ∷ [])
             ∙ append-nil (of_look was.entries) ∙ was.are;
-        before = was.before;
+        any = any_read answers was.entries last old.any_refused new.any_refused refl any;
         missed = was.missed ++ name ∷ [];
         read = read-more was.entries (last ∷ []) ∙ ap (λ l. l ++ name ∷ []) was.read
-            ∙ append_assoc was.before was.missed (name ∷ []);
-        taken = more_missed g h names was.missed given name is was.taken;
+            ∙ append_assoc (nameless g.files) was.missed (name ∷ [])
+            ∙ ap (λ l. nameless l ++ (was.missed ++ name ∷ [])) (sym (files_missed g h name is));
+        taken = more_missed g h names was.missed given name is (taken_so stays was.taken);
       }))
 
   -- an object is given
@@ -147,43 +319,74 @@ module _ (types : List SuffixType) where
         entries = was.entries;
         told = was.told;
         are = was.are;
-        before = was.before;
+        any = was.any;
         missed = was.missed;
-        read = was.read;
+        read = was.read ∙ ap (λ (n : Given). nameless n.files ++ was.missed) (sym is.read);
         taken = more_taken g h names was.missed given name w is was.taken;
       })
 
   -- a note is told
   pub of_note : (g : Given) (old new : Report) (names : List (List ℕ)) (name rest : List ℕ)
-      (answers : List Answer) (given : List Wanted)
+      (answers : List Answer) (given : List Wanted) → new.any_refused ≡ old.any_refused
+      → (old.any_without_memory ≡ true → new.any_without_memory ≡ true)
       → TellsOne old new (entry_with (codes "note") name rest)
       → TellsOf types g old names answers given → TellsOf types g new names answers given
-  of_note g old new names name rest answers given one was =
+  of_note g old new names name rest answers given same stays one was =
       let last = entry_with (codes "note") name rest in
       record {
         entries = was.entries ++ last ∷ [];
         told = one was.entries was.told;
         are = look-more was.entries (last ∷ [])
             ∙ append-nil (of_look was.entries) ∙ was.are;
-        before = was.before;
+        any = any_noted answers was.entries last old.any_refused new.any_refused refl same was.any;
         missed = was.missed;
         read = read-more was.entries (last ∷ []) ∙ append-nil (names_read was.entries) ∙ was.read;
-        taken = was.taken;
+        taken = taken_so stays was.taken;
       }
 
   -- no name was gone over
   pub of_none : (g : Given) (report : Report) → g.read ≡ [] → g.missed ≡ []
-      → TellsAnswers report [] → TellsOf types g report [] [] []
-  of_none g report no_read none_missed told = record {
-    entries = told.entries;
-    told = told.told;
-    are = told.are;
-    before = names_read told.entries;
-    missed = [];
-    read = sym (append-nil (names_read told.entries));
-    taken = subst (λ l. AreTaken types [] l g.missed [] []) (sym no_read)
-        (subst (λ l. AreTaken types [] [] l [] []) (sym none_missed) no_file);
-  }
+      → TellsNameless g.files report → TellsOf types g report [] [] []
+  of_none g report no_read none_missed told =
+      let E = report.any_without_memory ≡ true in
+      record {
+        entries = told.entries;
+        told = told.told;
+        are = told.are;
+        any = told.any;
+        missed = [];
+        read = told.read ∙ sym (append-nil (nameless g.files));
+        taken = subst (λ l. AreTaken types E [] l g.missed [] []) (sym no_read)
+            (subst (λ l. AreTaken types E [] [] l [] []) (sym none_missed) no_file);
+      }
+
+  last_none : (xs : List (List ℕ)) (x : List ℕ) → xs ++ x ∷ [] ≡ [] → ⊥
+  last_none [] x e = cc
+  last_none (y ∷ xs) x e = cc
+
+  -- where no file is told each name is that of an object
+  taken_all : {E : Type 0} {names : List (List ℕ)} {read : List (List ℕ × List ℕ)}
+      {missed : List (List ℕ)} {wanted : List Wanted} {told : List (List ℕ)}
+      → AreTaken types E names read missed wanted told → told ≡ [] → names_of wanted ≡ names
+  taken_all no_file none = refl
+  taken_all (one_wanted names missed told read others name bytes type typed was) none =
+      map-append (λ (w : Wanted). w.name) others _ ∙ ap (λ l. l ++ name ∷ []) (taken_all was none)
+  taken_all (one_refused names missed told read others name bytes why was) none =
+      absurd (last_none told name none)
+  taken_all (one_unread names missed told read others name was) none =
+      absurd (last_none told name none)
+
+  -- so an object was given of each
+  pub every_named : (given : Given) (names : List (List ℕ)) (wanted : List Wanted)
+      (fault : Option Refusal) (entries : List LogEntry)
+      → EachIsTold types given names wanted fault entries → names_read entries ≡ []
+      → names_of wanted ≡ names
+  every_named given names wanted fault entries each none =
+      taken_all each.taken (second_none (nameless given.files) each.missed (sym each.read ∙ none))
+    where
+      second_none : (xs ys : List (List ℕ)) → xs ++ ys ≡ [] → ys ≡ []
+      second_none [] ys e = e
+      second_none (x ∷ xs) ys e = absurd (cc (e))
 
 take-suc-named : (names : List (List ℕ)) (i : ℕ) → i < length names
     → take (suc i) names ≡ take i names ++ name_or_none (slice_get names i) ∷ []
@@ -225,7 +428,6 @@ module _ (types : List SuffixType) (path : List ℕ) (names : List (List ℕ)) w
         whole = is.whole;
         asked = is.asked;
         are = is.are;
-        ordered = is.ordered;
       }
 
   still_missed : (g : Given) (name : List ℕ) → IsListing types path g names
@@ -236,14 +438,13 @@ module _ (types : List SuffixType) (path : List ℕ) (names : List (List ℕ)) w
         whole = is.whole;
         asked = is.asked;
         are = is.are;
-        ordered = is.ordered;
       }
 
-  listing_misses : (g h : Given) (name : List ℕ) → Misses name g h → IsListing types path g names
-      → IsListing types path h names
+  listing_misses : {E : Type 0} (g h : Given) (name : List ℕ) → Misses types name g h E
+      → IsListing types path g names → IsListing types path h names
   listing_misses g h name (was_unread is) was =
       subst (λ (n : Given). IsListing types path n names) (sym is) (still_missed g name was)
-  listing_misses g h name (was_refused bytes is) was =
+  listing_misses g h name (was_refused bytes is why) was =
       subst (λ (n : Given). IsListing types path n names) (sym is) (still_read g name bytes was)
 
   -- and an object of the next name is given
@@ -263,19 +464,21 @@ module _ (types : List SuffixType) (path : List ℕ) (names : List (List ℕ)) w
       (of_given types g h report (take place names) name w is)))
 
   -- or it is told as that of a file that could not be taken
-  pub then_missed : (P : List Answer → List Wanted → Type 0) (g h : Given) (place : ℕ)
+  pub then_missed : {E : Type 0} (P : List Answer → List Wanted → Type 0) (g h : Given) (place : ℕ)
       (old new : Report) (name : List ℕ)
       → TellsBoth P (TellsLook types path g names place old) [] []
-      → place < length names → slice_get names place ≡ Some name → Misses name g h
-      → TellsFile old new name
+      → place < length names → slice_get names place ≡ Some name → Misses types name g h E
+      → (E → new.any_without_memory ≡ true) → new.any_refused ≡ true
+      → (old.any_without_memory ≡ true → new.any_without_memory ≡ true) → TellsFile old new name
       → TellsBoth P (TellsLook types path h names (place + 1) new) [] []
-  then_missed P g h place old new name told lt at is one =
+  then_missed P g h place old new name told lt at is memory any stays one =
       behind P (TellsLook types path g names place old)
       (TellsLook types path h names (place + 1) new) [] told
       (look_on g h place (place + 1) old new [] [] (listing_misses g h name is)
       (subst (λ l. TellsBoth (TellsOf types g old (take place names)) (TellsOf types h new l) [] [])
       (sym (take-named names place name lt at))
-      (of_missed types g h old new (take place names) name is one)))
+      (of_missed types g h old new (take place names) name (misses_so types memory is) any stays
+      one)))
 
 -- ---- what a look is of
 
@@ -324,7 +527,7 @@ pub record IsLook (types : List SuffixType) (path : List ℕ) (g : Given) (names
 -- before the first of the names is gone over
 pub look_begins : (types : List SuffixType) (path : List ℕ) (g : Given) (names : List (List ℕ))
     (report : Report) → IsListing types path g names → g.read ≡ [] → g.missed ≡ []
-    → TellsAnswers report []
+    → TellsNameless g.files report
     → TellsLook types path g names 0 report (heading path types ∷ []) (map as_wanted types ++ [])
 look_begins types path g names report listing no_read none_missed told = record {
   answers = [];
@@ -341,7 +544,7 @@ head_path path other types others e = cc (e)
 
 number_in : Answer → ℕ
 number_in (Withdrew name (Accepted done)) = done.directory
-number_in (Withdrew name (Refused refusal)) = 0
+number_in (Withdrew name (WasRefused refusal)) = 0
 number_in (Put name came) = 0
 number_in (Replaced name came) = 0
 

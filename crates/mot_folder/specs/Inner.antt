@@ -1,3 +1,4 @@
 pub mod Listing
 pub mod Names
+pub mod Notes
 pub mod Reading

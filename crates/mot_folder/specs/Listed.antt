@@ -1,6 +1,6 @@
 -- The files of a folder that are objects, as it is listed.
-use Rattle.std.specs.Prelude.{◌≡◌, ◌==◌, ◌&&◌, ℕ, nat_eq, nat_lt, Bool, not, if◌then◌else◌, List, [], ◌∷◌, ◌++◌}
-use Rattle.std.specs.Prelude.{filter, true, false}
+use Rattle.std.specs.Prelude.{◌≡◌, ◌==◌, ◌&&◌, ℕ, nat_eq, nat_lt, Bool, true, false, not}
+use Rattle.std.specs.Prelude.{if◌then◌else◌, List, [], ◌∷◌, ◌++◌, filter}
 use Rattle.std.specs.List.{flat_map, slice_split}
 use Rattle.std.specs.Option.{option_map_or}
 use Rattle.mot_groups.specs.Entity.{all_but_last}
@@ -34,15 +34,6 @@ and_in_order [] name = name ∷ []
 and_in_order (other ∷ names) name =
     if stands_before name other then name ∷ other ∷ names else other ∷ and_in_order names name
 
--- no name stands before the one in front of it
-abbrev pub begins_behind : List ℕ → List (List ℕ) → Bool
-begins_behind name [] = true
-begins_behind name (other ∷ names) = not (stands_before other name)
-
-abbrev pub are_in_order : List (List ℕ) → Bool
-are_in_order [] = true
-are_in_order (name ∷ names) = begins_behind name names && are_in_order names
-
 -- the names of objects, and this one, if it is the name of an object and none of them
 abbrev pub and_object : List (List ℕ) → List ℕ → List (List ℕ)
 and_object names name =
@@ -56,6 +47,10 @@ and_objects names (file ∷ files) = and_objects (and_object names file) files
 abbrev pub object_names : List (List ℕ) → List (List ℕ)
 object_names files = and_objects [] files
 
+-- and the others, in the order of the files
+abbrev pub nameless : List (List ℕ) → List (List ℕ)
+nameless files = filter (λ name. not (is_name MAX_NAME name)) files
+
 -- these names, in order: each further one is the next of the first ones, or of the others
 pub data AreEither : List (List ℕ) → List (List ℕ) → List (List ℕ) → Type 0 where
   no_name : AreEither [] [] []
@@ -65,11 +60,11 @@ pub data AreEither : List (List ℕ) → List (List ℕ) → List (List ℕ) →
       → AreEither names firsts others → AreEither (names ++ name ∷ []) firsts (others ++ name ∷ [])
 
 -- The folder of this path was opened once, and gave all its names. Each with one of the suffixes
--- was asked for; and of those that are regular files' these are the names of objects, in their order.
+-- was asked for; and of those that are regular files' these are the names of objects, in their
+-- order.
 pub record IsListing (types : List SuffixType) (path : List ℕ) (given : Given)
     (names : List (List ℕ)) : Type 0 where
   pub pieces : List (List ℕ)
   pub whole : given.listed ≡ path ∷ pieces ++ [] ∷ []
   pub asked : AreEither (with_type types (flat_map names_in pieces)) given.files given.others
   pub are : names ≡ object_names given.files
-  pub ordered : are_in_order names ≡ true

@@ -1,8 +1,9 @@
 -- The log of a look at a folder: a line for each command, and each file that was not taken.
-use Rattle.std.specs.Prelude.{◌≡◌, ◌-◌, ◌||◌, ℕ, Bool, false, not, if◌then◌else◌, bytes_eq}
+use Rattle.std.specs.Prelude.{◌≡◌, ◌-◌, ◌||◌, ℕ, Bool, true, false, not, if◌then◌else◌, bytes_eq}
 use Rattle.std.specs.Prelude.{List, [], ◌∷◌, ◌++◌, map, filter, codes, length, take}
 use Rattle.std.specs.Prelude.{Option, Some, None}
-use Rattle.std.specs.List.{flat_map}
+use Rattle.std.specs.List.{flat_map, list_any}
+use Rattle.mot_folder.specs.Listed.{nameless}
 use Rattle.mot_folder.specs.declared.report.Report.{Report}
 use Rattle.mot_folder.specs.Taken.{AreTaken}
 use Rattle.mot_lines.specs.Text.{done_line, refusal_line}
@@ -11,7 +12,7 @@ use Rattle.mot_server.specs.declared.running.Attempt.TheVariants.{Accepted, Refu
 use Rattle.mot_shelf.specs.Given.{Given}
 use Rattle.mot_suffixes.specs.Shown.{shown}
 use Rattle.mot_suffixes.specs.Types.{SuffixType}
-use Rattle.mot_update.specs.Told.{Answer, Put, Replaced, Withdrew}
+use Rattle.mot_update.specs.Told.{Answer, Put, Replaced, Withdrew, came_of, was_accepted}
 use Rattle.mot_update.specs.declared.wanted.Wanted.{Wanted}
 
 -- one thing that is told: what was done to which name, the rest of its line, with the end, and the
@@ -101,18 +102,24 @@ TellsOne old new e = (entries : List LogEntry) → ReportTells old entries
 abbrev pub names_read : List LogEntry → List (List ℕ)
 names_read entries = map (λ (e : LogEntry). e.name) (filter is_read entries)
 
--- It tells these answers, and beside them only files that were not taken, and notes. Of these names each is
--- that of an object that was given, with the bytes that the folder gave, or of one of these files.
+-- the command was refused
+abbrev pub not_accepted : Answer → Bool
+not_accepted answer = not (was_accepted (came_of answer))
+
+-- It tells these answers, and beside them only files that were not taken, and notes. Of these names
+-- each is that of an object that was given, with the bytes that the folder gave, or of one of these
+-- files; before that the files are told that have no name of an object.
 pub record TellsOf (types : List SuffixType) (given : Given) (report : Report)
     (names : List (List ℕ)) (answers : List Answer) (wanted : List Wanted) : Type 0 where
   pub entries : List LogEntry
   pub told : ReportTells report entries
   pub are : of_look entries ≡ map log_entry_of answers
-  -- what was told before the first of the names was gone over
-  pub before : List (List ℕ)
+  -- something was refused exactly if a command was, or a file is told
+  pub any : report.any_refused ≡ (list_any not_accepted answers || list_any is_read entries)
   pub missed : List (List ℕ)
-  pub read : names_read entries ≡ before ++ missed
-  pub taken : AreTaken types names given.read given.missed wanted missed
+  pub read : names_read entries ≡ nameless given.files ++ missed
+  pub taken : AreTaken types (report.any_without_memory ≡ true) names given.read given.missed
+      wanted missed
 
 -- it tells these answers, and beside them only files that were not taken, and notes
 pub record TellsAnswers (report : Report) (answers : List Answer) : Type 0 where

@@ -1,11 +1,10 @@
 -- What a look at a folder does, and its log.
 use Rattle.std.specs.Prelude.{ℕ, ◌≡◌, ◌≢◌, ◌<◌, ◌≤◌, ◌⊎◌, ◌&&◌, ◌||◌, ◌-◌, nat_eq, nat_le, nat_lt}
-use Rattle.std.specs.Prelude.{Bool, true, false}
-use Rattle.std.specs.Prelude.{not, if◌then◌else◌, List, [], ◌∷◌, ◌++◌, length, map, Option, None}
-use Rattle.std.specs.Prelude.{Some, codes}
+use Rattle.std.specs.Prelude.{Bool, true, false, ◌↔◌, not, if◌then◌else◌, List, [], ◌∷◌, ◌++◌}
+use Rattle.std.specs.Prelude.{length, map, Option, None, Some, codes}
 use Rattle.std.specs.List.{flat_map}
 use Rattle.disk_model.specs.Disk.{State}
-use Rattle.mot_folder.specs.Listed.{IsListing, names_in, with_type}
+use Rattle.mot_folder.specs.Listed.{IsListing, nameless, names_in, with_type}
 use Rattle.mot_folder.specs.Log.{LogEntry, ReportTells, entry, kept_entry, log_entry_of}
 use Rattle.mot_folder.specs.Log.{names_read, of_look}
 use Rattle.mot_folder.specs.Taken.{AreTaken}
@@ -25,9 +24,9 @@ use Rattle.mot_shelf.specs.Given.{Given}
 use Rattle.mot_suffixes.specs.Types.{AreShown, SuffixType}
 use Rattle.mot_update.specs.Between.{may_look}
 use Rattle.mot_update.specs.HasRun.{HasRun}
-use Rattle.mot_update.specs.Laws.{IsUpdate, names_of}
+use Rattle.mot_update.specs.Laws.{IsUpdate}
 use Rattle.mot_update.specs.Looking.{AreAccepted}
-use Rattle.mot_update.specs.Told.{Answer, AreAnswers, AreRight}
+use Rattle.mot_update.specs.Told.{Answer, AreAnswers, AreAttemptsOf}
 use Rattle.mot_update.specs.Updating.{updating}
 use Rattle.mot_update.specs.declared.moment.Moment.{Moment}
 use Rattle.mot_update.specs.declared.wanted.Wanted.{Wanted}
@@ -49,19 +48,19 @@ pub data IsUnlisted (types : List SuffixType) (path : List ℕ) (given : Given)
 abbrev pub is_kept : (allows : Bool) → (names : List (List ℕ)) → (objects : ℕ) → Bool
 is_kept allows names objects = not allows && (nat_eq (length names) 0 && nat_lt 0 objects)
 
--- Each of these names is that of an object that was read of the folder, with the bytes that it gave,
--- or of a file that is told as one that could not be taken; before that only files were told that
--- have no name of an object.
+-- Each of these names is that of an object that was read of the folder, with the bytes that it
+-- gave, or of a file that is told as one that could not be taken; before that the regular files are
+-- told that have no name of an object. A file for which memory was wanted is told so only in a look
+-- that a fault ended.
 pub record EachIsTold (types : List SuffixType) (given : Given) (names : List (List ℕ))
-    (wanted : List Wanted) (entries : List LogEntry) : Type 0 where
-  pub before : List (List ℕ)
+    (wanted : List Wanted) (fault : Option Refusal) (entries : List LogEntry) : Type 0 where
   pub missed : List (List ℕ)
-  pub read : names_read entries ≡ before ++ missed
-  pub taken : AreTaken types names given.read given.missed wanted missed
+  pub read : names_read entries ≡ nameless given.files ++ missed
+  pub taken : AreTaken types (fault ≢ None) names given.read given.missed wanted missed
 
 -- A look at the folder of this path, by this table of suffixes, which gave this: it saw these names
 -- of objects and took these objects, and of the carousel that it found it ran these commands, up to
--- a fault. This is told of it; where it is fine nothing was refused.
+-- a fault. This is told of it; it is fine exactly where nothing was refused.
 pub data IsLook (types : List SuffixType) (allows : Bool) (path : List ℕ) (given : Given)
     (c : Carousel) (commands : List Command) (marks : List Bool) (fault : Option Refusal)
     (names : List (List ℕ)) (wanted : List Wanted) (fine : Bool) (entries : List LogEntry) :
@@ -79,25 +78,24 @@ pub data IsLook (types : List SuffixType) (allows : Bool) (path : List ℕ) (giv
   -- It was listed once; none of the names begins with a dot. The commands are those of the update
   -- to the objects that were taken, all of them where no fault came, and what came of each is told.
   -- Each name that was gone over is that of such an object, or of a file that is told: all of them
-  -- where no fault came. Where it is fine there is an object of each name, and each command was
-  -- accepted.
+  -- where no fault came. It is fine exactly where no file is told and each command was accepted.
   listed : AreShown names → IsListing types path given names
       → is_kept allows names (length c.objects) ≡ false → IsUpdate names wanted
       → (others : List Command) → updating c names wanted ≡ commands ++ others
       → (fault ≡ None → others ≡ [])
-      → (fine ≡ true → fault ≡ None → (names_of wanted ≡ names) × AreAccepted marks)
+      → (fine ≡ true ↔ (names_read entries ≡ []) × AreAccepted marks)
       → (answers : List Answer) → AreAnswers answers commands marks
       → of_look entries ≡ map log_entry_of answers
       → (seen : List (List ℕ)) → (fault ≡ None → seen ≡ names)
-      → EachIsTold types given seen wanted entries
+      → EachIsTold types given seen wanted fault entries
       → IsLook types allows path given c commands marks fault names wanted fine entries
 
--- Where commands were run, what is told of each of them is what came of it: the ids that it took, or
--- why it was refused.
+-- Where commands were run, what is told of each of them is what came of it: the ids that it took,
+-- or why it was refused.
 abbrev pub TellsRightly : Layout → Standing → List Command → List LogEntry → Type 0
 TellsRightly layout s commands entries = (commands ≡ [])
     ⊎ ((answers : List Answer) × (of_look entries ≡ map log_entry_of answers)
-    × AreRight layout s commands answers)
+    × AreAttemptsOf layout s commands answers)
 
 -- a look ran its commands, and what is told of it stands in the report
 pub record HasLookedAtFolder {D : Type 0} (old new : ServerView D) (start now : State)
@@ -116,8 +114,8 @@ pub record HasLookedAtFolder {D : Type 0} (old new : ServerView D) (start now : 
 
 -- whether a look is due: where one may come, and this packet was the last that was to come before
 -- it
-abbrev pub is_due : ℕ → Bool → Bool
-is_due left may_look = may_look && nat_le left 1
+abbrev pub is_look_due : ℕ → Bool → Bool
+is_look_due left may_look = may_look && nat_le left 1
 
 -- how many packets come before the next look, behind one that left a file for it, or none
 abbrev pub packets_left : (any_left : Bool) → (every : ℕ) → ℕ
@@ -125,11 +123,11 @@ packets_left any_left every = if any_left && nat_le SOON every then SOON else ev
 
 -- how many packets are to come before the next look, behind one that may be such a packet: each
 -- counts; or, where looks come within turns, each in front of which one may come
-abbrev pub left_behind : (within may_look : Bool) → ℕ → ℕ
-left_behind within may_look left = if may_look || not within then left - 1 else left
+abbrev pub packets_left_behind : (within may_look : Bool) → ℕ → ℕ
+packets_left_behind within may_look left = if may_look || not within then left - 1 else left
 
--- What looks are of: the folder of this path, by this table of suffixes; whether all its objects may
--- go; how many packets come between two looks; and whether looks come within turns.
+-- What looks are of: the folder of this path, by this table of suffixes; whether all its objects
+-- may go; how many packets come between two looks; and whether looks come within turns.
 pub record Watch : Type 0 where
   pub path : List ℕ
   pub types : List SuffixType
@@ -142,25 +140,33 @@ abbrev pub watch : List ℕ → List SuffixType → (allows : Bool) → (every :
 watch path types allows every within =
     record { path = path; types = types; allows = allows; every = every; within = within }
 
--- What is told of a call before which so many packets were to come, and behind which so many are:
--- no look was due there, and nothing was done; or there was this look, which gave this and is the
--- last of all so far.
-pub data TellsLooks (w : Watch) (moment : Moment) (left then_left : ℕ)
-    (earlier later : List Given) (c : Carousel) (commands : List Command) (marks : List Bool)
-    (fault : Option Refusal) : Type 0 where
-  no_look : is_due left (may_look moment) ≡ false
-      → then_left ≡ left_behind w.within (may_look moment) left → later ≡ earlier
-      → commands ≡ []
-      → TellsLooks w moment left then_left earlier later c commands marks fault
-  one_look : is_due left (may_look moment) ≡ true
-      → (any_left : Bool) → then_left ≡ packets_left any_left w.every
-      → (given : Given) → later ≡ earlier ++ given ∷ []
-      → (names : List (List ℕ)) (wanted : List Wanted) (fine : Bool) (entries : List LogEntry)
+-- Looks so far: how many packets are to come before the next one, what the folder gave in each, and
+-- whether anything was refused in one.
+pub record LooksSoFar : Type 0 where
+  pub left : ℕ
+  pub given : List Given
+  pub refused : Bool
+
+abbrev pub so_far : ℕ → List Given → Bool → LooksSoFar
+so_far left given refused = record { left = left; given = given; refused = refused }
+
+-- What is told of a call behind these looks, which are those then: no look was due there, and
+-- nothing was done; or there was a further one.
+pub data TellsLooks (w : Watch) (moment : Moment) (old new : LooksSoFar) (c : Carousel)
+    (commands : List Command) (marks : List Bool) (fault : Option Refusal) : Type 0 where
+  no_look : is_look_due old.left (may_look moment) ≡ false
+      → new ≡ record old { left = packets_left_behind w.within (may_look moment) old.left }
+      → commands ≡ [] → TellsLooks w moment old new c commands marks fault
+  one_look : is_look_due old.left (may_look moment) ≡ true
+      → (any_left : Bool) (given : Given) (names : List (List ℕ)) (wanted : List Wanted)
+      (fine : Bool) (entries : List LogEntry)
+      → new ≡ so_far (packets_left any_left w.every) (old.given ++ given ∷ [])
+      (old.refused || not fine)
       → IsLook w.types w.allows w.path given c commands marks fault names wanted fine entries
-      → TellsLooks w moment left then_left earlier later c commands marks fault
+      → TellsLooks w moment old new c commands marks fault
 
 -- looks that go on, of the same folder
-abbrev pub TellsWatch : (old new : Watch) → Moment → (left then_left : ℕ)
-    → (earlier later : List Given) → Carousel → List Command → List Bool → Option Refusal → Type 0
-TellsWatch old new moment left then_left earlier later c commands marks fault =
-    (new ≡ old) × TellsLooks old moment left then_left earlier later c commands marks fault
+abbrev pub TellsWatch : (old new : Watch) → Moment → (before after : LooksSoFar)
+    → Carousel → List Command → List Bool → Option Refusal → Type 0
+TellsWatch old new moment before after c commands marks fault =
+    (new ≡ old) × TellsLooks old moment before after c commands marks fault

@@ -1,19 +1,19 @@
 //! A folder of files, as a source of wanted objects.
-ghost use Rattle.std.specs.Prelude.{◌≡◌, ◌⊎◌, ◌-◌, ℕ, List, [], true, false, not, IfErr, IfOk};
+ghost use Rattle.std.specs.Prelude.{◌≡◌, ◌⊎◌, ◌-◌, ◌<◌, ℕ, List, [], true, false, not, IfErr, IfOk};
 ghost use Rattle.std.specs.Prelude.{MatchResult, codes, slice_get};
 ghost use Rattle.mot_folder.specs.Inner.Names.{name_or_none};
 ghost use Rattle.mot_folder.specs.Inner.Reading.{Misses, Takes, TellsFile, TellsLook};
-ghost use Rattle.mot_folder.specs.Inner.Reading.{IsUntakable};
 ghost use Rattle.mot_folder.specs.Log.{TellsOf, TellsOne, entry};
 ghost use Rattle.mot_folder.specs.declared.folder.Untaken.TheVariants.{Refused as NotTaken};
 ghost use Rattle.mot_folder.specs.declared.folder.Untaken.TheVariants.{Unread as NotRead};
 ghost use Rattle.mot_numbers.specs.declared.refusal.Refusal.{Refusal};
+ghost use Rattle.mot_numbers.specs.declared.refusal.Refusal.TheVariants.{OutOfMemory};
 ghost use Rattle.mot_server.specs.declared.running.Attempt.TheVariants.{Refused};
-ghost use Rattle.mot_shelf.specs.declared.unread.Unread.TheVariants.{Changed, Young};
+ghost use Rattle.mot_shelf.specs.declared.unread.Unread.TheVariants.{Changed, TooLong, Young};
 ghost use Rattle.mot_shelf.specs.Given.{Given, nothing};
 ghost use Rattle.mot_suffixes.specs.Types.{SuffixType, type_of_name};
 ghost use Rattle.mot_update.specs.Looking.{was_settled};
-ghost use Rattle.mot_folder.specs.Taken.{wanted_file};
+ghost use Rattle.mot_folder.specs.Taken.{IsUntakable, wanted_file};
 ghost use Rattle.mot_update.specs.Told.{TellsBoth, answers_of};
 
 use crate::listing::{FileNames, read_refusal};
@@ -128,6 +128,9 @@ enum Untaken {
 /// Tells that the file of this name could not be taken, and why.
 fn tell_untaken(report: &mut Report, name: &[u8], untaken: Untaken)
     ensures any { report.new.any_refused ≡ true }
+    ensures stays { report.old.any_without_memory ≡ true
+        → report.new.any_without_memory ≡ true }
+    ensures memory { untaken ≡ NotTaken OutOfMemory → report.new.any_without_memory ≡ true }
     ensures told { TellsFile report.old report.new name.now }
 
     // What was read of it is told as it was refused; what may be read next time brings a look soon.
@@ -150,6 +153,8 @@ fn tell_untaken(report: &mut Report, name: &[u8], untaken: Untaken)
 /// Tells that the system refused to read the file of this name.
 fn tell_fault(report: &mut Report, name: &[u8], error: io::Error)
     ensures any { report.new.any_refused ≡ true }
+    ensures stays { report.old.any_without_memory ≡ true
+        → report.new.any_without_memory ≡ true }
     ensures told { TellsFile report.old report.new name.now }
 {
     match read_refusal(error) {
@@ -215,7 +220,12 @@ fn read<S: Shelf + Drop>(
     ensures same { S.path shelf.new ≡ S.path shelf.old }
     ensures took { MatchResult result
         (Takes types.now name.now (S.gave shelf.old) (S.gave shelf.new))
-        (λ _. Misses name.now (S.gave shelf.old) (S.gave shelf.new)) }
+        (λ untaken. Misses types.now name.now (S.gave shelf.old) (S.gave shelf.new)
+        (untaken ≡ NotTaken OutOfMemory)) }
+
+    // A file is too long only where no body has so many bytes.
+    ensures long { IfErr result (λ untaken. (count : ℕ) → untaken ≡ NotRead (TooLong count)
+        → MAX_BODY < count) }
 {
     let bytes = match shelf.read(alloc, name.as_bytes(), u64::from(MAX_BODY)) {
         Ok(bytes) => bytes,
@@ -232,7 +242,8 @@ fn wanted_of_file(types: &FileTypes, name: &Name, bytes: Vec<u8>) -> Result<Want
     ensures made { IfOk result (λ wanted. (type : SuffixType)
         × (type_of_name types.now name.now ≡ Some type)
         × (wanted ≡ wanted_file type name.now bytes.items)) }
-    ensures why { IfErr result (IsUntakable types.now name.now bytes.items) }
+    ensures why { IfErr result (λ refusal. IsUntakable types.now name.now bytes.items
+        ⊎ (refusal ≡ OutOfMemory)) }
 {
     let Some(file_type) = types.of_name(name.as_bytes()) else {
         return Err(Refusal::BadName);

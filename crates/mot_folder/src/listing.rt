@@ -1,10 +1,11 @@
 //! The files of a folder that are objects.
 ghost use Rattle.std.specs.List.{insert};
-ghost use Rattle.std.specs.Prelude.{◌≡◌, ◌↔◌, ◌+◌, ◌<◌, ◌≤◌, ◌∷◌, [], true, false, length};
+ghost use Rattle.std.specs.Prelude.{◌≡◌, ◌↔◌, ◌+◌, ◌<◌, ◌≤◌, ◌∷◌, ◌++◌, [], true, false, length};
 ghost use Rattle.std.specs.Prelude.{if◌then◌else◌, IfErr, IfOk, IfNone, IfSome, IsOk, IsTrue};
 ghost use Rattle.std.specs.Prelude.{List, OnErr, OnOk, Option, codes, ℕ};
 ghost use Rattle.mot_folder.specs.Inner.Listing.{GivesAll, GivesNoMore, GoesOn, IsCallRefusal};
-ghost use Rattle.mot_folder.specs.Inner.Listing.{IsUnread, StopsAt, WereAsked};
+ghost use Rattle.mot_folder.specs.Inner.Listing.{IsUnread, Skips, StopsAt, TellsNameless};
+ghost use Rattle.mot_folder.specs.Inner.Listing.{WereAsked};
 ghost use Rattle.mot_folder.specs.Inner.Reading.{TellsFile};
 ghost use Rattle.mot_objects.specs.Name.{is_name};
 ghost use Rattle.mot_objects.specs.declared.name.TheConstants.{MAX_NAME};
@@ -168,6 +169,8 @@ pub(crate) fn list<S: Shelf + Drop>(
     requires { S.gave shelf.old ≡ nothing }
     ensures same { S.path shelf.new ≡ S.path shelf.old }
     ensures told { TellsMore (TellsAnswers report.old) (TellsAnswers report.new) [] }
+    ensures further { TellsNameless [] report.old
+        → IfOk result (λ _. TellsNameless (S.gave shelf.new).files report.new) }
     ensures listed { IfOk result (λ names. IsListing types.now (S.path shelf.old)
         (S.gave shelf.new) names.names.items) }
     ensures unread { IsUnread nothing (S.gave shelf.new) }
@@ -193,6 +196,8 @@ fn read_names<S: Shelf + Drop>(
 ) -> Result<(), Unlisted>
     ensures same { S.path shelf.new ≡ S.path shelf.old }
     ensures told { TellsMore (TellsAnswers report.old) (TellsAnswers report.new) [] }
+    ensures further { OnOk result (TellsNameless (S.gave shelf.old).files report.old
+        → TellsNameless (S.gave shelf.new).files report.new) }
     ensures gave { OnOk result (GivesAll types.now (S.gave shelf.old) (S.gave shelf.new)
         names.old.counted names.new.counted names.old.names.items names.new.names.items) }
     ensures unread { IsUnread (S.gave shelf.old) (S.gave shelf.new) }
@@ -222,6 +227,8 @@ fn add_all<S: Shelf + Drop>(
 ) -> Result<(), Unlisted>
     ensures same { S.path shelf.new ≡ S.path shelf.old }
     ensures told { TellsMore (TellsAnswers report.old) (TellsAnswers report.new) [] }
+    ensures further { OnOk result (TellsNameless (S.gave shelf.old).files report.old
+        → TellsNameless (S.gave shelf.new).files report.new) }
     ensures goes { OnOk result (GoesOn types.now (names_in bytes.now) (S.gave shelf.old)
         (S.gave shelf.new) names.old.counted names.new.counted
         names.old.names.items names.new.names.items) }
@@ -260,6 +267,8 @@ fn add_one<S: Shelf + Drop>(
 ) -> Result<(), Unlisted>
     ensures same { S.path shelf.new ≡ S.path shelf.old }
     ensures told { TellsMore (TellsAnswers report.old) (TellsAnswers report.new) [] }
+    ensures further { OnOk result (TellsNameless (S.gave shelf.old).files report.old
+        → TellsNameless (S.gave shelf.new).files report.new) }
     ensures goes { OnOk result (GoesOn types.now (name.now ∷ []) (S.gave shelf.old)
         (S.gave shelf.new) names.old.counted names.new.counted
         names.old.names.items names.new.names.items) }
@@ -292,6 +301,11 @@ fn tell_skipped<S: Shelf + Drop>(
     report: &mut Report,
 )
     ensures told { TellsMore (TellsAnswers report.old) (TellsAnswers report.new) [] }
+    ensures further { (files : List (List ℕ)) → TellsNameless files report.old
+        → TellsNameless files report.new }
+
+    // It is told once at most.
+    ensures skips { Skips report.old report.new name.now has_suffix }
 {
     if name.first() == Some(&b'.') || report.is_full() {
         return;
@@ -321,6 +335,8 @@ fn add_file(
     report: &mut Report,
 ) -> Result<(), AllocError>
     ensures told { TellsMore (TellsAnswers report.old) (TellsAnswers report.new) [] }
+    ensures further { OnOk result ((files : List (List ℕ)) → TellsNameless files report.old
+        → TellsNameless (files ++ name.now ∷ []) report.new) }
     ensures added { OnOk result
         (names.new.names.items ≡ and_object names.old.names.items name.now) }
     ensures kept { OnErr result (names.new.names.items ≡ names.old.names.items) }

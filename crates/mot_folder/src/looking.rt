@@ -1,11 +1,13 @@
 //! A look at a folder, and looks between the packets of a feed.
-ghost use Rattle.std.specs.Prelude.{◌≡◌, ◌&&◌, ◌||◌, ◌+◌, ◌∷◌, ◌++◌, [], OnOk, true, false, ℕ};
-ghost use Rattle.std.specs.Prelude.{List, if◌then◌else◌, length, min};
+ghost use Rattle.std.specs.Prelude.{◌≡◌, ◌⊎◌, ◌&&◌, ◌||◌, ◌+◌, ◌/◌, ◌≤◌, ◌∷◌, ◌++◌, [], OnOk, true};
+ghost use Rattle.std.specs.Prelude.{false, ℕ, List, codes, if◌then◌else◌, length, min};
 ghost use Rattle.disk_model.specs.Disk.{KeepsLength};
 ghost use Rattle.mot_update.specs.Between.{IsUpdating, may_look};
-ghost use Rattle.mot_folder.specs.Log.{TellsAnswers, TellsOf};
-ghost use Rattle.mot_folder.specs.Looked.{HasLookedAtFolder, is_due, is_kept, left_behind};
-ghost use Rattle.mot_folder.specs.Looked.{TellsWatch, packets_left, watch};
+ghost use Rattle.mot_folder.specs.Log.{TellsAnswers, TellsOf, TellsOne, entry_with};
+ghost use Rattle.mot_folder.specs.Inner.Notes.{gap_text, most_text, unknown_objects};
+ghost use Rattle.mot_folder.specs.Inner.Listing.{TellsNameless};
+ghost use Rattle.mot_folder.specs.Looked.{HasLookedAtFolder, TellsWatch, is_kept, is_look_due};
+ghost use Rattle.mot_folder.specs.Looked.{packets_left, packets_left_behind, so_far, watch};
 ghost use Rattle.mot_journal.specs.Image.{Standing};
 ghost use Rattle.mot_repository.specs.Repository.{Holds};
 ghost use Rattle.mot_update.specs.Faults.{TellsFaults};
@@ -108,18 +110,43 @@ fn is_kept(allows_empty: bool, names: &FileNames, carousel: &Carousel) -> bool
 /// Notes how many objects are not known, if they are more than half of them.
 fn note_most(report: &mut Report, path: &str, names: &FileNames, carousel: &Carousel)
     ensures told { TellsMore (TellsAnswers report.old) (TellsAnswers report.new) [] }
+    ensures further { (files : List (List ℕ)) → TellsNameless files report.old
+        → TellsNameless files report.new }
+    ensures none { length (unknown_objects names.now.names.items carousel.now.objects.items)
+        ≤ length carousel.now.objects.items / 2 → report.new ≡ report.old }
+    ensures notes { (report.new ≡ report.old) ⊎ TellsOne report.old report.new
+        (entry_with (codes "note") path.now (most_text
+        (length (unknown_objects names.now.names.items carousel.now.objects.items))
+        (length carousel.now.objects.items))) }
 {
     let all = carousel.objects.len();
-    let unknown = carousel
-        .objects
-        .iter()
-        .filter(|object| !names.has(&object.name))
-        .count();
+    let unknown = count_unknown(names, carousel);
     if unknown > all / 2 {
-        let mut rest = ArrayVec::<u8, REST>::new();
-        let _ = writeln!(rest, "{unknown} of {all} objects go");
+        tell_most(report, path, unknown, all);
+    }
+}
+
+/// Notes that so many of so many objects go.
+fn tell_most(report: &mut Report, path: &str, unknown: usize, all: usize)
+    ensures told { TellsMore (TellsAnswers report.old) (TellsAnswers report.new) [] }
+    ensures further { (files : List (List ℕ)) → TellsNameless files report.old
+        → TellsNameless files report.new }
+    ensures notes { (report.new ≡ report.old) ⊎ TellsOne report.old report.new
+        (entry_with (codes "note") path.now (most_text unknown all)) }
+{
+    let mut rest = ArrayVec::<u8, REST>::new();
+    if writeln!(rest, "{unknown} of {all} objects go").is_ok() {
         report.noted(path.as_bytes(), rest.as_slice());
     }
+}
+
+/// How many objects are not known.
+fn count_unknown(names: &FileNames, carousel: &Carousel) -> usize
+    ensures { result
+        ≡ length (unknown_objects names.now.names.items carousel.now.objects.items) }
+{
+    let objects = carousel.objects.iter();
+    objects.filter(|object| !names.has(&object.name)).count()
 }
 
 /// Notes how many bytes an object may have now, if there was no room for one.
@@ -129,11 +156,15 @@ fn note_gap(report: &mut Report, path: &str, gap: u32)
         → TellsOf types given report.old names answers wanted
         → TellsOf types given report.new names answers wanted }
     ensures same { report.new.any_refused ≡ report.old.any_refused }
+    ensures none { report.old.any_without_room ≡ false → report.new ≡ report.old }
+    ensures notes { (report.new ≡ report.old) ⊎ TellsOne report.old report.new
+        (entry_with (codes "note") path.now (gap_text gap)) }
 {
     if report.any_without_room {
         let mut rest = ArrayVec::<u8, REST>::new();
-        let _ = writeln!(rest, "{gap} bytes in the longest gap");
-        report.noted(path.as_bytes(), rest.as_slice());
+        if writeln!(rest, "{gap} bytes in the longest gap").is_ok() {
+            report.noted(path.as_bytes(), rest.as_slice());
+        }
     }
 }
 
@@ -193,7 +224,8 @@ impl<'a, S: Shelf + Drop, W: Write + Drop> Update for Looks<'a, S, W> {
         old.within)
         (watch (S.path new.folder.shelf) new.folder.types.now new.folder.allows_empty new.every
         new.within)
-        moment old.left new.left old.looks.all new.looks.all };
+        moment (so_far old.left old.looks.all old.any_refused)
+        (so_far new.left new.looks.all new.any_refused) };
 
     fn update<D: Disk>(
         &mut self,
@@ -211,24 +243,25 @@ impl<'a, S: Shelf + Drop, W: Write + Drop> Update for Looks<'a, S, W> {
             self.old.folder.allows_empty self.old.every self.old.within)
             (watch (S.path self.new.folder.shelf) self.new.folder.types.now
             self.new.folder.allows_empty self.new.every self.new.within)
-            moment self.old.left self.new.left self.old.looks.all self.new.looks.all)
+            moment (so_far self.old.left self.old.looks.all self.old.any_refused)
+            (so_far self.new.left self.new.looks.all self.new.any_refused))
             server.old server.new (D.state server.old.disk) (D.state server.new.disk) s
             (fault_of result) }
 
         // It looks if a look is due, and else it only counts.
-        ensures counts { is_due self.old.left (may_look moment) ≡ false
+        ensures counts { is_look_due self.old.left (may_look moment) ≡ false
             → (server.new ≡ server.old)
-            × (self.new.left ≡ left_behind self.old.within (may_look moment) self.old.left) }
-        ensures looks { is_due self.old.left (may_look moment) ≡ true
+            × (self.new.left ≡ packets_left_behind self.old.within (may_look moment) self.old.left) }
+        ensures looks { is_look_due self.old.left (may_look moment) ≡ true
             → (self.new.left ≡ packets_left self.new.folder.report.any_left self.old.every)
             × (self.new.looks.all ≡ self.old.looks.all ++ S.gave self.new.folder.shelf ∷ []) }
 
         // It counts its looks, and keeps whether something was refused in any of them.
-        ensures counted { self.new.count ≡ (if is_due self.old.left (may_look moment)
+        ensures counted { self.new.count ≡ (if is_look_due self.old.left (may_look moment)
             then min (self.old.count + 1) 18446744073709551615 else self.old.count) }
         ensures kept { self.new.any_refused ≡ (self.old.any_refused
-            || is_due self.old.left (may_look moment) && self.new.folder.report.any_refused) }
-        ensures looked { is_due self.old.left (may_look moment) ≡ true
+            || is_look_due self.old.left (may_look moment) && self.new.folder.report.any_refused) }
+        ensures looked { is_look_due self.old.left (may_look moment) ≡ true
             → (s : Standing) → Holds server.old.view s (D.state server.old.disk)
             → (D.state server.new.disk).IsHonest
             → HasLookedAtFolder server.old server.new (D.state server.old.disk)
@@ -271,8 +304,8 @@ fn packets_left(any_left: bool, every: u64) -> u64
 
 /// Counts a packet of those that come before the next look; whether that is due.
 fn look_is_due(left: &mut u64, within: bool, may_look: bool) -> bool
-    ensures due { result ≡ is_due left.old may_look }
-    ensures counts { left.new ≡ left_behind within may_look left.old }
+    ensures due { result ≡ is_look_due left.old may_look }
+    ensures counts { left.new ≡ packets_left_behind within may_look left.old }
 {
     if may_look || !within {
         *left = left.saturating_sub(1);

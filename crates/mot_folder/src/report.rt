@@ -1,5 +1,6 @@
 //! The log of a look at a folder, line by line.
-ghost use Rattle.std.specs.Prelude.{◌≡◌, ◌↔◌, ◌++◌, [], List, Option, Some, ℕ, true, false, codes};
+ghost use Rattle.std.specs.Prelude.{◌≡◌, ◌↔◌, ◌||◌, ◌++◌, [], List, Option, Some, ℕ, true, false};
+ghost use Rattle.std.specs.Prelude.{codes, not};
 ghost use Rattle.std.specs.Prelude.{IfErr, IsOk, OnOk, nat_le};
 ghost use Rattle.mot_folder.specs.Log.{BeginsAnew, ReportTells, TellsOne, entry, entry_with, kept_entry};
 ghost use Rattle.mot_folder.specs.Log.{log_line, with_reason};
@@ -97,6 +98,10 @@ impl Report {
     pub fn answered(&mut self, what: &str, name: &[u8], attempt: Attempt)
         ensures fine { self.new.any_refused ≡ false
             → (self.old.any_refused ≡ false) × (was_accepted attempt ≡ true) }
+        ensures any { self.new.any_refused
+            ≡ (self.old.any_refused || not (was_accepted attempt)) }
+        ensures stays { self.old.any_without_memory ≡ true
+            → self.new.any_without_memory ≡ true }
         ensures told { TellsOne self.old self.new (entry what.now name.now attempt) }
     {
         match attempt {
@@ -109,6 +114,10 @@ impl Report {
     pub(crate) fn stored(&mut self, what: &str, name: &[u8], attempt: Attempt, length: u32)
         ensures fine { self.new.any_refused ≡ false
             → (self.old.any_refused ≡ false) × (was_accepted attempt ≡ true) }
+        ensures any { self.new.any_refused
+            ≡ (self.old.any_refused || not (was_accepted attempt)) }
+        ensures stays { self.old.any_without_memory ≡ true
+            → self.new.any_without_memory ≡ true }
         ensures told { (why : Option (List ℕ)) × TellsOne self.old self.new
             (with_reason (entry what.now name.now attempt) why) }
     {
@@ -121,6 +130,8 @@ impl Report {
     /// So many bytes were not stored. For want of room, the reason is how many they are.
     fn not_stored(&mut self, what: &str, name: &[u8], refusal: Refusal, length: u32)
         ensures any { self.new.any_refused ≡ true }
+        ensures stays { self.old.any_without_memory ≡ true
+            → self.new.any_without_memory ≡ true }
         ensures told { (why : Option (List ℕ)) × TellsOne self.old self.new
             (with_reason (entry what.now name.now (Refused refusal)) why) }
     {
@@ -136,6 +147,8 @@ impl Report {
     /// It was done, with these ids.
     fn done(&mut self, what: &str, name: &[u8], done: Done)
         ensures same { self.new.any_refused ≡ self.old.any_refused }
+        ensures stays { self.old.any_without_memory ≡ true
+            → self.new.any_without_memory ≡ true }
         ensures told { TellsOne self.old self.new (entry what.now name.now (Accepted done)) }
     {
         self.add(what, name, done_text(done).as_slice());
@@ -145,6 +158,8 @@ impl Report {
     pub fn refused(&mut self, what: &str, name: &[u8], refusal: Refusal)
         ensures any { self.new.any_refused ≡ true }
         ensures memory { refusal ≡ OutOfMemory → self.new.any_without_memory ≡ true }
+        ensures stays { self.old.any_without_memory ≡ true
+            → self.new.any_without_memory ≡ true }
         ensures told { TellsOne self.old self.new (entry what.now name.now (Refused refusal)) }
     {
         self.note_refusal(refusal);
@@ -155,6 +170,8 @@ impl Report {
     pub(crate) fn refused_for(&mut self, what: &str, name: &[u8], refusal: Refusal, why: &[u8])
         ensures any { self.new.any_refused ≡ true }
         ensures memory { refusal ≡ OutOfMemory → self.new.any_without_memory ≡ true }
+        ensures stays { self.old.any_without_memory ≡ true
+            → self.new.any_without_memory ≡ true }
         ensures told { TellsOne self.old self.new
             (with_reason (entry what.now name.now (Refused refusal)) (Some why.now)) }
     {
@@ -171,6 +188,8 @@ impl Report {
     fn note_refusal(&mut self, refusal: Refusal)
         ensures any { self.new.any_refused ≡ true }
         ensures memory { refusal ≡ OutOfMemory → self.new.any_without_memory ≡ true }
+        ensures stays { self.old.any_without_memory ≡ true
+            → self.new.any_without_memory ≡ true }
         ensures lines { self.new.lines ≡ self.old.lines }
         ensures whole { self.new.any_left_out ≡ self.old.any_left_out }
     {
@@ -187,6 +206,8 @@ impl Report {
     pub fn missed(&mut self, name: &[u8], rest: &[u8])
         ensures any { self.new.any_refused ≡ true }
         ensures left { self.new.any_left ≡ self.old.any_left }
+        ensures stays { self.old.any_without_memory ≡ true
+            → self.new.any_without_memory ≡ true }
         ensures told { TellsOne self.old self.new
             (entry_with (codes "read") name.now rest.now) }
     {
@@ -198,6 +219,8 @@ impl Report {
     pub fn left(&mut self, name: &[u8], rest: &[u8])
         ensures any { self.new.any_refused ≡ true }
         ensures left { self.new.any_left ≡ true }
+        ensures stays { self.old.any_without_memory ≡ true
+            → self.new.any_without_memory ≡ true }
         ensures told { TellsOne self.old self.new
             (entry_with (codes "read") name.now rest.now) }
     {
@@ -218,6 +241,8 @@ impl Report {
     /// A note about what this name names, with the end of its line. Nothing was done for it.
     pub fn noted(&mut self, name: &[u8], rest: &[u8])
         ensures same { self.new.any_refused ≡ self.old.any_refused }
+        ensures stays { self.old.any_without_memory ≡ true
+            → self.new.any_without_memory ≡ true }
         ensures told { TellsOne self.old self.new
             (entry_with (codes "note") name.now rest.now) }
     {

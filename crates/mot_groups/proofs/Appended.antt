@@ -5,14 +5,6 @@ use Rattle.std.proofs.Math.Seq.{drop-append_seam}
 use Rattle.std.proofs.lemmas.Grind.{numeral_or}
 use Rattle.std.proofs.lemmas.List.{take_all}
 use Rattle.std.specs.Int.RustNames.{bit_or}
-use Rattle.mot_numbers.specs.GroupKind.{kind_number}
-use Rattle.mot_numbers.specs.declared.group_kind.GroupKind.{GroupKind}
-use Rattle.mot_numbers.specs.declared.group_kind.GroupKind.TheVariants.{Body, Directory}
-
--- the number of a group's type fits in four bits
-pub kind_number_fits : (kind : GroupKind) → kind_number kind < 16
-kind_number_fits Body = omega arith
-kind_number_fits Directory = omega arith
 
 -- two bytes of a header, and what comes behind them, appended in turn are the group's
 pub header-appended : (out head segment : List ℕ) (kind index : ℕ) → kind < 16 → index < 16 →

@@ -1,9 +1,9 @@
 -- Only the bytes of a group read as it.
-use Rattle.std.proofs.Common.{◌≡◌, ℕ, ◌+◌, ◌-◌, ◌%◌, ◌^◌, ◌<◌, List, [], ◌∷◌, ◌++◌, true, inl, inr}
+use Rattle.std.proofs.Common.{◌≡◌, ℕ, ◌+◌, ◌-◌, ◌%◌, ◌^◌, ◌<◌, List, [], ◌∷◌, ◌++◌, true}
 use Rattle.std.proofs.Common.{refl, sym, length, take, drop, arith, ap, subst, ◌∙◌, length-take}
 use Rattle.std.proofs.Common.{length-drop, Some}
-use Rattle.std.proofs.lemmas.Bool.{and_parts, cases_eq, eq-eqb, eqb-true, leb-true, ltb-true}
-use Rattle.std.proofs.lemmas.Bool.{ne_eqb, not-true}
+use Rattle.std.proofs.lemmas.Bool.{and_parts, eqb-true, leb-true, ltb-true}
+use Rattle.std.proofs.lemmas.Bool.{not-true}
 use Rattle.std.proofs.lemmas.List.{take-append-drop, take-take}
 use Rattle.std.proofs.lemmas.List.Elements.{All-drop, All-same, All-take}
 use Rattle.std.proofs.Math.Nat.{mod-eq_of_lt}
@@ -20,6 +20,7 @@ use Rattle.mot_numbers.specs.Fields.{number_in, fields}
 use Rattle.mot_numbers.specs.Reading.{is_empty}
 use Rattle.mot_numbers.proofs.Laws.{fields-injective, length-some, number_in-fits}
 use Rattle.mot_numbers.proofs.Laws.{number_in-injective}
+use Rattle.mot_numbers.proofs.Laws.{one_or_zero}
 
 -- the header's fields, as a group has them
 abbrev header_of : GroupFields → List ℕ
@@ -33,12 +34,6 @@ record IsRead (bytes header : List ℕ) (g : GroupFields) : Type 0 where
   part : drop 9 (without_crc bytes) ≡ g.segment.bytes
   crc : ends_in_crc bytes ≡ true
   is_group : IsGroup g
-
-one_or_zero : (n : ℕ) → n < 2 → n ≡ from_bool (n == 1)
-one_or_zero n h = elim (cases_eq n 1) [
-  | inl e ↦ rw (eq-eqb n 1 e) e
-  | inr e ↦ rw (ne_eqb n 1 e) (omega arith)
-]
 
 module _ (bytes : List ℕ)
     (extension crc segment access kind index repetition last number rfa flag indicator tid count

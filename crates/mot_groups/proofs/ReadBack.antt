@@ -1,6 +1,7 @@
 -- What is written as a group reads as that group.
 use Rattle.std.proofs.Common.{◌≡◌, ℕ, ◌+◌, ◌*◌, ◌/◌, ◌%◌, ◌<◌, ◌≤◌, List, [], ◌∷◌, ◌++◌, Bool, true}
 use Rattle.std.proofs.Common.{false, refl, length, drop, arith, ap, ◌∙◌, eq-eqb, Some}
+use Rattle.std.proofs.Common.{length-append}
 use Rattle.std.proofs.lemmas.Bool.{lt-ltb, le-leb}
 use Rattle.std.specs.Prelude.{◌==◌, if◌then◌else◌}
 use Rattle.std.specs.Int.{w16, to_be_bytes}
@@ -117,3 +118,11 @@ AreBytes-bytes_of_group g is_group bytes =
     (AreBytes-cons (112 + s.kind) (16 * g.index ∷ segment_content s) (omega arith)
     (AreBytes-cons (16 * g.index) (segment_content s) (omega arith) content))
     (AreBytes-to_be_bytes (crc_of covered))
+
+-- a group has 11 bytes more than its segment
+pub length-bytes_of_group : (g : GroupFields) →
+    length (bytes_of_group g) ≡ length g.segment.bytes + 11
+unfolding bytes_of_group
+length-bytes_of_group g =
+    let covered : List ℕ = (112 + g.segment.kind) ∷ (16 * g.index) ∷ segment_content g.segment in
+    omega (arith, length-append g.segment.bytes (to_be_bytes w16 (crc_of covered)))

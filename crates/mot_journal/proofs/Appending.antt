@@ -1,6 +1,6 @@
 -- What a crash leaves during an `append`.
-use Rattle.std.proofs.Common.{◌≡◌, inl, inr, ⊎_elim, ℕ, ◌+◌, ◌-◌, ◌<◌, ◌≤◌, false, List, []}
-use Rattle.std.proofs.Common.{◌∷◌, ◌++◌, length, take, drop, get_or, slice_range, Some, sym, ◌∙◌}
+use Rattle.std.proofs.Common.{◌≡◌, inl, inr, ⊎_elim, ℕ, ◌+◌, ◌<◌, ◌≤◌, false, List, []}
+use Rattle.std.proofs.Common.{◌∷◌, ◌++◌, length, take, drop, get_or, Some, sym, ◌∙◌}
 use Rattle.std.proofs.Common.{ap, subst, arith}
 use Rattle.std.specs.Prelude.{slice_index}
 use Rattle.std.proofs.lemmas.Bool.{cases_eq}
@@ -20,12 +20,10 @@ use Rattle.mot_journal.proofs.Parts.{HasParts, has_parts, parts_have}
 use Rattle.mot_journal.proofs.SlotWrite.{slot_rebuilt}
 use Rattle.mot_journal.proofs.Slots.{shut_is}
 use Rattle.mot_numbers.specs.Geometry.{length_of}
+use Rattle.mot_journal.proofs.Fill.{range_whole}
 
 closed_byte : (slot : List ℕ) → is_open slot ≡ false → slice_index slot 0 ≡ 0xA5 → ⊥
 closed_byte slot is e = grind (arith, nat_tests)
-
-range_whole : (at n : ℕ) (l : List ℕ) → slice_range l at (at + n) ≡ take n (drop at l)
-range_whole at n l = ap (λ k. take k (drop at l)) (let e : at + n - at ≡ n = omega arith in e)
 
 -- what an append found of the journal and of the slot that it writes
 pub record Found (j : JournalView) (records : List Record) (r : Record) (start : State)

@@ -9,13 +9,12 @@ use Rattle.std.proofs.lemmas.Bool.{lt-ltb, false_from_ne_true}
 use Rattle.mot_numbers.specs.Reading.{◌>>=◌}
 use Rattle.std.proofs.lemmas.Bool.Decides.{nat_tests}
 use Rattle.mot_journal.specs.declared.layout.Layout.{Layout}
-use Rattle.mot_journal.specs.declared.layout.Layout.TheVariants.{One, Two}
 use Rattle.mot_journal.specs.declared.record.Record.{Record}
 use Rattle.mot_journal.specs.declared.record.Action.{Action}
 use Rattle.mot_journal.specs.declared.record.Action.TheVariants.{Nothing, Remove}
 use Rattle.mot_journal.specs.Geometry.{columns}
 use Rattle.mot_journal.specs.Slot.{short_text_in, read_slot, is_sound, is_sound_action, kind_base}
-use Rattle.mot_journal.specs.Slot.{slot_columns, record_in, action_in, longest_name}
+use Rattle.mot_journal.specs.Slot.{slot_columns, record_in, action_in}
 use Rattle.mot_journal.specs.Inner.Reading.{number_at, content_at, if_sound, set_in_slot}
 use Rattle.mot_journal.specs.Inner.Reading.{action_in_slot, sound_action_of, name_from, mime_from}
 use Rattle.mot_numbers.specs.declared.geometry.Geometry.{Geometry}
@@ -24,13 +23,12 @@ use Rattle.mot_objects.proofs.Laws.{name_true, name_is, mime_true, mime_is}
 use Rattle.mot_objects.specs.Mime.{IsMime}
 use Rattle.mot_objects.specs.Mime.{is_mime}
 use Rattle.mot_objects.specs.Name.{is_name}
+use Rattle.std.proofs.lemmas.Bool.{and_from}
+use Rattle.mot_journal.proofs.Written.{entry, some-entry}
 
 -- an action that is there
 abbrev pub act-of : Action → Option Action
 act-of a = Some a
-
-abbrev some-entry : Record → Option Record
-some-entry r = Some r
 
 same-entry : (p p' d d' c c' : ℕ) (a : Action) → p ≡ p' → d ≡ d' → c ≡ c'
     → (let r : Record = record { period = p'; directory = d'; cursor = c'; action = a } in r)
@@ -42,14 +40,6 @@ true_or_false true = inl refl
 true_or_false false = inr refl
 
 -- two tests that hold, hold together
-pub both : (a b : Bool) → a ≡ true → b ≡ true → (a && b) ≡ true
-both a b ea eb = ap (λ x. x && b) ea ∙ eb
-
--- two tests that hold together, hold each
-pub parts : (a b : Bool) → (a && b) ≡ true → (a ≡ true) × (b ≡ true)
-parts true b e = (refl, e)
-parts false b e = cc
-
 -- a text that is there
 abbrev pub text : List ℕ → Option (List ℕ)
 text bytes = Some bytes
@@ -179,10 +169,8 @@ columns_from (w ∷ ws) at xs =
     ap (λ l. number_at at w xs ∷ columns ws l) (drop-drop w at xs)
     ∙ ap (λ (l : List ℕ). number_at at w xs ∷ l) (columns_from ws (at + w) xs)
 
-abbrev entry : ℕ → ℕ → ℕ → Action → Record
-entry p d c a = record { period = p; directory = d; cursor = c; action = a }
-
-abbrev checked : Geometry → Layout → Record → Option Record
+-- a record, if it has no fault of fields
+abbrev pub checked : Geometry → Layout → Record → Option Record
 checked g layout r = if is_sound g layout r then Some r else None
 
 bind-some : (o : Option Action) (f : Action → Record) (h : Record → Option Record)
@@ -227,7 +215,7 @@ module _ (g : Geometry) (layout : Layout) (p d c : ℕ) where
         let same : act-of a ≡ act-of a' =
         sym (ap (λ (b : Bool). if b then act-of a else None) is) ∙ e in
         let sound : is_sound g layout (entry p d c a) ≡ true =
-        both _ _ (both _ _ (lt-ltb 0 d ld) (lt-ltb 0 c lc)) is in
+        and_from _ _ (and_from _ _ (lt-ltb 0 d ld) (lt-ltb 0 c lc)) is in
         let is-a : a ≡ a' = cc in
         ap (λ (b : Bool). if b then some-entry (entry p d c a) else None) sound
         ∙ ap (λ (x : Action). some-entry (entry p d c x)) is-a
@@ -274,11 +262,6 @@ module _ (g : Geometry) (layout : Layout) (slot : List ℕ) where
       ∙ step-some g layout (number_at 2 3 slot) (number_at 5 2 slot) (number_at 7 2 slot)
       (action_in_slot layout slot) a e (omega arith) (omega arith)
       ∙ ap some-entry (same-entry p _ d _ c _ a ep ed ec)
-
--- no layout has names of more than 255 bytes
-pub longest_most : (layout : Layout) → longest_name layout ≤ 255
-longest_most One = omega arith
-longest_most Two = omega arith
 
 -- false is not true
 pub wrong-ok : false ≡ true → ⊥

@@ -5,7 +5,6 @@ use Rattle.std.specs.Prelude.{slice_get}
 use Rattle.disk_model.specs.Disk.{State, AgreeOutside, IsHonestDisk, WritesWithin, Torn}
 use Rattle.disk_model.proofs.Laws.{agree_refl, agree_trans, agree_more, begins, goes_on, at_end}
 use Rattle.mot_journal.specs.declared.layout.Layout.{Layout}
-use Rattle.mot_journal.specs.declared.layout.Layout.TheVariants.{One, Two}
 use Rattle.mot_journal.specs.declared.record.Record.{Record}
 use Rattle.mot_journal.specs.Slot.{slot_size, slot_count}
 use Rattle.mot_journal.specs.Inner.Steps.{ChangesWithin, HasSlots, slot_from, IsReadable}
@@ -13,6 +12,7 @@ use Rattle.mot_journal.proofs.Laws.{part}
 use Rattle.mot_journal.proofs.NextSlot.{slot_fits, half_ends}
 use Rattle.mot_numbers.specs.declared.geometry.Geometry.{Geometry}
 use Rattle.mot_numbers.specs.Geometry.{half_start, half_size, area_start}
+use Rattle.mot_journal.proofs.NextSlot.{slots_apart}
 
 module _ (start len : ℕ) (old : State) where
   -- a disk that is left as it is changes within any range at most
@@ -39,11 +39,6 @@ module _ (start len : ℕ) (old : State) where
         ));
   }
 
-slots_before : (layout : Layout) (i n : ℕ) → i < n
-    → i * slot_size layout + slot_size layout ≤ n * slot_size layout
-slots_before One i n lt = omega (arith, lt)
-slots_before Two i n lt = omega (arith, lt)
-
 -- one slot more
 pub slot_more : (g : Geometry) (half : ℕ) (layout : Layout) (given : List Record) (n : ℕ)
     (mid new : List ℕ)
@@ -62,7 +57,7 @@ slot_more g half layout given n mid new so_far agree here reads =
     let was = so_far i lt in (
       part (half_start g half + n * slot_size layout) (slot_size layout) mid new agree
           (half_start g half + i * slot_size layout)
-          (slot_size layout) (omega (arith, slots_before layout i n lt)) ∙ was.0,
+          (slot_size layout) (omega (arith, slots_apart layout i n lt)) ∙ was.0,
       was.1,
     ))
     (here, reads)

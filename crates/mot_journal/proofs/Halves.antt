@@ -1,7 +1,7 @@
 -- What an image has of a journal when its other half is filled and selected.
 use Rattle.std.proofs.Common.{◌≡◌, ◌⊎◌, inl, inr, ⊎_elim, ℕ, zero, suc, ◌+◌, ◌-◌, ◌*◌, ◌<◌, ◌≤◌}
 use Rattle.std.proofs.Common.{Bool, true, false, ◌&&◌, ◌==◌, List, [], ◌∷◌, ◌++◌}
-use Rattle.std.proofs.Common.{length, map, take, drop, get_or, replicate, Some, Result, Ok, refl}
+use Rattle.std.proofs.Common.{length, map, take, drop, get_or, replicate, Some, Ok, refl}
 use Rattle.std.proofs.Common.{sym, ◌∙◌, ap, arith, if◌then◌else◌, length-append, add-zero}
 use Rattle.std.specs.Prelude.{slice_index, slice_get, take_while, IsOk, nat_le, bytes_eq}
 use Rattle.std.proofs.lemmas.Bool.{cases_eq}
@@ -36,9 +36,10 @@ use Rattle.mot_journal.proofs.Slots.{slots, slot_of_place, length-slots_in}
 use Rattle.mot_journal.proofs.Written.{written_gate}
 use Rattle.mot_numbers.specs.Fields.{number_in}
 use Rattle.mot_numbers.specs.declared.geometry.Geometry.{Geometry}
-use Rattle.mot_numbers.specs.declared.refusal.Refusal.{Refusal}
 use Rattle.mot_numbers.specs.Geometry.{half_size, half_start, area_start, length_of}
 use Rattle.mot_numbers.specs.Geometry.{is_valid, is_within}
+use Rattle.mot_journal.proofs.Records.{ok}
+use Rattle.mot_journal.proofs.NextSlot.{slot_longer_than_gate}
 
 -- with any selector the geometry is the same
 pub geometry_beside_selector : (a b : List ℕ) → AgreeOutside 8 1 a b → geometry_of b ≡ geometry_of a
@@ -153,9 +154,6 @@ module _ (j : JournalView) (two_halves : j.half ≤ 1) where
             (drop_behind other_start (half_size g) d c agree (area_start g) ends),
       )
 
-abbrev ok : List Record → Result (List Record) Refusal
-ok records = Ok records
-
 all_read : (g : Geometry) (layout : Layout) (given : List Record) (k : ℕ)
     → ((i : ℕ) → i < length given → IsReadable g layout (slice_get given i))
     → records_in (read_slot g layout) k (map (bytes_of_slot layout) given) ≡ Ok given
@@ -174,10 +172,6 @@ zeros_shut n lt = ap (λ b. b == 0xA5) (get_or-replicate n 0 0 0 lt)
 all_zeros_shut : (k n : ℕ) → 0 < n → AreShut (replicate k (replicate n 0))
 all_zeros_shut zero n lt = tt
 all_zeros_shut (suc k) n lt = (zeros_shut n lt, all_zeros_shut k n lt)
-
-slot_some : (layout : Layout) → 2 ≤ slot_size layout
-slot_some One = omega arith
-slot_some Two = omega arith
 
 abbrev layout_if : Bool → Layout
 layout_if b = if b then Two else One
@@ -251,7 +245,7 @@ module _ (g : Geometry) (half : ℕ) (layout : Layout) (given : List Record)
       × (are_gates_clean (slots g layout (half_at g half b)) ≡ true)
   filled_half = clean_of (slots g layout (half_at g half b)) (written given) behind filled
       (written_open layout given)
-      (all_zeros_shut (slot_count layout g - length given) size (omega (arith, slot_some layout)))
+      (all_zeros_shut (slot_count layout g - length given) size (omega (arith, slot_longer_than_gate layout)))
 
   -- a filled half reads as the records it was filled with
   pub filled_reads : records_in (read_slot g layout) 0
@@ -279,7 +273,7 @@ filled_layout g half layout (r ∷ given) some b has =
     → get_or (half_at g half b) k 0 ≡ get_or (bytes_of_slot layout r) k 0 =
     λ k lt. byte_of_half st (half_size g) k b (omega (arith, lt, half_some g))
     ∙ sym (get_or-drop st b k 0)
-    ∙ sym (get_or-take size (drop st b) k 0 (omega (arith, lt, slot_some layout)))
+    ∙ sym (get_or-take size (drop st b) k 0 (omega (arith, lt, slot_longer_than_gate layout)))
     ∙ ap (λ l. get_or l k 0) first in
     ap (λ x. layout_if ((x == 0xA5) && is_within 17 19 (slice_index (half_at g half b) 1)))
     (byte 0 (omega arith) ∙ written_gate layout r)

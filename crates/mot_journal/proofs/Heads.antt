@@ -6,7 +6,7 @@ use Rattle.std.proofs.lemmas.Bool.{leb-true, false_from_ne_true}
 use Rattle.std.proofs.lemmas.List.{length-drop, length-append, drop-append-le, take-append-le}
 use Rattle.mot_journal.specs.Geometry.{geometry_of, geometry_in, has_magic, magic}
 use Rattle.mot_journal.specs.Inner.Reading.{number_at}
-use Rattle.mot_journal.proofs.Decoded.{columns_from}
+use Rattle.mot_journal.proofs.Decoded.{columns_from, and-false}
 use Rattle.mot_numbers.specs.Fields.{number_in}
 use Rattle.mot_numbers.specs.Reading.{◌>>=◌}
 use Rattle.mot_numbers.specs.declared.geometry.Geometry.{Geometry}
@@ -89,10 +89,6 @@ geometry_from head rest g len whole long e1 e2 e3 e4 e5 =
     (take-append-le 8 head rest (omega (arith, whole)))
     ∙ ap (λ k. geometry_if g (bytes_eq (take 8 head) magic && is_valid g && nat_le (length_of g) k))
     size
-
-and-false : (a b : Bool) → b ≡ false → (a && b) ≡ false
-and-false true b e = e
-and-false false b e = refl
 
 -- a disk of less than 64 bytes has none
 pub short_has_none : (image : List ℕ) → length image < 64 → geometry_of image ≡ None

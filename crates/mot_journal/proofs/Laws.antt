@@ -27,6 +27,8 @@ use Rattle.mot_numbers.specs.Geometry.{is_valid}
 use Rattle.mot_numbers.specs.declared.refusal.Refusal.{Refusal}
 use Rattle.mot_objects.specs.Stands.{object_of}
 use Rattle.mot_objects.specs.Carousel as whole
+-- the longest names of the layouts
+pub use Rattle.mot_journal.proofs.Written.{longest_most}
 
 abbrev total : List ℕ → ℕ
 total [] = 0
@@ -220,16 +222,19 @@ clean_stays g from n a b agree is same clean = record {
   gates = gates_stay (area_start g + from) n a b agree g is (omega arith) ∙ clean.gates;
 }
 
-abbrev found : DiskRecords → Result DiskRecords Refusal
+-- the records that were found
+abbrev pub found : DiskRecords → Result DiskRecords Refusal
 found j = Ok j
 
-is-same : (k j : DiskRecords) → found k ≡ found j → k ≡ j
+-- what was found twice is the same
+pub is-same : (k j : DiskRecords) → found k ≡ found j → k ≡ j
 is-same k j e = cc
 
 geometry-of-ok : (k j : DiskRecords) → found k ≡ found j → k.geometry ≡ j.geometry
 geometry-of-ok k j e = ap (λ (x : DiskRecords). x.geometry) (is-same k j e)
 
-abbrev Fails : Result DiskRecords Refusal → Type 0
+-- nothing was found
+abbrev pub Fails : Result DiskRecords Refusal → Type 0
 Fails (Ok j) = ⊥
 Fails (Err refusal) = Unit {0}
 

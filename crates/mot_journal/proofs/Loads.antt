@@ -3,7 +3,7 @@
 use Rattle.std.proofs.Common.{◌≡◌, ℕ, ◌+◌, ◌-◌, ◌≤◌, Bool, true, false, List, ◌++◌, length, take}
 use Rattle.std.proofs.Common.{drop, replicate, Option, Some, None, Result, Ok, Err, refl, sym, ◌∙◌}
 use Rattle.std.proofs.Common.{ap, subst, arith, take-append-drop}
-use Rattle.std.specs.Prelude.{if◌then◌else◌, nat_le, ◌&&◌, ◌==◌, slice_index, is_err, OnOk}
+use Rattle.std.specs.Prelude.{if◌then◌else◌, nat_le, ◌==◌, slice_index, is_err, OnOk}
 use Rattle.std.proofs.lemmas.Bool.{leb-true}
 use Rattle.std.proofs.lemmas.List.{length-drop, length-append, length-replicate, get_or-take}
 use Rattle.std.proofs.Math.Seq.{take-append_seam}
@@ -24,10 +24,7 @@ use Rattle.mot_numbers.specs.Geometry.{length_of, half_size, half_start}
 use Rattle.mot_numbers.specs.Geometry.{is_valid}
 use Rattle.std.proofs.lemmas.Bool.Decides.{nat_tests}
 use Rattle.mot_journal.proofs.Heads.{geometry_if, has_geometry_if}
-
-and-parts : (a b : Bool) → (a && b) ≡ true → (a ≡ true) × (b ≡ true)
-and-parts true b e = (refl, e)
-and-parts false b e = cc
+use Rattle.std.proofs.lemmas.Bool.{and_parts}
 
 some-if : (g : Geometry) (x : Geometry) (b : Bool) → geometry_if x b ≡ geometry_if g true
     → (b ≡ true) × (x ≡ g)
@@ -40,8 +37,8 @@ pub geometry_good : (image : List ℕ) (g : Geometry) → geometry_of image ≡ 
 geometry_good image g e =
     let p = has_geometry_if image in
     let is = some-if g p.0 _ (sym p.1 ∙ e) in
-    let two = and-parts _ _ is.0 in (
-      subst (λ (x : Geometry). is_valid x ≡ true) is.1 (and-parts _ _ two.0).1,
+    let two = and_parts _ _ is.0 in (
+      subst (λ (x : Geometry). is_valid x ≡ true) is.1 (and_parts _ _ two.0).1,
       leb-true (length_of g) (length image)
           (subst (λ (x : Geometry). nat_le (length_of x) (length image) ≡ true) is.1 two.1),
     )
@@ -87,8 +84,8 @@ told_good head len g whole fits told =
     let rest : List ℕ = replicate (len - 64) 0 in
     let n : length rest ≡ len - 64 = length-replicate (len - 64) 0 in
     let good = geometry_good (head ++ rest) g (sym (told rest (omega (arith, n)))) in
-    let first = and-parts _ _
-    (and-parts _ _ (and-parts _ _ (and-parts _ _ (and-parts _ _ good.0).0).0).0).0 in (
+    let first = and_parts _ _
+    (and_parts _ _ (and_parts _ _ (and_parts _ _ (and_parts _ _ good.0).0).0).0).0 in (
       good.0,
       omega (arith, good.1, n, whole, length-append head rest),
       leb-true g.objects 250 first.1,

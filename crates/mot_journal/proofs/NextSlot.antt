@@ -31,6 +31,7 @@ use Rattle.mot_journal.proofs.Written.{written_is_open}
 use Rattle.mot_numbers.specs.declared.geometry.Geometry.{Geometry}
 use Rattle.mot_numbers.specs.Geometry.{half_size, half_start, area_start}
 use Rattle.mot_numbers.specs.Geometry.{is_within}
+use Rattle.std.proofs.Math.Bool.{and-false}
 
 -- behind the range two images are the same
 pub drop_behind : (at n : ℕ) (a b : List ℕ) → AgreeOutside at n a b → (s : ℕ) → at + n ≤ s
@@ -85,7 +86,8 @@ pub slot_fits : (g : Geometry) (layout : Layout) (i : ℕ) → i < slot_count la
 slot_fits g One i lt = omega (arith, lt)
 slot_fits g Two i lt = omega (arith, lt)
 
-slots_apart : (layout : Layout) (i n : ℕ) → i < n
+-- a slot ends before a later one begins
+pub slots_apart : (layout : Layout) (i n : ℕ) → i < n
     → i * slot_size layout + slot_size layout ≤ n * slot_size layout
 slots_apart One i n lt = omega (arith, lt)
 slots_apart Two i n lt = omega (arith, lt)
@@ -121,10 +123,6 @@ layout_if b = if b then Two else One
 
 layout_shut : (half : List ℕ) → is_open half ≡ false → layout_of half ≡ One
 layout_shut half e = ap (λ b. layout_if (b && is_within 17 19 (slice_index half 1))) e
-
-and-false : (b : Bool) → (b && false) ≡ false
-and-false true = refl
-and-false false = refl
 
 first_kind : (a : Action) → is_within 17 19 (kind_base One + action_kind a) ≡ false
 first_kind Nothing = refl

@@ -1,5 +1,5 @@
 -- Open slots, and closed ones behind them.
-use Rattle.std.proofs.Common.{◌≡◌, inl, inr, ℕ, suc, ◌+◌, ◌<◌, Bool, true, false, not, ◌&&◌, List}
+use Rattle.std.proofs.Common.{◌≡◌, inl, inr, ℕ, suc, ◌+◌, ◌<◌, Bool, true, false, not, List}
 use Rattle.std.proofs.Common.{[], ◌∷◌, ◌++◌}
 use Rattle.std.proofs.Common.{length, take, drop, get_or, Option, Some, None, Result, Ok, Err, refl}
 use Rattle.std.proofs.Common.{sym, ◌∙◌, ap, subst}
@@ -13,8 +13,9 @@ use Rattle.mot_journal.specs.Slot.{is_open}
 use Rattle.mot_journal.specs.Image.{or_damaged}
 use Rattle.mot_numbers.specs.Refusal.{◌>>=◌}
 use Rattle.mot_journal.specs.Image.{records_in, are_gates_clean}
-use Rattle.mot_journal.proofs.Records.{AreOpen, StartsShut, open_then_shut}
+use Rattle.mot_journal.proofs.Records.{ok, AreOpen, StartsShut, open_then_shut}
 use Rattle.mot_numbers.specs.declared.refusal.Refusal.{Refusal}
+use Rattle.std.proofs.lemmas.Bool.{and_from, and_parts}
 
 -- the gate of each slot is closed
 abbrev pub AreShut : List (List ℕ) → Type 0
@@ -32,23 +33,16 @@ not-true : (b : Bool) → not b ≡ true → b ≡ false
 not-true true e = absurd (cc)
 not-true false e = refl
 
-parts : (a b : Bool) → (a && b) ≡ true → (a ≡ true) × (b ≡ true)
-parts true b e = (refl, e)
-parts false b e = absurd (cc)
-
-both : (a b : Bool) → a ≡ true → b ≡ true → (a && b) ≡ true
-both a b ea eb = ap (λ x. x && b) ea ∙ eb
-
 are_shut : (slots : List (List ℕ)) → list_all shut slots ≡ true → AreShut slots
 are_shut [] e = tt
 are_shut (slot ∷ slots) e =
-    let two = parts (shut slot) (list_all shut slots) e in
+    let two = and_parts (shut slot) (list_all shut slots) e in
     (not-true (is_open slot) two.0, are_shut slots two.1)
 
 all_shut : (slots : List (List ℕ)) → AreShut slots → list_all shut slots ≡ true
 all_shut [] are = refl
 all_shut (slot ∷ slots) are =
-    both (shut slot) (list_all shut slots) (ap not are.0) (all_shut slots are.1)
+    and_from (shut slot) (list_all shut slots) (ap not are.0) (all_shut slots are.1)
 
 open_taken : (slots : List (List ℕ)) → AreOpen (take_while is_open slots)
 open_taken [] = tt
@@ -122,9 +116,6 @@ clean_of slots front back is are_open are_closed =
 pub shut_from : (slots : List (List ℕ)) (n : ℕ) → n < length slots → AreShut (drop n slots)
     → (is_open (get_or slots n []) ≡ false) × AreShut (drop (suc n) slots)
 shut_from slots n lt are = subst AreShut (drop-cons slots n [] lt) are
-
-abbrev ok : List Record → Result (List Record) Refusal
-ok records = Ok records
 
 length-step : (k n : ℕ) (o : Option Record) (rest : Result (List Record) Refusal)
     (records : List Record)

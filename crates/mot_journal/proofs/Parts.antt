@@ -13,11 +13,12 @@ use Rattle.mot_journal.specs.Image.{DiskRecords, Standing, records_in, slots_of,
 use Rattle.mot_journal.specs.Image.{has_clean_gates, journal_in_half, or_not_formatted, half_of}
 use Rattle.mot_journal.specs.Image.{records_of, stands_for, area_of}
 use Rattle.mot_journal.specs.Journal.{JournalView, with_records, HasRecords}
-use Rattle.mot_journal.proofs.Slots.{slots}
-use Rattle.mot_journal.proofs.Laws.{geometry_read, stands_by_parts}
+use Rattle.mot_journal.proofs.Slots.{found, slots}
+use Rattle.mot_journal.proofs.Laws.{Fails, geometry_read, stands_by_parts}
 use Rattle.mot_numbers.specs.declared.refusal.Refusal.{Refusal}
 use Rattle.mot_numbers.specs.declared.geometry.Geometry.{Geometry}
 use Rattle.mot_numbers.specs.Geometry.{half_size, half_start}
+use Rattle.mot_journal.proofs.Records.{ok}
 
 -- a half of an image
 abbrev pub half_at : Geometry → ℕ → List ℕ → List ℕ
@@ -43,22 +44,11 @@ pub record HasParts (j : JournalView) (records : List Record) (image : List ℕ)
   -- the records make no fault of the list
   pub fold : IsOk (catalogue_of j.geometry.objects records)
 
-abbrev found : Geometry → ℕ → Layout → List Record → Result DiskRecords Refusal
-found g half layout records =
-    Ok (record { geometry = g; half = half; layout = layout; records = records })
-
 abbrev whole : DiskRecords → Result DiskRecords Refusal
 whole w = Ok w
 
 same-of : (k w : DiskRecords) → whole k ≡ whole w → k ≡ w
 same-of k w e = cc
-
-abbrev ok : List Record → Result (List Record) Refusal
-ok records = Ok records
-
-abbrev Fails : Result DiskRecords Refusal → Type 0
-Fails (Ok w) = ⊥
-Fails (Err refusal) = Unit {0}
 
 journal-parts : (g : Geometry) (half : ℕ) (layout : Layout) (r : Result (List Record) Refusal)
     (w : DiskRecords)

@@ -14,7 +14,8 @@ use Rattle.mot_journal.proofs.Written.{written_is_open}
 use Rattle.mot_numbers.specs.declared.refusal.Refusal.{Refusal}
 use Rattle.mot_numbers.specs.declared.refusal.Refusal.TheVariants.{Damaged}
 
-abbrev ok : List Record → Result (List Record) Refusal
+-- records that were read
+abbrev pub ok : List Record → Result (List Record) Refusal
 ok records = Ok records
 
 more-step : (k : ℕ) (o : Option Record) (rest rest' : Result (List Record) Refusal)

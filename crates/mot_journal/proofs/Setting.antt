@@ -9,12 +9,13 @@ use Rattle.std.proofs.lemmas.Bool.{cases_Bool, le-leb, lt-ltb, leb-true}
 use Rattle.std.proofs.lemmas.Bool.{ltb-true, false_from_ne_true}
 use Rattle.mot_journal.specs.declared.layout.Layout.{Layout}
 use Rattle.mot_journal.specs.declared.layout.Layout.TheVariants.{One, Two}
-use Rattle.mot_journal.specs.declared.record.Action.{Action}
 use Rattle.mot_journal.specs.declared.record.Action.TheVariants.{Set}
 use Rattle.mot_journal.specs.Slot.{short_text_in, is_sound_action, longest_name, slot_size}
 use Rattle.mot_journal.specs.Inner.Reading.{number_at, content_at, if_sound, set_in_slot, name_from}
 use Rattle.mot_journal.specs.Inner.Reading.{mime_from}
-use Rattle.mot_journal.proofs.Decoded.{both, parts, text, act-of, kept, and-false}
+use Rattle.std.proofs.lemmas.Bool.{and_from, and_parts}
+use Rattle.mot_journal.proofs.Decoded.{text, act-of, kept, and-false}
+use Rattle.mot_journal.proofs.Written.{same-set}
 use Rattle.mot_numbers.specs.declared.geometry.Geometry.{Geometry}
 use Rattle.mot_objects.specs.Content.{ContentNumbers}
 use Rattle.mot_objects.specs.Mime.{is_mime}
@@ -81,20 +82,11 @@ pub long_name : (layout : Layout) (slot : List ℕ) (n : ℕ) → length slot �
     → n < 256 → longest_name layout < n
     → is_name (longest_name layout) (take n (drop 24 slot)) ≡ true → ⊥
 long_name layout slot n size fits long is =
-    let p1 = parts _ _ is in
-    let p2 = parts _ _ p1.0 in
-    let p3 = parts _ _ p2.0 in
+    let p1 = and_parts _ _ is in
+    let p2 = and_parts _ _ p1.0 in
+    let p3 = and_parts _ _ p2.0 in
     let most : length (take n (drop 24 slot)) ≤ longest_name layout = leb-true _ _ p3.1 in
     let more = no_shorter layout slot n size fits long in omega arith
-
-same-set : (tid tid' version version' : ℕ) (content content' : ContentNumbers)
-    (start start' size size' : ℕ) (name name' : List ℕ) (mime mime' : Option (List ℕ))
-    → tid' ≡ tid → version' ≡ version → content' ≡ content → start' ≡ start → size' ≡ size
-    → name' ≡ name → mime' ≡ mime
-    → (let a : Action = Set tid' version' content' start' size' name' mime' in a)
-    ≡ Set tid version content start size name mime
-same-set tid tid' version version' content content' start start' size size' name name' mime mime' e1
-    e2 e3 e4 e5 e6 e7 = cc
 
 module _ (g : Geometry) (layout : Layout) (slot : List ℕ) where
   -- what the fields of a slot have that sets an object
@@ -111,13 +103,13 @@ module _ (g : Geometry) (layout : Layout) (slot : List ℕ) where
   pub none_of : (HasFields → ⊥) → if_sound g layout (set_in_slot slot) ≡ None
   none_of lacks =
       let fails : is_sound_action g layout (set_in_slot slot) ≡ true → ⊥ = λ all.
-      let p1 = parts _ _ all in
-      let p2 = parts _ _ p1.0 in
-      let p3 = parts _ _ p2.0 in
-      let p4 = parts _ _ p3.0 in
-      let p5 = parts _ _ p4.0 in
-      let p6 = parts _ _ p5.0 in
-      let size = parts _ _ p4.1 in
+      let p1 = and_parts _ _ all in
+      let p2 = and_parts _ _ p1.0 in
+      let p3 = and_parts _ _ p2.0 in
+      let p4 = and_parts _ _ p3.0 in
+      let p5 = and_parts _ _ p4.0 in
+      let p6 = and_parts _ _ p5.0 in
+      let size = and_parts _ _ p4.1 in
       lacks (record {
         tid = ltb-true _ _ p6.0;
         type = leb-true _ _ p6.1;
@@ -163,7 +155,7 @@ module _ (g : Geometry) (layout : Layout) (slot : List ℕ) where
       let b6 : nat_le (number_at 15 4 slot + number_at 19 4 slot) g.data_area ≡ true =
       le-leb (number_at 15 4 slot + number_at 19 4 slot) g.data_area (omega arith) in
       let all : is_sound_action g layout (set_in_slot slot) ≡ true =
-      both _ _ (both _ _ (both _ _ (both _ _ (both _ _ (both _ _ b1 b2) b3) (both _ _ b4 b5))
+      and_from _ _ (and_from _ _ (and_from _ _ (and_from _ _ (and_from _ _ (and_from _ _ b1 b2) b3) (and_from _ _ b4 b5))
       b6) n.0) m.0 in
       ap (λ (b : Bool). if b then act-of (set_in_slot slot) else None) all
       ∙ ap act-of (same-set tid _ version _ content _ start _ size _ name _ mime _ (sym et) (sym ev)

@@ -23,6 +23,8 @@ use Rattle.mot_numbers.specs.declared.refusal.Refusal.{Refusal}
 use Rattle.mot_numbers.specs.declared.refusal.Refusal.TheVariants.{Damaged}
 use Rattle.mot_numbers.specs.Reading.{◌>>=◌}
 use Rattle.mot_numbers.specs.declared.geometry.Geometry.{Geometry}
+use Rattle.mot_journal.proofs.Decoded.{checked}
+use Rattle.mot_journal.proofs.Written.{some-entry}
 
 -- one slot more behind i slots of a size
 pub times-suc : (i size : ℕ) → size + i * size ≡ suc i * size
@@ -52,7 +54,8 @@ slots g layout half = slots_in (slot_size layout) (slot_count layout g) half
 abbrev failed : ℕ → Result DiskRecords Refusal
 failed n = Err (Damaged n)
 
-abbrev found : Geometry → ℕ → Layout → List Record → Result DiskRecords Refusal
+-- records that were found
+abbrev pub found : Geometry → ℕ → Layout → List Record → Result DiskRecords Refusal
 found g half layout records =
     Ok (record { geometry = g; half = half; layout = layout; records = records })
 
@@ -170,21 +173,15 @@ module _ (g : Geometry) (layout : Layout) (half : List ℕ) where
       (sym none))
       ∙ ap failed count
 
-abbrev checked : Geometry → Layout → Record → Option Record
-checked g layout r = if is_sound g layout r then Some r else None
-
-abbrev some : Record → Option Record
-some r = Some r
-
 checked-sound : (g : Geometry) (layout : Layout) (o : Option Record) (r : Record)
-    → (o >>= checked g layout) ≡ some r → is_sound g layout r ≡ true
+    → (o >>= checked g layout) ≡ some-entry r → is_sound g layout r ≡ true
 checked-sound g layout None r e = absurd (cc)
 checked-sound g layout (Some x) r e = elim (cases_Bool (is_sound g layout x)) [
   | inl is ↦
-      let same : some x ≡ some r = sym (ap (λ (b : Bool). if b then some x else None) is) ∙ e in
+      let same : some-entry x ≡ some-entry r = sym (ap (λ (b : Bool). if b then some-entry x else None) is) ∙ e in
       let eq : x ≡ r = cc in subst (λ y. is_sound g layout y ≡ true) eq is
-  | inr isnt ↦ let wrong : None ≡ some r =
-      sym (ap (λ (b : Bool). if b then some x else None) isnt) ∙ e in absurd (cc)
+  | inr isnt ↦ let wrong : None ≡ some-entry r =
+      sym (ap (λ (b : Bool). if b then some-entry x else None) isnt) ∙ e in absurd (cc)
 ]
 
 -- a record that is read has no fault of fields

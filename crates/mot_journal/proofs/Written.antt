@@ -2,7 +2,7 @@
 use Rattle.std.proofs.Common.{◌≡◌, ℕ, suc, ◌+◌, ◌-◌, ◌^◌, ◌<◌, ◌≤◌, Bool, true, false, List, []}
 use Rattle.std.proofs.Common.{◌∷◌, ◌++◌, length, take, drop, replicate, Option, Some, None, refl}
 use Rattle.std.proofs.Common.{◌∙◌, ap, arith, append_assoc}
-use Rattle.std.specs.Prelude.{if◌then◌else◌, ◌==◌, nat_le, slice_index, ◌&&◌}
+use Rattle.std.specs.Prelude.{if◌then◌else◌, ◌==◌, nat_le, slice_index}
 use Rattle.std.specs.Int.{bytes_high_first, w16, to_be_bytes}
 use Rattle.std.proofs.lemmas.List.{length-append, length-replicate}
 use Rattle.std.specs.Option.{option_map_or}
@@ -21,6 +21,7 @@ use Rattle.mot_numbers.specs.Fields.{number_in}
 use Rattle.mot_numbers.specs.declared.geometry.Geometry.{Geometry}
 use Rattle.mot_objects.specs.Content.{ContentNumbers}
 use Rattle.mot_objects.specs.Mime.{is_mime}
+use Rattle.std.proofs.lemmas.Bool.{and_parts}
 
 -- columns of one to four bytes
 number_1 : (n : ℕ) → n < 256 → number_in (n ∷ []) ≡ n
@@ -63,25 +64,23 @@ texts_read name mime rest =
       ap (drop (length name)) e ∙ drop-append_seam name (mime_bytes mime ++ rest),
     )
 
-abbrev some : Record → Option Record
-some r = Some r
+-- a record that is there
+abbrev pub some-entry : Record → Option Record
+some-entry r = Some r
 
-abbrev rec : ℕ → ℕ → ℕ → Action → Record
-rec p d c a = record { period = p; directory = d; cursor = c; action = a }
+-- a record by its parts
+abbrev pub entry : ℕ → ℕ → ℕ → Action → Record
+entry p d c a = record { period = p; directory = d; cursor = c; action = a }
 
 same-record : (p p' d d' c c' : ℕ) (a a' : Action) → p' ≡ p → d' ≡ d → c' ≡ c → a' ≡ a
-    → rec p' d' c' a' ≡ rec p d c a
+    → entry p' d' c' a' ≡ entry p d c a
 same-record p p' d d' c c' a a' ep ed ec ea = cc
 
 step : (g : Geometry) (layout : Layout) (s r : Record) → s ≡ r → is_sound g layout r ≡ true
-    → (if is_sound g layout s then some s else None) ≡ some r
+    → (if is_sound g layout s then some-entry s else None) ≡ some-entry r
 step g layout s r e sound =
-    ap (λ (x : Record). if is_sound g layout x then some x else None) e
-    ∙ ap (λ (b : Bool). if b then some r else None) sound
-
-parts : (a b : Bool) → (a && b) ≡ true → (a ≡ true) × (b ≡ true)
-parts true b e = (refl, e)
-parts false b e = cc
+    ap (λ (x : Record). if is_sound g layout x then some-entry x else None) e
+    ∙ ap (λ (b : Bool). if b then some-entry r else None) sound
 
 le_of : (m n : ℕ) → nat_le m n ≡ true → m ≤ n
 le_of m n e = grind (arith, nat_tests)
@@ -96,31 +95,32 @@ pub record SetFits (layout : Layout) (content : ContentNumbers) (size : ℕ) (na
   within : length name ≤ longest_name layout
   sound : option_map_or is_mime mime true ≡ true
 
-longest_fits : (layout : Layout) → longest_name layout ≤ 255
-longest_fits One = omega arith
-longest_fits Two = omega arith
+-- no layout has names of more than 255 bytes
+pub longest_most : (layout : Layout) → longest_name layout ≤ 255
+longest_most One = omega arith
+longest_most Two = omega arith
 
 set_fits : (g : Geometry) (layout : Layout) (tid version : ℕ) (content : ContentNumbers)
     (start size : ℕ) (name : List ℕ) (mime : Option (List ℕ))
     → is_sound_action g layout (Set tid version content start size name mime) ≡ true
     → SetFits layout content size name mime
 set_fits g layout tid version content start size name mime sound =
-    let p6 = parts _ _ sound in
-    let p5 = parts _ _ p6.0 in
-    let p4 = parts _ _ p5.0 in
-    let p3 = parts _ _ p4.0 in
-    let p2 = parts _ _ p3.0 in
-    let p1 = parts _ _ p2.0 in
+    let p6 = and_parts _ _ sound in
+    let p5 = and_parts _ _ p6.0 in
+    let p4 = and_parts _ _ p5.0 in
+    let p3 = and_parts _ _ p4.0 in
+    let p2 = and_parts _ _ p3.0 in
+    let p1 = and_parts _ _ p2.0 in
     let type : content.content_type ≤ 63 = le_of _ _ p1.1 in
     let subtype : content.subtype ≤ 511 = le_of _ _ p2.1 in
-    let most : size ≤ 262144 = le_of _ _ (parts _ _ p3.1).1 in
+    let most : size ≤ 262144 = le_of _ _ (and_parts _ _ p3.1).1 in
     let n : length name ≤ longest_name layout =
-    le_of _ _ (parts _ _ (parts _ _ (parts _ _ p5.1).0).0).1 in
+    le_of _ _ (and_parts _ _ (and_parts _ _ (and_parts _ _ p5.1).0).0).1 in
     record {
       type = omega (arith, type);
       subtype = omega (arith, subtype);
       long = omega (arith, most);
-      short = omega (arith, n, longest_fits layout);
+      short = omega (arith, n, longest_most layout);
       within = n;
       sound = p6.1;
     }
@@ -130,7 +130,8 @@ same-content : (t t' s s' : ℕ) → t' ≡ t → s' ≡ s
     ≡ record { content_type = t; subtype = s }
 same-content t t' s s' et es = cc
 
-same-set : (tid tid' version version' : ℕ) (content content' : ContentNumbers)
+-- what sets an object, of equal fields
+pub same-set : (tid tid' version version' : ℕ) (content content' : ContentNumbers)
     (start start' size size' : ℕ) (name name' : List ℕ) (mime mime' : Option (List ℕ))
     → tid' ≡ tid → version' ≡ version → content' ≡ content → start' ≡ start → size' ≡ size
     → name' ≡ name → mime' ≡ mime
@@ -167,11 +168,11 @@ set_reads layout tid version content start size name mime rest fits is =
 
 sound_action : (g : Geometry) (layout : Layout) (r : Record) → is_sound g layout r ≡ true
     → is_sound_action g layout r.action ≡ true
-sound_action g layout r sound = (parts _ _ sound).1
+sound_action g layout r sound = (and_parts _ _ sound).1
 
-reads : (g : Geometry) (layout : Layout) (p d c : ℕ) (a : Action) → FitsSlot (rec p d c a)
-    → is_sound g layout (rec p d c a) ≡ true
-    → read_slot g layout (bytes_of_slot layout (rec p d c a)) ≡ some (rec p d c a)
+reads : (g : Geometry) (layout : Layout) (p d c : ℕ) (a : Action) → FitsSlot (entry p d c a)
+    → is_sound g layout (entry p d c a) ≡ true
+    → read_slot g layout (bytes_of_slot layout (entry p d c a)) ≡ some-entry (entry p d c a)
 unfolding read_slot bytes_of_slot
 reads g One p d c Nothing fits sound =
     step g One _ _ (same-record _ _ _ _ _ _ _ Nothing (number_3 p fits.period)
@@ -189,13 +190,13 @@ reads g Two p d c (Remove tid) fits sound =
     (ap (λ (n : ℕ). let a : Action = Remove n in a) (number_2 tid fits.action))) sound
 reads g One p d c (Set tid version content start size name mime) fits sound =
     let is = set_fits g One tid version content start size name mime
-    (sound_action g One (rec p d c (Set tid version content start size name mime)) sound) in
+    (sound_action g One (entry p d c (Set tid version content start size name mime)) sound) in
     step g One _ _ (same-record _ _ _ _ _ _ _ _ (number_3 p fits.period) (number_2 d fits.directory)
     (number_2 c fits.cursor)
     (set_reads One tid version content start size name mime _ fits.action is)) sound
 reads g Two p d c (Set tid version content start size name mime) fits sound =
     let is = set_fits g Two tid version content start size name mime
-    (sound_action g Two (rec p d c (Set tid version content start size name mime)) sound) in
+    (sound_action g Two (entry p d c (Set tid version content start size name mime)) sound) in
     step g Two _ _ (same-record _ _ _ _ _ _ _ _ (number_3 p fits.period) (number_2 d fits.directory)
     (number_2 c fits.cursor)
     (set_reads Two tid version content start size name mime _ fits.action is)) sound
@@ -221,7 +222,7 @@ mime_length : (mime : Option (List ℕ)) → option_map_or is_mime mime true ≡
     → length (mime_bytes mime) ≤ 65
 mime_length None sound = omega arith
 mime_length (Some text) sound =
-    let n : length text ≤ 64 = le_of _ _ (parts _ _ (parts _ _ (parts _ _ sound).0).0).1 in
+    let n : length text ≤ 64 = le_of _ _ (and_parts _ _ (and_parts _ _ (and_parts _ _ sound).0).0).1 in
     omega (arith, n)
 
 action_length : (g : Geometry) (layout : Layout) (a : Action) → is_sound_action g layout a ≡ true

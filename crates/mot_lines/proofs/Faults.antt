@@ -4,11 +4,13 @@ use Rattle.std.proofs.Common.{Result, Ok, Err}
 use Rattle.std.specs.Prelude.{◌&&◌, ◌==◌, nat_lt, nat_le, if◌then◌else◌, codes, bytes_eq}
 use Rattle.hex.specs.Hex.{decode_of}
 use Rattle.hex.specs.declared.error.FromHexError.{FromHexError}
-use Rattle.mot_lines.specs.Fields.{kind_in, tid_in, segment_in, name_in, content_in, mime_in}
-use Rattle.mot_lines.specs.Fields.{body_in, period_in, count_in}
+use Rattle.mot_lines.specs.Fields.{kind_in, number_to, segment_in, name_in, content_in, mime_in}
+use Rattle.mot_lines.specs.Fields.{body_in, period_in}
 use Rattle.mot_lines.specs.Line.{raw_of, description_of, put_of, replace_of, withdraw_of}
 use Rattle.mot_numbers.specs.Refusal.{◌>>=◌}
-use Rattle.mot_lines.specs.Line.{period_of, list_of, next_of, turn_of, request_of, line_of}
+use Rattle.mot_lines.specs.Line.{period_of, alone_of, next_of, request_of, line_of}
+use Rattle.mot_lines.specs.declared.line.Line.{Line}
+use Rattle.mot_lines.specs.declared.line.Line.TheVariants as asks
 use Rattle.mot_lines.specs.declared.line.TheConstants.{MAX_LINE, MAX_PACKETS}
 use Rattle.mot_lines.specs.Words.{number_of_word, words_of}
 use Rattle.mot_numbers.specs.Reading.{is_empty}
@@ -44,9 +46,10 @@ kind : (number : Option ℕ) → IsNoFault (kind_in number)
 kind None = λ e. cc
 kind (Some n) = either (n == 4) _ _ (value _) (either (n == 6) _ _ (value _) (λ e. cc))
 
-tid : (number : Option ℕ) → IsNoFault (tid_in number)
-tid None = λ e. cc
-tid (Some n) = either (nat_lt 0 n && nat_le n 65535) _ _ (value n) (λ e. cc)
+up_to : (last : ℕ) (read : Option ℕ) → IsNoFault (number_to last read)
+up_to last None = λ e. cc
+up_to last (Some n) =
+    either (nat_lt 0 n && nat_le n last) (Ok n) (Err BadNumber) (value n) (λ e. cc)
 
 segment : (bytes : Result (List ℕ) FromHexError) → IsNoFault (segment_in bytes)
 segment (Err e) = λ f. cc
@@ -81,18 +84,13 @@ period : (number : Option ℕ) → IsNoFault (period_in number)
 period None = λ e. cc
 period (Some n) = either (nat_le n MAX_PERIOD) (Ok n) (Err BadNumber) (value n) (λ e. cc)
 
-count : (number : Option ℕ) → IsNoFault (count_in number)
-count None = λ e. cc
-count (Some n) =
-    either (nat_lt 0 n && nat_le n MAX_PACKETS) (Ok n) (Err BadNumber) (value n) (λ e. cc)
-
 raw : (words : List (List ℕ)) → IsNoFault (raw_of words)
 unfolding raw_of
 raw [] = λ e. cc
 raw (k ∷ []) = λ e. cc
 raw (k ∷ t ∷ []) = λ e. cc
 raw (k ∷ t ∷ h ∷ []) =
-    bound _ _ (kind (number_of_word k)) (λ one. bound _ _ (tid (number_of_word t))
+    bound _ _ (kind (number_of_word k)) (λ one. bound _ _ (up_to 65535 (number_of_word t))
     (λ two. bound _ _ (segment (decode_of h)) (λ three. value _)))
 raw (k ∷ t ∷ h ∷ more ∷ words) = λ e. cc
 
@@ -124,18 +122,14 @@ period-line [] = λ e. cc
 period-line (n ∷ []) = bound _ _ (period (number_of_word n)) (λ it. value _)
 period-line (n ∷ more ∷ words) = λ e. cc
 
-list : (words : List (List ℕ)) → IsNoFault (list_of words)
-list [] = value _
-list (word ∷ words) = λ e. cc
+alone : (it : Line) (words : List (List ℕ)) → IsNoFault (alone_of it words)
+alone it [] = value _
+alone it (word ∷ words) = λ e. cc
 
 next : (words : List (List ℕ)) → IsNoFault (next_of words)
 next [] = λ e. cc
-next (n ∷ []) = bound _ _ (count (number_of_word n)) (λ it. value _)
+next (n ∷ []) = bound _ _ (up_to MAX_PACKETS (number_of_word n)) (λ it. value _)
 next (n ∷ more ∷ words) = λ e. cc
-
-turn : (words : List (List ℕ)) → IsNoFault (turn_of words)
-turn [] = value _
-turn (word ∷ words) = λ e. cc
 
 request : (words : List (List ℕ)) → IsNoFault (request_of words)
 unfolding request_of
@@ -146,9 +140,9 @@ request (first ∷ words) =
     (either (bytes_eq first (codes "replace")) _ _ (replace words)
     (either (bytes_eq first (codes "withdraw")) _ _ (withdraw words)
     (either (bytes_eq first (codes "period")) _ _ (period-line words)
-    (either (bytes_eq first (codes "list")) _ _ (list words)
+    (either (bytes_eq first (codes "list")) _ _ (alone asks.List words)
     (either (bytes_eq first (codes "next")) _ _ (next words)
-    (either (bytes_eq first (codes "turn")) _ _ (turn words) (λ e. cc))))))))
+    (either (bytes_eq first (codes "turn")) _ _ (alone asks.Turn words) (λ e. cc))))))))
 
 -- no line is refused for a fault of the disk
 pub line : (bytes : List ℕ) → IsNoFault (line_of bytes)

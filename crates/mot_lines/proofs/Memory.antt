@@ -1,7 +1,7 @@
 -- Which lines take memory.
 use Rattle.std.proofs.Common.{ℕ, List, [], ◌∷◌, Result, Ok, Err, inl, inr}
 use Rattle.hex.specs.Hex.{decode_of}
-use Rattle.mot_lines.specs.Fields.{kind_in, tid_in, segment_in, name_in}
+use Rattle.mot_lines.specs.Fields.{kind_in, number_to, segment_in, name_in}
 use Rattle.mot_lines.specs.Line.{raw_of, put_of, replace_of, withdraw_of, description_of}
 use Rattle.mot_numbers.specs.Refusal.{◌>>=◌}
 use Rattle.mot_lines.specs.Line.{NeedsMemory, IsParsed}
@@ -23,7 +23,7 @@ raw-needs [] = tt
 raw-needs (a ∷ []) = tt
 raw-needs (a ∷ b ∷ []) = tt
 raw-needs (a ∷ b ∷ c ∷ []) = needs-after (kind_in (number_of_word a)) _ (λ k.
-    needs-after (tid_in (number_of_word b)) _
+    needs-after (number_to 65535 (number_of_word b)) _
     (λ t. needs-after (segment_in (decode_of c)) _ (λ body. tt)))
 raw-needs (a ∷ b ∷ c ∷ d ∷ words) = tt
 

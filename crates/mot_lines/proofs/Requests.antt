@@ -8,10 +8,11 @@ use Rattle.mot_lines.specs.declared.line.TheConstants.{MAX_LINE}
 use Rattle.mot_lines.specs.Hand.{bytes_in_hand}
 use Rattle.hex.specs.Hex.{decode_of}
 use Rattle.mot_lines.specs.declared.line.Line.TheVariants.{Raw}
-use Rattle.mot_lines.specs.Fields.{kind_in, tid_in, segment_in}
+use Rattle.mot_lines.specs.Fields.{kind_in, number_to, segment_in}
 use Rattle.mot_lines.specs.Words.{number_of_word, words_of}
-use Rattle.mot_lines.specs.Line.{raw_of, put_of, replace_of, withdraw_of, period_of, list_of}
-use Rattle.mot_lines.specs.Line.{next_of, turn_of, request_of, line_of}
+use Rattle.mot_lines.specs.Line.{raw_of, put_of, replace_of, withdraw_of, period_of, alone_of}
+use Rattle.mot_lines.specs.Line.{next_of, request_of, line_of}
+use Rattle.mot_lines.specs.declared.line.Line.TheVariants as asks
 use Rattle.mot_numbers.specs.declared.group_kind.GroupKind.{GroupKind}
 use Rattle.mot_numbers.specs.declared.refusal.Refusal.{Refusal}
 use Rattle.mot_numbers.specs.declared.refusal.Refusal.TheVariants.{BadLine}
@@ -25,20 +26,20 @@ module _ (words : List (List ℕ)) (kind tid hex : List ℕ)
 
   -- a raw line whose id is refused, behind a type that is none, is refused for it
   pub raw_of-tid : (k : GroupKind) (r : Refusal) → Ok k ≡ kind_in (number_of_word kind)
-      → Err r ≡ tid_in (number_of_word tid) → Err r ≡ raw_of words
+      → Err r ≡ number_to 65535 (number_of_word tid) → Err r ≡ raw_of words
   unfolding raw_of
   raw_of-tid k r e f = rw (three, ← e, ← f) refl
 
   -- a raw line whose bytes are refused, behind a type and an id, is refused for them
   pub raw_of-hex : (k : GroupKind) (t : ℕ) (r : Refusal) → Ok k ≡ kind_in (number_of_word kind)
-      → Ok t ≡ tid_in (number_of_word tid) → Err r ≡ segment_in (decode_of hex)
+      → Ok t ≡ number_to 65535 (number_of_word tid) → Err r ≡ segment_in (decode_of hex)
       → Err r ≡ raw_of words
   unfolding raw_of
   raw_of-hex k t r e f g = rw (three, ← e, ← f, ← g) refl
 
   -- a raw line of a type, an id and bytes asks for their group
   pub raw_of-all : (k : GroupKind) (t : ℕ) (body : List ℕ) → Ok k ≡ kind_in (number_of_word kind)
-      → Ok t ≡ tid_in (number_of_word tid) → Ok body ≡ segment_in (decode_of hex)
+      → Ok t ≡ number_to 65535 (number_of_word tid) → Ok body ≡ segment_in (decode_of hex)
       → Ok (Raw k t body) ≡ raw_of words
   unfolding raw_of
   raw_of-all k t body e f g = rw (three, ← e, ← f, ← g) refl
@@ -106,7 +107,7 @@ module _ (first : List ℕ) (words : List (List ℕ)) where
           module _ (period : bytes_eq first (codes "period") ≡ false) where
             -- a first word `list` asks for the list
             pub request_of-list : bytes_eq first (codes "list") ≡ true
-                → request_of (first ∷ words) ≡ list_of words
+                → request_of (first ∷ words) ≡ alone_of asks.List words
             unfolding request_of
             request_of-list e = rw (raw, put, replace, withdraw, period, e) refl
 
@@ -120,7 +121,7 @@ module _ (first : List ℕ) (words : List (List ℕ)) where
               module _ (next : bytes_eq first (codes "next") ≡ false) where
                 -- a first word `turn` asks for a turn
                 pub request_of-turn : bytes_eq first (codes "turn") ≡ true
-                    → request_of (first ∷ words) ≡ turn_of words
+                    → request_of (first ∷ words) ≡ alone_of asks.Turn words
                 unfolding request_of
                 request_of-turn e = rw (raw, put, replace, withdraw, period, list, next, e) refl
 

@@ -6,7 +6,8 @@ use Rattle.std.specs.Borrow.{Bor}
 use Rattle.std.specs.List.{onto_first}
 use Rattle.mot_lines.specs.Inner.Words.{words_after}
 use Rattle.mot_lines.specs.Words.{words_of}
-use Rattle.mot_lines.specs.Line.{raw_of, list_of, turn_of, description_of}
+use Rattle.mot_lines.specs.Line.{raw_of, alone_of, description_of}
+use Rattle.mot_lines.specs.declared.line.Line.{Line}
 use Rattle.mot_numbers.specs.declared.refusal.Refusal.TheVariants.{BadLine}
 
 -- there is a word in every list of bytes
@@ -48,25 +49,16 @@ pub some_words : (o : Option (Bor (List ℕ))) → is_some o ≡ true → 0 < le
 some_words (Some x) e = some_word x.now
 some_words None e = absurd (cc)
 
--- a list line has no words after its first
-list_of-words : (words : List (List ℕ)) → 0 < length words → list_of words ≡ Err BadLine
-list_of-words [] h = absurd (omega arith)
-list_of-words (word ∷ words) h = refl
+-- a line of one word has no words after its first
+alone_of-words : (line : Line) (words : List (List ℕ)) → 0 < length words
+    → alone_of line words ≡ Err BadLine
+alone_of-words line [] h = absurd (omega arith)
+alone_of-words line (word ∷ words) h = refl
 
--- a list line with a word more is no request
-pub list_of-more : (o : Option (Bor (List ℕ))) (x : Bor (List ℕ)) → o ≡ Some x
-    → list_of (words_after o) ≡ Err BadLine
-list_of-more o x e = list_of-words (words_after o) (more_words o x e)
-
--- nor has a turn line
-turn_of-words : (words : List (List ℕ)) → 0 < length words → turn_of words ≡ Err BadLine
-turn_of-words [] h = absurd (omega arith)
-turn_of-words (word ∷ words) h = refl
-
--- a turn line with a word more is no request
-pub turn_of-more : (o : Option (Bor (List ℕ))) (x : Bor (List ℕ)) → o ≡ Some x
-    → turn_of (words_after o) ≡ Err BadLine
-turn_of-more o x e = turn_of-words (words_after o) (more_words o x e)
+-- a line of one word with a word more is no request
+pub alone_of-more : (line : Line) (o : Option (Bor (List ℕ))) (x : Bor (List ℕ)) → o ≡ Some x
+    → alone_of line (words_after o) ≡ Err BadLine
+alone_of-more line o x e = alone_of-words line (words_after o) (more_words o x e)
 
 -- a put or a replace line has five words after its first
 pub description_of-others : (words : List (List ℕ)) → length words ≢ 5

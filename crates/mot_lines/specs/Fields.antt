@@ -3,7 +3,6 @@ use Rattle.std.specs.Prelude.{ℕ, ◌&&◌, ◌==◌, nat_lt, nat_le, if◌then
 use Rattle.std.specs.Prelude.{Option, Some, None, Result, Ok, Err, codes, bytes_eq}
 use Rattle.hex.specs.declared.error.FromHexError.{FromHexError}
 use Rattle.mot_groups.specs.SegmentBytes.{segment_of_bytes}
-use Rattle.mot_lines.specs.declared.line.TheConstants.{MAX_PACKETS}
 use Rattle.mot_numbers.specs.Reading.{is_empty}
 use Rattle.mot_numbers.specs.declared.group_kind.GroupKind.{GroupKind}
 use Rattle.mot_numbers.specs.declared.group_kind.GroupKind.TheVariants.{Body, Directory}
@@ -24,10 +23,10 @@ abbrev pub kind_in : Option ℕ → Result GroupKind Refusal
 kind_in None = Err BadType
 kind_in (Some n) = if n == 4 then Ok Body else (if n == 6 then Ok Directory else Err BadType)
 
--- TID: 1 to 65,535
-abbrev pub tid_in : Option ℕ → Result ℕ Refusal
-tid_in None = Err BadNumber
-tid_in (Some n) = if nat_lt 0 n && nat_le n 65535 then Ok n else Err BadNumber
+-- a number from 1 to this one: TID, and N of a `next` line
+abbrev pub number_to : ℕ → Option ℕ → Result ℕ Refusal
+number_to last None = Err BadNumber
+number_to last (Some n) = if nat_lt 0 n && nat_le n last then Ok n else Err BadNumber
 
 -- HEX of a `raw` line, decoded: 1 to 8,189 bytes
 abbrev pub segment_in : Result (List ℕ) FromHexError → Result (List ℕ) Refusal
@@ -63,8 +62,3 @@ body_in (Ok bytes) =
 abbrev pub period_in : Option ℕ → Result ℕ Refusal
 period_in None = Err BadNumber
 period_in (Some n) = if nat_le n MAX_PERIOD then Ok n else Err BadNumber
-
--- N of a `next` line, which says how many packets: 1 to 100,000
-abbrev pub count_in : Option ℕ → Result ℕ Refusal
-count_in None = Err BadNumber
-count_in (Some n) = if nat_lt 0 n && nat_le n MAX_PACKETS then Ok n else Err BadNumber

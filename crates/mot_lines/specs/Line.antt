@@ -2,10 +2,10 @@
 use Rattle.std.specs.Prelude.{⊤, ℕ, ◌≡◌, ◌⊎◌, nat_le, if◌then◌else◌, List, [], ◌∷◌, length, Result}
 use Rattle.std.specs.Prelude.{Ok, Err, codes, bytes_eq}
 use Rattle.hex.specs.Hex.{decode_of}
-use Rattle.mot_lines.specs.Fields.{kind_in, tid_in, segment_in, name_in, content_in, mime_in}
-use Rattle.mot_lines.specs.Fields.{body_in, period_in, count_in}
+use Rattle.mot_lines.specs.Fields.{kind_in, number_to, segment_in, name_in, content_in, mime_in}
+use Rattle.mot_lines.specs.Fields.{body_in, period_in}
 use Rattle.mot_lines.specs.Words.{words_of, number_of_word}
-use Rattle.mot_lines.specs.declared.line.TheConstants.{MAX_LINE}
+use Rattle.mot_lines.specs.declared.line.TheConstants.{MAX_LINE, MAX_PACKETS}
 use Rattle.mot_lines.specs.declared.line.description.Description.{Description}
 use Rattle.mot_lines.specs.declared.line.Line.{Line}
 use Rattle.mot_lines.specs.declared.line.Line.TheVariants.{Raw, Command}
@@ -15,11 +15,11 @@ use Rattle.mot_numbers.specs.declared.refusal.Refusal.{Refusal}
 use Rattle.mot_numbers.specs.declared.refusal.Refusal.TheVariants.{OutOfMemory, BadLine}
 use Rattle.mot_objects.specs.declared.command.Command.TheVariants.{Put, Replace, Withdraw, Period}
 
--- the words of a `raw` line, after its first: TYPE TID HEX
+-- the words of a `raw` line, after its first: TYPE TID HEX, where TID is 1 to 65,535
 unfoldable pub raw_of : List (List ℕ) → Result Line Refusal
 raw_of (kind ∷ tid ∷ hex ∷ []) = do
   k ← kind_in (number_of_word kind)
-  t ← tid_in (number_of_word tid)
+  t ← number_to 65535 (number_of_word tid)
   body ← segment_in (decode_of hex)
   Ok (Raw k t body)
 raw_of words = Err BadLine
@@ -58,22 +58,17 @@ period_of (number ∷ []) = do
   Ok (Command (Period n))
 period_of words = Err BadLine
 
--- a `list` line has no words after its first
-abbrev pub list_of : List (List ℕ) → Result Line Refusal
-list_of [] = Ok asks.List
-list_of (word ∷ words) = Err BadLine
+-- a `list` and a `turn` line have no words after their first
+abbrev pub alone_of : Line → List (List ℕ) → Result Line Refusal
+alone_of line [] = Ok line
+alone_of line (word ∷ words) = Err BadLine
 
--- the words of a `next` line, after its first: N
+-- the words of a `next` line, after its first: N, which says how many packets, 1 to 100,000
 abbrev pub next_of : List (List ℕ) → Result Line Refusal
 next_of (number ∷ []) = do
-  n ← count_in (number_of_word number)
+  n ← number_to MAX_PACKETS (number_of_word number)
   Ok (asks.Next n)
 next_of words = Err BadLine
-
--- a `turn` line has no words after its first
-abbrev pub turn_of : List (List ℕ) → Result Line Refusal
-turn_of [] = Ok asks.Turn
-turn_of (word ∷ words) = Err BadLine
 
 -- words ask for what their first one says
 unfoldable pub request_of : List (List ℕ) → Result Line Refusal
@@ -84,9 +79,9 @@ request_of (first ∷ words) =
     else if bytes_eq first (codes "replace") then replace_of words
     else if bytes_eq first (codes "withdraw") then withdraw_of words
     else if bytes_eq first (codes "period") then period_of words
-    else if bytes_eq first (codes "list") then list_of words
+    else if bytes_eq first (codes "list") then alone_of asks.List words
     else if bytes_eq first (codes "next") then next_of words
-    else if bytes_eq first (codes "turn") then turn_of words
+    else if bytes_eq first (codes "turn") then alone_of asks.Turn words
     else Err BadLine
 
 -- what a line of at most 530,000 bytes asks for, or why it is refused

@@ -1,7 +1,7 @@
 //! A line of the input, read.
 ghost use Rattle.std.specs.Prelude.{◌≡◌, ◌∷◌};
-ghost use Rattle.mot_lines.specs.Line.{raw_of, put_of, replace_of, withdraw_of, period_of, list_of};
-ghost use Rattle.mot_lines.specs.Line.{next_of, turn_of, request_of, line_of};
+ghost use Rattle.mot_lines.specs.Line.{raw_of, put_of, replace_of, withdraw_of, period_of};
+ghost use Rattle.mot_lines.specs.Line.{alone_of, next_of, request_of, line_of};
 ghost use Rattle.mot_lines.specs.Line.{IsParsed};
 ghost use Rattle.mot_lines.specs.Inner.Words.{OrOutOfMemory};
 ghost use Rattle.mot_lines.specs.Inner.Words.{words_after};
@@ -151,7 +151,7 @@ fn parse_set_period(words: Option<&[u8]>) -> Result<Line, Refusal>
 
 /// What a `list` line asks for, by its words after the first.
 fn parse_list(words: Option<&[u8]>) -> Result<Line, Refusal>
-    ensures { result ≡ list_of (words_after words.entry) }
+    ensures { result ≡ alone_of Line.List (words_after words.entry) }
 {
     match words {
         None => Ok(Line::List),
@@ -172,7 +172,7 @@ fn parse_next(words: Option<&[u8]>) -> Result<Line, Refusal>
 
 /// What a `turn` line asks for, by its words after the first.
 fn parse_turn(words: Option<&[u8]>) -> Result<Line, Refusal>
-    ensures { result ≡ turn_of (words_after words.entry) }
+    ensures { result ≡ alone_of Line.Turn (words_after words.entry) }
 {
     match words {
         None => Ok(Line::Turn),

@@ -1,21 +1,23 @@
 -- What holds of the definitions, for the crates above.
-use Rattle.std.proofs.Common.{◌≡◌, ℕ, zero, suc, ◌+◌, ◌-◌, ◌*◌, ◌/◌, ◌%◌, ◌^◌, ◌<◌, ◌≤◌, List, []}
-use Rattle.std.proofs.Common.{◌∷◌, ◌++◌, true, false, eqb, refl, sym, length, drop, min, sum, arith}
-use Rattle.std.proofs.Common.{ap, ◌∙◌, length-append, eq-eqb, Option, Some, None, Result, Ok, Err}
+use Rattle.std.proofs.Common.{◌≡◌, ℕ, zero, suc, ◌+◌, ◌*◌, ◌/◌, ◌%◌, ◌^◌, ◌<◌, ◌≤◌, List, []}
+use Rattle.std.proofs.Common.{◌∷◌, ◌++◌, false, refl, sym, length, drop, min, sum, arith}
+use Rattle.std.proofs.Common.{ap, ◌∙◌, eq-eqb, Option, Some, None, Result, Ok, Err}
 use Rattle.std.proofs.Math.Nat.{add-mul, mul-le-mul_right, pow-suc}
-use Rattle.std.proofs.Math.Seq.{take-append_seam, drop-append_seam}
-use Rattle.std.proofs.lemmas.List.{take-append-drop}
+use Rattle.std.proofs.Common.{inl, inr}
+use Rattle.std.proofs.lemmas.Bool.{cases_eq, ne_eqb}
 use Rattle.std.proofs.lemmas.List.Elements.{All-append, All-cons, All-head, All-nil, All-tail}
 use Rattle.std.proofs.lemmas.List.Sums.{sum_by-cons}
 use Rattle.std.proofs.lemmas.Nat.{div-mul-add, mod-pow-add}
 use Rattle.std.proofs.lemmas.Option.{none-some, same_Some}
-use Rattle.std.proofs.lemmas.Slice.Eq.{bytes_eq-Decides}
-use Rattle.std.specs.Int.{div_ceil, w16, to_be_bytes}
-use Rattle.std.specs.Prelude.{IsErrAnd, bytes_eq}
+use Rattle.std.specs.Int.{div_ceil, from_bool, w16, to_be_bytes}
+use Rattle.std.specs.Prelude.{IsErrAnd, ◌==◌}
 use Rattle.mot_numbers.specs.Bytes.{IsByte, AreBytes}
 use Rattle.mot_numbers.specs.Fields.{number_in, fields}
+use Rattle.mot_numbers.specs.GroupKind.{kind_number}
 use Rattle.mot_numbers.specs.PacketLength.{room_of, code_of}
 use Rattle.mot_numbers.specs.Reading.{◌>>=◌, is_empty, read_each}
+use Rattle.mot_numbers.specs.declared.group_kind.GroupKind.{GroupKind}
+use Rattle.mot_numbers.specs.declared.group_kind.GroupKind.TheVariants.{Body, Directory}
 use Rattle.mot_numbers.specs.declared.packet_length.PacketLength.{PacketLength}
 use Rattle.mot_numbers.specs.declared.packet_length.PacketLength.TheVariants.{P24, P48, P72, P96}
 -- a geometry that is valid, and its test
@@ -182,3 +184,24 @@ read_each-append read (x ∷ xs) xs' ys ys' e f =
     read_each-cons read x (xs ++ xs') first.0 (others.0 ++ ys') first.1
     (read_each-append read xs xs' others.0 ys' others.1 f)
     ∙ ap (λ zs. Some (zs ++ ys')) (same_Some (first.0 ∷ others.0) ys others.2)
+
+-- ---- numbers of few values
+
+-- a number below 2 is that of whether it is 1
+pub one_or_zero : (n : ℕ) → n < 2 → n ≡ from_bool (n == 1)
+one_or_zero n h = elim (cases_eq n 1) [
+  | inl e ↦ rw (eq-eqb n 1 e) e
+  | inr e ↦ rw (ne_eqb n 1 e) (omega arith)
+]
+
+-- each length of packets has room for data
+pub room_of-some : (length : PacketLength) → 0 < room_of length
+room_of-some P24 = omega arith
+room_of-some P48 = omega arith
+room_of-some P72 = omega arith
+room_of-some P96 = omega arith
+
+-- the number of a group's type fits in four bits
+pub kind_number-fits : (kind : GroupKind) → kind_number kind < 16
+kind_number-fits Body = omega arith
+kind_number-fits Directory = omega arith

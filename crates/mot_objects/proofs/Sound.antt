@@ -68,7 +68,8 @@ range-push (x ∷ xs) id a r = (a.0, range-push xs id a.1 r)
 
 -- ---- names
 
-names-push : (ns : List (List ℕ)) (n : List ℕ) → are_names_distinct ns ≡ true
+-- one more name that is not among them
+pub names-push : (ns : List (List ℕ)) (n : List ℕ) → are_names_distinct ns ≡ true
     → list_any (λ m. bytes_eq m n) ns ≡ false → are_names_distinct (ns ++ n ∷ []) ≡ true
 names-push [] n d e = refl
 names-push (m ∷ ns) n d e =
@@ -343,14 +344,16 @@ period-follows c s = record {
 
 -- ---- the law
 
-put-cases : (t u : Bool) (r s : Carousel × Done)
+-- a put that is accepted: no such name, and room
+pub put-cases : (t u : Bool) (r s : Carousel × Done)
     → cond t (Err NameTaken) (cond u (Err TooManyObjects) (Ok r)) ≡ Ok s
     → (t ≡ false) × (u ≡ false) × (r ≡ s)
 put-cases true u r s e = cc
 put-cases false true r s e = cc
 put-cases false false r s e = (refl, refl, cc)
 
-named-cases : (c : Carousel) (taken : Option ℕ) (o : Option (List Object)) (s : Carousel × Done)
+-- an accepted change of an object of a name: there is one
+pub named-cases : (c : Carousel) (taken : Option ℕ) (o : Option (List Object)) (s : Carousel × Done)
     → change_if_named c taken o ≡ Ok s
     → (os : List Object) × (o ≡ Some os) × (change_to c c.period os taken ≡ s)
 named-cases c taken None s e = cc

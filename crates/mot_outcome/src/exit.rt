@@ -22,7 +22,8 @@ pub struct Exit<S: Start> {
     /// The exit status: 0 if the task was done or help was asked for, 1 after a refusal that is no
     /// line's reply, 2 after a fault of the words.
     pub status: u8,
-    /// The refusal of status 1; none if files of a folder were refused: the log says which.
+    /// The refusal of status 1. It has none if files of a folder were refused, or the folder was
+    /// not listed or has no object: the log says which.
     pub refusal: Option<Refusal>,
     /// The disk that was worked on, as it stands.
     pub disk: UsedDisk<S>,

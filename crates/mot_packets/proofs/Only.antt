@@ -1,10 +1,9 @@
 -- Only a packet's own bytes read as it.
 use Rattle.std.proofs.Common.{◌≡◌, ℕ, ◌+◌, ◌-◌, ◌*◌, ◌%◌, ◌^◌, ◌<◌, ◌≤◌, List, [], ◌∷◌, ◌++◌, true}
-use Rattle.std.proofs.Common.{inl, inr, refl, sym, length, take, drop, replicate, arith, ap, subst}
+use Rattle.std.proofs.Common.{refl, sym, length, take, drop, replicate, arith, ap, subst}
 use Rattle.std.proofs.Common.{◌∙◌, length-take, length-drop, Some}
 use Rattle.std.proofs.Math.Nat.{mod-eq_of_lt}
-use Rattle.std.proofs.lemmas.Bool.{and_parts, cases_eq, eq-eqb, eqb-true, leb-true, ltb-true}
-use Rattle.std.proofs.lemmas.Bool.{ne_eqb}
+use Rattle.std.proofs.lemmas.Bool.{and_parts, eqb-true, leb-true, ltb-true}
 use Rattle.std.proofs.lemmas.List.{take-append-drop, take-take}
 use Rattle.std.proofs.lemmas.List.Elements.{All-take}
 use Rattle.std.proofs.lemmas.Option.{cond_some}
@@ -18,6 +17,7 @@ use Rattle.mot_numbers.specs.Fields.{number_in, fields}
 use Rattle.mot_numbers.proofs.Laws.{AreBytes-append, AreBytes-cons, AreBytes-to_be_bytes}
 use Rattle.mot_numbers.proofs.Laws.{cons_eq, fields-injective, number_in-fits}
 use Rattle.mot_numbers.proofs.Laws.{number_in-injective}
+use Rattle.mot_numbers.proofs.Laws.{one_or_zero}
 use Rattle.mot_packets.specs.Packet.{PacketFields, packet_with, read_packet}
 use Rattle.mot_packets.specs.Written.{IsPacket, header_word, code_of_room, covered_bytes}
 use Rattle.mot_packets.specs.Written.{bytes_of_packet}
@@ -40,12 +40,6 @@ record IsRead (bytes header : List ℕ) (p : PacketFields) : Type 0 where
   field : drop 3 (without_crc bytes) ≡ p.useful ++ replicate (p.room - length p.useful) 0
   crc : ends_in_crc bytes ≡ true
   is_packet : IsPacket p
-
-one_or_zero : (n : ℕ) → n < 2 → n ≡ from_bool (n == 1)
-one_or_zero n h = elim (cases_eq n 1) [
-  | inl e ↦ rw (eq-eqb n 1 e) e
-  | inr e ↦ rw (ne_eqb n 1 e) (omega arith)
-]
 
 only_zeros : (xs : List ℕ) → list_all (λ b. b == 0) xs ≡ true → xs ≡ replicate (length xs) 0
 only_zeros [] e = refl

@@ -4,12 +4,10 @@ use Rattle.std.proofs.Common.{sym, ap, ◌∙◌, subst, eq-eqb}
 use Rattle.std.proofs.lemmas.Bool.{eqb-false, ne_eqb}
 use Rattle.std.specs.Prelude.{◌==◌, if◌then◌else◌, IfSome, ◌++◌}
 use Rattle.mot_groups.specs.Group.{GroupFields, bytes_of_group}
-use Rattle.mot_numbers.specs.PacketLength.{room_of}
 use Rattle.mot_numbers.specs.Reading.{is_empty}
-use Rattle.mot_numbers.specs.declared.packet_length.PacketLength.{PacketLength}
-use Rattle.mot_numbers.specs.declared.packet_length.PacketLength.TheVariants.{P24, P48, P72, P96}
 use Rattle.mot_packets.specs.Packet.{read_packet}
 use Rattle.mot_packets.specs.Written.{bytes_of_packet}
+use Rattle.mot_numbers.proofs.Laws.{room_of-some}
 use Rattle.mot_player.specs.declared.state.State.{State}
 use Rattle.mot_player.specs.declared.groups.LastGroup.{LastGroup}
 use Rattle.mot_player.specs.LastGroup.{kept_last}
@@ -88,13 +86,6 @@ index-fits : (last : LastGroup) → IfSome (kept_last last) (λ (l : Last). l.in
 index-fits last = index-cases (is_empty last.segment.items) last.index
     (last.front ++ last.segment.items) last.in_range
 
--- each length of packets has room for data
-pub room-some : (length : PacketLength) → 0 < room_of length
-room-some P24 = omega arith
-room-some P48 = omega arith
-room-some P72 = omega arith
-room-some P96 = omega arith
-
 -- of a group under way bytes are left
 under_way-left : (state : State) (none : Bool) → (state.sent == 0) ≡ none →
     (0 < state.sent → state.sent < length state.group.items) →
@@ -111,7 +102,7 @@ is_place state bodies ready e =
     record {
       under_way = under_way-left state (state.sent == 0) refl
           (λ some. omega (arith, ready.left some));
-      room = room-some state.full_length;
+      room = room_of-some state.full_length;
       size = (omega (arith, f.size.0), f.size.1);
       directory = index-fits state.last_directory;
       body = index-fits state.last_body;

@@ -14,9 +14,10 @@ use Rattle.mot_player.specs.Place.{directory_segments, first_sent, follow, group
 use Rattle.mot_player.specs.Place.{hear_directory, next_sent, of_bodies, opened_place, packet_sent}
 use Rattle.mot_player.specs.Place.{request, to_send, with_begun}
 use Rattle.mot_player.specs.Turn.{IsPlayable, Turn, segments_of_bodies, segments_of_turn}
-use Rattle.mot_player.proofs.Repeated.{of_bodies-all, of_bodies-none}
+use Rattle.mot_player.proofs.Repeated.{of_bodies-all}
 use Rattle.mot_player.proofs.TurnOnce.{bodies-bodies}
 use Rattle.mot_player.proofs.WholeTurn.{KeepsIndexes, begun-keeps}
+use Rattle.mot_player.proofs.Followed.{of_bodies-directory}
 
 -- no group is under way
 abbrev is_between : Option UnderWay → Bool
@@ -187,7 +188,7 @@ whole-heard turn size =
     let bodies : List Segment = segments_of_bodies size turn.bodies in
     ap (λ ss. directory ++ ss)
     (filter-append test directory bodies
-    ∙ ap (λ ss. ss ++ of_bodies bodies) (of_bodies-none turn.tid 0 (pieces size turn.directory))
+    ∙ ap (λ ss. ss ++ of_bodies bodies) (of_bodies-directory turn.tid 0 (pieces size turn.directory))
     ∙ of_bodies-all bodies (bodies-bodies size turn.bodies))
 
 heard-begins : (place : Place) (b : Bool) → (place.waiting ≡ [])

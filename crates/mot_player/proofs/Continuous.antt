@@ -2,7 +2,7 @@
 use Rattle.std.proofs.Common.{◌≡◌, ℕ, ◌+◌, ◌%◌, ◌<◌, List, [], ◌∷◌, ◌++◌, Bool, true, false, Option}
 use Rattle.std.proofs.Common.{Some, None, ◌⊎◌, inl, inr, refl, sym, subst, map, length, take, drop}
 use Rattle.std.proofs.Common.{arith, ap, ◌∙◌, append-nil, eq-eqb}
-use Rattle.std.proofs.lemmas.Bool.{and_parts, eqb-true, ne_eqb}
+use Rattle.std.proofs.lemmas.Bool.{ne_eqb}
 use Rattle.std.proofs.lemmas.Option.{none-some, same_Some}
 use Rattle.std.specs.Prelude.{◌==◌, filter, if◌then◌else◌, slice_index}
 use Rattle.std.specs.List.{list_all, AllByRecursion}
@@ -12,9 +12,10 @@ use Rattle.mot_groups.specs.Group.{Segment, GroupFields, content_of, segment_con
 use Rattle.mot_groups.specs.Group.{bytes_of_group}
 use Rattle.mot_numbers.specs.Reading.{◌>>=◌, read_each, is_empty}
 use Rattle.mot_packets.specs.Cut.{piece_at}
-use Rattle.mot_packets.specs.Gather.{groups_after, have_one_address, gather_front}
+use Rattle.mot_packets.specs.Gather.{groups_after, gather_front}
 use Rattle.mot_packets.specs.Packet.{PacketFields, read_packet}
 use Rattle.mot_packets.proofs.Laws.{groups_after-last_piece, groups_after-piece, more_left}
+use Rattle.mot_numbers.proofs.Laws.{>>=-some}
 use Rattle.mot_player.specs.Continuity.{kind_of, group_index, contents, changes, index_after}
 use Rattle.mot_player.specs.Continuity.{indexes_after, packet_index, packet_indexes_from}
 use Rattle.mot_player.specs.Laws.{StepsAreContinuous}
@@ -28,8 +29,10 @@ use Rattle.mot_player.specs.Turn.{Turn, segments_of_turn, segments_of_bodies}
 use Rattle.mot_player.proofs.Followed.{AreBodies, bodies-early_after, bodies-renewed, renewed}
 use Rattle.mot_player.proofs.Indexes.{IsLast, IsLast-next, contents-append, kind_of-group}
 use Rattle.mot_player.proofs.Indexes.{group_index-group, some_bytes-group}
-use Rattle.mot_player.proofs.Requests.{>>=-some, FirstRequest, first_request, no_steps, packets_of}
+use Rattle.mot_player.proofs.Requests.{FirstRequest, first_request, no_steps, packets_of}
 use Rattle.mot_player.proofs.Requests.{place_behind}
+use Rattle.mot_player.proofs.Addresses.{one_address}
+use Rattle.mot_player.proofs.UnderWay.{front_of, group_of}
 
 -- a segment of a directory or of a body
 abbrev pub IsKind : Segment → Type 0
@@ -96,15 +99,6 @@ AreKinds-directory : (turn : Turn) (size : ℕ)
 AreKinds-directory turn size =
     AreKinds-numbered_segments 6 turn.tid 0 (pieces size turn.directory) (inl refl)
 
--- the groups that are begun and not whole, and what was sent of them
-abbrev groups_under_way : Option UnderWay → List (List ℕ)
-groups_under_way None = []
-groups_under_way (Some u) = u.group ∷ []
-
-abbrev front_sent : Option UnderWay → List ℕ
-front_sent None = []
-front_sent (Some u) = take u.sent u.group
-
 abbrev IsInside : List (List ℕ) → Option UnderWay → Type 0
 IsInside before None = Unit {0}
 IsInside before (Some u) = (u.sent < length u.group)
@@ -113,8 +107,8 @@ IsInside before (Some u) = (u.sent < length u.group)
 -- the place, n packets and these whole groups having been sent
 record Stands (before : List (List ℕ)) (n : ℕ) (place : Place) (u : Option UnderWay) : Type 0 where
   inside : IsInside before u
-  directory : IsLast place.last_directory (contents 6 (before ++ groups_under_way u))
-  body : IsLast place.last_body (contents 4 (before ++ groups_under_way u))
+  directory : IsLast place.last_directory (contents 6 (before ++ group_of u))
+  body : IsLast place.last_body (contents 4 (before ++ group_of u))
   kinds : AllByRecursion IsKind place.waiting
   index : place.index ≡ n % 4
   room : 0 < place.room
@@ -191,7 +185,7 @@ abbrev ContinuesFrom : List Step → Type 0
 ContinuesFrom steps =
     (before : List (List ℕ)) (n : ℕ) (place : Place) (sents : List Sent) (new : Place) →
     Stands before n place place.under_way → sent_by place steps ≡ Some (sents, new) →
-    Continues before n (front_sent place.under_way) place.address (packets_of sents)
+    Continues before n (front_of place.under_way) place.address (packets_of sents)
 
 -- the next packet of a group
 module _ (steps : List Step) (ih : ContinuesFrom steps) (before : List (List ℕ)) (n : ℕ)
@@ -363,7 +357,7 @@ next-continues : (steps : List Step) → ContinuesFrom steps
     → (before : List (List ℕ)) (n : ℕ) (place : Place)
     (u : Option UnderWay) (s : Sent) (others : List Sent) (new : Place) → Stands before n place u →
     next_sent place u ≡ Some s → sent_by s.place steps ≡ Some (others, new) →
-    Continues before n (front_sent u) place.address (s.packet ∷ packets_of others)
+    Continues before n (front_of u) place.address (s.packet ∷ packets_of others)
 next-continues steps ih before n place None s others new st e h =
     begun-continues steps ih before n place (to_send place) s others new st
     (AreKinds-to_send place st.kinds) e h
@@ -379,12 +373,12 @@ next-continues steps ih before n place (Some u) s others new st e h =
 steps-continue : (steps : List Step) → ContinuesFrom steps
 unfolding sent_by request change_turn hear_directory follow
 steps-continue [] before n place sents new st h =
-    subst (λ l. Continues before n (front_sent place.under_way) place.address (packets_of l))
+    subst (λ l. Continues before n (front_of place.under_way) place.address (packets_of l))
     (no_steps place sents new h)
-    (Continues-none before n (front_sent place.under_way) place.address)
+    (Continues-none before n (front_of place.under_way) place.address)
 steps-continue (Request ∷ steps) before n place sents new st h =
     let q : FirstRequest place steps sents new = first_request place steps sents new h in
-    subst (λ l. Continues before n (front_sent place.under_way) place.address (packets_of l))
+    subst (λ l. Continues before n (front_of place.under_way) place.address (packets_of l))
     (sym q.all)
     (next-continues steps (steps-continue steps) before n place place.under_way q.first q.others new
     st q.asked q.rest)
@@ -425,16 +419,6 @@ steps-continue (Follow turn ∷ steps) before n place sents new st h =
       index = st.index;
       room = st.room;
     }) h
-
-one_address : (address : ℕ) (packets : List PacketFields) →
-    list_all (λ (q : PacketFields). q.address == address) packets ≡ true
-    → have_one_address packets ≡ true
-one_address address [] e = refl
-one_address address (p ∷ packets) e =
-    let parts = and_parts (p.address == address)
-    (list_all (λ (q : PacketFields). q.address == address) packets) e in
-    ap (λ a. list_all (λ (q : PacketFields). q.address == a) packets)
-    (eqb-true p.address address parts.0) ∙ parts.1
 
 packets-counted : (n : ℕ) (packets : List (List ℕ)) (fields : List PacketFields) →
     read_each read_packet packets ≡ Some fields

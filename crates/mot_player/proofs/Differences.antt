@@ -5,8 +5,8 @@ use Rattle.std.proofs.Common.{eq-eqb}
 use Rattle.std.proofs.lemmas.Bool.{eqb-true, eqb-false, ne_eqb}
 use Rattle.std.proofs.lemmas.List.{length-map}
 use Rattle.std.specs.Prelude.{◌&&◌, if◌then◌else◌}
-use Rattle.mot_player.specs.Difference.{added, alike, are_alike, difference_from, difference_here}
-use Rattle.mot_player.specs.Difference.{is_same, plan_of_body, plans_of}
+use Rattle.mot_player.specs.Inner.Difference.{added, alike, are_alike, difference_from}
+use Rattle.mot_player.specs.Inner.Difference.{difference_here, is_same, plan_of_body, plans_of}
 use Rattle.mot_player.specs.PlayerView.{BodyPlan}
 use Rattle.mot_player.specs.declared.difference.Difference.{Difference}
 use Rattle.mot_player.specs.declared.difference.Difference.TheVariants.{Changed, Removed}

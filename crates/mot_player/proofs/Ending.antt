@@ -1,24 +1,23 @@
 -- Each request brings the end of the turn nearer.
-use Rattle.std.proofs.Common.{◌≡◌, ℕ, ◌+◌, ◌-◌, ◌*◌, ◌<◌, Bool, true, false, List, [], ◌∷◌, length}
+use Rattle.std.proofs.Common.{◌≡◌, ℕ, ◌+◌, ◌-◌, ◌<◌, Bool, true, false, List, [], ◌∷◌, length}
 use Rattle.std.proofs.Common.{Option, Some, None}
-use Rattle.std.proofs.Common.{refl, ap, ◌∙◌, subst, arith, length-append}
+use Rattle.std.proofs.Common.{refl, ap, ◌∙◌, subst, arith}
 use Rattle.std.proofs.lemmas.Option.{none-some, same_Some}
 use Rattle.std.specs.Prelude.{if◌then◌else◌, IfSome, ◌&&◌}
-use Rattle.std.specs.Int.{w16, to_be_bytes}
-use Rattle.mot_base.specs.Checksum.{crc_of}
-use Rattle.mot_groups.specs.Group.{GroupFields, Segment, bytes_of_group, segment_content}
+use Rattle.std.specs.Option.{option_map_or}
+use Rattle.mot_groups.specs.Group.{GroupFields, Segment, bytes_of_group}
 use Rattle.mot_numbers.specs.Reading.{is_empty}
-use Rattle.mot_player.specs.Laws.{TurnsEnd, bytes_due, bytes_due_with, group_bytes_of}
-use Rattle.mot_player.specs.Place.{Place, Sent, UnderWay, first_sent, group_for, next_sent}
+use Rattle.mot_groups.proofs.Laws.{length-bytes_of_group}
+use Rattle.mot_player.specs.Laws.{IsPlace, bytes_due, group_bytes_of}
+use Rattle.mot_player.specs.Place.{Place, Sent, UnderWay, first_sent, group_for, left_with, next_sent}
 use Rattle.mot_player.specs.Place.{packet_sent, request, to_send, with_begun}
 use Rattle.mot_player.specs.Turn.{segments_of_turn}
 
--- a group has 11 bytes more than its segment
-pub length-group : (g : GroupFields) → length (bytes_of_group g) ≡ length g.segment.bytes + 11
-unfolding bytes_of_group
-length-group g =
-    let covered : List ℕ = (112 + g.segment.kind) ∷ (16 * g.index) ∷ segment_content g.segment in
-    omega (arith, length-append g.segment.bytes (to_be_bytes w16 (crc_of covered)))
+-- how many bytes come where so much is under way
+abbrev bytes_due_with : Place → Option UnderWay → ℕ
+bytes_due_with place u =
+    option_map_or (λ (v : UnderWay). length v.group - v.sent) u 0
+    + group_bytes_of (left_with place u)
 
 -- what is left behind a packet: of a group with more, or of those that wait
 due-behind : (place : Place) (group : List ℕ) (at : ℕ) (last : Bool) → 0 < place.room
@@ -36,7 +35,7 @@ due-as : (place : Place) (group : List ℕ) (at : ℕ) (last : Bool) →
     bytes_due_with place (if last then None else Some (record { group = group; sent = at }))
     ≡ (if last then group_bytes_of (to_send place)
     else length group - at + group_bytes_of place.waiting)
-due-as place group at true = refl
+due-as place group at true = omega arith
 due-as place group at false = refl
 
 -- behind a packet that does not end the turn, fewer bytes are due
@@ -57,7 +56,7 @@ first-less place (t ∷ segments) s r e f =
     let begun : Place = with_begun place g segments in
     let first : Sent = packet_sent begun (bytes_of_group g) 0 in
     let same : first ≡ s = same_Some first s e in
-    let long : length (bytes_of_group g) ≡ length t.bytes + 11 = length-group g in
+    let long : length (bytes_of_group g) ≡ length t.bytes + 11 = length-bytes_of_group g in
     let less : bytes_due first.place < length (bytes_of_group g) - 0 + group_bytes_of segments =
     packet-less begun (bytes_of_group g) 0 r (omega (arith, long))
     (ap (λ (x : Sent). x.ends_turn) same ∙ f) in
@@ -69,7 +68,7 @@ first-less place (t ∷ segments) s r e f =
 next-less : (place : Place) (u : Option UnderWay) (s : Sent) → 0 < place.room →
     IfSome u (λ (w : UnderWay). w.sent < length w.group) → next_sent place u ≡ Some s →
     s.ends_turn ≡ false → bytes_due s.place < bytes_due_with place u
-next-less place None s r h e f = first-less place (to_send place) s r e f
+next-less place None s r h e f = omega (arith, first-less place (to_send place) s r e f)
 next-less place (Some u) s r h e f =
     let same : packet_sent place u.group u.sent ≡ s =
     same_Some (packet_sent place u.group u.sent) s e in
@@ -78,6 +77,7 @@ next-less place (Some u) s r h e f =
     (packet-less place u.group u.sent r h (ap (λ (x : Sent). x.ends_turn) same ∙ f))
 
 -- each request brings the end of the turn nearer
-pub turns-end : TurnsEnd
+pub turns-end : (place : Place) (s : Sent) → IsPlace place → request place ≡ Some s →
+    s.ends_turn ≡ false → bytes_due s.place < bytes_due place
 unfolding request
 turns-end place s p e f = next-less place place.under_way s p.room p.under_way e f

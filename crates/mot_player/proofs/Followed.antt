@@ -3,10 +3,10 @@ use Rattle.std.proofs.Common.{◌≡◌, ℕ, suc, zero, ◌+◌, ◌*◌, ◌<�
 use Rattle.std.proofs.Common.{◌∷◌, ◌++◌, length, refl, sym, ap, ◌∙◌, arith, append-nil, eq-eqb}
 use Rattle.std.proofs.Common.{take, drop, subst}
 use Rattle.std.proofs.Math.Seq.{take-append_seam, drop-append_seam}
-use Rattle.std.proofs.lemmas.Bool.{and_parts, eqb-true, ne_eqb, not-true, not_from_false}
+use Rattle.std.proofs.lemmas.Bool.{and_parts, eqb-true, ne_eqb, not_from_false}
 use Rattle.std.proofs.lemmas.Bool.{not_from_true, or_parts}
 use Rattle.std.proofs.lemmas.Grind.{div_ceil_times, flat_map-append}
-use Rattle.std.proofs.lemmas.List.{append_assoc, take-append-drop}
+use Rattle.std.proofs.lemmas.List.{take-append-drop}
 use Rattle.std.proofs.lemmas.List.Elements.{filter-append}
 use Rattle.std.specs.Int.{div_ceil}
 use Rattle.std.specs.List.{AllByRecursion}
@@ -19,9 +19,7 @@ use Rattle.mot_player.specs.Place.{Place, Change, Same, Put, Replaced, Withdrawn
 use Rattle.mot_player.specs.Place.{directory_segments, early_after, early_of, follow, followed_by}
 use Rattle.mot_player.specs.Place.{fresh_segments, in_its_place, left_of, of_bodies, rest_after}
 use Rattle.mot_player.specs.Place.{rest_of, that_stay, to_send, without}
-use Rattle.mot_player.specs.Staying.{ChangesComeNext, HasDirectory, PutComesAtTheEnd}
-use Rattle.mot_player.specs.Staying.{ReplacedKeepsItsPlace, RestGoesOn, takes_away, touches}
-use Rattle.mot_player.specs.Staying.{untouched}
+use Rattle.mot_player.specs.Staying.{ChangesComeNext, HasDirectory, ReplacedKeepsItsPlace, touches}
 use Rattle.mot_player.specs.Turn.{Turn}
 use Rattle.mot_player.proofs.Left.{filter-within, is_empty-append, left-some, own}
 use Rattle.mot_player.proofs.Left.{own-of_bodies, some-directory}
@@ -67,7 +65,7 @@ bodies-drop zero xs k = k
 bodies-drop (suc n) [] k = tt
 bodies-drop (suc n) (x ∷ xs) k = bodies-drop n xs k.1
 
-bodies-numbered : (tid n : ℕ) (ps : List (List ℕ)) → AreBodies (numbered_segments 4 tid n ps)
+pub bodies-numbered : (tid n : ℕ) (ps : List (List ℕ)) → AreBodies (numbered_segments 4 tid n ps)
 bodies-numbered tid n [] = tt
 bodies-numbered tid n (p ∷ ps) = (refl, bodies-numbered tid (n + 1) ps)
 
@@ -76,7 +74,7 @@ of_bodies-same [] k = refl
 of_bodies-same (x ∷ xs) k =
     rw (eq-eqb x.kind 4 k.0) (ap (λ (ss : List Segment). x ∷ ss) (of_bodies-same xs k.1))
 
-of_bodies-directory : (tid n : ℕ) (ps : List (List ℕ)) →
+pub of_bodies-directory : (tid n : ℕ) (ps : List (List ℕ)) →
     of_bodies (numbered_segments 6 tid n ps) ≡ []
 of_bodies-directory tid n [] = refl
 of_bodies-directory tid n (p ∷ ps) = of_bodies-directory tid (n + 1) ps
@@ -337,23 +335,6 @@ own-followed id turn place some has stays =
     ∙ ap (own_segments 4 id) (take-append-drop place.early left)
     ∙ own-of_bodies id (left_of place)
 
--- the rest goes on in its order
-pub rest-goes_on : RestGoesOn
-unfolding follow
-rest-goes_on place turn change some has is =
-    let p : Segment → Bool = λ (s : Segment). not (touches change s.tid) in
-    ap (λ (c : Change). untouched change (rest_of (followed_by c turn place))) is
-    ∙ ap (untouched change) (followed-rest change turn place some has)
-    ∙ others-rest p change place.segment_size (rest_of place)
-    (λ s e. not-true (touches change s.tid) e)
-
--- a body that was put comes at the end
-pub put-comes-at_the_end : PutComesAtTheEnd
-unfolding follow
-put-comes-at_the_end place turn new some has is =
-    ap (λ (c : Change). rest_of (followed_by c turn place)) is
-    ∙ followed-rest (Put new) turn place some has
-
 -- a body comes in the place of another one
 abbrev IsApart : Change → Type 0
 IsApart Same = Unit {0}
@@ -402,6 +383,25 @@ fresh-none id size old new same apart =
     none-of (own id) size new
     (λ s e. ap (λ (n : ℕ). n == new.0) (own-id id s e ∙ same) ∙ apart)
 
+-- the body of this id went with a change
+abbrev pub takes_away : Change → ℕ → Bool
+takes_away Same id = false
+takes_away (Put new) id = false
+takes_away (Replaced old new) id = id == old
+takes_away (Withdrawn old) id = id == old
+
+-- its segments do not stay
+gone-one : (s : Segment) (b : Bool) → (if not b then s ∷ [] else []) ≡ [] → b ≡ true
+gone-one s true e = refl
+gone-one s false e = absurd (let f : s ∷ [] ≡ [] = e in cc)
+
+gone-taken : (change : Change) (s : Segment) → that_stay change (s ∷ []) ≡ [] →
+    takes_away change s.tid ≡ true
+gone-taken Same s e = absurd (let f : s ∷ [] ≡ [] = e in cc)
+gone-taken (Put new) s e = absurd (let f : s ∷ [] ≡ [] = e in cc)
+gone-taken (Replaced old new) s e = gone-one s (s.tid == old) e
+gone-taken (Withdrawn old) s e = gone-one s (s.tid == old) e
+
 -- of a body that is gone nothing is left
 gone-early : (change : Change) (id : ℕ) (place : Place) → IsApart change →
     takes_away change id ≡ true → own_segments 4 id (early_after change place) ≡ []
@@ -440,24 +440,33 @@ own-gone change id turn place some has apart e =
     (gone-early change id place apart e)
     ∙ gone-rest change id place.segment_size (rest_of place) apart e
 
+-- of a body that is gone no segment comes
+pub gone-none : (id : ℕ) (turn : Turn) (place : Place) → 0 < place.segment_size →
+    HasDirectory turn → takes_away (change_between place.turn.bodies turn.bodies) id ≡ true →
+    own_segments 4 id (left_of (follow turn place)) ≡ []
+unfolding follow
+gone-none id turn place some has e =
+    own-gone (change_between place.turn.bodies turn.bodies) id turn place some has
+    (change_between-apart place.turn.bodies turn.bodies) e
+
 -- changes come next
 pub changes-come-next : ChangesComeNext
 unfolding follow
 changes-come-next place turn some has =
     let change : Change = change_between place.turn.bodies turn.bodies in
-    let size : ℕ = place.segment_size in
-    let directory : List Segment = directory_segments turn size in
-    let stay : List Segment = that_stay change (early_of place) in
-    let fresh : List Segment = fresh_segments size change in
+    let directory : List Segment = directory_segments turn place.segment_size in
     record {
-      others = renewed change place;
       next = followed-to_send change turn place some has
-          ∙ ap (λ (ss : List Segment). ss ++ renewed change place)
-          (sym (append_assoc directory stay fresh));
+          ∙ ap (λ (ss : List Segment). directory ++ ss ++ renewed change place)
+          (sym (followed-early change turn place some has))
+          ∙ ap (λ (ss : List Segment). directory ++ early_of (followed_by change turn place) ++ ss)
+          (sym (followed-rest change turn place some has));
       early = followed-early change turn place some has;
       rest = followed-rest change turn place some has;
-      gone = λ id e. own-gone change id turn place some has
-          (change_between-apart place.turn.bodies turn.bodies) e;
+      gone = λ id e.
+          let s : Segment =
+          record { kind = 4; tid = id; number = 0; last = true; bytes = [] } in
+          gone-none id turn place some has (gone-taken change s (e s refl));
     }
 
 -- where none of the old body stood, all stays

@@ -10,10 +10,10 @@ use Rattle.std.specs.Prelude.{◌==◌, not, if◌then◌else◌}
 use Rattle.mot_groups.specs.Entity.{segments_of}
 use Rattle.mot_groups.specs.Group.{Segment}
 use Rattle.mot_numbers.specs.Reading.{is_empty}
-use Rattle.mot_player.specs.Course.{fresh_of, kept, kept_of, one_more, rest_from}
+use Rattle.mot_player.specs.Course.{Entity, entity_in, queued, segments_from, segments_in}
+use Rattle.mot_player.specs.Inner.Course.{fresh_of, kept, kept_of, one_more, rest_from}
 use Rattle.mot_player.specs.Place.{Change, Same, Put, Replaced, Withdrawn}
 use Rattle.mot_player.specs.Place.{fresh_segments, rest_after, that_stay}
-use Rattle.mot_player.specs.PlayerView.{Entity, entity_in, queued, segments_from, segments_in}
 use Rattle.mot_player.specs.declared.course.Waiting.{Waiting}
 use Rattle.mot_player.specs.declared.difference.Difference.{Difference}
 use Rattle.mot_player.specs.declared.difference.Difference.TheVariants.{Nothing, Added, Changed}

@@ -8,17 +8,18 @@ use Rattle.std.proofs.lemmas.List.{append_assoc, length-map}
 use Rattle.std.specs.List.{AllByRecursion}
 use Rattle.std.specs.Prelude.{if◌then◌else◌, slice_index}
 use Rattle.mot_groups.specs.Group.{Segment}
-use Rattle.mot_player.specs.Course.{CourseView, followed, fresh_of, has_ended, has_ended_with, kept_of}
-use Rattle.mot_player.specs.Course.{left_course, one_more, whole_course}
-use Rattle.mot_player.specs.Difference.{difference_from, difference_in}
+use Rattle.mot_player.specs.Course.{CourseView, Entity, entities_of, entity_in, queued}
+use Rattle.mot_player.specs.Course.{segments_from, segments_in, waiting_of}
+use Rattle.mot_player.specs.Inner.Course.{followed, fresh_of, has_ended, has_ended_with, kept_of}
+use Rattle.mot_player.specs.Inner.Course.{left_course, one_more, whole_course}
+use Rattle.mot_player.specs.Inner.Difference.{difference_from, difference_in}
+use Rattle.mot_player.specs.PlayerView.{AreBodiesFor, BodyPlan, PlayerView, TurnPlan}
+use Rattle.mot_player.specs.PlayerView.{place_of, turn_with, with_bodies}
 use Rattle.mot_player.specs.Followable.{IsFollowable}
 use Rattle.mot_player.specs.Inner.Entities.{IsInside, IsOnCourse, IsPlannable, IsWithinTurn}
 use Rattle.mot_player.specs.Place.{Change, Place, UnderWay, change_between, directory_segments}
 use Rattle.mot_player.specs.Place.{early_after, early_of, follow, fresh_segments, left_of, left_with, of_bodies}
 use Rattle.mot_player.specs.Place.{rest_after, rest_of, that_stay}
-use Rattle.mot_player.specs.PlayerView.{AreBodiesFor, BodyPlan, Entity, PlayerView, TurnPlan}
-use Rattle.mot_player.specs.PlayerView.{entities_of, entity_in, place_of, queued, segments_from, segments_in, turn_with}
-use Rattle.mot_player.specs.PlayerView.{waiting_of, with_bodies}
 use Rattle.mot_player.specs.Turn.{Turn}
 use Rattle.mot_player.specs.declared.course.Waiting.{Waiting}
 use Rattle.mot_player.specs.declared.difference.Difference.{Difference}

@@ -7,10 +7,11 @@ use Rattle.std.proofs.lemmas.List.{length-map, map-append}
 use Rattle.std.specs.List.{AllByRecursion}
 use Rattle.std.specs.Prelude.{◌==◌, not}
 use Rattle.mot_objects.specs.Ids.{contains, is_distinct}
-use Rattle.mot_player.specs.Difference.{are_alike, difference_from, is_same}
+use Rattle.mot_player.specs.Course.{Entity}
+use Rattle.mot_player.specs.Inner.Difference.{are_alike, difference_from, is_same}
+use Rattle.mot_player.specs.PlayerView.{BodyPlan}
 use Rattle.mot_player.specs.Followable.{IsOneChange, put, replaced, same, withdrawn}
 use Rattle.mot_player.specs.Place.{Same, Put, Replaced, Withdrawn, change_between}
-use Rattle.mot_player.specs.PlayerView.{BodyPlan, Entity}
 use Rattle.mot_player.specs.declared.difference.Difference.{Difference}
 use Rattle.mot_player.specs.declared.difference.Difference.TheVariants.{Nothing, Added, Changed}
 use Rattle.mot_player.specs.declared.difference.Difference.TheVariants.{Removed}

@@ -29,24 +29,29 @@ use Rattle.mot_player.specs.Place.{in_its_place, left_of, left_with, next_sent, 
 use Rattle.mot_player.specs.Place.{opened_place, packet_sent, request, rest_of, sent_by}
 use Rattle.mot_player.specs.Place.{with_begun, without}
 use Rattle.mot_player.specs.Reading.{read_segments}
-use Rattle.mot_player.specs.Repeats.{ReadsOnceAs, ends_at_last, keep_turn}
+use Rattle.mot_player.specs.Repeats.{ReadsOnceAs, ends_at_last}
 use Rattle.mot_player.specs.Repeats.{read_turn_once, received}
-use Rattle.mot_player.specs.Staying.{HasDirectory, takes_away, touches}
+use Rattle.mot_player.specs.Staying.{HasDirectory, touches}
 use Rattle.mot_player.specs.Turn.{IsPlayable, IsSendable, IsTurnOf, Turn}
 use Rattle.mot_player.specs.Turn.{segments_of_bodies, segments_of_turn, turn_of_carousel}
+use Rattle.mot_player.proofs.Asked.{keep_turn}
 use Rattle.mot_player.proofs.Addresses.{one_address, steps-address}
 use Rattle.mot_player.proofs.Beginnings.{StandsAt}
 use Rattle.mot_player.proofs.Followed.{AreBodies, bodies-append, bodies-early_after}
-use Rattle.mot_player.proofs.Followed.{bodies-renewed, changes-come-next, followed-bodies}
+use Rattle.mot_player.proofs.Followed.{takes_away}
+use Rattle.mot_player.proofs.Followed.{bodies-renewed, followed-bodies, gone-none}
 use Rattle.mot_player.proofs.Followed.{followed-left, own-followed, renewed}
+use Rattle.mot_player.proofs.Followed.{of_bodies-directory}
 use Rattle.mot_player.proofs.FollowedTurn.{between-put, between-replaced, between-same}
 use Rattle.mot_player.proofs.FollowedTurn.{between-withdrawn, ids, other-inside, others-both}
 use Rattle.mot_player.proofs.FreshReads.{IsOwn, all-again, body-absent, body_of, copies}
 use Rattle.mot_player.proofs.FreshReads.{map-ids, own-whole, reads-again}
 use Rattle.mot_player.proofs.Left.{filter-within, own, own-directory, own-of_bodies}
-use Rattle.mot_player.proofs.Repeated.{heard-left, none-behind, of_bodies-all, of_bodies-none}
+use Rattle.mot_player.proofs.Repeated.{heard-left, none-behind, of_bodies-all}
 use Rattle.mot_player.proofs.Requests.{packets_of}
-use Rattle.mot_player.proofs.TurnOnce.{IsWithin, bodies-bodies, front_of, group_of, steps-send}
+use Rattle.mot_player.proofs.TurnOnce.{IsWithin, bodies-bodies, steps-send}
+use Rattle.mot_player.proofs.UnderWay.{front_of, group_of}
+use Rattle.mot_player.proofs.TurnOnce.{front-fit}
 use Rattle.mot_player.proofs.TurnReads.{EntityLaws, bodies-some, own-numbered_segments}
 use Rattle.mot_player.proofs.WholeTurn.{IsFit, append-fit, are_fit-turn, entity-laws, groups-read}
 use Rattle.mot_player.proofs.WholeTurn.{whole_or_none}
@@ -167,7 +172,7 @@ heard-fresh-left place some has fresh =
         ap of_bodies fresh.left
         ∙ filter-append (λ (s : Segment). s.kind == 4) directory fresh.bodies
         ∙ ap (λ (ss : List Segment). ss ++ of_bodies fresh.bodies)
-        (of_bodies-none place.turn.tid 0 (pieces place.segment_size place.turn.directory))
+        (of_bodies-directory place.turn.tid 0 (pieces place.segment_size place.turn.directory))
         ∙ of_bodies-all fresh.bodies fresh.are_bodies
 
     cases : (left_of (hear_directory place) ≡ left_of place)
@@ -388,8 +393,7 @@ module _ (turn : Turn) (place : Place) (some : 0 < place.segment_size) (has : Ha
 
   taken : (change : Change) → change_is change → takes_away change id ≡ true → IsThen None
   taken change is t =
-      (changes-come-next place turn some has).gone id
-      (ap (λ (c : Change). takes_away c id) is ∙ t)
+      gone-none id turn place some has (ap (λ (c : Change). takes_away c id) is ∙ t)
 
   none-before : body_of id place.turn.bodies ≡ None → own_segments 4 id (left_of place) ≡ []
   none-before e =
@@ -539,10 +543,6 @@ apart-carousel c size sound =
     (is_distinct (map (λ (o : Object). o.tid) c.objects)) sound.ids).1
 
 -- ---- reading
-
-front-fit : (xs ys : List Segment) → AllByRecursion IsFit (xs ++ ys) → AllByRecursion IsFit xs
-front-fit [] ys f = tt
-front-fit (x ∷ xs) ys f = (f.0, front-fit xs ys f.1)
 
 behind-fit : (xs ys : List Segment) → AllByRecursion IsFit (xs ++ ys) → AllByRecursion IsFit ys
 behind-fit [] ys f = f

@@ -2,20 +2,18 @@
 
 -- the packets of a whole turn of a carousel read as exactly the carousel
 pub use Rattle.mot_player.proofs.TurnOnce.{turns_read_as_their_carousels}
--- and so they do where the directory is asked for within it
-pub use Rattle.mot_player.proofs.TurnOnce.{turns-read-with_directories}
+-- and so they do where the directory is asked for within it, and no turn comes
+pub use Rattle.mot_player.proofs.Asked.{ask_directory, keep_turn}
+pub use Rattle.mot_player.proofs.TurnOnce.{turns-read, turns-read-with_directories}
 -- packets and groups have their continuity indexes, whatever comes between the requests
 pub use Rattle.mot_player.proofs.Continuous.{steps-are-continuous}
 -- the packets of the first sixteen turns can be sent round and round
 pub use Rattle.mot_player.proofs.Rounds.{rounds_are_continuous}
--- one more request, and one more change, go on where the steps before left off
-pub use Rattle.mot_player.proofs.GoesOn.{requests-go_on, changes-go_on}
--- and so do further steps
-pub use Rattle.mot_player.proofs.GoesOn.{steps-go_on}
+-- further steps, and one more request, go on where the steps before left off
+pub use Rattle.mot_player.proofs.GoesOn.{requests-go_on, steps-go_on}
 -- a directory that is asked for comes next, changes come next, and bodies that stay go on
 pub use Rattle.mot_player.proofs.Staying.{bodies-go_on, directory-comes, requests-take-in-order}
-pub use Rattle.mot_player.proofs.Followed.{changes-come-next, put-comes-at_the_end}
-pub use Rattle.mot_player.proofs.Followed.{replaced-keeps-its_place, rest-goes_on}
+pub use Rattle.mot_player.proofs.Followed.{changes-come-next, replaced-keeps-its_place}
 -- each request brings the end of the turn nearer
 pub use Rattle.mot_player.proofs.Ending.{turns-end}
 -- where a player stands behind whatever steps, and that a turn begins where one has ended

@@ -1,5 +1,6 @@
 pub mod Addresses
 pub mod Answered
+pub mod Asked
 pub mod Beginnings
 pub mod Continuous
 pub mod Differences
@@ -34,4 +35,5 @@ pub mod SomeBodies
 pub mod Staying
 pub mod TurnOnce
 pub mod TurnReads
+pub mod UnderWay
 pub mod WholeTurn

@@ -8,14 +8,15 @@ use Rattle.std.proofs.lemmas.List.{append-nil, length-append}
 use Rattle.std.proofs.lemmas.Option.{none-some, same_Some}
 use Rattle.std.specs.List.{AllByRecursion}
 use Rattle.std.specs.Prelude.{◌==◌, ◌&&◌, nat_lt, slice_index, if◌then◌else◌}
-use Rattle.mot_player.specs.Course.{CourseView, fresh_of, followed, kept, kept_of, one_more}
-use Rattle.mot_player.specs.Course.{changed_course, has_ended, left_course, rest_from}
-use Rattle.mot_player.specs.Course.{whole_course}
-use Rattle.mot_player.specs.Difference.{added, are_alike, difference_from, difference_here}
-use Rattle.mot_player.specs.Difference.{difference_in, is_same}
+use Rattle.mot_player.specs.Course.{CourseView}
+use Rattle.mot_player.specs.Inner.Course.{fresh_of, followed, kept, kept_of, one_more}
+use Rattle.mot_player.specs.Inner.Course.{changed_course, has_ended, left_course, rest_from}
+use Rattle.mot_player.specs.Inner.Course.{whole_course}
+use Rattle.mot_player.specs.Inner.Difference.{added, are_alike, difference_from, difference_here}
+use Rattle.mot_player.specs.Inner.Difference.{difference_in, is_same}
+use Rattle.mot_player.specs.PlayerView.{BodyPlan, TurnPlan}
 use Rattle.mot_player.specs.Inner.Entities.{IsInside, IsOnCourse, IsPlannable, IsWithinTurn}
 use Rattle.mot_player.specs.Inner.Entities.{entity_length}
-use Rattle.mot_player.specs.PlayerView.{BodyPlan, TurnPlan}
 use Rattle.mot_player.specs.declared.course.Waiting.{Waiting}
 use Rattle.mot_player.specs.declared.difference.Difference.{Difference}
 use Rattle.mot_player.specs.declared.difference.Difference.TheVariants.{Nothing, Added, Changed}

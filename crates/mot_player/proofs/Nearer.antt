@@ -5,18 +5,19 @@ use Rattle.std.proofs.Common.{length-take-le, map, take, drop, vec_len, eq-eqb}
 use Rattle.std.proofs.lemmas.Bool.{ne_eqb}
 use Rattle.std.proofs.lemmas.List.{length-replicate}
 use Rattle.std.specs.Prelude.{◌==◌, if◌then◌else◌, replicate}
+use Rattle.mot_numbers.proofs.Laws.{room_of-some}
 use Rattle.mot_player.specs.Inner.Next.{IsNext, segment_of}
 use Rattle.mot_player.specs.Inner.Ready.{HasTaken, place_with}
 use Rattle.mot_player.specs.State.{view_of}
 use Rattle.mot_player.specs.Laws.{blank_bodies, bytes_due, bytes_left, group_bytes_of}
 use Rattle.mot_player.specs.Place.{UnderWay}
-use Rattle.mot_player.specs.Course.{CourseView, course_of, passed}
+use Rattle.mot_player.specs.Course.{CourseView, course_of, waiting_of}
+use Rattle.mot_player.specs.Inner.Course.{passed}
 use Rattle.mot_player.specs.PlayerView.{AreBodiesFor, BodyPlan, TurnPlan, turn_with}
-use Rattle.mot_player.specs.PlayerView.{waiting_of}
 use Rattle.mot_player.specs.Inner.Entities.{entity_bytes, entity_length}
 use Rattle.mot_player.specs.declared.part.Part.{Part}
 use Rattle.mot_player.specs.declared.state.State.{State}
-use Rattle.mot_player.proofs.Answered.{room-some, sent_from}
+use Rattle.mot_player.proofs.Answered.{sent_from}
 use Rattle.mot_player.proofs.Ending.{packet-less}
 use Rattle.mot_player.proofs.NextSegment.{length-at}
 
@@ -73,7 +74,7 @@ nearer-under_way state bodies some left goes_on =
     let under_way : (if state.sent == 0 then None else Some u) ≡ Some u =
     rw (ne_eqb state.sent 0 some) refl in
     rw under_way (packet-less (place_with state bodies) state.group.items state.sent
-    (room-some state.full_length) (omega (arith, left)) goes_on)
+    (room_of-some state.full_length) (omega (arith, left)) goes_on)
 
 -- the first packet of a group that was begun
 pub nearer-begun : (old state : State) (bodies : List (List ℕ)) → old.sent ≡ 0 →
@@ -82,9 +83,9 @@ pub nearer-begun : (old state : State) (bodies : List (List ℕ)) → old.sent �
 nearer-begun old state bodies none none_sent taken goes_on =
     let due : bytes_due (place_with old bodies)
     ≡ length taken.segment.bytes + 11 + group_bytes_of taken.others =
-    rw (eq-eqb old.sent 0 none) (ap group_bytes_of taken.next) in
+    rw (eq-eqb old.sent 0 none) (omega (arith, ap group_bytes_of taken.next)) in
     let less = packet-less (place_with state bodies) state.group.items state.sent
-    (room-some state.full_length) (omega (arith, none_sent, taken.len)) goes_on in
+    (room_of-some state.full_length) (omega (arith, none_sent, taken.len)) goes_on in
     omega (arith, less, due, none_sent, taken.len, ap group_bytes_of taken.waiting)
 
 -- as it is told of standings: `mid` is the state that sends

@@ -12,9 +12,10 @@ use Rattle.std.specs.List.{AllByRecursion}
 use Rattle.mot_groups.specs.Entity.{first_pieces, numbered_segments}
 use Rattle.mot_groups.specs.Group.{Segment}
 use Rattle.mot_numbers.specs.Reading.{is_empty}
+use Rattle.mot_groups.proofs.Laws.{length-first_pieces}
 use Rattle.mot_player.specs.Bodies.{body_at}
-use Rattle.mot_player.specs.PlayerView.{AreBodiesFor, BodyPlan, Entity, TurnPlan, entities_of}
-use Rattle.mot_player.specs.PlayerView.{segments_from, segments_in, turn_with, with_bodies}
+use Rattle.mot_player.specs.Course.{Entity, entities_of, segments_from, segments_in}
+use Rattle.mot_player.specs.PlayerView.{AreBodiesFor, BodyPlan, TurnPlan, turn_with, with_bodies}
 use Rattle.mot_player.specs.Inner.Entities.{IsPlannable, IsWithinTurn, entity_bytes, entity_length}
 use Rattle.mot_player.specs.Inner.Entities.{entity_tid}
 use Rattle.mot_player.proofs.Segments.{body_entity, length-with_bodies, segments_from-end}
@@ -108,10 +109,6 @@ from-next : (size : ℕ) (entities : List Entity) (k : ℕ) → k < length entit
 from-next size [] k l = absurd (omega arith)
 from-next size (x ∷ entities) zero l = from-first size entities
 from-next size (x ∷ entities) (suc k) l = from-next size entities k (omega arith)
-
-length-first_pieces : (n size : ℕ) (bytes : List ℕ) → length (first_pieces n size bytes) ≡ n
-length-first_pieces zero size bytes = refl
-length-first_pieces (suc n) size bytes = ap suc (length-first_pieces n size (drop size bytes))
 
 length-numbered_segments : (kind tid number : ℕ) (ps : List (List ℕ))
     → length (numbered_segments kind tid number ps) ≡ length ps

@@ -12,15 +12,15 @@ use Rattle.std.specs.List.{AllByRecursion}
 use Rattle.mot_groups.specs.Entity.{numbered_segments, pieces, segments_of}
 use Rattle.mot_groups.specs.Group.{Segment}
 use Rattle.mot_numbers.specs.Reading.{is_empty}
-use Rattle.mot_player.specs.Course.{CourseView, due_of, due_with, has_ended, has_ended_with, passed}
-use Rattle.mot_player.specs.Course.{ended_course, heard_course, passed_with, whole_course}
+use Rattle.mot_player.specs.Course.{CourseView, Entity, directory_from, entities_of, entity_in}
+use Rattle.mot_player.specs.Course.{queued, segments_from, segments_in, waiting_of}
+use Rattle.mot_player.specs.Inner.Course.{due_of, due_with, has_ended, has_ended_with, passed}
+use Rattle.mot_player.specs.Inner.Course.{ended_course, heard_course, passed_with, whole_course}
+use Rattle.mot_player.specs.PlayerView.{AreBodiesFor, TurnPlan, turn_with}
 use Rattle.mot_player.specs.Inner.Entities.{IsInside, IsOnCourse, IsPlannable, IsWithinTurn}
 use Rattle.mot_player.specs.Inner.Entities.{entity_bytes, entity_length, entity_tid}
 use Rattle.mot_player.specs.Inner.Next.{due_from, segment_of}
 use Rattle.mot_player.specs.Place.{directory_segments, of_bodies}
-use Rattle.mot_player.specs.PlayerView.{AreBodiesFor, Entity, TurnPlan, directory_from, entities_of}
-use Rattle.mot_player.specs.PlayerView.{entity_in, queued, segments_from, segments_in, turn_with}
-use Rattle.mot_player.specs.PlayerView.{waiting_of}
 use Rattle.mot_player.specs.Turn.{Turn, segments_of_turn}
 use Rattle.mot_player.specs.declared.course.Waiting.{Waiting}
 use Rattle.mot_player.specs.declared.part.Part.{Part}

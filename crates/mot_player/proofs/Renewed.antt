@@ -10,7 +10,7 @@ use Rattle.mot_groups.specs.Entity.{numbered_segments, pieces}
 use Rattle.mot_groups.specs.Group.{Segment}
 use Rattle.mot_numbers.specs.Reading.{is_empty}
 use Rattle.mot_player.specs.Place.{in_its_place, without}
-use Rattle.mot_player.specs.PlayerView.{Entity, segments_from, segments_in}
+use Rattle.mot_player.specs.Course.{Entity, segments_from, segments_in}
 use Rattle.mot_player.proofs.Followed.{place-of_gone}
 use Rattle.mot_player.proofs.Segments.{body_entity}
 

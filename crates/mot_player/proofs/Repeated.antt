@@ -1,6 +1,6 @@
 -- A turn in which the directory is asked for reads as its carousel.
 use Rattle.std.proofs.Common.{◌≡◌, ℕ, ◌+◌, ◌<◌, List, [], ◌∷◌, ◌++◌, Bool, true, false, not}
-use Rattle.std.proofs.Common.{Option, ◌⊎◌, inl, inr, refl, sym, map, length, drop}
+use Rattle.std.proofs.Common.{Option, ◌⊎◌, inl, inr, refl, sym, length, drop}
 use Rattle.std.proofs.Common.{ap, ◌∙◌, arith, append_assoc, append-nil, eq-eqb}
 use Rattle.std.proofs.lemmas.Bool.{and_parts, eqb-true, not-true, or_right}
 use Rattle.std.proofs.lemmas.List.Elements.{filter-append}
@@ -18,7 +18,9 @@ use Rattle.mot_player.specs.Place.{left_with, of_bodies}
 use Rattle.mot_player.specs.Repeats.{had_with, is_same_segment, received}
 use Rattle.mot_player.specs.Turn.{Turn, bodies_with_ids, segments_of_bodies}
 use Rattle.mot_player.proofs.Followed.{AreBodies}
+use Rattle.mot_player.proofs.Followed.{of_bodies-directory}
 use Rattle.mot_player.proofs.Left.{is_empty-append, left-some, some-directory}
+use Rattle.mot_player.proofs.TurnReads.{ids_of}
 
 -- ---- what a receiver has
 
@@ -157,9 +159,6 @@ foreign-append : (kind tid : ℕ) (xs ys : List Segment) → AllByRecursion (IsF
 foreign-append kind tid [] ys p q = q
 foreign-append kind tid (x ∷ xs) ys p q = (p.0, foreign-append kind tid xs ys p.1 q)
 
-abbrev ids_of : List Object → List ℕ
-ids_of objects = map (λ (o : Object). o.tid) objects
-
 -- an id that is among others is not one that is not
 other-id : (ids : List ℕ) (x y : ℕ) → contains ids x ≡ false → contains ids y ≡ true → x ≡ y → ⊥
 other-id ids x y p q e =
@@ -247,11 +246,6 @@ left-next directory had t rest l =
           are_bodies = b;
         }
 
-pub of_bodies-none : (tid n : ℕ) (ps : List (List ℕ)) →
-    of_bodies (numbered_segments 6 tid n ps) ≡ []
-of_bodies-none tid n [] = refl
-of_bodies-none tid n (p ∷ ps) = of_bodies-none tid (n + 1) ps
-
 pub of_bodies-all : (xs : List Segment) → AreBodies xs → of_bodies xs ≡ xs
 of_bodies-all [] b = refl
 of_bodies-all (x ∷ xs) b = rw (eq-eqb x.kind 4 b.0, of_bodies-all xs b.1) refl
@@ -272,7 +266,7 @@ module _ (turn : Turn) (size : ℕ) (had left : List Segment)
       let none : of_bodies l.after ≡ [] =
       none-behind (of_bodies l.before) (of_bodies l.after)
       (sym (filter-append test l.before l.after) ∙ ap of_bodies (sym l.cut)
-      ∙ of_bodies-none turn.tid 0 (pieces size turn.directory)) in
+      ∙ of_bodies-directory turn.tid 0 (pieces size turn.directory)) in
       ap of_bodies l.all ∙ filter-append test l.after l.bodies
       ∙ ap (λ ss. ss ++ of_bodies l.bodies) none ∙ of_bodies-all l.bodies l.are_bodies
 

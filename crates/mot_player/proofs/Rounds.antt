@@ -8,31 +8,31 @@ use Rattle.std.proofs.lemmas.Bool.{and_parts, cases_lt, leb-true}
 use Rattle.std.proofs.lemmas.Grind.{div_ceil_times}
 use Rattle.std.proofs.lemmas.List.{map-append}
 use Rattle.std.proofs.lemmas.Option.{none-some, same_Some, some_pair_parts}
-use Rattle.std.specs.Prelude.{◌&&◌, ◌==◌, if◌then◌else◌}
+use Rattle.std.specs.Prelude.{◌&&◌, ◌==◌, flat_map, if◌then◌else◌}
 use Rattle.std.specs.Int.{div_ceil}
 use Rattle.std.specs.List.{AllByRecursion, list_all}
 use Rattle.mot_groups.specs.Group.{GroupFields, Segment, bytes_of_group, segment_content}
 use Rattle.mot_numbers.proofs.Laws.{length-read_each, read_each-append}
+use Rattle.mot_numbers.proofs.Laws.{>>=-some}
 use Rattle.mot_numbers.specs.Reading.{◌>>=◌, is_empty, read_each}
 use Rattle.mot_packets.specs.Cut.{piece_at}
 use Rattle.mot_packets.specs.Gather.{gather_front, groups_after, may_follow}
 use Rattle.mot_packets.specs.Packet.{PacketFields, read_packet}
 use Rattle.mot_packets.proofs.Laws.{groups_after-last_piece, groups_after-piece, more_left}
+use Rattle.mot_groups.proofs.Laws.{length-bytes_of_group}
 use Rattle.mot_player.specs.Continuity.{IsContinuous, contents, group_index, indexes_after}
 use Rattle.mot_player.specs.Continuity.{packet_index, packet_indexes_from}
 use Rattle.mot_player.specs.Place.{Place, Sent, Step, Request, first_sent, group_for, next_sent}
 use Rattle.mot_player.specs.Place.{opened_place, packet_sent, request, sent_by, with_begun}
 use Rattle.mot_player.specs.Rounds.{AreWholeTurns, IsWholeTurn, RoundsAreContinuous, rounds_of}
-use Rattle.mot_player.specs.Rounds.{sents_of}
 use Rattle.mot_player.specs.Turn.{Turn, segments_of_turn}
 use Rattle.mot_player.proofs.Addresses.{one_address, steps-address}
 use Rattle.mot_player.proofs.Continuous.{AreKinds-turn, IsKind, contents-one, kind-fits}
 use Rattle.mot_player.proofs.Continuous.{steps-are-continuous}
 use Rattle.mot_player.proofs.Cycles.{indexes-rounds}
-use Rattle.mot_player.proofs.Ending.{length-group}
 use Rattle.mot_player.proofs.GoesOn.{steps-go_on}
 use Rattle.mot_player.proofs.Indexes.{contents-append, some_bytes-group}
-use Rattle.mot_player.proofs.Requests.{>>=-some, FirstRequest, first_request, packets_of}
+use Rattle.mot_player.proofs.Requests.{FirstRequest, first_request, packets_of}
 use Rattle.mot_player.proofs.Requests.{place_behind}
 use Rattle.mot_player.proofs.WholeTurn.{ends_of, head-false, head-true, last_ends}
 
@@ -112,7 +112,7 @@ group-count : (place : Place) (g : GroupFields) →
     ≡ div_ceil (length g.segment.bytes + 11) place.room
 group-count place g =
     let long : length (bytes_of_group g) - 0 ≡ length g.segment.bytes + 11 =
-    omega (arith, length-group g) in
+    omega (arith, length-bytes_of_group g) in
     ap (λ (n : ℕ). div_ceil n place.room) long
 
 turn-leaves : (n : ℕ) (last : Bool) (place : Place) (waiting : List Segment) (group : List ℕ)
@@ -364,6 +364,10 @@ record Turns (turns : ℕ) (segments : List Segment) (old : Place) (sents : List
   count : length (packets_of sents) ≡ times turns (packets_for old.room segments)
   steps : List Step
   sent : sent_by old steps ≡ Some (sents, new)
+
+-- what turns one behind the other sent
+abbrev sents_of : List (List Sent) → List Sent
+sents_of turns = flat_map (λ (sents : List Sent). sents) turns
 
 turns-gather : (turns : List (List Sent)) (old new : Place) (room size : ℕ) (turn : Turn) → 0 < room
     →

@@ -12,9 +12,7 @@ use Rattle.mot_objects.specs.Mime.{IsMime}
 use Rattle.mot_objects.specs.Rules.{AllKeepRules, KeepsRules}
 use Rattle.mot_player.specs.Turn.{IsPlayable, IsSendable, IsTurnOf, bodies_with_ids}
 use Rattle.mot_player.specs.Turn.{turn_of_carousel}
-
-abbrev IsId : ℕ → Type 0
-IsId id = (1 ≤ id) × (id ≤ 65535)
+use Rattle.mot_player.proofs.WholeTurn.{IsId}
 
 short-mime : (mime : Option (List ℕ)) → MatchOption mime ⊤ IsMime → IsShortMime mime
 short-mime None m = tt

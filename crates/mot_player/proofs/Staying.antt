@@ -9,6 +9,7 @@ use Rattle.std.specs.Prelude.{◌&&◌, not, if◌then◌else◌}
 use Rattle.mot_groups.specs.Entity.{own_segments, pieces}
 use Rattle.mot_groups.specs.Group.{GroupFields, Segment, bytes_of_group}
 use Rattle.mot_numbers.specs.Reading.{◌>>=◌, is_empty}
+use Rattle.mot_numbers.proofs.Laws.{>>=-some}
 use Rattle.mot_player.specs.Place.{Place, Sent, Step, Request, NewTurn, Directory, Follow, UnderWay}
 use Rattle.mot_player.specs.Place.{directory_segments, first_sent, follow, group_for}
 use Rattle.mot_player.specs.Place.{hear_directory, left_of, left_with, next_sent, of_bodies}
@@ -19,7 +20,7 @@ use Rattle.mot_player.specs.Turn.{Turn, segments_of_bodies}
 use Rattle.mot_player.proofs.Followed.{own-followed}
 use Rattle.mot_player.proofs.Left.{is_empty-append, left-some, own, own-directory, own-of_bodies}
 use Rattle.mot_player.proofs.Left.{some-directory}
-use Rattle.mot_player.proofs.Requests.{>>=-some, FirstRequest, first_request}
+use Rattle.mot_player.proofs.Requests.{FirstRequest, first_request}
 
 -- behind a directory that is asked for
 own-heard-cases : (id : ℕ) (place : Place) (u : Option UnderWay) (b : Bool)

@@ -1,6 +1,6 @@
 -- The packets of a turn in which the directory is asked for gather to its groups, and these read as
 -- its carousel.
-use Rattle.std.proofs.Common.{◌≡◌, ℕ, ◌+◌, ◌<◌, List, [], ◌∷◌, ◌++◌, Bool, true, false}
+use Rattle.std.proofs.Common.{◌≡◌, ℕ, ◌<◌, List, [], ◌∷◌, ◌++◌, Bool, true, false}
 use Rattle.std.proofs.Common.{Option, Some, None, ◌⊎◌, inl, inr, refl, sym, subst, map, length}
 use Rattle.std.proofs.Common.{take, drop, replicate, suc, zero, arith}
 use Rattle.std.proofs.Common.{ap, ◌∙◌}
@@ -8,7 +8,7 @@ use Rattle.std.proofs.lemmas.Bool.{and_parts}
 use Rattle.std.proofs.lemmas.Option.{none-some, same_Some}
 use Rattle.std.specs.Prelude.{◌==◌, ◌&&◌, IfSome, if◌then◌else◌, not}
 use Rattle.std.specs.List.{AllByRecursion}
-use Rattle.mot_groups.specs.Entity.{numbered_segments, pieces, segments_of}
+use Rattle.mot_groups.specs.Entity.{pieces, segments_of}
 use Rattle.mot_groups.specs.Group.{Segment, GroupFields, IsGroup, bytes_of_group}
 use Rattle.mot_numbers.specs.Reading.{is_empty}
 use Rattle.mot_objects.specs.Carousel.{Carousel, IsSound, Object}
@@ -17,18 +17,19 @@ use Rattle.mot_packets.specs.Cut.{piece_at}
 use Rattle.mot_packets.specs.Gather.{groups_after, gather, gather_front}
 use Rattle.mot_packets.specs.Packet.{PacketFields}
 use Rattle.mot_packets.proofs.Laws.{groups_after-last_piece, groups_after-piece, more_left}
-use Rattle.mot_player.specs.Laws.{AreSent, IsAtTurnsBeginning, IsPlace, TurnsReadAsTheirCarousels}
+use Rattle.mot_player.specs.Laws.{AreSent, IsAtTurnsBeginning, IsPlace}
 use Rattle.mot_player.specs.Place.{Place, Sent, Step, Request, NewTurn, Directory, Follow, UnderWay}
 use Rattle.mot_player.specs.Place.{directory_segments, first_sent, group_for, hear_directory}
 use Rattle.mot_player.specs.Place.{left_of, left_with, next_sent, of_bodies, packet_sent, request}
 use Rattle.mot_player.specs.Place.{sent_by, to_send, with_begun}
-use Rattle.mot_player.specs.Reading.{read_turn}
-use Rattle.mot_player.specs.Repeats.{ReadAsTurn, TurnsReadWithDirectories, ask_directory}
-use Rattle.mot_player.specs.Repeats.{ends_at_last, had_with, keep_turn, read_turn_once, received}
-use Rattle.mot_player.specs.Turn.{IsTurnOf, segments_of_bodies}
-use Rattle.mot_player.specs.Turn.{segments_of_turn}
+use Rattle.mot_player.specs.Reading.{ReadsAs, read_turn}
+use Rattle.mot_player.specs.Repeats.{ReadAsTurn, TurnsReadWithDirectories}
+use Rattle.mot_player.specs.Repeats.{ends_at_last, had_with, read_turn_once, received}
+use Rattle.mot_player.specs.Turn.{IsTurnOf, segments_of_bodies, segments_of_turn}
 use Rattle.mot_player.proofs.Addresses.{one_address, steps-address}
+use Rattle.mot_player.proofs.Asked.{ask_directory, keep-turn, keep_turn}
 use Rattle.mot_player.proofs.Followed.{AreBodies, bodies-append}
+use Rattle.mot_player.proofs.Followed.{bodies-numbered}
 use Rattle.mot_player.proofs.Indexes.{some_bytes-group}
 use Rattle.mot_player.proofs.Repeated.{IsLeft, heard-left, is_left-heard, left-heard, left-next}
 use Rattle.mot_player.proofs.Repeated.{received-turn}
@@ -38,15 +39,7 @@ use Rattle.mot_player.proofs.TurnReads.{EntityLaws, read_segments-turn}
 use Rattle.mot_player.proofs.WholeTurn.{IsFit, KeepsIndexes, append-fit, are_fit-turn, begun-keeps}
 use Rattle.mot_player.proofs.WholeTurn.{entity-laws, group-index_fits, groups-read, is_group}
 use Rattle.mot_player.proofs.WholeTurn.{ends_of, head-false, head-true, last_ends, whole_or_none}
-
--- where a group is under way: it, and what was sent of it
-abbrev pub group_of : Option UnderWay → List (List ℕ)
-group_of None = []
-group_of (Some u) = u.group ∷ []
-
-abbrev pub front_of : Option UnderWay → List ℕ
-front_of None = []
-front_of (Some u) = take u.sent u.group
+use Rattle.mot_player.proofs.UnderWay.{front_of, group_of}
 
 -- The packets of what is left, behind the front of one group: what they carry is received as what
 -- is left is, and is that itself if the directory is not asked for.
@@ -304,13 +297,9 @@ steps-send (Directory ∷ steps) had place sents new within inside keep h ends =
 steps-send (Follow turn ∷ steps) had place sents new within inside keep h ends =
     absurd (let f : false ≡ true = keep in cc)
 
-front-fit : (xs ys : List Segment) → AllByRecursion IsFit (xs ++ ys) → AllByRecursion IsFit xs
+pub front-fit : (xs ys : List Segment) → AllByRecursion IsFit (xs ++ ys) → AllByRecursion IsFit xs
 front-fit [] ys f = tt
 front-fit (x ∷ xs) ys f = (f.0, front-fit xs ys f.1)
-
-bodies-numbered : (tid n : ℕ) (ps : List (List ℕ)) → AreBodies (numbered_segments 4 tid n ps)
-bodies-numbered tid n [] = tt
-bodies-numbered tid n (p ∷ ps) = (refl, bodies-numbered tid (n + 1) ps)
 
 pub bodies-bodies : (size : ℕ) (bodies : List (ℕ × List ℕ)) →
     AreBodies (segments_of_bodies size bodies)
@@ -408,9 +397,20 @@ module _ (old : Place) (c : Carousel) (place : IsPlace old)
       }
 
 -- the packets of a turn read as its carousel, however often its directory is asked for
-pub turns-read-with_directories : TurnsReadWithDirectories
+pub turns-read-with_directories : (old new : Place) (c : Carousel) (steps : List Step)
+    (sents : List Sent) (packets : List (List ℕ)) → IsPlace old →
+    IsTurnOf old.turn c old.segment_size → IsSound c → IsAtTurnsBeginning old →
+    keep_turn steps ≡ true → sent_by old steps ≡ Some (sents, new) → ends_at_last sents ≡ true →
+    AreSent sents packets → ReadAsTurn (ask_directory steps) packets c old.segment_size
 turns-read-with_directories old new c steps sents packets place is_turn sound begins keep h ends =
     turn-reads old c place is_turn sound begins new steps sents packets keep h ends
+
+pub turns-read : TurnsReadWithDirectories
+turns-read old new c asked steps sents packets place is_turn sound begins keeps h ends are =
+    let kept = keep-turn asked steps keeps in
+    let read : ReadAsTurn (ask_directory steps) packets c old.segment_size =
+    turn-reads old c place is_turn sound begins new steps sents packets kept.0 h ends are in
+    record { once = read.once; plain = λ f. read.plain (kept.1 f) }
 
 -- where nothing but requests come, no turn comes and the directory is not asked for
 keep-requests : (n : ℕ) → keep_turn (replicate n Request) ≡ true
@@ -436,7 +436,11 @@ ends-last false (suc n) [] e = absurd (none_end n (ap (drop 1) e))
 ends-last false (suc n) (s ∷ sents) e = ends-last s.ends_turn n sents (ap (drop 1) e)
 
 -- the packets of a turn from its beginning on read as its carousel
-pub turns_read_as_their_carousels : TurnsReadAsTheirCarousels
+pub turns_read_as_their_carousels : (old new : Place) (c : Carousel) (n : ℕ) (sents : List Sent)
+    (packets : List (List ℕ)) → IsPlace old → IsTurnOf old.turn c old.segment_size → IsSound c →
+    IsAtTurnsBeginning old → sent_by old (Request ∷ replicate n Request) ≡ Some (sents, new) →
+    map (λ (s : Sent). s.ends_turn) sents ≡ replicate n false ++ true ∷ [] →
+    AreSent sents packets → ReadsAs packets c old.segment_size
 turns_read_as_their_carousels old new c n sents packets place is_turn sound begins h flags sent =
     let q : FirstRequest old (replicate n Request) sents new =
     first_request old (replicate n Request) sents new h in

@@ -1,7 +1,7 @@
 -- The segments of a turn fit their groups, and these read as the segments.
-use Rattle.std.proofs.Common.{◌≡◌, ℕ, suc, zero, ◌+◌, ◌*◌, ◌%◌, ◌^◌, ◌<◌, ◌≤◌, List, [], ◌∷◌, ◌++◌}
+use Rattle.std.proofs.Common.{◌≡◌, ℕ, ◌+◌, ◌*◌, ◌%◌, ◌^◌, ◌<◌, ◌≤◌, List, [], ◌∷◌, ◌++◌}
 use Rattle.std.proofs.Common.{Bool, true, false, Option, Some, None, ◌⊎◌, inl, inr, refl, sym}
-use Rattle.std.proofs.Common.{subst, length, map, drop, replicate, All, ap, arith}
+use Rattle.std.proofs.Common.{subst, length, map, replicate, All, ap, arith}
 use Rattle.std.proofs.Math.Nat.{mul-le-mul_right}
 use Rattle.std.proofs.lemmas.Bool.{cases_lt, false≢true}
 use Rattle.std.proofs.lemmas.Grind.{div_ceil_times}
@@ -9,10 +9,11 @@ use Rattle.std.proofs.lemmas.List.Elements.{All-head, All-tail}
 use Rattle.std.specs.Prelude.{◌==◌, if◌then◌else◌, bytes_eq, IfSome}
 use Rattle.std.specs.Int.{div_ceil}
 use Rattle.std.specs.List.{AllByRecursion}
-use Rattle.mot_groups.specs.Entity.{first_pieces, numbered_segments, pieces, segments_of}
+use Rattle.mot_groups.specs.Entity.{numbered_segments, pieces, segments_of}
 use Rattle.mot_groups.specs.Group.{Segment, GroupFields, IsGroup, read_group, bytes_of_group}
 use Rattle.mot_groups.specs.Group.{segment_content}
 use Rattle.mot_groups.proofs.Laws.{IsCut-pieces, entity_of-own, read_group-bytes_of_group}
+use Rattle.mot_groups.proofs.Laws.{length-first_pieces}
 use Rattle.mot_numbers.specs.Reading.{is_empty, read_each}
 use Rattle.mot_objects.specs.Carousel.{Object, Carousel, IsSound}
 use Rattle.mot_player.specs.Place.{Last, Place, Sent, next_index, group_for, with_begun}
@@ -48,10 +49,6 @@ are_fit-numbered_segments kind tid number size (p ∷ ps) k t n some short s =
           (All-tail (λ p. length p ≤ size) p ps short) s,
     )
 
-length-first_pieces : (n size : ℕ) (bytes : List ℕ) → length (first_pieces n size bytes) ≡ n
-length-first_pieces zero size bytes = refl
-length-first_pieces (suc n) size bytes = ap suc (length-first_pieces n size (drop size bytes))
-
 few : (count size bytes : ℕ) → bytes ≤ 32768 * size → count * size < bytes + size → count ≤ 32768
 few count size bytes most less =
     elim (cases_lt 32768 count) [
@@ -75,7 +72,7 @@ pub append-fit : (xs ys : List Segment) → AllByRecursion IsFit xs → AllByRec
 append-fit [] ys p q = q
 append-fit (x ∷ xs) ys p q = (p.0, append-fit xs ys p.1 q)
 
-abbrev IsId : ℕ → Type 0
+abbrev pub IsId : ℕ → Type 0
 IsId id = (1 ≤ id) × (id ≤ 65535)
 
 module _ (size : ℕ) (laws : EntityLaws size) (s : size ≤ 8189) where

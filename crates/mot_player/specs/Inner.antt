@@ -1,4 +1,6 @@
 -- What the code of a player keeps, for its own clauses and proofs.
+pub mod Course
+pub mod Difference
 pub mod Entities
 pub mod Next
 pub mod Ready

@@ -1,21 +1,17 @@
 -- Laws of whole turns and of whole streams.
-use Rattle.std.specs.Prelude.{◌≡◌, ◌⊎◌, ℕ, ◌+◌, ◌-◌, length, Option, Bool, ◌≤◌, ◌<◌, true, false}
-use Rattle.std.specs.Prelude.{List, [], ◌∷◌, ◌++◌, map}
-use Rattle.std.specs.Prelude.{replicate}
-use Rattle.std.specs.Prelude.{Some, None, IfSome}
+use Rattle.std.specs.Prelude.{◌≡◌, ◌⊎◌, ℕ, ◌+◌, ◌-◌, length, Bool, ◌≤◌, ◌<◌, List, []}
+use Rattle.std.specs.Prelude.{◌∷◌, ◌++◌, map, replicate, Some, None, IfSome}
+use Rattle.std.specs.Option.{option_map_or}
 use Rattle.mot_groups.specs.Group.{Segment}
 use Rattle.mot_numbers.specs.Reading.{read_each}
 use Rattle.mot_numbers.specs.declared.numbers.TheConstants.{MAX_SEGMENT}
-use Rattle.mot_objects.specs.Carousel.{Carousel, IsSound}
 use Rattle.mot_packets.specs.Packet.{read_packet}
 use Rattle.mot_packets.specs.Written.{bytes_of_packet}
 use Rattle.mot_player.specs.Continuity.{IsContinuous}
-use Rattle.mot_player.specs.Place.{Last, UnderWay, to_send, Place, Sent, Step, Request, NewTurn}
-use Rattle.mot_player.specs.Place.{change_turn}
-use Rattle.mot_player.specs.Place.{opened_place, request, sent_by}
-use Rattle.mot_player.specs.Reading.{ReadsAs}
+use Rattle.mot_player.specs.Place.{Last, UnderWay, Place, Sent, Step, left_of, opened_place, request}
+use Rattle.mot_player.specs.Place.{sent_by}
 use Rattle.mot_player.specs.PlayerView.{BodyPlan, PlayerView, TurnPlan, place_of}
-use Rattle.mot_player.specs.Turn.{Turn, IsTurnOf, IsPlayable, segments_of_turn}
+use Rattle.mot_player.specs.Turn.{Turn, IsPlayable, segments_of_turn}
 
 -- a request was answered by a packet, which ends the turn or not, and the player stands elsewhere
 pub record IsStep (old : Place) (packet : List ℕ) (ends_turn : Bool) (new : Place) : Type 0 where
@@ -47,12 +43,10 @@ abbrev pub group_bytes_of : List Segment → ℕ
 group_bytes_of [] = 0
 group_bytes_of (s ∷ segments) = length s.bytes + 11 + group_bytes_of segments
 
-abbrev pub bytes_due_with : Place → Option UnderWay → ℕ
-bytes_due_with place None = group_bytes_of (to_send place)
-bytes_due_with place (Some u) = length u.group - u.sent + group_bytes_of place.waiting
-
 abbrev pub bytes_due : Place → ℕ
-bytes_due place = bytes_due_with place place.under_way
+bytes_due place =
+    option_map_or (λ (u : UnderWay). length u.group - u.sent) place.under_way 0
+    + group_bytes_of (left_of place)
 
 -- bodies of a turn's lengths, of zeros
 abbrev pub blank_bodies : TurnPlan → List (List ℕ)
@@ -62,25 +56,9 @@ blank_bodies plan = map (λ (b : BodyPlan). replicate b.length 0) plan.bodies
 abbrev pub bytes_left : PlayerView → ℕ
 bytes_left standing = bytes_due (place_of standing (blank_bodies standing.turn))
 
--- each request brings the end of the turn nearer
-abbrev pub TurnsEnd : Type 0
-TurnsEnd =
-    (place : Place) (s : Sent) → IsPlace place → request place ≡ Some s → s.ends_turn ≡ false →
-    bytes_due s.place < bytes_due place
-
 -- the packets that were sent
 abbrev pub AreSent : List Sent → List (List ℕ) → Type 0
 AreSent sents packets = read_each read_packet packets ≡ Some (map (λ (s : Sent). s.packet) sents)
-
--- From the beginning of a turn of a carousel, the packets of requests up to the first that ends the
--- turn read as exactly the carousel.
-abbrev pub TurnsReadAsTheirCarousels : Type 0
-TurnsReadAsTheirCarousels =
-    (old new : Place) (c : Carousel) (n : ℕ) (sents : List Sent) (packets : List (List ℕ)) →
-    IsPlace old → IsTurnOf old.turn c old.segment_size → IsSound c → IsAtTurnsBeginning old →
-    sent_by old (Request ∷ replicate n Request) ≡ Some (sents, new) →
-    map (λ (s : Sent). s.ends_turn) sents ≡ replicate n false ++ true ∷ [] →
-    AreSent sents packets → ReadsAs packets c old.segment_size
 
 -- Whatever comes between the requests, the packets of an opened player, whether it follows or not,
 -- have their continuity indexes.
@@ -92,15 +70,9 @@ StepsAreContinuous =
     ≡ Some (sents, new) →
     AreSent sents packets → IsContinuous packets
 
--- One more request, and one more change, go on where the steps before left off.
-abbrev pub RequestsGoOn : Type 0
-RequestsGoOn =
-    (place mid : Place) (steps : List Step) (sents : List Sent) (s : Sent) →
-    sent_by place steps ≡ Some (sents, mid) →
-    request mid ≡ Some s → sent_by place (steps ++ Request ∷ []) ≡ Some (sents ++ s ∷ [], s.place)
-
-abbrev pub ChangesGoOn : Type 0
-ChangesGoOn =
-    (place mid : Place) (steps : List Step) (sents : List Sent) (turn : Turn) →
-    sent_by place steps ≡ Some (sents, mid) →
-    sent_by place (steps ++ NewTurn turn ∷ []) ≡ Some (sents, change_turn turn mid)
+-- Further steps go on where the steps before left off.
+abbrev pub StepsGoOn : Type 0
+StepsGoOn =
+    (steps more : List Step) (place mid new : Place) (sents others : List Sent) →
+    sent_by place steps ≡ Some (sents, mid) → sent_by mid more ≡ Some (others, new) →
+    sent_by place (steps ++ more) ≡ Some (sents ++ others, new)

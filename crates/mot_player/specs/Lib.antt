@@ -2,7 +2,6 @@ pub mod AnyBodies
 pub mod Bodies
 pub mod Continuity
 pub mod Course
-pub mod Difference
 pub mod Followable
 pub mod Inner
 pub mod LastGroup

@@ -187,10 +187,9 @@ change_between (old ∷ olds) (new ∷ news) =
 
 -- the segments of the body that came
 abbrev pub fresh_segments : ℕ → Change → List Segment
-fresh_segments size Same = []
 fresh_segments size (Put new) = segments_of 4 new.0 size new.1
 fresh_segments size (Replaced old new) = segments_of 4 new.0 size new.1
-fresh_segments size (Withdrawn old) = []
+fresh_segments size change = []
 
 -- of segments of bodies, all but those of this id
 abbrev pub without : ℕ → List Segment → List Segment
@@ -198,18 +197,18 @@ without id segments = filter (λ (s : Segment). not (s.tid == id)) segments
 
 -- of segments of bodies, all but those of the body that went
 abbrev pub that_stay : Change → List Segment → List Segment
-that_stay Same segments = segments
-that_stay (Put new) segments = segments
 that_stay (Replaced old new) segments = without old segments
 that_stay (Withdrawn old) segments = without old segments
+that_stay change segments = segments
 
 -- the body that came in the place of the first segment of the one that went
 abbrev pub in_its_place : ℕ → List Segment → Segment → List Segment
 in_its_place old fresh s =
     if s.tid == old then if s.number == 0 then fresh else [] else s ∷ []
 
--- The rest of a turn after a change: a body that was put comes at its end, unless the rest has
--- ended, and one that was replaced in its place, unless that was begun.
+-- The rest of a turn after a change. What neither came nor went goes on in its order. A body that
+-- was put comes at its end too, if any of the rest is left. One that was replaced comes where the
+-- old one's segments stood; where that was begun, what was left of it goes.
 abbrev pub rest_after : Change → List Segment → List Segment → List Segment
 rest_after Same fresh rest = rest
 rest_after (Put new) fresh rest = if is_empty rest then [] else rest ++ fresh

@@ -7,7 +7,7 @@ use Rattle.mot_numbers.specs.Reading.{◌>>=◌, is_empty, read_each}
 use Rattle.mot_objects.specs.Carousel.{Carousel, IsSound}
 use Rattle.mot_packets.specs.Gather.{gather}
 use Rattle.mot_player.specs.Laws.{AreSent, IsAtTurnsBeginning, IsPlace}
-use Rattle.mot_player.specs.Place.{Place, Sent, Step, Request, NewTurn, Directory, Follow, sent_by}
+use Rattle.mot_player.specs.Place.{Place, Sent, Step, Request, Directory, sent_by}
 use Rattle.mot_player.specs.Reading.{ReadsAs, TurnFields, read_segments}
 use Rattle.mot_player.specs.Turn.{IsTurnOf}
 
@@ -48,21 +48,12 @@ abbrev pub ends_at_last : List Sent → Bool
 ends_at_last [] = false
 ends_at_last (s ∷ sents) = if s.ends_turn then is_empty sents else ends_at_last sents
 
--- no turn comes
-abbrev pub keep_turn : List Step → Bool
-keep_turn [] = true
-keep_turn (Request ∷ steps) = keep_turn steps
-keep_turn (NewTurn turn ∷ steps) = false
-keep_turn (Directory ∷ steps) = keep_turn steps
-keep_turn (Follow turn ∷ steps) = false
-
--- the directory is asked for
-abbrev pub ask_directory : List Step → Bool
-ask_directory [] = false
-ask_directory (Request ∷ steps) = ask_directory steps
-ask_directory (NewTurn turn ∷ steps) = ask_directory steps
-ask_directory (Directory ∷ steps) = true
-ask_directory (Follow turn ∷ steps) = ask_directory steps
+-- no turn comes among steps, and the directory only if it is asked for
+abbrev pub keeps_turn : Bool → List Step → Bool
+keeps_turn asked [] = true
+keeps_turn asked (Request ∷ steps) = keeps_turn asked steps
+keeps_turn asked (Directory ∷ steps) = asked && keeps_turn asked steps
+keeps_turn asked (step ∷ steps) = false
 
 -- Packets read as exactly this carousel, of each segment that is sent again the first; if the
 -- directory was not asked for, no segment was sent again.
@@ -75,8 +66,8 @@ pub record ReadAsTurn (asked : Bool) (packets : List (List ℕ)) (c : Carousel) 
 -- directory is asked for within it, the packets read as exactly the carousel.
 abbrev pub TurnsReadWithDirectories : Type 0
 TurnsReadWithDirectories =
-    (old new : Place) (c : Carousel) (steps : List Step) (sents : List Sent)
+    (old new : Place) (c : Carousel) (asked : Bool) (steps : List Step) (sents : List Sent)
     (packets : List (List ℕ)) →
     IsPlace old → IsTurnOf old.turn c old.segment_size → IsSound c → IsAtTurnsBeginning old →
-    keep_turn steps ≡ true → sent_by old steps ≡ Some (sents, new) → ends_at_last sents ≡ true →
-    AreSent sents packets → ReadAsTurn (ask_directory steps) packets c old.segment_size
+    keeps_turn asked steps ≡ true → sent_by old steps ≡ Some (sents, new) →
+    ends_at_last sents ≡ true → AreSent sents packets → ReadAsTurn asked packets c old.segment_size

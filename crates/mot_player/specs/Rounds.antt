@@ -18,9 +18,6 @@ AreWholeTurns old [] new = new ≡ old
 AreWholeTurns old (turn ∷ turns) new =
     (mid : Place) × IsWholeTurn old turn mid × AreWholeTurns mid turns new
 
-abbrev pub sents_of : List (List Sent) → List Sent
-sents_of turns = flat_map (λ (sents : List Sent). sents) turns
-
 -- a list so many times
 abbrev pub rounds_of : {A : Type 0} → ℕ → List A → List A
 rounds_of zero xs = []
@@ -32,4 +29,5 @@ RoundsAreContinuous =
     (address room size : ℕ) (turn : Turn) (turns : List (List Sent)) (new : Place)
     (packets : List (List ℕ)) (rounds : ℕ) → 0 < room → length turns ≡ 16 →
     AreWholeTurns (opened_place address room size turn) turns new →
-    AreSent (sents_of turns) packets → IsContinuous (rounds_of rounds packets)
+    AreSent (flat_map (λ (sents : List Sent). sents) turns) packets →
+    IsContinuous (rounds_of rounds packets)

@@ -1,15 +1,15 @@
 -- Bodies that stay go on, whatever directories and changes come between the requests.
 use Rattle.std.specs.Prelude.{◌≡◌, ◌==◌, if◌then◌else◌, ℕ, ◌<◌, Bool, ◌||◌, not, true, false}
-use Rattle.std.specs.Prelude.{List, [], ◌∷◌, ◌++◌, drop, filter, length, replicate, take}
+use Rattle.std.specs.Prelude.{List, [], ◌∷◌, ◌++◌, drop, length, replicate, take}
 use Rattle.std.specs.Prelude.{Option, Some, None, ⊤}
 use Rattle.std.specs.List.{list_all}
 use Rattle.mot_groups.specs.Entity.{own_segments, segments_of}
 use Rattle.mot_groups.specs.Group.{Segment}
-use Rattle.mot_numbers.specs.Reading.{◌>>=◌, is_empty}
+use Rattle.mot_numbers.specs.Reading.{◌>>=◌}
 use Rattle.mot_player.specs.Place.{Place, Sent, Step, Request, NewTurn, Directory, Follow, UnderWay}
 use Rattle.mot_player.specs.Place.{Change, Same, Put, Replaced, Withdrawn, change_between}
 use Rattle.mot_player.specs.Place.{change_turn, early_of, follow, fresh_segments, hear_directory}
-use Rattle.mot_player.specs.Place.{left_of, request, rest_of, sent_by, that_stay, to_send}
+use Rattle.mot_player.specs.Place.{left_of, request, rest_after, rest_of, sent_by, that_stay, to_send}
 use Rattle.mot_player.specs.Turn.{Turn}
 
 -- the segment whose group a request begins; none where it goes on with the group under way
@@ -42,13 +42,6 @@ touches Same id = false
 touches (Put new) id = id == new.0
 touches (Replaced old new) id = id == old || id == new.0
 touches (Withdrawn old) id = id == old
-
--- the body of this id went with a change
-abbrev pub takes_away : Change → ℕ → Bool
-takes_away Same id = false
-takes_away (Put new) id = false
-takes_away (Replaced old new) id = id == old
-takes_away (Withdrawn old) id = id == old
 
 -- From this turn on a body of this id stays: no turn begins anew, and it neither comes nor goes with
 -- a turn that is followed.
@@ -84,33 +77,23 @@ DirectoryComes =
 
 -- A changed turn that is followed: behind the group under way come its whole directory, the bodies
 -- that came early before and stay, and the body that came with it, whole; and behind them the rest
--- of the turn. No segment comes of a body that is gone.
+-- of the turn, as the change leaves it. No segment comes of a body that is gone: one of which no
+-- segment stays.
 pub record IsFollowed (place : Place) (turn : Turn) (change : Change) : Type 0 where
-  pub others : List Segment
   pub next : to_send (follow turn place)
       ≡ segments_of 6 turn.tid place.segment_size turn.directory
-      ++ that_stay change (early_of place) ++ fresh_segments place.segment_size change ++ others
+      ++ early_of (follow turn place) ++ rest_of (follow turn place)
   pub early : early_of (follow turn place)
       ≡ that_stay change (early_of place) ++ fresh_segments place.segment_size change
-  pub rest : rest_of (follow turn place) ≡ others
-  pub gone : (id : ℕ) → takes_away change id ≡ true →
+  pub rest : rest_of (follow turn place)
+      ≡ rest_after change (fresh_segments place.segment_size change) (rest_of place)
+  pub gone : (id : ℕ) → ((s : Segment) → s.tid ≡ id → that_stay change (s ∷ []) ≡ []) →
       own_segments 4 id (left_of (follow turn place)) ≡ []
 
 abbrev pub ChangesComeNext : Type 0
 ChangesComeNext =
     (place : Place) (turn : Turn) → 0 < place.segment_size → HasDirectory turn →
     IsFollowed place turn (change_between place.turn.bodies turn.bodies)
-
--- of segments, those of bodies that neither came nor went
-abbrev pub untouched : Change → List Segment → List Segment
-untouched change segments = filter (λ (s : Segment). not (touches change s.tid)) segments
-
--- The rest of a turn that is followed goes on in its order.
-abbrev pub RestGoesOn : Type 0
-RestGoesOn =
-    (place : Place) (turn : Turn) (change : Change) → 0 < place.segment_size → HasDirectory turn →
-    change_between place.turn.bodies turn.bodies ≡ change →
-    untouched change (rest_of (follow turn place)) ≡ untouched change (rest_of place)
 
 -- A body that is replaced keeps its place: where the old one's segments stood in the rest, the new
 -- one's come; and where the old one was begun, what was left of it goes.
@@ -124,15 +107,6 @@ ReplacedKeepsItsPlace =
     own_segments 4 old before ≡ [] → own_segments 4 old after ≡ [] →
     rest_of (follow turn place)
     ≡ before ++ (if begun == 0 then segments_of 4 new.0 place.segment_size new.1 else []) ++ after
-
--- A body that is put comes at the turn's end too, unless the rest of the turn has ended.
-abbrev pub PutComesAtTheEnd : Type 0
-PutComesAtTheEnd =
-    (place : Place) (turn : Turn) (new : ℕ × List ℕ) → 0 < place.segment_size → HasDirectory turn →
-    change_between place.turn.bodies turn.bodies ≡ Put new →
-    rest_of (follow turn place)
-    ≡ (if is_empty (rest_of place) then []
-    else rest_of place ++ segments_of 4 new.0 place.segment_size new.1)
 
 -- As long as no turn ends, requests begin the segments that are left, in their order.
 abbrev pub RequestsTakeInOrder : Type 0

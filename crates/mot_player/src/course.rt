@@ -29,10 +29,10 @@ pub(crate) struct Course {
 }
 
 impl Course {
-    ghost use Rattle.mot_player.specs.Course.{course_of, ended_course, due_of, passed};
-    ghost use Rattle.mot_player.specs.Course.{whole_course};
-    ghost use Rattle.mot_player.specs.Course.{changed_course, followed, has_ended, heard_course};
-    ghost use Rattle.mot_player.specs.Course.{left_course};
+    ghost use Rattle.mot_player.specs.Course.{course_of};
+    ghost use Rattle.mot_player.specs.Inner.Course.{changed_course, due_of, ended_course, followed};
+    ghost use Rattle.mot_player.specs.Inner.Course.{has_ended, heard_course, left_course, passed};
+    ghost use Rattle.mot_player.specs.Inner.Course.{whole_course};
 
     /// Nothing waits of a turn of so many entities.
     pub fn ended(alloc: Global, entity_count: usize) -> Self

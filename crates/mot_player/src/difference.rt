@@ -1,6 +1,6 @@
 //! What a turn changed of the bodies of the one before it.
 ghost use Rattle.std.specs.Prelude.{◌≡◌, ◌≤◌, length};
-ghost use Rattle.mot_player.specs.Difference.{added, alike, are_alike, difference_from, plans_of};
+ghost use Rattle.mot_player.specs.Inner.Difference.{added, alike, are_alike, difference_from, plans_of};
 
 use crate::planned_body::PlannedBody;
 

@@ -1,6 +1,6 @@
 //! What goes on of a turn in the one that comes.
 ghost use Rattle.std.specs.Prelude.{◌≡◌, ◌+◌, ◌^◌, ◌<◌, ◌≤◌, ◌++◌, vec_capacity, vec_len, length};
-ghost use Rattle.mot_player.specs.Course.{fresh_of, kept, kept_of, rest_from};
+ghost use Rattle.mot_player.specs.Inner.Course.{fresh_of, kept, kept_of, rest_from};
 
 use crate::course::Waiting;
 use crate::difference::Difference;

@@ -3,7 +3,8 @@ ghost use Rattle.std.specs.Prelude.{◌≡◌, ℕ, ◌+◌, ◌*◌, ◌^◌, �
 ghost use Rattle.std.specs.Prelude.{if◌then◌else◌};
 ghost use Rattle.mot_numbers.specs.declared.numbers.TheConstants.{MAX_SEGMENT};
 ghost use Rattle.mot_player.specs.Inner.Next.{IsNext, TakesEarly};
-ghost use Rattle.mot_player.specs.Course.{course_of, passed};
+ghost use Rattle.mot_player.specs.Course.{course_of};
+ghost use Rattle.mot_player.specs.Inner.Course.{passed};
 ghost use Rattle.mot_player.specs.Inner.Entities.{IsOnCourse, IsPlannable, entity_length};
 
 use crate::Turn;

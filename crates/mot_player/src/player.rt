@@ -1,21 +1,19 @@
 //! The player of a carousel.
 ghost use Rattle.std.specs.Prelude.{◌≡◌, ◌==◌, ◌^◌, ◌<◌, ℕ, List, length, not, true, false, Some};
-ghost use Rattle.std.specs.Prelude.{None, IfOk, IfErr, IsOk, OnOk, OnErr};
+ghost use Rattle.std.specs.Prelude.{None, IfOk, IfErr, IfSome, IsOk, OnOk, OnErr};
 ghost use Rattle.mot_numbers.specs.PacketLength.{room_of};
 ghost use Rattle.mot_numbers.specs.declared.refusal.Refusal.TheVariants.{OutOfMemory};
 ghost use Rattle.mot_packets.specs.Packet.{read_packet};
 ghost use Rattle.mot_player.specs.Bodies.{ReadsBodies};
 ghost use Rattle.mot_player.specs.PlayerView.{AreBodiesFor, place_of, turn_with};
 ghost use Rattle.mot_player.specs.AnyBodies.{IsStepOfSome};
-ghost use Rattle.mot_player.specs.Laws.{ChangesGoOn, IsPlace, IsStep, RequestsGoOn};
-ghost use Rattle.mot_player.specs.Laws.{StepsAreContinuous, bytes_left};
-ghost use Rattle.mot_player.specs.Laws.{TurnsEnd, TurnsReadAsTheirCarousels};
+ghost use Rattle.mot_player.specs.Laws.{IsPlace, IsStep, StepsAreContinuous, StepsGoOn};
+ghost use Rattle.mot_player.specs.Laws.{bytes_left};
 ghost use Rattle.mot_player.specs.Followable.{IsFollowable};
 ghost use Rattle.mot_player.specs.Place.{Sent, change_turn, changed, directory_packets};
 ghost use Rattle.mot_player.specs.Place.{following, hear_directory, opened_place, request};
 ghost use Rattle.mot_player.specs.Staying.{BodiesGoOn, ChangesComeNext, DirectoryComes};
-ghost use Rattle.mot_player.specs.Staying.{PutComesAtTheEnd, ReplacedKeepsItsPlace};
-ghost use Rattle.mot_player.specs.Staying.{RequestsTakeInOrder, RestGoesOn};
+ghost use Rattle.mot_player.specs.Staying.{ReplacedKeepsItsPlace, RequestsTakeInOrder};
 ghost use Rattle.mot_player.specs.Repeats.{TurnsReadWithDirectories};
 ghost use Rattle.mot_player.specs.Rounds.{RoundsAreContinuous};
 
@@ -69,18 +67,14 @@ impl Player {
         // continuity indexes.
         ensures continuous { OnOk result StepsAreContinuous }
 
-        // The packets of a whole turn of a carousel read as exactly the carousel.
-        ensures turns { OnOk result TurnsReadAsTheirCarousels }
-
-        // And so they do where the directory is asked for within the turn, if of segments that are
-        // sent again the first count.
+        // The packets of a whole turn of a carousel read as exactly the carousel; and so they do
+        // where the directory is asked for within the turn, if of segments that are sent again the
+        // first count.
         ensures turns_with_directories { OnOk result TurnsReadWithDirectories }
-        ensures turns_end { OnOk result TurnsEnd }
 
         // The packets of the first sixteen turns can be sent round and round.
         ensures rounds { OnOk result RoundsAreContinuous }
-        ensures requests { OnOk result RequestsGoOn }
-        ensures changes { OnOk result ChangesGoOn }
+        ensures steps { OnOk result StepsGoOn }
 
         // A directory that is asked for comes next and whole, changes come next, and bodies that
         // stay go on.
@@ -88,11 +82,8 @@ impl Player {
         ensures changes_next { OnOk result ChangesComeNext }
         ensures bodies_go_on { OnOk result BodiesGoOn }
 
-        // The rest of a turn that is followed goes on in its order: a replaced body keeps its
-        // place, and one that was put comes at the end.
-        ensures rest_goes_on { OnOk result RestGoesOn }
+        // In the rest of a turn that is followed a replaced body keeps its place.
         ensures replaced_in_place { OnOk result ReplacedKeepsItsPlace }
-        ensures put_at_the_end { OnOk result PutComesAtTheEnd }
         ensures in_order { OnOk result RequestsTakeInOrder }
     {
         let size = usize::from(segment_size.get());
@@ -167,6 +158,10 @@ impl Player {
             × IsFollowable (turn_with self.old.turn bodies) (turn_with turn next))
             → place_of self.new next
             ≡ changed (turn_with turn next) (place_of self.old bodies) }
+
+        // Whatever turn comes, all but what waits stays: the group under way and the indexes.
+        ensures stays { self.new
+            ≡ record self.old { turn = turn; course = self.new.course } }
         ensures turn { self.new.turn ≡ turn }
         ensures size { self.new.segment_size ≡ self.old.segment_size }
     {
@@ -228,6 +223,10 @@ impl Player {
         ensures reads { ReadsBodies B.bodies B.IsHonest B.failures B.HasOnlyRead bodies.old
             bodies.new result }
 
+        // Of a group under way the next packet needs no read, and is never refused.
+        ensures unread { IfSome self.old.under_way
+            (λ u. (bodies.new ≡ bodies.old) × IsOk result) }
+
         // Whatever bytes a read gave, each packet brings the end of the turn nearer.
         ensures nearer { IfOk result (λ played. played.ends_turn ≡ false
             → bytes_left self.new < bytes_left self.old) }
@@ -261,6 +260,10 @@ impl Player {
         ensures stays { OnErr result (self.new ≡ self.old) }
         ensures reads { ReadsBodies B.bodies B.IsHonest B.failures B.HasOnlyRead bodies.old
             bodies.new result }
+
+        // Of a group under way the next packet needs no read, and is never refused.
+        ensures unread { IfSome self.old.under_way
+            (λ u. (bodies.new ≡ bodies.old) × IsOk result) }
 
         // Whatever bytes a read gave, each packet brings the end of the turn nearer.
         ensures nearer { IfOk result (λ ends_turn. ends_turn ≡ false

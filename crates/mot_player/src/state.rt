@@ -50,9 +50,10 @@ impl State {
     ghost use Rattle.mot_player.specs.State.{view_of};
     ghost use Rattle.mot_player.specs.Inner.Next.{IsNext, TakesEarly};
     ghost use Rattle.mot_player.specs.PlayerView.{AreBodiesFor};
-    ghost use Rattle.mot_player.specs.Course.{course_of, passed};
+    ghost use Rattle.mot_player.specs.Course.{course_of};
+    ghost use Rattle.mot_player.specs.Inner.Course.{passed};
     ghost use Rattle.mot_player.specs.Inner.Entities.{IsOnCourse, entity_bytes, entity_length};
-    ghost use Rattle.mot_player.specs.Difference.{difference_in};
+    ghost use Rattle.mot_player.specs.Inner.Difference.{difference_in};
     ghost use Rattle.mot_player.specs.Followable.{IsFollowable};
     ghost use Rattle.mot_player.specs.Place.{change_turn, follow};
     ghost use Rattle.mot_player.specs.PlayerView.{turn_with};
@@ -161,6 +162,8 @@ impl State {
         ensures turn { self.new.turn ≡ turn }
         ensures size { self.new.segment_size ≡ self.old.segment_size }
         ensures sent { (self.new.sent ≡ self.old.sent) × (self.new.group ≡ self.old.group) }
+        ensures stays { view_of self.new
+            ≡ record (view_of self.old) { turn = turn; course = course_of self.new.course } }
     {
         // A turn has a directory and its bodies. (The line is there for the proof.)
         let _ = turn.entity_count();

@@ -43,7 +43,7 @@ impl Turn {
     ghost use Rattle.mot_player.specs.PlayerView.{turn_with};
     ghost use Rattle.mot_player.specs.Inner.Entities.{entity_tid};
     ghost use Rattle.mot_player.specs.Turn.{IsTurnOf, turn_of_carousel};
-    ghost use Rattle.mot_player.specs.Difference.{difference_from};
+    ghost use Rattle.mot_player.specs.Inner.Difference.{difference_from};
 
     /// The turn of a carousel, in segments of this size. The only refusal is `OutOfMemory`.
     pub fn of(

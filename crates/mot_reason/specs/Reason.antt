@@ -58,6 +58,10 @@ IsReason refusal len bytes (InList number fault) =
 IsReason refusal len bytes reason =
     (refusal ≡ NotFormatted) × IsHeadReason len (head_of bytes) reason
 
+-- no reason is so
+abbrev pub HasNoReason : Refusal → ℕ → List ℕ → Type 0
+HasNoReason refusal len bytes = (reason : Reason) → IsReason refusal len bytes reason → ⊥
+
 -- why a disk of so many bytes is not formatted
 abbrev pub IsFormattingReason : Refusal → ℕ → Geometry → Reason → Type 0
 IsFormattingReason refusal len g Formatted = refusal ≡ AlreadyFormatted

@@ -1,5 +1,6 @@
 //! A second look at a disk that was refused.
-ghost use Rattle.std.specs.Prelude.{◌≡◌, ◌⊎◌, ◌+◌, ◌≤◌, ◌<◌, ◌^◌, ℕ, List, length, IfOk, IfSome, IsErr, OnOk};
+ghost use Rattle.std.specs.Prelude.{◌≡◌, ◌⊎◌, ◌+◌, ◌≤◌, ◌<◌, ◌^◌, ℕ, List, length, IfNone, IfOk};
+ghost use Rattle.std.specs.Prelude.{IfSome, IsErr, OnOk};
 ghost use Rattle.disk_model.specs.Disk.{OnlyReads};
 ghost use Rattle.disk_model.specs.Failures.{Rises};
 ghost use Rattle.mot_journal.specs.Geometry.{selected_half};
@@ -8,7 +9,7 @@ ghost use Rattle.mot_numbers.specs.Geometry.{half_size, half_start};
 ghost use Rattle.mot_numbers.specs.declared.refusal.Refusal.TheVariants.{Damaged, DeviceFault};
 ghost use Rattle.mot_numbers.specs.declared.refusal.Refusal.TheVariants.{NotFormatted};
 ghost use Rattle.mot_reason.specs.Bytes.{head_of, geometry_at, half_at};
-ghost use Rattle.mot_reason.specs.Reason.{IsReason};
+ghost use Rattle.mot_reason.specs.Reason.{HasNoReason, IsReason};
 
 use crate::fields::{fault_of_fields, layout_of_half, slot_of_half};
 use crate::head::{HEAD_SIZE, fault_of_head, geometry_of_head};
@@ -30,6 +31,9 @@ pub(crate) fn explain<D: Disk>(alloc: Global, refused: Refused<D>) -> Explained<
         × Rises (D.state refused.disk).failures (D.state result.disk).failures) }
     ensures so { (D.state result.disk).IsHonest → IfSome result.reason (IsReason
         result.refusal (D.state refused.disk).len (D.state refused.disk).bytes) }
+    ensures given { (D.state result.disk).IsHonest → result.refusal ≡ NotFormatted
+        → IfNone result.reason (HasNoReason NotFormatted (D.state refused.disk).len
+        (D.state refused.disk).bytes) }
 {
     let Refused { refusal, mut disk } = refused;
     match reason_of(alloc, &mut disk, refusal) {
@@ -57,6 +61,8 @@ fn reason_of<D: Disk>(
     ensures calm { OnOk result ((D.state disk.new).failures ≡ (D.state disk.old).failures) }
     ensures so { (D.state disk.new).IsHonest → IfOk result (λ found. IfSome found
         (IsReason refusal (D.state disk.old).len (D.state disk.old).bytes)) }
+    ensures given { (D.state disk.new).IsHonest → refusal ≡ NotFormatted → IfOk result (λ found.
+        IfNone found (HasNoReason NotFormatted (D.state disk.old).len (D.state disk.old).bytes)) }
 {
     match refusal {
         Refusal::NotFormatted => reason_of_head(disk),
@@ -72,6 +78,8 @@ fn reason_of_head<D: Disk>(disk: &mut D) -> Result<Option<Reason>, DiskFault>
     ensures calm { OnOk result ((D.state disk.new).failures ≡ (D.state disk.old).failures) }
     ensures so { (D.state disk.new).IsHonest → IfOk result (λ found. IfSome found
         (IsReason NotFormatted (D.state disk.old).len (D.state disk.old).bytes)) }
+    ensures given { (D.state disk.new).IsHonest → IfOk result (λ found. IfNone found
+        (HasNoReason NotFormatted (D.state disk.old).len (D.state disk.old).bytes)) }
 {
     let len = disk.len();
     if len < HEAD_SIZE as u64 {

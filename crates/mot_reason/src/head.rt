@@ -1,7 +1,9 @@
 //! The head of a disk, read once more.
-ghost use Rattle.std.specs.Prelude.{◌≡◌, ◌≢◌, ◌+◌, ◌≤◌, ◌<◌, ◌^◌, length, IfSome, false};
+ghost use Rattle.std.specs.Prelude.{◌≡◌, ◌≢◌, ◌+◌, ◌≤◌, ◌<◌, ◌^◌, length, IfNone, IfSome, false};
 ghost use Rattle.mot_reason.specs.Bytes.{number_of_two, number_of_four, geometry_at};
 ghost use Rattle.mot_reason.specs.Reason.{IsHeadReason, IsOutOfRange, number_of};
+ghost use Rattle.mot_reason.specs.declared.reason.Reason.{Reason};
+ghost use Rattle.mot_reason.specs.declared.reason.Size.{Size};
 
 use crate::{Reason, Size};
 use mot_journal::Geometry;
@@ -45,7 +47,8 @@ pub(crate) fn geometry_of_head(head: &[u8]) -> Geometry
 /// Why a disk of so many bytes with this head is none, if that is so.
 pub(crate) fn fault_of_head(head: &[u8], len: u64) -> Option<Reason>
     requires { length head.now ≡ 64 }
-    ensures { IfSome result (IsHeadReason len head.now) }
+    ensures so { IfSome result (IsHeadReason len head.now) }
+    ensures none { IfNone result ((reason : Reason) → IsHeadReason len head.now reason → ⊥) }
 {
     if head[..8] != MAGIC[..] {
         return Some(Reason::Foreign);
@@ -64,8 +67,10 @@ pub(crate) fn fault_of_head(head: &[u8], len: u64) -> Option<Reason>
 
 /// The first number of a geometry that is out of its range.
 fn out_of_range(geometry: &Geometry) -> Option<(Size, u32)>
-    ensures { IfSome result (λ it. (it.1 ≡ number_of it.0 geometry.now)
+    ensures so { IfSome result (λ it. (it.1 ≡ number_of it.0 geometry.now)
         × IsOutOfRange it.0 it.1) }
+    ensures none { IfNone result ((size : Size) → IsOutOfRange size (number_of size geometry.now)
+        → ⊥) }
 {
     let objects = u32::from(geometry.objects);
     if objects < 1 || objects > 250 {

@@ -1,13 +1,13 @@
 //! Disks opened, with the reason if they are refused.
-ghost use Rattle.std.specs.Prelude.{◌≡◌, IfErr, IfOk, IfSome, IsFalse, MatchResult};
+ghost use Rattle.std.specs.Prelude.{◌≡◌, IfErr, IfNone, IfOk, IfSome, IsFalse, MatchResult};
 ghost use Rattle.disk_model.specs.Disk.{OnlySyncs};
 ghost use Rattle.mot_journal.specs.Image as journal;
 ghost use Rattle.mot_numbers.specs.Refusal.{IsCalm};
 ghost use Rattle.mot_numbers.specs.Geometry.{packet_room};
-ghost use Rattle.mot_numbers.specs.declared.refusal.Refusal.TheVariants.{DeviceFault};
+ghost use Rattle.mot_numbers.specs.declared.refusal.Refusal.TheVariants.{DeviceFault, NotFormatted};
 ghost use Rattle.mot_player.specs.Place.{opened_place};
 ghost use Rattle.mot_player.specs.Turn.{turn_of_carousel};
-ghost use Rattle.mot_reason.specs.Reason.{IsReason};
+ghost use Rattle.mot_reason.specs.Reason.{HasNoReason, IsReason};
 ghost use Rattle.mot_repository.specs.Opening.{IsOpened, IsOpeningRefusal};
 ghost use Rattle.mot_repository.specs.Repository.{Agrees};
 ghost use Rattle.mot_server.specs.Server.{place_in};
@@ -54,6 +54,10 @@ pub fn open_repository<D: Disk>(alloc: Global, disk: D) -> Result<Repository<D>,
     // The reason is so of the disk's bytes.
     ensures so { IfErr result (λ e. (D.state e.disk).IsHonest → IfSome e.reason
         (IsReason e.refusal (D.state disk).len (D.state disk).bytes)) }
+
+    // Why it is not formatted is given, if anything is so.
+    ensures given { IfErr result (λ e. (D.state e.disk).IsHonest → e.refusal ≡ NotFormatted
+        → IfNone e.reason (HasNoReason NotFormatted (D.state disk).len (D.state disk).bytes)) }
 {
     match Repository::open(alloc, disk) {
         Ok(repository) => Ok(repository),
@@ -89,6 +93,10 @@ pub fn open_server<D: Disk>(alloc: Global, disk: D) -> Result<Server<D>, Explain
     // The reason is so of the disk's bytes.
     ensures so { IfErr result (λ e. (D.state e.disk).IsHonest → IfSome e.reason
         (IsReason e.refusal (D.state disk).len (D.state disk).bytes)) }
+
+    // Why it is not formatted is given, if anything is so.
+    ensures given { IfErr result (λ e. (D.state e.disk).IsHonest → e.refusal ≡ NotFormatted
+        → IfNone e.reason (HasNoReason NotFormatted (D.state disk).len (D.state disk).bytes)) }
 {
     match Server::open(alloc, disk) {
         Ok(server) => Ok(server),

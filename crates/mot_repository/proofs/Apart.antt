@@ -15,7 +15,7 @@ use Rattle.mot_numbers.specs.Reading.{◌>>=◌}
 use Rattle.mot_objects.specs.declared.object.Object.{Object}
 use Rattle.mot_objects.specs.Ids.{contains, is_distinct}
 use Rattle.mot_repository.specs.Gap.{is_free, is_beside}
-use Rattle.mot_repository.specs.Extents.{objects_in}
+use Rattle.mot_repository.specs.Inner.Extents.{objects_in}
 use Rattle.mot_repository.specs.Inner.Fold.{HaveLengths, are_extents_apart, are_consistent}
 use Rattle.mot_repository.specs.Inner.Fold.{if_consistent, if_done}
 use Rattle.mot_repository.proofs.Folding.{IsWithoutOne, is_gone, apart_without_one, numbered}
@@ -24,6 +24,7 @@ use Rattle.mot_repository.proofs.Folding.IsWithoutOne.{gone, later}
 use Rattle.mot_repository.proofs.Listing.{used_by, ids_in, apart_in, same_count, lengths_remove}
 use Rattle.mot_repository.proofs.Pairwise.{are_pairwise, pairwise_at, pairwise_without, remove_set}
 use Rattle.mot_repository.proofs.Pairwise.{remove_last}
+use Rattle.mot_repository.specs.Inner.Whole.{placed_tids}
 
 abbrev differ : Object → Object → Bool
 differ o p = not (nat_eq o.tid p.tid)
@@ -135,9 +136,6 @@ module _ (es : List (ℕ × ℕ)) (i : ℕ) (lt : i < length es)
 
 -- ---- objects and their extents
 
-abbrev tids : List Placed → List ℕ
-tids objects = map (λ (p : Placed). p.object.tid) objects
-
 abbrev ids : List Object → List ℕ
 ids os = map (λ (o : Object). o.tid) os
 
@@ -207,19 +205,19 @@ done_where true objects e = ap (λ t. cond t (Some objects) None) e
 done_where false objects e = ap (λ t. cond t (Some objects) None) e
 
 gone-unused : {objects next : List Placed} (id : ℕ) → IsWithoutOne objects next
-    → contains (tids objects) id ≡ false → contains (tids next) id ≡ false
+    → contains (placed_tids objects) id ≡ false → contains (placed_tids next) id ≡ false
 gone-unused id (gone q objects) e =
-    (or_parts (nat_eq id q.object.tid) (contains (tids objects) id) e).1
+    (or_parts (nat_eq id q.object.tid) (contains (placed_tids objects) id) e).1
 gone-unused id (later q objects next is) e =
-    let h = or_parts (nat_eq id q.object.tid) (contains (tids objects) id) e in
+    let h = or_parts (nat_eq id q.object.tid) (contains (placed_tids objects) id) e in
     or_from _ _ h.0 (gone-unused id is h.1)
 
 gone-distinct : {objects next : List Placed} → IsWithoutOne objects next
-    → is_distinct (tids objects) ≡ true → is_distinct (tids next) ≡ true
+    → is_distinct (placed_tids objects) ≡ true → is_distinct (placed_tids next) ≡ true
 gone-distinct (gone q objects) e =
-    (and_parts (not (contains (tids objects) q.object.tid)) (is_distinct (tids objects)) e).1
+    (and_parts (not (contains (placed_tids objects) q.object.tid)) (is_distinct (placed_tids objects)) e).1
 gone-distinct (later q objects next is) e =
-    let h = and_parts (not (contains (tids objects) q.object.tid)) (is_distinct (tids objects)) e in
+    let h = and_parts (not (contains (placed_tids objects) q.object.tid)) (is_distinct (placed_tids objects)) e in
     and_from _ _ (not_from_false _ (gone-unused q.object.tid is (not-true _ h.0)))
     (gone-distinct is h.1)
 
@@ -228,7 +226,7 @@ without-cases : (tid : ℕ) (objects : List Placed) (o : Option (List Placed))
     → o ≡ if_consistent o
 without-cases tid objects None e is = refl
 without-cases tid objects (Some next) e is =
-    let h = and_parts (is_distinct (tids objects)) (are_all_apart objects) is in
+    let h = and_parts (is_distinct (placed_tids objects)) (are_all_apart objects) is in
     let left = is_gone tid objects next e in
     sym (ap (λ t. cond t (Some next) None)
     (and_from _ _ (gone-distinct left h.0) (apart_without_one left h.1)))
@@ -269,11 +267,11 @@ module _ (limit : ℕ) (c : Catalogue) (r : Record) (os : List Object) (es : Lis
 
   consistent-where : is_consistent (numbered r (objects_in os es)) ≡ not has-directory
   consistent-where =
-      let h = and_parts (is_distinct (tids (objects_in os es))) (are_all_apart (objects_in os es))
+      let h = and_parts (is_distinct (placed_tids (objects_in os es))) (are_all_apart (objects_in os es))
       kept.consistent in
-      ap (λ i. (not (contains i r.directory) && is_distinct (tids (objects_in os es)))
+      ap (λ i. (not (contains i r.directory) && is_distinct (placed_tids (objects_in os es)))
       && are_all_apart (objects_in os es)) (ids_in os es l)
-      ∙ ap (λ t. (not t && is_distinct (tids (objects_in os es)))
+      ∙ ap (λ t. (not t && is_distinct (placed_tids (objects_in os es)))
       && are_all_apart (objects_in os es)) (used_by r.directory os)
       ∙ ap (λ t. (not has-directory && t) && are_all_apart (objects_in os es)) h.0
       ∙ ap (λ t. (not has-directory && true) && t) h.1

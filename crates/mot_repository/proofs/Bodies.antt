@@ -1,6 +1,6 @@
 -- Where on the disk a body lies, and what is read there.
 use Rattle.std.proofs.Common.{◌≡◌, ℕ, zero, suc, ◌+◌, ◌-◌, ◌<◌, ◌≤◌, true, ◌&&◌, List, [], ◌∷◌}
-use Rattle.std.proofs.Common.{length, map, take, drop, slice_range, Result, Ok, refl, sym, ap, ◌∙◌}
+use Rattle.std.proofs.Common.{length, map, take, drop, slice_range, refl, sym, ap, ◌∙◌}
 use Rattle.std.proofs.Common.{subst, arith}
 use Rattle.std.proofs.lemmas.List.{take-take, drop-take, drop-drop}
 use Rattle.std.proofs.lemmas.Bool.{and_parts, leb-true}
@@ -8,25 +8,24 @@ use Rattle.std.specs.Prelude.{nat_le}
 use Rattle.std.specs.List.{AllByRecursion}
 use Rattle.disk_model.specs.Disk.{State, IsHonestDisk}
 use Rattle.mot_journal.specs.declared.layout.Layout.{Layout}
-use Rattle.mot_journal.specs.Catalogue.{Placed, body_in_area}
+use Rattle.mot_journal.specs.Catalogue.{Placed}
 use Rattle.mot_journal.specs.Gaps.{standing_of}
 use Rattle.mot_journal.specs.Image.{Standing, area_of}
 use Rattle.mot_journal.specs.Journal.{with_records}
 use Rattle.mot_journal.proofs.Laws.{stands_by_parts}
 use Rattle.mot_numbers.specs.declared.geometry.Geometry.{Geometry}
-use Rattle.mot_numbers.specs.declared.refusal.Refusal.{Refusal}
 use Rattle.mot_numbers.specs.Geometry.{area_start}
 use Rattle.mot_numbers.specs.Geometry.{is_valid, is_within, is_packet_length}
 use Rattle.mot_objects.specs.declared.carousel.Carousel.{Carousel}
 use Rattle.mot_objects.specs.declared.object.Object.{Object}
-use Rattle.mot_objects.specs.Carousel as whole
-use Rattle.mot_objects.specs.Stands.{object_of}
-use Rattle.mot_repository.specs.Extents.{objects_in, catalogue_with, ArePaired}
+use Rattle.mot_repository.specs.Inner.Extents.{objects_in, catalogue_with}
+use Rattle.mot_repository.specs.Extents.{ArePaired}
 use Rattle.mot_repository.specs.OnDisk.{extent_at, body_on}
 use Rattle.mot_repository.specs.Repository.{RepositoryView, object_body, Holds}
-use Rattle.mot_repository.specs.Whole.{IsSoundPlaced, IsWhole}
-use Rattle.mot_repository.proofs.Preparing.{kept}
+use Rattle.mot_repository.specs.Inner.Whole.{IsSoundPlaced, IsWhole}
+use Rattle.mot_repository.proofs.Preparing.{kept, same-standing, wholes}
 use Rattle.mot_repository.proofs.Soundness.{placed_in}
+use Rattle.mot_repository.proofs.Soundness.{extents-in}
 
 -- a part of a part
 pub part_of_part : (xs : List ℕ) (at size from n : ℕ) → from + n ≤ size
@@ -52,12 +51,6 @@ area-part g image from n within =
     ap (λ m. slice_range (take m (drop at image)) from (from + n)) whole
     ∙ part_of_part image at g.data_area from n within
 
-abbrev wholes : List ℕ → List Placed → List whole.Object
-wholes area objects = map (λ (p : Placed). object_of p.object (body_in_area area p)) objects
-
-abbrev extents-in : List Placed → List (ℕ × ℕ)
-extents-in objects = map (λ (p : Placed). (p.start, p.object.length)) objects
-
 body-lies : (g : Geometry) (layout : Layout) (image : List ℕ) (objects : List Placed)
     → AllByRecursion (IsSoundPlaced g layout) objects
     → (place : ℕ) → place < length (extents-in objects)
@@ -68,9 +61,6 @@ body-lies g layout image (p ∷ objects) a zero lt =
     area-part g image p.start p.object.length (placed_in g layout p a.0).within
 body-lies g layout image (p ∷ objects) a (suc place) lt =
     body-lies g layout image objects a.1 place (omega (arith, lt))
-
-same-standing : (s t : Standing) → ◌≡◌ {A = Result Standing Refusal} (Ok s) (Ok t) → s ≡ t
-same-standing s t e = cc
 
 -- an object's body lies where its extent says
 pub body_held : (view : RepositoryView) (s : Standing) (state : State) → IsHonestDisk state

@@ -11,30 +11,22 @@ use Rattle.std.specs.Prelude.{bytes_eq, not, nat_lt, position, remove}
 use Rattle.mot_journal.specs.declared.record.Record.{Record}
 use Rattle.mot_journal.specs.declared.record.Action.{Action}
 use Rattle.mot_journal.specs.declared.record.Action.TheVariants.{Set}
-use Rattle.mot_journal.specs.Catalogue.{Placed, Catalogue}
+use Rattle.mot_journal.specs.Catalogue.{Catalogue}
 use Rattle.mot_objects.specs.Stands.{index_of}
 use Rattle.mot_objects.specs.declared.object.Object.{Object}
 use Rattle.mot_objects.specs.declared.command.Command.{Command}
 use Rattle.mot_objects.specs.declared.command.Command.TheVariants.{Put, Replace, Withdraw, Period}
-use Rattle.mot_repository.specs.Extents.{objects_in}
+use Rattle.mot_repository.specs.Inner.Extents.{objects_in}
 use Rattle.mot_repository.specs.Inner.Following.{extent_of, extents_with, extents_without}
 use Rattle.mot_repository.specs.Inner.Following.{placed_extents_after}
-use Rattle.mot_repository.specs.Laws.{records_of_objects}
+use Rattle.mot_repository.specs.Inner.Laws.{records_of_objects}
 use Rattle.mot_repository.specs.Outcome.{extents_after}
-use Rattle.mot_repository.specs.Prepared.{kept_object_named}
-
--- an extent for each object, of its length
-abbrev pub AreBeside : List Object → List (ℕ × ℕ) → Type 0
-AreBeside os es = map (λ (e : ℕ × ℕ). e.1) es ≡ map (λ (o : Object). o.length) os
-
-head : {x y : ℕ} {xs ys : List ℕ} → x ∷ xs ≡ y ∷ ys → x ≡ y
-head e = cc
-
-tail : {x y : ℕ} {xs ys : List ℕ} → x ∷ xs ≡ y ∷ ys → xs ≡ ys
-tail e = cc
+use Rattle.mot_repository.specs.Inner.Prepared.{kept_object_named}
+use Rattle.mot_carousel.proofs.Laws.{head, tail}
+use Rattle.mot_repository.specs.Inner.Fold.{HaveLengths}
 
 -- the extents of the catalogue are those that stand there
-pub extents-objects_in : (os : List Object) (es : List (ℕ × ℕ)) → AreBeside os es
+pub extents-objects_in : (os : List Object) (es : List (ℕ × ℕ)) → HaveLengths os es
     → map extent_of (objects_in os es) ≡ es
 extents-objects_in [] [] b = refl
 extents-objects_in [] (e ∷ es) b = cc
@@ -131,22 +123,8 @@ module _ (name : List ℕ) where
       → o.name ≡ name
   kept_object_named-name os o e = (bytes_eq-Decides o.name name).0 (kept-has os o e)
 
-  abbrev placed : Object → ℕ × ℕ → Placed
-  placed o e = record {
-    object = record {
-      name = o.name;
-      content = o.content;
-      mime = o.mime;
-      version = o.version;
-      tid =
-          o.tid;
-      length = e.1;
-    };
-    start = e.0;
-  }
-
   pub extents_with-first : {os : List Object} {i : ℕ} (es : List (ℕ × ℕ)) (x : ℕ × ℕ)
-      → AreBeside os es → IsFirst name os i
+      → HaveLengths os es → IsFirst name os i
       → extents_with name x (objects_in os es) ≡ set es i x
   extents_with-first [] x b (here o os is) = cc
   extents_with-first [] x b (there o os i isnt first) = cc
@@ -159,7 +137,7 @@ module _ (name : List ℕ) where
       (e ∷ extents_with name x (objects_in os es))) isnt
       ∙ ap (λ l. e ∷ l) (extents_with-first es x (tail b) first)
 
-  pub extents_with-nowhere : {os : List Object} (es : List (ℕ × ℕ)) (x : ℕ × ℕ) → AreBeside os es
+  pub extents_with-nowhere : {os : List Object} (es : List (ℕ × ℕ)) (x : ℕ × ℕ) → HaveLengths os es
       → IsNowhere name os
       → extents_with name x (objects_in os es) ≡ es
   extents_with-nowhere [] x b none = refl
@@ -170,7 +148,7 @@ module _ (name : List ℕ) where
       (e ∷ extents_with name x (objects_in os es))) isnt
       ∙ ap (λ l. e ∷ l) (extents_with-nowhere es x (tail b) rest)
 
-  pub extents_without-first : {os : List Object} {i : ℕ} (es : List (ℕ × ℕ)) → AreBeside os es
+  pub extents_without-first : {os : List Object} {i : ℕ} (es : List (ℕ × ℕ)) → HaveLengths os es
       → IsFirst name os i
       → extents_without name (objects_in os es) ≡ remove es i
   extents_without-first [] b (here o os is) = cc
@@ -184,7 +162,7 @@ module _ (name : List ℕ) where
       (e ∷ extents_without name (objects_in os es))) isnt
       ∙ ap (λ l. e ∷ l) (extents_without-first es (tail b) first)
 
-  pub extents_without-nowhere : {os : List Object} (es : List (ℕ × ℕ)) → AreBeside os es
+  pub extents_without-nowhere : {os : List Object} (es : List (ℕ × ℕ)) → HaveLengths os es
       → IsNowhere name os
       → extents_without name (objects_in os es) ≡ es
   extents_without-nowhere [] b none = refl
@@ -217,13 +195,13 @@ module _ (name : List ℕ) where
       (Some (position_or_len (λ (o : Object). bytes_eq o.name name) os)) None)
       (length-map os (λ (o : Object). o.name))
 
-  with-cases : (os : List Object) (es : List (ℕ × ℕ)) (x : ℕ × ℕ) → AreBeside os es
+  with-cases : (os : List Object) (es : List (ℕ × ℕ)) (x : ℕ × ℕ) → HaveLengths os es
       → (place : Option ℕ) → index_of name os ≡ place
       → extents_with name x (objects_in os es) ≡ option_map_or (λ i. set es i x) place es
   with-cases os es x b None is = extents_with-nowhere name es x b (nowhere-place name os is)
   with-cases os es x b (Some i) is = extents_with-first name es x b (first-place name i os is)
 
-  without-cases : (os : List Object) (es : List (ℕ × ℕ)) → AreBeside os es → (place : Option ℕ)
+  without-cases : (os : List Object) (es : List (ℕ × ℕ)) → HaveLengths os es → (place : Option ℕ)
       → index_of name os ≡ place
       → extents_without name (objects_in os es) ≡ option_map_or (remove es) place es
   without-cases os es b None is = extents_without-nowhere name es b (nowhere-place name os is)
@@ -231,7 +209,7 @@ module _ (name : List ℕ) where
 
 -- the extents of placed objects after a command are those that stand beside the names
 pub placed-names : (os : List Object) (es : List (ℕ × ℕ)) (command : Command) (start : ℕ)
-    → AreBeside os es
+    → HaveLengths os es
     → placed_extents_after (objects_in os es) command start
     ≡ extents_after (names_in os) es command start
 placed-names os es (Put name content mime body) start b =
@@ -257,7 +235,7 @@ set_of_object o start = Set o.tid o.version o.content start o.length o.name o.mi
 
 -- one object more
 pub records_of_objects-next : (c : Catalogue) (os : List Object) (es : List (ℕ × ℕ)) (k : ℕ)
-    (o : Object) (e : ℕ × ℕ) → AreBeside os es → k < length os
+    (o : Object) (e : ℕ × ℕ) → HaveLengths os es → k < length os
     → o ≡ get_or os k o → e ≡ get_or es k e
     → records_of_objects c (objects_in (take k os) (take k es))
     ++ record_with c (set_of_object o e.0) ∷ []

@@ -1,12 +1,13 @@
 -- An answer that is a least gap is the one that the definition finds.
-use Rattle.std.proofs.Common.{◌≡◌, ℕ, ◌+◌, ◌<◌, ◌≤◌, true, List, Option, Some, None, refl, ap}
+use Rattle.std.proofs.Common.{◌≡◌, ℕ, ◌+◌, ◌<◌, ◌≤◌, true, List, length, Option, Some, None, refl, ap, sym, ◌∙◌}
 use Rattle.std.proofs.Common.{arith}
-use Rattle.std.specs.Prelude.{IsPermutation}
-use Rattle.std.proofs.lemmas.List.Sorted.{All-permutation, IsPermutation-sym}
-use Rattle.std.proofs.lemmas.List.Sums.{AllPass-from_list_all, list_all-from_AllPass}
-use Rattle.mot_repository.specs.Gap.{is_beside, is_free, least_gap}
+use Rattle.mot_objects.specs.declared.command.Command.{Command}
+use Rattle.mot_repository.specs.Inner.Extents.{AreReordered}
+use Rattle.mot_repository.specs.Gap.{is_free, least_gap}
 use Rattle.mot_repository.specs.Inner.LeastGap.{IsLeastGap}
+use Rattle.mot_repository.specs.Outcome.{body_of, start_of}
 use Rattle.mot_repository.proofs.Gaps.{least_gap_is_least}
+use Rattle.mot_repository.proofs.ByStart.{free-reordered}
 
 only-one : (extents : List (ℕ × ℕ)) (n size : ℕ) (a b : Option ℕ) → IsLeastGap extents n size a
     → IsLeastGap extents n size b → a ≡ b
@@ -33,26 +34,24 @@ no_gap extents n size start over first =
     (λ k fits. let low = first k fits.1 in let within = fits.0 in omega (arith, over, low, within))
     (least_gap_is_least extents n size)
 
-is_free-permutation : (xs ys : List (ℕ × ℕ)) (n k : ℕ) → IsPermutation xs ys → is_free xs n k ≡ true
-    → is_free ys n k ≡ true
-is_free-permutation xs ys n k p free =
-    list_all-from_AllPass (is_beside k n) ys
-    (All-permutation (λ e. is_beside k n e ≡ true) xs ys p
-    (AllPass-from_list_all (is_beside k n) xs free))
-
-IsLeastGap-permutation : (xs ys : List (ℕ × ℕ)) (n size : ℕ) (a : Option ℕ) → IsPermutation xs ys
-    → IsLeastGap xs n size a
-    → IsLeastGap ys n size a
-IsLeastGap-permutation xs ys n size None p is =
-    λ k fits. is k (fits.0, is_free-permutation ys xs n k (IsPermutation-sym xs ys p) fits.1)
-IsLeastGap-permutation xs ys n size (Some x) p is = (
-  (is.0.0, is_free-permutation xs ys n x p is.0.1),
-  λ k fits. is.1 k (fits.0, is_free-permutation ys xs n k (IsPermutation-sym xs ys p) fits.1),
+IsLeastGap-reordered : (xs ys : List (ℕ × ℕ)) (n size : ℕ) (a : Option ℕ) → AreReordered xs ys
+    → IsLeastGap xs n size a → IsLeastGap ys n size a
+IsLeastGap-reordered xs ys n size None same is =
+    λ k fits. is k (fits.0, sym (free-reordered xs ys n k same) ∙ fits.1)
+IsLeastGap-reordered xs ys n size (Some x) same is = (
+  (is.0.0, free-reordered xs ys n x same ∙ is.0.1),
+  λ k fits. is.1 k (fits.0, sym (free-reordered xs ys n k same) ∙ fits.1),
 )
 
 -- the order of the extents does not matter
-pub least_gap-permutation : (xs ys : List (ℕ × ℕ)) (n size : ℕ) → IsPermutation xs ys
+least_gap-reordered : (xs ys : List (ℕ × ℕ)) (n size : ℕ) → AreReordered xs ys
     → least_gap ys n size ≡ least_gap xs n size
-least_gap-permutation xs ys n size p =
+least_gap-reordered xs ys n size same =
     only-one ys n size (least_gap ys n size) (least_gap xs n size) (least_gap_is_least ys n size)
-    (IsLeastGap-permutation xs ys n size (least_gap xs n size) p (least_gap_is_least xs n size))
+    (IsLeastGap-reordered xs ys n size (least_gap xs n size) same (least_gap_is_least xs n size))
+
+-- nor does it for where the bytes of a command go
+pub start-reordered : (xs ys : List (ℕ × ℕ)) (size : ℕ) (command : Command) → AreReordered xs ys
+    → start_of xs size command ≡ start_of ys size command
+start-reordered xs ys size command same =
+    sym (least_gap-reordered xs ys (length (body_of command)) size same)

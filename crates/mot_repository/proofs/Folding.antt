@@ -4,7 +4,6 @@ use Rattle.std.proofs.Common.{List, [], ◌∷◌, ◌++◌, length, Option, Som
 use Rattle.std.proofs.Common.{◌∙◌, subst, arith, length-append}
 use Rattle.std.proofs.lemmas.Bool.{and_parts, and_from, or_cases, or_left, or_right, or_parts}
 use Rattle.std.proofs.lemmas.Bool.{or_from, not-true, not_from_false, ltb-true}
-use Rattle.std.proofs.lemmas.List.Folds.{list_any-append}
 use Rattle.std.proofs.lemmas.Slice.Eq.{bytes_eq-Decides}
 use Rattle.std.specs.Prelude.{nat_le, nat_lt, bytes_eq, option_map}
 use Rattle.std.specs.List.{list_any, list_all, AllByRecursion}
@@ -18,7 +17,8 @@ use Rattle.mot_journal.specs.Catalogue.{placed_without, in_place_or_appended, ob
 use Rattle.mot_journal.specs.Catalogue.{are_apart, are_all_apart, is_consistent, catalogue_after}
 use Rattle.mot_numbers.specs.Reading.{◌>>=◌}
 use Rattle.mot_objects.specs.Carousel.{are_names_distinct}
-use Rattle.mot_repository.specs.Whole.{placed_names, IsGood}
+use Rattle.mot_repository.specs.Inner.Whole.{placed_names, IsGood}
+use Rattle.mot_objects.proofs.Laws.{names-push}
 
 -- ---- one object in the place of another of its name
 
@@ -72,7 +72,8 @@ put-length : {p : Placed} {objects next : List Placed} → IsPut p objects next
 put-length (here q objects is) = refl
 put-length (there q objects next is) = ap suc (put-length is)
 
-or-comm : (x y : Bool) → (x || y) ≡ true → (y || x) ≡ true
+-- either of two tests, in the other order
+pub or-comm : (x y : Bool) → (x || y) ≡ true → (y || x) ≡ true
 or-comm x y e = ⊎_elim (λ h. or_right y x h) (λ h. or_left y x h) (or_cases x y e)
 
 -- all these objects lie beside this one
@@ -237,16 +238,6 @@ step_from limit c r objects after consistent =
     ∙ ap (λ t. cond t (Some (numbered r objects)) None) consistent
 
 -- ---- what every fold keeps
-
-names-push : (ns : List (List ℕ)) (n : List ℕ) → are_names_distinct ns ≡ true
-    → list_any (λ m. bytes_eq m n) ns ≡ false → are_names_distinct (ns ++ n ∷ []) ≡ true
-names-push [] n d e = refl
-names-push (m ∷ ns) n d e =
-    let p = and_parts (not (list_any (bytes_eq m) ns)) (are_names_distinct ns) d in
-    let q = or_parts (bytes_eq m n) (list_any (λ m. bytes_eq m n) ns) e in
-    and_from _ _ (not_from_false _
-    (list_any-append (bytes_eq m) ns (n ∷ [])
-    ∙ or_from _ _ (not-true _ p.0) (or_from _ _ q.0 refl))) (names-push ns n p.1 q.1)
 
 names-append : (objects : List Placed) (p : Placed)
     → placed_names (objects ++ p ∷ []) ≡ placed_names objects ++ p.object.name ∷ []

@@ -1,8 +1,8 @@
 -- The record of an accepted command makes of the catalogue what the command makes of the carousel.
-use Rattle.std.proofs.Common.{◌≡◌, ⊎_elim, ℕ, ◌+◌, Bool, true, false, cond, not, ◌||◌, List, []}
-use Rattle.std.proofs.Common.{◌∷◌, ◌++◌, length, map, slice_range, Option, Some, None, Ok, Err}
+use Rattle.std.proofs.Common.{◌≡◌, ℕ, ◌+◌, Bool, true, false, cond, not, List, []}
+use Rattle.std.proofs.Common.{◌∷◌, ◌++◌, length, map, slice_range, Option, Some, None, Ok}
 use Rattle.std.proofs.Common.{refl, sym, ap, ◌∙◌, subst, arith}
-use Rattle.std.proofs.lemmas.Bool.{and_parts, and_from, or_cases, or_left, or_right, or_parts}
+use Rattle.std.proofs.lemmas.Bool.{and_parts, and_from, or_left, or_right, or_parts}
 use Rattle.std.proofs.lemmas.Bool.{not-true, false≢true, eq-eqb, ne_eqb, leb-false, lt-ltb}
 use Rattle.std.proofs.lemmas.List.{map-append, length-map}
 use Rattle.std.proofs.lemmas.Slice.Eq.{bytes_eq-Decides}
@@ -15,12 +15,11 @@ use Rattle.mot_journal.specs.Catalogue.{Placed, Catalogue, put_in_place, placed_
 use Rattle.mot_journal.specs.Catalogue.{in_place_or_appended, objects_after, are_all_apart}
 use Rattle.mot_journal.specs.Catalogue.{is_consistent, catalogue_after, body_in_area, carousel_in}
 use Rattle.mot_journal.specs.Catalogue.{extents_of}
-use Rattle.mot_numbers.specs.declared.refusal.Refusal.TheVariants.{NameTaken, TooManyObjects}
 use Rattle.mot_objects.specs.declared.command.Command.{Command}
 use Rattle.mot_objects.specs.declared.command.Command.TheVariants.{Put, Replace, Withdraw, Period}
 use Rattle.mot_objects.specs.declared.command.Done.{Done}
 use Rattle.mot_objects.specs.Content.{ContentNumbers}
-use Rattle.mot_objects.specs.Carousel.{Object, Carousel, change, change_to, change_if_named}
+use Rattle.mot_objects.specs.Carousel.{Object, Carousel, change, change_to}
 use Rattle.mot_objects.specs.Carousel.{has_name, objects_with as whole_objects_with}
 use Rattle.mot_objects.specs.Carousel.{objects_without as whole_objects_without, renewed_object}
 use Rattle.mot_objects.specs.Carousel.{used_ids, free_object_id, IsSound}
@@ -32,8 +31,9 @@ use Rattle.mot_repository.specs.Inner.Following.{extent_of, extents_with, extent
 use Rattle.mot_repository.specs.Inner.Following.{placed_extents_after, object_named, set_action}
 use Rattle.mot_repository.specs.Inner.Following.{remove_action, record_of, IsPlaced}
 use Rattle.mot_repository.specs.Inner.Following.{RecordsFollowCommands}
-use Rattle.mot_repository.proofs.Folding.{numbered, step_from, is_put, put_apart, push_apart}
+use Rattle.mot_repository.proofs.Folding.{numbered, step_from, is_put, put_apart, push_apart, or-comm}
 use Rattle.mot_repository.proofs.Folding.{are_beside, is_gone, apart_without_one}
+use Rattle.mot_repository.specs.Inner.Whole.{placed_tids}
 
 abbrev whole : List ℕ → Placed → Object
 whole area p = object_of p.object (body_in_area area p)
@@ -41,11 +41,8 @@ whole area p = object_of p.object (body_in_area area p)
 abbrev wholes : List ℕ → List Placed → List Object
 wholes area objects = map (λ (p : Placed). object_of p.object (body_in_area area p)) objects
 
-abbrev tids : List Placed → List ℕ
-tids objects = map (λ (p : Placed). p.object.tid) objects
-
 tids-wholes : (area : List ℕ) (objects : List Placed)
-    → map (λ (o : Object). o.tid) (wholes area objects) ≡ tids objects
+    → map (λ (o : Object). o.tid) (wholes area objects) ≡ placed_tids objects
 tids-wholes area [] = refl
 tids-wholes area (p ∷ objects) = ap (λ l. p.object.tid ∷ l) (tids-wholes area objects)
 
@@ -88,7 +85,7 @@ follows : (limit : ℕ) (area : List ℕ) (c : Catalogue) (next : Carousel) (act
     → (extents : List (ℕ × ℕ)) → map extent_of objects ≡ extents
     → Follows limit area c next extents action
 follows limit area c next action objects is after same apart extents lie =
-    let ids : next.directory ∷ tids objects ≡ used_ids next =
+    let ids : next.directory ∷ placed_tids objects ≡ used_ids next =
     ap (λ l. next.directory ∷ l)
     (sym (tids-wholes area objects) ∙ ap (map (λ (o : Object). o.tid)) same) in (
       numbered (record_with next action) objects,
@@ -107,9 +104,6 @@ follows limit area c next action objects is after same apart extents lie =
 
 same-bytes : (xs : List ℕ) → bytes_eq xs xs ≡ true
 same-bytes xs = (bytes_eq-Decides xs xs).1 refl
-
-or-comm : (x y : Bool) → (x || y) ≡ true → (y || x) ≡ true
-or-comm x y e = ⊎_elim (λ h. or_right y x h) (λ h. or_left y x h) (or_cases x y e)
 
 -- a free range meets no body
 beside : (p : Placed) (objects : List Placed)
@@ -229,7 +223,7 @@ module _ (area name : List ℕ) (content : ContentNumbers) (mime : Option (List 
 record IsWithout (area name : List ℕ) (objects : List Placed) (os : List Object) : Type 0 where
   found : Object
   named_is : object_named name (wholes area objects) ≡ Some found
-  has : contains (tids objects) found.tid ≡ true
+  has : contains (placed_tids objects) found.tid ≡ true
   after : List Placed
   gone : placed_without found.tid objects ≡ Some after
   same : wholes area after ≡ os
@@ -253,12 +247,12 @@ module _ (area name : List ℕ) where
 
   without-there : (q : Placed) (objects : List Placed) (os : List Object)
       → has_name name (whole area q) ≡ false
-      → contains (tids objects) q.object.tid ≡ false → IsWithout area name objects os
+      → contains (placed_tids objects) q.object.tid ≡ false → IsWithout area name objects os
       → IsWithout area name (q ∷ objects) (whole area q ∷ os)
   without-there q objects os other apart r =
       let differ : nat_eq q.object.tid r.found.tid ≡ false =
       ne_eqb q.object.tid r.found.tid
-      (λ same. false≢true (sym apart ∙ ap (contains (tids objects)) same ∙ r.has)) in
+      (λ same. false≢true (sym apart ∙ ap (contains (placed_tids objects)) same ∙ r.has)) in
       record {
         found = r.found;
         named_is = ap (λ t. cond t (Some (whole area q)) (object_named name (wholes area objects)))
@@ -276,7 +270,7 @@ module _ (area name : List ℕ) where
 
   without-cases : (q : Placed) (objects : List Placed) (os : List Object) (t : Bool)
       (r : Option (List Object)) → has_name name (whole area q) ≡ t
-      → contains (tids objects) q.object.tid ≡ false
+      → contains (placed_tids objects) q.object.tid ≡ false
       → ((rest : List Object) → r ≡ Some rest → IsWithout area name objects rest)
       → cond t (Some (wholes area objects)) (option_map (λ rest. whole area q ∷ rest) r) ≡ Some os
       → IsWithout area name (q ∷ objects) os
@@ -289,31 +283,18 @@ module _ (area name : List ℕ) where
       subst (IsWithout area name (q ∷ objects)) g
       (without-there q objects rest is apart (h rest refl))
 
-  is_without : (objects : List Placed) (os : List Object) → is_distinct (tids objects) ≡ true
+  is_without : (objects : List Placed) (os : List Object) → is_distinct (placed_tids objects) ≡ true
       → whole_objects_without name (wholes area objects) ≡ Some os
       → IsWithout area name objects os
   is_without [] os d e = cc
   is_without (q ∷ objects) os d e =
-      let h = and_parts (not (contains (tids objects) q.object.tid)) (is_distinct (tids objects))
+      let h = and_parts (not (contains (placed_tids objects) q.object.tid)) (is_distinct (placed_tids objects))
       d in
       without-cases q objects os (has_name name (whole area q))
       (whole_objects_without name (wholes area objects)) refl (not-true _ h.0)
       (λ rest f. is_without objects rest h.1 f) e
 
 -- ---- the law
-
-put-cases : (t u : Bool) (r s : Carousel × Done)
-    → cond t (Err NameTaken) (cond u (Err TooManyObjects) (Ok r)) ≡ Ok s
-    → (t ≡ false) × (u ≡ false) × (r ≡ s)
-put-cases true u r s e = cc
-put-cases false true r s e = cc
-put-cases false false r s e = (refl, refl, cc)
-
-named-cases : (c : Carousel) (taken : Option ℕ) (o : Option (List Object)) (s : Carousel × Done)
-    → change_if_named c taken o ≡ Ok s
-    → (os : List Object) × (o ≡ Some os) × (change_to c c.period os taken ≡ s)
-named-cases c taken None s e = cc
-named-cases c taken (Some os) s e = (os, refl, cc)
 
 -- what is to be shown of a command and what it made
 abbrev Law : ℕ → ℕ → List ℕ → Catalogue → Command → Carousel × Done → Type 0
@@ -324,14 +305,14 @@ Law limit start area c command made =
     × (extents_of after ≡ placed_extents_after c.objects command start)
 
 parts-apart : (c : Catalogue) → is_consistent c ≡ true → are_all_apart c.objects ≡ true
-parts-apart c e = (and_parts (is_distinct (c.directory ∷ tids c.objects)) (are_all_apart c.objects)
+parts-apart c e = (and_parts (is_distinct (c.directory ∷ placed_tids c.objects)) (are_all_apart c.objects)
     e).1
 
-parts-ids : (c : Catalogue) → is_consistent c ≡ true → is_distinct (tids c.objects) ≡ true
+parts-ids : (c : Catalogue) → is_consistent c ≡ true → is_distinct (placed_tids c.objects) ≡ true
 parts-ids c e =
-    let h = (and_parts (is_distinct (c.directory ∷ tids c.objects)) (are_all_apart c.objects)
+    let h = (and_parts (is_distinct (c.directory ∷ placed_tids c.objects)) (are_all_apart c.objects)
     e).0 in
-    (and_parts (not (contains (tids c.objects) c.directory)) (is_distinct (tids c.objects)) h).1
+    (and_parts (not (contains (placed_tids c.objects) c.directory)) (is_distinct (placed_tids c.objects)) h).1
 
 put-law : (limit start : ℕ) (area : List ℕ) (c : Catalogue) (name : List ℕ)
     (content : ContentNumbers) (mime : Option (List ℕ)) (body : List ℕ)
@@ -440,7 +421,7 @@ keeps limit start area c next (Put name content mime body) done le consistent is
       body = body;
     } in
     let made = change_to old old.period (old.objects ++ o ∷ []) (Some (free_object_id old)) in
-    let h = put-cases (list_any (has_name name) old.objects) (nat_le limit (length old.objects))
+    let h = sound.put-cases (list_any (has_name name) old.objects) (nat_le limit (length old.objects))
     made (next, done) e in
     let sound = sound.change-sound old made.0 limit (Put name content mime body) made.1 le is
     (e ∙ ap Ok (sym h.2)) in
@@ -448,7 +429,7 @@ keeps limit start area c next (Put name content mime body) done le consistent is
     (put-law limit start area c name content mime body consistent sound h.0 h.1 lies)
 keeps limit start area c next (Replace name content mime body) done le consistent is e lies =
     let old = carousel_in area c in
-    let h = named-cases old (Some (free_object_id old))
+    let h = sound.named-cases old (Some (free_object_id old))
     (whole_objects_with name (renewed_object content mime body (free_object_id old))
     old.objects) (next, done) e in
     let made = change_to old old.period h.0 (Some (free_object_id old)) in
@@ -458,7 +439,7 @@ keeps limit start area c next (Replace name content mime body) done le consisten
     (replace-law limit start area c name content mime body h.0 consistent sound h.1 lies)
 keeps limit start area c next (Withdraw name) done le consistent is e lies =
     let old = carousel_in area c in
-    let h = named-cases old None (whole_objects_without name old.objects) (next, done) e in
+    let h = sound.named-cases old None (whole_objects_without name old.objects) (next, done) e in
     let made = change_to old old.period h.0 None in
     let sound = sound.change-sound old made.0 limit (Withdraw name) made.1 le is
     (e ∙ ap Ok (sym h.2)) in

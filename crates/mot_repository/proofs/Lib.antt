@@ -2,6 +2,7 @@ pub mod Answering
 pub mod Apart
 mod Bodies
 pub mod Bounds
+pub mod ByStart
 pub mod Committing
 pub mod Extents
 pub mod FirstFit
@@ -28,3 +29,4 @@ mod Room
 mod Rows
 mod Rules
 pub mod Soundness
+pub mod Sweep

@@ -1,11 +1,10 @@
 -- Objects and the extents that stand beside them, as the code of a fold changes both.
-use Rattle.std.proofs.Common.{◌≡◌, ◌⊎◌, ℕ, zero, suc, ◌+◌, ◌<◌, ◌≤◌, Bool, true, false, cond}
+use Rattle.std.proofs.Common.{◌≡◌, ℕ, zero, suc, ◌<◌, ◌≤◌, Bool, false}
 use Rattle.std.proofs.Common.{◌&&◌, ◌||◌, List, [], ◌∷◌, ◌++◌, length, map, set, Option, Some, None}
-use Rattle.std.proofs.Common.{refl, sym, ap, ◌∙◌, arith, inl, inr, All}
-use Rattle.std.specs.Prelude.{remove, option_map, bytes_eq, nat_eq, position}
-use Rattle.std.specs.List.{position_from, list_all, list_any}
+use Rattle.std.proofs.Common.{refl, sym, ap, ◌∙◌, inl, inr, All}
+use Rattle.std.specs.Prelude.{remove, bytes_eq, nat_eq, position}
+use Rattle.std.specs.List.{list_all, list_any}
 use Rattle.std.proofs.lemmas.Bool.{lt-ltb, le-ltb}
-use Rattle.std.proofs.lemmas.Iterator.Adapters.{position_from-zero}
 use Rattle.std.proofs.lemmas.List.{map_push}
 use Rattle.std.proofs.lemmas.List.Elements.{All-head, All-tail}
 use Rattle.mot_journal.specs.Catalogue.{Placed, put_in_place, placed_without, are_apart}
@@ -13,67 +12,19 @@ use Rattle.mot_journal.specs.Catalogue.{are_all_apart}
 use Rattle.mot_objects.specs.declared.object.Object.{Object}
 use Rattle.mot_objects.specs.Ids.{contains}
 use Rattle.mot_objects.specs.Stands.{index_of}
-use Rattle.mot_repository.specs.Extents.{objects_in}
+use Rattle.mot_repository.specs.Inner.Extents.{objects_in, with_extent}
 use Rattle.mot_repository.specs.Gap.{is_free, is_beside}
 use Rattle.mot_repository.specs.Inner.Fold.{HaveLengths, are_extents_apart, objects_set}
-
-tail : {x y : ℕ} {xs ys : List ℕ} → x ∷ xs ≡ y ∷ ys → xs ≡ ys
-tail e = cc
-
--- an object and its extent
-abbrev in-one : Object → ℕ × ℕ → Placed
-in-one o e = record {
-  object = record {
-    name = o.name;
-    content = o.content;
-    mime = o.mime;
-    version = o.version;
-    tid =
-        o.tid;
-    length = e.1;
-  };
-  start = e.0;
-}
+use Rattle.mot_carousel.proofs.Laws.{located_where, nowhere-cases, place_where}
+use Rattle.mot_carousel.proofs.Laws.{position-place_where, same_step, tail}
 
 -- ---- the place of the first object that passes a test
 
-abbrev above : ℕ → Option ℕ → Option ℕ
-above k None = None
-above k (Some i) = Some (k + i)
-
-above-suc : (k : ℕ) (r : Option ℕ) → above (k + 1) r ≡ above k (option_map suc r)
-above-suc k None = refl
-above-suc k (Some i) = ap Some (omega arith)
-
-above-zero : (r : Option ℕ) → above 0 r ≡ r
-above-zero None = refl
-above-zero (Some i) = ap Some (omega arith)
-
-place-cases : (t : Bool) (k : ℕ) (r : Option ℕ)
-    → cond t (Some k) (above (k + 1) r) ≡ above k (cond t (Some 0) (option_map suc r))
-place-cases true k r = ap Some (omega arith)
-place-cases false k r = above-suc k r
-
-nowhere-cases : (t : Bool) (r : Option ℕ) → cond t (Some 0) (option_map suc r) ≡ None
-    → (t ≡ false) × (r ≡ None)
-nowhere-cases true r e = cc
-nowhere-cases false None e = (refl, refl)
-nowhere-cases false (Some i) e = cc
-
 module _ (test : Object → Bool) where
-  abbrev place : List Object → Option ℕ
-  place [] = None
-  place (o ∷ os) = cond (test o) (Some 0) (option_map suc (place os))
+  place-is : (os : List Object) (r : Option ℕ) → position test os ≡ r → place_where test os ≡ r
+  place-is os r e = sym (position-place_where test os) ∙ e
 
-  place-from : (k : ℕ) (os : List Object) → position_from test k os ≡ above k (place os)
-  place-from k [] = refl
-  place-from k (o ∷ os) = ap (cond (test o) (Some k)) (place-from (k + 1) os)
-      ∙ place-cases (test o) k (place os)
-
-  place-is : (os : List Object) (r : Option ℕ) → position test os ≡ r → place os ≡ r
-  place-is os r e = sym (position_from-zero test os ∙ place-from 0 os ∙ above-zero (place os)) ∙ e
-
-  nowhere : (os : List Object) → All (λ o. test o ≡ false) os → place os ≡ None
+  nowhere : (os : List Object) → All (λ o. test o ≡ false) os → place_where test os ≡ None
   nowhere [] h = refl
   nowhere (o ∷ os) h =
       rw (
@@ -84,21 +35,7 @@ module _ (test : Object → Bool) where
   -- where no object passes, none has the place of the first
   pub none_passes : (os : List Object) → All (λ o. test o ≡ false) os → position test os ≡ None
   none_passes os h =
-      position_from-zero test os ∙ place-from 0 os ∙ above-zero (place os) ∙ nowhere os h
-
-  -- the first object passes, or the place is among the others
-  abbrev Located : Object → List Object → ℕ → Type 0
-  Located o os i = ((test o ≡ true) × (i ≡ 0))
-      ⊎ ((j : ℕ) × (test o ≡ false) × (i ≡ suc j) × (place os ≡ Some j))
-
-  located-cases : (o : Object) (os : List Object) (i : ℕ) (t : Bool) (r : Option ℕ) → test o ≡ t
-      → place os ≡ r → cond t (Some 0) (option_map suc r) ≡ Some i → Located o os i
-  located-cases o os i true r p q e = inl (p, cc)
-  located-cases o os i false None p q e = cc
-  located-cases o os i false (Some j) p q e = inr (j, p, cc, q)
-
-  located : (o : Object) (os : List Object) (i : ℕ) → place (o ∷ os) ≡ Some i → Located o os i
-  located o os i e = located-cases o os i (test o) (place os) refl refl e
+      position-place_where test os ∙ nowhere os h
 
 -- ---- one object in the place of another
 
@@ -109,39 +46,39 @@ abbrev has-id : ℕ → Object → Bool
 has-id tid o = nat_eq o.tid tid
 
 put-nowhere : (p : Placed) (os : List Object) (es : List (ℕ × ℕ))
-    → place (has-name p.object.name) os ≡ None
+    → place_where (has-name p.object.name) os ≡ None
     → put_in_place p (objects_in os es) ≡ None
 put-nowhere p [] es e = refl
 put-nowhere p (o ∷ os) [] e = refl
 put-nowhere p (o ∷ os) (x ∷ es) e =
-    let h = nowhere-cases (bytes_eq o.name p.object.name) (place (has-name p.object.name) os) e in
+    let h = nowhere-cases (bytes_eq o.name p.object.name) (place_where (has-name p.object.name) os) e in
     rw (h.0, put-nowhere p os es h.1) refl
 
 put-there : (p : Placed) (os : List Object) (es : List (ℕ × ℕ)) (i : ℕ) → HaveLengths os es
-    → place (has-name p.object.name) os ≡ Some i
+    → place_where (has-name p.object.name) os ≡ Some i
     → put_in_place p (objects_in os es)
     ≡ Some (objects_in (set os i p.object) (set es i (p.start, p.object.length)))
 put-there p [] es i l e = cc
 put-there p (o ∷ os) [] i l e = cc
-put-there p (o ∷ os) (x ∷ es) i l e = elim (located (has-name p.object.name) o os i e) [
+put-there p (o ∷ os) (x ∷ es) i l e = elim (located_where (has-name p.object.name) o os i e) [
   | inl h ↦ rw (h.1, h.0) refl
   | inr h ↦ rw (h.2, h.1, put-there p os es h.0 (tail l) h.3) refl
 ]
 
-gone-nowhere : (tid : ℕ) (os : List Object) (es : List (ℕ × ℕ)) → place (has-id tid) os ≡ None
+gone-nowhere : (tid : ℕ) (os : List Object) (es : List (ℕ × ℕ)) → place_where (has-id tid) os ≡ None
     → placed_without tid (objects_in os es) ≡ None
 gone-nowhere tid [] es e = refl
 gone-nowhere tid (o ∷ os) [] e = refl
 gone-nowhere tid (o ∷ os) (x ∷ es) e =
-    let h = nowhere-cases (nat_eq o.tid tid) (place (has-id tid) os) e in
+    let h = nowhere-cases (nat_eq o.tid tid) (place_where (has-id tid) os) e in
     rw (h.0, gone-nowhere tid os es h.1) refl
 
 gone-there : (tid : ℕ) (os : List Object) (es : List (ℕ × ℕ)) (i : ℕ) → HaveLengths os es
-    → place (has-id tid) os ≡ Some i
+    → place_where (has-id tid) os ≡ Some i
     → placed_without tid (objects_in os es) ≡ Some (objects_in (remove os i) (remove es i))
 gone-there tid [] es i l e = cc
 gone-there tid (o ∷ os) [] i l e = cc
-gone-there tid (o ∷ os) (x ∷ es) i l e = elim (located (has-id tid) o os i e) [
+gone-there tid (o ∷ os) (x ∷ es) i l e = elim (located_where (has-id tid) o os i e) [
   | inl h ↦ rw (h.1, h.0) refl
   | inr h ↦ rw (h.2, h.1, gone-there tid os es h.0 (tail l) h.3) refl
 ]
@@ -150,11 +87,11 @@ gone-there tid (o ∷ os) (x ∷ es) i l e = elim (located (has-id tid) o os i e
 
 in-append : (os : List Object) (es : List (ℕ × ℕ)) (o : Object) (start : ℕ) → HaveLengths os es
     → objects_in (os ++ o ∷ []) (es ++ (start, o.length) ∷ [])
-    ≡ objects_in os es ++ in-one o (start, o.length) ∷ []
+    ≡ objects_in os es ++ with_extent o (start, o.length) ∷ []
 in-append [] [] o start l = refl
 in-append [] (x ∷ es) o start l = cc
 in-append (p ∷ os) [] o start l = cc
-in-append (p ∷ os) (x ∷ es) o start l = ap (λ r. in-one p x ∷ r) (in-append os es o start (tail l))
+in-append (p ∷ os) (x ∷ es) o start l = ap (λ r. with_extent p x ∷ r) (in-append os es o start (tail l))
 
 in-length : (os : List Object) (es : List (ℕ × ℕ)) → HaveLengths os es
     → length (objects_in os es) ≡ length os
@@ -175,9 +112,6 @@ size o = o.length
 abbrev extent-size : ℕ × ℕ → ℕ
 extent-size e = e.1
 
-same-step : (c p : ℕ) (xs ys us vs : List ℕ) → c ∷ xs ≡ p ∷ ys → us ≡ vs → c ∷ us ≡ p ∷ vs
-same-step c p xs ys us vs e h = cc
-
 -- an object put in a place, with its extent there, keeps the lengths of the extents
 pub lengths_set : (os : List Object) (es : List (ℕ × ℕ)) (i : ℕ) (o : Object) (start : ℕ)
     → HaveLengths os es
@@ -187,7 +121,7 @@ lengths_set [] (x ∷ es) i o start l = cc
 lengths_set (p ∷ os) [] i o start l = cc
 lengths_set (p ∷ os) (x ∷ es) zero o start l = ap (λ r. o.length ∷ r) (tail l)
 lengths_set (p ∷ os) (x ∷ es) (suc i) o start l =
-    same-step x.1 p.length (map extent-size es) (map size os) _ _ l
+    same_step x.1 p.length (map extent-size es) (map size os) _ _ l
     (lengths_set os es i o start (tail l))
 
 -- an object behind the others, with its extent, keeps the lengths of the extents
@@ -206,7 +140,7 @@ lengths_remove [] (x ∷ es) i l = cc
 lengths_remove (p ∷ os) [] i l = cc
 lengths_remove (p ∷ os) (x ∷ es) zero l = tail l
 lengths_remove (p ∷ os) (x ∷ es) (suc i) l =
-    same-step x.1 p.length (map extent-size es) (map size os) _ _ l
+    same_step x.1 p.length (map extent-size es) (map size os) _ _ l
     (lengths_remove os es i (tail l))
 
 -- ---- as the code does it
@@ -279,7 +213,7 @@ apart_in [] [] l = refl
 apart_in [] (x ∷ es) l = cc
 apart_in (o ∷ os) [] l = cc
 apart_in (o ∷ os) (x ∷ es) l =
-    ap (λ t. t && are_all_apart (objects_in os es)) (beside-in (in-one o x) os es (tail l))
+    ap (λ t. t && are_all_apart (objects_in os es)) (beside-in (with_extent o x) os es (tail l))
     ∙ ap (λ t. is_free es x.1 x.0 && t) (apart_in os es (tail l))
 
 -- an id is used where one of the objects has it

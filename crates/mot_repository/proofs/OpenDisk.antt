@@ -10,8 +10,6 @@ use Rattle.disk_model.proofs.Laws.{keeps_on}
 use Rattle.disk_model.specs.Failures.{Rises, HasCause}
 use Rattle.mot_journal.specs.declared.layout.Layout.{Layout}
 use Rattle.mot_journal.specs.declared.record.Record.{Record}
-use Rattle.mot_journal.specs.declared.record.Action.{Action}
-use Rattle.mot_journal.specs.declared.record.Action.TheVariants.{Nothing, Set, Remove}
 use Rattle.mot_journal.specs.Slot.{is_sound}
 use Rattle.mot_journal.specs.Image.{catalogue_of}
 use Rattle.mot_numbers.specs.Refusal.{◌>>=◌}
@@ -24,17 +22,19 @@ use Rattle.mot_numbers.specs.declared.refusal.Refusal.{Refusal}
 use Rattle.mot_numbers.specs.Geometry.{is_valid}
 use Rattle.mot_objects.specs.declared.carousel.Carousel.{Carousel}
 use Rattle.mot_objects.specs.declared.object.Object.{Object}
-use Rattle.mot_repository.specs.Extents.{ArePaired, catalogue_with, objects_in}
-use Rattle.mot_repository.specs.Inner.Fold.{HaveLengths, IsFoldRefusal, HasShortId, HasShortIds}
+use Rattle.mot_repository.specs.Extents.{ArePaired}
+use Rattle.mot_repository.specs.Inner.Extents.{catalogue_with, objects_in}
+use Rattle.mot_repository.specs.Inner.Fold.{HaveLengths, IsFoldRefusal, HasShortIds}
 use Rattle.mot_repository.specs.Inner.InOrder.{IsInOrder}
 use Rattle.mot_repository.specs.Inner.Loaded.{IsLoaded}
 use Rattle.mot_repository.specs.Opening.{IsOpened, IsOpeningRefusal}
 use Rattle.mot_journal.specs.Journal.IsReadingRefusal.{not_formatted, damaged, no_memory, device}
-use Rattle.mot_repository.specs.Prepared.{view_with}
+use Rattle.mot_repository.specs.Inner.InOrder.{view_with}
 use Rattle.mot_repository.specs.Repository.{RepositoryView}
 use Rattle.mot_repository.proofs.Preparing.{opened}
-use Rattle.mot_repository.proofs.Reading.{by_recursion, IsRead, HasShortId as HasId}
+use Rattle.mot_repository.proofs.Reading.{by_recursion, IsRead}
 use Rattle.mot_repository.proofs.Soundness.{whole_fold}
+use Rattle.mot_carousel.proofs.Laws.{head, tail}
 
 -- ---- refusals
 
@@ -91,11 +91,6 @@ fold_refused old new j records refusal read (inr is) =
 
 -- ---- in order
 
-same-id : (a : Action) → HasShortId a → HasId a
-same-id Nothing h = h
-same-id (Remove tid) h = h
-same-id (Set tid version content start size name mime) h = h
-
 are-read : (g : Geometry) (layout : Layout) (records : List Record)
     → AllByRecursion (λ r. is_sound g layout r ≡ true) records
     → AllByRecursion HasShortIds records → AllByRecursion (IsRead g layout) records
@@ -105,8 +100,7 @@ are-read g layout (r ∷ records) sound short = (
     sound = sound.0;
     directory = short.0.directory;
     cursor = short.0.cursor;
-    object =
-        same-id r.action short.0.object;
+    object = short.0.object;
   },
   are-read g layout records sound.1 short.1,
 )
@@ -139,12 +133,6 @@ fold_refused_same g h records refusal same is =
     subst (λ (x : Geometry). IsFoldRefusal x.objects records refusal) same is
 
 -- ---- an open repository
-
-tail : {x y : ℕ} {xs ys : List ℕ} → x ∷ xs ≡ y ∷ ys → xs ≡ ys
-tail e = cc
-
-head : {x y : ℕ} {xs ys : List ℕ} → x ∷ xs ≡ y ∷ ys → x ≡ y
-head e = cc
 
 objects-are : (os : List Object) (es : List (ℕ × ℕ)) → HaveLengths os es
     → os ≡ map (λ (p : Placed). p.object) (objects_in os es)

@@ -4,7 +4,7 @@ use Rattle.std.proofs.Common.{replicate, Option, Some, None, Result, Ok, Err, re
 use Rattle.std.proofs.Common.{subst}
 use Rattle.std.proofs.lemmas.List.{length-replicate}
 use Rattle.std.specs.Prelude.{if◌then◌else◌}
-use Rattle.mot_carousel.proofs.Laws.{refused_by_rules}
+use Rattle.mot_carousel.proofs.Laws.{refused_by_rules, tail}
 use Rattle.mot_journal.specs.declared.layout.Layout.{Layout}
 use Rattle.mot_journal.specs.declared.record.Record.{Record}
 use Rattle.mot_numbers.specs.Refusal.{◌>>=◌}
@@ -19,10 +19,10 @@ use Rattle.mot_objects.specs.declared.command.Done.{Done}
 use Rattle.mot_objects.specs.declared.object.Object as declared
 use Rattle.mot_objects.specs.Carousel.{Object, Carousel, change}
 use Rattle.mot_objects.specs.Stands.{objects_of, carousel_of, bodies_after, AreBodiesOf}
-use Rattle.mot_repository.specs.Extents.{names_kept}
+use Rattle.mot_repository.specs.Inner.Extents.{names_kept}
 use Rattle.mot_repository.specs.Outcome.{has_long_name, start_of, or_no_room, extents_after}
 use Rattle.mot_repository.specs.Outcome.{after_command}
-use Rattle.mot_repository.specs.Prepared.{IsPreparedFor}
+use Rattle.mot_repository.specs.Inner.Prepared.{IsPreparedFor}
 use Rattle.mot_repository.specs.Repository.{RepositoryView, Agrees}
 
 -- the names of a carousel's objects
@@ -161,9 +161,6 @@ module _ (layout : Layout) (s : Standing) (command : Command) where
       (has_long_name layout command) ruled lying refusal refl (sym by-parts ∙ e)
 
 -- ---- told of what is kept in memory
-
-tail : {x y : ℕ} {xs ys : List ℕ} → x ∷ xs ≡ y ∷ ys → xs ≡ ys
-tail e = cc
 
 names-whole : (objects : List declared.Object) (bodies : List (List ℕ))
     → map length bodies ≡ map (λ (o : declared.Object). o.length) objects

@@ -8,15 +8,9 @@ use Rattle.mot_journal.specs.Image.{DiskRecords, records_of, journal_in_half, ha
 use Rattle.mot_journal.specs.Image.{or_not_formatted}
 use Rattle.mot_journal.specs.Journal.{JournalView, with_records, StandsWhere}
 use Rattle.mot_journal.specs.Slot.{layout_of}
-use Rattle.mot_journal.proofs.Laws.{geometry_read}
+use Rattle.mot_journal.proofs.Laws.{found, geometry_read, is-same}
 use Rattle.mot_numbers.specs.declared.geometry.Geometry.{Geometry}
 use Rattle.mot_numbers.specs.declared.refusal.Refusal.{Refusal}
-
-abbrev found : DiskRecords → Result DiskRecords Refusal
-found j = Ok j
-
-is-same : (k j : DiskRecords) → found k ≡ found j → k ≡ j
-is-same k j e = cc
 
 parts-cases : (g : Geometry) (half : ℕ) (layout : Layout) (r : Result (List Record) Refusal)
     (j : DiskRecords)

@@ -32,50 +32,33 @@ use Rattle.mot_objects.specs.declared.command.Done.{Done}
 use Rattle.mot_objects.specs.declared.object.Object.{Object}
 use Rattle.mot_objects.specs.Mime.{is_mime}
 use Rattle.mot_repository.specs.Answers.{IsRefusal}
-use Rattle.mot_repository.specs.Extents.{objects_in, catalogue_in, catalogue_with, names_kept}
+use Rattle.mot_repository.specs.Inner.Extents.{objects_in, catalogue_in, catalogue_with, names_kept}
 use Rattle.mot_repository.specs.Extents.{ArePaired}
 use Rattle.mot_repository.specs.Outcome.{body_of, has_long_name, start_of, extents_after}
 use Rattle.mot_repository.specs.Inner.Planned.{HasFields, IsTyped}
-use Rattle.mot_repository.specs.Whole.{IsWhole}
-use Rattle.mot_repository.specs.Laws.{records_of_catalogue}
-use Rattle.mot_repository.specs.Prepared.{ChangesTo, CanBeGiven, IsFull, IsPreparedFor}
-use Rattle.mot_repository.specs.Prepared.{kept_object_named, kept_set, kept_remove, kept_action}
-use Rattle.mot_repository.specs.Prepared.{kept_record}
-use Rattle.mot_repository.specs.Ready.{IsPrepared}
+use Rattle.mot_repository.specs.Inner.Whole.{IsWhole}
+use Rattle.mot_repository.specs.Inner.Laws.{records_of_catalogue}
+use Rattle.mot_repository.specs.Inner.Prepared.{ChangesTo, CanBeGiven, IsFull, IsPreparedFor}
+use Rattle.mot_repository.specs.Inner.Prepared.{kept_object_named, kept_set, kept_remove, kept_action}
+use Rattle.mot_repository.specs.Inner.Prepared.{kept_record}
+use Rattle.mot_repository.specs.Inner.Ready.{IsPrepared}
 use Rattle.mot_repository.specs.Repository.{RepositoryView}
 use Rattle.mot_repository.proofs.Outcomes.{refused_name, refused_rules, refused_room, same_rules}
 use Rattle.mot_repository.proofs.Outcomes.{same_start}
 use Rattle.mot_repository.specs.declared.prepared.Prepared.{Prepared}
-use Rattle.mot_repository.proofs.Extents.{AreBeside, extents-objects_in, kept_object_named-name}
+use Rattle.mot_repository.proofs.Extents.{extents-objects_in, kept_object_named-name}
 use Rattle.mot_repository.proofs.Extents.{placed-names}
 use Rattle.mot_repository.proofs.Preparing.{IsMatched, matched, IsKept, all-within, body-length}
 use Rattle.mot_repository.proofs.Preparing.{same-catalogue, same-change, made, Made, sizes-of}
 use Rattle.mot_repository.proofs.Preparing.{some-area, some-slice, some-length, gap-fits}
-use Rattle.mot_repository.proofs.Reading.{IsRead, HasShortId}
+use Rattle.mot_repository.proofs.Reading.{IsRead}
 use Rattle.mot_repository.proofs.Rewriting.{fold-all}
 use Rattle.mot_repository.proofs.Soundness.{whole-step, is_rewriting}
+use Rattle.mot_carousel.proofs.Laws.{head, tail}
+use Rattle.mot_repository.specs.Inner.Fold.{HasShortId, HaveLengths}
+use Rattle.mot_repository.specs.Inner.Extents.{with_extent}
 
 -- ---- what is kept in memory, as the catalogue of records
-
-head : {x y : ℕ} {xs ys : List ℕ} → x ∷ xs ≡ y ∷ ys → x ≡ y
-head e = cc
-
-tail : {x y : ℕ} {xs ys : List ℕ} → x ∷ xs ≡ y ∷ ys → xs ≡ ys
-tail e = cc
-
-abbrev placed : Object → ℕ × ℕ → Placed
-placed o e = record {
-  object = record {
-    name = o.name;
-    content = o.content;
-    mime = o.mime;
-    version = o.version;
-    tid =
-        o.tid;
-    length = e.1;
-  };
-  start = e.0;
-}
 
 objects-whole : (area : List ℕ) (os : List Object) (es : List (ℕ × ℕ))
     → map (λ (p : Placed). object_of p.object (body_in_area area p)) (objects_in os es)
@@ -83,10 +66,10 @@ objects-whole : (area : List ℕ) (os : List Object) (es : List (ℕ × ℕ))
 objects-whole area [] es = refl
 objects-whole area (o ∷ os) [] = refl
 objects-whole area (o ∷ os) (e ∷ es) =
-    ap (λ l. object_of o (body_in_area area (placed o e)) ∷ l) (objects-whole area os es)
+    ap (λ l. object_of o (body_in_area area (with_extent o e)) ∷ l) (objects-whole area os es)
 
 lengths-whole : (g : Geometry) (area : List ℕ) → g.data_area ≤ length area
-    → (os : List Object) (es : List (ℕ × ℕ)) → AreBeside os es
+    → (os : List Object) (es : List (ℕ × ℕ)) → HaveLengths os es
     → AllByRecursion (λ (p : Placed). p.start + p.object.length ≤ g.data_area) (objects_in os es)
     → map length (map (λ (p : Placed). body_in_area area p) (objects_in os es))
     ≡ map (λ (o : Object). o.length) os
@@ -94,7 +77,7 @@ lengths-whole g area long [] es b within = refl
 lengths-whole g area long (o ∷ os) [] b within = cc
 lengths-whole g area long (o ∷ os) (e ∷ es) b within =
     ap (λ n. n ∷ map length (map (λ (p : Placed). body_in_area area p) (objects_in os es)))
-    (body-length g area (placed o e) within.0 long ∙ head b)
+    (body-length g area (with_extent o e) within.0 long ∙ head b)
     ∙ ap (λ l. o.length ∷ l) (lengths-whole g area long os es (tail b) within.1)
 
 pub in_memory : (view : RepositoryView) → is_valid view.journal.geometry ≡ true

@@ -32,15 +32,16 @@ use Rattle.mot_objects.specs.Carousel as whole
 use Rattle.mot_objects.specs.Stands.{object_of, objects_of, carousel_of, bodies_after, AreBodiesOf}
 use Rattle.mot_repository.specs.Gap.{is_beside, is_free, least_gap}
 use Rattle.mot_repository.specs.Inner.LeastGap.{IsLeastGap}
-use Rattle.mot_repository.specs.Laws.{records_of_catalogue}
+use Rattle.mot_repository.specs.Inner.Laws.{records_of_catalogue}
 use Rattle.mot_repository.specs.Inner.Following.{IsPlaced, object_named, set_action, remove_action}
 use Rattle.mot_repository.specs.Inner.Following.{action_of, record_of, placed_extents_after}
-use Rattle.mot_repository.specs.Extents.{objects_in, catalogue_in, names_kept, ArePaired}
+use Rattle.mot_repository.specs.Inner.Extents.{objects_in, catalogue_in, names_kept}
+use Rattle.mot_repository.specs.Extents.{ArePaired}
 use Rattle.mot_repository.specs.Outcome.{body_of, start_of, extents_after, after_command}
 use Rattle.mot_repository.specs.Opening.{IsOpened}
 use Rattle.mot_repository.specs.Inner.Kept.{KeepsCatalogue}
-use Rattle.mot_repository.specs.Prepared.{IsFull, IsPreparedFor, kept_object_named, kept_set}
-use Rattle.mot_repository.specs.Prepared.{kept_remove, kept_action, kept_record}
+use Rattle.mot_repository.specs.Inner.Prepared.{IsFull, IsPreparedFor, kept_object_named, kept_set}
+use Rattle.mot_repository.specs.Inner.Prepared.{kept_remove, kept_action, kept_record}
 use Rattle.mot_repository.specs.Repository.{RepositoryView, Agrees, IsOf, Holds}
 use Rattle.mot_repository.proofs.Extents.{placed-names}
 use Rattle.mot_repository.proofs.Following as following
@@ -48,15 +49,14 @@ use Rattle.mot_repository.proofs.Gaps.{least_gap_is_least}
 use Rattle.mot_repository.proofs.Outcomes.{accepted_of, same_extents, same_start}
 use Rattle.mot_repository.proofs.Reading.{by_recursion, geometry_is, records_read}
 use Rattle.mot_repository.proofs.Rewriting as rewriting
-use Rattle.mot_repository.specs.Whole.{IsSoundPlaced, IsWhole}
+use Rattle.mot_repository.specs.Inner.Whole.{IsSoundPlaced, IsWhole}
 use Rattle.mot_repository.proofs.Soundness.{whole_fold, placed_in, few_objects, sound_carousel}
 use Rattle.mot_repository.proofs.Soundness.{is_folded, lie_beside}
+use Rattle.mot_repository.proofs.Soundness.{extents-in}
 
-abbrev wholes : List ℕ → List Placed → List whole.Object
+-- the objects of an area, with their bodies
+abbrev pub wholes : List ℕ → List Placed → List whole.Object
 wholes area objects = map (λ (p : Placed). object_of p.object (body_in_area area p)) objects
-
-abbrev extents-in : List Placed → List (ℕ × ℕ)
-extents-in objects = map (λ (p : Placed). (p.start, p.object.length)) objects
 
 abbrev bodies_in : List ℕ → List Placed → List (List ℕ)
 bodies_in area objects = map (λ (p : Placed). body_in_area area p) objects
@@ -182,7 +182,8 @@ sizes-of g area long (p ∷ ps) within =
 same-ok : (j k : DiskRecords) → ◌≡◌ {A = Result DiskRecords Refusal} (Ok j) (Ok k) → j ≡ k
 same-ok j k e = cc
 
-same-standing : (s t : Standing) → ◌≡◌ {A = Result Standing Refusal} (Ok s) (Ok t) → s ≡ t
+-- what bytes stand for twice is the same
+pub same-standing : (s t : Standing) → ◌≡◌ {A = Result Standing Refusal} (Ok s) (Ok t) → s ≡ t
 same-standing s t e = cc
 
 fold-of : (image : List ℕ) (s : Standing) (j : DiskRecords) → records_of image ≡ Ok j

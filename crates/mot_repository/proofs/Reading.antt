@@ -22,6 +22,7 @@ use Rattle.mot_numbers.specs.declared.geometry.Geometry.{Geometry}
 use Rattle.mot_numbers.specs.Geometry.{length_of, half_start, half_size}
 use Rattle.mot_numbers.specs.Geometry.{is_valid}
 use Rattle.mot_objects.specs.Content.{ContentNumbers}
+use Rattle.mot_repository.specs.Inner.Fold.{HasShortId}
 
 -- each of the numbers is a byte
 abbrev pub AreBytes : List ℕ → Type 0
@@ -54,12 +55,6 @@ third-number (b ∷ []) a = let low = a.0 in omega (arith, low)
 third-number (b ∷ c ∷ []) a = let low = a.0 in let lower = a.1.0 in omega (arith, low, lower)
 third-number (b ∷ c ∷ d ∷ bytes) a =
     let low = a.0 in let lower = a.1.0 in let lowest = a.1.1.0 in omega (arith, low, lower, lowest)
-
--- the object's id of an action, if it has one, is a number of two bytes
-abbrev pub HasShortId : Action → Type 0
-HasShortId Nothing = Unit {0}
-HasShortId (Remove tid) = tid ≤ 65535
-HasShortId (Set tid version content start size name mime) = tid ≤ 65535
 
 -- a record without a fault of fields, and its ids are numbers of two bytes
 pub record IsRead (g : Geometry) (layout : Layout) (r : Record) : Type 0 where

@@ -1,6 +1,6 @@
 -- The records that a full half is rewritten to fold to the catalogue that they are of.
 use Rattle.std.proofs.Common.{◌≡◌, ℕ, ◌+◌, Bool, true, false, cond, not, List, [], ◌∷◌, ◌++◌}
-use Rattle.std.proofs.Common.{length, map, Some, None, Result, Ok, refl, sym, ap, ◌∙◌, arith}
+use Rattle.std.proofs.Common.{length, Some, None, Result, Ok, refl, sym, ap, ◌∙◌, arith}
 use Rattle.std.proofs.Common.{length-append, append-nil}
 use Rattle.std.proofs.lemmas.Bool.{and_parts, and_from, or_parts, or_from, not-true, not_from_false}
 use Rattle.std.proofs.lemmas.Bool.{lt-ltb}
@@ -16,13 +16,11 @@ use Rattle.mot_journal.specs.Catalogue.{are_all_apart, is_consistent, catalogue_
 use Rattle.mot_numbers.specs.declared.refusal.Refusal.{Refusal}
 use Rattle.mot_objects.specs.Carousel.{are_names_distinct}
 use Rattle.mot_objects.specs.Ids.{contains, is_distinct}
-use Rattle.mot_repository.specs.Laws.{records_of_objects, records_of_catalogue}
+use Rattle.mot_repository.specs.Inner.Laws.{records_of_objects, records_of_catalogue}
 use Rattle.mot_repository.specs.Inner.Following.{RewritingKeepsTheCatalogue}
-use Rattle.mot_repository.specs.Whole.{placed_names, IsGood}
+use Rattle.mot_repository.specs.Inner.Whole.{placed_names, IsGood}
 use Rattle.mot_repository.proofs.Folding.{step_from, good_fold}
-
-abbrev tids : List Placed → List ℕ
-tids objects = map (λ (p : Placed). p.object.tid) objects
+use Rattle.mot_repository.specs.Inner.Whole.{placed_tids}
 
 -- ---- what holds of a list holds of its beginning
 
@@ -51,7 +49,7 @@ apart-first (x ∷ xs) ys e =
     let h = and_parts (list_all (are_apart x) (xs ++ ys)) (are_all_apart (xs ++ ys)) e in
     and_from _ _ (all-first (are_apart x) xs ys h.0) (apart-first xs ys h.1)
 
-tids-append : (xs ys : List Placed) → tids (xs ++ ys) ≡ tids xs ++ tids ys
+tids-append : (xs ys : List Placed) → placed_tids (xs ++ ys) ≡ placed_tids xs ++ placed_tids ys
 tids-append [] ys = refl
 tids-append (x ∷ xs) ys = ap (λ l. x.object.tid ∷ l) (tids-append xs ys)
 
@@ -95,12 +93,12 @@ of_first c objects = record
 first-consistent : (c : Catalogue) (before rest : List Placed) → before ++ rest ≡ c.objects
     → is_consistent c ≡ true → is_consistent (of_first c before) ≡ true
 first-consistent c before rest e consistent =
-    let h = and_parts (is_distinct (c.directory ∷ tids c.objects)) (are_all_apart c.objects)
+    let h = and_parts (is_distinct (c.directory ∷ placed_tids c.objects)) (are_all_apart c.objects)
     consistent in
-    let cut : c.directory ∷ tids c.objects ≡ (c.directory ∷ tids before) ++ tids rest =
-    ap (λ l. c.directory ∷ tids l) (sym e) ∙ ap (λ l. c.directory ∷ l) (tids-append before rest) in
+    let cut : c.directory ∷ placed_tids c.objects ≡ (c.directory ∷ placed_tids before) ++ placed_tids rest =
+    ap (λ l. c.directory ∷ placed_tids l) (sym e) ∙ ap (λ l. c.directory ∷ l) (tids-append before rest) in
     and_from _ _
-    (distinct-first (c.directory ∷ tids before) (tids rest) (ap is_distinct (sym cut) ∙ h.0))
+    (distinct-first (c.directory ∷ placed_tids before) (placed_tids rest) (ap is_distinct (sym cut) ∙ h.0))
     (apart-first before rest (ap are_all_apart e ∙ h.1))
 
 step-objects : (limit : ℕ) (c : Catalogue) (p : Placed) (before rest : List Placed)

@@ -19,7 +19,7 @@ use Rattle.mot_objects.specs.Stands.{object_of}
 use Rattle.mot_repository.proofs.Folding.{fold_keeps, is_step}
 use Rattle.mot_repository.proofs.Reading.{by_recursion, geometry_is, records_read}
 use Rattle.mot_repository.proofs.Soundness.{is_folded, placed_in, whole_fold}
-use Rattle.mot_repository.specs.Whole.{IsSoundPlaced}
+use Rattle.mot_repository.specs.Inner.Whole.{IsSoundPlaced}
 
 area-length : (g : Geometry) (image : List ℕ) → length_of g ≤ length image
     → length (area_of g image) ≡ g.data_area

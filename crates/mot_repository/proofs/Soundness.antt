@@ -14,7 +14,6 @@ use Rattle.std.specs.List.{AllByRecursion, list_all}
 use Rattle.std.specs.Str.{is_utf8}
 use Rattle.std.specs.Option.{option_map_or}
 use Rattle.mot_journal.specs.declared.layout.Layout.{Layout}
-use Rattle.mot_journal.specs.declared.layout.Layout.TheVariants.{One, Two}
 use Rattle.mot_journal.specs.declared.record.Record.{Record}
 use Rattle.mot_journal.specs.declared.record.Action.{Action}
 use Rattle.mot_journal.specs.declared.record.Action.TheVariants.{Nothing, Set, Remove}
@@ -36,12 +35,14 @@ use Rattle.mot_objects.specs.Stands.{object_of}
 use Rattle.mot_objects.specs.Mime.{is_mime}
 use Rattle.mot_objects.specs.Name.{is_name}
 use Rattle.mot_repository.specs.Gap.{is_beside}
-use Rattle.mot_repository.specs.Laws.{records_of_objects, records_of_catalogue}
+use Rattle.mot_repository.specs.Inner.Laws.{records_of_objects, records_of_catalogue}
 use Rattle.mot_repository.specs.Inner.Following.{StandingsAreSound}
-use Rattle.mot_repository.specs.Whole.{placed_names, IsGood, IsSoundPlaced, IsWhole}
+use Rattle.mot_repository.specs.Inner.Whole.{placed_names, IsGood, IsSoundPlaced, IsWhole}
 use Rattle.mot_repository.proofs.Folding.{is_step, good_step, good_new, fold_keeps, SetHas}
 use Rattle.mot_repository.proofs.Folding.{after_each}
-use Rattle.mot_repository.proofs.Reading.{by_recursion, IsRead, HasShortId, records_read}
+use Rattle.mot_repository.proofs.Reading.{by_recursion, IsRead, records_read}
+use Rattle.mot_journal.proofs.Laws.{longest_most}
+use Rattle.mot_repository.specs.Inner.Fold.{HasShortId}
 
 set-has : (g : Geometry) (layout : Layout) (a : Action) → is_sound_action g layout a ≡ true
     → HasShortId a → SetHas (IsSoundPlaced g layout) a
@@ -85,10 +86,6 @@ whole_fold g layout records c read e =
     })
 
 -- ---- what that says
-
-short-name : (layout : Layout) → longest_name layout ≤ 255
-short-name One = omega arith
-short-name Two = omega arith
 
 name-is : (longest : ℕ) (bytes : List ℕ) → longest ≤ 255 → is_name longest bytes ≡ true
     → IsName bytes
@@ -164,7 +161,7 @@ placed_in g layout p is =
     record {
       id = (ltb-true 0 o.tid h1.0, is.1);
       content = (leb-true o.content.content_type 63 h1.1, leb-true o.content.subtype 511 h2.1);
-      name = name-is (longest_name layout) o.name (short-name layout) h5.1;
+      name = name-is (longest_name layout) o.name (longest_most layout) h5.1;
       mime = mime-is o.mime h6.1;
       some = leb-true 1 o.length size.0;
       short = leb-true o.length 262144 size.1;
@@ -293,7 +290,8 @@ keeps image s bytes stands =
 
 -- ---- what a write and a rewrite ask for
 
-abbrev extents-in : List Placed → List (ℕ × ℕ)
+-- where these objects lie
+abbrev pub extents-in : List Placed → List (ℕ × ℕ)
 extents-in objects = map (λ (p : Placed). (p.start, p.object.length)) objects
 
 -- a free range of the data area lies beside each body

@@ -1,42 +1,7 @@
 -- Where the bodies lie.
-use Rattle.std.specs.Prelude.{◌≡◌, ℕ, List, map, [], ◌∷◌}
-use Rattle.mot_journal.specs.Catalogue.{Placed, Catalogue}
+use Rattle.std.specs.Prelude.{◌≡◌, ℕ, List, map}
 use Rattle.mot_objects.specs.declared.carousel.Carousel.{Carousel}
 use Rattle.mot_objects.specs.declared.object.Object.{Object}
-use Rattle.mot_repository.specs.Repository.{RepositoryView}
-
--- the objects that are kept, each where its extent says
-abbrev pub objects_in : List Object → List (ℕ × ℕ) → List Placed
-objects_in [] extents = []
-objects_in (o ∷ objects) [] = []
-objects_in (o ∷ objects) (e ∷ extents) = record {
-  object = record {
-    name = o.name;
-    content = o.content;
-    mime = o.mime;
-    version = o.version;
-    tid = o.tid;
-    length = e.1;
-  };
-  start = e.0;
-} ∷ objects_in objects extents
-
--- a carousel without its bodies, and their extents, as a catalogue
-abbrev pub catalogue_with : Carousel → List (ℕ × ℕ) → Catalogue
-catalogue_with carousel extents = record {
-  period = carousel.period;
-  directory = carousel.directory;
-  cursor = carousel.cursor;
-  objects = objects_in carousel.objects.items extents;
-}
-
--- the catalogue that is kept in memory
-abbrev pub catalogue_in : RepositoryView → Catalogue
-catalogue_in view = catalogue_with view.carousel view.extents
-
--- the names of the objects that are kept
-abbrev pub names_kept : Carousel → List (List ℕ)
-names_kept carousel = map (λ (o : Object). o.name) carousel.objects.items
 
 -- there is an extent for each object, of the length that it gives
 abbrev pub ArePaired : Carousel → List (ℕ × ℕ) → Type 0

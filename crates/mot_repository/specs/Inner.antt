@@ -1,9 +1,15 @@
 -- What only private contracts and proofs need.
 pub mod Bounds
+pub mod Extents
 pub mod Fold
 pub mod Following
 pub mod InOrder
 pub mod Kept
+pub mod Laws
 pub mod LeastGap
 pub mod Loaded
+pub mod Placing
 pub mod Planned
+pub mod Prepared
+pub mod Ready
+pub mod Whole

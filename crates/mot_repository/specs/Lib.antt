@@ -3,11 +3,7 @@ pub mod Cost
 pub mod Extents
 pub mod Gap
 pub mod Inner
-pub mod Laws
 pub mod OnDisk
 pub mod Opening
 pub mod Outcome
-pub mod Prepared
-pub mod Ready
 pub mod Repository
-pub mod Whole

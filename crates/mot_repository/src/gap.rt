@@ -1,38 +1,23 @@
 //! Where in the data area a new body goes.
-ghost use Rattle.std.specs.Prelude.{◌≡◌, ◌<◌, ◌≤◌, ◌^◌, ℕ, true, IfOk};
+ghost use Rattle.std.specs.Prelude.{◌≡◌, ◌+◌, ◌<◌, ◌≤◌, ◌^◌, ℕ, true};
 ghost use Rattle.mot_repository.specs.Gap.{IsLongestGap, is_free, least_gap};
 
-use std::alloc::{AllocError, Global};
-
 /// The least start in a data area of `data_len` bytes from which `len` bytes lie in the area and
-/// meet no extent (start, length); `None` if no gap holds them. The extents may stand in any order.
-/// It takes no memory.
+/// meet no extent (start, length); `None` if no gap holds them. The extents may stand in any order;
+/// if they stand by their starts, one pass is enough. It takes no memory.
 pub fn first_fit(extents: &[(u32, u32)], len: u32, data_len: u32) -> Option<u32>
     ensures { result ≡ least_gap extents.now len data_len }
 {
     let mut start: u64 = 0;
     while start + u64::from(len) <= u64::from(data_len) {
-        let above = raised(extents, start, len);
-        if above == start {
-            return Some(start as u32);
+        let (above, beyond) = raised(extents, start, len);
+        let end = above + u64::from(len);
+        if end <= beyond && end <= u64::from(data_len) {
+            return Some(above as u32);
         }
         start = above;
     }
     None
-}
-
-/// As `first_fit`, over a sorted copy of the extents, which one pass or two are enough for.
-pub(crate) fn first_fit_sorted(
-    alloc: Global,
-    extents: &[(u32, u32)],
-    len: u32,
-    data_len: u32,
-) -> Result<Option<u32>, AllocError>
-    ensures { IfOk result (λ start. start ≡ least_gap extents.now len data_len) }
-{
-    let mut sorted = Vec::from_slice(alloc, extents)?;
-    sorted.sort_unstable_by_key(|extent| extent.0);
-    Ok(first_fit(&sorted, len, data_len))
 }
 
 /// The most bytes that lie in one piece in a data area of `data_len` bytes and meet no extent. It
@@ -52,23 +37,29 @@ pub fn longest_gap(extents: &[(u32, u32)], data_len: u32) -> u32
     fits as u32
 }
 
-/// The start, raised past each extent that `len` bytes from it on meet, in one pass: no free start
-/// lies below it, and if it stays as it was, it is free.
-fn raised(extents: &[(u32, u32)], start: u64, len: u32) -> u64
+/// The start, raised past each extent that `len` bytes from it on meet, in one pass, and the least
+/// start of those that lay beyond. No free start lies below the first, and it is free if the bytes
+/// from it on end before the second.
+fn raised(extents: &[(u32, u32)], start: u64, len: u32) -> (u64, u64)
     requires low { start < 2 ^ 33 }
-    ensures least { start ≤ result }
-    ensures low { result < 2 ^ 33 }
-    ensures free { result ≡ start → is_free extents.now len start ≡ true }
-    ensures next { (k : ℕ) → start ≤ k → is_free extents.now len k ≡ true → result ≤ k }
+    ensures least { start ≤ result.0 }
+    ensures low { result.0 < 2 ^ 33 }
+    ensures rises { result.0 ≡ start → start + len ≤ result.1 }
+    ensures free { result.0 + len ≤ result.1 → is_free extents.now len result.0 ≡ true }
+    ensures next { (k : ℕ) → start ≤ k → is_free extents.now len k ≡ true → result.0 ≤ k }
 {
     let mut above = start;
-    for (from, size) in extents {
-        let end = u64::from(*from) + u64::from(*size);
-        if above.saturating_add(u64::from(len)) > u64::from(*from) && end > above {
+    let mut beyond = u64::MAX;
+    for (from, length) in extents {
+        let begin = u64::from(*from);
+        let end = begin + u64::from(*length);
+        if above + u64::from(len) <= begin {
+            beyond = beyond.min(begin);
+        } else if end > above {
             above = end;
         }
     }
-    above
+    (above, beyond)
 }
 
 /// Whether `len` bytes from `start` on meet no extent.

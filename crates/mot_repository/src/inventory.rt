@@ -1,5 +1,6 @@
 //! The carousel that is kept in memory, and where its bodies lie.
 ghost use Rattle.mot_repository.specs.Extents.{ArePaired};
+ghost use Rattle.mot_repository.specs.Inner.Extents.{AreReordered};
 
 use mot_objects::Carousel;
 
@@ -9,5 +10,9 @@ pub(crate) struct Inventory {
     pub carousel: Carousel,
     /// For each object, where its body begins, and its length.
     pub extents: Vec<(u32, u32)>,
+    /// The same, by their starts: a search for a gap then takes one pass. (Their order is for speed
+    /// alone.)
+    pub by_start: Vec<(u32, u32)>,
     ghost paired: { ArePaired carousel extents.items },
+    ghost reordered: { AreReordered extents.items by_start.items },
 }

@@ -1,6 +1,7 @@
 //! A carousel kept on a disk: commands that survive a crash.
 #![tactic(auto)]
 
+mod by_start;
 mod commit;
 mod gap;
 mod inventory;

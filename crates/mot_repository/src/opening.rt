@@ -6,7 +6,7 @@ ghost use Rattle.mot_numbers.specs.declared.refusal.Refusal.TheVariants.{DeviceF
 ghost use Rattle.mot_repository.specs.Inner.InOrder.{IsInOrder};
 ghost use Rattle.mot_repository.specs.Inner.Loaded.{IsLoaded};
 ghost use Rattle.mot_repository.specs.Opening.{IsOpened, IsOpeningRefusal};
-ghost use Rattle.mot_repository.specs.Prepared.{view_with};
+ghost use Rattle.mot_repository.specs.Inner.InOrder.{view_with};
 
 mod bounds;
 mod fold;

@@ -1,26 +1,27 @@
 //! A command for which all memory was taken, and nothing was written.
-ghost use Rattle.std.specs.Prelude.{◌≡◌, ◌≤◌, ◌+◌, true, IsTrue, IsFalse, IfOk, IfErr};
+ghost use Rattle.std.specs.Prelude.{◌≡◌, ◌≤◌, ◌+◌, true, false, IsTrue, IsFalse, OnOk, IfOk, IfErr};
 ghost use Rattle.mot_numbers.specs.Geometry as Sizes;
 ghost use Rattle.mot_numbers.specs.Geometry.{is_valid};
 ghost use Rattle.mot_repository.specs.Answers.{IsRefusal};
-ghost use Rattle.mot_repository.specs.Extents.{catalogue_with};
-ghost use Rattle.mot_repository.specs.Whole.{IsWhole};
-ghost use Rattle.mot_repository.specs.Laws.{records_of_catalogue};
+ghost use Rattle.mot_repository.specs.Inner.Extents.{catalogue_with};
+ghost use Rattle.mot_repository.specs.Inner.Whole.{IsWhole};
+ghost use Rattle.mot_repository.specs.Inner.Laws.{records_of_catalogue};
 ghost use Rattle.mot_repository.specs.Outcome.{body_of, has_long_name};
-ghost use Rattle.mot_repository.specs.Prepared.{IsFull};
-ghost use Rattle.mot_repository.specs.Ready.{IsPrepared};
+ghost use Rattle.mot_repository.specs.Inner.Prepared.{IsFull};
+ghost use Rattle.mot_repository.specs.Inner.Ready.{IsPrepared};
 ghost use Rattle.mot_repository.specs.Inner.Kept.{KeepsInventory};
 ghost use Rattle.mot_repository.specs.Repository.{RepositoryView};
 
 mod placing;
 
+use crate::by_start::by_start_after;
 use crate::inventory::Inventory;
 use crate::records::{record_of_change, records_of};
 use mot_carousel::plan;
 use mot_journal::{Layout, Record, area_start};
 use mot_numbers::{Geometry, Refusal};
 use mot_objects::{Carousel, Command, Done};
-use placing::{body_start, extents_after};
+use placing::{body_start, extents_after, place_in};
 use std::alloc::{AllocError, Global};
 
 /// A change that was worked out, with all memory that doing it takes. Its body stays the command's.
@@ -68,6 +69,7 @@ pub(crate) fn prepare_change<'a>(
         → KeepsInventory geometry.now layout inventory.now view
         → (IsFull view.journal → IsTrue is_full)
         → IfOk result (λ p. IsPrepared view command.now p) }
+    ensures short { OnOk result (has_long_name layout command.now ≡ false) }
     ensures refused { (view : RepositoryView)
         → KeepsInventory geometry.now layout inventory.now view → IsFalse view.halted
         → IfErr result (λ refusal. IsRefusal view command.now refusal) }
@@ -76,17 +78,20 @@ pub(crate) fn prepare_change<'a>(
         return Err(Refusal::BadName);
     }
     let change = plan(alloc, &inventory.carousel, geometry.objects, command)?;
-    let start = body_start(alloc, &inventory.extents, command, geometry.data_area)?;
+    let start = body_start(&inventory.by_start, command, geometry.data_area);
     let Some(start) = start else {
         return Err(Refusal::NoRoom);
     };
     let given = records_to_give(alloc, is_full, inventory)?;
     let record = record_of_change(&inventory.carousel, &change.next, command, start)?;
-    let extents = extents_after(alloc, inventory, command, start)?;
+    let place = place_in(inventory, command);
+    let extents = extents_after(alloc, inventory, place, command, start)?;
+    let by_start = by_start_after(alloc, inventory, place, command, start)?;
     Ok(Prepared {
         inventory: Inventory {
             carousel: change.next,
             extents,
+            by_start,
         },
         done: change.done,
         at: place_in_area(geometry, start),

@@ -1,10 +1,10 @@
 //! The records of an inventory, and of a change.
 ghost use Rattle.std.specs.Prelude.{◌≡◌, IfOk};
 ghost use Rattle.mot_journal.specs.declared.record.Action.TheVariants.{Set};
-ghost use Rattle.mot_repository.specs.Extents.{catalogue_with};
+ghost use Rattle.mot_repository.specs.Inner.Extents.{catalogue_with};
 ghost use Rattle.mot_repository.specs.Inner.Planned.{IsTyped};
-ghost use Rattle.mot_repository.specs.Laws.{records_of_catalogue};
-ghost use Rattle.mot_repository.specs.Prepared.{kept_action, kept_record};
+ghost use Rattle.mot_repository.specs.Inner.Laws.{records_of_catalogue};
+ghost use Rattle.mot_repository.specs.Inner.Prepared.{kept_action, kept_record};
 
 use crate::inventory::Inventory;
 use mot_journal::{Action, Record};

@@ -28,12 +28,17 @@ pub struct Repository<D: Disk> {
 impl<D: Disk> Model for Repository<D> {
     ghost use Rattle.mot_repository.specs.Inner.InOrder.{IsInOrder};
     ghost use Rattle.mot_repository.specs.OnDisk.{OnDisk};
-    ghost use Rattle.mot_repository.specs.Prepared.{view_with};
+    ghost use Rattle.mot_repository.specs.Inner.InOrder.{view_with};
 
     ghost Value = { OnDisk D };
 
     ghost view = { λ r. record {
-      view = view_with r.journal r.inventory.carousel r.inventory.extents.items r.halted;
+      view = record {
+        journal = r.journal;
+        carousel = r.inventory.carousel;
+        extents = r.inventory.extents.items;
+        halted = r.halted;
+      };
       disk = r.disk;
     } };
 
@@ -62,9 +67,9 @@ impl<D: Disk> Repository<D> {
     ghost use Rattle.mot_repository.specs.Gap.{IsLongestGap};
     ghost use Rattle.mot_repository.specs.Inner.InOrder.{IsInOrder};
     ghost use Rattle.mot_repository.specs.OnDisk.{OnDisk, extent_at, body_on, IsCheckRefusal};
-    ghost use Rattle.mot_repository.specs.Outcome.{after_command};
-    ghost use Rattle.mot_repository.specs.Prepared.{view_with};
-    ghost use Rattle.mot_repository.specs.Ready.{IsPrepared};
+    ghost use Rattle.mot_repository.specs.Outcome.{after_command, has_long_name};
+    ghost use Rattle.mot_repository.specs.Inner.InOrder.{view_with};
+    ghost use Rattle.mot_repository.specs.Inner.Ready.{IsPrepared};
     ghost use Rattle.mot_repository.specs.Repository.{object_body, IsOf, Holds, IsBeforeOrAfter};
 
     /// An open repository of these parts, not halted.
@@ -213,6 +218,8 @@ impl<D: Disk> Repository<D> {
     /// gap holds the body, `OutOfMemory`, and on layout 1 `BadName` for a name above 100 bytes.
     pub fn prepare<'a>(&self, alloc: Global, command: &'a Command) -> Result<Prepared<'a>, Refusal>
         ensures prepared { IfOk result (λ p. IsPrepared self.now.view command.now p) }
+        ensures short { OnOk result
+            (has_long_name self.now.view.journal.layout command.now ≡ false) }
         ensures going { OnOk result (IsFalse self.now.view.halted) }
         ensures refused { IfErr result
             (λ refusal. IsRefusal self.now.view command.now refusal) }

@@ -49,6 +49,22 @@ refused_at view s state command refusal holds (by_rules going rules) goes_on = r
 refused_at view s state command refusal holds (no_memory going short e) goes_on =
     absurd (subst Yes (sym (ap is_run_ending e) ∙ goes_on) tt)
 
+-- a server whose answer ends no run is not halted
+pub going_at : (view view' : RepositoryView) (start now : State) (command : Command)
+    (refusal : Refusal) → is_run_ending refusal ≡ false
+    → IsAnswered view view' start now command (Err refusal) → IsFalse view.halted
+going_at view view' start now command refusal goes (accepted done e changed) =
+    absurd (not_ok done refusal e)
+going_at view view' start now command refusal goes (failed e going rises halts) = going
+going_at view view' start now command refusal goes (refused r e (halted is was) same still) =
+    let same_refusal : refusal ≡ r = cc in
+    absurd (subst Yes (sym (ap is_run_ending (same_refusal ∙ was)) ∙ goes) tt)
+going_at view view' start now command refusal goes (refused r e (by_rules going rules) same still) =
+    going
+going_at view view' start now command refusal goes
+    (refused r e (no_memory going short was) same still) =
+    going
+
 -- what ended a run
 pub run_fault : (first view view' : RepositoryView) (start mid now : State) (command : Command)
     (refusal : Refusal)

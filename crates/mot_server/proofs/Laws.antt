@@ -18,8 +18,8 @@ pub use Rattle.mot_server.proofs.Openings.{opened_holds}
 pub use Rattle.mot_server.proofs.Runs.{still_agrees}
 -- a geometry that is valid
 pub use Rattle.mot_numbers.proofs.Laws.{valid_is}
--- a halted server refuses, and nothing changes
-pub use Rattle.mot_server.proofs.Answered.{not_halted}
+-- a halted server refuses, and nothing changes; and a refusal is not Ok
+pub use Rattle.mot_server.proofs.Answered.{not_halted, not_ok}
 -- runs one after the other, and calls that only read
 pub use Rattle.mot_server.proofs.Joins.{runs_join, reads_leave, reads_leave_of, accepted-join}
 -- where a player stands behind accepted commands, in parts, and where it does not follow
@@ -28,3 +28,7 @@ pub use Rattle.mot_server.proofs.Places.{after-both, behind_both, begins_anew}
 pub use Rattle.mot_server.proofs.OneChange.{followable}
 -- the packets of a turn, up to the one that ends it
 pub use Rattle.mot_server.proofs.Going.{IsGoing-none, IsGoing-more, HasPlayedTurn-ended}
+-- a disk that is synced at most, and then read at most
+pub use Rattle.mot_server.proofs.Openings.{syncs_read}
+-- a call in which the disk has not failed
+pub use Rattle.mot_server.proofs.Read.{no_failure}

@@ -1,6 +1,6 @@
 //! Commands in a row, up to the first that can't be answered.
-ghost use Rattle.std.specs.Prelude.{◌≡◌, ◌<◌, [], ◌∷◌, length, vec_len, Some};
-ghost use Rattle.std.specs.Prelude.{IfErr, IsTrue, MatchResult, OnOk};
+ghost use Rattle.std.specs.Prelude.{◌≡◌, ◌⊎◌, ◌<◌, false, [], ◌∷◌, length, vec_len, Ok, Some};
+ghost use Rattle.std.specs.Prelude.{IfErr, IfOk, IsFalse, IsTrue, MatchResult, OnErr, OnOk};
 ghost use Rattle.mot_numbers.specs.Refusal.{IsCalm};
 ghost use Rattle.mot_numbers.specs.declared.refusal.Refusal.TheVariants.{DeviceFault, Halted};
 ghost use Rattle.mot_server.specs.RunEnds.{is_run_ending};
@@ -30,9 +30,12 @@ pub enum Attempt {
 }
 
 impl<D: Disk> Server<D> {
-    ghost use Rattle.disk_model.specs.Disk.{Keeps};
+    ghost use Rattle.disk_model.specs.Disk.{Costs, Keeps};
     ghost use Rattle.mot_journal.specs.Image.{Standing};
-    ghost use Rattle.mot_repository.specs.Repository.{Holds};
+    ghost use Rattle.mot_player.specs.Place.{change_turn};
+    ghost use Rattle.mot_player.specs.Turn.{turn_of_carousel};
+    ghost use Rattle.mot_repository.specs.Cost.{calls_of_command};
+    ghost use Rattle.mot_repository.specs.Repository.{Agrees, Holds};
     ghost use Rattle.mot_repository.specs.Answers.{IsAnswered};
     ghost use Rattle.mot_server.specs.Attempts.{answer_of, fault_of, marks_of};
     ghost use Rattle.mot_server.specs.Run.{IsRun};
@@ -100,7 +103,17 @@ impl<D: Disk> Server<D> {
         ensures fault { IfErr result (λ refusal. IsRunFault self.old.view self.new.view
             (D.state self.old.disk) (D.state self.new.disk) refusal) }
 
+        // What ends a run is the error, and never an answer; so a halted server has no answer.
+        ensures goes_on { IfOk result (λ answer. IfErr (answer_of (Ok answer))
+            (λ refusal. is_run_ending refusal ≡ false)) }
+        ensures going { OnOk result (IsFalse self.old.view.halted) }
+
         ensures halted { OnOk result (self.new.view.halted ≡ self.old.view.halted) }
+        ensures untouched { IfErr (answer_of result)
+            (λ refusal. (refusal ≡ DeviceFault) ⊎ (self.new ≡ self.old)) }
+        ensures stays { OnErr (answer_of result) (self.new.player ≡ self.old.player) }
+        ensures cost { Costs (calls_of_command self.old.view.journal command.now)
+            (D.state self.old.disk) (D.state self.new.disk) (answer_of result) }
 
         // A disk fault is answered exactly if the disk has failed.
         ensures calm { MatchResult result
@@ -119,6 +132,11 @@ impl<D: Disk> Server<D> {
             → place_in self.new last
             ≡ place_behind s (accepted_commands (command.now ∷ []) (marks_of result))
             (place_in self.old s) }
+        ensures anew { (s next : Standing) → self.old.player.follows ≡ false
+            → Agrees self.old.view s → Agrees self.new.view next → OnOk (answer_of result)
+            (place_in self.new next
+            ≡ change_turn (turn_of_carousel next.carousel next.geometry.segment_size)
+            (place_in self.old s)) }
     {
         match self.execute(alloc, command) {
             Ok(done) => Ok(Attempt::Accepted(done)),

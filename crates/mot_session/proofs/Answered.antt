@@ -27,7 +27,7 @@ use Rattle.mot_repository.specs.Repository.{RepositoryView, Agrees, Holds, IsBef
 use Rattle.mot_server.specs.Runs.{StandsAfterSome}
 use Rattle.mot_server.specs.Server.{ServerView, place_in, bodies_of}
 use Rattle.mot_server.proofs.Laws.{after_none, before_or_after, holds_still, more}
-use Rattle.mot_server.proofs.Laws.{none_of, not_halted, still_agrees}
+use Rattle.mot_server.proofs.Laws.{none_of, not_halted, not_ok, still_agrees}
 use Rattle.mot_session.specs.Raw.{raw_group, packets_at}
 use Rattle.mot_session.specs.Inner.Decision.{Decides, MayWrite, may_be_done, written_by}
 use Rattle.mot_session.specs.Session as session
@@ -39,16 +39,14 @@ use Rattle.mot_session.specs.declared.deciding.Decision.TheVariants.{Packets, Ne
 use Rattle.mot_session.specs.State.{ServerState, StandsFor, Stays, state_of}
 use Rattle.mot_session.specs.Stored.{command_in}
 use Rattle.mot_session.specs.Inner.Writes.{Crosses, ReadsAlone, may_have_done}
-use Rattle.mot_session.proofs.Anyhow.{not_ok, plays-parsed, same_done, same_refusal}
+use Rattle.mot_session.proofs.Anyhow.{plays-parsed, same_done, same_refusal}
 use Rattle.mot_session.proofs.Outcomes.{done_by, failed_by_reply}
 use Rattle.mot_session.proofs.Written.{stays-none}
 
 -- ---- a command
 
 module _ {D : Type 0} (old new : ServerView D) (s : Standing) (start now : State) (c : Command)
-    (stands : StandsFor old.view s start) (later : start.failures ≤ now.failures)
-    (any_moment : Holds old.view s start
-    → Throughout start now (IsBeforeOrAfter old.view.journal.layout s c)) where
+    (stands : StandsFor old.view s start) (later : start.failures ≤ now.failures) where
   -- it was accepted
   change_of : (done : Done) → IsAnswered old.view new.view start now c (Ok done)
       → IsChanged old.view c done new.view
@@ -76,19 +74,19 @@ module _ {D : Type 0} (old new : ServerView D) (s : Standing) (start now : State
           place = place;
           halted = change.halted;
           layout = change.layout;
-          later = record { moment = (any_moment (stands.holds going)).later; failures = later };
+          failures = later;
         })),
       )
 
   -- it was refused, and nothing changed
-  stays-refused : start.moment ≤ now.moment → new.view ≡ old.view → new.player ≡ old.player
+  stays-refused : new.view ≡ old.view → new.player ≡ old.player
       → Stays (state_of old s start) (state_of new s now)
-  stays-refused time same player_same = record {
+  stays-refused same player_same = record {
     standing = refl;
     place = ap (λ (p : player.PlayerView). player.place_of p (bodies_of s.carousel)) player_same;
     halted = ap (λ (v : RepositoryView). v.halted) same;
     layout = ap (λ (v : RepositoryView). v.journal.layout) same;
-    later = record { moment = time; failures = later };
+    failures = later;
   }
 
   why-refused : (r : Refusal) → IsRefusal old.view c r
@@ -118,7 +116,7 @@ module _ {D : Type 0} (old new : ServerView D) (s : Standing) (start now : State
           still same;
     },
     why-refused r (subst (λ y. IsRefusal old.view c y) (same_refusal r x e) why)
-        (stays-refused still.time.later same still_player),
+        (stays-refused same still_player),
   )
   Answers-refused_command r (failed e going rises halts) still_player honest = (
     s,
@@ -133,7 +131,7 @@ module _ {D : Type 0} (old new : ServerView D) (s : Standing) (start now : State
               ap (λ (p : player.PlayerView). player.place_of p (bodies_of s.carousel)) still_player;
           halted = halts.halted;
           layout = halts.layout;
-          later = record { moment = (any_moment (stands.holds going)).later; failures = later };
+          failures = later;
         })),
   )
 

@@ -19,6 +19,7 @@ use Rattle.mot_objects.specs.declared.command.Command.{Command}
 use Rattle.mot_objects.specs.declared.command.Done.{Done}
 use Rattle.mot_repository.specs.Answers.{IsAnswered, accepted, refused, failed}
 use Rattle.mot_repository.specs.Repository.{RepositoryView}
+use Rattle.mot_server.proofs.Laws.{not_ok}
 use Rattle.mot_session.specs.declared.deciding.Decision.{Decision}
 use Rattle.mot_session.specs.declared.deciding.Decision.TheVariants.{Refused, Accepted, Listing}
 use Rattle.mot_session.specs.declared.deciding.Decision.TheVariants.{Packets, Next, Turn}
@@ -33,13 +34,6 @@ use Rattle.mot_session.specs.Session.{NeedsCarousel}
 use Rattle.mot_session.proofs.Fronts.{WritesFront-after, WritesFront-all}
 
 -- ---- commands
-
-abbrev IsFailure : Result Done Refusal → Type 0
-IsFailure (Ok done) = ⊥
-IsFailure (Err refusal) = Unit {0}
-
-pub not_ok : (done : Done) (refusal : Refusal) → Err refusal ≡ Ok done → ⊥
-not_ok done refusal e = subst IsFailure e tt
 
 abbrev pub failure : Refusal → Result Done Refusal
 failure refusal = Err refusal

@@ -24,7 +24,7 @@ use Rattle.mot_player.specs.Turn.{Turn, turn_of_carousel}
 use Rattle.mot_player.proofs.Laws.{steps-are-continuous, steps-go_on}
 use Rattle.std.specs.Prelude.{length, replicate}
 use Rattle.mot_session.specs.Laws.{SessionsAreContinuous}
-use Rattle.mot_session.specs.Played.{Plays}
+use Rattle.mot_session.specs.Packets.{PlaysForRequest}
 use Rattle.mot_session.specs.Served.{Begins, whole, begun}
 use Rattle.mot_session.specs.Session.{Exchange, Reply, refused, listing, played, IsCommandAnswer}
 use Rattle.mot_session.specs.Session.{accepts}
@@ -90,7 +90,7 @@ stays before after reply empty none e same = rw (e, none, same) (Leads-none befo
 
 plays : (before after : ServerState) (request : Result Line Refusal) (reply : Reply)
     (sents : List Sent) (some failed : Bool) → reply ≡ played sents failed
-    → Plays before request some sents after
+    → PlaysForRequest before request some sents after
     → Leads before.place after.place (packets_in reply)
 plays before after request reply sents some failed e p = rw e (record {
   steps = replicate (length sents) Request;

@@ -1,5 +1,5 @@
 -- What a crash leaves of a session, line by line.
-use Rattle.std.proofs.Common.{ℕ, ◌⊎◌, inl, inr, Bool, true, false, List, [], ◌∷◌}
+use Rattle.std.proofs.Common.{ℕ, ◌≤◌, ◌⊎◌, inl, inr, Bool, true, false, List, [], ◌∷◌}
 use Rattle.std.proofs.Common.{refl, sym, subst, arith}
 use Rattle.std.specs.Prelude.{IsTrue, IsFalse}
 use Rattle.mot_journal.specs.Image.{Standing}
@@ -9,9 +9,9 @@ use Rattle.mot_server.specs.Runs.{IsAfter, StandsAfterSome}
 use Rattle.mot_server.proofs.Laws.{after_none, after_one}
 use Rattle.mot_server.proofs.Laws.{after_history_none}
 use Rattle.mot_session.specs.Session.{Exchange, Session}
-use Rattle.mot_session.specs.State.{ServerState, IsLater}
+use Rattle.mot_session.specs.State.{ServerState}
 use Rattle.mot_session.specs.Inner.Writes.{accepted_in, failed_in}
-use Rattle.mot_session.proofs.Outcomes.{Outcome, nothing, one, halts, later-answers}
+use Rattle.mot_session.proofs.Outcomes.{Outcome, answer-failures, halts, nothing, one}
 
 -- ---- a session, from its lines
 
@@ -39,18 +39,16 @@ behind s now done others image after left = record {
   image_is = left.image_is;
 }
 
--- a server is later behind a session than before it
-pub session-later : (before : ServerState) (xs : List Exchange) (after : ServerState)
-    → Session before xs after → IsLater before after
+-- behind a session the disk has failed as often as before it, or more often
+pub session-failures : (before : ServerState) (xs : List Exchange) (after : ServerState)
+    → Session before xs after → before.failures ≤ after.failures
 unfolding Session
-session-later before [] after s =
-    subst (λ a. IsLater before a) (sym s) (record { moment = omega arith; failures = omega arith })
-session-later before (x ∷ xs) after s =
-    let first = later-answers before x.after (line_of x.line) x.reply s.0 in
-    let rest = session-later x.after xs after s.1 in record {
-      moment = omega (arith, first.moment, rest.moment);
-      failures = omega (arith, first.failures, rest.failures);
-    }
+session-failures before [] after s =
+    subst (λ (a : ServerState). before.failures ≤ a.failures) (sym s) (omega arith)
+session-failures before (x ∷ xs) after s =
+    let first = answer-failures before x.after (line_of x.line) x.reply s.0 in
+    let rest = session-failures x.after xs after s.1 in
+    omega (arith, first, rest)
 
 -- a server is halted, or it is not
 pub halted_or_not : (b : Bool) → IsTrue b ⊎ IsFalse b

@@ -18,8 +18,8 @@ use Rattle.mot_session.specs.Session.{Reply, refused, listing, played, accepted}
 use Rattle.mot_session.specs.Session.{IsCommandAnswer, accepts, refuses, fails}
 use Rattle.mot_session.specs.Session.{IsAnswer, Answers, decided, halted, no_memory, Session}
 use Rattle.mot_session.specs.State.{ServerState}
-use Rattle.mot_session.proofs.Crashes.{session-later}
-use Rattle.mot_session.proofs.Outcomes.{later-answers, refused-fine}
+use Rattle.mot_session.proofs.Crashes.{session-failures}
+use Rattle.mot_session.proofs.Outcomes.{answer-failures, refused-fine}
 
 -- the reply has no device fault, or the failures rose
 abbrev Counted : ServerState → Reply → ServerState → Type 0
@@ -87,8 +87,8 @@ unfolding Session
 faults-are_the_disks before [] after s =
     inl (subst (λ (a : ServerState). 0 + before.failures ≤ a.failures) (sym s) (omega arith))
 faults-are_the_disks before (x ∷ exchanges) after s =
-    let one = later-answers before x.after (line_of x.line) x.reply s.0 in
-    let rest = session-later x.after exchanges after s.1 in
+    let one = answer-failures before x.after (line_of x.line) x.reply s.0 in
+    let rest = session-failures x.after exchanges after s.1 in
     adds (has_fault x.reply) before.failures x.after.failures after.failures
-    (faults_in exchanges) one.failures (counted before x.after x.line x.reply s.0)
-    (faults-are_the_disks x.after exchanges after s.1) rest.failures
+    (faults_in exchanges) one (counted before x.after x.line x.reply s.0)
+    (faults-are_the_disks x.after exchanges after s.1) rest

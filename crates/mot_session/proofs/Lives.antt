@@ -34,7 +34,7 @@ use Rattle.mot_server.proofs.Laws.{more, none_of, not_halted, plays_after, plays
 use Rattle.mot_server.specs.Lives.{HasDone, LivesOn}
 use Rattle.mot_session.specs.Inner.Kept.{IsKeptFrom}
 use Rattle.mot_session.specs.Life.{Told, commands_done, done_in}
-use Rattle.mot_session.specs.Life.{AreRight, fails_in, Tells, is_done}
+use Rattle.mot_session.specs.Life.{AreRightReplies, fails_in, Tells, is_done}
 use Rattle.mot_session.specs.Replies.{IsReply}
 use Rattle.mot_objects.specs.Rules.{AllKeepRules}
 use Rattle.mot_repository.proofs.Laws.{rules_kept}
@@ -45,6 +45,7 @@ use Rattle.mot_session.specs.State.{ServerState, StandsFor, state_of}
 use Rattle.mot_session.specs.Stored.{command_in}
 use Rattle.mot_session.specs.Kept.{HoldsSince, IsToldAndStored}
 use Rattle.mot_session.proofs.Crashes.{halted_or_not}
+use Rattle.mot_session.proofs.Ends.{memory_not_read, read_not_write}
 use Rattle.mot_session.proofs.Outcomes.{Outcome, nothing, one, halts}
 use Rattle.mot_session.proofs.Ruled.{HasImage, carousel_at, layout_stays, line-short, right_more}
 use Rattle.mot_session.proofs.Ruled.{right_reply}
@@ -475,7 +476,7 @@ module _ {D : Type 0} (state : D → State)
       × (front : List ℕ) × Begun front
       × (IsTrue (is_done front) → IsFalse old.view.halted × (flight ≡ next))
       × (old.view.journal.layout ≡ Two
-      → AreRight s.geometry (carousel_at (state_of old standing (state old.disk))) told)
+      → AreRightReplies s.geometry (carousel_at (state_of old standing (state old.disk))) told)
       × FailsSo (state old.disk).failures last.failures told
 
   -- what a server that stands for this keeps has objects by the rules
@@ -724,15 +725,17 @@ module _ (g : Geometry) (input : List ℕ) (left : Option (List ℕ)) (count : �
   -- all that was served was answered, up to the end of the input or a fault that is none of replies
   pub tells_all : (lines unanswered : List (List ℕ)) → lines_of input ≡ lines ++ unanswered
       → lines_told told ≡ lines → count ≡ length lines
-      → (fault ≡ None → (unanswered ≡ []) × IsAtEnd left) → Keeps between new
+      → (fault ≡ None → (unanswered ≡ []) × IsAtEnd left)
+      → (fault ≡ Some ReadFault → unanswered ≡ unless_empty (rest_of input)) → Keeps between new
       → (flight ≡ commands_failing told) ⊎ ((commands_failing told ≡ []) × (flight ≡ []))
       → Tells g input left count fault told flight old new
-  tells_all lines unanswered split same counted whole keeps which = record {
+  tells_all lines unanswered split same counted whole unread keeps which = record {
     unanswered = unanswered;
     lines = split ∙ ap (λ l. l ++ unanswered) (sym same);
     counted = as_many lines told count same counted;
     replies = replies;
     whole = whole;
+    unread = unread;
     front = [];
     written = subst (λ l. Appends old new l) (sym (append-nil (texts_told told)))
         (Appends-kept old between new (texts_told told) written keeps);
@@ -755,6 +758,7 @@ module _ (g : Geometry) (input : List ℕ) (left : Option (List ℕ)) (count : �
     counted = as_many first told count same counted;
     replies = replies;
     whole = λ none. absurd (not_none WriteFault fault is none);
+    unread = λ read. absurd (read_not_write (sym read ∙ is));
     front = front;
     written = Appends-trans old between new (texts_told told) front written broken;
     few = few;
@@ -810,17 +814,19 @@ module _ {D : Type 0} (state : D → State)
       × Tells s.geometry input left count fault told flight old now
       × Kept s (state new.disk) (state opened.disk) opened.view.halted done [] next told flight
       × (opened.view.journal.layout ≡ Two
-      → AreRight s.geometry (carousel_at (state_of opened standing (state opened.disk))) told)
+      → AreRightReplies s.geometry (carousel_at (state_of opened standing (state opened.disk)))
+      told)
       × ((commands_failing told ≡ [])
       ⊎ Rises (state opened.disk).failures (state new.disk).failures)
 
   all_served : (input : List ℕ) → TakesInput reads unread left input
       → (lines unanswered : List (List ℕ)) → lines_of input ≡ lines ++ unanswered
       → count ≡ length lines → (fault ≡ None → (unanswered ≡ []) × IsAtEnd left)
+      → (fault ≡ Some ReadFault → unanswered ≡ unless_empty (rest_of input))
       → (between : Option (List ℕ)) → Keeps between now
       → KeptFrom state sound s (state new.disk) [] (λ front. front ≡ []) opened lines old between
       → ServedSo
-  all_served input takes lines unanswered split counted whole between keeps kept =
+  all_served input takes lines unanswered split counted whole cut between keeps kept =
       let k = kept standing done [] stands after at in (
         input,
         takes,
@@ -829,7 +835,7 @@ module _ {D : Type 0} (state : D → State)
         [],
         tells_all s.geometry input left count fault k.0 k.1 old between now k.3 k.4.few k.5 lines
             unanswered split k.2
-            counted whole keeps k.4.which,
+            counted whole cut keeps k.4.which,
         k.4,
         k.9,
         k.10.cause,
@@ -838,24 +844,26 @@ module _ {D : Type 0} (state : D → State)
   each_served : (input : List ℕ) → TakesInput reads unread left input
       → (lines unanswered : List (List ℕ)) → lines_of input ≡ lines ++ unanswered
       → count ≡ length lines → (fault ≡ None → (unanswered ≡ []) × IsAtEnd left)
+      → (fault ≡ Some ReadFault → unanswered ≡ unless_empty (rest_of input))
       → ServesEach state opened lines new old now → ServedSo
-  each_served input takes lines unanswered split counted whole each =
-      all_served input takes lines unanswered split counted whole now (Keeps-refl now)
+  each_served input takes lines unanswered split counted whole cut each =
+      all_served input takes lines unanswered split counted whole cut now (Keeps-refl now)
       (kept_each state sound s (state new.disk) [] (λ front. front ≡ []) opened new lines old now
       each honest
       (kept_here state sound s new now honest))
 
   -- nothing was read
-  none_served : new ≡ opened → count ≡ 0 → (fault ≡ None → ⊥) → Keeps unread left → Keeps old now
-      → ServedSo
-  none_served same none faulty kept keeps =
+  none_served : new ≡ opened → count ≡ 0 → (fault ≡ None → ⊥) → (fault ≡ Some ReadFault → ⊥)
+      → Keeps unread left → Keeps old now → ServedSo
+  none_served same none faulty calm kept keeps =
       all_served []
       (record {
         consumed = Consumes-kept unread unread left [] (Consumes-nil unread) kept;
         bounded =
             omega arith;
       })
-      [] (lines_of []) refl none (λ fine. absurd (faulty fine)) old keeps
+      [] (lines_of []) refl none (λ fine. absurd (faulty fine)) (λ read. absurd (calm read)) old
+      keeps
       (subst (λ (v : ServerView D).
       KeptFrom state sound s (state new.disk) [] (λ front. front ≡ []) v [] old old) same
       (kept_here state sound s new old honest))
@@ -901,14 +909,15 @@ module _ {D : Type 0} (state : D → State)
   served_so ends ended unended unwritten none = ⊎_elim {C = ServedSo}
       (λ is. let e = ended is in
       each_served e.0 e.1 (lines_of e.0) [] (sym (append-nil (lines_of e.0))) e.3
-      (λ fine. (refl, e.2)) e.4)
+      (λ fine. (refl, e.2)) (λ read. absurd (not_none ReadFault fault read is)) e.4)
       (⊎_elim {C = ServedSo}
       (λ is. let e = none is in
-      none_served e.1 e.0 (not_none OutOfMemory fault is) e.2 e.3)
+      none_served e.1 e.0 (not_none OutOfMemory fault is) (λ read. memory_not_read (sym is ∙ read))
+      e.2 e.3)
       (⊎_elim {C = ServedSo}
       (λ is. let e = unended is in
       each_served e.0 e.1 (whole_lines e.0) (unless_empty (rest_of e.0)) (lines_split e.0) e.2
-      (λ fine. absurd (not_none ReadFault fault is fine)) e.3)
+      (λ fine. absurd (not_none ReadFault fault is fine)) (λ read. refl) e.3)
       (λ is. let e = unwritten is in
       ⊎_elim {C = ServedSo}
       (λ some. some_served e.0 e.1 (whole_lines e.0) (unless_empty (rest_of e.0)) (lines_split e.0)

@@ -14,7 +14,7 @@ use Rattle.mot_server.specs.Life.{carousel_from}
 use Rattle.mot_server.specs.Lives.{HasDone}
 use Rattle.mot_server.specs.Runs.{StandsAfterSome}
 use Rattle.mot_server.specs.Server.{ServerView}
-use Rattle.mot_session.specs.Life.{AreRight, Told, TellsLine, done_in, fails_in, is_done}
+use Rattle.mot_session.specs.Life.{AreRightReplies, Told, TellsLine, done_in, fails_in, is_done}
 use Rattle.mot_session.specs.LineByLine.{BreaksOff, ServesOne}
 use Rattle.mot_session.specs.Session.{text_of}
 use Rattle.mot_session.specs.State.{StandsFor, state_of}
@@ -91,7 +91,7 @@ module _ {D : Type 0} (state : D → State)
           replied g before behind (line_of line) served.reply has.after.geometry
               (rules_of state sound (standing_from g first) old has.standing was_honest stands)
               served.answers,
-          λ two. subst (λ o. AreRight g o (t ∷ []))
+          λ two. subst (λ o. AreRightReplies g o (t ∷ []))
               (kept_by g first done has.standing old.view.halted has.after)
               (right_more before behind two g has.after.geometry line (text_of served.reply) []
               (carousel_at before) (carousel_at behind)

@@ -1,5 +1,5 @@
 -- What one line makes of the carousel.
-use Rattle.std.proofs.Common.{◌≡◌, Bool, true, false, List, [], ◌∷◌, Result, Ok, Err, refl, ap}
+use Rattle.std.proofs.Common.{◌≡◌, ◌≤◌, Bool, true, false, List, [], ◌∷◌, Result, Ok, Err, refl, ap}
 use Rattle.std.proofs.Common.{◌∙◌, subst, sym}
 use Rattle.std.specs.Prelude.{IsTrue, IsFalse, if◌then◌else◌}
 use Rattle.disk_model.specs.Failures.{Rises}
@@ -18,12 +18,12 @@ use Rattle.mot_repository.proofs.Laws.{refused_so}
 use Rattle.mot_session.specs.Session.{Reply, refused, listing, packets, played}
 use Rattle.mot_session.specs.Session.{IsCommandAnswer, accepts, refuses, fails}
 use Rattle.mot_session.specs.Session.{IsAnswer}
-use Rattle.mot_session.specs.Played.{Plays}
+use Rattle.mot_session.specs.Packets.{PlaysForRequest}
 use Rattle.mot_session.specs.Served.{Begins, whole, begun}
 use Rattle.mot_player.specs.Place.{Sent}
 use Rattle.mot_session.specs.Session.{Answers, decided, halted, no_memory}
 use Rattle.mot_session.specs.Session as session
-use Rattle.mot_session.specs.State.{ServerState, IsLater}
+use Rattle.mot_session.specs.State.{ServerState}
 use Rattle.mot_session.specs.Stored.{command_in}
 use Rattle.mot_session.specs.Inner.Writes.{is_accepting, is_failing}
 
@@ -94,7 +94,7 @@ commanded before after c reply going (fails e rises h) = halts
 
 plays : (before after : ServerState) (request : Result Line Refusal) (reply : Reply)
     (sents : List Sent) (some failed : Bool) → reply ≡ played sents failed
-    → Plays before request some sents after
+    → PlaysForRequest before request some sents after
     → Outcome before after (done_by reply request) (failed_by_reply reply request)
 plays before after request reply sents some failed e p = unchanged_so before after request reply
     (played sents failed) e refl refl p.keeps.standing p.keeps.halted
@@ -137,34 +137,28 @@ begun_outcome before after request reply (whole a) = outcome before after reques
 begun_outcome before after request reply (begun sents going e p) =
     plays before after request reply sents true false e p
 
--- time goes on
+-- ---- failures
 
 module _ (before after : ServerState) where
-  later-commanded : (c : command.Command) (reply : Reply) → IsCommandAnswer before c reply after
-      → IsLater before after
-  later-commanded c reply (accepts d next e outcome a) = a.later
-  later-commanded c reply (refuses refusal e why stays) = stays.later
-  later-commanded c reply (fails e rises h) = h.later
+  command-failures : (c : command.Command) (reply : Reply) → IsCommandAnswer before c reply after
+      → before.failures ≤ after.failures
+  command-failures c reply (accepts d next e outcome a) = a.failures
+  command-failures c reply (refuses refusal e why stays) = stays.failures
+  command-failures c reply (fails e rises h) = h.failures
 
-  later-answered : (request : Result Line Refusal) (reply : Reply)
-      → IsAnswer before request reply after → IsLater before after
+  decided-failures : (request : Result Line Refusal) (reply : Reply)
+      → IsAnswer before request reply after → before.failures ≤ after.failures
   unfolding IsAnswer
-  later-answered (Err r) reply a = a.1.later
-  later-answered (Ok (asks.Command c)) reply a = later-commanded c reply a
-  later-answered (Ok asks.List) reply a = a.1.later
-  later-answered (Ok (asks.Raw kind tid body)) reply a = a.1.later
-  later-answered (Ok (asks.Next count)) reply a = a.3.keeps.later
-  later-answered (Ok asks.Turn) reply a = a.3.keeps.later
+  decided-failures (Err r) reply a = a.1.failures
+  decided-failures (Ok (asks.Command c)) reply a = command-failures c reply a
+  decided-failures (Ok asks.List) reply a = a.1.failures
+  decided-failures (Ok (asks.Raw kind tid body)) reply a = a.1.failures
+  decided-failures (Ok (asks.Next count)) reply a = a.3.keeps.failures
+  decided-failures (Ok asks.Turn) reply a = a.3.keeps.failures
 
-  -- a server is later behind an answer than before it
-  pub later-answers : (request : Result Line Refusal) (reply : Reply)
-      → Answers before request reply after → IsLater before after
-  later-answers request reply (decided going a) = later-answered request reply a
-  later-answers request reply (halted is needs e s) = s.later
-  later-answers request reply (no_memory needs e s) = s.later
-
-  -- a server is later behind an answer that was begun than before it
-  pub later-begins : (request : Result Line Refusal) (reply : Reply)
-      → Begins before request reply after → IsLater before after
-  later-begins request reply (whole a) = later-answers request reply a
-  later-begins request reply (begun sents going e p) = p.keeps.later
+  -- behind an answer the disk has failed as often as before it, or more often
+  pub answer-failures : (request : Result Line Refusal) (reply : Reply)
+      → Answers before request reply after → before.failures ≤ after.failures
+  answer-failures request reply (decided going a) = decided-failures request reply a
+  answer-failures request reply (halted is needs e s) = s.failures
+  answer-failures request reply (no_memory needs e s) = s.failures

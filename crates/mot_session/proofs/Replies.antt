@@ -8,7 +8,7 @@ use Rattle.mot_lines.specs.declared.line.Line.TheVariants as asks
 use Rattle.mot_player.specs.Place.{Sent}
 use Rattle.mot_session.specs.declared.serving.output.WriteFault.{WriteFault}
 use Rattle.mot_session.specs.Inner.Writes.{AnswersOne, AnswersRequest, sends, fails}
-use Rattle.mot_session.specs.Played.{sent_lines}
+use Rattle.mot_session.specs.Packets.{sent_lines}
 use Rattle.mot_session.specs.State.{ServerState}
 use Rattle.mot_session.proofs.Written.{Answered-turn, AnswersRequest-next_cut}
 use Rattle.mot_session.proofs.Written.{AnswersRequest-turn_cut}

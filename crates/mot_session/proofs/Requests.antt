@@ -29,11 +29,7 @@ module _ {D : Type 0} (old new : ServerView D) (start now : State)
     place = refl;
     halted = ap (λ (v : RepositoryView). v.halted) reads.view;
     layout = ap (λ (v : RepositoryView). v.journal.layout) reads.view;
-    later = record {
-      moment = (reads.disk.unchanged honest).time.later;
-      failures =
-          reads.disk.keeps.later;
-    };
+    failures = reads.disk.keeps.later;
   }
 
   -- what a server's disk holds, it holds when it was only read

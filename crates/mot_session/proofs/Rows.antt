@@ -12,7 +12,7 @@ use Rattle.mot_numbers.specs.declared.group_kind.GroupKind.TheVariants.{Body}
 use Rattle.mot_session.specs.declared.serving.TheConstants.{READ_SIZE, MAX_READS}
 use Rattle.mot_lines.specs.declared.line.Line.{Line}
 use Rattle.mot_lines.specs.declared.line.Line.TheVariants as asks
-use Rattle.mot_lines.specs.Line.{line_of}
+use Rattle.mot_lines.specs.Line.{NeedsMemory, line_of}
 use Rattle.mot_lines.specs.Text.{done_line, refusal_line}
 use Rattle.mot_numbers.specs.declared.geometry.Geometry.{Geometry}
 use Rattle.mot_numbers.specs.declared.refusal.Refusal.{Refusal}
@@ -23,9 +23,9 @@ use Rattle.mot_objects.specs.declared.command.Done.{Done}
 use Rattle.mot_objects.specs.Carousel.{Carousel, change}
 use Rattle.mot_objects.specs.Content.{ContentNumbers}
 use Rattle.mot_server.specs.Life.{carousel_from}
-use Rattle.mot_session.specs.Life.{AreRight, is_done}
+use Rattle.mot_session.specs.Life.{AreRightReplies, is_done}
 use Rattle.mot_session.specs.Raw.{raw_group}
-use Rattle.mot_session.specs.Replies.{IsReply, IsRight, IsShown}
+use Rattle.mot_session.specs.Replies.{IsReply, IsRightReply, IsShown}
 
 hello_group : bytes_of_group (raw_group Body 2 (codes "hello"))
     ≡ 0x74 ∷ 0 ∷ 0x80 ∷ 0 ∷ 0x12 ∷ 0 ∷ 2 ∷ 0 ∷ 5 ∷ 0x68 ∷ 0x65 ∷ 0x6c ∷ 0x6c ∷ 0x6f ∷ 0x34
@@ -93,16 +93,16 @@ taken_by false r made is e = cc
 -- so a session on a new disk does not answer `refused 9` to it
 refused_put : (g : Geometry) (first : ℕ) (content : ContentNumbers) (line : List ℕ)
     → line_of line ≡ Ok (asks.Command (small_put content))
-    → AreRight g (Some (carousel_from first))
+    → AreRightReplies g (Some (carousel_from first))
     (record { line = line; text = refusal_line why.NameTaken } ∷ []) → ⊥
 unfolding change digits
-refused_put g first content line asked (inl (memory, rest)) =
+refused_put g first content line asked (inl (needs, memory, rest)) =
     differ (refusal_line why.NameTaken) (refusal_line why.OutOfMemory) refl memory
 refused_put g first content line asked (inr (new, is, rest)) =
-    by new (subst (λ r. IsRight g (Some (carousel_from first)) r (refusal_line why.NameTaken) new)
-    asked is)
+    by new (subst (λ r. IsRightReply g (Some (carousel_from first)) r
+    (refusal_line why.NameTaken) new) asked is)
   where
-    by : (new : Option Carousel) → IsRight g (Some (carousel_from first))
+    by : (new : Option Carousel) → IsRightReply g (Some (carousel_from first))
         (Ok (asks.Command (small_put content))) (refusal_line why.NameTaken) new → ⊥
     by None e = differ (refusal_line why.NameTaken) (refusal_line why.DeviceFault) refl e
     by (Some c) (inl (d, is, e)) =
@@ -113,14 +113,23 @@ refused_put g first content line asked (inr (new, is, rest)) =
 
 -- nor does a halted server do it
 done_halted : (g : Geometry) (content : ContentNumbers) (done : Done) (new : Option Carousel)
-    → IsRight g None (Ok (asks.Command (small_put content))) (done_line done) new → ⊥
+    → IsRightReply g None (Ok (asks.Command (small_put content))) (done_line done) new → ⊥
 done_halted g content done new is =
     not-so (done_line done) (refusal_line why.Halted) is.0 refl refl
 
 -- and a list is refused by no server that is not halted
 refused_list : (g : Geometry) (c : Carousel) (r : Refusal) (new : Option Carousel)
-    → IsRight g (Some c) (Ok asks.List) (refusal_line r) new → ⊥
+    → IsRightReply g (Some c) (Ok asks.List) (refusal_line r) new → ⊥
 refused_list g c r new (same, IsShown.listed numbers objects is endless e) =
     let begins : false ≡ true = ap (λ t. bytes_eq (take 1 t) (codes "c")) e in cc
 refused_list g c r new (same, IsShown.packets shown true asked e) = asked
 refused_list g c r new (same, IsShown.packets shown false asked e) = asked
+
+-- nor is it answered, in a session, that there is no memory for it
+list_needs_none : (g : Geometry) (c : Carousel) (line : List ℕ) → line_of line ≡ Ok asks.List
+    → AreRightReplies g (Some c) (record { line = line; text = refusal_line why.OutOfMemory } ∷ [])
+    → ⊥
+list_needs_none g c line asked (inl (needs, memory, rest)) = subst NeedsMemory asked needs
+list_needs_none g c line asked (inr (new, is, rest)) =
+    refused_list g c why.OutOfMemory new
+    (subst (λ r. IsRightReply g (Some c) r (refusal_line why.OutOfMemory) new) asked is)

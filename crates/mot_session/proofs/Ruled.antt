@@ -13,13 +13,14 @@ use Rattle.mot_journal.specs.Image.{Standing, stands_for}
 use Rattle.mot_lines.specs.declared.line.description.Description.{Description}
 use Rattle.mot_lines.specs.declared.line.Line.{Line}
 use Rattle.mot_lines.specs.declared.line.Line.TheVariants as asks
-use Rattle.mot_lines.specs.declared.line.TheConstants.{MAX_LINE}
-use Rattle.mot_lines.specs.Fields.{body_in, content_in, count_in, kind_in, mime_in, name_in}
-use Rattle.mot_lines.specs.Fields.{period_in, segment_in, tid_in}
-use Rattle.mot_lines.specs.Line.{description_of, line_of, list_of, next_of, period_of}
+use Rattle.mot_lines.specs.declared.line.TheConstants.{MAX_LINE, MAX_PACKETS}
+use Rattle.mot_lines.specs.Fields.{body_in, content_in, kind_in, mime_in, name_in, number_to}
+use Rattle.mot_lines.specs.Fields.{period_in, segment_in}
+use Rattle.mot_lines.specs.Line.{NeedsMemory, alone_of, description_of, line_of, next_of}
+use Rattle.mot_lines.specs.Line.{period_of}
 use Rattle.mot_numbers.specs.Refusal.{◌>>=◌}
 use Rattle.mot_lines.specs.Line.{put_of}
-use Rattle.mot_lines.specs.Line.{raw_of, replace_of, request_of, turn_of, withdraw_of}
+use Rattle.mot_lines.specs.Line.{raw_of, replace_of, request_of, withdraw_of}
 use Rattle.mot_lines.specs.Text.{done_line, refusal_line}
 use Rattle.mot_lines.specs.Words.{number_of_word, words_of}
 use Rattle.hex.specs.Hex.{decode_of}
@@ -37,8 +38,8 @@ use Rattle.mot_objects.specs.Rules.{AllKeepRules}
 use Rattle.mot_repository.specs.Outcome.{after_command, has_long_name}
 use Rattle.mot_repository.proofs.Laws.{accepted_parts}
 use Rattle.mot_server.proofs.Laws.{IsRefused, refused_by}
-use Rattle.mot_session.specs.Life.{AreRight, Told}
-use Rattle.mot_session.specs.Replies.{IsRight, IsShown}
+use Rattle.mot_session.specs.Life.{AreRightReplies, Told}
+use Rattle.mot_session.specs.Replies.{IsRightReply, IsShown}
 use Rattle.mot_session.specs.Session.{Answers, IsAnswer, IsCommandAnswer}
 use Rattle.mot_session.specs.Session.{NeedsCarousel, Reply, accepted}
 use Rattle.mot_session.specs.Session.{accepts, decided, fails, halted, no_memory, refused}
@@ -149,9 +150,9 @@ raw-short [] = tt
 raw-short (a ∷ []) = tt
 raw-short (a ∷ b ∷ []) = tt
 raw-short (a ∷ b ∷ c ∷ []) =
-    behind (kind_in (number_of_word a)) (λ k. tid_in (number_of_word b) >>= λ t.
+    behind (kind_in (number_of_word a)) (λ k. number_to 65535 (number_of_word b) >>= λ t.
     segment_in (decode_of c) >>= λ body. Ok (asks.Raw k t body)) (λ k e.
-    behind (tid_in (number_of_word b)) (λ t.
+    behind (number_to 65535 (number_of_word b)) (λ t.
     segment_in (decode_of c) >>= λ body. Ok (asks.Raw k t body)) (λ t e.
     behind (segment_in (decode_of c)) (λ body. Ok (asks.Raw k t body)) (λ body e. tt)))
 raw-short (a ∷ b ∷ c ∷ d ∷ words) = tt
@@ -159,14 +160,14 @@ raw-short (a ∷ b ∷ c ∷ d ∷ words) = tt
 next-short : (words : List (List ℕ)) → IsShort (next_of words)
 next-short [] = tt
 next-short (number ∷ []) =
-    behind (count_in (number_of_word number)) (λ n. Ok (asks.Next n)) (λ n e. tt)
+    behind (number_to MAX_PACKETS (number_of_word number)) (λ n. Ok (asks.Next n)) (λ n e. tt)
 next-short (a ∷ b ∷ words) = tt
 
-turn-short : (words : List (List ℕ)) → IsShort (turn_of words)
+turn-short : (words : List (List ℕ)) → IsShort (alone_of asks.Turn words)
 turn-short [] = tt
 turn-short (a ∷ words) = tt
 
-list-short : (words : List (List ℕ)) → IsShort (list_of words)
+list-short : (words : List (List ℕ)) → IsShort (alone_of asks.List words)
 list-short [] = tt
 list-short (a ∷ words) = tt
 
@@ -241,33 +242,34 @@ module _ (before after : ServerState) (layout : before.layout ≡ Two) where
   -- right for the request, so told
   abbrev RightSo : Option Carousel → Result Line Refusal → List ℕ → Option Carousel → Type 0
   RightSo old request text new =
-      ((text ≡ refusal_line why.OutOfMemory) × (new ≡ old)) ⊎ IsRight g old request text new
+      (NeedsMemory request × (text ≡ refusal_line why.OutOfMemory) × (new ≡ old))
+      ⊎ IsRightReply g old request text new
 
   as_told : (old old' new new' : Option Carousel) (request : Result Line Refusal)
       (text text' : List ℕ) → old ≡ old' → new ≡ new' → text ≡ text'
-      → IsRight g old' request text' new' → IsRight g old request text new
+      → IsRightReply g old' request text' new' → IsRightReply g old request text new
   as_told old old' new new' request text text' e f h is =
-      subst (λ o. IsRight g o request text new) (sym e)
-      (subst (λ n. IsRight g old' request text n) (sym f)
-      (subst (λ t. IsRight g old' request t new') (sym h) is))
+      subst (λ o. IsRightReply g o request text new) (sym e)
+      (subst (λ n. IsRightReply g old' request text n) (sym f)
+      (subst (λ t. IsRightReply g old' request t new') (sym h) is))
 
   accepted-right : (x : command.Command) (d : Done) (next : Standing)
       → after_command before.layout before.standing x ≡ Ok (next, d)
-      → IsRight g (Some c) (Ok (asks.Command x)) (done_line d) (Some next.carousel)
+      → IsRightReply g (Some c) (Ok (asks.Command x)) (done_line d) (Some next.carousel)
   accepted-right x d next outcome =
       let parts = accepted_parts Two before.standing x d next
       (subst (λ l. after_command l before.standing x ≡ Ok (next, d)) layout outcome) in
       inl (d, parts.rules, refl)
 
   refused-so : (x : command.Command) (r : Refusal) → IsRefused before.standing x r
-      → IsRight g (Some c) (Ok (asks.Command x)) (refusal_line r) (Some c)
+      → IsRightReply g (Some c) (Ok (asks.Command x)) (refusal_line r) (Some c)
   refused-so x r (inl is) = inr (inl (r, is, refl, refl))
   refused-so x r (inr (made, is, none, lacks)) =
       inr (inr (made, is, ap refusal_line none, refl, lacks))
 
   refused-right : (x : command.Command) (r : Refusal) → IsShort (Ok (asks.Command x))
       → HasImage before.standing → after_command before.layout before.standing x ≡ Err r
-      → IsRight g (Some c) (Ok (asks.Command x)) (refusal_line r) (Some c)
+      → IsRightReply g (Some c) (Ok (asks.Command x)) (refusal_line r) (Some c)
   refused-right x r short has e =
       refused-so x r (refused_by has.0 before.standing x r has.1 has.2 short
       (subst (λ l. after_command l before.standing x ≡ Err r) layout e))
@@ -275,7 +277,8 @@ module _ (before after : ServerState) (layout : before.layout ≡ Two) where
   command-right : (x : command.Command) (reply : Reply) → IsFalse before.halted
       → IsShort (Ok (asks.Command x)) → HasImage before.standing
       → IsCommandAnswer before x reply after
-      → IsRight g (carousel_at before) (Ok (asks.Command x)) (text_of reply) (carousel_at after)
+      → IsRightReply g (carousel_at before) (Ok (asks.Command x)) (text_of reply)
+      (carousel_at after)
   command-right x reply going short has (accepts d next e outcome a) =
       as_told (carousel_at before) (Some c) (carousel_at after) (Some next.carousel)
       (Ok (asks.Command x)) (text_of reply) (done_line d) (at_going before going)
@@ -301,7 +304,7 @@ module _ (before after : ServerState) (layout : before.layout ≡ Two) where
   IsRead (Err r) = ⊥
 
   read-some : (request : Result Line Refusal) (text : List ℕ) → IsRead request
-      → IsShown g request text → IsRight g (Some c) request text (Some c)
+      → IsShown g request text → IsRightReply g (Some c) request text (Some c)
   read-some (Ok asks.List) text is shown = (refl, shown)
   read-some (Ok (asks.Next count)) text is shown = (refl, shown)
   read-some (Ok asks.Turn) text is shown = (refl, shown)
@@ -312,7 +315,7 @@ module _ (before after : ServerState) (layout : before.layout ≡ Two) where
   read-right : (request : Result Line Refusal) (reply : Reply) → IsRead request
       → IsFalse before.halted → carousel_at after ≡ carousel_at before
       → IsShown g request (text_of reply)
-      → IsRight g (carousel_at before) request (text_of reply) (carousel_at after)
+      → IsRightReply g (carousel_at before) request (text_of reply) (carousel_at after)
   read-right request reply is going same shown =
       as_told (carousel_at before) (Some c) (carousel_at after) (Some c) request (text_of reply)
       (text_of reply) (at_going before going) (same ∙ at_going before going) refl
@@ -323,7 +326,7 @@ module _ (before after : ServerState) (layout : before.layout ≡ Two) where
       → (IsFalse before.halted → HasImage before.standing)
       → (IsFalse before.halted → AllKeepRules before.standing.carousel)
       → IsAnswer before request reply after
-      → IsRight g (carousel_at before) request (text_of reply) (carousel_at after)
+      → IsRightReply g (carousel_at before) request (text_of reply) (carousel_at after)
   unfolding IsAnswer
   answer-right (Err r) reply going short has rules a =
       (refused-text reply r a.0, at_stayed before after a.1)
@@ -346,7 +349,7 @@ module _ (before after : ServerState) (layout : before.layout ≡ Two) where
       (plays-shown g before after (Ok asks.Turn) reply a.0 a.1 refl a.2 a.3)
 
   halted-some : (request : Result Line Refusal) → NeedsCarousel request
-      → IsRight g None request (refusal_line why.Halted) None
+      → IsRightReply g None request (refusal_line why.Halted) None
   halted-some (Ok asks.List) needs = (refl, refl)
   halted-some (Ok (asks.Next count)) needs = (refl, refl)
   halted-some (Ok asks.Turn) needs = (refl, refl)
@@ -368,16 +371,16 @@ module _ (before after : ServerState) (layout : before.layout ≡ Two) where
       (at_stayed before after s ∙ at_halted before is) (refused-text reply why.Halted e)
       (halted-some request needs))
   right_reply request reply short has rules (no_memory needs e s) =
-      inl (refused-text reply why.OutOfMemory e, at_stayed before after s)
+      inl (needs, refused-text reply why.OutOfMemory e, at_stayed before after s)
 
   -- so are all where those behind it are
   pub right_more : (h : Geometry) → g ≡ h → (line text : List ℕ) (told : List Told)
-      (old new : Option Carousel) → RightSo old (line_of line) text new → AreRight h new told
-      → AreRight h old (record { line = line; text = text } ∷ told)
-  right_more h same line text told old new (inl (e, n)) rest =
-      inl (e, subst (λ o. AreRight h o told) n rest)
+      (old new : Option Carousel) → RightSo old (line_of line) text new → AreRightReplies h new told
+      → AreRightReplies h old (record { line = line; text = text } ∷ told)
+  right_more h same line text told old new (inl (needs, e, n)) rest =
+      inl (needs, e, subst (λ o. AreRightReplies h o told) n rest)
   right_more h same line text told old new (inr is) rest =
-      inr (new, subst (λ (x : Geometry). IsRight x old (line_of line) text new) same is, rest)
+      inr (new, subst (λ (x : Geometry). IsRightReply x old (line_of line) text new) same is, rest)
 
   command-layout : (x : command.Command) (reply : Reply)
       → IsCommandAnswer before x reply after → after.layout ≡ before.layout

@@ -35,7 +35,7 @@ use Rattle.mot_objects.specs.declared.command.Done.{Done}
 use Rattle.mot_packets.specs.Written.{bytes_of_packet}
 use Rattle.mot_packets.proofs.Laws.{length-packets_of_group}
 use Rattle.mot_player.specs.Place.{Place, Request, Sent, request, sent_by}
-use Rattle.mot_session.specs.Played.{Plays, sent_lines}
+use Rattle.mot_session.specs.Packets.{PlaysForRequest, sent_lines}
 use Rattle.mot_session.specs.Replies.{AreAsked, IsReply, IsShown, Shown, ends_of, shown_lines}
 use Rattle.mot_session.specs.Raw.{raw_group, raw_packets}
 use Rattle.mot_session.specs.Served.{Begins, whole}
@@ -340,7 +340,8 @@ module _ (g : Geometry) where
 
   -- packets that were sent show what was asked for
   asked-so : (before after : ServerState) (request : Result Line Refusal) (some : Bool)
-      (sents : List Sent) → before.standing.geometry ≡ g → Plays before request some sents after
+      (sents : List Sent) → before.standing.geometry ≡ g
+      → PlaysForRequest before request some sents after
       → AreAsked g request some (ends_of (shown_of sents))
   asked-so before after request some sents same p =
       subst (λ (h : Geometry). AreAsked h request some (ends_of (shown_of sents))) same
@@ -355,7 +356,7 @@ module _ (g : Geometry) where
 
   pub plays-shown : (before after : ServerState) (request : Result Line Refusal) (reply : Reply)
       (sents : List Sent) (failed : Bool) → before.standing.geometry ≡ g
-      → reply ≡ played sents failed → Plays before request failed sents after
+      → reply ≡ played sents failed → PlaysForRequest before request failed sents after
       → IsShown g request (text_of reply)
   plays-shown before after request reply sents failed same e p =
       as_shown request reply (played sents failed) e

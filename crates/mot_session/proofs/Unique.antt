@@ -21,11 +21,11 @@ use Rattle.hex.specs.Hex.{decode_of, encode_lower, encode_with, lower_digits}
 use Rattle.mot_lines.specs.declared.line.Line.{Line}
 use Rattle.mot_lines.specs.declared.line.Line.TheVariants as asks
 use Rattle.mot_lines.specs.declared.line.TheConstants.{MAX_LINE, MAX_PACKETS}
-use Rattle.mot_lines.specs.Fields.{count_in, kind_in, name_in, period_in, segment_in, tid_in}
-use Rattle.mot_lines.specs.Line.{description_of, line_of, list_of, next_of, period_of}
+use Rattle.mot_lines.specs.Fields.{kind_in, name_in, number_to, period_in, segment_in}
+use Rattle.mot_lines.specs.Line.{alone_of, description_of, line_of, next_of, period_of}
 use Rattle.mot_numbers.specs.Refusal.{◌>>=◌}
 use Rattle.mot_lines.specs.Line.{put_of}
-use Rattle.mot_lines.specs.Line.{raw_of, replace_of, request_of, turn_of, withdraw_of}
+use Rattle.mot_lines.specs.Line.{raw_of, replace_of, request_of, withdraw_of}
 use Rattle.mot_lines.specs.Words.{number_of_word, words_of}
 use Rattle.mot_objects.specs.declared.command.Command.TheVariants.{Period, Put, Replace, Withdraw}
 use Rattle.mot_lines.specs.Lines.{HasNoLineEnd}
@@ -818,7 +818,7 @@ module _ (g : Geometry) where
   count-by true m n e false f = cc
   count-by false m n e c f = cc
 
-  count-some : (o : Option ℕ) (n : ℕ) → count_in o ≡ Ok n → 1 ≤ n
+  count-some : (o : Option ℕ) (n : ℕ) → number_to MAX_PACKETS o ≡ Ok n → 1 ≤ n
   count-some None n e = cc
   count-some (Some m) n e = count-by (nat_lt 0 m) m n refl (nat_le m MAX_PACKETS) e
 
@@ -829,9 +829,9 @@ module _ (g : Geometry) where
     raw-proper (a ∷ []) = tt
     raw-proper (a ∷ b ∷ []) = tt
     raw-proper (a ∷ b ∷ c ∷ []) =
-        behind (kind_in (number_of_word a)) (λ k. tid_in (number_of_word b) >>= λ t.
+        behind (kind_in (number_of_word a)) (λ k. number_to 65535 (number_of_word b) >>= λ t.
         segment_in (decode_of c) >>= λ body. Ok (asks.Raw k t body)) (λ k e.
-        behind (tid_in (number_of_word b)) (λ t.
+        behind (number_to 65535 (number_of_word b)) (λ t.
         segment_in (decode_of c) >>= λ body. Ok (asks.Raw k t body)) (λ t e.
         behind (segment_in (decode_of c)) (λ body. Ok (asks.Raw k t body)) (λ body e.
         some_pieces (length body + 11) (g.packet_length - 5) (omega arith) is)))
@@ -840,15 +840,15 @@ module _ (g : Geometry) where
     next-proper : (words : List (List ℕ)) → IsProper (next_of words)
     next-proper [] = tt
     next-proper (number ∷ []) =
-        behind (count_in (number_of_word number)) (λ n. Ok (asks.Next n))
+        behind (number_to MAX_PACKETS (number_of_word number)) (λ n. Ok (asks.Next n))
         (λ n e. count-some (number_of_word number) n e)
     next-proper (a ∷ b ∷ words) = tt
 
-    turn-proper : (words : List (List ℕ)) → IsProper (turn_of words)
+    turn-proper : (words : List (List ℕ)) → IsProper (alone_of asks.Turn words)
     turn-proper [] = tt
     turn-proper (a ∷ words) = tt
 
-    list-proper : (words : List (List ℕ)) → IsProper (list_of words)
+    list-proper : (words : List (List ℕ)) → IsProper (alone_of asks.List words)
     list-proper [] = tt
     list-proper (a ∷ words) = tt
 

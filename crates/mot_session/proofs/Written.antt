@@ -29,7 +29,7 @@ use Rattle.mot_session.specs.Inner.Writes.{Answered, AnswersWith, AnswersRequest
 use Rattle.mot_session.specs.Inner.Writes.{SendsOne}
 use Rattle.mot_session.specs.Output.{Writes}
 use Rattle.mot_session.specs.Inner.Writes.{may_have_done}
-use Rattle.mot_session.specs.Played.{Plays, sent_line, sent_lines}
+use Rattle.mot_session.specs.Packets.{PlaysForRequest, sent_line, sent_lines}
 use Rattle.mot_session.specs.Replies.{AreAsked}
 use Rattle.mot_session.specs.Served.{Begins, whole, begun, WritesFront}
 use Rattle.mot_session.specs.Session.{Reply, Answers, IsAnswer, decided, accepted, listing, packets}
@@ -174,7 +174,7 @@ stays-none state = record {
   place = refl;
   halted = refl;
   layout = refl;
-  later = record { moment = omega arith; failures = omega arith };
+  failures = omega arith;
 }
 
 keeps-more : (before mid after : ServerState) → KeepsCarousel before mid → KeepsCarousel mid after
@@ -184,10 +184,7 @@ keeps-more before mid after a b = record {
   place = refl;
   halted = b.halted ∙ a.halted;
   layout = b.layout ∙ a.layout;
-  later = record {
-    moment = omega (arith, a.later.moment, b.later.moment);
-    failures = omega (arith, a.later.failures, b.later.failures);
-  };
+  failures = omega (arith, a.failures, b.failures);
 }
 
 -- so many requests sent these packets, and nothing else changed
@@ -214,7 +211,7 @@ keeps-stayed before after stays = record {
   place = refl;
   halted = stays.halted;
   layout = stays.layout;
-  later = stays.later;
+  failures = stays.failures;
 }
 
 -- nothing was asked for yet
@@ -303,37 +300,40 @@ module _ (before after : ServerState) (count : ℕ) (sents : List Sent)
   -- what was sent is what a request asks for, or some first packets of it
   plays : (request : Result Line Refusal) (some : Bool)
       → AreAsked before.standing.geometry request some (map (λ (x : Sent). x.ends_turn) sents)
-      → Plays before request some sents after
+      → PlaysForRequest before request some sents after
   plays request some asked = record {
     asked = asked;
     sent = subst (λ n. HasSent before.place n sents after.place) (sym many) s.sent;
     keeps = s.keeps;
   }
 
-  plays-next : Plays before (Ok (asks.Next count)) false sents after
+  plays-next : PlaysForRequest before (Ok (asks.Next count)) false sents after
   plays-next = plays (Ok (asks.Next count)) false ends-many
 
-  plays-some : (all : ℕ) → count < all → Plays before (Ok (asks.Next all)) true sents after
+  plays-some : (all : ℕ) → count < all
+      → PlaysForRequest before (Ok (asks.Next all)) true sents after
   plays-some all few = plays (Ok (asks.Next all)) true
       (subst (λ n. n < all) (sym ends-many) few)
 
 plays-within : (before after : ServerState) (count : ℕ) (sents : List Sent)
-    → SendsWithinTurn before count sents after → Plays before (Ok asks.Turn) true sents after
+    → SendsWithinTurn before count sents after
+    → PlaysForRequest before (Ok asks.Turn) true sents after
 plays-within before after count sents s =
     plays before after count sents s.sends (Ok asks.Turn) true (count, s.ends)
 
 plays-turn : (before after : ServerState) (others : ℕ) (sents : List Sent)
-    → SendsTurn before others sents after → Plays before (Ok asks.Turn) false sents after
+    → SendsTurn before others sents after → PlaysForRequest before (Ok asks.Turn) false sents after
 plays-turn before after others sents s =
     plays before after (others + 1) sents s.sends (Ok asks.Turn) false (others, s.ends)
 
 -- the request behind them failed
-Plays-behind : (before mid after : ServerState) (request : Result Line Refusal) (sents : List Sent)
-    → Plays before request true sents mid → Stays mid after
-    → Plays before request true sents after
-Plays-behind before mid after request sents p stays = record {
+plays-behind : (before mid after : ServerState) (request : Result Line Refusal)
+    (sents : List Sent) → PlaysForRequest before request true sents mid → Stays mid after
+    → PlaysForRequest before request true sents after
+plays-behind before mid after request sents p stays = record {
   asked = p.asked;
-  sent = subst (λ (q : Place). HasSent before.place (length sents) sents q) (sym stays.place) p.sent;
+  sent = subst (λ (q : Place). HasSent before.place (length sents) sents q) (sym stays.place)
+      p.sent;
   keeps = keeps-more before mid after p.keeps (keeps-stayed mid after stays);
 }
 
@@ -422,8 +422,8 @@ module _ {T : Type 0} (result : Result T WriteFault) (before mid after : ServerS
       }
 
   risen : (keeps : KeepsCarousel before mid) → Rises before.failures after.failures
-  risen keeps = rises_on before.failures mid.failures after.failures keeps.later.failures
-      failing.stays.later.failures failing.rises
+  risen keeps = rises_on before.failures mid.failures after.failures keeps.failures
+      failing.stays.failures failing.rises
 
   -- fewer packets than a `next` line asks for, and the line of the fault behind them
   pub AnswersRequest-next_cut : (count : ℕ) → made < count → Sends before made sents mid
@@ -435,7 +435,7 @@ module _ {T : Type 0} (result : Result T WriteFault) (before mid after : ServerS
         sents,
         true,
         refl,
-        Plays-behind before mid after (Ok (asks.Next count)) sents all failing.stays,
+        plays-behind before mid after (Ok (asks.Next count)) sents all failing.stays,
         λ e. risen s.keeps,
       )
 
@@ -449,7 +449,7 @@ module _ {T : Type 0} (result : Result T WriteFault) (before mid after : ServerS
         sents,
         true,
         refl,
-        Plays-behind before mid after (Ok asks.Turn) sents all failing.stays,
+        plays-behind before mid after (Ok asks.Turn) sents all failing.stays,
         λ e. risen s.sends.keeps,
       )
 

@@ -5,7 +5,7 @@ pub mod Life
 pub mod LineByLine
 pub mod OnAnyDisk
 pub mod Output
-pub mod Played
+pub mod Packets
 pub mod Raw
 pub mod Replies
 pub mod Served

@@ -7,16 +7,16 @@ use Rattle.std.specs.List.{AllByRecursion, flat_map}
 use Rattle.std.specs.Io.KnownBytes.{Appends, IsAtEnd}
 use Rattle.mot_journal.specs.declared.layout.Layout.{Layout}
 use Rattle.mot_journal.specs.declared.layout.Layout.TheVariants.{Two}
-use Rattle.mot_lines.specs.Line.{line_of}
-use Rattle.mot_lines.specs.Lines.{lines_of}
+use Rattle.mot_lines.specs.Line.{NeedsMemory, line_of}
+use Rattle.mot_lines.specs.Lines.{lines_of, rest_of, unless_empty}
 use Rattle.mot_lines.specs.Text.{refusal_line}
 use Rattle.mot_numbers.specs.declared.geometry.Geometry.{Geometry}
 use Rattle.mot_numbers.specs.declared.refusal.Refusal.{Refusal}
 use Rattle.mot_numbers.specs.declared.refusal.Refusal.TheVariants.{DeviceFault, OutOfMemory}
-use Rattle.mot_numbers.specs.declared.refusal.Refusal.TheVariants.{WriteFault}
+use Rattle.mot_numbers.specs.declared.refusal.Refusal.TheVariants.{ReadFault, WriteFault}
 use Rattle.mot_objects.specs.declared.command.Command.{Command}
 use Rattle.mot_objects.specs.Carousel.{Carousel}
-use Rattle.mot_session.specs.Replies.{IsReply, IsRight}
+use Rattle.mot_session.specs.Replies.{IsReply, IsRightReply}
 use Rattle.mot_session.specs.Stored.{command_in}
 
 -- a line, and the whole text that was written as its reply
@@ -24,11 +24,14 @@ pub record Told : Type 0 where
   pub line : List ℕ
   pub text : List ℕ
 
--- each reply is right where it stands, from this carousel on, or memory was wanting for it
-abbrev pub AreRight : Geometry → Option Carousel → List Told → Type 0
-AreRight g c [] = ⊤
-AreRight g c (t ∷ told) = ((t.text ≡ refusal_line OutOfMemory) × AreRight g c told)
-    ⊎ ((new : Option Carousel) × IsRight g c (line_of t.line) t.text new × AreRight g new told)
+-- each reply is right where it stands, from this carousel on, or there was no memory for what its
+-- line asks for
+abbrev pub AreRightReplies : Geometry → Option Carousel → List Told → Type 0
+AreRightReplies g c [] = ⊤
+AreRightReplies g c (t ∷ told) =
+    (NeedsMemory (line_of t.line) × (t.text ≡ refusal_line OutOfMemory) × AreRightReplies g c told)
+    ⊎ ((new : Option Carousel) × IsRightReply g c (line_of t.line) t.text new
+    × AreRightReplies g new told)
 
 -- the text accepts a command
 abbrev pub is_done : List ℕ → Bool
@@ -46,8 +49,8 @@ abbrev pub commands_done : List Told → List Command
 commands_done told = flat_map done_in told
 
 -- The first lines of the input, so many, were answered, each by one reply, and these were written.
--- Where no fault ended that, the input is all that there is, and each line of it was answered. At
--- most one command was in flight. Either nothing more was written, and it is the one that a fault
+-- Where no fault ended that, the input is all that there is, and each line of it was answered; and
+-- where a fault of the reader did, each line whose end was read. At most one command was in flight. Either nothing more was written, and it is the one that a fault
 -- of the disk cut off. Or the writer failed in the reply to the next line, of which some first
 -- bytes were written: then it may be that line's, and it is where they say `done`.
 pub record Tells (g : Geometry) (input : List ℕ) (left : Option (List ℕ)) (count : ℕ)
@@ -58,6 +61,7 @@ pub record Tells (g : Geometry) (input : List ℕ) (left : Option (List ℕ)) (c
   pub counted : count ≡ length told
   pub replies : AllByRecursion (λ (t : Told). IsReply g (line_of t.line) t.text) told
   pub whole : fault ≡ None → (unanswered ≡ []) × IsAtEnd left
+  pub unread : fault ≡ Some ReadFault → unanswered ≡ unless_empty (rest_of input)
   pub front : List ℕ
   pub written : Appends old new (flat_map (λ (t : Told). t.text) told ++ front)
   pub few : length in_flight ≤ 1
@@ -74,7 +78,7 @@ pub record Tells (g : Geometry) (input : List ℕ) (left : Option (List ℕ)) (c
 abbrev pub TellsLine : {T E : Type 0} → Geometry → Layout → Option Carousel → Result T E → List ℕ
     → List Command → List Command → Option (List ℕ) → Option (List ℕ) → Type 0
 TellsLine g layout c (Ok it) line made cut_off old new = (t : Told) × (t.line ≡ line)
-    × IsReply g (line_of line) t.text × (layout ≡ Two → AreRight g c (t ∷ []))
+    × IsReply g (line_of line) t.text × (layout ≡ Two → AreRightReplies g c (t ∷ []))
     × Appends old new t.text × (made ≡ done_in t) × (cut_off ≡ fails_in t)
 TellsLine g layout c (Err fault) line made cut_off old new = (front rest : List ℕ)
     × IsReply g (line_of line) (front ++ rest) × Appends old new front

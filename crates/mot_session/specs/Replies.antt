@@ -62,15 +62,16 @@ IsReply g request text = ((r : Refusal) × (text ≡ refusal_line r))
 -- there is no room for what it brings, where that may be. A fault of the disk in a command halts
 -- the server, which has no carousel from then on, and refuses whatever needs one. A line that is no
 -- request is refused as it is parsed.
-abbrev pub IsRight : Geometry → Option Carousel → Result Line Refusal → List ℕ → Option Carousel
-    → Type 0
-IsRight g c (Err r) text new = (text ≡ refusal_line r) × (new ≡ c)
-IsRight g c (Ok (Raw kind tid body)) text new = (new ≡ c) × IsShown g (Ok (Raw kind tid body)) text
-IsRight g None (Ok request) text new = (text ≡ refusal_line Halted) × (new ≡ None)
-IsRight g (Some c) (Ok (Command x)) text None = text ≡ refusal_line DeviceFault
-IsRight g (Some c) (Ok (Command x)) text (Some new) =
+abbrev pub IsRightReply : Geometry → Option Carousel → Result Line Refusal → List ℕ
+    → Option Carousel → Type 0
+IsRightReply g c (Err r) text new = (text ≡ refusal_line r) × (new ≡ c)
+IsRightReply g c (Ok (Raw kind tid body)) text new =
+    (new ≡ c) × IsShown g (Ok (Raw kind tid body)) text
+IsRightReply g None (Ok request) text new = (text ≡ refusal_line Halted) × (new ≡ None)
+IsRightReply g (Some c) (Ok (Command x)) text None = text ≡ refusal_line DeviceFault
+IsRightReply g (Some c) (Ok (Command x)) text (Some new) =
     ((d : Done) × (change c g.objects x ≡ Ok (new, d)) × (text ≡ done_line d))
     ⊎ ((r : Refusal) × (change c g.objects x ≡ Err r) × (text ≡ refusal_line r) × (new ≡ c))
     ⊎ ((made : Carousel × Done) × (change c g.objects x ≡ Ok made) × (text ≡ refusal_line NoRoom)
     × (new ≡ c) × LacksRoom g.data_area c.objects x)
-IsRight g (Some c) (Ok request) text new = (new ≡ Some c) × IsShown g (Ok request) text
+IsRightReply g (Some c) (Ok request) text new = (new ≡ Some c) × IsShown g (Ok request) text

@@ -12,7 +12,7 @@ use Rattle.mot_player.specs.Place.{Sent}
 use Rattle.mot_session.specs.declared.serving.TheConstants.{READ_SIZE}
 use Rattle.mot_session.specs.Kept.{IsToldAndStored}
 use Rattle.mot_session.specs.Life.{Told, done_in, fails_in}
-use Rattle.mot_session.specs.Played.{Plays, sent_lines}
+use Rattle.mot_session.specs.Packets.{PlaysForRequest, sent_lines}
 use Rattle.mot_session.specs.Session.{Reply, played, Answers, text_of}
 use Rattle.mot_session.specs.State.{ServerState}
 
@@ -36,7 +36,7 @@ pub data Begins (before : ServerState) (request : Result Line Refusal) (reply : 
     (after : ServerState) : Type 0 where
   whole : Answers before request reply after → Begins before request reply after
   begun : (sents : List Sent) → IsFalse before.halted → reply ≡ played sents false
-      → Plays before request true sents after → Begins before request reply after
+      → PlaysForRequest before request true sents after → Begins before request reply after
 
 -- The request was answered, or its answer was begun, and some first bytes of the reply were
 -- written; a packet was asked for only where the lines of those before it were.

@@ -19,7 +19,7 @@ use Rattle.mot_player.specs.Place.{Sent, changed}
 use Rattle.mot_player.specs.Sending.{packets_sent}
 use Rattle.mot_player.specs.Turn.{turn_of_carousel}
 use Rattle.mot_repository.specs.Outcome.{after_command}
-use Rattle.mot_session.specs.Played.{Plays, sent_lines}
+use Rattle.mot_session.specs.Packets.{PlaysForRequest, sent_lines}
 use Rattle.mot_session.specs.Raw.{raw_packets}
 use Rattle.mot_session.specs.State.{Becomes, ServerState, Stays}
 
@@ -41,9 +41,9 @@ text_of (played sents false) = sent_lines sents
 text_of (played sents true) = sent_lines sents ++ refusal_line DeviceFault
 
 -- What a command is answered. It is accepted: the disk stands for what it comes to, and the new
--- carousel's turn comes behind the group under way. (On a server that was told to follow changes the
--- turn goes on, and on every other one it begins.) Or it is refused, and nothing changes; or the disk
--- fails, and the server is halted, with the carousel from before.
+-- carousel's turn comes behind the group under way. (On a server that was told to follow changes
+-- the turn goes on, and on every other one it begins.) Or it is refused, and nothing changes; or
+-- the disk fails, and the server is halted, with the carousel from before.
 pub data IsCommandAnswer (s : ServerState) (c : command.Command) (reply : Reply)
     (after : ServerState) : Type 0 where
   accepts : (done : Done) (next : Standing) → reply ≡ accepted done
@@ -66,7 +66,7 @@ IsAnswer s (Ok asks.List) reply after = (reply ≡ listing s.standing.carousel) 
 IsAnswer s (Ok (Raw kind tid body)) reply after =
     (reply ≡ packets (raw_packets s.standing.geometry kind tid body)) × Stays s after
 IsAnswer s request reply after = (sents : List Sent) × (failed : Bool)
-    × (reply ≡ played sents failed) × Plays s request failed sents after
+    × (reply ≡ played sents failed) × PlaysForRequest s request failed sents after
     × (IsTrue failed → Rises s.failures after.failures)
 
 -- a request that needs a server which is not halted: every one but a raw line

@@ -17,8 +17,7 @@ pub record ServerState : Type 0 where
   pub place : Place
   -- a device fault has come in a command
   pub halted : Bool
-  -- the moment of the disk's clock, and how often a call of the disk has failed
-  pub moment : ℕ
+  -- how often a call of the disk has failed
   pub failures : ℕ
 
 -- a server of this standing, on a disk in this state
@@ -28,7 +27,6 @@ state_of server s state = record {
   layout = server.view.journal.layout;
   place = place_in server s;
   halted = server.view.halted;
-  moment = state.moment;
   failures = state.failures;
 }
 
@@ -47,20 +45,15 @@ Leads state old new P =
     → (last : Standing) × StandsFor new.view last (state new.disk)
     × P (state_of old s (state old.disk)) (state_of new last (state new.disk))
 
--- time goes on
-pub record IsLater (before after : ServerState) : Type 0 where
-  pub moment : before.moment ≤ after.moment
-  pub failures : before.failures ≤ after.failures
-
 -- This is what the server stands for then, where it stands in playing that, and whether it is
--- halted. The layout stays, and time goes on.
+-- halted. The layout stays, and the failures do not become fewer.
 pub record Becomes (before : ServerState) (s : Standing) (p : Place) (b : Bool)
     (after : ServerState) : Type 0 where
   pub standing : after.standing ≡ s
   pub place : after.place ≡ p
   pub halted : after.halted ≡ b
   pub layout : after.layout ≡ before.layout
-  pub later : IsLater before after
+  pub failures : before.failures ≤ after.failures
 
 -- nothing is stored or halted
 abbrev pub KeepsCarousel : ServerState → ServerState → Type 0

@@ -14,7 +14,7 @@ ghost use Rattle.mot_server.specs.Life.{IsBlank, IsUnmade, IsUnopened, PlaysAfte
 ghost use Rattle.mot_server.specs.Life.{carousel_from};
 ghost use Rattle.mot_server.specs.Lives.{HasDone, LivesOn};
 ghost use Rattle.mot_server.specs.Playing.{bytes_of_packets};
-ghost use Rattle.mot_session.specs.Life.{AreRight, Told, Tells, TellsLine, commands_done, fails_in};
+ghost use Rattle.mot_session.specs.Life.{AreRightReplies, Told, Tells, TellsLine, commands_done, fails_in};
 ghost use Rattle.mot_session.specs.Served.{TakesInput};
 
 use crate::{Geometry, MAX_READS, ServeEnd, WriteFault, serve, serve_line};
@@ -68,7 +68,7 @@ pub fn format_serve_and_restart<R: Read, W: Write, D: Disk, E: Disk + Drop>(
         × (told : List Told) × (in_flight : List Command)
         × Tells geometry.now input (R.remaining reader.new) life.end.lines life.end.fault
         told in_flight (W.contents writer.old) (W.contents writer.new)
-        × AreRight geometry.now (Some (carousel_from directory)) told
+        × AreRightReplies geometry.now (Some (carousel_from directory)) told
         × ((flat_map fails_in told ≡ [])
         ⊎ Rises (D.state disk).failures (D.state life.disk).failures)
         × (IsBlank (D.state disk)
@@ -144,7 +144,7 @@ pub fn serve_and_restart<R: Read, W: Write, D: Disk, E: Disk>(
         × (told : List Told) × (in_flight : List Command)
         × Tells g input (R.remaining reader.new) result.end.lines result.end.fault told in_flight
         (W.contents writer.old) (W.contents writer.new)
-        × (server.old.view.journal.layout ≡ Two → AreRight g (if server.old.view.halted then None
+        × (server.old.view.journal.layout ≡ Two → AreRightReplies g (if server.old.view.halted then None
         else carousel_after (carousel_from first) g.objects done) told)
         × ((flat_map fails_in told ≡ [])
         ⊎ Rises (D.state server.old.disk).failures (D.state server.new.disk).failures)

@@ -47,14 +47,89 @@ pub struct Figures<'a> {
     pub listed: u64,
 }
 
-/// A family of one sample.
+/// A family of samples.
 #[derive(Clone, Copy)]
-struct Row {
+struct Family {
     name: &'static str,
     kind: &'static str,
     help: &'static str,
-    value: u64,
 }
+
+const PACKETS: Family = Family {
+    name: "motcar_packets_total",
+    kind: "counter",
+    help: "Packets that were taken.",
+};
+
+const TURNS: Family = Family {
+    name: "motcar_turns_total",
+    kind: "counter",
+    help: "Turns that have ended.",
+};
+
+const LOOKS: Family = Family {
+    name: "motcar_looks_total",
+    kind: "counter",
+    help: "Looks at the folder.",
+};
+
+const CHANGES: Family = Family {
+    name: "motcar_changes_total",
+    kind: "counter",
+    help: "Commands that were done.",
+};
+
+const REFUSALS: Family = Family {
+    name: "motcar_refusals_total",
+    kind: "counter",
+    help: "Refusals that were logged.",
+};
+
+const OBJECTS: Family = Family {
+    name: "motcar_objects",
+    kind: "gauge",
+    help: "Objects of the carousel.",
+};
+
+const DIRECTORY: Family = Family {
+    name: "motcar_directory_id",
+    kind: "gauge",
+    help: "Transport id of the directory.",
+};
+
+const TURN_PACKETS: Family = Family {
+    name: "motcar_turn_packets",
+    kind: "gauge",
+    help: "Packets of a turn.",
+};
+
+const TURN_BYTES: Family = Family {
+    name: "motcar_turn_bytes",
+    kind: "gauge",
+    help: "Bytes of the packets of a turn.",
+};
+
+const FREE: Family = Family {
+    name: "motcar_free_bytes",
+    kind: "gauge",
+    help: "Bytes that are free for bodies.",
+};
+
+const GAP: Family = Family {
+    name: "motcar_gap_bytes",
+    kind: "gauge",
+    help: "The longest body that has room.",
+};
+
+const LISTED: Family = Family {
+    name: "motcar_folder_listed",
+    kind: "gauge",
+    help: "Whether the folder was listed.",
+};
+
+/// A family of one sample, and its value.
+#[derive(Clone, Copy)]
+struct Row(Family, u64);
 
 /// A label behind that of the disk.
 #[derive(Clone, Copy)]
@@ -85,78 +160,18 @@ fn add_figures(text: &mut Vec<u8>, disk: &str, figures: &Figures<'_>) -> Result<
     ensures { OnOk result (text.new.items ≡ text.old.items ++ rows_text disk.now figures.now) }
 {
     let rows = [
-        Row {
-            name: "motcar_packets_total",
-            kind: "counter",
-            help: "Packets that were taken.",
-            value: figures.packets,
-        },
-        Row {
-            name: "motcar_turns_total",
-            kind: "counter",
-            help: "Turns that have ended.",
-            value: figures.turns,
-        },
-        Row {
-            name: "motcar_looks_total",
-            kind: "counter",
-            help: "Looks at the folder.",
-            value: figures.looks,
-        },
-        Row {
-            name: "motcar_changes_total",
-            kind: "counter",
-            help: "Commands that were done.",
-            value: figures.changes,
-        },
-        Row {
-            name: "motcar_refusals_total",
-            kind: "counter",
-            help: "Refusals that were logged.",
-            value: figures.refusals,
-        },
-        Row {
-            name: "motcar_objects",
-            kind: "gauge",
-            help: "Objects of the carousel.",
-            value: figures.objects,
-        },
-        Row {
-            name: "motcar_directory_id",
-            kind: "gauge",
-            help: "Transport id of the directory.",
-            value: figures.directory,
-        },
-        Row {
-            name: "motcar_turn_packets",
-            kind: "gauge",
-            help: "Packets of a turn.",
-            value: figures.turn_packets,
-        },
-        Row {
-            name: "motcar_turn_bytes",
-            kind: "gauge",
-            help: "Bytes of the packets of a turn.",
-            value: figures.turn_bytes,
-        },
-        Row {
-            name: "motcar_free_bytes",
-            kind: "gauge",
-            help: "Bytes that are free for bodies.",
-            value: figures.free,
-        },
-        Row {
-            name: "motcar_gap_bytes",
-            kind: "gauge",
-            help: "The longest body that has room.",
-            value: figures.gap,
-        },
-        Row {
-            name: "motcar_folder_listed",
-            kind: "gauge",
-            help: "Whether the folder was listed.",
-            value: figures.listed,
-        },
+        Row(PACKETS, figures.packets),
+        Row(TURNS, figures.turns),
+        Row(LOOKS, figures.looks),
+        Row(CHANGES, figures.changes),
+        Row(REFUSALS, figures.refusals),
+        Row(OBJECTS, figures.objects),
+        Row(DIRECTORY, figures.directory),
+        Row(TURN_PACKETS, figures.turn_packets),
+        Row(TURN_BYTES, figures.turn_bytes),
+        Row(FREE, figures.free),
+        Row(GAP, figures.gap),
+        Row(LISTED, figures.listed),
     ];
     add_rows(text, disk, &rows)
 }
@@ -176,8 +191,9 @@ fn add_rows(text: &mut Vec<u8>, disk: &str, rows: &[Row]) -> Result<(), AllocErr
 fn add_row(text: &mut Vec<u8>, disk: &str, row: &Row) -> Result<(), AllocError>
     ensures { OnOk result (text.new.items ≡ text.old.items ++ row_text disk.now (row_of row.now)) }
 {
-    add_head(text, row.name, row.kind, row.help)?;
-    add_sample(text, disk, row.name, &[], row.value)
+    let Row(family, value) = *row;
+    add_head(text, family.name, family.kind, family.help)?;
+    add_sample(text, disk, family.name, &[], value)
 }
 
 /// Adds which program it is.

@@ -80,7 +80,7 @@ answers-more answers commands others [] are = are
 answers-more [] commands others (mark ∷ marks) are = absurd are
 answers-more (answer ∷ answers) [] others (mark ∷ marks) are = absurd are
 answers-more (answer ∷ answers) (command ∷ commands) others (mark ∷ marks) are =
-    (are.0, answers-more answers commands others marks are.1)
+    (are.0, are.1, answers-more answers commands others marks are.2)
 
 -- commands that were all answered, and then others
 pub answers-join : (answers more : List Answer) (commands others : List Command)
@@ -98,7 +98,8 @@ answers-join [] more (command ∷ commands) others (mark ∷ marks) then_marks a
 answers-join (answer ∷ answers) more (command ∷ commands) others (mark ∷ marks) then_marks are
     whole next = (
       are.0,
-      answers-join answers more commands others marks then_marks are.1
+      are.1,
+      answers-join answers more commands others marks then_marks are.2
           (omega (arith, whole)) next,
     )
 
@@ -113,15 +114,15 @@ answers-cut answers commands others marks are =
 pub answer-withdrew : (name : List ℕ) (attempt : Attempt)
     → AreAnswers (Withdrew name attempt ∷ []) (command.Withdraw name ∷ [])
     (attempts.marks_of (Ok attempt))
-answer-withdrew name (Accepted done) = ((refl, refl), refl)
-answer-withdrew name (Refused refusal) = ((refl, refl), refl)
+answer-withdrew name (Accepted done) = (refl, refl, refl)
+answer-withdrew name (Refused refusal) = (refl, refl, refl)
 
 -- one wanted object
 pub answers-settled : (settled : Settled) (w : Wanted)
     → AreAnswers (answers_of w.name settled) (commands_of settled w)
     (marks_of_settling (Ok settled))
 answers-settled settled.Right w = refl
-answers-settled (settled.Put (Accepted done)) w = ((refl, refl), refl)
-answers-settled (settled.Put (Refused refusal)) w = ((refl, refl), refl)
-answers-settled (settled.Replaced (Accepted done)) w = ((refl, refl), refl)
-answers-settled (settled.Replaced (Refused refusal)) w = ((refl, refl), refl)
+answers-settled (settled.Put (Accepted done)) w = (refl, refl, refl)
+answers-settled (settled.Put (Refused refusal)) w = (refl, refl, refl)
+answers-settled (settled.Replaced (Accepted done)) w = (refl, refl, refl)
+answers-settled (settled.Replaced (Refused refusal)) w = (refl, refl, refl)

@@ -2,6 +2,8 @@
 
 -- runs of commands: one behind another, one that was read behind, one that was answered
 pub use Rattle.mot_update.proofs.Runs.{answered_one, has_read, join, not_none}
+-- what is there twice is the same
+pub use Rattle.mot_update.proofs.Found.{same_err, same_ok, same_some}
 -- faults of calls one after the other
 pub use Rattle.mot_update.proofs.Faults.{attempted, calm_here, calm_on, fault_on}
 -- names that differ, and one more

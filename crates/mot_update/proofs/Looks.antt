@@ -13,6 +13,7 @@ use Rattle.std.proofs.lemmas.Bool.{and_parts, and_from, or_parts, or_from, not-t
 use Rattle.std.proofs.lemmas.Grind.{flat_map-append}
 use Rattle.std.proofs.lemmas.List.{map-append}
 use Rattle.std.proofs.lemmas.List.Concat.{flat_map-cons}
+use Rattle.std.proofs.lemmas.Option.{none-some}
 use Rattle.disk_model.specs.Disk.{State, IsHonestDisk, IsUnchanged}
 use Rattle.mot_journal.specs.Image.{Standing}
 use Rattle.mot_numbers.specs.declared.refusal.Refusal.{Refusal}
@@ -33,36 +34,26 @@ use Rattle.mot_update.specs.Laws.{names_of}
 use Rattle.mot_update.specs.HasRun.{marks_of_settling}
 use Rattle.mot_update.specs.Looking.{AreAccepted, Gives, HasLooked, HasSettled, RunsThrough}
 use Rattle.mot_update.specs.Looking.{unknown_names, was_settled, withdraw_all}
-use Rattle.mot_update.specs.Told.{Answer, AreAnswers, AreRight, IsRight, Withdrew, was_accepted}
-use Rattle.mot_update.specs.Told.AreRight.{no_answer}
-use Rattle.mot_update.proofs.Right.{right-cut, right-join, right-one}
+use Rattle.mot_update.specs.Told.{Answer, AreAnswers, AreAttemptsOf, Withdrew, was_accepted}
+use Rattle.mot_update.proofs.Right.{ComesOf, right-cut, right-join, right-one}
 use Rattle.mot_update.proofs.Answers.{answer-withdrew, answers-cut, answers-join}
 use Rattle.mot_update.specs.declared.settling.Settled.{Settled}
 use Rattle.mot_update.specs.declared.settling.Settled.TheVariants.{Right, Put, Replaced}
 use Rattle.mot_update.specs.Updating.{is_known, settling, settling_of, withdrawal}
 use Rattle.mot_update.specs.Updating.{withdrawals}
-use Rattle.mot_update.proofs.Found.{false_if_not_true, not_both, own_name, same_name, turned}
+use Rattle.mot_update.proofs.Found.{false_if_not_true, not_both, own_name, same_name, same_some}
+use Rattle.mot_update.proofs.Found.{turned}
 use Rattle.mot_update.proofs.Made.{IsOfOther, settlings-others, untouched, withdrawals-others}
 use Rattle.mot_update.proofs.Runs.{has_read, join, not_none}
 
 -- ---- names that differ
 
-some_is : (a b : List ℕ) → Some a ≡ Some b → a ≡ b
-some_is a b e = cc
-
-abbrev IsThere : Option (List ℕ) → Type 0
-IsThere None = ⊥
-IsThere (Some n) = Unit {0}
-
-nowhere : (n : List ℕ) → None ≡ Some n → ⊥
-nowhere n e = subst IsThere (sym e) tt
-
 pub known_at : (names : List (List ℕ)) (i : ℕ) (n : List ℕ) → slice_get names i ≡ Some n
     → is_known names n ≡ true
-known_at [] i n at = absurd (nowhere n at)
+known_at [] i n at = absurd (none-some n at)
 known_at (x ∷ names) zero n at =
     ap (λ t. t || is_known names n)
-    (subst (λ y. bytes_eq n y ≡ true) (sym (some_is x n at)) (own_name n))
+    (subst (λ y. bytes_eq n y ≡ true) (sym (same_some x n at)) (own_name n))
 known_at (x ∷ names) (suc i) n at = either_known (bytes_eq n x) (known_at names i n at)
   where
     either_known : (t : Bool) → is_known names n ≡ true → (t || is_known names n) ≡ true
@@ -71,12 +62,12 @@ known_at (x ∷ names) (suc i) n at = either_known (bytes_eq n x) (known_at name
 
 apart : (names : List (List ℕ)) (i j : ℕ) (n m : List ℕ) → are_names_distinct names ≡ true
     → i < j → slice_get names i ≡ Some n → slice_get names j ≡ Some m → bytes_eq n m ≡ false
-apart [] i j n m d lt at also = absurd (nowhere n at)
+apart [] i j n m d lt at also = absurd (none-some n at)
 apart (x ∷ names) i zero n m d lt at also = absurd (omega (arith, lt))
 apart (x ∷ names) zero (suc j) n m d lt at also =
     let p = and_parts (not (is_known names x)) (are_names_distinct names) d in
     false_if_not_true (bytes_eq n m) (λ e. not_both (is_known names m) (known_at names j m also)
-    (subst (λ y. is_known names y ≡ false) (some_is x n at ∙ same_name n m e)
+    (subst (λ y. is_known names y ≡ false) (same_some x n at ∙ same_name n m e)
     (not-true (is_known names x) p.0)))
 apart (x ∷ names) (suc i) (suc j) n m d lt at also =
     let p = and_parts (not (is_known names x)) (are_names_distinct names) d in
@@ -151,8 +142,8 @@ accepted_settled (Replaced attempt) is = accepted_one attempt is
 
 take_next : (names : List (List ℕ)) (i : ℕ) (n : List ℕ) → slice_get names i ≡ Some n
     → take (suc i) names ≡ take i names ++ n ∷ []
-take_next [] i n at = absurd (nowhere n at)
-take_next (x ∷ names) zero n at = ap (λ y. y ∷ []) (some_is x n at)
+take_next [] i n at = absurd (none-some n at)
+take_next (x ∷ names) zero n at = ap (λ y. y ∷ []) (same_some x n at)
 take_next (x ∷ names) (suc i) n at = ap (λ l. x ∷ l) (take_next names i n at)
 
 -- ---- what was given
@@ -219,7 +210,8 @@ pub record SettledSoFar {D : Type 0} (old new : ServerView D) (start now : State
   -- each answer is told, in order
   pub told : AreAnswers answers (flat_map (settling s.carousel.objects) wanted) marks
   -- and rightly
-  pub right : AreRight old.view.journal.layout s (flat_map (settling s.carousel.objects) wanted)
+  pub right : AreAttemptsOf old.view.journal.layout s
+      (flat_map (settling s.carousel.objects) wanted)
       answers
 
 -- a look that begins has settled nothing
@@ -239,7 +231,7 @@ settled_none old start s names place given fine sound honest still holds = recor
   accepted = λ e. tt;
   answers = [];
   told = refl;
-  right = no_answer s [];
+  right = tt;
 }
 
 module _ {D : Type 0} (old mid new : ServerView D) (start between now : State) (s : Standing)
@@ -289,8 +281,8 @@ module _ {D : Type 0} (old mid new : ServerView D) (start between now : State) (
 
   pub right_more : (answers : List Answer)
       → ((t : Standing) → Holds mid.view t between
-      → AreRight mid.view.journal.layout t (settling t.carousel.objects w) answers)
-      → AreRight old.view.journal.layout s
+      → AreAttemptsOf mid.view.journal.layout t (settling t.carousel.objects w) answers)
+      → AreAttemptsOf old.view.journal.layout s
       (flat_map (settling s.carousel.objects) (so_far.wanted ++ w ∷ []))
       (so_far.answers ++ answers)
   right_more answers right =
@@ -300,19 +292,19 @@ module _ {D : Type 0} (old mid new : ServerView D) (start between now : State) (
       let same : settling t.carousel.objects w ≡ f w =
       settles_on s.carousel t.carousel s.geometry.objects so_far.wanted so_far.marks w new_name
       so_far.run.leaves.after.carousel in
-      subst (λ l. AreRight layout s l (so_far.answers ++ answers))
+      subst (λ l. AreAttemptsOf layout s l (so_far.answers ++ answers))
       (sym (flat_map-push f so_far.wanted w))
       (right-join layout s t (flat_map f so_far.wanted) (f w) so_far.marks so_far.answers answers
       so_far.run.leaves.marked (so_far.run.whole refl) so_far.told so_far.right
-      (subst (λ l. AreRight layout t l answers) same
-      (subst (λ k. AreRight k t (settling t.carousel.objects w) answers) so_far.run.layout
+      (subst (λ l. AreAttemptsOf layout t l answers) same
+      (subst (λ k. AreAttemptsOf k t (settling t.carousel.objects w) answers) so_far.run.layout
       (right t (so_far.run.leaves.going refl)))))
 
-  pub right_cut : AreRight old.view.journal.layout s
+  pub right_cut : AreAttemptsOf old.view.journal.layout s
       (flat_map (settling s.carousel.objects) (so_far.wanted ++ w ∷ [])) so_far.answers
   right_cut =
       let f : Wanted → List Command = settling s.carousel.objects in
-      subst (λ l. AreRight old.view.journal.layout s l so_far.answers)
+      subst (λ l. AreAttemptsOf old.view.journal.layout s l so_far.answers)
       (sym (flat_map-push f so_far.wanted w))
       (right-cut old.view.journal.layout s (flat_map f so_far.wanted) (f w) so_far.answers
       so_far.right)
@@ -361,7 +353,7 @@ module _ {D : Type 0} (old mid new : ServerView D) (start between now : State) (
       → ((t : Standing) → Holds mid.view t between
       → AreAnswers answers (settling t.carousel.objects w) marks)
       → ((t : Standing) → Holds mid.view t between
-      → AreRight mid.view.journal.layout t (settling t.carousel.objects w) answers)
+      → AreAttemptsOf mid.view.journal.layout t (settling t.carousel.objects w) answers)
       → (later ≡ true → (fine ≡ true) × (further ≡ place + 1) × AreAccepted marks)
       → SettledSoFar old new start now s names first further before last later
   settled_more marks answers later run are right told = record {
@@ -440,7 +432,7 @@ settled_all old new start now s names first place before after last fine later s
 abbrev cut_fault : {D : Type 0} (old mid : ServerView D) (start between : State) (s : Standing)
     (all commands others : List Command) (marks : List Bool) (answers : List Answer) (fine : Bool)
     (refusal : Refusal) → AreAnswers answers commands marks
-    → AreRight old.view.journal.layout s commands answers → all ≡ commands ++ others
+    → AreAttemptsOf old.view.journal.layout s commands answers → all ≡ commands ++ others
     → IsHonestDisk between → between.IsHonest
     → IsUnchanged between between → HasRun old mid start between s commands marks None
     → RunsThrough old mid start between s all fine (Some refusal)
@@ -476,7 +468,7 @@ pub record WithdrewSoFar {D : Type 0} (old new : ServerView D) (start now : Stat
   -- each answer is told, in order
   pub told : AreAnswers answers commands marks
   -- and rightly
-  pub right : AreRight old.view.journal.layout s commands answers
+  pub right : AreAttemptsOf old.view.journal.layout s commands answers
 
 module _ {D : Type 0} (old mid : ServerView D) (start between : State) (s : Standing)
     (names : List (List ℕ)) (i : ℕ) (fine : Bool)
@@ -530,7 +522,7 @@ module _ {D : Type 0} (old mid : ServerView D) (start between : State) (s : Stan
         → ((t : Standing) → Holds mid.view t between → HasRun mid new between now t
         (Withdraw n ∷ []) (attempts.marks_of (Ok attempt)) None)
         → ((t : Standing) → Holds mid.view t between
-        → IsRight mid.view.journal.layout t (Withdraw n) attempt)
+        → ComesOf mid.view.journal.layout t (Withdraw n) attempt)
         → (later ≡ true → (fine ≡ true) × (was_accepted attempt ≡ true))
         → WithdrewSoFar old new start now s (withdraw_all (take (i + 1) names)) later
     withdrew_next attempt later run right told =
@@ -547,14 +539,14 @@ module _ {D : Type 0} (old mid : ServerView D) (start between : State) (s : Stan
               (answers-join one.answers (Withdrew n attempt ∷ []) (withdraw_all (take i names))
               (Withdraw n ∷ []) one.marks marks one.told (one.run.whole refl)
               (answer-withdrew n attempt));
-          right = subst (λ l. AreRight old.view.journal.layout s l
+          right = subst (λ l. AreAttemptsOf old.view.journal.layout s l
               (one.answers ++ Withdrew n attempt ∷ [])) (sym withdraw_one_more)
               (right-join old.view.journal.layout s one.run.leaves.last
               (withdraw_all (take i names)) (Withdraw n ∷ []) one.marks one.answers
               (Withdrew n attempt ∷ []) one.run.leaves.marked (one.run.whole refl) one.told
               one.right (right-one old.view.journal.layout one.run.leaves.last (Withdraw n)
               (Withdrew n attempt)
-              (subst (λ k. IsRight k one.run.leaves.last (Withdraw n) attempt) one.run.layout
+              (subst (λ k. ComesOf k one.run.leaves.last (Withdraw n) attempt) one.run.layout
               (right one.run.leaves.last (one.run.leaves.going refl)))));
         }
 
@@ -591,7 +583,7 @@ withdrew_none old start s fine sound honest still holds = record {
   accepted = λ e. tt;
   answers = [];
   told = refl;
-  right = no_answer s [];
+  right = tt;
 }
 
 -- ---- the look
@@ -705,7 +697,8 @@ look_on old mid new start between now s names gone first before after last fine 
             two.runs.marks one.told (one.run.whole refl) two.runs.told;
         right = right-join old.view.journal.layout s t one.commands two.runs.commands one.marks
             one.answers two.runs.answers one.run.leaves.marked (one.run.whole refl) one.told
-            one.right (subst (λ k. AreRight k t two.runs.commands two.runs.answers) one.run.layout
+            one.right
+            (subst (λ k. AreAttemptsOf k t two.runs.commands two.runs.answers) one.run.layout
             two.runs.right);
       };
     }

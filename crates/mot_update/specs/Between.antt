@@ -8,13 +8,12 @@ use Rattle.mot_objects.specs.declared.command.Command.{Command}
 use Rattle.mot_server.specs.Server.{ServerView}
 use Rattle.mot_update.specs.HasRun.{HasRun}
 use Rattle.mot_update.specs.declared.moment.Moment.{Moment}
-use Rattle.mot_update.specs.declared.moment.Moment.TheVariants.{AtLook, BetweenTurns, Within}
+use Rattle.mot_update.specs.declared.moment.Moment.TheVariants.{Within}
 
 -- whether a look may come there
 abbrev pub may_look : Moment → Bool
-may_look BetweenTurns = true
-may_look AtLook = true
 may_look Within = false
+may_look moment = true
 
 -- What is told of a call of an update: of the carousel that it found, the commands that it ran,
 -- whether each that was answered was accepted, and what broke them off.

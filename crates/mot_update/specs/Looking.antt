@@ -11,7 +11,7 @@ use Rattle.mot_objects.specs.declared.object.Object.{Object}
 use Rattle.mot_server.specs.Server.{ServerView}
 use Rattle.mot_update.specs.HasRun.{HasRun}
 use Rattle.mot_update.specs.Laws.{IsUpdate, names_of}
-use Rattle.mot_update.specs.Told.{Answer, AreAnswers, AreRight, was_accepted}
+use Rattle.mot_update.specs.Told.{Answer, AreAnswers, AreAttemptsOf, was_accepted}
 use Rattle.mot_update.specs.Updating.{is_known, settling, updating}
 use Rattle.mot_update.specs.declared.settling.Settled.{Settled}
 use Rattle.mot_update.specs.declared.settling.Settled.TheVariants.{Right, Put, Replaced}
@@ -56,7 +56,7 @@ pub record RunsThrough {D : Type 0} (old new : ServerView D) (start now : State)
   -- what was told of them
   pub answers : List Answer
   pub told : AreAnswers answers commands marks
-  pub right : AreRight old.view.journal.layout s commands answers
+  pub right : AreAttemptsOf old.view.journal.layout s commands answers
 
 -- Objects of these names were given, and settled one after the other. Where nothing was refused one
 -- of each name was given, behind the first so many.

@@ -1,12 +1,9 @@
 -- What a source learns of a look: what came of each command, in order.
-use Rattle.std.specs.Prelude.{◌≡◌, ◌⊎◌, ℕ, Bool, true, false, List, [], ◌∷◌, ◌++◌, Ok, Err}
+use Rattle.std.specs.Prelude.{◌≡◌, ℕ, Bool, true, false, List, [], ◌∷◌, ◌++◌, Ok, Err, ⊤}
 use Rattle.mot_journal.specs.Image.{Standing}
 use Rattle.mot_journal.specs.declared.layout.Layout.{Layout}
-use Rattle.mot_numbers.specs.declared.refusal.Refusal.{Refusal}
-use Rattle.mot_numbers.specs.declared.refusal.Refusal.TheVariants.{OutOfMemory}
 use Rattle.mot_objects.specs.declared.command.Command.{Command}
 use Rattle.mot_objects.specs.declared.command.Command.TheVariants as command
-use Rattle.mot_objects.specs.declared.command.Done.{Done}
 use Rattle.mot_repository.specs.Outcome.{after_command}
 use Rattle.mot_server.specs.declared.running.Attempt.{Attempt}
 use Rattle.mot_server.specs.declared.running.Attempt.TheVariants.{Accepted, Refused}
@@ -36,50 +33,40 @@ abbrev pub was_accepted : Attempt → Bool
 was_accepted (Accepted done) = true
 was_accepted (Refused refusal) = false
 
--- it is what came of this command, which was marked so
-abbrev pub IsAnswerTo : Answer → Command → Bool → Type 0
-IsAnswerTo (Withdrew name attempt) (command.Withdraw n) mark =
-    (name ≡ n) × (was_accepted attempt ≡ mark)
-IsAnswerTo (Put name attempt) (command.Put n content mime body) mark =
-    (name ≡ n) × (was_accepted attempt ≡ mark)
-IsAnswerTo (Replaced name attempt) (command.Replace n content mime body) mark =
-    (name ≡ n) × (was_accepted attempt ≡ mark)
-IsAnswerTo answer other mark = ⊥
-
--- each command that was answered is told, in order, and nothing else
-abbrev pub AreAnswers : List Answer → List Command → List Bool → Type 0
-AreAnswers answers commands [] = answers ≡ []
-AreAnswers [] commands (mark ∷ marks) = ⊥
-AreAnswers (answer ∷ answers) [] (mark ∷ marks) = ⊥
-AreAnswers (answer ∷ answers) (command ∷ commands) (mark ∷ marks) =
-    IsAnswerTo answer command mark × AreAnswers answers commands marks
-
 -- what came of its command
 abbrev pub came_of : Answer → Attempt
 came_of (Withdrew name attempt) = attempt
 came_of (Put name attempt) = attempt
 came_of (Replaced name attempt) = attempt
 
--- It is what comes of this command, on a disk of this layout that stands for this: the ids that it
--- takes, or why it is refused. In the place of a refusal want of memory may be told.
-abbrev pub IsRight : Layout → Standing → Command → Attempt → Type 0
-IsRight layout s command (Accepted done) =
-    (next : Standing) × (after_command layout s command ≡ Ok (next, done))
-IsRight layout s command (Refused refusal) =
-    (after_command layout s command ≡ Err refusal) ⊎ (refusal ≡ OutOfMemory)
+-- it tells of this command
+abbrev pub IsAnswerTo : Answer → Command → Type 0
+IsAnswerTo (Withdrew name attempt) (command.Withdraw n) = name ≡ n
+IsAnswerTo (Put name attempt) (command.Put n content mime body) = name ≡ n
+IsAnswerTo (Replaced name attempt) (command.Replace n content mime body) = name ≡ n
+IsAnswerTo answer other = ⊥
+
+-- each command that was answered is told, as it was marked, in order, and nothing else
+abbrev pub AreAnswers : List Answer → List Command → List Bool → Type 0
+AreAnswers answers commands [] = answers ≡ []
+AreAnswers (answer ∷ answers) (command ∷ commands) (mark ∷ marks) = IsAnswerTo answer command
+    × (was_accepted (came_of answer) ≡ mark) × AreAnswers answers commands marks
+AreAnswers answers commands (mark ∷ marks) = ⊥
+
+-- It is what comes of this command, on a disk of this layout that stands for this, and then for
+-- that: the ids that it takes, or why it is refused.
+abbrev pub IsAttemptOf : Layout → Standing → Command → Attempt → Standing → Type 0
+IsAttemptOf layout s command (Accepted done) next = after_command layout s command ≡ Ok (next, done)
+IsAttemptOf layout s command (Refused refusal) next =
+    (next ≡ s) × (after_command layout s command ≡ Err refusal)
 
 -- each answer tells what comes of its command, behind those before it
-pub data AreRight (layout : Layout) : Standing → List Command → List Answer → Type 0 where
-  no_answer : (s : Standing) (commands : List Command) → AreRight layout s commands []
-  one_accepted : (s next : Standing) (command : Command) (commands : List Command)
-      (answer : Answer) (answers : List Answer) (done : Done) → came_of answer ≡ Accepted done
-      → after_command layout s command ≡ Ok (next, done) → AreRight layout next commands answers
-      → AreRight layout s (command ∷ commands) (answer ∷ answers)
-  one_refused : (s : Standing) (command : Command) (commands : List Command)
-      (answer : Answer) (answers : List Answer) (refusal : Refusal)
-      → came_of answer ≡ Refused refusal → IsRight layout s command (Refused refusal)
-      → AreRight layout s commands answers
-      → AreRight layout s (command ∷ commands) (answer ∷ answers)
+abbrev pub AreAttemptsOf : Layout → Standing → List Command → List Answer → Type 0
+AreAttemptsOf layout s commands [] = ⊤
+AreAttemptsOf layout s [] (answer ∷ answers) = ⊥
+AreAttemptsOf layout s (command ∷ commands) (answer ∷ answers) =
+    (next : Standing) × IsAttemptOf layout s command (came_of answer) next
+    × AreAttemptsOf layout next commands answers
 
 -- what was told goes on by these
 abbrev pub TellsMore : (List Answer → Type 0) → (List Answer → Type 0) → List Answer → Type 0

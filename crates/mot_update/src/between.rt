@@ -24,8 +24,8 @@ pub trait Update {
     ghost tells: { Self → Self → Moment → Carousel → List Command → List Bool → Option Refusal
         → Type 0 } = { λ _ _ _ _ _ _ _. ⊤ };
 
-    /// Does what is to be done now: before the first packet, and then after each packet. The
-    /// error is what would end a run of commands, or that a body can't be read.
+    /// Does what is to be done now, in front of a packet. The error is what would end a run of
+    /// commands, or that a body can't be read.
     fn update<D: Disk>(
         &mut self,
         server: &mut Server<D>,

@@ -3,14 +3,14 @@ use Rattle.std.specs.Prelude.{◌≡◌, ℕ, ◌≤◌, length, take}
 use Rattle.std.proofs.Common.{refl, arith, ap, sym, ◌∙◌, subst}
 use Rattle.std.proofs.lemmas.List.{take_all}
 use Rattle.disk_model.specs.Disk.{IsHonestDisk}
-use Rattle.disk_store.specs.Content.{after_events, at_start, IsImageOf}
+use Rattle.disk_store.specs.Content.{after_event, at_start, replay, IsImageOf}
 use Rattle.disk_store.specs.Memory.{content, memory_state}
 use Rattle.disk_store.specs.declared.memory.MemoryDisk.{MemoryDisk}
 
 now_is : (disk : MemoryDisk) (k : ℕ) → length disk.log.items ≤ k
-    → after_events (take k disk.log.items) (at_start disk.first.items) ≡ content disk
+    → replay after_event (take k disk.log.items) (at_start disk.first.items) ≡ content disk
 now_is disk k le =
-    ap (λ l. after_events l (at_start disk.first.items)) (take_all k disk.log.items le)
+    ap (λ l. replay after_event l (at_start disk.first.items)) (take_all k disk.log.items le)
     ∙ disk.recorded
 
 pub memory_sound : (disk : MemoryDisk) → IsHonestDisk (memory_state disk)

@@ -22,7 +22,7 @@ const PIECE: u64 = 16_384;
 #[derive(Drop)]
 pub struct HeldFile {
     file: File,
-    pub history: History,
+    history: History,
 }
 
 impl HeldFile {

@@ -14,8 +14,8 @@ use Rattle.mot_suffixes.specs.Types.{SuffixType}
 
 -- it came to its end, and was told whole; or it broke off, or could not be told
 pub data LooksAndTells {D : Type 0} (old new : ServerView D) (start now : State) (s : Standing)
-    (types : List SuffixType) (allows : Bool) (path : List ℕ) (given : Given) (before after : Option (List ℕ))
-    (result : Result Bool Refusal) : Type 0 where
+    (types : List SuffixType) (allows : Bool) (path : List ℕ) (given : Given)
+    (before after : Option (List ℕ)) (result : Result Bool Refusal) : Type 0 where
   told : (report : Report) → result ≡ Ok (not report.any_refused) → report.any_left_out ≡ false
       → Appends before after report.lines.items
       → HasLookedAtFolder old new start now s types allows path given report None

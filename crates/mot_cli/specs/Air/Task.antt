@@ -24,7 +24,8 @@ flag_goes_with rows name other = not (is_set rows name) || is_some (first_of oth
 -- looked at, and how
 abbrev pub is_whole : List Row → Bool
 is_whole rows =
-    goes_with rows (codes "every") (codes "lines") && goes_with rows (codes "types") (codes "folder")
+    goes_with rows (codes "every") (codes "lines")
+    && goes_with rows (codes "types") (codes "folder")
     && goes_with rows (codes "look") (codes "folder")
     && flag_goes_with rows (codes "allow-empty") (codes "folder")
     && flag_goes_with rows (codes "at-once") (codes "folder")
@@ -47,7 +48,8 @@ IsAirTask name rows (Play p) =
     (name ≡ codes "play") × NameWord rows (codes "DISK") p.disk.now
     × NameWord rows (codes "PACKETS") p.packets.now
     × NameOption rows (codes "folder") p.folder × NameOption rows (codes "types") p.types
-    × AreRules rows p.rules × NameOption rows (codes "lines") p.lines × IsGiven (first_of (codes "every") rows) p.every
+    × AreRules rows p.rules × NameOption rows (codes "lines") p.lines
+    × IsGiven (first_of (codes "every") rows) p.every
     × IsGiven (first_of (codes "turns") rows) p.turns
     × IsGiven (first_of (codes "directory") rows) p.directory
     × IsGiven (first_of (codes "look") rows) p.look

@@ -174,7 +174,7 @@ fn is_rate(rate: Option<u32>) -> bool
 
 /// Whether each option is given with the other of which it says more: `--every` with `--lines`, and
 /// `--types`, `--look`, `--allow-empty` and `--at-once` with `--folder`.
-fn is_whole(words: &ArgMatches<'_>) -> bool
+pub fn is_whole(words: &ArgMatches<'_>) -> bool
     ensures { result ≡ is_whole (rows_of (found_of words.now)) }
 {
     goes_with(words, "every", "lines")

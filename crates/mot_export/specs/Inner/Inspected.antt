@@ -20,10 +20,10 @@ pub record IsTurnSize (place : Place) (count bytes : ℕ) : Type 0 where
   pub count_is : count ≡ length packets
   pub bytes_are : bytes ≡ bytes_of_all packets
 
--- why a turn could not be counted; the counts of failures are those before and after
-abbrev pub IsCountingFault : Refusal → ℕ → ℕ → Type 0
+-- why a turn could not be counted; the counts of failures are those before and now
+abbrev pub IsCountingFault : Refusal → (before now : ℕ) → Type 0
 IsCountingFault refusal before now =
-    (refusal ≡ BadNumber) ⊎ ((refusal ≡ DeviceFault) × Rises before now)
+    ((refusal ≡ BadNumber) × (now ≡ before)) ⊎ ((refusal ≡ DeviceFault) × Rises before now)
 
 -- what was printed, of which this is known, tells of a server that plays from this place
 pub record HasInspected (rate : Option ℕ) (journal : JournalView) (place : Place) (s : Standing)
@@ -37,7 +37,8 @@ pub record HasInspected (rate : Option ℕ) (journal : JournalView) (place : Pla
       (rates_of rate))
 
 -- why it could not be
-abbrev pub IsInspectingFault : Refusal → ℕ → ℕ → (old new : Option (List ℕ)) → Type 0
+abbrev pub IsInspectingFault : Refusal → (before now : ℕ) → (old new : Option (List ℕ)) → Type 0
 IsInspectingFault refusal before now old new =
-    (refusal ≡ WriteFault)
-    ⊎ ((IsCountingFault refusal before now ⊎ (refusal ≡ OutOfMemory)) × Keeps old new)
+    ((refusal ≡ WriteFault) × (now ≡ before))
+    ⊎ ((IsCountingFault refusal before now ⊎ ((refusal ≡ OutOfMemory) × (now ≡ before)))
+    × Keeps old new)

@@ -17,13 +17,14 @@ use Rattle.mot_server.specs.declared.running.Attempt.{Attempt}
 use Rattle.mot_server.specs.declared.running.Attempt.TheVariants.{Accepted, Refused}
 use Rattle.mot_session.specs.Life.{is_done}
 use Rattle.mot_session.specs.OnAnyDisk.{AnswersAnyhow}
+use Rattle.mot_session.specs.Served.{WritesFront}
 use Rattle.mot_session.specs.Stored.{command_in}
 use Rattle.mot_update.specs.HasRun.{HasRun}
 
--- a reply was told, where that is so
+-- of a reply some first bytes were written at least; and it was told, where that is so
 abbrev pub TellsThere : Bool → Bool → Option (List ℕ) → Option (List ℕ) → List ℕ → Type 0
-TellsThere was_told is_told written now text =
-    is_told ≡ true → (was_told ≡ true) × Appends written now text
+TellsThere was_told is_told written now text = WritesFront text written now
+    × (is_told ≡ true → (was_told ≡ true) × Appends written now text)
 
 -- the command of a request, where the reply says that it is done
 abbrev pub done_of : Result Line Refusal → List ℕ → List command.Command

@@ -1,8 +1,12 @@
 -- A folder while its names are listed.
-use Rattle.std.specs.Prelude.{◌≡◌, ◌≢◌, ◌⊎◌, ◌<◌, ◌≤◌, ℕ, List, [], ◌∷◌, ◌++◌, length}
-use Rattle.std.specs.List.{flat_map}
-use Rattle.mot_folder.specs.Listed.{AreEither, names_in, object_names, with_type}
+use Rattle.std.specs.Prelude.{◌≡◌, ◌≢◌, ◌⊎◌, ◌<◌, ◌≤◌, ℕ, Bool, false, List, [], ◌∷◌, ◌++◌}
+use Rattle.std.specs.Prelude.{codes, length}
+use Rattle.std.specs.List.{flat_map, list_any}
+use Rattle.mot_folder.specs.Listed.{AreEither, nameless, names_in, object_names, with_type}
+use Rattle.mot_folder.specs.Log.{LogEntry, ReportTells, TellsOne, entry_with, is_read, names_read}
+use Rattle.mot_folder.specs.Log.{of_look}
 use Rattle.mot_folder.specs.declared.listing.TheConstants.{MAX_NAMES}
+use Rattle.mot_folder.specs.declared.report.Report.{Report}
 use Rattle.mot_numbers.specs.declared.refusal.Refusal.{Refusal}
 use Rattle.mot_numbers.specs.declared.refusal.Refusal.TheVariants.{OutOfMemory, ReadFault}
 use Rattle.mot_numbers.specs.declared.refusal.Refusal.TheVariants.{TooManyObjects}
@@ -77,3 +81,24 @@ pub data GivesNoMore (types : List SuffixType) (old new : Given) (counted : ℕ)
       → GivesNoMore types old new counted names refusal
   endless : refusal ≡ ReadFault → 18446744073709551615 ≤ length new.listed
       → GivesNoMore types old new counted names refusal
+
+-- These are the names of regular files that a folder gave so far. The report tells those of them
+-- that have no name of an object, and beside them only notes.
+pub record TellsNameless (files : List (List ℕ)) (report : Report) : Type 0 where
+  pub entries : List LogEntry
+  pub told : ReportTells report entries
+  pub are : of_look entries ≡ []
+  pub any : report.any_refused ≡ list_any is_read entries
+  pub read : names_read entries ≡ nameless files
+
+-- why a name is left out: what it names; or it names a regular file, and has none of the suffixes
+abbrev pub IsLeftOutFor : (has_suffix : Bool) → (rest : List ℕ) → Type 0
+IsLeftOutFor has_suffix rest =
+    (rest ≡ codes "folder\n") ⊎ (rest ≡ codes "link\n") ⊎ (rest ≡ codes "special\n")
+    ⊎ ((has_suffix ≡ false) × (rest ≡ codes "suffix\n"))
+
+-- nothing was told; or that this name is left out, once and for such a reason
+pub data Skips (old new : Report) (name : List ℕ) (has_suffix : Bool) : Type 0 where
+  untold : new ≡ old → Skips old new name has_suffix
+  told_so : (rest : List ℕ) → IsLeftOutFor has_suffix rest
+      → TellsOne old new (entry_with (codes "skip") name rest) → Skips old new name has_suffix

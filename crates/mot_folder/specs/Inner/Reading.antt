@@ -1,12 +1,10 @@
 -- A folder while its files are read, and what a source of them was told.
-use Rattle.std.specs.Prelude.{◌≡◌, ◌⊎◌, ◌<◌, ℕ, List, [], ◌∷◌, ◌++◌, codes, length, map, take, None, Some}
+use Rattle.std.specs.Prelude.{◌≡◌, ◌⊎◌, ℕ, List, [], ◌∷◌, ◌++◌, codes, length, map, take}
+use Rattle.std.specs.Prelude.{None, Some}
 use Rattle.mot_folder.specs.Listed.{IsListing}
 use Rattle.mot_folder.specs.Log.{TellsOf, TellsOne, entry_with}
-use Rattle.mot_folder.specs.Taken.{wanted_file}
+use Rattle.mot_folder.specs.Taken.{IsUntakable, wanted_file}
 use Rattle.mot_folder.specs.declared.report.Report.{Report}
-use Rattle.mot_numbers.specs.declared.refusal.Refusal.{Refusal}
-use Rattle.mot_numbers.specs.declared.refusal.Refusal.TheVariants.{OutOfMemory}
-use Rattle.mot_objects.specs.declared.body.TheConstants.{MAX_BODY}
 use Rattle.mot_server.specs.declared.running.Attempt.TheVariants.{Accepted}
 use Rattle.mot_shelf.specs.Given.{Given, and_missed, and_read}
 use Rattle.mot_suffixes.specs.Types.{SuffixType, type_of_name}
@@ -22,17 +20,12 @@ pub record Takes (types : List SuffixType) (name : List ℕ) (old new : Given) (
   pub read : new ≡ and_read old name bytes
   pub made : wanted ≡ wanted_file type name bytes
 
--- it was not, or nothing is
-pub data Misses (name : List ℕ) (old new : Given) : Type 0 where
-  was_unread : new ≡ and_missed old name → Misses name old new
-  was_refused : (bytes : List ℕ) → new ≡ and_read old name bytes → Misses name old new
-
--- Why a file of this name with these bytes makes no object: it has none of the suffixes, or breaks
--- the rule of bodies; or memory was wanted.
-abbrev pub IsUntakable : List SuffixType → List ℕ → List ℕ → Refusal → Type 0
-IsUntakable types name bytes refusal =
-    (type_of_name types name ≡ None) ⊎ (length bytes < 1) ⊎ (MAX_BODY < length bytes)
-    ⊎ (refusal ≡ OutOfMemory)
+-- it was not; or it was, and makes no object, or memory was wanted
+pub data Misses (types : List SuffixType) (name : List ℕ) (old new : Given) (NoMemory : Type 0) :
+    Type 0 where
+  was_unread : new ≡ and_missed old name → Misses types name old new NoMemory
+  was_refused : (bytes : List ℕ) → new ≡ and_read old name bytes
+      → IsUntakable types name bytes ⊎ NoMemory → Misses types name old new NoMemory
 
 -- a file of this name is told as one that was not taken
 abbrev pub TellsFile : Report → Report → List ℕ → Type 0

@@ -1,8 +1,8 @@
 //! The words of a line, one by one.
 ghost use Rattle.std.specs.Prelude.{◌≡◌};
 ghost use Rattle.hex.specs.Hex.{decode_of};
-ghost use Rattle.mot_lines.specs.Fields.{kind_in, tid_in, segment_in, name_in, content_in, mime_in};
-ghost use Rattle.mot_lines.specs.Fields.{body_in, period_in, count_in};
+ghost use Rattle.mot_lines.specs.Fields.{kind_in, number_to, segment_in, name_in, content_in};
+ghost use Rattle.mot_lines.specs.Fields.{mime_in, body_in, period_in};
 ghost use Rattle.mot_lines.specs.Inner.Words.{OrOutOfMemory};
 ghost use Rattle.mot_lines.specs.Words.{number_of_word};
 
@@ -27,7 +27,7 @@ pub(super) fn parse_kind(word: &[u8]) -> Result<GroupKind, Refusal>
 
 /// TID, or `BadNumber`.
 pub(super) fn parse_tid(word: &[u8]) -> Result<TransportId, Refusal>
-    ensures { result ≡ tid_in (number_of_word word.now) }
+    ensures { result ≡ number_to 65535 (number_of_word word.now) }
 {
     let Some(number) = parse_number(word) else {
         return Err(Refusal::BadNumber);
@@ -109,7 +109,7 @@ pub(super) fn parse_period(word: &[u8]) -> Result<Period, Refusal>
 
 /// N of a `next` line, or `BadNumber`.
 pub(super) fn parse_count(word: &[u8]) -> Result<u32, Refusal>
-    ensures { result ≡ count_in (number_of_word word.now) }
+    ensures { result ≡ number_to MAX_PACKETS (number_of_word word.now) }
 {
     let Some(number) = parse_number(word) else {
         return Err(Refusal::BadNumber);

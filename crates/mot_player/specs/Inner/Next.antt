@@ -2,10 +2,10 @@
 use Rattle.std.specs.Prelude.{◌≡◌, ℕ, ◌+◌, ◌-◌, ◌==◌, if◌then◌else◌, List, ◌∷◌, length, take, drop}
 use Rattle.mot_groups.specs.Group.{Segment}
 use Rattle.mot_numbers.specs.Reading.{is_empty}
-use Rattle.mot_player.specs.Course.{CourseView, passed}
+use Rattle.mot_player.specs.Course.{CourseView, entities_of, queued, waiting_of}
+use Rattle.mot_player.specs.Inner.Course.{passed}
+use Rattle.mot_player.specs.PlayerView.{AreBodiesFor, TurnPlan, turn_with}
 use Rattle.mot_player.specs.declared.part.Part.{Part}
-use Rattle.mot_player.specs.PlayerView.{AreBodiesFor, TurnPlan, entities_of, queued, turn_with}
-use Rattle.mot_player.specs.PlayerView.{waiting_of}
 use Rattle.mot_player.specs.Inner.Entities.{entity_bytes, entity_tid}
 use Rattle.mot_player.specs.Turn.{segments_of_turn}
 

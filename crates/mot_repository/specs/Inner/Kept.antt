@@ -1,7 +1,7 @@
 -- What a repository keeps in memory, and has room for.
 use Rattle.std.specs.Prelude.{◌≡◌, map}
 use Rattle.mot_journal.specs.Catalogue.{Placed, Catalogue, extents_of}
-use Rattle.mot_repository.specs.Prepared.{IsFull}
+use Rattle.mot_repository.specs.Inner.Prepared.{IsFull}
 use Rattle.mot_repository.specs.Repository.{RepositoryView}
 use Rattle.std.specs.Prelude.{◌⊎◌, IsFalse, List}
 use Rattle.disk_model.specs.Disk.{State}
@@ -10,7 +10,7 @@ use Rattle.mot_journal.specs.Image.{Standing}
 use Rattle.mot_journal.specs.Journal.{JournalView}
 use Rattle.mot_journal.specs.declared.layout.Layout.{Layout}
 use Rattle.mot_numbers.specs.declared.geometry.Geometry.{Geometry}
-use Rattle.mot_repository.specs.Prepared.{IsFull}
+use Rattle.mot_repository.specs.Inner.Prepared.{IsFull}
 use Rattle.mot_repository.specs.Repository.{Agrees, Holds}
 use Rattle.mot_repository.specs.declared.inventory.Inventory.{Inventory}
 

@@ -5,7 +5,7 @@ use Rattle.mot_journal.specs.Image.{catalogue_of}
 use Rattle.mot_journal.specs.Image.{records_of}
 use Rattle.mot_journal.specs.Journal.{JournalView, with_records}
 use Rattle.mot_objects.specs.declared.carousel.Carousel.{Carousel}
-use Rattle.mot_repository.specs.Extents.{catalogue_with}
+use Rattle.mot_repository.specs.Inner.Extents.{catalogue_with}
 
 -- these bytes have records where the journal stands, and they fold to this carousel and its extents
 pub record IsLoaded (bytes : List ℕ) (j : JournalView) (carousel : Carousel)

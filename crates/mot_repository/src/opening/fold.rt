@@ -10,7 +10,8 @@ ghost use Rattle.mot_journal.specs.Catalogue.{objects_after, placed_without, is_
 ghost use Rattle.mot_objects.specs.Ids.{is_distinct};
 ghost use Rattle.mot_objects.specs.Stands.{index_of};
 ghost use Rattle.mot_objects.specs.declared.object.Object.{Object};
-ghost use Rattle.mot_repository.specs.Extents.{catalogue_with, objects_in};
+ghost use Rattle.mot_repository.specs.Extents.{ArePaired};
+ghost use Rattle.mot_repository.specs.Inner.Extents.{catalogue_with, objects_in};
 ghost use Rattle.mot_repository.specs.Inner.Bounds.{AreEndsWithin, AreIdsWithin, AreNamesFlagged};
 ghost use Rattle.mot_repository.specs.Inner.Bounds.{AreWithin};
 ghost use Rattle.mot_repository.specs.Inner.Fold.{HaveLengths, are_extents_apart, are_consistent};
@@ -19,12 +20,21 @@ ghost use Rattle.mot_repository.specs.Inner.Fold.{IsFoldRefusal, HasShortId, Has
 ghost use Rattle.mot_repository.specs.declared.opening.bounds.Bounds.{Bounds};
 
 use super::bounds::Bounds;
+use crate::by_start::sorted_by_start;
 use crate::gap::is_clear;
 use crate::inventory::Inventory;
 use mot_journal::{Action, Record};
 use mot_numbers::{Geometry, Refusal, TransportId};
 use mot_objects::{Carousel, Name, Object, Period};
 use std::alloc::{AllocError, Global};
+
+/// A carousel without its bodies, and for each object where its body begins, and its length.
+#[derive(Drop)]
+struct Folded {
+    carousel: Carousel,
+    extents: Vec<(u32, u32)>,
+    ghost paired: { ArePaired carousel extents.items },
+}
 
 /// The carousel that these records of a disk of this geometry stand for; `Damaged` with the number
 /// of the first that makes a fault of the list, and `OutOfMemory`.
@@ -41,19 +51,39 @@ pub(crate) fn inventory_of(
     ensures refused { IfErr result
         (λ refusal. IsFoldRefusal geometry.now.objects records.items refusal) }
 {
+    let folded = fold_records(alloc, geometry, records)?;
+    let by_start = sorted_by_start(alloc, &folded.extents)?;
+    let Folded { carousel, extents } = folded;
+    Ok(Inventory {
+        carousel,
+        extents,
+        by_start,
+    })
+}
+
+/// The records, one after the other. It is not sorted yet where their bodies lie.
+fn fold_records(alloc: Global, geometry: &Geometry, records: Vec<Record>) -> Result<Folded, Refusal>
+    requires few { geometry.now.objects ≤ MAX_OBJECTS }
+    requires numbered { vec_len records ≤ 65536 }
+    ensures folded { IfOk result (λ f. catalogue_of geometry.now.objects records.items
+        ≡ Ok (catalogue_with f.carousel f.extents.items)) }
+    ensures short { IfOk result (λ _. All HasShortIds records.items) }
+    ensures refused { IfErr result
+        (λ refusal. IsFoldRefusal geometry.now.objects records.items refusal) }
+{
     let limit = geometry.objects;
-    let mut inventory = new_inventory(alloc, limit)?;
+    let mut folded = nothing_folded(alloc, limit)?;
     let mut bounds = Bounds::of_none();
     let mut slot: usize = 0;
     for entry in records {
         know_ids(&entry);
-        match inventory_after(inventory, &mut bounds, limit, entry) {
-            Some(next) => inventory = next,
+        match folded_after(folded, &mut bounds, limit, entry) {
+            Some(next) => folded = next,
             None => return Err(Refusal::Damaged(slot as u16)),
         }
         slot += 1;
     }
-    Ok(inventory)
+    Ok(folded)
 }
 
 /// What the types of a record's ids say: they are numbers of two bytes. It is there for the proof,
@@ -80,7 +110,7 @@ fn know_object_id(action: &Action)
 }
 
 /// No objects, with room for so many.
-fn new_inventory(alloc: Global, limit: u16) -> Result<Inventory, AllocError>
+fn nothing_folded(alloc: Global, limit: u16) -> Result<Folded, AllocError>
     ensures new { IfOk result (λ i. catalogue_with i.carousel i.extents.items ≡ new_catalogue) }
     ensures no_object { IfOk result (λ i. i.carousel.objects.items ≡ []) }
     ensures no_extent { IfOk result (λ i. i.extents.items ≡ []) }
@@ -89,7 +119,7 @@ fn new_inventory(alloc: Global, limit: u16) -> Result<Inventory, AllocError>
 {
     let objects = Vec::with_capacity(alloc, usize::from(limit))?;
     let extents = Vec::with_capacity(alloc, usize::from(limit))?;
-    Ok(Inventory {
+    Ok(Folded {
         carousel: Carousel {
             period: Period::ZERO,
             directory: TransportId::FIRST,
@@ -100,23 +130,18 @@ fn new_inventory(alloc: Global, limit: u16) -> Result<Inventory, AllocError>
     })
 }
 
-/// The inventory after one record more; `None` for a fault of the list. It is consistent before, so
+/// What is folded with one record more; `None` for a fault of the list. It is consistent before, so
 /// only what the record brings is compared with what stands.
-fn inventory_after(
-    inventory: Inventory,
-    bounds: &mut Bounds,
-    limit: u16,
-    entry: Record,
-) -> Option<Inventory>
-    requires bounded { AreWithin bounds.old inventory.carousel.objects.items
-        inventory.extents.items }
+fn folded_after(folded: Folded, bounds: &mut Bounds, limit: u16, entry: Record) -> Option<Folded>
+    requires bounded { AreWithin bounds.old folded.carousel.objects.items
+        folded.extents.items }
     requires few { limit ≤ MAX_OBJECTS }
-    requires room { limit ≤ vec_capacity inventory.carousel.objects }
-    requires room_of_extents { limit ≤ vec_capacity inventory.extents }
+    requires room { limit ≤ vec_capacity folded.carousel.objects }
+    requires room_of_extents { limit ≤ vec_capacity folded.extents }
     requires consistent { is_consistent
-        (catalogue_with inventory.carousel inventory.extents.items) ≡ true }
+        (catalogue_with folded.carousel folded.extents.items) ≡ true }
     ensures after { let after = catalogue_after limit
-        (catalogue_with inventory.carousel inventory.extents.items) entry in
+        (catalogue_with folded.carousel folded.extents.items) entry in
         MatchOption result (after ≡ None)
         (λ next. after ≡ Some (catalogue_with next.carousel next.extents.items)) }
     ensures room { IfSome result (λ next. limit ≤ vec_capacity next.carousel.objects) }
@@ -124,10 +149,10 @@ fn inventory_after(
     ensures bounded { IfSome result (λ next. AreWithin bounds.new next.carousel.objects.items
         next.extents.items) }
 {
-    let Inventory {
+    let Folded {
         carousel,
         mut extents,
-    } = inventory;
+    } = folded;
     let Carousel {
         period: _,
         directory: _,
@@ -146,7 +171,7 @@ fn inventory_after(
     if is_id_used(&objects, bounds.greatest_id, directory) {
         return None;
     }
-    Some(Inventory {
+    Some(Folded {
         carousel: Carousel {
             period,
             directory,

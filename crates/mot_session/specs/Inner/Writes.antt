@@ -21,7 +21,7 @@ use Rattle.mot_server.specs.Runs.{StandsAfterSome}
 use Rattle.mot_server.specs.Server.{ServerView}
 use Rattle.mot_session.specs.declared.serving.output.WriteFault.{WriteFault}
 use Rattle.mot_session.specs.Output.{Writes}
-use Rattle.mot_session.specs.Played.{sent_line}
+use Rattle.mot_session.specs.Packets.{sent_line}
 use Rattle.mot_session.specs.Served.{BrokenOff}
 use Rattle.mot_session.specs.Session.{Reply, Answers, Exchange, accepted, refused, text_of}
 use Rattle.mot_session.specs.State.{KeepsCarousel, ServerState, Stays}

@@ -5,7 +5,7 @@ use Rattle.mot_status.specs.declared.text.Label.{Label}
 use Rattle.mot_status.specs.declared.text.Row.{Row}
 
 abbrev pub row_of : Row → public.Row
-row_of r = public.row r.name.now r.kind.now r.help.now r.value
+row_of r = public.row r.0.name.now r.0.kind.now r.0.help.now r.1
 
 abbrev pub label_of : Label → List ℕ
 label_of l = public.more_label l.name.now l.value.now

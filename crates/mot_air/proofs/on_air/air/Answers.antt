@@ -23,8 +23,8 @@ returns-in-Some g c =
     same_numbers (λ d l t h. Plays (tale_with (watched c.args.airing.folder
     (λ followed. watch_in (manner d l t) (g.F.Shelf.path followed.shelf) followed.types.now
     followed.allows_empty followed.every))
-    h (manner d l t) c.play_and_answer.result.inputs) (manner d l t) ending before after start
-    now)
+    h (manner d l t) c.play_and_answer.result.inputs c.play_and_answer.result.any_refused)
+    (manner d l t) ending before after start now)
     c.directory_of-directory.ensures c.look_of-look.ensures c.turns_of-turns.ensures
     (sym (ap (λ (o : Option LineFolder). option_map (λ (l : LineFolder). (l.hand, l.every - 1)) o) c.in-Some.is))
     c.play_and_answer.ensures
@@ -39,7 +39,8 @@ returns-in-None g c =
     same_numbers (λ d l t h. Plays (tale_with (watched c.args.airing.folder
     (λ followed. watch_in (manner d l t) (g.F.Shelf.path followed.shelf) followed.types.now
     followed.allows_empty followed.every))
-    h (manner d l t) c.play_disk.result.inputs) (manner d l t) ending before after start now)
+    h (manner d l t) c.play_disk.result.inputs c.play_disk.result.any_refused) (manner d l t)
+    ending before after start now)
     c.directory_of-directory.ensures c.look_of-look.ensures c.turns_of-turns.ensures
     (sym (ap (λ (o : Option LineFolder). option_map (λ (l : LineFolder). (l.hand, l.every - 1)) o) c.in-None.is))
     c.play_disk.ensures

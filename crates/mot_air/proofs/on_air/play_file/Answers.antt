@@ -1,16 +1,17 @@
-use Rattle.std.proofs.Common.{ℕ, ◌⊎◌, ◌≡◌, List, Option, [], ◌∷◌, subst, sym}
+use Rattle.std.proofs.Common.{ℕ, ◌⊎◌, ◌≡◌, ◌∙◌, List, Option, [], ◌∷◌, ap, subst, sym}
 use Rattle.disk_model.specs.Disk.{State}
 use Rattle.disk_store.specs.Beginning.{SinceOpened}
 use Rattle.disk_store.specs.Begun.{begun_state}
 use Rattle.disk_store.proofs.Laws.{since_opened}
-use Rattle.mot_air.proofs.Begun.{ending-cases, concludes}
+use Rattle.mot_air.proofs.Begun.{concludes, ended_so}
 use Rattle.mot_air.proofs.Played.{into_keeps}
 use Rattle.mot_air.proofs.on_air.play_file.Given as given
 use Rattle.mot_air.proofs.on_air.play_file.Goals as goal
 use Rattle.mot_air.specs.Inner.Concluded.{Concludes}
-use Rattle.mot_air.specs.Program.{PlaysInto, PlaysTo, played_as}
+use Rattle.mot_air.specs.Program.{PlaysInto, PlaysTo, is_all_done, played_as}
 use Rattle.mot_air.specs.Telling.{tale_with}
 use Rattle.mot_endpoints.specs.Packets.{begun_of, target_of}
+use Rattle.mot_endpoints.specs.declared.packets.Target.{Target}
 use Rattle.mot_endpoints.specs.declared.taken.Taken.{Taken}
 use Rattle.mot_folder.specs.Looked.{Watch}
 use Rattle.mot_numbers.specs.declared.refusal.Refusal.TheVariants.{DeviceFault, WriteFault}
@@ -40,13 +41,14 @@ handed g c P since =
 -- what was played is told of what was opened
 played : (g : given.Over) (c : goal.After-of_file g) (w : Option Watch) (hand : Option (List ℕ × ℕ))
     → PlaysInto (target_of c.in-Ok.opened)
-    (tale_with w hand (played_as c.args.airing.task) c.play_into-ended.result.inputs)
+    (tale_with w hand (played_as c.args.airing.task) c.play_into-ended.result.inputs
+    c.play_into-ended.result.any_refused)
     (played_as c.args.airing.task) (fault_of c.play_into-ended.result.ended.result)
     (begun_of c.in-Ok.opened) c.play_into-ended.result.taken.notes.all
     (begun_state c.in-Ok-disk.disk) (begun_state c.play_into-ended.result.ended.disk)
     → Concludes (λ r. (r ≡ DeviceFault) ⊎ (r ≡ WriteFault))
     (λ all ending. PlaysTo c.args.airing.task (tale_with w hand (played_as c.args.airing.task))
-    ending c.of_file.result.disk) c.of_file.result.result c.of_file.result.disk
+    all ending c.of_file.result.disk) c.of_file.result.result c.of_file.result.disk
     (g.W.Write.contents c.args.writer.now) (g.W.Write.contents c.play_into-ended.new.writer)
 played g c w hand plays =
     let target = target_of c.in-Ok.opened in
@@ -56,28 +58,36 @@ played g c w hand plays =
     let tale = tale_with w hand how in
     let taken = c.play_into-ended.result.taken.notes.all in
     let inputs = c.play_into-ended.result.inputs in
+    let refused = c.play_into-ended.result.any_refused in
     let old = g.W.Write.contents c.args.writer.now in
     let new = g.W.Write.contents c.play_into-ended.new.writer in
     let first = begun_state c.in-Ok-disk.disk in
     let last = begun_state ended.disk in
     let used = OfFile c.answered.result.disk.disk c.played-beside.result in
     let path = task.packets.now ∷ [] in
-    let P = λ (l : List (List ℕ)) (given : Inputs). PlaysInto target (tale given) how
+    let P = λ (l : List (List ℕ)) (given : Inputs). PlaysInto target (tale given refused) how
     (fault_of ended.result) path l in
-    let told = subst (λ (b : List (List ℕ)). PlaysInto target (tale inputs) how
+    let told = subst (λ (b : List (List ℕ)). PlaysInto target (tale inputs refused) how
     (fault_of ended.result) b taken first last) c.in-Ok.ensures.begun plays in
     subst (λ (f : _). Concludes (λ r. (r ≡ DeviceFault) ⊎ (r ≡ WriteFault))
-    (λ all ending. PlaysTo task tale ending f.disk) f.result f.disk old new) (sym c.of_file.ensures)
-    (concludes _ (λ all ending. PlaysTo task tale ending used) used old new
-    c.play_into-ended.result.is_fine ended.result c.answered.result.result c.answered.ensures.answer
-    (ending-cases (λ ending. PlaysTo task tale ending used) ended.result (
+    (λ all ending. PlaysTo task tale all ending f.disk) f.result f.disk old new)
+    (sym c.of_file.ensures)
+    (concludes _ (λ all ending. PlaysTo task tale all ending used) used old new
+    c.is_all_done.result ended.result c.answered.result.result c.answered.ensures.answer
+    (ended_so (λ all ending. PlaysTo task tale all ending used) c.is_all_done.result ended.result
+    (λ all whole. (
       target,
       c.in-Ok.ensures.target,
-      handed g c P (since_opened c.in-Ok-disk.disk.disk ended.disk.disk (P taken inputs)
-          c.in-Ok-disk.ensures.first ended.disk.begins
-          (into_keeps target (tale inputs) how (fault_of ended.result) path taken first last told)
-          told),
-    )))
+      (
+        refused,
+        (λ none. whole none ∙ c.is_all_done.ensures
+            ∙ ap (λ (t : Target). is_all_done t refused) c.target_of-target.ensures),
+        handed g c P (since_opened c.in-Ok-disk.disk.disk ended.disk.disk (P taken inputs)
+            c.in-Ok-disk.ensures.first ended.disk.begins
+            (into_keeps target (tale inputs refused) how (fault_of ended.result) path taken first
+            last told) told),
+      ),
+    ))))
 
 pub returns-clause-ended : goal.returns-clause-ended
 returns-clause-ended g c = played g c _ _ c.play_into-ended.ensures

@@ -2,7 +2,6 @@ use Rattle.std.proofs.Common.{◌∙◌, Err, ap, inl, inr, refl, subst}
 use Rattle.std.specs.Io.KnownBytes.{Appends}
 use Rattle.mot_air.specs.Inner.Looked.{broken, told, untold}
 use Rattle.mot_air.proofs.playing.look_and_tell.Goals as goal
-use Rattle.mot_feed.specs.Sending.{unwritten}
 use Rattle.mot_numbers.proofs.Laws.{same_error}
 
 pub returns-in_err-looked-clause-looked : goal.returns-in_err-looked-clause-looked
@@ -27,7 +26,7 @@ pub returns-in_err-told-clause-faults : goal.returns-in_err-told-clause-faults
 returns-in_err-told-clause-faults g c =
     rw (same_error c.from_residual-in_err-told.result c.in_err-told.field-0.0
     c.from_residual-in_err-told.ensures.1)
-    (inr (unwritten c.in_err-told.ensures.fault c.in_ok-looked.ensures.faults.failures))
+    (inr (c.in_err-told.ensures.fault, c.in_ok-looked.ensures.faults.failures))
 
 pub returns-clause-looked : goal.returns-clause-looked
 returns-clause-looked g c = λ s holds honest.

@@ -46,7 +46,8 @@ by g c =
     feeds.changed_turns_read
     g.U.Update.tells c.args.update.now
     c.feed_every-result.new.update (manner c.args.directory c.args.look c.args.turns) _ _
-    c.feed_every-result.result feeds.calm feeds.fault feeds.fed feeds.part
+    c.feed_every-result.result feeds.calm feeds.fault
+    (λ s holds honest. (feeds.fed s holds honest).0)
 
 pub returns-clause-ended : goal.returns-clause-ended
 returns-clause-ended g c =

@@ -2,15 +2,14 @@ use Rattle.mot_server.specs.Attempts.{fault_of}
 use Rattle.std.proofs.Common.{inl, inr, ◌≡◌, ℕ, List, Some, ◌++◌, ◌∙◌, ap, refl, sym, subst}
 use Rattle.std.proofs.KnownBytes.{Keeps-refl}
 use Rattle.std.specs.Prelude.{◌↔◌, IsTrue}
-use Rattle.disk_model.specs.Disk.{OnlyReads, OnlySyncs, State}
-use Rattle.disk_model.proofs.Laws.{keeps_on}
+use Rattle.disk_model.specs.Disk.{OnlySyncs}
 use Rattle.mot_journal.specs.Image.{stands_for, IsClean}
 use Rattle.mot_journal.specs.Journal.{StandsWhere, with_records}
 use Rattle.mot_lines.specs.Listing.{listing_text}
 use Rattle.mot_lines.proofs.Laws.{listing_text-beside}
 use Rattle.mot_commands.specs.Report.{Checks, IsReport, clean_line, layout_line}
 use Rattle.mot_outcome.specs.Outcome.{Prints}
-use Rattle.mot_commands.proofs.Ends.{rises_later, still_unchanged}
+use Rattle.mot_server.proofs.Laws.{rises_on, syncs_read}
 use Rattle.mot_commands.proofs.checking.check_disk.Given as given
 use Rattle.mot_commands.proofs.checking.check_disk.Goals as goal
 use Rattle.mot_commands.proofs.checking.check_disk.Goals.{After-into_disk}
@@ -35,15 +34,6 @@ returns-in-Err g c =
         Keeps-refl _,
       ),
     )
-
--- the disk was synced, and then only read
-only_syncs : (start mid now : State) → OnlySyncs start mid → OnlyReads mid now
-    → OnlySyncs start now
-only_syncs start mid now syncs reads = record {
-  keeps = keeps_on start mid now syncs.keeps reads.keeps;
-  still = λ honest. still_unchanged start mid now
-      (syncs.still (reads.keeps.was_honest honest)) (reads.unchanged honest);
-}
 
 -- what is told of the disk's bytes
 text_of : (g : given.Over) → After-into_disk g → List ℕ
@@ -105,7 +95,7 @@ returns-in-Ok-is_clean g c =
     let new = g.W.Write.contents c.write_report.new.writer in
     let ending = fault_of c.write_report.result in (
       subst (λ d. OnlySyncs (state c.args.disk) (state d)) (sym c.into_disk.ensures)
-          (only_syncs _ _ _ c.in-Ok.ensures.only_syncs c.in-Ok-is_clean.ensures.only_reads),
+          (syncs_read _ _ _ c.in-Ok.ensures.only_syncs c.in-Ok-is_clean.ensures.only_reads),
       inr (
         text_of g c,
         reported g c,
@@ -120,7 +110,7 @@ returns-in-Err-is_clean g c =
     let calls = c.in-Err-is_clean.ensures in
     let old = g.W.Write.contents c.args.writer.now in
     let refusal = c.in-Err-is_clean.refusal in
-    let syncs = only_syncs _ _ _ opens.only_syncs calls.only_reads in
+    let syncs = syncs_read _ _ _ opens.only_syncs calls.only_reads in
     subst (λ d. Checks (Some refusal) old old (state c.args.disk) (state d))
     (sym c.into_disk-in-Err-is_clean.ensures) (elim calls.refused [
       | halted on is same ↦ absurd (cc (on, opens.going))
@@ -131,7 +121,7 @@ returns-in-Err-is_clean g c =
           refl,
           record {
             why = device is
-                (rises_later _ _ _ opens.only_syncs.keeps.later calls.only_reads.keeps.later rises);
+                (rises_on _ _ _ opens.only_syncs.keeps.later calls.only_reads.keeps.later rises);
             calm = inl is;
             still = syncs.still;
           },

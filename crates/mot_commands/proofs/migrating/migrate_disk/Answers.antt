@@ -9,9 +9,9 @@ use Rattle.mot_journal.specs.Journal.IsReadingRefusal.{device, no_memory as no_r
 use Rattle.mot_repository.specs.Repository.{IsOf}
 use Rattle.mot_commands.specs.Report.{IsMigrated, Migrates, migrated_line}
 use Rattle.mot_outcome.specs.Outcome.{Prints}
-use Rattle.mot_commands.proofs.Ends.{rises_later}
-use Rattle.mot_commands.proofs.Ends.{still_unchanged}
-use Rattle.mot_commands.proofs.Opened.{migrates_held, migrates_under, opened_throughout}
+use Rattle.mot_server.proofs.Laws.{rises_on, still_unchanged}
+use Rattle.mot_commands.proofs.Opened.{migrates_held, migrates_under}
+use Rattle.mot_export.proofs.Laws.{opened_throughout}
 use Rattle.mot_commands.proofs.migrating.migrate_disk.Given as given
 use Rattle.mot_commands.proofs.migrating.migrate_disk.Goals as goal
 
@@ -120,7 +120,7 @@ returns-in-Err-migrate g c =
           refl,
           (
             device is
-                (rises_later _ _ _ opens.only_syncs.keeps.later calls.keeps.frame.later rises),
+                (rises_on _ _ _ opens.only_syncs.keeps.later calls.keeps.frame.later rises),
             calm,
             λ other. absurd (other is),
           ),

@@ -5,6 +5,7 @@ use Rattle.disk_store.specs.File.{file_state}
 use Rattle.disk_store.proofs.Laws.{since_opened}
 use Rattle.mot_cli.specs.declared.program.task.Task.TheVariants.{Serve}
 use Rattle.mot_commands.specs.Inner.Finishing.{Finishes}
+use Rattle.mot_commands.specs.Program.{UsesFor}
 use Rattle.mot_commands.specs.Serving.{Serves}
 use Rattle.mot_commands.proofs.Served.{serves-on}
 use Rattle.mot_commands.proofs.serving.serve_file.Goals as goal
@@ -31,3 +32,21 @@ returns-in-Err-clause-ended g c =
     subst (λ (f : _). Finishes (Serve c.args.path) f remains remains old old)
     (sym c.unopened.ensures)
     (inl (refl, record { untouched = tt; silent = Keeps-refl _ }, Keeps-refl _))
+
+pub returns-in-Ok-clause-files : goal.returns-in-Ok-clause-files
+returns-in-Ok-clause-files g c =
+    let opened = g.F.DiskFiles.opened in
+    let gone = g.F.DiskFiles.taken_away in
+    let old = c.args.files.now in
+    let new = c.open_disk.new.self in
+    subst (λ (f : _). UsesFor (Serve c.args.path) f.disk (opened old, gone old)
+    (opened new, gone new)) (sym c.of_file.ensures) (c.in-Ok.ensures.one, c.in-Ok.ensures.stays)
+
+pub returns-in-Err-clause-files : goal.returns-in-Err-clause-files
+returns-in-Err-clause-files g c =
+    let opened = g.F.DiskFiles.opened in
+    let gone = g.F.DiskFiles.taken_away in
+    let old = c.args.files.now in
+    let new = c.open_disk.new.self in
+    subst (λ (f : _). UsesFor (Serve c.args.path) f.disk (opened old, gone old)
+    (opened new, gone new)) (sym c.unopened.ensures) (c.in-Err.ensures.one, c.in-Err.ensures.stays)

@@ -1,4 +1,4 @@
-use Rattle.std.proofs.Common.{◌≡◌, ◌<◌, ◌+◌, ◌∙◌, refl, sym, subst, arith, take, length}
+use Rattle.std.proofs.Common.{◌≡◌, ◌<◌, ◌+◌, ◌∙◌, inl, inr, refl, sym, subst, arith, take, length}
 use Rattle.std.proofs.Common.{length-take}
 use Rattle.std.specs.Prelude.{slice_range}
 use Rattle.std.specs.Io.KnownBytes.{Appends}
@@ -6,11 +6,12 @@ use Rattle.std.proofs.KnownBytes.{Appends-nil, Appends-trans}
 use Rattle.std.proofs.lemmas.List.{take_all}
 use Rattle.hex.specs.Hex.{encode_lower}
 use Rattle.std.proofs.lemmas.Result.{err_from_is_err_and}
+use Rattle.disk_model.specs.Failures.{Rises}
 use Rattle.disk_model.proofs.Laws.{reads_none, reads_on, reads_once}
 use Rattle.mot_export.proofs.Printed.{digits-more, digits-none, front-digits, front-piece}
 use Rattle.mot_export.proofs.exporting.write_body.Goals as goal
 use Rattle.mot_repository.specs.Repository.{object_body}
-use Rattle.mot_server.proofs.Laws.{body_length, holds_still}
+use Rattle.mot_server.proofs.Laws.{body_length, holds_still, no_failure}
 
 pub loop-from-init : goal.loop-from-init
 loop-from-init g c =
@@ -20,6 +21,7 @@ loop-from-init g c =
       within = omega arith;
       reads = reads_none state;
       view = refl;
+      calm = refl;
       written = λ s holds honest. subst (Appends known known) (sym digits-none) (Appends-nil known);
     }
 
@@ -36,6 +38,7 @@ loop-from-preserved g c =
       reads = reads_on (state old.disk) (state mid.disk) (state new.disk) is.reads
           (reads_once (state mid.disk) (state new.disk) one.keeps one.unchanged);
       view = one.view ∙ is.view;
+      calm = no_failure _ _ one.cause.later one.cause.shown ∙ is.calm;
       written = λ s holds honest.
           let was = one.keeps.was_honest honest in
           let held = holds_still old.view mid.view s (state old.disk) (state mid.disk) holds was
@@ -100,3 +103,23 @@ returns-in_err-write_digits-clause-written g c = λ s holds honest.
     (g.W.Write.contents c.write_digits.new.writer)
     (subst (λ n. c.read_body.new.out ≡ slice_range body c.loop-from.from (c.loop-from.from + n))
     count (one.bytes s held honest)) (is.written s holds was) c.in_err-write_digits.ensures.written)
+
+pub returns-in_err-read_body-clause-fault : goal.returns-in_err-read_body-clause-fault
+returns-in_err-read_body-clause-fault g c =
+    let p = err_from_is_err_and c.from_residual.result c.from_residual.ensures.1 in
+    let one = c.in_err-read_body.ensures in
+    let now = (g.D.Disk.state c.read_body.new.self.disk).failures in
+    rw p.1 (inr (
+      p.2 ∙ one.fault,
+      subst (λ n. Rises n now) c.loop-from.invariant.calm (one.cause.cause refl),
+    ))
+
+pub returns-in_err-write_digits-clause-fault : goal.returns-in_err-write_digits-clause-fault
+returns-in_err-write_digits-clause-fault g c =
+    let p = err_from_is_err_and c.from_residual-in_err-write_digits.result
+    c.from_residual-in_err-write_digits.ensures.1 in
+    let one = c.in_ok-read_body.ensures in
+    rw p.1 (inl (
+      p.2 ∙ c.in_err-write_digits.ensures.fault,
+      no_failure _ _ one.cause.later one.cause.shown ∙ c.loop-from.invariant.calm,
+    ))

@@ -11,6 +11,8 @@ invariant-loop-from g l = record {
   within : l.from ≤ l.length;
   reads : OnlyReads (g.D.Disk.state l.initial.repository.disk) (g.D.Disk.state l.repository.disk);
   view : l.repository.view ≡ l.initial.repository.view;
+  calm : (g.D.Disk.state l.repository.disk).failures
+      ≡ (g.D.Disk.state l.initial.repository.disk).failures;
   written : (s : Standing) → Holds l.initial.repository.view s
       (g.D.Disk.state l.initial.repository.disk)
       → (g.D.Disk.state l.repository.disk).IsHonest

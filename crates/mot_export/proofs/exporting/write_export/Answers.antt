@@ -9,6 +9,7 @@ use Rattle.mot_lines.specs.Export.{export_text, period_line, put_line}
 use Rattle.mot_objects.specs.Carousel as whole
 use Rattle.mot_objects.specs.declared.carousel.Carousel.{Carousel}
 use Rattle.mot_export.proofs.Printed.{all_objects, front-lines, lines-more, some_object}
+use Rattle.mot_export.specs.Inner.Printing.{IsPrintingFault}
 use Rattle.mot_export.proofs.exporting.write_export.Goals as goal
 use Rattle.mot_repository.specs.Repository.{RepositoryView}
 use Rattle.mot_server.proofs.Laws.{holds_still}
@@ -21,6 +22,7 @@ loop-place-init g c =
     record {
       reads = reads_none state;
       view = refl;
+      calm = refl;
       written = λ s holds honest. Appends-nil (g.W.Write.contents c.args.writer.now);
     }
 
@@ -36,6 +38,7 @@ loop-place-preserved g c =
     record {
       reads = reads_on (state old.disk) (state mid.disk) (state new.disk) is.reads one.only_reads;
       view = one.view ∙ is.view;
+      calm = one.calm ∙ is.calm;
       written = λ s holds honest.
           let was = one.only_reads.keeps.was_honest honest in
           let held = holds_still old.view mid.view s (state old.disk) (state mid.disk) holds was
@@ -144,3 +147,12 @@ returns-in-Err-clause-written g c = λ s holds honest.
     c.in_ok-write_bytes.ensures.written in
     WritesFront-all (export_text s.carousel) first (known c.flush.new.self)
     (Appends-kept _ _ _ _ (Appends-trans _ _ _ _ _ lines last) c.in-Err.ensures.bytes)
+
+pub returns-in_err-write_object-clause-fault : goal.returns-in_err-write_object-clause-fault
+returns-in_err-write_object-clause-fault g c =
+    let p = err_from_is_err_and c.from_residual.result c.from_residual.ensures.1 in
+    let now = (g.D.Disk.state c.write_object.new.repository.disk).failures in
+    let old = (g.D.Disk.state c.args.repository.now.disk).failures in
+    rw p.1 (subst (λ r. IsPrintingFault r old now) (sym p.2)
+    (subst (λ n. IsPrintingFault c.in_err-write_object.field-0.0 n now) c.loop-place.invariant.calm
+    c.in_err-write_object.ensures.fault))

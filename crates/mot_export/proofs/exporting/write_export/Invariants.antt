@@ -11,6 +11,8 @@ abbrev pub invariant-loop-place : goal.invariant-loop-place
 invariant-loop-place g l = record {
   reads : OnlyReads (g.D.Disk.state l.initial.repository.disk) (g.D.Disk.state l.repository.disk);
   view : l.repository.view ≡ l.initial.repository.view;
+  calm : (g.D.Disk.state l.repository.disk).failures
+      ≡ (g.D.Disk.state l.initial.repository.disk).failures;
   written : (s : Standing) → Holds l.initial.repository.view s
       (g.D.Disk.state l.initial.repository.disk)
       → (g.D.Disk.state l.repository.disk).IsHonest

@@ -11,6 +11,7 @@ loop-others-init g c =
     record {
       reads = reads_none state;
       view = refl;
+      calm = refl;
       few = omega arith;
       going = λ s holds honest. ([], IsGoing-none (place_in c.args.server.now s), refl, refl);
     }
@@ -58,6 +59,7 @@ loop-others-preserved g c =
     record {
       reads = reads_on (state old.disk) (state mid.disk) (state new.disk) is.reads one.only_reads;
       view = one.view ∙ is.view;
+      calm = one.no_fault ∙ is.calm;
       few = omega (arith, few, len, fits);
       going = λ s holds honest.
           let was = one.only_reads.keeps.was_honest honest in
@@ -75,3 +77,10 @@ loop-others-preserved g c =
             omega (arith, all, bytes, len),
           );
     }
+
+pub returns-clause-uncounted : goal.returns-clause-uncounted
+returns-clause-uncounted g c = λ s holds honest is.
+    let so_far = c.loop-others.invariant.going s holds honest in
+    let counted = so_far.2 in
+    let end = c.loop-others-test.false in
+    (so_far.0, place_in c.loop-others.server s, so_far.1, omega (arith, counted, end))

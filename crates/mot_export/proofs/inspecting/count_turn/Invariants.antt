@@ -11,6 +11,8 @@ abbrev pub invariant-loop-others : goal.invariant-loop-others
 invariant-loop-others g l = record {
   reads : OnlyReads (g.D.Disk.state l.initial.server.disk) (g.D.Disk.state l.server.disk);
   view : l.server.view ≡ l.initial.server.view;
+  calm : (g.D.Disk.state l.server.disk).failures
+      ≡ (g.D.Disk.state l.initial.server.disk).failures;
   few : l.bytes ≤ l.others * 96;
   going : (s : Standing) → Holds l.initial.server.view s (g.D.Disk.state l.initial.server.disk)
       → (g.D.Disk.state l.server.disk).IsHonest

@@ -4,7 +4,7 @@ use Rattle.std.specs.Prelude.{IfErr}
 use Rattle.mot_numbers.specs.declared.refusal.Refusal.{Refusal}
 use Rattle.std.specs.List.{sum_by}
 use Rattle.std.specs.Io.KnownBytes.{Appends}
-use Rattle.std.proofs.lemmas.Result.{on_ok_weaker}
+use Rattle.std.proofs.lemmas.Result.{err_from_is_err_and, on_ok_weaker}
 use Rattle.mot_journal.specs.Image.{Standing}
 use Rattle.mot_objects.specs.Stands.{carousel_of}
 use Rattle.mot_objects.specs.declared.object.Object.{Object}
@@ -81,3 +81,8 @@ returns-clause-broken g c = λ s holds honest.
     let new = g.W.Write.contents c.print.new.writer in
     if_err c.print.result (λ r broken is. inspected g c (λ text. WritesFront text old new)
     broken.1 s holds honest) c.print.ensures.front
+
+pub returns-in_err-packets-clause-uncounted : goal.returns-in_err-packets-clause-uncounted
+returns-in_err-packets-clause-uncounted g c = λ s holds honest.
+    let p = err_from_is_err_and c.from_residual.result c.from_residual.ensures.1 in
+    rw p.1 (λ is. c.in_err-packets.ensures.uncounted s holds honest (sym p.2 ∙ is))

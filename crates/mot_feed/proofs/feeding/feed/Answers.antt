@@ -2,13 +2,12 @@ use Rattle.std.proofs.Common.{◌≡◌, ◌+◌, Bool, true, false, None, Some,
 use Rattle.std.proofs.Common.{subst}
 use Rattle.std.specs.Prelude.{if◌then◌else◌}
 use Rattle.disk_model.proofs.Laws.{keeps_none, keeps_on, unchanged_none}
-use Rattle.mot_feed.proofs.Fed.{SoFar, continuous, fed_all, fed_none, rest_else, rest_then}
-use Rattle.mot_feed.proofs.Fed.{send_fault, sent_on, update_fault, updated}
+use Rattle.mot_feed.proofs.Fed.{SoFar, fed_all, fed_none, rest_else, rest_then, send_fault}
+use Rattle.mot_feed.proofs.Fed.{sent_on, update_fault, updated}
 use Rattle.mot_feed.specs.Feeding.{left_behind}
 use Rattle.mot_feed.specs.Feeding.Stage.{Called}
 use Rattle.mot_player.specs.Place.{Sent}
-use Rattle.mot_feed.proofs.OnAir.{changed_turns_read, turns_read}
-use Rattle.mot_feed.proofs.Sent.{not_of_writing, send_fault_behind, sent_calm}
+use Rattle.mot_feed.proofs.Sent.{feed_fault_on, not_of_writing, sent_calm}
 use Rattle.mot_feed.proofs.feeding.feed.Given as given
 use Rattle.mot_feed.proofs.feeding.feed.Goals as goal
 use Rattle.mot_feed.proofs.feeding.feed.Goals.{else-between_turns, then-between_turns}
@@ -41,8 +40,8 @@ returns-clause-fed g c = λ s holds honest.
     (inr (let last = c.loop-test.false in let bound = c.loop.auto.counter-end in
     omega (arith, last, bound)))
 
-pub returns-in_err-update-clause-part : goal.returns-in_err-update-clause-part
-returns-in_err-update-clause-part g c = λ s holds honest.
+pub returns-in_err-update-clause-fed : goal.returns-in_err-update-clause-fed
+returns-in_err-update-clause-fed g c = λ s holds honest.
     let state = g.D.Disk.state in
     let mid = c.loop.server in
     let one = c.in_err-update.ensures in
@@ -79,14 +78,14 @@ returns-in_err-between_turns-clause-fault g c =
     c.loop.invariant.calm c.in_ok-update.ensures.faults in
     rw (same_error c.from_residual-in_err-between_turns.result refusal
     c.from_residual-in_err-between_turns.ensures.1)
-    (inr (send_fault_behind old up (state old.disk) (state up.disk) (state new.disk) refusal calm
-    c.in_err-between_turns.ensures.fault))
+    (feed_fault_on old up (state old.disk) (state up.disk) (state new.disk) refusal calm
+    c.in_err-between_turns.ensures.fault)
 
 -- what was fed up to the packet that is sent
 found : (g : given.Over) (c : After-send_one g) (s : Standing)
     → Holds c.args.server.now.view s (g.D.Disk.state c.args.server.now.disk)
     → (g.D.Disk.state c.update.new.server.disk).IsHonest
-    → SoFar g.U.Update.tells 0 Called c.args.update.now c.update.new.self
+    → SoFar g.U.Update.tells 0 (Called None) c.args.update.now c.update.new.self
     c.args.server.now c.update.new.server (g.D.Disk.state c.args.server.now.disk)
     (g.D.Disk.state c.update.new.server.disk) s c.args.turns c.loop.left
     c.loop.between_turns 0 c.loop.counter (g.O.Outlet.writes c.args.outlet.now)
@@ -102,9 +101,9 @@ found g c s holds honest =
     (state mid.disk) (state up.disk) so_far.fed.leaves.last None) c.moment_at-moment.ensures
     (one.run so_far.fed.leaves.last (so_far.fed.leaves.going refl) honest))
 
-pub returns-in_err-between_turns-clause-part : goal.returns-in_err-between_turns-clause-part
-returns-in_err-between_turns-clause-part g c = λ s holds honest.
-    let from = (goal.at.returns-in_err-between_turns-clause-part g c).After-send_one in
+pub returns-in_err-between_turns-clause-fed : goal.returns-in_err-between_turns-clause-fed
+returns-in_err-between_turns-clause-fed g c = λ s holds honest.
+    let from = (goal.at.returns-in_err-between_turns-clause-fed g c).After-send_one in
     let two = c.in_err-between_turns.ensures in
     let then_honest = two.only_reads.keeps.was_honest honest in
     rw (same_error c.from_residual-in_err-between_turns.result c.in_err-between_turns.field-0.0
@@ -152,44 +151,3 @@ loop-preserved g c =
           is_rest 0 (λ sent same. none_left c.loop.between_turns sent)
           (λ d held. two.sent d held honest);
     }
-
-pub returns-clause-continuous : goal.returns-clause-continuous
-returns-clause-continuous g c = continuous
-
-pub returns-then-left-eq0-clause-continuous : goal.returns-then-left-eq0-clause-continuous
-returns-then-left-eq0-clause-continuous g c = continuous
-
-pub returns-in_err-update-clause-continuous : goal.returns-in_err-update-clause-continuous
-returns-in_err-update-clause-continuous g c = continuous
-
-pub returns-in_err-between_turns-clause-continuous :
-    goal.returns-in_err-between_turns-clause-continuous
-returns-in_err-between_turns-clause-continuous g c = continuous
-
-pub returns-clause-turns_read : goal.returns-clause-turns_read
-returns-clause-turns_read g c = turns_read
-
-pub returns-then-left-eq0-clause-turns_read : goal.returns-then-left-eq0-clause-turns_read
-returns-then-left-eq0-clause-turns_read g c = turns_read
-
-pub returns-in_err-update-clause-turns_read : goal.returns-in_err-update-clause-turns_read
-returns-in_err-update-clause-turns_read g c = turns_read
-
-pub returns-in_err-between_turns-clause-turns_read :
-    goal.returns-in_err-between_turns-clause-turns_read
-returns-in_err-between_turns-clause-turns_read g c = turns_read
-
-pub returns-clause-changed_turns_read : goal.returns-clause-changed_turns_read
-returns-clause-changed_turns_read g c = changed_turns_read
-
-pub returns-then-left-eq0-clause-changed_turns_read :
-    goal.returns-then-left-eq0-clause-changed_turns_read
-returns-then-left-eq0-clause-changed_turns_read g c = changed_turns_read
-
-pub returns-in_err-update-clause-changed_turns_read :
-    goal.returns-in_err-update-clause-changed_turns_read
-returns-in_err-update-clause-changed_turns_read g c = changed_turns_read
-
-pub returns-in_err-between_turns-clause-changed_turns_read :
-    goal.returns-in_err-between_turns-clause-changed_turns_read
-returns-in_err-between_turns-clause-changed_turns_read g c = changed_turns_read

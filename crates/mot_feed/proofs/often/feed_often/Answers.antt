@@ -3,15 +3,14 @@ use Rattle.std.proofs.Common.{refl, ap, ◌∙◌, arith, inl, inr, subst, sym}
 use Rattle.std.specs.Prelude.{◌==◌, if◌then◌else◌}
 use Rattle.disk_model.specs.Disk.{IsUnchanged, KeepsLength}
 use Rattle.disk_model.proofs.Laws.{keeps_none, keeps_on, unchanged_none}
-use Rattle.mot_feed.proofs.Fed.{SoFar, asked_often, asked_on, continuous, fed_none, fed_often}
+use Rattle.mot_feed.proofs.Fed.{SoFar, asked_often, asked_on, fed_none, fed_often}
 use Rattle.mot_feed.proofs.Fed.{none_often, rest_else, rest_then, send_fault_often, sent_often}
 use Rattle.mot_feed.proofs.Fed.{sent_on, update_fault_often, updated, updated_often}
 use Rattle.mot_feed.proofs.Hearing.{OftenUpTo, left_for}
 use Rattle.mot_feed.specs.Feeding.{left_behind, moment_at}
 use Rattle.mot_feed.specs.Feeding.Stage.{Called}
 use Rattle.mot_feed.specs.Often.{is_due, pause}
-use Rattle.mot_feed.proofs.OnAir.{changed_turns_read, turns_read}
-use Rattle.mot_feed.proofs.Sent.{not_of_writing, send_fault_behind, sent_calm}
+use Rattle.mot_feed.proofs.Sent.{feed_fault_on, not_of_writing, sent_calm}
 use Rattle.mot_feed.proofs.often.feed_often.Given as given
 use Rattle.mot_feed.proofs.often.feed_often.Goals as goal
 use Rattle.mot_feed.proofs.often.feed_often.Goals.{After-send_one, else-between_turns}
@@ -73,8 +72,8 @@ returns-clause-fed g c = λ s holds honest.
     (inr (let last = c.loop-test.false in let bound = c.loop.auto.counter-end in
     omega (arith, last, bound)))
 
-pub returns-in_err-update-clause-part : goal.returns-in_err-update-clause-part
-returns-in_err-update-clause-part g c = λ s holds honest.
+pub returns-in_err-update-clause-fed : goal.returns-in_err-update-clause-fed
+returns-in_err-update-clause-fed g c = λ s holds honest.
     let state = g.D.Disk.state in
     let mid = c.loop.server in
     let one = c.in_err-update.ensures in
@@ -116,9 +115,8 @@ returns-in_err-between_turns-clause-fault g c =
     (ap (λ d. (state d).failures) c.ask.ensures.disk) c.ask.ensures.view) in
     rw (same_error c.from_residual-in_err-between_turns.result refusal
     c.from_residual-in_err-between_turns.ensures.1)
-    (inr (send_fault_behind old heard (state old.disk) (state heard.disk) (state new.disk) refusal
-    calm
-    c.in_err-between_turns.ensures.fault))
+    (feed_fault_on old heard (state old.disk) (state heard.disk) (state new.disk) refusal calm
+    c.in_err-between_turns.ensures.fault)
 
 -- whether the directory is asked for
 abbrev due_in : (g : given.Over) → After-send_one g → Bool
@@ -139,7 +137,7 @@ due_is g c = elim c.if-between_turns.branch [
 found : (g : given.Over) (c : After-send_one g) (s : Standing)
     → Holds c.args.server.now.view s (g.D.Disk.state c.args.server.now.disk)
     → (g.D.Disk.state c.ask.new.server.disk).IsHonest
-    → (so_far : SoFar g.U.Update.tells c.args.look Called c.args.update.now c.update.new.self
+    → (so_far : SoFar g.U.Update.tells c.args.look (Called None) c.args.update.now c.update.new.self
     (following_server c.args.server.now) c.ask.new.server
     (g.D.Disk.state c.args.server.now.disk)
     (g.D.Disk.state c.ask.new.server.disk) s c.args.turns c.loop.left
@@ -179,9 +177,9 @@ less_one true until next not less = absurd (cc)
 less_one false zero next not less = absurd (cc)
 less_one false (suc left) next not less = omega (arith, less)
 
-pub returns-in_err-between_turns-clause-part : goal.returns-in_err-between_turns-clause-part
-returns-in_err-between_turns-clause-part g c = λ s holds honest.
-    let from = (goal.at.returns-in_err-between_turns-clause-part g c).After-send_one in
+pub returns-in_err-between_turns-clause-fed : goal.returns-in_err-between_turns-clause-fed
+returns-in_err-between_turns-clause-fed g c = λ s holds honest.
+    let from = (goal.at.returns-in_err-between_turns-clause-fed g c).After-send_one in
     let two = c.in_err-between_turns.ensures in
     let then_honest = two.only_reads.keeps.was_honest honest in
     let is = found g from s holds then_honest in
@@ -269,44 +267,3 @@ loop-preserved g c =
                 (due_is g from) anew less (λ d held. two.sent d held honest),
           );
     }
-
-pub returns-clause-continuous : goal.returns-clause-continuous
-returns-clause-continuous g c = continuous
-
-pub returns-then-left-eq0-clause-continuous : goal.returns-then-left-eq0-clause-continuous
-returns-then-left-eq0-clause-continuous g c = continuous
-
-pub returns-in_err-update-clause-continuous : goal.returns-in_err-update-clause-continuous
-returns-in_err-update-clause-continuous g c = continuous
-
-pub returns-in_err-between_turns-clause-continuous :
-    goal.returns-in_err-between_turns-clause-continuous
-returns-in_err-between_turns-clause-continuous g c = continuous
-
-pub returns-clause-turns_read : goal.returns-clause-turns_read
-returns-clause-turns_read g c = turns_read
-
-pub returns-then-left-eq0-clause-turns_read : goal.returns-then-left-eq0-clause-turns_read
-returns-then-left-eq0-clause-turns_read g c = turns_read
-
-pub returns-in_err-update-clause-turns_read : goal.returns-in_err-update-clause-turns_read
-returns-in_err-update-clause-turns_read g c = turns_read
-
-pub returns-in_err-between_turns-clause-turns_read :
-    goal.returns-in_err-between_turns-clause-turns_read
-returns-in_err-between_turns-clause-turns_read g c = turns_read
-
-pub returns-clause-changed_turns_read : goal.returns-clause-changed_turns_read
-returns-clause-changed_turns_read g c = changed_turns_read
-
-pub returns-then-left-eq0-clause-changed_turns_read :
-    goal.returns-then-left-eq0-clause-changed_turns_read
-returns-then-left-eq0-clause-changed_turns_read g c = changed_turns_read
-
-pub returns-in_err-update-clause-changed_turns_read :
-    goal.returns-in_err-update-clause-changed_turns_read
-returns-in_err-update-clause-changed_turns_read g c = changed_turns_read
-
-pub returns-in_err-between_turns-clause-changed_turns_read :
-    goal.returns-in_err-between_turns-clause-changed_turns_read
-returns-in_err-between_turns-clause-changed_turns_read g c = changed_turns_read

@@ -1,7 +1,17 @@
-use Rattle.std.proofs.Common.{◌∙◌, ap}
+use Rattle.std.proofs.Common.{◌≡◌, ◌∙◌, ap, inl, inr}
+use Rattle.std.specs.Prelude.{◌⊎◌}
 use Rattle.mot_folder.specs.Inner.Reading.Misses.{was_refused}
+use Rattle.mot_folder.specs.declared.folder.Untaken.TheVariants.{Refused}
 use Rattle.mot_folder.proofs.folder.read.Goals as goal
+use Rattle.mot_numbers.specs.declared.refusal.Refusal.{Refusal}
+use Rattle.mot_numbers.specs.declared.refusal.Refusal.TheVariants.{OutOfMemory}
 use Rattle.mot_shelf.specs.Given.{and_read}
+
+-- why nothing is wanted of it
+why : {P : Type 0} (refusal : Refusal) → P ⊎ (refusal ≡ OutOfMemory)
+    → P ⊎ (Refused refusal ≡ Refused OutOfMemory)
+why refusal (inl untakable) = inl untakable
+why refusal (inr none) = inr (ap Refused none)
 
 pub returns-in-Err-wanted_of_file-clause-took : goal.returns-in-Err-wanted_of_file-clause-took
 returns-in-Err-wanted_of_file-clause-took g c =
@@ -9,3 +19,4 @@ returns-in-Err-wanted_of_file-clause-took g c =
     let bytes = c.in-Ok.bytes.items in
     was_refused bytes
     (c.in-Ok.ensures.gave ∙ ap (λ n. and_read old n bytes) c.as_bytes.ensures.value)
+    (why c.in-Err-wanted_of_file.refusal c.in-Err-wanted_of_file.ensures.why)

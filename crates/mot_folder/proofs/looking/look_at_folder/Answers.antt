@@ -4,10 +4,10 @@ use Rattle.std.proofs.Common.{inl, inr, length, map, take}
 use Rattle.std.proofs.lemmas.Bool.{and_parts, eqb-true}
 use Rattle.std.proofs.lemmas.List.{take_all}
 use Rattle.disk_model.proofs.Laws.{unchanged_none}
-use Rattle.mot_folder.specs.Inner.Listing.{IsUnread}
+use Rattle.mot_folder.specs.Inner.Listing.{IsUnread, TellsNameless}
 use Rattle.mot_folder.specs.Inner.Reading.{TellsLook, as_wanted, heading}
 use Rattle.mot_folder.specs.Listed.{IsListing}
-use Rattle.mot_folder.specs.Log.{LogEntry, ReportTells, TellsAnswers, TellsOf, entry, kept_entry}
+use Rattle.mot_folder.specs.Log.{LogEntry, ReportTells, TellsOf, entry, kept_entry}
 use Rattle.mot_folder.specs.Log.{with_reason}
 use Rattle.mot_folder.specs.declared.report.Report.{Report}
 use Rattle.mot_folder.specs.Looked.{HasLookedAtFolder, IsUnlisted, is_kept, kept, listed}
@@ -18,7 +18,8 @@ use Rattle.mot_objects.specs.Carousel.{Carousel}
 use Rattle.mot_objects.specs.declared.carousel.Carousel as memory
 use Rattle.mot_objects.specs.declared.object.Object.{Object}
 use Rattle.mot_repository.specs.Repository.{Agrees, RepositoryView}
-use Rattle.mot_folder.proofs.Taken.{IsLook, look_begins, look_is, same_path}
+use Rattle.mot_folder.proofs.Nameless.{nameless_none}
+use Rattle.mot_folder.proofs.Taken.{IsLook, fine_is, look_begins, look_is, same_path, taken_so}
 use Rattle.mot_folder.proofs.Log.{look-more, tells_none}
 use Rattle.mot_folder.proofs.looking.look_at_folder.Goals as goal
 use Rattle.mot_numbers.specs.declared.refusal.Refusal.{Refusal}
@@ -102,10 +103,11 @@ of_names : {D : Type 0} (old new : ServerView D) (start now : State) (s : Standi
     → is_kept allows names (length s.carousel.objects) ≡ false
     → (looked : HasLooked old new start now s names 0 None None (not report.any_refused) fault)
     → (seen : List (List ℕ)) → (fault ≡ None → seen ≡ names)
+    → (report.any_without_memory ≡ true → fault ≢ None)
     → TellsOf types given report seen looked.runs.answers looked.wanted
     → HasLookedAtFolder old new start now s types allows path given report fault
 of_names old new start now s types allows path given report names fault shown listing updates looked
-    seen all told = record {
+    seen all without told = record {
       commands = looked.runs.commands;
       marks = looked.runs.marks;
       run = looked.runs.run;
@@ -114,12 +116,12 @@ of_names old new start now s types allows path given report names fault shown li
       entries = told.entries;
       look = listed shown listing updates looked.is_update looked.runs.others looked.runs.split
           looked.runs.whole
-          (λ fine none. (looked.every fine none, looked.runs.accepted fine none))
+          (fine_is told.entries looked.runs.answers looked.runs.commands looked.runs.marks
+          report.any_refused looked.runs.told told.any)
           looked.runs.answers looked.runs.told told.are seen all (record {
-            before = told.before;
             missed = told.missed;
             read = told.read;
-            taken = told.taken;
+            taken = taken_so types without told.taken;
           });
       right = inr (looked.runs.answers, told.are, looked.runs.right);
       told = told.told;
@@ -158,19 +160,21 @@ listed_whole : {D : Type 0} (old new : ServerView D) (start now : State) (s : St
     → (looked : HasLooked old new start now s names 0 None None (not report.any_refused) None)
     → TellsOf types given report names looked.runs.answers looked.wanted
     → (r : Result Unit Refusal) → IfErr r (λ e. e ≡ OutOfMemory)
+    → (IsOk r → report.any_without_memory ≡ false)
     → HasLookedAtFolder old new start now s types allows path given report (fault_of r)
 unfolding without_memory
 listed_whole old new start now s types allows path given report names shown listing updates looked
-    told (Ok x) is =
+    told (Ok x) is memory =
     of_names old new start now s types allows path given report names None shown listing updates
-    looked names (λ e. refl) told
+    looked names (λ e. refl)
+    (λ without. absurd (let no : true ≡ false = sym without ∙ memory refl in cc)) told
 listed_whole old new start now s types allows path given report names shown listing updates looked
-    told (Err e) is =
+    told (Err e) is memory =
     subst (λ f. HasLookedAtFolder old new start now s types allows path given report (Some f))
     (sym is)
     (of_names old new start now s types allows path given report names (Some OutOfMemory) shown
     listing updates (without_memory old new start now s names (not report.any_refused) looked) names
-    (λ none. absurd (cc (none))) told)
+    (λ none. absurd (cc (none))) (λ without none. cc (none)) told)
 
 -- a carousel has as many objects as are kept of it
 objects_counted : (os : List Object) (bodies : List (List ℕ))
@@ -204,7 +208,8 @@ none_named false (name ∷ names) objects e =
 behind : (types others : List SuffixType) (path begun other : List ℕ) (first last : Given)
     (names after : List (List ℕ)) (place : ℕ) (start report : Report) (answers : List Answer)
     (wanted : List Wanted) → begun ≡ path → after ≡ names
-    → IsListing types path first names → IsUnread nothing first → TellsAnswers start []
+    → IsListing types path first names → IsUnread nothing first
+    → TellsNameless first.files start
     → TellsBoth (TellsLook types begun first names 0 start)
     (TellsLook others other last after place report) answers wanted
     → IsLook types path last names place report answers wanted
@@ -222,7 +227,8 @@ behind types others path begun other first last names after place start report a
 path_stays : (types others : List SuffixType) (path begun other : List ℕ) (first last : Given)
     (names after : List (List ℕ)) (place : ℕ) (start report : Report) (answers : List Answer)
     (wanted : List Wanted) → begun ≡ path
-    → IsListing types path first names → IsUnread nothing first → TellsAnswers start []
+    → IsListing types path first names → IsUnread nothing first
+    → TellsNameless first.files start
     → TellsBoth (TellsLook types begun first names 0 start)
     (TellsLook others other last after place report) answers wanted
     → other ≡ path
@@ -248,8 +254,9 @@ returns-in_err-look-clause-path g c = λ s holds honest.
     (subst (λ p. IsListing c.args.folder.now.types.now p (g.S.Shelf.gave c.list.new.shelf)
     c.in-Ok.names.names.items) c.begin.ensures.same c.in-Ok.ensures.listed)
     c.in-Ok.ensures.unread
-    (c.note_most.ensures.told []
-    (c.list.ensures.told [] (tells_none c.begin-2.new.self c.begin-2.ensures.told))) looks.1
+    (c.note_most.ensures.further (g.S.Shelf.gave c.list.new.shelf).files
+    (c.in-Ok.ensures.further
+    (nameless_none c.begin-2.new.self c.begin-2.ensures.fine c.begin-2.ensures.told))) looks.1
 
 pub returns-clause-path : goal.returns-clause-path
 returns-clause-path g c = λ s holds honest.
@@ -264,8 +271,9 @@ returns-clause-path g c = λ s holds honest.
     (subst (λ p. IsListing c.args.folder.now.types.now p (g.S.Shelf.gave c.list.new.shelf)
     c.in-Ok.names.names.items) c.begin.ensures.same c.in-Ok.ensures.listed)
     c.in-Ok.ensures.unread
-    (c.note_most.ensures.told []
-    (c.list.ensures.told [] (tells_none c.begin-2.new.self c.begin-2.ensures.told))) looks.1
+    (c.note_most.ensures.further (g.S.Shelf.gave c.list.new.shelf).files
+    (c.in-Ok.ensures.further
+    (nameless_none c.begin-2.new.self c.begin-2.ensures.fine c.begin-2.ensures.told))) looks.1
 
 pub returns-in-Err-clause-looked : goal.returns-in-Err-clause-looked
 returns-in-Err-clause-looked g c = λ s holds honest.
@@ -350,14 +358,15 @@ returns-in_err-look-clause-looked g c = λ s holds honest.
     looks.0.wanted (c.in-Ok.ensures.same ∙ c.begin.ensures.same) c.in_err-look.ensures.same
     (subst (λ p. IsListing types p (g.S.Shelf.gave c.list.new.shelf) names) c.begin.ensures.same
     c.in-Ok.ensures.listed) c.in-Ok.ensures.unread
-    (c.note_most.ensures.told []
-    (c.list.ensures.told [] (tells_none c.begin-2.new.self c.begin-2.ensures.told))) looks.1 in
+    (c.note_most.ensures.further (g.S.Shelf.gave c.list.new.shelf).files
+    (c.in-Ok.ensures.further
+    (nameless_none c.begin-2.new.self c.begin-2.ensures.fine c.begin-2.ensures.told))) looks.1 in
     subst (λ (r : Result Unit Refusal). HasLookedAtFolder old new (state old.disk) (state new.disk)
     s types allows path given source.report (fault_of r))
     (sym (same_error c.from_residual.result c.in_err-look.field-0.0 c.from_residual.ensures.1))
     (of_names old new (state old.disk) (state new.disk) s types allows path given source.report names
     fault c.in-Ok.ensures.shown is.listing updates looks.0 seen (λ none. absurd (cc (none)))
-    is.tells)
+    (λ without none. cc (none)) is.tells)
 
 pub returns-clause-looked : goal.returns-clause-looked
 returns-clause-looked g c = λ s holds honest.
@@ -382,8 +391,9 @@ returns-clause-looked g c = λ s holds honest.
     looks.0.wanted (c.in-Ok.ensures.same ∙ c.begin.ensures.same) c.in_ok-look.ensures.same
     (subst (λ p. IsListing types p (g.S.Shelf.gave c.list.new.shelf) names) c.begin.ensures.same
     c.in-Ok.ensures.listed) c.in-Ok.ensures.unread
-    (c.note_most.ensures.told []
-    (c.list.ensures.told [] (tells_none c.begin-2.new.self c.begin-2.ensures.told))) looks.1 in
+    (c.note_most.ensures.further (g.S.Shelf.gave c.list.new.shelf).files
+    (c.in-Ok.ensures.further
+    (nameless_none c.begin-2.new.self c.begin-2.ensures.fine c.begin-2.ensures.told))) looks.1 in
     let seen : take source.place names ≡ names =
     take_all source.place names (subst (λ (n : List (List ℕ)). length n ≤ source.place)
     c.in_ok-look.ensures.same c.in_ok-look.ensures.ended) in
@@ -401,3 +411,4 @@ returns-clause-looked g c = λ s holds honest.
     ) in
     listed_whole old new (state old.disk) (state new.disk) s types allows path given report
     names c.in-Ok.ensures.shown is.listing updates last.0 last.1 c.end-2.result c.end-2.ensures.fault
+    (λ ok. (c.end-2.ensures.ends.0 ok).1)

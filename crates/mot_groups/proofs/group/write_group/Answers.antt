@@ -1,8 +1,9 @@
 use Rattle.std.proofs.Common.{◌≡◌, ◌+◌, ◌*◌, ℕ, List, ◌∷◌, ◌++◌, length, refl, append_assoc, arith}
 use Rattle.std.specs.Int.{to_be_bytes, w16}
 use Rattle.mot_base.specs.Checksum.{crc_of}
+use Rattle.mot_numbers.proofs.Laws.{kind_number-fits}
 use Rattle.mot_groups.specs.Group.{bytes_of_group, content_head, group_of, segment_content}
-use Rattle.mot_groups.proofs.Appended.{header-appended, kind_number_fits, rest_of-append}
+use Rattle.mot_groups.proofs.Appended.{header-appended, rest_of-append}
 use Rattle.mot_groups.proofs.ReadBack.{read_group-bytes_of_group}
 use Rattle.mot_groups.proofs.Only.{read_group-only}
 use Rattle.mot_groups.proofs.group.write_group.Goals as goal
@@ -26,7 +27,7 @@ returns-clause-written c =
     )
     (header-appended c.args.out.now.items
     (content_head c.args.number c.args.last c.args.tid (length segment)) segment kind c.args.index
-    (kind_number_fits c.args.kind) (omega arith)) in
+    (kind_number-fits c.args.kind) (omega arith)) in
     let checksum : c.crc16-checksum.result ≡ crc_of covered =
     rw (
       c.crc16-checksum.ensures,
@@ -43,7 +44,7 @@ returns-clause-reads c =
     (group_of c.args.index (kind_number c.args.kind) c.args.tid c.args.number c.args.last
     c.args.segment.now)
     (record {
-      kind = kind_number_fits c.args.kind;
+      kind = kind_number-fits c.args.kind;
       index = omega arith;
       tid = (omega arith, omega arith);
       number = omega arith;

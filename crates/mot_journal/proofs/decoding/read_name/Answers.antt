@@ -1,6 +1,7 @@
 use Rattle.std.proofs.Common.{◌≡◌, sym, ◌∙◌, ap, subst, arith, rules}
 use Rattle.mot_journal.specs.Slot.{longest_name}
-use Rattle.mot_journal.proofs.Decoded.{name_ok, name_bad, longest_most, text, wrong-ok}
+use Rattle.mot_journal.proofs.Decoded.{name_ok, name_bad, text, wrong-ok}
+use Rattle.mot_journal.proofs.Written.{longest_most}
 use Rattle.mot_journal.proofs.decoding.read_name.Goals as goal
 use Rattle.mot_objects.specs.Name.{IsName}
 

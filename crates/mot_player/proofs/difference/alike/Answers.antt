@@ -1,6 +1,6 @@
 use Rattle.std.proofs.Common.{◌≡◌, ◌≤◌, ◌∙◌, ap, ℕ, arith, List, drop, length}
 use Rattle.std.proofs.lemmas.List.{drop_all}
-use Rattle.mot_player.specs.Difference.{alike, plans_of}
+use Rattle.mot_player.specs.Inner.Difference.{alike, plans_of}
 use Rattle.mot_player.specs.declared.planned_body.PlannedBody.{PlannedBody}
 use Rattle.mot_player.proofs.Differences.{alike-none}
 use Rattle.mot_player.proofs.difference.alike.Goals as goal

@@ -1,5 +1,5 @@
 use Rattle.std.proofs.Common.{◌≡◌, ◌+◌, ◌-◌, ◌≤◌, drop, length}
-use Rattle.mot_player.specs.Difference.{alike, plans_of}
+use Rattle.mot_player.specs.Inner.Difference.{alike, plans_of}
 use Rattle.mot_player.proofs.difference.alike.Given as goal
 
 abbrev pub invariant-loop-at : goal.invariant-loop-at

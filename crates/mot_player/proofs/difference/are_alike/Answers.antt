@@ -1,6 +1,6 @@
 use Rattle.std.proofs.Common.{◌≡◌, ◌∙◌, ap, sym, arith, ℕ, List, length, nat_eq}
 use Rattle.std.proofs.lemmas.Bool.{ne_eqb}
-use Rattle.mot_player.specs.Difference.{alike, plans_of}
+use Rattle.mot_player.specs.Inner.Difference.{alike, plans_of}
 use Rattle.mot_player.specs.declared.planned_body.PlannedBody.{PlannedBody}
 use Rattle.mot_player.proofs.Differences.{all-alike, length-plans_of, other-length}
 use Rattle.mot_player.proofs.difference.are_alike.Goals as goal

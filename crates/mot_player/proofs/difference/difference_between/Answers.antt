@@ -1,6 +1,6 @@
 use Rattle.std.proofs.Common.{◌≡◌, ◌+◌, ◌<◌, ◌∙◌, ap, sym, arith, ℕ, List, true, false, drop}
 use Rattle.std.proofs.Common.{length}
-use Rattle.mot_player.specs.Difference.{are_alike, added, plans_of}
+use Rattle.mot_player.specs.Inner.Difference.{are_alike, added, plans_of}
 use Rattle.mot_player.specs.declared.planned_body.PlannedBody.{PlannedBody}
 use Rattle.mot_player.proofs.Differences.{between-none, between-some, changed-here, none-here}
 use Rattle.mot_player.proofs.Differences.{removed-here, same-test}

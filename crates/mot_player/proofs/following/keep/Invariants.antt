@@ -1,5 +1,5 @@
 use Rattle.std.proofs.Common.{◌≡◌, ◌+◌, ◌≤◌, ◌++◌, drop, vec_capacity, vec_len}
-use Rattle.mot_player.specs.Course.{kept_of}
+use Rattle.mot_player.specs.Inner.Course.{kept_of}
 use Rattle.mot_player.proofs.following.keep.Given as goal
 
 abbrev pub invariant-loop-w : goal.invariant-loop-w

@@ -1,7 +1,8 @@
 use Rattle.std.proofs.Common.{◌≡◌, ◌+◌, length, arith, sym, ap, ◌∙◌, subst}
-use Rattle.mot_player.specs.Course.{course_of, due_of}
-use Rattle.mot_player.specs.Inner.Entities.{IsInside}
+use Rattle.mot_player.specs.Course.{course_of}
+use Rattle.mot_player.specs.Inner.Course.{due_of}
 use Rattle.mot_player.specs.PlayerView.{TurnPlan}
+use Rattle.mot_player.specs.Inner.Entities.{IsInside}
 use Rattle.mot_player.specs.declared.course.Waiting.{Waiting}
 use Rattle.mot_player.proofs.Passing.{IsPartAt, course-early, course-next, due-inside, on-course}
 use Rattle.mot_player.proofs.part.part_at.Goals as goal

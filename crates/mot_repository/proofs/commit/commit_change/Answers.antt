@@ -4,7 +4,7 @@ use Rattle.disk_model.proofs.Laws.{weakens, joins}
 use Rattle.mot_journal.specs.Gaps.{AreBeside}
 use Rattle.mot_journal.specs.Journal.{JournalView}
 use Rattle.mot_numbers.specs.Geometry.{area_start}
-use Rattle.mot_repository.specs.Prepared.{IsFull}
+use Rattle.mot_repository.specs.Inner.Prepared.{IsFull}
 use Rattle.mot_repository.specs.Repository.{RepositoryView, IsOf, IsBeforeOrAfter}
 use Rattle.mot_repository.proofs.Following as following
 use Rattle.mot_repository.proofs.Rewriting as rewriting

@@ -2,8 +2,9 @@ use Rattle.std.proofs.Common.{◌≡◌, None, false, sym, ap, ◌∙◌}
 use Rattle.std.proofs.lemmas.Result.{err_from_is_err_and}
 use Rattle.mot_repository.specs.Answers.{IsRefusal}
 use Rattle.mot_repository.specs.Outcome.{has_long_name, start_of}
-use Rattle.mot_repository.specs.Prepared.{view_with}
+use Rattle.mot_repository.specs.Inner.InOrder.{view_with}
 use Rattle.mot_repository.specs.Repository.{RepositoryView}
+use Rattle.mot_repository.proofs.FirstFit.{start-reordered}
 use Rattle.mot_repository.proofs.Planned.{name_refused, plan_refused, room_refused, IsWorkedOut}
 use Rattle.mot_repository.proofs.Planned.{prepared_is, kept_after}
 use Rattle.mot_repository.proofs.prepared.prepare_change.Goals as goal
@@ -34,21 +35,14 @@ returns-in_default-clause-refused c = λ view k going.
     ap (λ l. has_long_name l c.args.command.now) k.layout_is ∙ sym c.is_name_too_long.ensures
     ∙ c.if-is_name_too_long.false in
     let nowhere : start_of view.extents view.journal.geometry.data_area c.args.command.now ≡ None =
-    rw geometry (ap (λ l. start_of l c.args.geometry.now.data_area c.args.command.now)
-    (extents ∙ sym c.deref.ensures.value)
-    ∙ sym c.in_ok-start.ensures ∙ c.in_default.is) in
+    rw (geometry, extents)
+    (start-reordered c.args.inventory.now.extents.items c.args.inventory.now.by_start.items
+    c.args.geometry.now.data_area c.args.command.now c.args.inventory.now.reordered
+    ∙ ap (λ l. start_of l c.args.geometry.now.data_area c.args.command.now)
+    (sym c.deref.ensures.value) ∙ sym c.body_start-start.ensures ∙ c.in_default.is) in
     room_refused view c.args.command.now going c.in_ok-change.change.next c.in_ok-change.change.done
     short
     (rw (geometry, carousel) c.in_ok-change.ensures.planned) nowhere
-
-pub returns-in_err-start-clause-refused : goal.returns-in_err-start-clause-refused
-returns-in_err-start-clause-refused c = λ view k going.
-    let short : has_long_name view.journal.layout c.args.command.now ≡ false =
-    ap (λ l. has_long_name l c.args.command.now) k.layout_is ∙ sym c.is_name_too_long.ensures
-    ∙ c.if-is_name_too_long.false in
-    let p = err_from_is_err_and c.from_residual-in_err-start.result
-    c.from_residual-in_err-start.ensures.1 in
-    rw p.1 (IsRefusal.no_memory going short p.2)
 
 pub returns-in_err-extents-clause-refused : goal.returns-in_err-extents-clause-refused
 returns-in_err-extents-clause-refused c = λ view k going.
@@ -57,6 +51,15 @@ returns-in_err-extents-clause-refused c = λ view k going.
     ∙ c.if-is_name_too_long.false in
     let p = err_from_is_err_and c.from_residual-in_err-extents.result
     c.from_residual-in_err-extents.ensures.1 in
+    rw p.1 (IsRefusal.no_memory going short p.2)
+
+pub returns-in_err-by_start-clause-refused : goal.returns-in_err-by_start-clause-refused
+returns-in_err-by_start-clause-refused c = λ view k going.
+    let short : has_long_name view.journal.layout c.args.command.now ≡ false =
+    ap (λ l. has_long_name l c.args.command.now) k.layout_is ∙ sym c.is_name_too_long.ensures
+    ∙ c.if-is_name_too_long.false in
+    let p = err_from_is_err_and c.from_residual-in_err-by_start.result
+    c.from_residual-in_err-by_start.ensures.1 in
     rw p.1 (IsRefusal.no_memory going short p.2)
 
 pub invariant_of-result : goal.invariant_of-result
@@ -77,8 +80,10 @@ invariant_of-result c =
       paired = old.paired;
       short = sym c.is_name_too_long.ensures ∙ c.if-is_name_too_long.false;
       changes = c.in_ok-change.ensures.planned;
-      lies = ap (λ l. start_of l c.args.geometry.now.data_area c.args.command.now)
-          (sym c.deref.ensures.value) ∙ sym c.in_ok-start.ensures ∙ c.in-Some.is;
+      lies = start-reordered old.extents.items old.by_start.items c.args.geometry.now.data_area
+          c.args.command.now old.reordered
+          ∙ ap (λ l. start_of l c.args.geometry.now.data_area c.args.command.now)
+          (sym c.deref.ensures.value) ∙ sym c.body_start-start.ensures ∙ c.in-Some.is;
       record_is = c.in_ok-record.ensures.made;
       typed = c.in_ok-record.ensures.typed;
     } in
@@ -86,6 +91,7 @@ invariant_of-result c =
       paired = rw c.in_ok-extents.ensures
           (kept_after view c.args.command.now c.in_ok-change.change.next c.in_ok-change.change.done
           c.in-Some.start c.in_ok-record.record is).paired;
+      reordered = rw c.in_ok-extents.ensures c.in_ok-by_start.ensures;
     }
 
 pub returns-clause-prepared : goal.returns-clause-prepared
@@ -102,9 +108,11 @@ returns-clause-prepared c = λ view k told.
       short = ap (λ l. has_long_name l c.args.command.now) layout ∙ sym c.is_name_too_long.ensures
           ∙ c.if-is_name_too_long.false;
       changes = rw (geometry, carousel) c.in_ok-change.ensures.planned;
-      lies = rw geometry (ap (λ l. start_of l c.args.geometry.now.data_area c.args.command.now)
-          (extents ∙ sym c.deref.ensures.value)
-          ∙ sym c.in_ok-start.ensures ∙ c.in-Some.is);
+      lies = rw (geometry, extents)
+          (start-reordered c.args.inventory.now.extents.items c.args.inventory.now.by_start.items
+          c.args.geometry.now.data_area c.args.command.now c.args.inventory.now.reordered
+          ∙ ap (λ l. start_of l c.args.geometry.now.data_area c.args.command.now)
+          (sym c.deref.ensures.value) ∙ sym c.body_start-start.ensures ∙ c.in-Some.is);
       record_is = rw carousel c.in_ok-record.ensures.made;
       typed = c.in_ok-record.ensures.typed;
     } in

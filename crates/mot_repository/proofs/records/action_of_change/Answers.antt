@@ -1,7 +1,7 @@
 use Rattle.std.proofs.Common.{◌≡◌, Some, sym, ap, ◌∙◌, length}
 use Rattle.std.proofs.lemmas.Result.{IfOk-weaker}
 use Rattle.mot_objects.specs.declared.object.Object.{Object}
-use Rattle.mot_repository.specs.Prepared.{kept_object_named, kept_set, kept_remove}
+use Rattle.mot_repository.specs.Inner.Prepared.{kept_object_named, kept_set, kept_remove}
 use Rattle.mot_repository.proofs.Extents.{first-place, nowhere-place, kept_object_named-first}
 use Rattle.mot_repository.proofs.Extents.{kept_object_named-nowhere}
 use Rattle.mot_repository.proofs.records.action_of_change.Goals as goal

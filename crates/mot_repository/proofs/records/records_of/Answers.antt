@@ -1,8 +1,8 @@
 use Rattle.std.proofs.Common.{◌≡◌, ◌++◌, ◌∷◌, [], List, get_or, take, ap, ◌∙◌, arith, add-one}
 use Rattle.mot_journal.specs.Catalogue.{Catalogue}
 use Rattle.mot_journal.specs.declared.record.Record.{Record}
-use Rattle.mot_repository.specs.Extents.{objects_in, catalogue_with}
-use Rattle.mot_repository.specs.Laws.{records_of_objects}
+use Rattle.mot_repository.specs.Inner.Extents.{objects_in, catalogue_with}
+use Rattle.mot_repository.specs.Inner.Laws.{records_of_objects}
 use Rattle.mot_repository.proofs.Extents.{record_with, set_of_object, records_of_objects-next}
 use Rattle.mot_repository.proofs.records.records_of.Goals as goal
 

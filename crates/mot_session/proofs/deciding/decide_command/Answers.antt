@@ -12,8 +12,7 @@ returns-in-Ok-clause-decides g c = λ s stands honest.
     let step = run.ok s holds in
     Answers-accepted c.args.server.now c.execute.new.self s (state c.args.server.now.disk)
     (state c.execute.new.self.disk) c.args.command.now stands
-    run.keeps.frame.later (run.any_moment s) c.in-Ok.done run.answered run.going step.0 step.1
-    step.2
+    run.keeps.frame.later c.in-Ok.done run.answered run.going step.0 step.1 step.2
     (run.place s step.0 holds step.2.agrees step.1)
 
 pub returns-in-Err-clause-decides : goal.returns-in-Err-clause-decides
@@ -22,7 +21,7 @@ returns-in-Err-clause-decides g c = λ s stands honest.
     let run = c.in-Err.ensures in
     Answers-refused_command c.args.server.now c.execute.new.self s (state c.args.server.now.disk)
     (state c.execute.new.self.disk) c.args.command.now stands
-    run.keeps.frame.later (run.any_moment s) c.in-Err.refusal run.answered run.stays honest
+    run.keeps.frame.later c.in-Err.refusal run.answered run.stays honest
 
 pub returns-in-Ok-clause-anyhow : goal.returns-in-Ok-clause-anyhow
 returns-in-Ok-clause-anyhow g c =

@@ -4,7 +4,7 @@ use Rattle.disk_model.specs.Failures.{Rises}
 use Rattle.mot_journal.specs.Journal.{standing_from}
 use Rattle.mot_server.specs.Playing.{bytes_of_packets}
 use Rattle.mot_server.proofs.Laws.{if_err, none_or_left, passing, unopened}
-use Rattle.mot_session.specs.Life.{AreRight, commands_done, fails_in}
+use Rattle.mot_session.specs.Life.{AreRightReplies, commands_done, fails_in}
 use Rattle.mot_session.proofs.Lives.{done_at, done_stands, kept_first, kept_new, left_or_stands}
 use Rattle.mot_session.proofs.Lives.{life_after, life_kept, served_so, some_of}
 use Rattle.mot_session.proofs.life.format_serve_and_restart.Goals as goal
@@ -38,7 +38,7 @@ returns-clause-told g c = λ honest.
       all.2,
       all.3,
       all.5,
-      subst (λ o. AreRight g0 o all.2) (kept_new g0 c.args.directory has.standing
+      subst (λ o. AreRightReplies g0 o all.2) (kept_new g0 c.args.directory has.standing
           opened.view.halted (c.in_ok-server.ensures.holds open_honest).going has.after)
           (all.7 (c.in_ok-server.ensures.layout open_honest)),
       subst (λ d. (flat_map fails_in all.2 ≡ [])

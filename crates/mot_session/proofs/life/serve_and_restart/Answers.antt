@@ -2,7 +2,7 @@ use Rattle.std.proofs.Common.{[], ◌++◌, subst}
 use Rattle.mot_journal.specs.Journal.{standing_from}
 use Rattle.mot_server.specs.Playing.{bytes_of_packets}
 use Rattle.mot_server.proofs.Laws.{if_err, passing}
-use Rattle.mot_session.specs.Life.{AreRight, commands_done}
+use Rattle.mot_session.specs.Life.{AreRightReplies, commands_done}
 use Rattle.mot_session.specs.Kept.{HoldsSince}
 use Rattle.mot_session.proofs.Lives.{done_at, done_stands, kept_by, kept_first, lives_on, served_so}
 use Rattle.mot_session.proofs.Lives.{some_of}
@@ -35,7 +35,7 @@ returns-clause-in_a_row g c = λ geometry first_id done has honest.
       all.2,
       all.3,
       all.5,
-      λ two. subst (λ o. AreRight geometry o all.2)
+      λ two. subst (λ o. AreRightReplies geometry o all.2)
           (kept_by geometry first_id done has.standing opened.view.halted has.after) (all.7 two),
       all.8,
       λ left. on done (commands_done all.2 ++ all.3)

@@ -8,7 +8,8 @@ use Rattle.mot_server.specs.Attempts.{marks_of}
 use Rattle.mot_update.specs.Faults.{no_memory}
 use Rattle.mot_update.specs.HasRun.{HasRun}
 use Rattle.mot_update.proofs.Faults.{calm_here, calm_on, fault_on}
-use Rattle.mot_update.specs.Told.{IsRight, Withdrew}
+use Rattle.mot_update.proofs.Right.{ComesOf}
+use Rattle.mot_update.specs.Told.{Withdrew}
 use Rattle.mot_update.proofs.Answers.{both_nil, both_trans}
 use Rattle.mot_update.proofs.Looks.{err_of, gives_kept, gives_nil, withdrew_all}
 use Rattle.mot_update.proofs.Looks.{withdrew_cut}
@@ -115,7 +116,7 @@ loop-name-preserved g c =
                 (λ t held. subst (λ n. HasRun mid new (state mid.disk) (state new.disk) t
                 (Withdraw n ∷ []) (marks_of (Ok attempt)) None)
                 c.in_ok-clone.ensures.cases (two.run t held))
-                (λ t held. subst (λ n. IsRight mid.view.journal.layout t (Withdraw n) attempt)
+                (λ t held. subst (λ n. ComesOf mid.view.journal.layout t (Withdraw n) attempt)
                 c.in_ok-clone.ensures.cases (two.right t held))
                 c.withdrew.ensures.fine,
             both_trans (g.S.Source.was_told c.args.source.now)

@@ -55,6 +55,7 @@ loop-self-preserved g c =
           (mid.place + 1) report) [] []) (sym c.in-Err.ensures.same)
           (then_missed mid.types.now (path mid.shelf) names first (gave mid.shelf)
           (gave c.read.new.shelf) mid.place mid.report report name
-          is.told within at c.in-Err.ensures.took told);
+          is.told within at c.in-Err.ensures.took c.tell_untaken.ensures.memory
+          c.tell_untaken.ensures.any c.tell_untaken.ensures.stays told);
       fine = λ e. let any = c.tell_untaken.ensures.any in absurd (cc (e, any));
     }

@@ -13,6 +13,6 @@ returns-clause-told g c =
     look_on types (g.S.Shelf.path self.shelf) names given given self.place self.place self.report
     c.answered.new.self _ [] (λ is. is)
     (of_answer types given self.report c.answered.new.self (take self.place names)
-    (Withdrew c.args.name.now c.args.attempt) None
+    (Withdrew c.args.name.now c.args.attempt) None c.answered.ensures.any c.answered.ensures.stays
     (subst (λ n. TellsOne self.report c.answered.new.self
     (entry (codes "withdraw") n c.args.attempt)) c.as_bytes.ensures.value c.answered.ensures.told))

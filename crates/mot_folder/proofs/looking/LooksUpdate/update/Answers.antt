@@ -1,11 +1,14 @@
-use Rattle.std.proofs.Common.{◌≡◌, ◌∙◌, ℕ, Bool, true, false, not, List, ◌∷◌, ◌++◌, Option, None, []}
+use Rattle.std.proofs.Common.{◌≡◌, ◌∙◌, ◌||◌, ℕ, Bool, true, false, not, List, ◌∷◌, ◌++◌, Option}
+use Rattle.std.proofs.Common.{None, []}
 use Rattle.std.proofs.Common.{ap, refl, sym}
 use Rattle.disk_model.specs.Disk.{State}
 use Rattle.disk_model.proofs.Laws.{unchanged_none}
 use Rattle.mot_folder.specs.declared.report.Report.{Report}
-use Rattle.mot_folder.specs.Looked.{HasLookedAtFolder, TellsWatch, Watch, is_due, left_behind}
-use Rattle.mot_folder.specs.Looked.{no_look, one_look, packets_left, watch}
+use Rattle.mot_folder.specs.Looked.{HasLookedAtFolder, LooksSoFar, TellsWatch, Watch, is_look_due}
+use Rattle.mot_folder.specs.Looked.{no_look, one_look, packets_left, packets_left_behind, so_far}
+use Rattle.mot_folder.specs.Looked.{watch}
 use Rattle.mot_folder.proofs.looking.LooksUpdate.update.Goals as goal
+use Rattle.mot_folder.proofs.looking.LooksUpdate.update.Goals.{else-self, then-self}
 use Rattle.mot_journal.specs.Image.{Standing}
 use Rattle.mot_numbers.specs.declared.refusal.Refusal.{Refusal}
 use Rattle.mot_server.specs.Attempts.{fault_of}
@@ -15,30 +18,54 @@ use Rattle.mot_update.specs.Between.{IsUpdating, may_look}
 use Rattle.mot_update.specs.declared.moment.Moment.{Moment}
 use Rattle.mot_update.proofs.Laws.{has_read}
 
+or_first : (a b : Bool) → a ≡ true → a ≡ (a || b)
+or_first a b e = e ∙ ap (λ x. x || b) (sym e)
+
+or_second : (a b : Bool) → a ≡ false → b ≡ (a || b)
+or_second a b e = ap (λ x. x || b) (sym e)
+
+twice_not : (b : Bool) → b ≡ not (not b)
+twice_not true = refl
+twice_not false = refl
+
+-- looks so far, and one more
+so_is : (before behind : LooksSoFar) (given : Given) (report : Report) {left : ℕ}
+    → behind.left ≡ left
+    → behind.given ≡ before.given ++ given ∷ []
+    → behind.refused ≡ (before.refused || report.any_refused)
+    → behind ≡ so_far left (before.given ++ given ∷ [])
+    (before.refused || not (not report.any_refused))
+so_is before behind given report {left} paced noted kept =
+    ap (λ n. so_far n behind.given behind.refused) paced
+    ∙ ap (λ l. so_far left l behind.refused) noted
+    ∙ ap (so_far left (before.given ++ given ∷ []))
+    (kept ∙ ap (λ (b : Bool). before.refused || b) (twice_not report.any_refused))
+
 -- a look runs commands, and tells of them
 updating_by : {D : Type 0} (old new : ServerView D) (start now : State) (s : Standing)
-    (w after : Watch) (moment : Moment) (left then_left : ℕ) (earlier later : List Given)
-    (given : Given) (report : Report) (fault : Option Refusal)
-    → after ≡ w → is_due left (may_look moment) ≡ true
-    → then_left ≡ packets_left report.any_left w.every → later ≡ earlier ++ given ∷ []
+    (w after : Watch) (moment : Moment) (before behind : LooksSoFar) (given : Given)
+    (report : Report) (fault : Option Refusal)
+    → after ≡ w → is_look_due before.left (may_look moment) ≡ true
+    → behind.left ≡ packets_left report.any_left w.every → behind.given ≡ before.given ++ given ∷ []
+    → behind.refused ≡ (before.refused || report.any_refused)
     → HasLookedAtFolder old new start now s w.types w.allows w.path given report fault
-    → IsUpdating (TellsWatch w after moment left then_left earlier later) old new start now s fault
-updating_by old new start now s w after moment left then_left earlier later given report fault same
-    due paced noted looked = record {
+    → IsUpdating (TellsWatch w after moment before behind) old new start now s fault
+updating_by old new start now s w after moment before behind given report fault same due paced noted
+    kept looked = record {
       commands = looked.commands;
       marks = looked.marks;
       run = looked.run;
       told = (
         same,
-        one_look due report.any_left paced given noted looked.names looked.wanted
-            (not report.any_refused) looked.entries looked.look,
+        one_look due report.any_left given looked.names looked.wanted (not report.any_refused)
+            looked.entries (so_is before behind given report paced noted kept) looked.look,
       );
     }
 
 -- whether a look is due
 due_is : (left : ℕ) (moment : Moment) (may due : Bool) → may ≡ may_look moment
-    → due ≡ is_due left may → is_due left (may_look moment) ≡ due
-due_is left moment may due same is = sym (is ∙ ap (is_due left) same)
+    → due ≡ is_look_due left may → is_look_due left (may_look moment) ≡ due
+due_is left moment may due same is = sym (is ∙ ap (is_look_due left) same)
 
 pub returns-then-not-look_is_due-clause-looks : goal.returns-then-not-look_is_due-clause-looks
 returns-then-not-look_is_due-clause-looks g c = λ due.
@@ -68,9 +95,11 @@ returns-then-not-look_is_due-clause-run g c = λ s holds honest.
         refl,
         no_look (due_is c.args.self.now.left c.args.moment
             c.may_look.result false c.may_look.ensures c.if-not-look_is_due.ensures.due)
+            (ap (λ n. so_far n c.args.self.now.looks.all c.args.self.now.any_refused)
             (c.if-not-look_is_due.ensures.counts
-            ∙ ap (λ b. left_behind c.args.self.now.within b c.args.self.now.left) c.may_look.ensures)
-            refl refl,
+            ∙ ap (λ b. packets_left_behind c.args.self.now.within b c.args.self.now.left)
+            c.may_look.ensures))
+            refl,
       );
     }
 
@@ -79,7 +108,9 @@ returns-clause-run g c = λ s holds honest.
     let state = g.D.Disk.state in
     let old = c.args.server.now in
     let new = c.look_at_folder-result.new.server in
-    updating_by old new (state old.disk) (state new.disk) s _ _ c.args.moment _ _ _ _ _ _
+    updating_by old new (state old.disk) (state new.disk) s _ _ c.args.moment
+    (so_far c.args.self.now.left c.args.self.now.looks.all c.args.self.now.any_refused) _ _
+    c.look_at_folder-result.new.folder.report
     (fault_of c.look_at_folder-result.result)
     (ap (λ p. watch p c.args.self.now.folder.types.now c.args.self.now.folder.allows_empty
     c.args.self.now.every c.args.self.now.within)
@@ -87,6 +118,10 @@ returns-clause-run g c = λ s holds honest.
     (due_is c.args.self.now.left c.args.moment c.may_look.result true c.may_look.ensures
     c.if-not-look_is_due.ensures.due)
     c.packets_left-self.ensures c.note.ensures
+    (elim c.if-self.branch [
+      | then-self w ↦ w.self-is ∙ or_first _ _ w.if-self.true
+      | else-self w ↦ w.self-is ∙ or_second _ _ w.if-self.false
+    ])
     (c.look_at_folder-result.ensures.looked s holds honest)
 
 pub returns-clause-looked : goal.returns-clause-looked

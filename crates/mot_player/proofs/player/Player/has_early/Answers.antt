@@ -1,8 +1,8 @@
 use Rattle.std.proofs.Common.{ap, ◌∙◌, arith, subst, sym}
 use Rattle.std.specs.Prelude.{◌==◌, nat_lt, not}
 use Rattle.mot_player.specs.Course.{course_of}
-use Rattle.mot_player.specs.Inner.Ready.{IsFitted}
 use Rattle.mot_player.specs.PlayerView.{AreBodiesFor, PlayerView, TurnPlan, place_of}
+use Rattle.mot_player.specs.Inner.Ready.{IsFitted}
 use Rattle.mot_player.specs.declared.state.State.{State}
 use Rattle.mot_player.proofs.Passing.{queue-early}
 use Rattle.mot_player.proofs.player.Player.has_early.Goals as goal

@@ -1,10 +1,10 @@
 use Rattle.std.proofs.Common.{◌≡◌, ◌+◌, List, length, ℕ, ap, ◌∙◌, arith, subst, sym}
 use Rattle.mot_groups.specs.Group.{Segment}
-use Rattle.mot_player.specs.Course.{CourseView, course_of, heard_course}
+use Rattle.mot_player.specs.Course.{CourseView, course_of, entities_of, queued, waiting_of}
+use Rattle.mot_player.specs.Inner.Course.{heard_course}
+use Rattle.mot_player.specs.PlayerView.{AreBodiesFor, PlayerView, TurnPlan, place_of, turn_with}
 use Rattle.mot_player.specs.Inner.Ready.{IsFitted, place_with}
 use Rattle.mot_player.specs.Place.{Place, hear_directory}
-use Rattle.mot_player.specs.PlayerView.{AreBodiesFor, PlayerView, TurnPlan, place_of, turn_with}
-use Rattle.mot_player.specs.PlayerView.{entities_of, queued, waiting_of}
 use Rattle.mot_player.specs.Turn.{Turn}
 use Rattle.mot_player.specs.declared.course.Waiting.{Waiting}
 use Rattle.mot_player.specs.declared.state.State.{State}

@@ -1,19 +1,16 @@
 use Rattle.std.proofs.Common.{ℕ, List, length, ap, ◌∙◌}
 use Rattle.mot_groups.specs.Group.{Segment}
 use Rattle.mot_numbers.specs.PacketLength.{room_of}
-use Rattle.mot_player.specs.Course.{CourseView}
+use Rattle.mot_player.specs.Course.{CourseView, entities_of, queued, waiting_of}
+use Rattle.mot_player.specs.PlayerView.{turn_with}
 use Rattle.mot_player.specs.Place.{opened_place}
-use Rattle.mot_player.specs.PlayerView.{entities_of, queued, turn_with, waiting_of}
 use Rattle.mot_player.specs.Turn.{Turn}
 use Rattle.mot_player.proofs.Continuous.{steps-are-continuous}
-use Rattle.mot_player.proofs.Ending.{turns-end}
-use Rattle.mot_player.proofs.GoesOn.{changes-go_on, requests-go_on}
-use Rattle.mot_player.proofs.TurnOnce.{turns-read-with_directories}
-use Rattle.mot_player.proofs.TurnOnce.{turns_read_as_their_carousels}
+use Rattle.mot_player.proofs.GoesOn.{steps-go_on}
+use Rattle.mot_player.proofs.TurnOnce.{turns-read}
 use Rattle.mot_player.proofs.Segments.{segments_from-end}
 use Rattle.mot_player.proofs.Rounds.{rounds_are_continuous}
-use Rattle.mot_player.proofs.Followed.{changes-come-next, put-comes-at_the_end}
-use Rattle.mot_player.proofs.Followed.{replaced-keeps-its_place, rest-goes_on}
+use Rattle.mot_player.proofs.Followed.{changes-come-next, replaced-keeps-its_place}
 use Rattle.mot_player.proofs.Staying.{bodies-go_on, directory-comes, requests-take-in-order}
 use Rattle.mot_player.proofs.player.Player.new.Goals as goal
 
@@ -35,20 +32,11 @@ returns-clause-opened c = λ bodies e.
 pub returns-clause-continuous : goal.returns-clause-continuous
 returns-clause-continuous c = steps-are-continuous
 
-pub returns-clause-requests : goal.returns-clause-requests
-returns-clause-requests c = requests-go_on
-
-pub returns-clause-changes : goal.returns-clause-changes
-returns-clause-changes c = changes-go_on
-
-pub returns-clause-turns : goal.returns-clause-turns
-returns-clause-turns c = turns_read_as_their_carousels
+pub returns-clause-steps : goal.returns-clause-steps
+returns-clause-steps c = steps-go_on
 
 pub returns-clause-turns_with_directories : goal.returns-clause-turns_with_directories
-returns-clause-turns_with_directories c = turns-read-with_directories
-
-pub returns-clause-turns_end : goal.returns-clause-turns_end
-returns-clause-turns_end c = turns-end
+returns-clause-turns_with_directories c = turns-read
 
 pub returns-clause-rounds : goal.returns-clause-rounds
 returns-clause-rounds c = rounds_are_continuous
@@ -62,14 +50,8 @@ returns-clause-changes_next c = changes-come-next
 pub returns-clause-bodies_go_on : goal.returns-clause-bodies_go_on
 returns-clause-bodies_go_on c = bodies-go_on
 
-pub returns-clause-rest_goes_on : goal.returns-clause-rest_goes_on
-returns-clause-rest_goes_on c = rest-goes_on
-
 pub returns-clause-replaced_in_place : goal.returns-clause-replaced_in_place
 returns-clause-replaced_in_place c = replaced-keeps-its_place
-
-pub returns-clause-put_at_the_end : goal.returns-clause-put_at_the_end
-returns-clause-put_at_the_end c = put-comes-at_the_end
 
 pub returns-clause-in_order : goal.returns-clause-in_order
 returns-clause-in_order c = requests-take-in-order

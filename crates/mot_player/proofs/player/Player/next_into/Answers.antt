@@ -1,5 +1,6 @@
 use Rattle.std.proofs.Common.{◌≡◌, ◌∙◌, ◌<◌, ℕ, List, Some, false, ap, arith, refl}
-use Rattle.std.proofs.Common.{sym, subst, Bool, Result, Ok}
+use Rattle.std.proofs.Common.{sym, subst, Bool, Result, Ok, None, eq-eqb, true}
+use Rattle.std.specs.Prelude.{◌==◌, IfSome, if◌then◌else◌}
 use Rattle.mot_numbers.specs.declared.refusal.Refusal.{Refusal}
 use Rattle.mot_numbers.proofs.Laws.{same_error}
 use Rattle.mot_packets.specs.Packet.{read_packet}
@@ -78,6 +79,25 @@ returns-clause-sent g c = λ honest.
           c.send.result (place_with c.send.new.self bodies) w.if-self-eq0.false
           bytes packet ends place))
     ]
+
+-- what holds anyhow holds where a group is under way
+under-if : {U P : Type 0} (none : Bool) (u : U) → P → IfSome (if none then None else Some u) (λ (v : U). P)
+under-if true u p = tt
+under-if false u p = p
+
+pub returns-clause-unread : goal.returns-clause-unread
+returns-clause-unread g c = rw (← c.self.view_is) (
+    elim c.if-self-eq0.branch [
+      | then-self-eq0+in_ok-begin w ↦ (
+          rw (eq-eqb c.self.inside.state.sent 0 w.if-self-eq0.true) tt)
+      | else-self-eq0 w ↦ (under-if (c.self.inside.state.sent == 0) _ (w.bodies-is, refl))
+    ])
+
+pub returns-in_err-begin-clause-unread : goal.returns-in_err-begin-clause-unread
+returns-in_err-begin-clause-unread g c = rw (
+  ← c.self.view_is,
+  eq-eqb c.self.inside.state.sent 0 c.if-self-eq0.true,
+) tt
 
 pub returns-clause-place : goal.returns-clause-place
 returns-clause-place g c =

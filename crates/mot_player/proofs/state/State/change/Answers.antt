@@ -2,14 +2,13 @@ use Rattle.std.proofs.Common.{◌≡◌, ℕ, ◌+◌, ◌<◌, Bool, List, leng
 use Rattle.std.proofs.Common.{subst, sym}
 use Rattle.std.specs.Prelude.{◌==◌}
 use Rattle.mot_groups.specs.Group.{Segment}
-use Rattle.mot_player.specs.Course.{CourseView, changed_course, course_of, followed, left_course}
-use Rattle.mot_player.specs.Course.{whole_course}
-use Rattle.mot_player.specs.Difference.{difference_in}
+use Rattle.mot_player.specs.Course.{CourseView, course_of, entities_of, queued, waiting_of}
+use Rattle.mot_player.specs.Inner.Course.{changed_course, followed, left_course, whole_course}
+use Rattle.mot_player.specs.Inner.Difference.{difference_in}
+use Rattle.mot_player.specs.PlayerView.{turn_with}
 use Rattle.mot_player.specs.Inner.Entities.{IsOnCourse}
 use Rattle.mot_player.specs.Inner.Ready.{IsFitted, place_with}
 use Rattle.mot_player.specs.Place.{Place, change_turn, follow}
-use Rattle.mot_player.specs.PlayerView.{entities_of, queued, turn_with}
-use Rattle.mot_player.specs.PlayerView.{waiting_of}
 use Rattle.mot_player.specs.State.{view_of}
 use Rattle.mot_player.specs.Turn.{Turn}
 use Rattle.mot_player.specs.declared.difference.Difference.{Difference}

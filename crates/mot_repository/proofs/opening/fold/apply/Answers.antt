@@ -1,6 +1,6 @@
 use Rattle.std.proofs.Common.{List, sym, ap, ◌∙◌}
 use Rattle.mot_journal.specs.Catalogue.{Placed, objects_after}
-use Rattle.mot_repository.specs.Extents.{objects_in}
+use Rattle.mot_repository.specs.Inner.Extents.{objects_in}
 use Rattle.mot_repository.specs.Inner.Fold.{if_consistent}
 use Rattle.mot_repository.proofs.Apart.{consistent_without}
 use Rattle.mot_repository.proofs.opening.fold.apply.Goals as goal

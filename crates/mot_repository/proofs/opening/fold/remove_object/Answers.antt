@@ -1,7 +1,7 @@
 use Rattle.std.proofs.Common.{◌≡◌, ◌<◌, length, arith, ℕ, List, Some, refl, sym, ap, ◌∙◌}
 use Rattle.std.specs.Prelude.{remove, nat_eq, position}
 use Rattle.mot_objects.specs.declared.object.Object.{Object}
-use Rattle.mot_repository.specs.Extents.{objects_in}
+use Rattle.mot_repository.specs.Inner.Extents.{objects_in}
 use Rattle.mot_repository.specs.declared.opening.bounds.Bounds.{Bounds}
 use Rattle.mot_repository.specs.Inner.Bounds.{AreWithin}
 use Rattle.mot_repository.specs.Inner.Fold.{HaveLengths}

@@ -2,7 +2,7 @@ use Rattle.std.proofs.Common.{◌≡◌, ◌<◌, ℕ, List, [], ◌∷◌, ◌+
 use Rattle.std.proofs.Common.{refl, sym, subst, ap, ◌∙◌, arith, remove}
 use Rattle.mot_objects.specs.declared.object.Object.{Object}
 use Rattle.mot_objects.specs.Stands.{index_of}
-use Rattle.mot_repository.specs.Extents.{objects_in}
+use Rattle.mot_repository.specs.Inner.Extents.{objects_in}
 use Rattle.mot_repository.specs.Inner.Fold.{HaveLengths, are_consistent, if_consistent}
 use Rattle.mot_repository.specs.declared.opening.bounds.Bounds.{Bounds}
 use Rattle.mot_repository.specs.Inner.Bounds.{AreWithin, AreNamesFlagged}

@@ -2,7 +2,7 @@ use Rattle.std.proofs.Common.{◌≡◌, ℕ, Bool, true, ◌&&◌, List, map, g
 use Rattle.std.proofs.lemmas.List.{get_or_default}
 use Rattle.mot_objects.specs.declared.object.Object.{Object}
 use Rattle.mot_objects.specs.Ids.{is_distinct}
-use Rattle.mot_repository.specs.Extents.{objects_in}
+use Rattle.mot_repository.specs.Inner.Extents.{objects_in}
 use Rattle.mot_repository.specs.Inner.Fold.{HaveLengths, are_consistent, are_extents_apart}
 use Rattle.mot_repository.proofs.Apart.{consistent_parts, others_distinct, others_apart}
 use Rattle.mot_repository.proofs.Bounds.{widened}

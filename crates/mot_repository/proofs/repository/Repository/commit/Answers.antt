@@ -7,10 +7,12 @@ use Rattle.mot_numbers.specs.Geometry.{is_valid, length_of}
 use Rattle.mot_numbers.specs.declared.geometry.Geometry.{Geometry}
 use Rattle.mot_objects.specs.declared.carousel.Carousel.{Carousel}
 use Rattle.mot_repository.specs.Cost.{calls_for}
-use Rattle.mot_repository.specs.Extents.{ArePaired, catalogue_with}
-use Rattle.mot_repository.specs.Whole.{IsWhole}
+use Rattle.mot_repository.specs.Extents.{ArePaired}
+use Rattle.mot_repository.specs.Inner.Extents.{catalogue_with}
+use Rattle.mot_repository.specs.Inner.Whole.{IsWhole}
 use Rattle.mot_repository.specs.Inner.InOrder.{IsInOrder}
-use Rattle.mot_repository.specs.Prepared.{IsPreparedFor, view_with}
+use Rattle.mot_repository.specs.Inner.Prepared.{IsPreparedFor}
+use Rattle.mot_repository.specs.Inner.InOrder.{view_with}
 use Rattle.mot_repository.specs.Repository.{RepositoryView, IsBeforeOrAfter}
 use Rattle.mot_repository.proofs.Outcomes.{prepared_is_accepted}
 use Rattle.mot_repository.proofs.repository.Repository.commit.Goals as goal

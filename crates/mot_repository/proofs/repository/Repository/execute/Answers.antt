@@ -4,7 +4,7 @@ use Rattle.mot_numbers.proofs.Laws.{same_error}
 use Rattle.mot_repository.specs.Answers.{refused}
 use Rattle.mot_repository.specs.Repository.{IsBeforeOrAfter}
 use Rattle.mot_repository.proofs.Answering.{at_once, calm_where_ok, committed, fault_alone, no_less}
-use Rattle.mot_repository.proofs.Answering.{untouched}
+use Rattle.disk_model.proofs.Laws.{unchanged_none}
 use Rattle.mot_repository.proofs.repository.Repository.execute.Goals as goal
 
 pub returns-in_err-prepared-clause-answered : goal.returns-in_err-prepared-clause-answered
@@ -12,7 +12,7 @@ returns-in_err-prepared-clause-answered g c =
     let answer = same_error c.from_residual.result c.in_err-prepared.field-0.0
     c.from_residual.ensures.1 in
     refused c.in_err-prepared.field-0.0 answer c.in_err-prepared.ensures.refused refl
-    (untouched (g.D.Disk.state c.args.self.now.disk))
+    (unchanged_none (g.D.Disk.state c.args.self.now.disk))
 
 pub returns-clause-answered : goal.returns-clause-answered
 returns-clause-answered g c =

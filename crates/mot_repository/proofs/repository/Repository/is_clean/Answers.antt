@@ -2,7 +2,7 @@ use Rattle.std.proofs.Common.{◌∙◌, refl, sym, subst}
 use Rattle.disk_model.proofs.Laws.{reads_none}
 use Rattle.mot_repository.specs.Inner.InOrder.{IsInOrder}
 use Rattle.mot_repository.specs.OnDisk.IsCheckRefusal.{halted, failed}
-use Rattle.mot_repository.specs.Prepared.{view_with}
+use Rattle.mot_repository.specs.Inner.InOrder.{view_with}
 use Rattle.mot_repository.proofs.Answering.{no_less}
 use Rattle.mot_repository.proofs.Places.{stands_where}
 use Rattle.mot_repository.proofs.repository.Repository.is_clean.Goals as goal

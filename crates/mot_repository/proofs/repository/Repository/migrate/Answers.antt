@@ -7,10 +7,10 @@ use Rattle.mot_journal.specs.Journal.{JournalView}
 use Rattle.mot_numbers.proofs.Laws.{same_error}
 use Rattle.mot_numbers.specs.declared.refusal.Refusal.TheVariants.{OutOfMemory}
 use Rattle.mot_repository.specs.Answers.{halted, no_memory, failed}
-use Rattle.mot_repository.specs.Extents.{catalogue_with}
+use Rattle.mot_repository.specs.Inner.Extents.{catalogue_with}
 use Rattle.mot_repository.specs.Inner.InOrder.{IsInOrder}
-use Rattle.mot_repository.specs.Whole.{IsWhole}
-use Rattle.mot_repository.specs.Prepared.{view_with}
+use Rattle.mot_repository.specs.Inner.Whole.{IsWhole}
+use Rattle.mot_repository.specs.Inner.InOrder.{view_with}
 use Rattle.mot_repository.specs.Repository.{RepositoryView, IsOf}
 use Rattle.mot_repository.proofs.Answering.{calm_where_ok}
 use Rattle.mot_repository.proofs.Layouts.{migrates, whole_in_two}

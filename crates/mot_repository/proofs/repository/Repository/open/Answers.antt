@@ -4,7 +4,7 @@ use Rattle.disk_model.specs.Disk.{OnlySyncs}
 use Rattle.mot_repository.specs.Inner.InOrder.{IsInOrder}
 use Rattle.mot_repository.specs.Opening.{IsOpened}
 use Rattle.mot_journal.specs.Journal.IsReadingRefusal.{device}
-use Rattle.mot_repository.specs.Prepared.{view_with}
+use Rattle.mot_repository.specs.Inner.InOrder.{view_with}
 use Rattle.mot_repository.specs.Repository.{RepositoryView}
 use Rattle.mot_repository.proofs.Answering.{calm_where_ok}
 use Rattle.mot_repository.proofs.OpenDisk.{is_opened, refused_later, where_ok, syncs_on}

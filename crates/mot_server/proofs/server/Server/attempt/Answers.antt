@@ -11,7 +11,7 @@ use Rattle.mot_repository.specs.Answers.{IsAnswered, accepted, failed, refused}
 use Rattle.mot_repository.specs.Repository.{RepositoryView}
 use Rattle.mot_server.specs.RunEnds.{is_run_ending}
 use Rattle.mot_server.specs.Server.{ServerView, place_in}
-use Rattle.mot_server.proofs.Answered.{ends_here, goes_on_false, goes_on_true, run_fault}
+use Rattle.mot_server.proofs.Answered.{ends_here, goes_on_false, goes_on_true, going_at, run_fault}
 use Rattle.mot_server.proofs.Places.{any_last, stays_there, turns_there}
 use Rattle.mot_server.proofs.Runs.{after_none, begins, rests}
 use Rattle.mot_server.proofs.server.Server.attempt.Goals as goal
@@ -146,3 +146,14 @@ returns-else-ends_run-clause-place g c = λ s last holds after.
     let old = c.args.self.now in
     stays_there old c.execute.new.self last (place_in old s) c.in-Err.ensures.stays
     (any_last old s [] s last (place_in old s) (after_none s) after refl)
+
+pub returns-else-ends_run-clause-goes_on : goal.returns-else-ends_run-clause-goes_on
+returns-else-ends_run-clause-goes_on g c = sym c.ends_run.ensures ∙ c.if-ends_run.false
+
+pub returns-else-ends_run-clause-going : goal.returns-else-ends_run-clause-going
+returns-else-ends_run-clause-going g c =
+    let old = c.args.self.now in
+    let new = c.execute.new.self in
+    let state = g.D.Disk.state in
+    going_at old.view new.view (state old.disk) (state new.disk) c.args.command.now
+    c.in-Err.refusal (sym c.ends_run.ensures ∙ c.if-ends_run.false) c.in-Err.ensures.answered

@@ -34,7 +34,7 @@ returns-in_err-turn-clause-answered g c =
     refused refusal (same_error c.from_residual-in_err-turn.result refusal
     c.from_residual-in_err-turn.ensures.1)
     (rw (← c.self.view_is) (IsRefusal.no_memory c.in_ok-prepared.ensures.going
-    c.in_ok-prepared.ensures.prepared.change.prepared.short c.in_err-turn.ensures.refused))
+    c.in_ok-prepared.ensures.short c.in_err-turn.ensures.refused))
     refl (unchanged_none (g.D.Disk.state c.args.self.now.disk))
 
 pub returns-in_err-done-clause-any_moment : goal.returns-in_err-done-clause-any_moment
@@ -207,7 +207,7 @@ returns-in_err-spare-clause-answered g c =
     refused refusal (same_error c.from_residual-in_err-spare.result refusal
     c.from_residual-in_err-spare.ensures.1)
     (rw (← c.self.view_is) (IsRefusal.no_memory c.in_ok-prepared.ensures.going
-    c.in_ok-prepared.ensures.prepared.change.prepared.short c.in_err-spare.ensures.refused))
+    c.in_ok-prepared.ensures.short c.in_err-spare.ensures.refused))
     refl (unchanged_none (g.D.Disk.state c.args.self.now.disk))
 
 pub returns-in_err-spare-clause-keeps : goal.returns-in_err-spare-clause-keeps

@@ -1,0 +1,47 @@
+-- What is kept in memory, as the catalogue that records make, and its extents in another order.
+use Rattle.std.specs.Prelude.{◌≡◌, ℕ, List, map, sum_by, [], ◌∷◌}
+use Rattle.mot_journal.specs.Catalogue.{Placed, Catalogue}
+use Rattle.mot_objects.specs.declared.carousel.Carousel.{Carousel}
+use Rattle.mot_objects.specs.declared.object.Object.{Object}
+use Rattle.mot_repository.specs.Repository.{RepositoryView}
+
+-- an object where this extent says, and of its length
+abbrev pub with_extent : Object → ℕ × ℕ → Placed
+with_extent o e = record {
+  object = record {
+    name = o.name;
+    content = o.content;
+    mime = o.mime;
+    version = o.version;
+    tid = o.tid;
+    length = e.1;
+  };
+  start = e.0;
+}
+
+-- the objects that are kept, each where its extent says
+abbrev pub objects_in : List Object → List (ℕ × ℕ) → List Placed
+objects_in [] extents = []
+objects_in (o ∷ objects) [] = []
+objects_in (o ∷ objects) (e ∷ extents) = with_extent o e ∷ objects_in objects extents
+
+-- a carousel without its bodies, and their extents, as a catalogue
+abbrev pub catalogue_with : Carousel → List (ℕ × ℕ) → Catalogue
+catalogue_with carousel extents = record {
+  period = carousel.period;
+  directory = carousel.directory;
+  cursor = carousel.cursor;
+  objects = objects_in carousel.objects.items extents;
+}
+
+-- the catalogue that is kept in memory
+abbrev pub catalogue_in : RepositoryView → Catalogue
+catalogue_in view = catalogue_with view.carousel view.extents
+
+-- the names of the objects that are kept
+abbrev pub names_kept : Carousel → List (List ℕ)
+names_kept carousel = map (λ (o : Object). o.name) carousel.objects.items
+
+-- the same extents in some order: whatever numbers they have, these add up to the same
+abbrev pub AreReordered : List (ℕ × ℕ) → List (ℕ × ℕ) → Type 0
+AreReordered xs ys = (f : ℕ × ℕ → ℕ) → sum_by f ys ≡ sum_by f xs

@@ -1,0 +1,90 @@
+-- What a change that is prepared for a command is, and what it writes.
+use Rattle.std.specs.Prelude.{◌≡◌, ◌<◌, ◌≤◌, All, true, false, ℕ, ◌+◌, List, [], ◌∷◌, length}
+use Rattle.std.specs.Prelude.{Option, Some, None, Ok, bytes_eq, if◌then◌else◌}
+use Rattle.mot_journal.specs.declared.record.Record.{Record}
+use Rattle.mot_journal.specs.declared.record.Action.{Action}
+use Rattle.mot_journal.specs.declared.record.Action.TheVariants.{Nothing, Set, Remove}
+use Rattle.mot_journal.specs.Slot.{is_sound, slot_count}
+use Rattle.mot_journal.specs.Journal.{JournalView}
+use Rattle.mot_numbers.specs.Geometry.{area_start}
+use Rattle.mot_objects.specs.declared.carousel.Carousel.{Carousel}
+use Rattle.mot_objects.specs.declared.object.Object.{Object}
+use Rattle.mot_objects.specs.declared.command.Command.{Command}
+use Rattle.mot_objects.specs.declared.command.Command.TheVariants.{Put, Replace, Withdraw, Period}
+use Rattle.mot_objects.specs.declared.command.Done.{Done}
+use Rattle.mot_objects.specs.Carousel.{change}
+use Rattle.mot_objects.specs.Stands.{carousel_of, bodies_after, AreBodiesOf}
+use Rattle.mot_repository.specs.Inner.Extents.{catalogue_in, names_kept}
+use Rattle.mot_repository.specs.Inner.Laws.{records_of_catalogue}
+use Rattle.mot_repository.specs.Outcome.{body_of, extents_after, has_long_name, start_of}
+use Rattle.mot_repository.specs.Repository.{RepositoryView}
+
+-- the first object of this name
+abbrev pub kept_object_named : List ℕ → List Object → Option Object
+kept_object_named name [] = None
+kept_object_named name (o ∷ objects) =
+    if bytes_eq o.name name then Some o else kept_object_named name objects
+
+abbrev pub kept_set : ℕ → ℕ → Option Object → Action
+kept_set start size None = Nothing
+kept_set start size (Some o) = Set o.tid o.version o.content start size o.name o.mime
+
+abbrev pub kept_remove : Option Object → Action
+kept_remove None = Nothing
+kept_remove (Some o) = Remove o.tid
+
+abbrev pub kept_action : Carousel → Carousel → Command → ℕ → Action
+kept_action old next (Put name content mime body) start =
+    kept_set start (length body) (kept_object_named name next.objects.items)
+kept_action old next (Replace name content mime body) start =
+    kept_set start (length body) (kept_object_named name next.objects.items)
+kept_action old next (Withdraw name) start = kept_remove (kept_object_named name old.objects.items)
+kept_action old next (Period period) start = Nothing
+
+-- the record of an accepted command, by the carousels without their bodies
+abbrev pub kept_record : Carousel → Carousel → Command → ℕ → Record
+kept_record old next command start = record {
+  period = next.period;
+  directory = next.directory;
+  cursor = next.cursor;
+  action = kept_action old next command start;
+}
+
+-- no slot of the half is closed
+abbrev pub IsFull : JournalView → Type 0
+IsFull j = slot_count j.layout j.geometry ≤ j.count
+
+-- whatever the bodies are, the carousel is changed to this one, and these are the ids taken
+abbrev pub ChangesTo : Carousel → ℕ → Command → Carousel → Done → Type 0
+ChangesTo c limit command next done =
+    (bodies : List (List ℕ)) → AreBodiesOf c bodies →
+    (change (carousel_of c bodies) limit command
+    ≡ Ok (carousel_of next (bodies_after c command bodies), done))
+    × AreBodiesOf next (bodies_after c command bodies)
+
+-- What is prepared for a command that is accepted: the carousel after it, where its body goes, the
+-- record of it, and where the half is full the records that it is rewritten to.
+pub record IsPreparedFor (view : RepositoryView) (command : Command) (done : Done)
+    (next : Carousel) (from : ℕ) (r : Record) (given : List Record) : Type 0 where
+  pub short : has_long_name view.journal.layout command ≡ false
+  pub changes : ChangesTo view.carousel view.journal.geometry.objects command next done
+  pub lies : start_of view.extents view.journal.geometry.data_area command ≡ Some from
+  pub record_is : r ≡ kept_record view.carousel next command from
+  pub given_is : IsFull view.journal → given ≡ records_of_catalogue (catalogue_in view)
+
+-- what is kept of a prepared change is that of this command
+pub record IsPreparedChange (view : RepositoryView) (command : Command) (done : Done)
+    (next : Carousel) (extents : List (ℕ × ℕ))
+    (at : ℕ) (body : List ℕ) (r : Record) (given : List Record) : Type 0 where
+  pub from : ℕ
+  pub at_is : at ≡ area_start view.journal.geometry + from
+  pub body_is : body ≡ body_of command
+  pub prepared : IsPreparedFor view command done next from r given
+  pub extents_are : extents
+      ≡ extents_after (names_kept view.carousel) view.extents command from
+
+-- these records can be written into the other half, and leave room there
+pub record CanBeGiven (j : JournalView) (given : List Record) : Type 0 where
+  pub some : 0 < length given
+  pub few : length given < slot_count j.layout j.geometry
+  pub sound : All (λ r. is_sound j.geometry j.layout r ≡ true) given

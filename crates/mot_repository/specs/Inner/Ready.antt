@@ -1,0 +1,21 @@
+-- What a repository has ready for a command that was accepted.
+use Rattle.std.specs.Prelude.{◌≡◌, ◌+◌, ◌≤◌, true, length}
+use Rattle.mot_journal.specs.Slot.{is_sound}
+use Rattle.mot_numbers.specs.Geometry.{length_of}
+use Rattle.mot_objects.specs.declared.command.Command.{Command}
+use Rattle.mot_repository.specs.declared.prepared.Prepared.{Prepared}
+use Rattle.mot_repository.specs.Inner.Extents.{catalogue_with}
+use Rattle.mot_repository.specs.Inner.Whole.{IsWhole}
+use Rattle.mot_repository.specs.Inner.Prepared.{CanBeGiven, IsFull, IsPreparedChange}
+use Rattle.mot_repository.specs.Repository.{RepositoryView}
+
+-- The change is that of the command, and can be written on any disk of the geometry: its records
+-- are sound, and the body lies in the data area. What is kept after it has no fault either.
+pub record IsPrepared (view : RepositoryView) (command : Command) (p : Prepared) : Type 0 where
+  pub change : IsPreparedChange view command p.done p.inventory.carousel p.inventory.extents.items
+      p.at p.body.now p.record p.given.items
+  pub given : IsFull view.journal → CanBeGiven view.journal p.given.items
+  pub sound : is_sound view.journal.geometry view.journal.layout p.record ≡ true
+  pub within : p.at + length p.body.now ≤ length_of view.journal.geometry
+  pub whole : IsWhole view.journal.geometry view.journal.layout
+      (catalogue_with p.inventory.carousel p.inventory.extents.items)
