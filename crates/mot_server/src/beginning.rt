@@ -1,5 +1,6 @@
 //! The beginning of every history: a disk formatted here.
-ghost use Rattle.std.specs.Prelude.{◌≡◌, List, ℕ, false, IfErr, IfOk, OnOk};
+ghost use Rattle.std.specs.Prelude.{◌≡◌, List, ℕ, false, IfErr, IfOk, OnOk, MatchResult};
+ghost use Rattle.disk_model.specs.Disk.{OnlySyncs};
 ghost use Rattle.mot_journal.specs.Geometry.{has_magic};
 ghost use Rattle.mot_journal.specs.Journal.{standing_from};
 ghost use Rattle.mot_journal.specs.Making.{MakesDisk};
@@ -54,6 +55,11 @@ pub fn format_and_restart<D: Disk, E: Disk>(
         → (D.state disk.new).MayLeave (E.state left).bytes
         → OnOk result.formatted (IfErr result.restarted (λ e. (E.state e.disk).IsHonest
         → IsPassing (E.state left) (E.state e.disk) e.refusal)) }
+
+    // opened or not, what the crash left stays
+    ensures left_stays { MatchResult result.restarted
+        (λ r. OnlySyncs (E.state left) (E.state r.server.disk))
+        (λ e. OnlySyncs (E.state left) (E.state e.disk)) }
 
     // However many runs, crashes and restarts follow, it stands for what the commands that are done
     // make of the new carousel.

@@ -1,5 +1,6 @@
 //! The headline: what a crash leaves of a run of commands, opened and played.
-ghost use Rattle.std.specs.Prelude.{◌++◌, ℕ, List, take, IfOk, IfErr};
+ghost use Rattle.std.specs.Prelude.{◌++◌, ℕ, List, take, IfOk, IfErr, MatchResult};
+ghost use Rattle.disk_model.specs.Disk.{OnlySyncs};
 ghost use Rattle.mot_journal.specs.Image.{Standing};
 ghost use Rattle.mot_numbers.specs.declared.geometry.Geometry.{Geometry};
 ghost use Rattle.mot_player.specs.Reading.{ReadsAs};
@@ -100,6 +101,11 @@ pub fn run_and_restart<D: Disk, E: Disk>(
         → (D.state server.new.disk).LeftSince (D.state server.old.disk).moment (E.state left).bytes
         → IfErr result.restarted (λ e. (E.state e.disk).IsHonest
         → IsPassing (E.state left) (E.state e.disk) e.refusal) }
+
+    // opened or not, what the crash left stays
+    ensures left_stays { MatchResult result.restarted
+        (λ r. OnlySyncs (E.state left) (E.state r.server.disk))
+        (λ e. OnlySyncs (E.state left) (E.state e.disk)) }
 {
     let end = server.run(alloc, commands);
     let restarted = restart(alloc, left);

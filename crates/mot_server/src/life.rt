@@ -1,12 +1,13 @@
 //! The life of a disk: formatted, opened, given commands; and then opened and played as a crash at
 //! any moment left it. Nothing here is said in the words of the disk's format or of memory.
 ghost use Rattle.std.specs.Prelude.{◌≡◌, ◌++◌, [], false, length, vec_len, IfOk, IfErr, IfSome};
-ghost use Rattle.std.specs.Prelude.{IfNone};
-ghost use Rattle.disk_model.specs.Disk.{KeepsLength, Throughout};
+ghost use Rattle.std.specs.Prelude.{IfNone, MatchResult};
+ghost use Rattle.disk_model.specs.Disk.{IsStill, KeepsLength, OnlySyncs, Throughout};
 ghost use Rattle.mot_journal.specs.Geometry.{has_magic};
 ghost use Rattle.mot_journal.specs.Image.{Standing};
 ghost use Rattle.mot_journal.specs.declared.layout.Layout.TheVariants.{Two};
 ghost use Rattle.mot_journal.specs.Journal.{NoneOrFrom, standing_from};
+ghost use Rattle.mot_numbers.specs.declared.refusal.Refusal.TheVariants.{AlreadyFormatted};
 ghost use Rattle.mot_player.specs.Reading.{ReadsAs};
 ghost use Rattle.mot_repository.specs.Opening.{IsOpeningRefusal, IsPassing};
 ghost use Rattle.mot_repository.specs.Repository.{IsOf, Holds};
@@ -103,6 +104,13 @@ pub fn format_run_and_restart<D: Disk, E: Disk + Drop>(
         → IsPassing (E.state left) (E.state e.disk) e.refusal)) }
     ensures refused { IfErr result (λ e. (D.state e.disk).IsHonest
         → IsUnmade geometry.now (D.state disk) (D.state e.disk) e.refusal) }
+
+    // Opened or not, what the crash left stays, and so does a disk that was formatted before.
+    ensures left_stays { IfOk result (λ life. MatchResult life.after_crash
+        (λ first. OnlySyncs (E.state left) (E.state first.disk))
+        (λ e. OnlySyncs (E.state left) (E.state e.disk))) }
+    ensures still { IfErr result (λ e. (D.state e.disk).IsHonest → e.refusal ≡ AlreadyFormatted
+        → IsStill (D.state disk) (D.state e.disk)) }
 {
     let mut server = format_and_open(alloc, disk, geometry, directory)?;
     let end = server.run(alloc, commands);
@@ -122,7 +130,8 @@ pub fn format_and_open<D: Disk>(
     geometry: &Geometry,
     directory: TransportId,
 ) -> Result<Server<D>, Refused<D>>
-    ensures keeps { IfOk result (λ server. KeepsLength (D.state disk) (D.state server.disk)) }
+    ensures keeps { MatchResult result (λ server. KeepsLength (D.state disk) (D.state server.disk))
+        (λ e. KeepsLength (D.state disk) (D.state e.disk)) }
     ensures holds { IfOk result (λ server. (D.state server.disk).IsHonest
         → Holds server.view (standing_from geometry.now directory) (D.state server.disk)) }
     ensures layout { IfOk result (λ server. (D.state server.disk).IsHonest
@@ -138,6 +147,10 @@ pub fn format_and_open<D: Disk>(
         → HasDone D.state geometry.now directory [] [] server) }
     ensures refused { IfErr result (λ e. (D.state e.disk).IsHonest
         → IsUnmade geometry.now (D.state disk) (D.state e.disk) e.refusal) }
+
+    // a disk that was formatted before stays
+    ensures still { IfErr result (λ e. (D.state e.disk).IsHonest → e.refusal ≡ AlreadyFormatted
+        → IsStill (D.state disk) (D.state e.disk)) }
 {
     let mut disk = disk;
     if let Err(refusal) = format_from(&mut disk, geometry, directory) {
@@ -147,8 +160,12 @@ pub fn format_and_open<D: Disk>(
     Ok(server)
 }
 
-/// Opens a disk, plays its first turn, and hands it out again.
+/// Opens a disk, plays its first turn, and hands it out again. Whether it does or refuses, nothing
+/// on the disk changes but that it is synced.
 pub fn first_turn<E: Disk>(alloc: Global, left: E) -> Result<FirstTurn<E>, Refused<E>>
+    ensures only_syncs { MatchResult result
+        (λ first. OnlySyncs (E.state left) (E.state first.disk))
+        (λ e. OnlySyncs (E.state left) (E.state e.disk)) }
     ensures reads { (s : Standing) → IsOf s (E.state left).bytes
         → IfOk result (λ first. (E.state first.disk).IsHonest
         → ReadsAs (bytes_of_packets first.packets.items) s.carousel s.geometry.segment_size) }

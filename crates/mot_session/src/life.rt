@@ -1,12 +1,13 @@
 //! The life of a disk with lines: formatted, opened and served; and then opened and played as a
 //! crash at any moment left it. Its words are input bytes, output bytes and packets alone.
 ghost use Rattle.std.specs.Prelude.{◌≡◌, ◌≤◌, ◌++◌, ℕ, List, [], Some, None, IfOk, IfErr};
-ghost use Rattle.std.specs.Prelude.{◌⊎◌, if◌then◌else◌};
+ghost use Rattle.std.specs.Prelude.{◌⊎◌, if◌then◌else◌, MatchResult};
 ghost use Rattle.std.specs.List.{flat_map};
-ghost use Rattle.disk_model.specs.Disk.{KeepsLength};
+ghost use Rattle.disk_model.specs.Disk.{IsStill, KeepsLength, OnlySyncs};
 ghost use Rattle.disk_model.specs.Failures.{Rises};
 ghost use Rattle.mot_journal.specs.declared.layout.Layout.TheVariants.{Two};
 ghost use Rattle.mot_numbers.specs.declared.geometry.Geometry.{Geometry};
+ghost use Rattle.mot_numbers.specs.declared.refusal.Refusal.TheVariants.{AlreadyFormatted};
 ghost use Rattle.mot_objects.specs.declared.command.Command.{Command};
 ghost use Rattle.mot_repository.specs.Opening.{IsPassing};
 ghost use Rattle.mot_objects.specs.Carousel.{carousel_after};
@@ -94,6 +95,13 @@ pub fn format_serve_and_restart<R: Read, W: Write, D: Disk, E: Disk + Drop>(
         → IsPassing (E.state left) (E.state e.disk) e.refusal)) }
     ensures refused { IfErr result (λ e. (D.state e.disk).IsHonest
         → IsUnmade geometry.now (D.state disk) (D.state e.disk) e.refusal) }
+
+    // Opened or not, what the crash left stays, and so does a disk that was formatted before.
+    ensures left_stays { IfOk result (λ life. MatchResult life.after_crash
+        (λ first. OnlySyncs (E.state left) (E.state first.disk))
+        (λ e. OnlySyncs (E.state left) (E.state e.disk))) }
+    ensures still { IfErr result (λ e. (D.state e.disk).IsHonest → e.refusal ≡ AlreadyFormatted
+        → IsStill (D.state disk) (D.state e.disk)) }
 {
     let mut server = format_and_open(alloc, disk, geometry, directory)?;
     let end = serve(alloc, reader, writer, &mut server, reads);
@@ -165,6 +173,11 @@ pub fn serve_and_restart<R: Read, W: Write, D: Disk, E: Disk>(
         → IfErr result.restarted (λ e. (E.state e.disk).IsHonest
         → IsPassing (E.state left) (E.state e.disk) e.refusal) }
     ensures keeps { KeepsLength (D.state server.old.disk) (D.state server.new.disk) }
+
+    // opened or not, what the crash left stays
+    ensures left_stays { MatchResult result.restarted
+        (λ r. OnlySyncs (E.state left) (E.state r.server.disk))
+        (λ e. OnlySyncs (E.state left) (E.state e.disk)) }
 {
     let end = serve(alloc, reader, writer, server, reads);
     let restarted = restart(alloc, left);
@@ -221,6 +234,11 @@ pub fn serve_line_and_restart<W: Write, D: Disk, E: Disk>(
         → IfErr result.restarted (λ e. (E.state e.disk).IsHonest
         → IsPassing (E.state left) (E.state e.disk) e.refusal) }
     ensures keeps { KeepsLength (D.state server.old.disk) (D.state server.new.disk) }
+
+    // opened or not, what the crash left stays
+    ensures left_stays { MatchResult result.restarted
+        (λ r. OnlySyncs (E.state left) (E.state r.server.disk))
+        (λ e. OnlySyncs (E.state left) (E.state e.disk)) }
 {
     let answered = serve_line(alloc, line, writer, server);
     let restarted = restart(alloc, left);

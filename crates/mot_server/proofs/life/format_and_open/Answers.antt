@@ -1,17 +1,22 @@
 use Rattle.std.proofs.Common.{◌≡◌, ◌⊎◌, ℕ, List, inl, inr, Result, Ok, Err, ap, sym, ◌∙◌}
-use Rattle.std.proofs.Common.{subst, refl, arith, []}
+use Rattle.std.proofs.Common.{subst, refl, true, arith, []}
 use Rattle.std.proofs.lemmas.Result.{IfOk-from_err}
-use Rattle.disk_model.specs.Disk.{State}
+use Rattle.disk_model.specs.Disk.{IsStill, State}
 use Rattle.disk_model.specs.Failures.{Rises}
 use Rattle.disk_model.proofs.Laws.{keeps_on, stays}
 use Rattle.mot_journal.specs.declared.layout.Layout.{Layout}
 use Rattle.mot_journal.specs.declared.layout.Layout.TheVariants.{Two}
 use Rattle.mot_journal.specs.declared.record.Record.{Record}
+use Rattle.mot_journal.specs.Geometry.{has_magic}
+use Rattle.mot_journal.specs.Making.{IsFormatRefusal}
+use Rattle.mot_journal.specs.Making.IsFormatRefusal.{bad, small, already, device}
 use Rattle.mot_journal.specs.Image.{DiskRecords, IsInLayoutTwo, records_of}
 use Rattle.mot_journal.specs.Journal.{NoneOrFrom, standing_from, with_records}
 use Rattle.mot_numbers.proofs.Laws.{same_error}
+use Rattle.mot_numbers.specs.declared.geometry.Geometry.{Geometry}
 use Rattle.mot_numbers.specs.declared.refusal.Refusal.{Refusal}
-use Rattle.mot_numbers.specs.declared.refusal.Refusal.TheVariants.{DeviceFault}
+use Rattle.mot_numbers.specs.declared.refusal.Refusal.TheVariants.{AlreadyFormatted, BadGeometry}
+use Rattle.mot_numbers.specs.declared.refusal.Refusal.TheVariants.{DeviceFault, DiskTooSmall}
 use Rattle.mot_numbers.specs.declared.refusal.Refusal.TheVariants.{OutOfMemory}
 use Rattle.mot_repository.specs.Opening.{IsPassing}
 use Rattle.mot_repository.specs.Repository.{RepositoryView}
@@ -36,8 +41,35 @@ passing_since : (old mid new : State) (refusal : Refusal) → mid.failures ≡ o
 passing_since old mid new refusal calm is =
     subst (λ n. (refusal ≡ OutOfMemory) ⊎ ((refusal ≡ DeviceFault) × Rises n new.failures)) calm is
 
+-- a disk that was formatted before is not changed
+stays_formatted : (g : Geometry) (old new : State) (refusal : Refusal)
+    → (new.IsHonest → has_magic old.bytes ≡ true → IsStill old new)
+    → IsFormatRefusal g old new refusal → new.IsHonest → refusal ≡ AlreadyFormatted
+    → IsStill old new
+stays_formatted g old new refusal stays (bad is out) honest e =
+    absurd (let same : BadGeometry ≡ AlreadyFormatted = sym is ∙ e in cc)
+stays_formatted g old new refusal stays (small is few) honest e =
+    absurd (let same : DiskTooSmall ≡ AlreadyFormatted = sym is ∙ e in cc)
+stays_formatted g old new refusal stays (already is magic) honest e =
+    stays honest (magic honest)
+stays_formatted g old new refusal stays (device is rises) honest e =
+    absurd (let same : DeviceFault ≡ AlreadyFormatted = sym is ∙ e in cc)
+
+-- no passing reason is that
+not_passing : (old new : State) (refusal : Refusal) → IsPassing old new refusal
+    → refusal ≡ AlreadyFormatted → ⊥
+not_passing old new refusal (inl is) e = let same : OutOfMemory ≡ AlreadyFormatted = sym is ∙ e in cc
+not_passing old new refusal (inr (is, rises)) e =
+    let same : DeviceFault ≡ AlreadyFormatted = sym is ∙ e in cc
+
 pub returns-in-Err-clause-keeps : goal.returns-in-Err-clause-keeps
-returns-in-Err-clause-keeps g c = tt
+returns-in-Err-clause-keeps g c = c.in-Err.ensures.makes.keeps
+
+pub returns-in-Err-clause-still : goal.returns-in-Err-clause-still
+returns-in-Err-clause-still g c =
+    stays_formatted c.args.geometry.now (g.D.Disk.state c.args.disk)
+    (g.D.Disk.state c.format_from.new.disk) c.in-Err.refusal c.in-Err.ensures.makes.already
+    c.in-Err.ensures.makes.refused
 
 pub returns-in-Err-clause-holds : goal.returns-in-Err-clause-holds
 returns-in-Err-clause-holds g c = tt
@@ -59,7 +91,11 @@ returns-in-Err-clause-refused g c = λ honest. inl c.in-Err.ensures.makes.refuse
 
 pub returns-in_err-server-clause-keeps : goal.returns-in_err-server-clause-keeps
 returns-in_err-server-clause-keeps g c =
-    IfOk-from_err c.from_residual.result _ c.from_residual.ensures.0
+    let state = g.D.Disk.state in
+    let failed = c.in_err-server.field-0.0 in
+    rw (same_error c.from_residual.result failed c.from_residual.ensures.1)
+    (keeps_on (state c.args.disk) (state c.format_from.new.disk) (state failed.disk)
+    c.in_default.ensures.makes.keeps c.in_err-server.ensures.only_syncs.keeps)
 
 pub returns-in_err-server-clause-holds : goal.returns-in_err-server-clause-holds
 returns-in_err-server-clause-holds g c =
@@ -97,8 +133,26 @@ returns-in_err-server-clause-refused g c =
     c.args.directory)
     failed.refusal honest (record { stands = made.stands; clean = made.clean }) opens.refused)))
 
+pub returns-in_err-server-clause-still : goal.returns-in_err-server-clause-still
+returns-in_err-server-clause-still g c =
+    let state = g.D.Disk.state in
+    let formatted = c.format_from.new.disk in
+    let opens = c.in_err-server.ensures in
+    let failed = c.in_err-server.field-0.0 in
+    rw (same_error c.from_residual.result failed c.from_residual.ensures.1) (λ honest e.
+    let was = opens.only_syncs.keeps.was_honest honest in
+    let made = c.in_default.ensures.makes.ok was (state formatted).bytes
+    (g.met.D.Disk.sound formatted was).bytes in
+    absurd (not_passing (state formatted) (state failed.disk) failed.refusal
+    (passing (state formatted) (state failed.disk) (standing_from c.args.geometry.now
+    c.args.directory)
+    failed.refusal honest (record { stands = made.stands; clean = made.clean }) opens.refused) e))
+
 pub returns-clause-refused : goal.returns-clause-refused
 returns-clause-refused g c = tt
+
+pub returns-clause-still : goal.returns-clause-still
+returns-clause-still g c = tt
 
 pub returns-clause-keeps : goal.returns-clause-keeps
 returns-clause-keeps g c =
