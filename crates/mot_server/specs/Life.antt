@@ -7,7 +7,6 @@ use Rattle.mot_journal.specs.Geometry.{has_magic}
 use Rattle.mot_journal.specs.Making.{IsFormatRefusal}
 use Rattle.mot_numbers.specs.declared.geometry.Geometry.{Geometry}
 use Rattle.mot_numbers.specs.declared.refusal.Refusal.{Refusal}
-use Rattle.mot_numbers.specs.declared.refusal.Refusal.TheVariants.{NotFormatted}
 use Rattle.mot_objects.specs.declared.command.Command.{Command}
 use Rattle.mot_objects.specs.declared.command.Command.TheVariants.{Put, Replace, Withdraw, Period}
 use Rattle.mot_objects.specs.declared.name.TheConstants.{MAX_NAME}
@@ -69,12 +68,6 @@ AreMarksOf g c (command ∷ commands) (true ∷ marks) =
 AreMarksOf g c (command ∷ commands) (false ∷ marks) =
     ((carousel_if_accepted (change c g.objects command) ≡ None)
     ⊎ LacksRoom g.data_area c.objects command) × AreMarksOf g c commands marks
-
--- Of a disk that a crash left of one just formatted: want of memory, a failure of the disk, or that
--- it is not formatted, which it says of itself.
-abbrev pub IsUnopened : State → State → Refusal → Type 0
-IsUnopened old new refusal = IsPassing old new refusal
-    ⊎ ((refusal ≡ NotFormatted) × (has_magic old.bytes ≡ false))
 
 -- why no new disk of this geometry was made and opened, where the disk is honest
 abbrev pub IsUnmade : Geometry → State → State → Refusal → Type 0

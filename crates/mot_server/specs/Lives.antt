@@ -11,6 +11,11 @@ use Rattle.mot_server.specs.Life.{PlaysAfter}
 use Rattle.mot_server.specs.Runs.{IsAfter, StandsAfterSome}
 use Rattle.mot_server.specs.Server.{ServerView}
 
+-- The image keeps the carousel that all of the sure commands and a beginning of the others make of
+-- the new one, and opens as it.
+abbrev pub KeepsCommands : Geometry → ℕ → List Command → List Command → List ℕ → Type 0
+KeepsCommands g first sure others image = StandsAfterSome (standing_from g first) sure others image
+
 module _ {D : Type 0} (state : D → State) (g : Geometry) (first : ℕ) where
   -- All of the sure commands are done since the formatting, and the server keeps the carousel that
   -- they make of the new one. Each image that a crash now may leave has them too, and perhaps the
@@ -22,7 +27,7 @@ module _ {D : Type 0} (state : D → State) (g : Geometry) (first : ℕ) where
     pub holds : IsFalse server.view.halted → (others ≡ [])
         × Holds server.view standing (state server.disk)
     pub leaves : (image : List ℕ) → (state server.disk).MayLeave image
-        → StandsAfterSome (standing_from g first) sure others image
+        → KeepsCommands g first sure others image
     pub few : length others ≤ 1
 
   -- The server has done all of the sure commands and a beginning of the others, and the packets of

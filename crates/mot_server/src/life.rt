@@ -1,19 +1,19 @@
 //! The life of a disk: formatted, opened, given commands; and then opened and played as a crash at
 //! any moment left it. Nothing here is said in the words of the disk's format or of memory.
-ghost use Rattle.std.specs.Prelude.{◌≡◌, ◌++◌, [], false, length, vec_len, IfOk, IfErr, IfSome};
-ghost use Rattle.std.specs.Prelude.{IfNone, MatchResult};
+ghost use Rattle.std.specs.Prelude.{◌≡◌, ◌⊎◌, ◌++◌, ℕ, List, [], false, length, vec_len, IfOk};
+ghost use Rattle.std.specs.Prelude.{IfErr, IfSome, IfNone, MatchResult};
 ghost use Rattle.disk_model.specs.Disk.{IsStill, KeepsLength, OnlySyncs, Throughout};
 ghost use Rattle.mot_journal.specs.Geometry.{has_magic};
-ghost use Rattle.mot_journal.specs.Image.{Standing};
 ghost use Rattle.mot_journal.specs.declared.layout.Layout.TheVariants.{Two};
 ghost use Rattle.mot_journal.specs.Journal.{NoneOrFrom, standing_from};
+ghost use Rattle.mot_numbers.specs.declared.geometry.Geometry.{Geometry};
 ghost use Rattle.mot_numbers.specs.declared.refusal.Refusal.TheVariants.{AlreadyFormatted};
-ghost use Rattle.mot_player.specs.Reading.{ReadsAs};
-ghost use Rattle.mot_repository.specs.Opening.{IsOpeningRefusal, IsPassing};
-ghost use Rattle.mot_repository.specs.Repository.{IsOf, Holds};
-ghost use Rattle.mot_server.specs.Life.{AreMarksOf, AreNumbered, IsBlank, IsUnmade, IsUnopened};
-ghost use Rattle.mot_server.specs.Life.{PlaysAfter, carousel_from};
-ghost use Rattle.mot_server.specs.Lives.{HasDone};
+ghost use Rattle.mot_numbers.specs.declared.refusal.Refusal.TheVariants.{NotFormatted};
+ghost use Rattle.mot_objects.specs.declared.command.Command.{Command};
+ghost use Rattle.mot_repository.specs.Opening.{IsPassing};
+ghost use Rattle.mot_repository.specs.Repository.{Holds};
+ghost use Rattle.mot_server.specs.Life.{AreMarksOf, IsBlank, IsUnmade, PlaysAfter, carousel_from};
+ghost use Rattle.mot_server.specs.Lives.{HasDone, KeepsCommands};
 ghost use Rattle.mot_server.specs.Playing.{bytes_of_packets};
 ghost use Rattle.mot_server.specs.Runs.{accepted_commands, commands_in_flight};
 
@@ -34,53 +34,45 @@ pub struct FirstTurn<D: Disk> {
     pub packets: Vec<Packet>,
 }
 
-/// What became of a disk that was formatted and given commands, and of what a crash left of it.
+/// What became of a disk that was formatted and given commands.
 #[derive(Drop)]
-pub struct Life<D: Disk, E: Disk> {
+pub struct Life<D: Disk> {
     /// The disk, after the commands.
     pub disk: D,
     /// Which commands were accepted, and what ended the run.
     pub end: RunEnd,
-    /// What was opened of that which the crash left.
-    pub after_crash: Result<FirstTurn<E>, Refused<E>>,
 }
 
 /// Formats a disk, opens it and does the commands. A crash comes at any moment of that, before or
-/// inside any disk call, or after it; `left` is any disk that reads as an image which that crash
-/// may have left. It is opened, and its first turn is played.
+/// inside any disk call, or after it. Each image that it may leave keeps a beginning of the accepted
+/// commands, with at most the one in flight; or it has no magic, if the crash came before that.
+/// After the call it keeps each command that was accepted.
 ///
-/// The headline, whole: for every list of commands and a crash at any moment the packets of that
-/// turn read, by the standards' grammars, as exactly the carousel after a beginning of the accepted
-/// commands, with at most the one in flight. After the call that beginning holds each command that
-/// was accepted. Its premises: both disks keep the model to the end, and at first no image of the
-/// disk has the magic of a formatted one. Runs on a disk that was left go on from there as
-/// `run_and_restart` says.
-pub fn format_run_and_restart<D: Disk, E: Disk + Drop>(
+/// The headline, with `first_turn`: whatever disk reads as such an image, the packets of its first
+/// turn read, by the standards' grammars, as exactly the carousel after the commands that the image
+/// keeps. Its premises: the disk keeps the model to the end, and at first no image of it has the
+/// magic of a formatted one. Runs on a disk that was left go on from there as `run_and_restart`
+/// says.
+pub fn format_and_run<D: Disk>(
     disk: D,
     alloc: Global,
     geometry: &Geometry,
     directory: TransportId,
     commands: &[Command],
-    left: E,
-) -> Result<Life<D, E>, Refused<D>>
+) -> Result<Life<D>, Refused<D>>
     // a crash at some moment since the call began
-    ensures headline { IfOk result (λ life. (D.state life.disk).IsHonest
-        → IsBlank (D.state disk)
-        → (D.state life.disk).LeftSince (D.state disk).moment (E.state left).bytes
-        → IfOk life.after_crash (λ first. (E.state first.disk).IsHonest
-        → PlaysAfter geometry.now directory []
+    ensures any_moment { IfOk result (λ life. (D.state life.disk).IsHonest
+        → IsBlank (D.state disk) → (image : List ℕ)
+        → (D.state life.disk).LeftSince (D.state disk).moment image
+        → (has_magic image ≡ false) ⊎ KeepsCommands geometry.now directory []
         (accepted_commands commands.now life.end.done.items
-        ++ commands_in_flight commands.now life.end.done.items life.end.fault)
-        (bytes_of_packets first.packets.items))) }
+        ++ commands_in_flight commands.now life.end.done.items life.end.fault) image) }
 
     // a crash once the call has returned
-    ensures acknowledged { IfOk result (λ life. (D.state life.disk).IsHonest
-        → (D.state life.disk).MayLeave (E.state left).bytes
-        → IfOk life.after_crash (λ first. (E.state first.disk).IsHonest
-        → PlaysAfter geometry.now directory
+    ensures acknowledged { IfOk result (λ life. (D.state life.disk).IsHonest → (image : List ℕ)
+        → (D.state life.disk).MayLeave image → KeepsCommands geometry.now directory
         (accepted_commands commands.now life.end.done.items)
-        (commands_in_flight commands.now life.end.done.items life.end.fault)
-        (bytes_of_packets first.packets.items))) }
+        (commands_in_flight commands.now life.end.done.items life.end.fault) image) }
 
     // Which commands are accepted. Only running out of memory or a disk fault ends the run before
     // the last of them.
@@ -91,34 +83,17 @@ pub fn format_run_and_restart<D: Disk, E: Disk + Drop>(
     ensures fault { IfOk result (λ life. (D.state life.disk).IsHonest → IfSome life.end.fault
         (λ refusal. IsPassing (D.state disk) (D.state life.disk) refusal)) }
 
-    // A disk that a crash left opens, unless memory runs out, that disk fails, or the crash came
-    // before the magic; once the call has returned, the magic is there.
-    ensures opens_before { IfOk result (λ life. (D.state life.disk).IsHonest
-        → IsBlank (D.state disk)
-        → (D.state life.disk).LeftSince (D.state disk).moment (E.state left).bytes
-        → IfErr life.after_crash (λ e. (E.state e.disk).IsHonest
-        → IsUnopened (E.state left) (E.state e.disk) e.refusal)) }
-    ensures opens { IfOk result (λ life. (D.state life.disk).IsHonest
-        → (D.state life.disk).MayLeave (E.state left).bytes
-        → IfErr life.after_crash (λ e. (E.state e.disk).IsHonest
-        → IsPassing (E.state left) (E.state e.disk) e.refusal)) }
+    // Why no disk was made; one that was formatted before stays.
     ensures refused { IfErr result (λ e. (D.state e.disk).IsHonest
         → IsUnmade geometry.now (D.state disk) (D.state e.disk) e.refusal) }
-
-    // Opened or not, what the crash left stays, and so does a disk that was formatted before.
-    ensures left_stays { IfOk result (λ life. MatchResult life.after_crash
-        (λ first. OnlySyncs (E.state left) (E.state first.disk))
-        (λ e. OnlySyncs (E.state left) (E.state e.disk))) }
     ensures still { IfErr result (λ e. (D.state e.disk).IsHonest → e.refusal ≡ AlreadyFormatted
         → IsStill (D.state disk) (D.state e.disk)) }
 {
     let mut server = format_and_open(alloc, disk, geometry, directory)?;
     let end = server.run(alloc, commands);
-    let after_crash = first_turn(alloc, left);
     Ok(Life {
         disk: server.into_disk(),
         end,
-        after_crash,
     })
 }
 
@@ -161,21 +136,28 @@ pub fn format_and_open<D: Disk>(
 }
 
 /// Opens a disk, plays its first turn, and hands it out again. Whether it does or refuses, nothing
-/// on the disk changes but that it is synced.
+/// on the disk changes but that it is synced. `restart` says more of the turn, of any disk.
 pub fn first_turn<E: Disk>(alloc: Global, left: E) -> Result<FirstTurn<E>, Refused<E>>
+    // What a crash left keeps commands: the turn is that of the carousel after them.
+    ensures plays { (g : Geometry) (first : ℕ) (sure others : List Command)
+        → KeepsCommands g first sure others (E.state left).bytes
+        → IfOk result (λ turn. (E.state turn.disk).IsHonest
+        → PlaysAfter g first sure others (bytes_of_packets turn.packets.items)) }
+
+    // then it opens, unless memory runs out or this disk fails
+    ensures opens { (g : Geometry) (first : ℕ) (sure others : List Command)
+        → KeepsCommands g first sure others (E.state left).bytes
+        → IfErr result (λ e. (E.state e.disk).IsHonest
+        → IsPassing (E.state left) (E.state e.disk) e.refusal) }
+
+    // a disk without the magic is not opened, and is told to have none
+    ensures blank { has_magic (E.state left).bytes ≡ false → MatchResult result
+        (λ turn. (E.state turn.disk).IsHonest → ⊥)
+        (λ e. (E.state e.disk).IsHonest → (e.refusal ≡ NotFormatted)
+        ⊎ IsPassing (E.state left) (E.state e.disk) e.refusal) }
     ensures only_syncs { MatchResult result
-        (λ first. OnlySyncs (E.state left) (E.state first.disk))
+        (λ turn. OnlySyncs (E.state left) (E.state turn.disk))
         (λ e. OnlySyncs (E.state left) (E.state e.disk)) }
-    ensures reads { (s : Standing) → IsOf s (E.state left).bytes
-        → IfOk result (λ first. (E.state first.disk).IsHonest
-        → ReadsAs (bytes_of_packets first.packets.items) s.carousel s.geometry.segment_size) }
-    ensures numbered { (s : Standing) → IsOf s (E.state left).bytes
-        → IfOk result (λ first. (E.state first.disk).IsHonest
-        → AreNumbered s.geometry 0 (bytes_of_packets first.packets.items)) }
-    ensures blank { has_magic (E.state left).bytes ≡ false
-        → IfOk result (λ first. (E.state first.disk).IsHonest → ⊥) }
-    ensures refused { IfErr result
-        (λ e. IsOpeningRefusal (E.state left) (E.state e.disk) e.refusal) }
 {
     let Restarted { server, packets } = restart(alloc, left)?;
     Ok(FirstTurn {

@@ -9,12 +9,11 @@ use Rattle.std.proofs.lemmas.List.{length-map}
 use Rattle.std.specs.Io.KnownBytes.{Appends, IsAtEnd, Keeps}
 use Rattle.std.specs.List.{AllByRecursion, flat_map}
 use Rattle.std.specs.Prelude.{IsTrue, IsFalse, IfOk, if◌then◌else◌}
-use Rattle.disk_model.specs.Disk.{State, IsHonestDisk, IsUnchanged, Throughout}
+use Rattle.disk_model.specs.Disk.{State, IsHonestDisk, IsUnchanged}
 use Rattle.disk_model.specs.Failures.{Rises}
-use Rattle.mot_journal.specs.Geometry.{has_magic}
 use Rattle.mot_journal.specs.declared.layout.Layout.TheVariants.{Two}
 use Rattle.mot_journal.specs.Image.{Standing}
-use Rattle.mot_journal.specs.Journal.{NoneOrFrom, standing_from}
+use Rattle.mot_journal.specs.Journal.{standing_from}
 use Rattle.mot_lines.specs.declared.line.Line.{Line}
 use Rattle.mot_lines.specs.declared.line.Line.TheVariants as asks
 use Rattle.mot_lines.specs.Line.{line_of}
@@ -27,10 +26,10 @@ use Rattle.mot_objects.specs.declared.command.Command as command
 use Rattle.mot_player.specs.Reading.{ReadsAs}
 use Rattle.mot_repository.specs.Repository.{IsOf, Holds}
 use Rattle.mot_objects.specs.Carousel.{Carousel, carousel_after}
-use Rattle.mot_server.specs.Life.{AreNumbered, PlaysAfter, carousel_from}
+use Rattle.mot_server.specs.Life.{AreNumbered, carousel_from}
 use Rattle.mot_server.specs.Runs.{IsAfter, StandsAfterSome}
 use Rattle.mot_server.specs.Server.{ServerView}
-use Rattle.mot_server.proofs.Laws.{more, none_of, not_halted, plays_after, plays_new, rises_on}
+use Rattle.mot_server.proofs.Laws.{more, none_of, not_halted, rises_on}
 use Rattle.mot_server.specs.Lives.{HasDone, LivesOn}
 use Rattle.mot_session.specs.Inner.Kept.{IsKeptFrom}
 use Rattle.mot_session.specs.Life.{Told, commands_done, done_in}
@@ -635,76 +634,6 @@ module _ {D : Type 0} (state : D → State)
         λ two. tt,
         record { later = breaks.goes.keeps.later; cause = inl refl },
       )
-
--- ---- from the formatting on
-
-module _ (P Q : ℕ → List command.Command → List command.Command → Type 0)
-    (turns : (t : ℕ) (sure others : List command.Command) → P t sure others → Q t sure others) where
-  -- what is kept line by line stays kept with a weaker fact of each moment
-  pub kept_so : (t : ℕ) (sure : List command.Command) (told : List Told)
-      (flight : List command.Command) → IsKeptFrom P t sure told flight
-      → IsKeptFrom Q t sure told flight
-  unfolding IsKeptFrom
-  kept_so t sure [] flight kept = turns t sure flight kept
-  kept_so t sure (x ∷ told) flight kept = (
-    turns t sure (commands_done (x ∷ told) ++ flight) kept.0,
-    kept.1,
-    kept.2,
-    kept_so kept.1 (sure ++ done_in x) told flight kept.3,
-  )
-
-kept_from : (Q : ℕ → List command.Command → List command.Command → Type 0) (start opened : ℕ)
-    → start ≤ opened → (told : List Told) (flight : List command.Command)
-    → Q start [] (commands_done told ++ flight) → IsKeptFrom Q opened [] told flight
-    → IsKeptFrom Q start [] told flight
-unfolding IsKeptFrom
-kept_from Q start opened le [] flight all kept = all
-kept_from Q start opened le (x ∷ told) flight all kept =
-    let later = kept.2 in (all, kept.1, omega (arith, le, later), kept.3)
-
-module _ {A B : Type 0} (result : Result A B) (IsHonest : A → Type 0)
-    (packets_of : A → List (List ℕ)) (g : Geometry) (first : ℕ) (image : List ℕ)
-    (reads : (s : Standing) → IsOf s image
-    → IfOk result (λ a. IsHonest a → ReadsAs (packets_of a) s.carousel s.geometry.segment_size))
-    (numbers : (s : Standing) → IsOf s image
-    → IfOk result (λ a. IsHonest a → AreNumbered s.geometry 0 (packets_of a)))
-    (now opened : State) (was : Bool) (next : List command.Command) (told : List Told)
-    (flight : List command.Command)
-    (kept : Kept (standing_from g first) now opened was [] [] next told flight) where
-  abbrev Plays : List command.Command → List command.Command → Type 0
-  Plays sure others = IfOk result (λ a. IsHonest a → PlaysAfter g first sure others (packets_of a))
-
-  -- a crash at some moment since the formatting began
-  pub life_kept : (start : State) (IsLeft : ℕ → Type 0)
-      → ((t : ℕ) → IsLeft t → now.LeftSince t image)
-      → (has_magic image ≡ false → IfOk result (λ a. IsHonest a → ⊥))
-      → Throughout start opened (NoneOrFrom g first)
-      → IsKeptFrom (λ t sure others. IsLeft t → Plays sure others) start.moment [] told flight
-  life_kept start IsLeft is_left blank time =
-      kept_from (λ t sure others. IsLeft t → Plays sure others) start.moment opened.moment
-      time.later
-      told flight all
-      (kept_so (λ t sure others. HoldsSince now t (standing_from g first) sure others)
-      (λ t sure others. IsLeft t → Plays sure others)
-      (λ t sure others holds left. plays_after result IsHonest packets_of g first image reads
-      numbers
-      sure others
-      (holds image (is_left t left)))
-      opened.moment [] told flight kept.since)
-    where
-      all : IsLeft start.moment → Plays [] (commands_done told ++ flight)
-      all left = ⊎_elim {C = Plays [] (commands_done told ++ flight)}
-          (λ by_then. plays_new result IsHonest packets_of g first image reads numbers
-          (commands_done told ++ flight) blank (time.each image by_then))
-          (λ came. plays_after result IsHonest packets_of g first image reads numbers []
-          (commands_done told ++ flight) came.1)
-          (kept.before start.moment image time.later (is_left start.moment left))
-
-  -- a crash behind it
-  pub life_after : now.MayLeave image → Plays (commands_done told) flight
-  life_after left = plays_after result IsHonest packets_of g first image reads numbers
-      (commands_done told) flight
-      (kept.at_end image left)
 
 -- ---- what was told
 

@@ -8,8 +8,7 @@ mod serving;
 
 pub use law::told_laws;
 pub use life::{
-    ServedLife, ServedLineOn, ServedOn, format_serve_and_restart, serve_and_restart,
-    serve_line_and_restart,
+    ServedLife, ServedLineOn, ServedOn, format_and_serve, serve_and_restart, serve_line_and_restart,
 };
 pub use mot_lines::{Description, Line, SegmentBytes, parse_line};
 pub use mot_numbers::Geometry;

@@ -1,19 +1,19 @@
 //! The life of a disk with lines: formatted, opened and served; and then opened and played as a
 //! crash at any moment left it. Its words are input bytes, output bytes and packets alone.
 ghost use Rattle.std.specs.Prelude.{◌≡◌, ◌≤◌, ◌++◌, ℕ, List, [], Some, None, IfOk, IfErr};
-ghost use Rattle.std.specs.Prelude.{◌⊎◌, if◌then◌else◌, MatchResult};
+ghost use Rattle.std.specs.Prelude.{◌⊎◌, false, if◌then◌else◌, MatchResult};
 ghost use Rattle.std.specs.List.{flat_map};
 ghost use Rattle.disk_model.specs.Disk.{IsStill, KeepsLength, OnlySyncs};
 ghost use Rattle.disk_model.specs.Failures.{Rises};
+ghost use Rattle.mot_journal.specs.Geometry.{has_magic};
 ghost use Rattle.mot_journal.specs.declared.layout.Layout.TheVariants.{Two};
 ghost use Rattle.mot_numbers.specs.declared.geometry.Geometry.{Geometry};
 ghost use Rattle.mot_numbers.specs.declared.refusal.Refusal.TheVariants.{AlreadyFormatted};
 ghost use Rattle.mot_objects.specs.declared.command.Command.{Command};
 ghost use Rattle.mot_repository.specs.Opening.{IsPassing};
 ghost use Rattle.mot_objects.specs.Carousel.{carousel_after};
-ghost use Rattle.mot_server.specs.Life.{IsBlank, IsUnmade, IsUnopened, PlaysAfter};
-ghost use Rattle.mot_server.specs.Life.{carousel_from};
-ghost use Rattle.mot_server.specs.Lives.{HasDone, LivesOn};
+ghost use Rattle.mot_server.specs.Life.{IsBlank, IsUnmade, carousel_from};
+ghost use Rattle.mot_server.specs.Lives.{HasDone, KeepsCommands, LivesOn};
 ghost use Rattle.mot_server.specs.Playing.{bytes_of_packets};
 ghost use Rattle.mot_session.specs.Life.{AreRightReplies, Told, Tells, TellsLine, commands_done, fails_in};
 ghost use Rattle.mot_session.specs.Served.{TakesInput};
@@ -21,35 +21,34 @@ ghost use Rattle.mot_session.specs.Served.{TakesInput};
 use crate::{Geometry, MAX_READS, ServeEnd, WriteFault, serve, serve_line};
 use disk_model::Disk;
 use mot_numbers::TransportId;
-use mot_server::{FirstTurn, Refused, Restarted, Server, first_turn, format_and_open, restart};
+use mot_server::{Refused, Restarted, Server, format_and_open, restart};
 use std::alloc::Global;
 use std::io::{Read, Write};
 
-/// What became of a disk that was formatted and served lines, and of what a crash left of it.
+/// What became of a disk that was formatted and served lines.
 #[derive(Drop)]
-pub struct ServedLife<D: Disk, E: Disk> {
+pub struct ServedLife<D: Disk> {
     /// The disk, after the last line that was served.
     pub disk: D,
     /// How serving ended.
     pub end: ServeEnd,
-    /// What was opened of that which the crash left.
-    pub after_crash: Result<FirstTurn<E>, Refused<E>>,
 }
 
 /// Formats a disk, opens it and serves the reader's lines, as the program does. A crash comes at
-/// any moment of that, before or inside any disk call, or after it; `left` is any disk that reads
-/// as an image which that crash may have left. It is opened, and its first turn is played.
+/// any moment of that, before or inside any disk call, or after it. Each image that it may leave
+/// keeps a beginning of the commands whose replies say `done`, with at most the one in flight; or it
+/// has no magic, if the crash came before that. After the call it keeps all of them.
 ///
-/// The operator's promise, whole: for every input the packets of that turn read, by the standards'
-/// grammars, as exactly the carousel after a beginning of the commands whose replies say `done`,
-/// with at most the one in flight; and after a crash that comes once the call has returned, after
-/// all of them. (`serve_line_and_restart` has it line by line: there the return is the moment from
-/// which on a command whose `done` was written is never lost.)
+/// The operator's promise, with `mot_server::first_turn`: for every input, whatever disk reads as
+/// such an image, the packets of its first turn read, by the standards' grammars, as exactly the
+/// carousel after the commands that the image keeps.
+/// (`serve_line_and_restart` has it line by line: there the return is the moment from which on a
+/// command whose `done` was written is never lost.)
 ///
 /// Each reply is right at its place: a command is done exactly if the rules of the carousel accept
 /// it, with the ids that they give, unless there may be no room for what it brings. Memory may run
 /// out, and a disk fault is answered only if the disk failed.
-pub fn format_serve_and_restart<R: Read, W: Write, D: Disk, E: Disk + Drop>(
+pub fn format_and_serve<R: Read, W: Write, D: Disk>(
     disk: D,
     alloc: Global,
     geometry: &Geometry,
@@ -57,8 +56,7 @@ pub fn format_serve_and_restart<R: Read, W: Write, D: Disk, E: Disk + Drop>(
     reader: &mut R,
     writer: &mut W,
     reads: u64,
-    left: E,
-) -> Result<ServedLife<D, E>, Refused<D>>
+) -> Result<ServedLife<D>, Refused<D>>
     requires { reads ≤ MAX_READS }
 
     // The lines and their replies, each right at its place; a command is answered a disk fault only
@@ -72,44 +70,24 @@ pub fn format_serve_and_restart<R: Read, W: Write, D: Disk, E: Disk + Drop>(
         × AreRightReplies geometry.now (Some (carousel_from directory)) told
         × ((flat_map fails_in told ≡ [])
         ⊎ Rises (D.state disk).failures (D.state life.disk).failures)
-        × (IsBlank (D.state disk)
-        → (D.state life.disk).LeftSince (D.state disk).moment (E.state left).bytes
-        → IfOk life.after_crash (λ first. (E.state first.disk).IsHonest
-        → PlaysAfter geometry.now directory [] (commands_done told ++ in_flight)
-        (bytes_of_packets first.packets.items)))
-        × ((D.state life.disk).MayLeave (E.state left).bytes
-        → IfOk life.after_crash (λ first. (E.state first.disk).IsHonest
-        → PlaysAfter geometry.now directory (commands_done told) in_flight
-        (bytes_of_packets first.packets.items)))) }
+        × (IsBlank (D.state disk) → (image : List ℕ)
+        → (D.state life.disk).LeftSince (D.state disk).moment image
+        → (has_magic image ≡ false)
+        ⊎ KeepsCommands geometry.now directory [] (commands_done told ++ in_flight) image)
+        × ((image : List ℕ) → (D.state life.disk).MayLeave image
+        → KeepsCommands geometry.now directory (commands_done told) in_flight image)) }
 
-    // A disk that a crash left opens, unless memory runs out, that disk fails, or the crash came
-    // before the magic; once the call has returned, the magic is there.
-    ensures opens_before { IfOk result (λ life. (D.state life.disk).IsHonest
-        → IsBlank (D.state disk)
-        → (D.state life.disk).LeftSince (D.state disk).moment (E.state left).bytes
-        → IfErr life.after_crash (λ e. (E.state e.disk).IsHonest
-        → IsUnopened (E.state left) (E.state e.disk) e.refusal)) }
-    ensures opens { IfOk result (λ life. (D.state life.disk).IsHonest
-        → (D.state life.disk).MayLeave (E.state left).bytes
-        → IfErr life.after_crash (λ e. (E.state e.disk).IsHonest
-        → IsPassing (E.state left) (E.state e.disk) e.refusal)) }
+    // Why no disk was made; one that was formatted before stays.
     ensures refused { IfErr result (λ e. (D.state e.disk).IsHonest
         → IsUnmade geometry.now (D.state disk) (D.state e.disk) e.refusal) }
-
-    // Opened or not, what the crash left stays, and so does a disk that was formatted before.
-    ensures left_stays { IfOk result (λ life. MatchResult life.after_crash
-        (λ first. OnlySyncs (E.state left) (E.state first.disk))
-        (λ e. OnlySyncs (E.state left) (E.state e.disk))) }
     ensures still { IfErr result (λ e. (D.state e.disk).IsHonest → e.refusal ≡ AlreadyFormatted
         → IsStill (D.state disk) (D.state e.disk)) }
 {
     let mut server = format_and_open(alloc, disk, geometry, directory)?;
     let end = serve(alloc, reader, writer, &mut server, reads);
-    let after_crash = first_turn(alloc, left);
     Ok(ServedLife {
         disk: server.into_disk(),
         end,
-        after_crash,
     })
 }
 
@@ -124,7 +102,7 @@ pub struct ServedOn<E: Disk> {
 
 /// One more life: serves the reader's lines on a disk that `format_and_open` made, and that may
 /// have been served and crashed and opened by this function since, any number of times. A crash
-/// comes at any moment, as in `format_serve_and_restart`; `left` is any disk that reads as an image
+/// comes at any moment, as in `format_and_serve`; `left` is any disk that reads as an image
 /// which it may have left. It is opened, and its first turn is played: so it has another life
 /// before it.
 ///
@@ -163,7 +141,9 @@ pub fn serve_and_restart<R: Read, W: Write, D: Disk, E: Disk>(
         × ((D.state server.new.disk).MayLeave (E.state left).bytes
         → IfOk result.restarted (λ r. (E.state r.server.disk).IsHonest
         → LivesOn E.state g first (done ++ commands_done told) in_flight r.server
-        (bytes_of_packets r.packets.items))) }
+        (bytes_of_packets r.packets.items)))
+        × ((image : List ℕ) → (D.state server.new.disk).MayLeave image
+        → KeepsCommands g first (done ++ commands_done told) in_flight image) }
 
     // it opens, unless memory runs out or the disk that was left fails
     ensures opens { (g : Geometry) (first : ℕ) (done : List Command)

@@ -6,10 +6,9 @@ use disk_store::MemoryDisk;
 use mot_base::{Refusal, TransportId};
 use mot_objects::{Command, Period};
 use mot_server::{
-    Aftermath, FirstTurn, Refused, Restarted, format_and_restart, format_run_and_restart,
-    run_and_restart,
+    Aftermath, Refused, Restarted, first_turn, format_and_restart, format_and_run, run_and_restart,
 };
-use mot_session::{format_serve_and_restart, serve_and_restart, serve_line_and_restart};
+use mot_session::{format_and_serve, serve_and_restart, serve_line_and_restart};
 use std::alloc::Global;
 
 /// Lines of which two commands are done, each of which takes one id for the directory.
@@ -30,11 +29,8 @@ fn opened(restarted: Result<Restarted<MemoryDisk>, Refused<MemoryDisk>>) -> Open
     }
 }
 
-fn first_turn(
-    alloc: Global,
-    after_crash: Result<FirstTurn<MemoryDisk>, Refused<MemoryDisk>>,
-) -> Opened {
-    match after_crash {
+fn played(alloc: Global, left: MemoryDisk) -> Opened {
+    match first_turn(alloc, left) {
         Ok(first) => Ok((directory_on(alloc, first.disk)?, first.packets.len())),
         Err(refused) => Err(refused.refusal),
     }
@@ -76,8 +72,8 @@ fn formatted_and_ran(alloc: Global, left: MemoryDisk) -> Lived {
     let commands = commands(alloc)?;
     let disk = blank_disk(alloc, &THREE)?;
     let first = TransportId::FIRST;
-    match format_run_and_restart(disk, alloc, &THREE, first, &commands, left) {
-        Ok(life) => Ok((life.disk, first_turn(alloc, life.after_crash))),
+    match format_and_run(disk, alloc, &THREE, first, &commands) {
+        Ok(life) => Ok((life.disk, played(alloc, left))),
         Err(refused) => Err(refused.refusal),
     }
 }
@@ -88,18 +84,8 @@ fn from_formatting(alloc: Global, left: MemoryDisk) -> Lived {
     let mut reader = LINES;
     let mut written = Vec::new(alloc);
     let first = TransportId::FIRST;
-    let life = format_serve_and_restart(
-        disk,
-        alloc,
-        &THREE,
-        first,
-        &mut reader,
-        &mut written,
-        100,
-        left,
-    );
-    match life {
-        Ok(life) => Ok((life.disk, first_turn(alloc, life.after_crash))),
+    match format_and_serve(disk, alloc, &THREE, first, &mut reader, &mut written, 100) {
+        Ok(life) => Ok((life.disk, played(alloc, left))),
         Err(refused) => Err(refused.refusal),
     }
 }

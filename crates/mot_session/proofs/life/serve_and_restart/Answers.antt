@@ -43,6 +43,7 @@ returns-clause-in_a_row g c = λ geometry first_id done has honest.
           HoldsSince (state new.disk) t (standing_from geometry first_id) sure others)
           (state opened.disk).moment done all.2 all.3 all.6.since first.bytes left),
       λ may. on (done ++ commands_done all.2) all.3 (all.6.at_end first.bytes may),
+      λ image may. all.6.at_end image may,
     )
 
 pub returns-clause-opens : goal.returns-clause-opens
