@@ -1,8 +1,9 @@
 -- What the program does.
-use Rattle.std.specs.Prelude.{ℕ, ◌≡◌, ◌⊎◌, Bool, false, List, [], ◌∷◌, ◌++◌, Option, None}
+use Rattle.std.specs.Prelude.{ℕ, ◌≡◌, ◌⊎◌, Bool, false, true, List, [], ◌∷◌, ◌++◌, Option, Some}
+use Rattle.std.specs.Prelude.{None}
 use Rattle.clap.specs.Words.{Text}
 use Rattle.disk_model.specs.Disk.{State}
-use Rattle.disk_store.specs.Beginning.{SinceMade, SinceOpened}
+use Rattle.disk_store.specs.Beginning.{HasFirstCalls, SinceMade, SinceOpened}
 use Rattle.disk_store.specs.File.{file_state}
 use Rattle.disk_store.specs.Ram.{ram_state}
 use Rattle.disk_store.specs.declared.file.start.Start.{Ghosts}
@@ -63,15 +64,21 @@ module _ {S : Type 0} {start : Ghosts S} where
   Opens path (OfFile disk beside) old new = new ≡ old ++ path ∷ []
   Opens path used old new = new ≡ old
 
-  -- which files a task opens or makes as disks, and takes away: only one that was made and not
-  -- formatted is taken away
-  abbrev pub UsesFor : Task → UsedDisk S start → (old new : List Text × List Text) → Type 0
-  UsesFor (Memory g) used old new = new ≡ old
-  UsesFor (Format path g directory) used old new = Opens path.now used old.0 new.0
-      × ((new.1 ≡ old.1) ⊎ (new.1 ≡ old.1 ++ path.now ∷ []))
-  UsesFor (Serve path) used old new = Opens path.now used old.0 new.0 × (new.1 ≡ old.1)
-  UsesFor (Check path) used old new = Opens path.now used old.0 new.0 × (new.1 ≡ old.1)
-  UsesFor (Migrate path) used old new = Opens path.now used old.0 new.0 × (new.1 ≡ old.1)
+  -- its calls are those of a file that was made, and not opened
+  abbrev pub IsMade : UsedDisk S start → Type 0
+  IsMade = OnFile (λ disk beside. HasFirstCalls true disk)
+
+  -- which files a task that ended so opens or makes as disks, and takes away: only one that was
+  -- made here and could not be formatted is taken away
+  abbrev pub UsesFor : (ending : Option Refusal) → Task → UsedDisk S start
+      → (old new : List Text × List Text) → Type 0
+  UsesFor ending (Memory g) used old new = new ≡ old
+  UsesFor ending (Format path g directory) used old new = Opens path.now used old.0 new.0
+      × ((new.1 ≡ old.1)
+      ⊎ ((ending ≡ Some DeviceFault) × IsMade used × (new.1 ≡ old.1 ++ path.now ∷ [])))
+  UsesFor ending (Serve path) used old new = Opens path.now used old.0 new.0 × (new.1 ≡ old.1)
+  UsesFor ending (Check path) used old new = Opens path.now used old.0 new.0 × (new.1 ≡ old.1)
+  UsesFor ending (Migrate path) used old new = Opens path.now used old.0 new.0 × (new.1 ≡ old.1)
 
 -- the geometry is out of its ranges
 abbrev pub IsBadGeometry : Geometry → Refusal → Type 0

@@ -30,7 +30,7 @@ pub(crate) fn check_file<F: DiskFiles, S: Start, W: Write>(
 ) -> Finished<S, ()>
     ensures ended { (unread : Option (List ℕ)) → Finishes (Check path.entry) result unread unread
         (W.contents writer.old) (W.contents writer.new) }
-    ensures files { UsesFor (Check path.entry) result.disk
+    ensures files { UsesFor (fault_of result.result) (Check path.entry) result.disk
         (F.opened files.old, F.taken_away files.old)
         (F.opened files.new, F.taken_away files.new) }
 {

@@ -1,8 +1,9 @@
 //! What `format` does.
 ghost use Rattle.mot_server.specs.Attempts.{fault_of};
-ghost use Rattle.std.specs.Prelude.{List, Option, ℕ};
+ghost use Rattle.std.specs.Prelude.{◌≡◌, true, List, Option, Some, ℕ};
 ghost use Rattle.mot_cli.specs.declared.program.task.Task.TheVariants.{Format};
 ghost use Rattle.mot_numbers.specs.Geometry.{IsValid};
+ghost use Rattle.mot_numbers.specs.declared.refusal.Refusal.TheVariants.{DeviceFault};
 ghost use Rattle.mot_outcome.specs.Outcome.{Prints};
 ghost use Rattle.mot_commands.specs.Inner.Finishing.{Finishes};
 ghost use Rattle.mot_commands.specs.Program.{UsesFor};
@@ -31,7 +32,7 @@ pub(crate) fn format_file<F: DiskFiles, S: Start, W: Write>(
     ensures ended { (unread : Option (List ℕ))
         → Finishes (Format path.entry geometry directory) result unread unread
         (W.contents writer.old) (W.contents writer.new) }
-    ensures files { UsesFor (Format path.entry geometry directory) result.disk
+    ensures files { UsesFor (fault_of result.result) (Format path.entry geometry directory) result.disk
         (F.opened files.old, F.taken_away files.old)
         (F.opened files.new, F.taken_away files.new) }
 {
@@ -65,7 +66,7 @@ fn format_new_file<F: DiskFiles, S: Start, W: Write>(
     ensures ended { (unread : Option (List ℕ))
         → Finishes (Format path.entry geometry directory) result unread unread
         (W.contents writer.old) (W.contents writer.new) }
-    ensures files { UsesFor (Format path.entry geometry directory) result.disk
+    ensures files { UsesFor (fault_of result.result) (Format path.entry geometry directory) result.disk
         (F.opened files.old, F.taken_away files.old)
         (F.opened files.new, F.taken_away files.new) }
 {
@@ -93,9 +94,12 @@ fn reason_of<D: Disk>(made: &Result<(), Refusal>, disk: &D, geometry: &Geometry)
     }
 }
 
-/// Whether formatting failed, and not only the telling of it.
-fn is_unformatted(made: &Result<(), Refusal>) -> bool {
-    matches!(made, Err(refusal) if *refusal != Refusal::WriteFault)
+/// Whether formatting failed, and not only the telling of it: a file that was made here is long
+/// enough, and has no magic, so that nothing but a disk fault is in its way.
+fn is_unformatted(made: &Result<(), Refusal>) -> bool
+    ensures { result ≡ true → fault_of made.now ≡ Some DeviceFault }
+{
+    matches!(made, Err(Refusal::DeviceFault))
 }
 
 /// Makes a disk, and prints how many bytes it has.

@@ -25,7 +25,7 @@ pub(crate) fn migrate_file<F: DiskFiles, S: Start, W: Write>(
 ) -> Finished<S, ()>
     ensures ended { (unread : Option (List ℕ)) → Finishes (Migrate path.entry) result unread unread
         (W.contents writer.old) (W.contents writer.new) }
-    ensures files { UsesFor (Migrate path.entry) result.disk
+    ensures files { UsesFor (fault_of result.result) (Migrate path.entry) result.disk
         (F.opened files.old, F.taken_away files.old)
         (F.opened files.new, F.taken_away files.new) }
 {

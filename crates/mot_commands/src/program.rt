@@ -1,5 +1,6 @@
 //! The program, over any streams and files.
 ghost use Rattle.std.specs.Prelude.{List, map};
+ghost use Rattle.mot_server.specs.Attempts.{fault_of};
 ghost use Rattle.clap.specs.Words.{Text, found_of, rows_of};
 ghost use Rattle.mot_numbers.specs.declared.refusal.Refusal.TheVariants.{BadGeometry};
 ghost use Rattle.mot_outcome.specs.Outcome.{ComesTo, UsesFiles};
@@ -42,8 +43,9 @@ pub fn run_on<F: DiskFiles, S: AsStr, B: Start, R: Read, W: Write, E: Write>(
         (map S.text words.now) result (R.remaining reader.old) (R.remaining reader.new)
         (W.contents writer.old) (W.contents writer.new) }
 
-    // No file was opened, made or removed but the one that the words name.
-    ensures files { UsesFiles IsTask UsesFor (map S.text words.now) result.disk
+    // No file was opened, made or removed but the one that the words name; and removed was at most
+    // one that was made here and could not be formatted.
+    ensures files { UsesFiles IsTask (UsesFor result.refusal) (map S.text words.now) result.disk
         (F.opened files.old, F.taken_away files.old)
         (F.opened files.new, F.taken_away files.new) }
 {
@@ -75,7 +77,7 @@ fn run_command<F: DiskFiles, B: Start, R: Read, W: Write, E: Write>(
         (W.contents writer.old) (W.contents writer.new) }
     ensures files { (all : List Text)
         → AskBy motcar_app IsTask name.now (rows_of (found_of words.now)) all
-        → UsesFiles IsTask UsesFor all result.disk
+        → UsesFiles IsTask (UsesFor result.refusal) all result.disk
         (F.opened files.old, F.taken_away files.old)
         (F.opened files.new, F.taken_away files.new) }
 {
@@ -116,7 +118,7 @@ fn execute<F: DiskFiles, B: Start, R: Read, W: Write>(
 ) -> Finished<B, ()>
     ensures ended { Finishes task.entry result (R.remaining reader.old) (R.remaining reader.new)
         (W.contents writer.old) (W.contents writer.new) }
-    ensures files { UsesFor task.entry result.disk
+    ensures files { UsesFor (fault_of result.result) task.entry result.disk
         (F.opened files.old, F.taken_away files.old)
         (F.opened files.new, F.taken_away files.new) }
 {

@@ -62,7 +62,7 @@ pub(crate) fn serve_file<F: DiskFiles, S: Start, R: Read, W: Write>(
     ensures ended { Finishes (Serve path.entry) result
         (R.remaining reader.old) (R.remaining reader.new)
         (W.contents writer.old) (W.contents writer.new) }
-    ensures files { UsesFor (Serve path.entry) result.disk
+    ensures files { UsesFor (fault_of result.result) (Serve path.entry) result.disk
         (F.opened files.old, F.taken_away files.old)
         (F.opened files.new, F.taken_away files.new) }
 {

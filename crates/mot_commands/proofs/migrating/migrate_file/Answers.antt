@@ -32,7 +32,7 @@ returns-in-Ok-clause-files g c =
     let gone = g.F.DiskFiles.taken_away in
     let old = c.args.files.now in
     let new = c.open_disk.new.self in
-    subst (λ (f : _). UsesFor (Migrate c.args.path) f.disk (opened old, gone old)
+    subst (λ (f : _). UsesFor (fault_of f.result) (Migrate c.args.path) f.disk (opened old, gone old)
     (opened new, gone new)) (sym c.of_file.ensures) (c.in-Ok.ensures.one, c.in-Ok.ensures.stays)
 
 pub returns-in-Err-clause-files : goal.returns-in-Err-clause-files
@@ -41,5 +41,5 @@ returns-in-Err-clause-files g c =
     let gone = g.F.DiskFiles.taken_away in
     let old = c.args.files.now in
     let new = c.open_disk.new.self in
-    subst (λ (f : _). UsesFor (Migrate c.args.path) f.disk (opened old, gone old)
+    subst (λ (f : _). UsesFor (fault_of f.result) (Migrate c.args.path) f.disk (opened old, gone old)
     (opened new, gone new)) (sym c.unopened.ensures) (c.in-Err.ensures.one, c.in-Err.ensures.stays)

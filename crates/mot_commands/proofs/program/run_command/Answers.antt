@@ -5,6 +5,7 @@ use Rattle.mot_cli.specs.Command.{motcar_app}
 use Rattle.mot_cli.specs.Program.Task.{IsTask}
 use Rattle.mot_numbers.specs.declared.refusal.Refusal.TheVariants.{BadGeometry}
 use Rattle.mot_outcome.specs.Outcome.{ComesTo, UsesFiles}
+use Rattle.mot_server.specs.Attempts.{fault_of}
 use Rattle.mot_outcome.specs.Outcome.ComesTo.{begun, no_task, unbegun}
 use Rattle.mot_outcome.specs.Outcome.UsesFiles.{asked}
 use Rattle.mot_commands.specs.Inner.Finishing.{Finishes}
@@ -55,21 +56,25 @@ returns-in-Err-clause-ended g c = λ words asks.
 pub returns-in-Ok-clause-files : goal.returns-in-Ok-clause-files
 returns-in-Ok-clause-files g c = λ words asks.
     let task = c.in-Some.task in
-    let ends = c.execute-result.ensures in
-    subst (λ (e : _). UsesFiles IsTask UsesFor words e.disk
-    (g.F.DiskFiles.opened c.args.files.now, g.F.DiskFiles.taken_away c.args.files.now) (
-      g.F.DiskFiles.opened c.execute-result.new.files,
-      g.F.DiskFiles.taken_away c.execute-result.new.files,
-    )) (sym c.unrefused.ensures)
-    (asked task ((asks task).1 c.in-Some.ensures.some) ends.files)
+    let opened = g.F.DiskFiles.opened in
+    let gone = g.F.DiskFiles.taken_away in
+    let old = c.args.files.now in
+    let new = c.execute-result.new.files in
+    subst (λ (e : _). UsesFiles IsTask (UsesFor e.refusal) words e.disk (opened old, gone old)
+    (opened new, gone new)) (sym c.unrefused.ensures)
+    (asked task ((asks task).1 c.in-Some.ensures.some)
+    (subst (λ (r : _). UsesFor (fault_of r) task c.execute-result.result.disk
+    (opened old, gone old) (opened new, gone new)) c.in-Ok.is c.execute-result.ensures.files))
 
 pub returns-in-Err-clause-files : goal.returns-in-Err-clause-files
 returns-in-Err-clause-files g c = λ words asks.
     let task = c.in-Some.task in
-    let ends = c.execute-result.ensures in
-    subst (λ (e : _). UsesFiles IsTask UsesFor words e.disk
-    (g.F.DiskFiles.opened c.args.files.now, g.F.DiskFiles.taken_away c.args.files.now) (
-      g.F.DiskFiles.opened c.execute-result.new.files,
-      g.F.DiskFiles.taken_away c.execute-result.new.files,
-    )) (sym c.refuse-in-Err.ensures)
-    (asked task ((asks task).1 c.in-Some.ensures.some) ends.files)
+    let opened = g.F.DiskFiles.opened in
+    let gone = g.F.DiskFiles.taken_away in
+    let old = c.args.files.now in
+    let new = c.execute-result.new.files in
+    subst (λ (e : _). UsesFiles IsTask (UsesFor e.refusal) words e.disk (opened old, gone old)
+    (opened new, gone new)) (sym c.refuse-in-Err.ensures)
+    (asked task ((asks task).1 c.in-Some.ensures.some)
+    (subst (λ (r : _). UsesFor (fault_of r) task c.execute-result.result.disk
+    (opened old, gone old) (opened new, gone new)) c.in-Err.is c.execute-result.ensures.files))
