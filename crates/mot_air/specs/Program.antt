@@ -1,6 +1,7 @@
 -- What the commands on air do.
 use Rattle.std.specs.Prelude.{ℕ, ◌≡◌, ◌⊎◌, ◌++◌, ◌-◌, Bool, true, false, not, List, [], ◌∷◌, Option}
 use Rattle.std.specs.Prelude.{Some, None, codes, option_map, unwrap_or}
+use Rattle.std.specs.Io.KnownBytes.{Keeps}
 use Rattle.clap.specs.Words.{Row, Text, subcommand_of}
 use Rattle.disk_model.specs.Disk.{State}
 use Rattle.disk_store.specs.Beginning.{SinceOpened}
@@ -10,7 +11,7 @@ use Rattle.mot_air.specs.Playing.{Manner, Plays, Tale, manner}
 use Rattle.mot_air.specs.Syncing.{Syncs}
 use Rattle.mot_air.specs.Telling.{tale_with, watch_in, watched}
 use Rattle.mot_endpoints.specs.declared.packets.Target.{Target}
-use Rattle.mot_endpoints.specs.declared.packets.Target.TheVariants.{File}
+use Rattle.mot_endpoints.specs.declared.packets.Target.TheVariants.{File, Output}
 use Rattle.mot_endpoints.specs.Lines.{IsUnlined}
 use Rattle.mot_endpoints.specs.Opened.{BeginsTo, named}
 use Rattle.mot_endpoints.specs.Packets.{IsTarget}
@@ -69,12 +70,14 @@ is_all_done target refused = true
 
 module _ {S : Type 0} {start : Ghosts S} where
   -- The disk of a file was played into what takes packets, up to this ending; where it came to its
-  -- end, true if all is done. What each write took is told, as a list that begins with the path by
-  -- which that was opened; and what was given by the folder in each look, and by each read of lines.
+  -- end, true if all is done, and a file took its place. What each write took is told, as a list
+  -- that begins with the path by which that was opened; and what was given by the folder in each
+  -- look, and by each read of lines. Beside packets on standard output nothing is printed to it.
   abbrev pub PlaysTo : PlayTask → (Inputs → Bool → Tale) → (all : Bool) → Option Refusal
-      → UsedDisk S start → Type 0
-  PlaysTo p tale all ending used =
-      (target : Target) × IsTarget p.packets.now target
+      → (old new : Option (List ℕ)) → UsedDisk S start → Type 0
+  PlaysTo p tale all ending old new used =
+      (target : Target) × IsTarget p.packets.now target × (target ≡ Output → Keeps old new)
+      × (target ≡ File → ending ≡ None → OnFile (λ disk beside. beside.taken.is_placed ≡ true) used)
       × ((refused : Bool) × (ending ≡ None → all ≡ is_all_done target refused)
       × OnFile (λ disk beside. SinceOpened (PlaysInto target (tale beside.inputs refused)
       (played_as p) ending (p.packets.now ∷ []) beside.taken.notes.all) disk) used)
@@ -96,7 +99,7 @@ module _ {S : Type 0} {start : Ghosts S} where
       → (unread left old new : Option (List ℕ)) → Type 0
   Ends (Play p) all ending used unread left old new =
       (table : List SuffixType) × IsTyped p.types table
-      × PlaysTo p (tale_asked table p) all ending used
+      × PlaysTo p (tale_asked table p) all ending old new used
   Ends (Sync disk folder types rules) all ending used unread left old new =
       (table : List SuffixType) × IsTyped types table
       × SyncsTo table rules folder.now all ending old new used

@@ -1,6 +1,7 @@
 //! Playing the disk of a file into what a path names.
-ghost use Rattle.std.specs.Prelude.{◌≡◌, ◌⊎◌, ◌-◌, [], ◌∷◌, Some, Err, Ok, codes, option_map};
-ghost use Rattle.std.specs.Prelude.{unwrap_or};
+ghost use Rattle.std.specs.Prelude.{◌≡◌, ◌≢◌, ◌⊎◌, ◌-◌, [], ◌∷◌, true, Some, None, Err, Ok, codes};
+ghost use Rattle.std.specs.Prelude.{option_map, unwrap_or};
+ghost use Rattle.std.specs.Io.KnownBytes.{Keeps};
 ghost use Rattle.mot_air.specs.Directory.{directory_of, look_of};
 ghost use Rattle.mot_air.specs.Inner.Concluded.{Concludes};
 ghost use Rattle.mot_air.specs.Playing.{Plays};
@@ -74,7 +75,7 @@ pub(crate) fn play_file<'a, B: Start, F: Shelf + Drop, W: Write, E: Write>(
         (tale_with (watched airing.entry.folder (λ followed. watch_in how (F.path followed.shelf)
         followed.types.now followed.allows_empty followed.every))
         (option_map (λ (lines : LineFolder). (lines.hand, lines.every - 1)) airing.entry.lines) how)
-        all ending result.disk)
+        all ending (W.contents writer.old) (W.contents writer.new) result.disk)
         result.result result.disk (W.contents writer.old) (W.contents writer.new) }
     ensures opens { Opens ((codes "packets", airing.entry.task.packets.now) ∷ [])
         airing.entry.task.disk.now result.disk station.old.opened.all station.new.opened.all }
@@ -114,7 +115,7 @@ fn target_of(opened: &OpenPackets<'_>) -> Target
     match opened {
         OpenPackets::Standard(_) => Target::Output,
         OpenPackets::Through(_) => Target::Stream,
-        OpenPackets::Beside(_) => Target::File,
+        OpenPackets::Beside(_, _) => Target::File,
     }
 }
 
@@ -138,18 +139,25 @@ fn play_into<D: Disk, F: Shelf + Drop, W: Write, E: Write>(
     writer: &mut W,
     errors: &mut E,
 ) -> Played<D>
-    ensures { let how = played_as airing.entry.task in PlaysInto (target_of opened.entry)
+    requires { begun_of opened ≢ [] }
+    ensures played { let how = played_as airing.entry.task in PlaysInto (target_of opened.entry)
         (tale_with (watched airing.entry.folder (λ followed. watch_in how (F.path followed.shelf)
         followed.types.now followed.allows_empty followed.every))
         (option_map (λ (lines : LineFolder). (lines.hand, lines.every - 1)) airing.entry.lines) how
         result.inputs result.any_refused) how (fault_of result.ended.result)
         (begun_of opened.entry) result.taken.notes.all
         (D.state disk) (D.state result.ended.disk) }
+    ensures quiet { target_of opened.entry ≡ Target.Output
+        → Keeps (W.contents writer.old) (W.contents writer.new) }
+    ensures placed { target_of opened.entry ≡ Target.File
+        → fault_of result.ended.result ≡ None → result.taken.is_placed ≡ true }
 {
     match opened {
         OpenPackets::Standard(outlet) => play_writer(alloc, disk, outlet, airing, errors),
         OpenPackets::Through(outlet) => play_writer(alloc, disk, outlet, airing, writer),
-        OpenPackets::Beside(new) => play_new_file(alloc, disk, new, airing, writer),
+        OpenPackets::Beside(new, taken) => {
+            play_new_file(alloc, disk, new, taken, airing, writer)
+        }
     }
 }
 
@@ -236,30 +244,33 @@ fn play_new_file<D: Disk, F: Shelf + Drop, L: Write>(
     alloc: Global,
     disk: D,
     new: NewFile<'_>,
+    taken: Taken,
     airing: Airing<'_, '_, F>,
     log: &mut L,
 ) -> Played<D>
-    ensures { let how = played_as airing.entry.task in PlaysInto Target.File
+    requires { taken.notes.all ≢ [] }
+    ensures played { let how = played_as airing.entry.task in PlaysInto Target.File
         (tale_with (watched airing.entry.folder (λ followed. watch_in how (F.path followed.shelf)
         followed.types.now followed.allows_empty followed.every))
         (option_map (λ (lines : LineFolder). (lines.hand, lines.every - 1)) airing.entry.lines) how
         result.inputs result.any_refused) how (fault_of result.ended.result)
-        (new.entry.path.now ∷ []) result.taken.notes.all
+        taken.notes.all result.taken.notes.all
         (D.state disk) (D.state result.ended.disk) }
+    ensures placed { fault_of result.ended.result ≡ None → result.taken.is_placed ≡ true }
 {
     let Played {
         ended,
         any_refused,
-        taken,
+        mut taken,
         inputs,
         cause,
-    } = play_writer(alloc, disk, new.writer(), airing, log);
+    } = play_writer(alloc, disk, new.writer(taken), airing, log);
     let Ended {
         disk,
         result,
         reason,
     } = ended;
-    let (result, cause) = placed(&new, result, cause);
+    let (result, cause) = placed(&new, &mut taken, result, cause);
     Played {
         ended: Ended {
             disk,
@@ -277,13 +288,16 @@ fn play_new_file<D: Disk, F: Shelf + Drop, L: Write>(
 /// and its cause.
 fn placed(
     new: &NewFile<'_>,
+    taken: &mut Taken,
     ended: Result<(), Refusal>,
     cause: Option<Cause>,
 ) -> (Result<(), Refusal>, Option<Cause>)
-    ensures { (result.0 ≡ ended) ⊎ ((ended ≡ Ok tt) × (result.0 ≡ Err WriteFault)) }
+    ensures came { (result.0 ≡ ended) ⊎ ((ended ≡ Ok tt) × (result.0 ≡ Err WriteFault)) }
+    ensures same { taken.new.notes.all ≡ taken.old.notes.all }
+    ensures placed { fault_of result.0 ≡ None → taken.new.is_placed ≡ true }
 {
     match ended {
-        Ok(()) => take_place(new, cause),
+        Ok(()) => take_place(new, taken, cause),
         Err(refusal) => {
             let cause = of_new_file(new, cause);
             new.take_away();
@@ -294,10 +308,16 @@ fn placed(
 
 /// Gives the new file its place, and removes it if that fails; answers the fault and its cause, or
 /// else this cause.
-fn take_place(new: &NewFile<'_>, cause: Option<Cause>) -> (Result<(), Refusal>, Option<Cause>)
-    ensures { (result.0 ≡ Ok tt) ⊎ (result.0 ≡ Err WriteFault) }
+fn take_place(
+    new: &NewFile<'_>,
+    taken: &mut Taken,
+    cause: Option<Cause>,
+) -> (Result<(), Refusal>, Option<Cause>)
+    ensures came { (result.0 ≡ Ok tt) ⊎ (result.0 ≡ Err WriteFault) }
+    ensures same { taken.new.notes.all ≡ taken.old.notes.all }
+    ensures placed { fault_of result.0 ≡ None → taken.new.is_placed ≡ true }
 {
-    match new.take_place() {
+    match new.take_place(taken) {
         Ok(()) => (Ok(()), cause),
         Err(error) => {
             new.take_away();

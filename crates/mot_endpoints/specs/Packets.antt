@@ -1,5 +1,5 @@
 -- What packets go to.
-use Rattle.std.specs.Prelude.{ℕ, ◌≡◌, ◌↔◌, List, [], ◌∷◌, codes}
+use Rattle.std.specs.Prelude.{ℕ, ◌≡◌, ◌↔◌, List, codes}
 use Rattle.mot_endpoints.specs.declared.packets.OpenPackets.{OpenPackets}
 use Rattle.mot_endpoints.specs.declared.packets.OpenPackets.TheVariants.{Beside, Standard, Through}
 use Rattle.mot_endpoints.specs.declared.packets.Target.{Target}
@@ -13,10 +13,10 @@ IsTarget path target = (path ≡ codes "-") ↔ (target ≡ Output)
 abbrev pub target_of : OpenPackets → Target
 target_of (Standard writer) = Output
 target_of (Through writer) = Stream
-target_of (Beside new) = File
+target_of (Beside new taken) = File
 
 -- what is noted of it before packets are written: the path that it was opened by
 abbrev pub begun_of : OpenPackets → List (List ℕ)
 begun_of (Standard writer) = writer.taken.notes.all
 begun_of (Through writer) = writer.taken.notes.all
-begun_of (Beside new) = new.path.now ∷ []
+begun_of (Beside new taken) = taken.notes.all

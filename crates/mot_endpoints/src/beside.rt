@@ -1,9 +1,10 @@
 //! A file that is written beside the one whose place it takes once it is whole. No contract says
 //! what these calls do to files.
-ghost use Rattle.std.specs.Prelude.{◌≡◌, ◌∷◌, [], IfOk};
+ghost use Rattle.std.specs.Prelude.{◌≡◌, ◌≢◌, [], true, OnOk};
 
 use crate::fault::PacketsFault;
 use crate::packets::PacketWriter;
+use crate::taken::Taken;
 use std::fs::{self, File, Metadata, OpenOptions, TryLockError};
 use std::io::{self, ErrorKind, Write};
 use std::os::unix::fs::MetadataExt;
@@ -28,9 +29,7 @@ impl<'a> NewFile<'a> {
         rt: &'a HostRuntime,
         path: &'a str,
         disk: &str,
-    ) -> Result<NewFile<'a>, PacketsFault>
-        ensures { IfOk result (λ new. new.path.now ≡ path.now) }
-    {
+    ) -> Result<NewFile<'a>, PacketsFault> {
         let beside = format!(in rt.alloc(); "{path}{SUFFIX}")?;
         clear(rt, beside.as_str(), disk)?;
         let file = OpenOptions::new()
@@ -70,19 +69,26 @@ impl<'a> NewFile<'a> {
         Ok(is_same(&self.file.metadata()?, &named))
     }
 
-    /// What writes packets to it.
-    pub fn writer(&self) -> PacketWriter<&File>
-        ensures { result.taken.notes.all ≡ self.now.path.now ∷ [] }
+    /// What writes packets to it, on the notes that begin with its path. There is one such list, so
+    /// that what a second writer wrote would be noted too.
+    pub fn writer(&self, taken: Taken) -> PacketWriter<&File>
+        requires { taken.notes.all ≢ [] }
+        ensures { result.taken ≡ taken }
     {
-        PacketWriter::of(&self.file, self.path)
+        PacketWriter::of(&self.file, taken)
     }
 
     /// Makes the file last, and then its name: at each moment the name is that of the old file, or
-    /// of the new one, whole.
-    pub fn take_place(&self) -> io::Result<()> {
+    /// of the new one, whole. It is noted beside what was written.
+    pub fn take_place(&self, taken: &mut Taken) -> io::Result<()>
+        ensures same { taken.new.notes.all ≡ taken.old.notes.all }
+        ensures placed { OnOk result (taken.new.is_placed ≡ true) }
+    {
         self.file.sync_all()?;
         fs::rename(self.rt, self.beside.as_str(), self.path)?;
-        File::open(self.rt, folder_of(self.path))?.sync_all()
+        File::open(self.rt, folder_of(self.path))?.sync_all()?;
+        taken.placed();
+        Ok(())
     }
 
     /// Takes the file away again.

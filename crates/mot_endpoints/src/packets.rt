@@ -49,14 +49,14 @@ pub enum OpenPackets<'a> {
     Standard(PacketWriter<Stdout>),
     /// A named pipe or a device.
     Through(PacketWriter<File>),
-    /// A new file beside the one whose place it takes.
-    Beside(NewFile<'a>),
+    /// A new file beside the one whose place it takes, and the list of what its writes take.
+    Beside(NewFile<'a>, Taken),
 }
 
 impl<'a> OpenPackets<'a> {
     /// Leaves nothing of it, if nothing is played.
     pub fn give_up(&self) {
-        if let OpenPackets::Beside(new) = self {
+        if let OpenPackets::Beside(new, _) = self {
             new.take_away();
         }
     }
@@ -87,7 +87,7 @@ pub(crate) fn open_packets<'a>(
         (Place::File, None) => PacketsFault::EndlessFile,
         (_, Some(0)) => PacketsFault::NoTurns,
         (_, Some(_)) => match NewFile::begin(rt, path, disk) {
-            Ok(new) => return Ok(OpenPackets::Beside(new)),
+            Ok(new) => return Ok(OpenPackets::Beside(new, Taken::of(path))),
             Err(fault) => return Err(Cause::NewFile(fault)),
         },
     };
@@ -102,7 +102,7 @@ fn open_output(rt: &HostRuntime, path: &str) -> Result<PacketWriter<Stdout>, Pac
     if output.is_terminal() {
         return Err(PacketsFault::Terminal);
     }
-    Ok(PacketWriter::of(output, path))
+    Ok(PacketWriter::of(output, Taken::of(path)))
 }
 
 /// Opens a pipe or a device for reading and writing. A pipe is locked.
@@ -116,7 +116,7 @@ fn open_stream(rt: &HostRuntime, path: &str) -> Result<PacketWriter<File>, Packe
     if file.metadata()?.file_type().is_fifo() {
         lock(&file)?;
     }
-    Ok(PacketWriter::of(file, path))
+    Ok(PacketWriter::of(file, Taken::of(path)))
 }
 
 /// What is at the path, to which a link may lead. The disk itself is refused.
@@ -144,16 +144,16 @@ pub struct PacketWriter<W: Write + Drop> {
 }
 
 impl<W: Write + Drop> PacketWriter<W> {
-    /// What was opened by this path, to which nothing was written.
-    pub(crate) fn of(writer: W, path: &str) -> PacketWriter<W>
+    /// What was opened, to which nothing was written: so it is noted by which path.
+    pub(crate) fn of(writer: W, taken: Taken) -> PacketWriter<W>
         ensures writer { result.writer ≡ writer }
         ensures fault { result.fault ≡ None }
-        ensures taken { result.taken.notes.all ≡ path.now ∷ [] }
+        ensures taken { result.taken ≡ taken }
     {
         PacketWriter {
             writer,
             fault: None,
-            taken: Taken::of(path),
+            taken,
         }
     }
 }

@@ -1,5 +1,5 @@
 //! What the writes of packets took, as a list that only clauses read.
-ghost use Rattle.std.specs.Prelude.{◌≡◌, ◌≤◌, ◌∷◌, ◌++◌, [], IfOk, MatchResult, length, take};
+ghost use Rattle.std.specs.Prelude.{◌≡◌, ◌≤◌, ◌∷◌, ◌++◌, [], true, IfOk, MatchResult, length, take};
 
 use disk_store::Notes;
 use std::io;
@@ -10,6 +10,8 @@ use std::io;
 #[derive(Drop)]
 pub struct Taken {
     notes: Notes,
+    /// Whether the file that was opened by that path then took its place.
+    is_placed: bool,
 }
 
 impl Taken {
@@ -19,6 +21,7 @@ impl Taken {
     {
         Taken {
             notes: Notes::new(),
+            is_placed: false,
         }
     }
 
@@ -28,7 +31,18 @@ impl Taken {
     {
         let mut notes = Notes::new();
         notes.note(path.as_bytes());
-        Taken { notes }
+        Taken {
+            notes,
+            is_placed: false,
+        }
+    }
+
+    /// The file took its place, with what was written to it.
+    pub(crate) fn placed(&mut self)
+        ensures same { self.new.notes.all ≡ self.old.notes.all }
+        ensures placed { self.new.is_placed ≡ true }
+    {
+        self.is_placed = true;
     }
 
     /// These bytes were to be written, and this came of it, which is handed on.

@@ -1,4 +1,4 @@
-use Rattle.std.proofs.Common.{ℕ, ◌⊎◌, ◌≡◌, ◌∙◌, List, Option, [], ◌∷◌, ap, subst, sym}
+use Rattle.std.proofs.Common.{true, ℕ, ◌⊎◌, ◌≡◌, ◌∙◌, List, Option, [], ◌∷◌, ap, subst, sym}
 use Rattle.disk_model.specs.Disk.{State}
 use Rattle.disk_store.specs.Beginning.{SinceOpened}
 use Rattle.disk_store.specs.Begun.{begun_state}
@@ -48,7 +48,9 @@ played : (g : given.Over) (c : goal.After-of_file g) (w : Option Watch) (hand : 
     (begun_state c.in-Ok-disk.disk) (begun_state c.play_into-ended.result.ended.disk)
     → Concludes (λ r. (r ≡ DeviceFault) ⊎ (r ≡ WriteFault))
     (λ all ending. PlaysTo c.args.airing.task (tale_with w hand (played_as c.args.airing.task))
-    all ending c.of_file.result.disk) c.of_file.result.result c.of_file.result.disk
+    all ending (g.W.Write.contents c.args.writer.now)
+    (g.W.Write.contents c.play_into-ended.new.writer) c.of_file.result.disk)
+    c.of_file.result.result c.of_file.result.disk
     (g.W.Write.contents c.args.writer.now) (g.W.Write.contents c.play_into-ended.new.writer)
 played g c w hand plays =
     let target = target_of c.in-Ok.opened in
@@ -70,14 +72,18 @@ played g c w hand plays =
     let told = subst (λ (b : List (List ℕ)). PlaysInto target (tale inputs refused) how
     (fault_of ended.result) b taken first last) c.in-Ok.ensures.begun plays in
     subst (λ (f : _). Concludes (λ r. (r ≡ DeviceFault) ⊎ (r ≡ WriteFault))
-    (λ all ending. PlaysTo task tale all ending f.disk) f.result f.disk old new)
+    (λ all ending. PlaysTo task tale all ending old new f.disk) f.result f.disk old new)
     (sym c.of_file.ensures)
-    (concludes _ (λ all ending. PlaysTo task tale all ending used) used old new
+    (concludes _ (λ all ending. PlaysTo task tale all ending old new used) used old new
     c.is_all_done.result ended.result c.answered.result.result c.answered.ensures.answer
-    (ended_so (λ all ending. PlaysTo task tale all ending used) c.is_all_done.result ended.result
+    (ended_so (λ all ending. PlaysTo task tale all ending old new used) c.is_all_done.result
+    ended.result
     (λ all whole. (
       target,
       c.in-Ok.ensures.target,
+      c.play_into-ended.ensures.quiet,
+      (λ file none. subst (λ (t : Taken). t.is_placed ≡ true) (sym c.played-beside.ensures.taken)
+          (c.play_into-ended.ensures.placed file none)),
       (
         refused,
         (λ none. whole none ∙ c.is_all_done.ensures
@@ -90,4 +96,4 @@ played g c w hand plays =
     ))))
 
 pub returns-clause-ended : goal.returns-clause-ended
-returns-clause-ended g c = played g c _ _ c.play_into-ended.ensures
+returns-clause-ended g c = played g c _ _ c.play_into-ended.ensures.played

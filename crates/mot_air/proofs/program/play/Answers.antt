@@ -23,12 +23,13 @@ use Rattle.mot_cli.specs.declared.air.task.AirTask.TheVariants.{Play}
 
 -- the same folder and lines, told of the words
 asked : {S : Type 0} {start : Ghosts S} (task : PlayTask) (used : UsedDisk S start)
-    {w v : Option Watch} {h k : Option (List ℕ × ℕ)} (all : Bool) (ending : Option Refusal) → w ≡ v
-    → h ≡ k → PlaysTo task (tale_with w h (played_as task)) all ending used
-    → PlaysTo task (tale_with v k (played_as task)) all ending used
-asked task used {w} {v} {h} {k} all ending same held plays =
-    subst (λ x. PlaysTo task (tale_with x k (played_as task)) all ending used) same
-    (subst (λ x. PlaysTo task (tale_with w x (played_as task)) all ending used) held plays)
+    (old new : Option (List ℕ)) {w v : Option Watch} {h k : Option (List ℕ × ℕ)} (all : Bool)
+    (ending : Option Refusal) → w ≡ v → h ≡ k
+    → PlaysTo task (tale_with w h (played_as task)) all ending old new used
+    → PlaysTo task (tale_with v k (played_as task)) all ending old new used
+asked task used old new {w} {v} {h} {k} all ending same held plays =
+    subst (λ x. PlaysTo task (tale_with x k (played_as task)) all ending old new used) same
+    (subst (λ x. PlaysTo task (tale_with w x (played_as task)) all ending old new used) held plays)
 
 pub returns-in-Err-clause-ended : goal.returns-in-Err-clause-ended
 returns-in-Err-clause-ended g c =
@@ -68,13 +69,13 @@ played : {S : Type 0} {start : Ghosts S} (task : PlayTask) (table : List SuffixT
     → w ≡ watch_asked table task
     → hand ≡ option_map (λ path. ([], unwrap_or task.every 8 - 1)) task.lines
     → Concludes (λ r. (r ≡ DeviceFault) ⊎ (r ≡ WriteFault)) (λ all ending.
-    PlaysTo task (tale_with w hand (played_as task)) all ending used) result used old new
+    PlaysTo task (tale_with w hand (played_as task)) all ending old new used) result used old new
     → ConcludesTask (Play task) result used old new
 played task table used old new result w hand typed same held plays =
     concludes_task (Play task) (λ r. (r ≡ DeviceFault) ⊎ (r ≡ WriteFault)) (λ all ending.
-    PlaysTo task (tale_with w hand (played_as task)) all ending used) used old new result
+    PlaysTo task (tale_with w hand (played_as task)) all ending old new used) used old new result
     (λ r early. inr (inr early))
-    (λ all ending so. (table, typed, asked task used all ending same held so)) plays
+    (λ all ending so. (table, typed, asked task used old new all ending same held so)) plays
 
 pub returns-clause-ended : goal.returns-clause-ended
 returns-clause-ended g c =
