@@ -1,8 +1,9 @@
 //! What one life of a disk hands on to the next: whatever was served, run or played in it.
-ghost use Rattle.std.specs.Prelude.{ℕ, [], IfOk, IsFalse, List};
+ghost use Rattle.std.specs.Prelude.{ℕ, [], IfErr, IfOk, IsFalse, List};
 ghost use Rattle.mot_air.specs.Lives.{KeepsDone};
 ghost use Rattle.mot_numbers.specs.declared.geometry.Geometry.{Geometry};
 ghost use Rattle.mot_objects.specs.declared.command.Command.{Command};
+ghost use Rattle.mot_repository.specs.Opening.{IsPassing};
 ghost use Rattle.mot_server.specs.Lives.{HasDone};
 
 use disk_model::Disk;
@@ -18,10 +19,16 @@ pub fn keep_done<D: Disk>(_server: &Server<D>)
 
 /// Opens a disk: what it keeps the server has done.
 pub fn open_done<D: Disk>(alloc: Global, disk: D) -> Result<Server<D>, Refused<D>>
-    ensures { (g : Geometry) (first : ℕ) (done : List Command)
+    ensures opened { (g : Geometry) (first : ℕ) (done : List Command)
         → KeepsDone g first done (D.state disk)
         → IfOk result (λ server. (D.state server.disk).IsHonest
         → HasDone D.state g first done [] server) }
+
+    // it opens, unless memory runs out or the disk fails; and if not, it keeps what it kept
+    ensures opens { (g : Geometry) (first : ℕ) (done : List Command)
+        → KeepsDone g first done (D.state disk) → IfErr result (λ e. (D.state e.disk).IsHonest
+        → IsPassing (D.state disk) (D.state e.disk) e.refusal
+        × KeepsDone g first done (D.state e.disk)) }
 {
     match Server::open(alloc, disk) {
         Ok(server) => Ok(server),

@@ -9,6 +9,7 @@ ghost use Rattle.mot_journal.specs.Geometry.{has_magic};
 ghost use Rattle.mot_journal.specs.declared.layout.Layout.TheVariants.{Two};
 ghost use Rattle.mot_numbers.specs.declared.geometry.Geometry.{Geometry};
 ghost use Rattle.mot_numbers.specs.declared.refusal.Refusal.TheVariants.{AlreadyFormatted};
+ghost use Rattle.mot_numbers.specs.declared.refusal.Refusal.TheVariants.{OutOfMemory};
 ghost use Rattle.mot_objects.specs.declared.command.Command.{Command};
 ghost use Rattle.mot_repository.specs.Opening.{IsPassing};
 ghost use Rattle.mot_objects.specs.Carousel.{carousel_after};
@@ -16,7 +17,7 @@ ghost use Rattle.mot_server.specs.Life.{IsBlank, IsUnmade, carousel_from};
 ghost use Rattle.mot_server.specs.Lives.{HasDone, KeepsCommands, LivesOn};
 ghost use Rattle.mot_server.specs.Playing.{bytes_of_packets};
 ghost use Rattle.mot_session.specs.Life.{AreRightReplies, Told, Tells, TellsLine, commands_done, fails_in};
-ghost use Rattle.mot_session.specs.Served.{TakesInput};
+ghost use Rattle.mot_session.specs.Served.{EndsServing, TakesInput};
 
 use crate::{Geometry, MAX_READS, ServeEnd, WriteFault, serve, serve_line};
 use disk_model::Disk;
@@ -76,6 +77,10 @@ pub fn format_and_serve<R: Read, W: Write, D: Disk>(
         ⊎ KeepsCommands geometry.now directory [] (commands_done told ++ in_flight) image)
         × ((image : List ℕ) → (D.state life.disk).MayLeave image
         → KeepsCommands geometry.now directory (commands_done told) in_flight image)) }
+
+    // what ended serving; if there was no memory to begin with, nothing was answered
+    ensures ends { IfOk result (λ life. EndsServing life.end.fault
+        × (life.end.fault ≡ Some OutOfMemory → life.end.lines ≡ 0)) }
 
     // Why no disk was made; one that was formatted before stays.
     ensures refused { IfErr result (λ e. (D.state e.disk).IsHonest
@@ -144,6 +149,10 @@ pub fn serve_and_restart<R: Read, W: Write, D: Disk, E: Disk>(
         (bytes_of_packets r.packets.items)))
         × ((image : List ℕ) → (D.state server.new.disk).MayLeave image
         → KeepsCommands g first (done ++ commands_done told) in_flight image) }
+
+    // what ended serving; if there was no memory to begin with, nothing was answered
+    ensures ends { EndsServing result.end.fault
+        × (result.end.fault ≡ Some OutOfMemory → result.end.lines ≡ 0) }
 
     // it opens, unless memory runs out or the disk that was left fails
     ensures opens { (g : Geometry) (first : ℕ) (done : List Command)

@@ -54,3 +54,6 @@ returns-clause-told g c = λ honest.
       λ image may. all.6.at_end image
           (subst (λ d. (state d).MayLeave image) c.into_disk.ensures may),
     )
+
+pub returns-clause-ends : goal.returns-clause-ends
+returns-clause-ends g c = (c.serve-end.ensures.faults, λ is. (c.serve-end.ensures.none is).0)

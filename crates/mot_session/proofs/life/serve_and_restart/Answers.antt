@@ -70,3 +70,6 @@ returns-clause-opens g c = λ geometry first_id done has honest left.
     (λ e why e_honest. passing first (g.E.Disk.state e.disk) stands.last e.refusal e_honest
     stands.image_is why)
     c.restart-restarted.ensures.refused
+
+pub returns-clause-ends : goal.returns-clause-ends
+returns-clause-ends g c = (c.serve-end.ensures.faults, λ is. (c.serve-end.ensures.none is).0)
