@@ -69,7 +69,7 @@ module _ (g : Geometry) (first : ℕ) (done : List Command) (tale : Tale) (how :
   -- where all was played no command is in flight, and what was done is kept
   goes_on : (s : Standing) (ending : Option Refusal)
       (writes : WritesPackets tale how ending before after start now s)
-      → IsAfter (standing_from g first) done s → ending ≡ None
+      → IsAfter (standing_from g first s.rest) done s → ending ≡ None
       → (commands_in_flight writes.played.commands writes.played.marks (fault_at writes.stage) ≡ [])
       × KeepsDone g first (done ++ commands_among writes.events) now
   goes_on s ending writes was none =
@@ -80,9 +80,12 @@ module _ (g : Geometry) (first : ℕ) (done : List Command) (tale : Tale) (how :
         ap (λ (f : Option Refusal). commands_in_flight aired.commands aired.marks f) whole,
         record {
           standing = aired.last;
-          after = subst (λ l. IsAfter (standing_from g first) (done ++ l) aired.last)
+          after = subst (λ r. IsAfter (standing_from g first r)
+              (done ++ commands_among writes.events) aired.last) (sym aired.after.rest)
+              (subst (λ l. IsAfter (standing_from g first s.rest) (done ++ l) aired.last)
               (sym aired.accepted)
-              (after_both (standing_from g first) done accepted s aired.last was aired.after);
+              (after_both (standing_from g first s.rest) done accepted s aired.last was
+              aired.after));
           each = aired.stands
               (ap (λ (f : Option Refusal). option_map_or is_device_fault f false) whole);
         },
@@ -106,16 +109,19 @@ module _ (g : Geometry) (first : ℕ) (done : List Command) (tale : Tale) (how :
         is = refl;
         any_moment =
             weakens start now (StandsAfterSome s [] (accepted ++ in_flight))
-            (StandsAfterSome (standing_from g first) done
+            (StandsAfterSome (standing_from g first s.rest) done
             (commands_among writes.events ++ in_flight))
             aired.leaves.any_moment
-            (λ image is. subst (λ l. StandsAfterSome (standing_from g first) done (l ++ in_flight)
+            (λ image is. subst (λ l. StandsAfterSome (standing_from g first s.rest) done
+            (l ++ in_flight)
             image) same
-            (behind_some (standing_from g first) s done (accepted ++ in_flight) image was.after
+            (behind_some (standing_from g first s.rest) s done
+            (accepted ++ in_flight) image was.after
             is));
-        at_end = λ image left. subst (λ l. StandsAfterSome (standing_from g first) (done ++ l)
+        at_end = λ image left. subst (λ l. StandsAfterSome (standing_from g first s.rest)
+            (done ++ l)
             in_flight image) same
-            (behind (standing_from g first) s done accepted in_flight image was.after
+            (behind (standing_from g first s.rest) s done accepted in_flight image was.after
             (aired.leaves.at_end image left));
         goes_on = goes_on s ending writes was.after;
       }
@@ -159,7 +165,7 @@ kept_done state disk server sound opens opened going g first done was honest =
       after = was.after;
       agrees = holds.agrees;
       holds = λ still. (refl, holds);
-      leaves = λ image may. none_of (standing_from g first) done [] s image was.after
+      leaves = λ image may. none_of (standing_from g first s.rest) done [] s image was.after
           (holds.each image may);
       few = omega arith;
     }

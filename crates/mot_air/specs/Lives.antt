@@ -17,7 +17,7 @@ use Rattle.mot_server.specs.Runs.{IsAfter, StandsAfterSome, commands_in_flight}
 pub record KeepsDone (g : Geometry) (first : ℕ) (done : List Command) (now : State) :
     Type 0 where
   pub standing : Standing
-  pub after : IsAfter (standing_from g first) done standing
+  pub after : IsAfter (standing_from g first standing.rest) done standing
   pub each : (image : List ℕ) → now.MayLeave image → IsOf standing image
 
 -- A disk on which these commands were done was played, up to this ending. At each moment since then
@@ -29,14 +29,15 @@ pub record AirsOn (g : Geometry) (first : ℕ) (done : List Command) (tale : Tal
     (ending : Option Refusal) (before after : Option (List (List ℕ))) (start now : State) :
     Type 0 where
   pub standing : Standing
-  pub was : IsAfter (standing_from g first) done standing
+  pub was : IsAfter (standing_from g first standing.rest) done standing
   pub writes : WritesPackets tale how ending before after start now standing
   pub in_flight : List Command
   pub is : in_flight
       ≡ commands_in_flight writes.played.commands writes.played.marks (fault_at writes.stage)
-  pub any_moment : Throughout start now (StandsAfterSome (standing_from g first) done
+  pub any_moment : Throughout start now (StandsAfterSome (standing_from g first standing.rest) done
       (commands_among writes.events ++ in_flight))
-  pub at_end : (image : List ℕ) → now.MayLeave image → StandsAfterSome (standing_from g first)
+  pub at_end : (image : List ℕ) → now.MayLeave image → StandsAfterSome
+      (standing_from g first standing.rest)
       (done ++ commands_among writes.events) in_flight image
   pub goes_on : ending ≡ None
       → (in_flight ≡ []) × KeepsDone g first (done ++ commands_among writes.events) now

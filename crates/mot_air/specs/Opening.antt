@@ -2,7 +2,7 @@
 use Rattle.std.specs.Prelude.{◌≡◌, ◌⊎◌, ℕ, List, [], ◌++◌, Bool, Option, Some, None, IsSomeAnd}
 use Rattle.disk_model.specs.Disk.{KeepsLength, State, Throughout}
 use Rattle.disk_model.specs.Failures.{Rises}
-use Rattle.mot_export.specs.Opening.{IsOpenable, IsUnopened, OfStanding}
+use Rattle.mot_export.specs.Opening.{IsOpenable, IsUnopened, OfClean}
 use Rattle.mot_journal.specs.Image.{Standing}
 use Rattle.mot_numbers.specs.declared.refusal.Refusal.{Refusal}
 use Rattle.mot_numbers.specs.declared.refusal.Refusal.TheVariants.{DeviceFault, OutOfMemory}
@@ -27,7 +27,7 @@ pub record EndsBy (ending : Option Refusal) (Nothing : Type 0) (P : Standing →
     (start now : State) : Type 0 where
   pub keeps : KeepsLength start now
   pub came : (IsSomeAnd ending (λ r. IsUnopened r start now) × Nothing)
-      ⊎ (IsOpenable start now × IsEnd ending start now × OfStanding P start now)
+      ⊎ (IsOpenable start now × IsEnd ending start now × OfClean P start now)
 
 -- What commands leave of a disk that stood for s, each answered with its mark up to a fault: at
 -- each moment a crash leaves what a beginning of the accepted ones makes of it, or all of them and

@@ -8,7 +8,7 @@ use Rattle.mot_numbers.specs.Geometry.{packet_room}
 use Rattle.mot_player.specs.Place.{opened_place}
 use Rattle.mot_player.specs.Turn.{turn_of_carousel}
 use Rattle.mot_commands.specs.Serving.{OpensTo}
-use Rattle.mot_export.specs.Opening.{OfStanding}
+use Rattle.mot_export.specs.Opening.{OfClean}
 use Rattle.mot_export.proofs.Laws.{AllAre, held, openable, opened_throughout}
 use Rattle.mot_repository.specs.OnDisk.{OnDisk}
 use Rattle.mot_repository.specs.Repository.{Agrees, IsOf, Holds}
@@ -59,7 +59,7 @@ module _ {D : Type 0} (state : D → State) (start : D) (repository new : OnDisk
   -- what a crash leaves of a migration, it leaves from the disk's opening on
   pub migrates_under : ((s : Standing) → Holds repository.view s (state repository.disk)
       → Throughout (state repository.disk) (state new.disk) (IsOf s))
-      → OfStanding (λ s. Throughout (state start) (state new.disk) (IsOf s)) (state start)
+      → OfClean (λ s. Throughout (state start) (state new.disk) (IsOf s)) (state start)
       (state new.disk)
   migrates_under any s honest each =
       let was = keeps.frame.was_honest honest in

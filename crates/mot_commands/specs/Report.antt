@@ -4,7 +4,7 @@ use Rattle.std.specs.Prelude.{Ok, Err, IsTrue, if◌then◌else◌, codes}
 use Rattle.std.specs.Fmt.{decimal}
 use Rattle.std.specs.Io.KnownBytes.{Keeps}
 use Rattle.disk_model.specs.Disk.{State, IsStill, KeepsLength, OnlySyncs, Throughout}
-use Rattle.mot_export.specs.Opening.{IsUnopened, OfStanding}
+use Rattle.mot_export.specs.Opening.{IsUnopened, OfClean}
 use Rattle.mot_journal.specs.Image.{DiskRecords, Standing, records_of, stands_for}
 use Rattle.mot_journal.specs.Image.{IsClean, IsInLayoutTwo}
 use Rattle.mot_journal.specs.Making.{MakesDisk}
@@ -80,7 +80,7 @@ pub record IsMigrated (text : List ℕ) (start now : State) : Type 0 where
   pub line : text ≡ migrated_line done
   pub rewritten : now.IsHonest → (journal : DiskRecords) × (records_of start.bytes ≡ Ok journal)
       × (IsTrue done ↔ (journal.layout ≡ One))
-  pub is_two : OfStanding
+  pub is_two : OfClean
       (λ s. (image : List ℕ) → now.MayLeave image → IsOf s image × IsInLayoutTwo image) start now
 
 -- A crash at any moment leaves what the disk stood for, clean. It was brought to layout 2; or it
@@ -88,7 +88,7 @@ pub record IsMigrated (text : List ℕ) (start now : State) : Type 0 where
 pub record Migrates (ending : Option Refusal) (old new : Option (List ℕ)) (start now : State) :
     Type 0 where
   pub keeps : KeepsLength start now
-  pub under : OfStanding (λ s. Throughout start now (IsOf s)) start now
+  pub under : OfClean (λ s. Throughout start now (IsOf s)) start now
   pub told : Reports (λ refusal. IsOpeningRefusal start now refusal
       × IsCalm refusal start.failures now.failures
       × (refusal ≢ DeviceFault → now.IsHonest → IsStill start now))

@@ -2,7 +2,7 @@
 use Rattle.std.specs.Prelude.{ℕ, ◌≡◌, ◌⊎◌, List, Option, None, Some, IsFalse}
 use Rattle.std.specs.Io.KnownBytes.{IsAtEnd, Keeps}
 use Rattle.disk_model.specs.Disk.{State}
-use Rattle.mot_export.specs.Opening.{IsOpenable, IsUnopened, OfStanding}
+use Rattle.mot_export.specs.Opening.{IsOpenable, IsUnopened, OfClean}
 use Rattle.mot_journal.specs.Image.{Standing}
 use Rattle.mot_lines.specs.Lines.{whole_lines, lines_of}
 use Rattle.mot_numbers.specs.declared.refusal.Refusal.{Refusal}
@@ -32,7 +32,7 @@ module _ {D : Type 0} (state : D → State) (disk : D) where
     pub on_disk : last.disk ≡ disk
     pub going : IsFalse first.view.halted
     pub openable : IsOpenable start (state first.disk)
-    pub fresh : OfStanding (λ s. IsFresh state s first) start (state first.disk)
+    pub fresh : OfClean (λ s. IsFresh state s first) start (state first.disk)
     pub leads : P first last
 
   -- Each line of the input was answered; where a read failed, each that has its end; where a write

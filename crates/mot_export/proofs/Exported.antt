@@ -13,11 +13,11 @@ use Rattle.mot_objects.specs.Rebuilding.{rebuilding}
 use Rattle.mot_export.specs.Exporting.{Exports, PrintsLines, RebuildsByLines}
 use Rattle.mot_export.specs.Inner.Printing.{IsPrintingFault}
 use Rattle.mot_export.specs.Opening.{OfStanding}
-use Rattle.mot_export.proofs.Opened.{AllAre, held, openable}
+use Rattle.mot_export.proofs.Opened.{openable, read_so}
 use Rattle.mot_repository.proofs.Laws.{rules_kept, standings-are_sound}
 use Rattle.mot_repository.specs.OnDisk.{OnDisk}
 use Rattle.mot_repository.specs.Opening.{IsOpened}
-use Rattle.mot_repository.specs.Repository.{Holds}
+use Rattle.mot_repository.specs.Repository.{HasStanding}
 use Rattle.mot_server.proofs.Laws.{syncs_read}
 use Rattle.mot_server.specs.Attempts.{fault_of}
 use Rattle.mot_session.specs.Output.{Writes}
@@ -42,10 +42,9 @@ pub rebuilds_standing : (start now : State) → (start.IsHonest → IsHonestDisk
     → OfStanding (λ s. (first : Carousel) (limit : ℕ) → IsEmpty first
     → length s.carousel.objects ≤ limit
     → RebuildsByLines first limit (export_text s.carousel) s.carousel) start now
-rebuilds_standing start now sound keeps = λ s honest all.
+rebuilds_standing start now sound keeps = λ s honest stands.
     let first = sound (keeps.was_honest honest) in
-    rebuilds_by_lines start.bytes s (first.images start.bytes first.bytes).are_bytes
-    (all start.bytes first.bytes).stands
+    rebuilds_by_lines start.bytes s (first.images start.bytes first.bytes).are_bytes stands
 
 module _ {D : Type 0} (state : D → State) (disk : D) (repository new : OnDisk D)
     (sound : (d : D) → (state d).IsHonest → IsHonestDisk (state d))
@@ -56,34 +55,34 @@ module _ {D : Type 0} (state : D → State) (disk : D) (repository new : OnDisk 
     (going : IsFalse repository.view.halted)
     (reads : OnlyReads (state repository.disk) (state new.disk))
     (before after : Option (List ℕ)) where
-  -- what the disk stood for is what the repository holds
-  holds : (s : Standing) → (state new.disk).IsHonest → AllAre s (state disk)
-      → Holds repository.view s (state repository.disk)
-  holds = held (state disk) (state repository.disk) (state new.disk) repository.view (sound disk)
+  -- what the disk stood for is what is read of it
+  has : (s : Standing) → (state new.disk).IsHonest → stands_for (state disk).bytes ≡ Ok s
+      → HasStanding repository.view s (state repository.disk)
+  has = read_so (state disk) (state repository.disk) (state new.disk) repository.view (sound disk)
       (sound repository.disk) opens opened going reads.keeps.was_honest
 
-  -- what was printed of what an open repository holds was printed of the disk
+  -- what was printed of an open repository was printed of the disk
   printed : (result : Result Unit Refusal)
-      → ((s : Standing) → Holds repository.view s (state repository.disk)
+      → ((s : Standing) → HasStanding repository.view s (state repository.disk)
       → (state new.disk).IsHonest → Writes result (export_text s.carousel) before after)
       → OnOk result ((state new.disk).failures ≡ (state repository.disk).failures)
       → IfErr result (λ r. IsPrintingFault r (state repository.disk).failures
       (state new.disk).failures)
       → PrintsLines (fault_of result) before after (state disk) (state new.disk)
   printed (Ok done) written calm why =
-      (calm ∙ same, λ s honest all. written s (holds s honest all) honest)
+      (calm ∙ same, λ s honest stands. written s (has s honest stands) honest)
   printed (Err refusal) written calm (inl is) =
       subst (λ r. PrintsLines (Some r) before after (state disk) (state new.disk)) (sym is.0)
-      (is.1 ∙ same, λ s honest all. written s (holds s honest all) honest)
+      (is.1 ∙ same, λ s honest stands. written s (has s honest stands) honest)
   printed (Err refusal) written calm (inr is) =
       subst (λ r. PrintsLines (Some r) before after (state disk) (state new.disk)) (sym is.0) (
         subst (λ n. Rises n (state new.disk).failures) same is.1,
-        λ s honest all. written s (holds s honest all) honest,
+        λ s honest stands. written s (has s honest stands) honest,
       )
 
   -- so the disk is exported, from its opening on
   pub exports : (result : Result Unit Refusal)
-      → ((s : Standing) → Holds repository.view s (state repository.disk)
+      → ((s : Standing) → HasStanding repository.view s (state repository.disk)
       → (state new.disk).IsHonest → Writes result (export_text s.carousel) before after)
       → OnOk result ((state new.disk).failures ≡ (state repository.disk).failures)
       → IfErr result (λ r. IsPrintingFault r (state repository.disk).failures
@@ -94,7 +93,8 @@ module _ {D : Type 0} (state : D → State) (disk : D) (repository new : OnDisk 
       record {
         syncs = syncs;
         came = inr (
-          openable (state disk) (state repository.disk) (state new.disk) repository.view (sound disk)
+          openable (state disk) (state repository.disk) (state new.disk) repository.view
+              (sound disk)
               (sound repository.disk) opens opened going reads.keeps.was_honest,
           printed result written calm why,
         );

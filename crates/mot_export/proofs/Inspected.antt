@@ -7,11 +7,12 @@ use Rattle.std.specs.List.{fold, sum_by}
 use Rattle.std.specs.Io.KnownBytes.{Appends, Keeps}
 use Rattle.disk_model.specs.Disk.{IsHonestDisk, State, OnlyReads, OnlySyncs}
 use Rattle.disk_model.specs.Failures.{Rises}
-use Rattle.mot_journal.specs.Image.{Standing}
+use Rattle.mot_journal.specs.Image.{Standing, stands_for}
 use Rattle.mot_journal.specs.Journal.{with_records}
 use Rattle.mot_numbers.specs.declared.geometry.Geometry.{Geometry}
 use Rattle.mot_numbers.specs.declared.refusal.Refusal.{Refusal}
-use Rattle.mot_numbers.specs.declared.refusal.Refusal.TheVariants.{BadNumber, OutOfMemory, WriteFault}
+use Rattle.mot_numbers.specs.declared.refusal.Refusal.TheVariants.{BadNumber, OutOfMemory}
+use Rattle.mot_numbers.specs.declared.refusal.Refusal.TheVariants.{WriteFault}
 use Rattle.mot_objects.specs.Carousel.{Object}
 use Rattle.mot_objects.specs.Carousel as whole
 use Rattle.mot_objects.specs.declared.object.Object as beside
@@ -23,9 +24,9 @@ use Rattle.mot_export.specs.Inspecting.{bytes_of_all, bytes_of_bodies, inspectio
 use Rattle.mot_export.specs.Inspecting.{sizes_text, turn_lengths_text, turn_text, use_text}
 use Rattle.mot_export.specs.Inner.Inspected.{HasInspected, IsCountingFault, IsInspectingFault}
 use Rattle.mot_export.specs.Opening.{OfStanding, first_place}
-use Rattle.mot_export.proofs.Opened.{AllAre, held, openable}
+use Rattle.mot_export.proofs.Opened.{openable, read_so}
 use Rattle.mot_repository.specs.Opening.{IsOpened}
-use Rattle.mot_repository.specs.Repository.{Agrees, Holds, RepositoryView}
+use Rattle.mot_repository.specs.Repository.{Agrees, HasStanding, RepositoryView}
 use Rattle.mot_server.specs.Playing.{HasPlayedTurn}
 use Rattle.mot_server.specs.Server.{ServerView, place_in}
 use Rattle.mot_server.specs.Attempts.{fault_of}
@@ -119,35 +120,35 @@ module _ {D : Type 0} (state : D → State) (disk : D) (server new : ServerView 
     (at_start : (s : Standing) → Agrees server.view s → place_in server s ≡ first_place s)
     (reads : OnlyReads (state server.disk) (state new.disk))
     (rate : Option ℕ) (before after : Option (List ℕ)) where
-  -- what the disk stood for is what the server holds
-  holds : (s : Standing) → (state new.disk).IsHonest → AllAre s (state disk)
-      → Holds server.view s (state server.disk)
-  holds = held (state disk) (state server.disk) (state new.disk) server.view (sound disk)
+  -- what the disk stood for is what is read of it
+  has : (s : Standing) → (state new.disk).IsHonest → stands_for (state disk).bytes ≡ Ok s
+      → HasStanding server.view s (state server.disk)
+  has = read_so (state disk) (state server.disk) (state new.disk) server.view (sound disk)
       (sound server.disk) opens opened going reads.keeps.was_honest
 
   -- what is told of an open server is told of the disk, from its opening on
   tells_of : (is_printed : List ℕ → Type 0)
-      → ((s : Standing) → Holds server.view s (state server.disk) → (state new.disk).IsHonest
+      → ((s : Standing) → HasStanding server.view s (state server.disk) → (state new.disk).IsHonest
       → HasInspected rate server.view.journal (place_in server s) s is_printed)
       → OfStanding (λ s. TellsOfDisk (rates_of rate) s (state disk).bytes is_printed) (state disk)
       (state new.disk)
-  tells_of is_printed told = λ s honest all.
+  tells_of is_printed told = λ s honest stands.
       let first = opened (reads.keeps.was_honest honest) in
-      let is = holds s honest all in
-      let has = told s is honest in
+      let is = has s honest stands in
+      let so = told s is honest in
       record {
         journal = with_records server.view.journal first.records;
         read = first.read;
-        gap = has.gap;
-        longest = has.longest;
-        packets = has.packets;
-        place = has.last;
-        turn = subst (λ (p : Place). HasPlayedTurn p has.packets has.last)
-            (at_start s is.agrees) has.turn;
+        gap = so.gap;
+        longest = so.longest;
+        packets = so.packets;
+        place = so.last;
+        turn = subst (λ (p : Place). HasPlayedTurn p so.packets so.last)
+            (at_start s is.agrees) so.turn;
         printed = subst (λ n. is_printed
-            (inspection_text s server.view.journal.layout n has.gap has.packets (rates_of rate)))
+            (inspection_text s server.view.journal.layout n so.gap so.packets (rates_of rate)))
             first.count
-            has.printed;
+            so.printed;
       }
 
   -- this ended it
@@ -156,7 +157,7 @@ module _ {D : Type 0} (state : D → State) (disk : D) (server new : ServerView 
 
   -- a refusal did, that is of what was counted, or of memory
   silent : (refusal : Refusal)
-      → ((s : Standing) → Holds server.view s (state server.disk) → (state new.disk).IsHonest
+      → ((s : Standing) → HasStanding server.view s (state server.disk) → (state new.disk).IsHonest
       → refusal ≡ BadNumber → IsUncounted (place_in server s))
       → IsCountingFault refusal (state server.disk).failures (state new.disk).failures
       ⊎ ((refusal ≡ OutOfMemory) × ((state new.disk).failures ≡ (state server.disk).failures))
@@ -164,8 +165,8 @@ module _ {D : Type 0} (state : D → State) (disk : D) (server new : ServerView 
   silent refusal uncounted (inl (inl is)) keeps = subst (λ r. Printed (Some r)) (sym is.0) (
     is.1 ∙ same,
     keeps,
-    λ s honest all.
-        let whole = holds s honest all in
+    λ s honest stands.
+        let whole = has s honest stands in
         subst IsUncounted (at_start s whole.agrees) (uncounted s whole honest is.0),
   )
   silent refusal uncounted (inl (inr is)) keeps = subst (λ r. Printed (Some r)) (sym is.0)
@@ -175,14 +176,14 @@ module _ {D : Type 0} (state : D → State) (disk : D) (server new : ServerView 
 
   -- what was printed of an open server was printed of the disk
   pub printed : (result : Result Unit Refusal)
-      → ((s : Standing) → Holds server.view s (state server.disk) → (state new.disk).IsHonest
+      → ((s : Standing) → HasStanding server.view s (state server.disk) → (state new.disk).IsHonest
       → OnOk result (HasInspected rate server.view.journal (place_in server s) s
       (Appends before after)))
-      → ((s : Standing) → Holds server.view s (state server.disk) → (state new.disk).IsHonest
+      → ((s : Standing) → HasStanding server.view s (state server.disk) → (state new.disk).IsHonest
       → IfErr result (λ r. r ≡ WriteFault
       → HasInspected rate server.view.journal (place_in server s) s
       (λ text. WritesFront text before after)))
-      → ((s : Standing) → Holds server.view s (state server.disk) → (state new.disk).IsHonest
+      → ((s : Standing) → HasStanding server.view s (state server.disk) → (state new.disk).IsHonest
       → IfErr result (λ r. r ≡ BadNumber → IsUncounted (place_in server s)))
       → OnOk result ((state new.disk).failures ≡ (state server.disk).failures)
       → IfErr result (λ r. IsInspectingFault r (state server.disk).failures

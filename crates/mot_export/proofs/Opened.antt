@@ -1,15 +1,15 @@
 -- What is known of a disk that was just opened.
-use Rattle.std.proofs.Common.{ℕ, List, refl, subst, sym}
+use Rattle.std.proofs.Common.{◌≡◌, ℕ, List, Ok, refl, subst, sym}
 use Rattle.std.specs.Prelude.{IsFalse, IsOk}
 use Rattle.disk_model.specs.Disk.{IsHonestDisk, IsStill, OnlySyncs, State, Throughout}
 use Rattle.disk_model.proofs.Laws.{begins, stays}
-use Rattle.mot_journal.specs.Image.{Standing}
+use Rattle.mot_journal.specs.Image.{Standing, stands_for}
 use Rattle.mot_numbers.specs.Refusal.{IsCalm}
 use Rattle.mot_numbers.specs.declared.refusal.Refusal.{Refusal}
 use Rattle.mot_export.specs.Opening.{IsOpenable, IsUnopened}
 use Rattle.mot_repository.specs.Opening.{IsOpened, IsOpeningRefusal}
-use Rattle.mot_repository.specs.Repository.{RepositoryView, IsOf, Holds}
-use Rattle.mot_server.proofs.Laws.{opened_holds}
+use Rattle.mot_repository.specs.Repository.{RepositoryView, HasStanding, IsOf, Holds}
+use Rattle.mot_server.proofs.Laws.{opened_holds, opened_standing}
 
 -- each image that a crash may leave stands for this
 abbrev pub AllAre : Standing → State → Type 0
@@ -37,6 +37,12 @@ module _ (start old now : State) (view : RepositoryView)
       let then = was honest in
       all_hold start old view s (sound (opens.keeps.was_honest then)) all (opened then) then
       (sound_then then) (opens.still then) going
+
+  -- what its bytes stood for, clean or not, is read of it
+  pub read_so : (s : Standing) → now.IsHonest → stands_for start.bytes ≡ Ok s
+      → HasStanding view s old
+  read_so s honest stands =
+      opened_standing start old view s stands (opened (was honest)) (opens.still (was honest))
 
 -- no image came while it was opened
 pub opened_throughout : (start old : State) (P : List ℕ → Type 0) → IsHonestDisk start

@@ -21,7 +21,7 @@ RebuildsByLines first limit text c =
 -- In these the disk was in a state start and is in a state now, the writer's known bytes were old
 -- and are new, and this refusal ended the printing, or none did.
 
--- Where the disk stood for something, clean, all of its lines were printed; or else some first
+-- Where the disk stood for something, all of its lines were printed; or else some first
 -- bytes of them, since the writer or the disk failed. A fault of the disk is told where it has
 -- failed, and nowhere else.
 abbrev pub PrintsLines : Option Refusal → (old new : Option (List ℕ)) → (start now : State) → Type 0
@@ -34,8 +34,7 @@ PrintsLines (Some DeviceFault) old new start now = Rises start.failures now.fail
 PrintsLines (Some refusal) old new start now = ⊥
 
 -- The disk was only synced. It was not opened, and nothing was printed; or it was, and its lines
--- were. These rebuild what it stood for, clean, of every empty carousel with room for as many
--- objects.
+-- were. These rebuild what it stood for of every empty carousel with room for as many objects.
 pub record Exports (ending : Option Refusal) (old new : Option (List ℕ)) (start now : State) :
     Type 0 where
   pub syncs : OnlySyncs start now

@@ -1,5 +1,5 @@
 -- A command on the server of a disk that it opens.
-use Rattle.std.specs.Prelude.{ℕ, List, IsOk}
+use Rattle.std.specs.Prelude.{ℕ, List, ◌≡◌, Ok, IsOk}
 use Rattle.disk_model.specs.Disk.{State, IsStill}
 use Rattle.mot_journal.specs.Image.{Standing, stands_for}
 use Rattle.mot_numbers.specs.Geometry.{packet_room}
@@ -12,9 +12,15 @@ use Rattle.mot_repository.specs.Repository.{IsOf}
 
 -- In these the disk was in a state start and is in a state now.
 
--- where the disk stood for something, clean, and is honest to the end, there is P of that
+-- where the disk's bytes stood for something, clean or not, and it is honest to the end, there is P
+-- of that
 abbrev pub OfStanding : (Standing → Type 0) → State → State → Type 0
 OfStanding P start now =
+    (s : Standing) → now.IsHonest → stands_for start.bytes ≡ Ok s → P s
+
+-- the same where it stood for that clean: so does each image that a crash might have left of it
+abbrev pub OfClean : (Standing → Type 0) → State → State → Type 0
+OfClean P start now =
     (s : Standing) → now.IsHonest → ((image : List ℕ) → start.MayLeave image → IsOf s image) → P s
 
 -- the disk's bytes stand for something, if it is honest to the end

@@ -9,7 +9,7 @@ ghost use Rattle.mot_numbers.specs.declared.refusal.Refusal.TheVariants.{WriteFa
 ghost use Rattle.mot_objects.specs.Carousel as whole;
 ghost use Rattle.mot_export.specs.Exporting.{Exports};
 ghost use Rattle.mot_export.specs.Inner.Printing.{IsPrintingFault};
-ghost use Rattle.mot_repository.specs.Repository.{Holds, object_body};
+ghost use Rattle.mot_repository.specs.Repository.{HasStanding, object_body};
 ghost use Rattle.mot_server.specs.Attempts.{fault_of};
 ghost use Rattle.mot_session.specs.Output.{Writes};
 
@@ -51,7 +51,8 @@ fn write_export<D: Disk, W: Write>(
     writer: &mut W,
 ) -> Result<(), Refusal>
     ensures only_reads { OnlyReads (D.state repository.old.disk) (D.state repository.new.disk) }
-    ensures written { (s : Standing) → Holds repository.old.view s (D.state repository.old.disk)
+    ensures written { (s : Standing) → HasStanding repository.old.view s
+        (D.state repository.old.disk)
         → (D.state repository.new.disk).IsHonest
         → Writes result (export_text s.carousel) (W.contents writer.old) (W.contents writer.new) }
     ensures calm { OnOk result ((D.state repository.new.disk).failures
@@ -79,7 +80,7 @@ fn write_object<D: Disk, W: Write>(
     ensures only_reads { OnlyReads (D.state repository.old.disk) (D.state repository.new.disk) }
     ensures view { repository.new.view ≡ repository.old.view }
     ensures written { (s : Standing) (o : whole.Object)
-        → Holds repository.old.view s (D.state repository.old.disk)
+        → HasStanding repository.old.view s (D.state repository.old.disk)
         → (D.state repository.new.disk).IsHonest
         → slice_get s.carousel.objects place ≡ Some o
         → Writes result (put_line o) (W.contents writer.old) (W.contents writer.new) }
@@ -105,7 +106,8 @@ fn write_body<D: Disk, W: Write>(
     requires place { place < vec_len repository.old.view.carousel.objects }
     ensures only_reads { OnlyReads (D.state repository.old.disk) (D.state repository.new.disk) }
     ensures view { repository.new.view ≡ repository.old.view }
-    ensures written { (s : Standing) → Holds repository.old.view s (D.state repository.old.disk)
+    ensures written { (s : Standing) → HasStanding repository.old.view s
+        (D.state repository.old.disk)
         → (D.state repository.new.disk).IsHonest
         → Writes result (encode_lower (object_body s.carousel.objects place))
         (W.contents writer.old) (W.contents writer.new) }

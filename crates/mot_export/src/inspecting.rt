@@ -16,7 +16,7 @@ ghost use Rattle.mot_export.specs.Inspecting.{turn_lengths_text, use_text};
 ghost use Rattle.mot_export.specs.Inner.Inspected.{HasInspected, IsCountingFault};
 ghost use Rattle.mot_export.specs.Inner.Inspected.{IsInspectingFault, IsTurnSize};
 ghost use Rattle.mot_repository.specs.Gap.{IsLongestGap};
-ghost use Rattle.mot_repository.specs.Repository.{Holds};
+ghost use Rattle.mot_repository.specs.Repository.{HasStanding};
 ghost use Rattle.mot_server.specs.Attempts.{fault_of};
 ghost use Rattle.mot_server.specs.Server.{place_in};
 ghost use Rattle.mot_session.specs.Served.{WritesFront};
@@ -78,15 +78,15 @@ fn write_inspection<D: Disk, W: Write>(
 ) -> Result<(), Refusal>
     requires { IsFalse server.old.view.halted }
     ensures only_reads { OnlyReads (D.state server.old.disk) (D.state server.new.disk) }
-    ensures told { (s : Standing) → Holds server.old.view s (D.state server.old.disk)
+    ensures told { (s : Standing) → HasStanding server.old.view s (D.state server.old.disk)
         → (D.state server.new.disk).IsHonest → OnOk result
         (HasInspected rate server.old.view.journal (place_in server.old s) s
         (Appends (W.contents writer.old) (W.contents writer.new))) }
-    ensures broken { (s : Standing) → Holds server.old.view s (D.state server.old.disk)
+    ensures broken { (s : Standing) → HasStanding server.old.view s (D.state server.old.disk)
         → (D.state server.new.disk).IsHonest → IfErr result (λ r. r ≡ WriteFault
         → HasInspected rate server.old.view.journal (place_in server.old s) s
         (λ text. WritesFront text (W.contents writer.old) (W.contents writer.new))) }
-    ensures uncounted { (s : Standing) → Holds server.old.view s (D.state server.old.disk)
+    ensures uncounted { (s : Standing) → HasStanding server.old.view s (D.state server.old.disk)
         → (D.state server.new.disk).IsHonest → IfErr result (λ r. r ≡ BadNumber
         → IsUncounted (place_in server.old s)) }
     ensures calm { OnOk result ((D.state server.new.disk).failures
@@ -153,10 +153,10 @@ fn count_turn<D: Disk>(server: &mut Server<D>) -> Result<TurnSize, Refusal>
     requires { IsFalse server.old.view.halted }
     ensures only_reads { OnlyReads (D.state server.old.disk) (D.state server.new.disk) }
     ensures view { server.new.view ≡ server.old.view }
-    ensures counted { (s : Standing) → Holds server.old.view s (D.state server.old.disk)
+    ensures counted { (s : Standing) → HasStanding server.old.view s (D.state server.old.disk)
         → (D.state server.new.disk).IsHonest → IfOk result
         (λ size. IsTurnSize (place_in server.old s) size.packets size.bytes) }
-    ensures uncounted { (s : Standing) → Holds server.old.view s (D.state server.old.disk)
+    ensures uncounted { (s : Standing) → HasStanding server.old.view s (D.state server.old.disk)
         → (D.state server.new.disk).IsHonest → IfErr result (λ r. r ≡ BadNumber
         → IsUncounted (place_in server.old s)) }
     ensures calm { OnOk result ((D.state server.new.disk).failures

@@ -25,10 +25,10 @@ use Rattle.mot_journal.specs.Image.{records_in, area_of, are_gates_clean}
 use Rattle.mot_journal.specs.Inner.Reading.{number_at}
 use Rattle.mot_journal.specs.Inner.Steps.{slot_from, IsReadable, HasSlots}
 use Rattle.mot_journal.specs.Journal.{JournalView, in_other_half}
-use Rattle.mot_journal.proofs.Laws.{part, geometry_stays, half_selected_stays}
+use Rattle.mot_journal.proofs.Laws.{drop_behind, part, geometry_stays, half_selected_stays}
 use Rattle.mot_journal.proofs.OpenSlots.{AreShut, clean_of}
 use Rattle.mot_journal.proofs.Heads.{geometry_if, geometry_by_places, of as geometry_at}
-use Rattle.mot_journal.proofs.NextSlot.{drop_behind, part_of_half, byte_of_half, half_ends}
+use Rattle.mot_journal.proofs.NextSlot.{part_of_half, byte_of_half, half_ends}
 use Rattle.mot_journal.proofs.NextSlot.{half_begins, slot_fits, second_byte}
 use Rattle.mot_journal.proofs.Parts.{half_at, HasParts}
 use Rattle.mot_journal.proofs.Records.{written_open}
@@ -150,8 +150,7 @@ module _ (j : JournalView) (two_halves : j.half ≤ 1) where
           gates = ap (λ b. are_gates_clean (slots g j.layout b)) same ∙ parts.gates;
           fold = parts.fold;
         },
-        ap (λ l. take g.data_area l)
-            (drop_behind other_start (half_size g) d c agree (area_start g) ends),
+        drop_behind other_start (half_size g) d c agree (area_start g) ends,
       )
 
 all_read : (g : Geometry) (layout : Layout) (given : List Record) (k : ℕ)
@@ -245,7 +244,8 @@ module _ (g : Geometry) (half : ℕ) (layout : Layout) (given : List Record)
       × (are_gates_clean (slots g layout (half_at g half b)) ≡ true)
   filled_half = clean_of (slots g layout (half_at g half b)) (written given) behind filled
       (written_open layout given)
-      (all_zeros_shut (slot_count layout g - length given) size (omega (arith, slot_longer_than_gate layout)))
+      (all_zeros_shut (slot_count layout g - length given) size (omega
+      (arith, slot_longer_than_gate layout)))
 
   -- a filled half reads as the records it was filled with
   pub filled_reads : records_in (read_slot g layout) 0
@@ -295,9 +295,7 @@ module _ (j : JournalView) (two_halves : j.half ≤ 1) (records given : List Rec
   -- a change of the selector leaves the data area
   pub area_beside_selector : area_of j.geometry c ≡ area_of j.geometry b
   area_beside_selector =
-      ap (λ l. take j.geometry.data_area l)
-      (drop_behind 8 1 b c agree (area_start j.geometry)
-      (omega (arith, half_begins j.geometry 2)))
+      drop_behind 8 1 b c agree (area_start j.geometry) (omega (arith, half_begins j.geometry 2))
 
   geometry_now : geometry_of c ≡ Some j.geometry
   geometry_now = geometry_beside_selector b c agree ∙ parts.geometry

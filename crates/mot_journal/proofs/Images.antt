@@ -1,4 +1,4 @@
--- Images of disks, and what a model in another language says that they stand for; tools/images
+-- Images of disks, and what a model in another language says that they stand for; tools/images.py
 -- writes this file.
 use Rattle.std.proofs.Common.{◌≡◌, ℕ, List, [], ◌∷◌, ◌++◌, Option, Some, None, Ok, Err, Bool}
 use Rattle.std.proofs.Common.{true, false, replicate, refl}
@@ -21,8 +21,9 @@ object name type subtype mime version tid body = record {
   body = body;
 }
 
-abbrev standing : ℕ → ℕ → ℕ → ℕ → ℕ → ℕ → ℕ → ℕ → List Object → List (ℕ × ℕ) → Standing
-standing objects segment address packet area period directory cursor list extents = record {
+abbrev standing : ℕ → ℕ → ℕ → ℕ → ℕ → ℕ → ℕ → ℕ → List Object → List (ℕ × ℕ)
+    → List ℕ → Standing
+standing objects segment address packet area period directory cursor list extents rest = record {
   geometry = record {
     objects = objects;
     data_area = area;
@@ -32,6 +33,7 @@ standing objects segment address packet area period directory cursor list extent
   };
   carousel = record { period = period; directory = directory; cursor = cursor; objects = list };
   extents = extents;
+  rest = rest;
 }
 
 abbrev gates_of : List ℕ → Bool
@@ -62,7 +64,7 @@ new_disk =
     0x11 ∷ 0x00 ∷ 0x00 ∷ 0x00 ∷ 0x00 ∷ 0x01 ∷ 0x00 ∷ 0x01 ∷ []) ++ replicate 3071 0
 
 new_disk-stands : stands_for new_disk ≡
-    Ok (standing 1 64 1 24 8 0 1 1 ([]) ([]))
+    Ok (standing 1 64 1 24 8 0 1 1 ([]) ([]) ([]))
 unfolding stands_for records_of geometry_of read_slot fold_from is_utf8 chars encode
 new_disk-stands = refl
 
@@ -76,7 +78,7 @@ new_disk_of_layout_one =
     0x40 ∷ 0x00 ∷ 0x01 ∷ 0x00 ∷ 0x18 ∷ 0x00 ∷ 0x00 ∷ 0x00 ∷ 0x08 ∷ []) ++ replicate 3116 0
 
 new_disk_of_layout_one-stands : stands_for new_disk_of_layout_one ≡
-    Ok (standing 1 64 1 24 8 0 1 1 ([]) ([]))
+    Ok (standing 1 64 1 24 8 0 1 1 ([]) ([]) ([]))
 unfolding stands_for records_of geometry_of read_slot fold_from is_utf8 chars encode
 new_disk_of_layout_one-stands = refl
 
@@ -103,7 +105,7 @@ a_longer_one =
     ∷ [])
 
 a_longer_one-stands : stands_for a_longer_one ≡
-    Ok (standing 1 64 1 24 8 0 1 1 ([]) ([]))
+    Ok (standing 1 64 1 24 8 0 1 1 ([]) ([]) (0x07 ∷ 0x07 ∷ []))
 unfolding stands_for records_of geometry_of read_slot fold_from is_utf8 chars encode
 a_longer_one-stands = refl
 
@@ -123,7 +125,7 @@ one_object =
 one_object-stands : stands_for one_object ≡
     Ok (standing 2 64 1 24 16 0 3 3 (object (0x61 ∷ []) 2 3 (Some (0x69 ∷ 0x6D ∷ 0x61 ∷ 0x67 ∷ 0x65
     ∷ 0x2F ∷ 0x70 ∷ 0x6E ∷ 0x67 ∷ [])) 0 2 (0x01 ∷ 0x02 ∷ 0x03 ∷ 0x04 ∷ 0x05 ∷ []) ∷ []) ((0, 5) ∷
-    []))
+    []) ([]))
 unfolding stands_for records_of geometry_of read_slot fold_from is_utf8 chars encode
 one_object-stands = refl
 
@@ -144,7 +146,7 @@ one_object_in_layout_two =
 one_object_in_layout_two-stands : stands_for one_object_in_layout_two ≡
     Ok (standing 2 64 1 24 16 0 3 3 (object (0x61 ∷ []) 2 3 (Some (0x69 ∷ 0x6D ∷ 0x61 ∷ 0x67 ∷ 0x65
     ∷ 0x2F ∷ 0x70 ∷ 0x6E ∷ 0x67 ∷ [])) 0 2 (0x01 ∷ 0x02 ∷ 0x03 ∷ 0x04 ∷ 0x05 ∷ []) ∷ []) ((0, 5) ∷
-    []))
+    []) ([]))
 unfolding stands_for records_of geometry_of read_slot fold_from is_utf8 chars encode
 one_object_in_layout_two-stands = refl
 
@@ -166,7 +168,7 @@ second_gate_5A =
 second_gate_5A-stands : stands_for second_gate_5A ≡
     Ok (standing 2 64 1 24 16 0 3 3 (object (0x61 ∷ []) 2 3 (Some (0x69 ∷ 0x6D ∷ 0x61 ∷ 0x67 ∷ 0x65
     ∷ 0x2F ∷ 0x70 ∷ 0x6E ∷ 0x67 ∷ [])) 0 2 (0x01 ∷ 0x02 ∷ 0x03 ∷ 0x04 ∷ 0x05 ∷ []) ∷ []) ((0, 5) ∷
-    []))
+    []) ([]))
 unfolding stands_for records_of geometry_of read_slot fold_from is_utf8 chars encode
 second_gate_5A-stands = refl
 
@@ -188,7 +190,7 @@ second_gate_00 =
 second_gate_00-stands : stands_for second_gate_00 ≡
     Ok (standing 2 64 1 24 16 0 3 3 (object (0x61 ∷ []) 2 3 (Some (0x69 ∷ 0x6D ∷ 0x61 ∷ 0x67 ∷ 0x65
     ∷ 0x2F ∷ 0x70 ∷ 0x6E ∷ 0x67 ∷ [])) 0 2 (0x01 ∷ 0x02 ∷ 0x03 ∷ 0x04 ∷ 0x05 ∷ []) ∷ []) ((0, 5) ∷
-    []))
+    []) ([]))
 unfolding stands_for records_of geometry_of read_slot fold_from is_utf8 chars encode
 second_gate_00-stands = refl
 
@@ -210,7 +212,7 @@ second_gate_A5 =
 second_gate_A5-stands : stands_for second_gate_A5 ≡
     Ok (standing 2 64 1 24 16 0 5 5 (object (0x61 ∷ []) 2 3 (Some (0x69 ∷ 0x6D ∷ 0x61 ∷ 0x67 ∷ 0x65
     ∷ 0x2F ∷ 0x70 ∷ 0x6E ∷ 0x67 ∷ [])) 0 2 (0x01 ∷ 0x02 ∷ 0x03 ∷ 0x04 ∷ 0x05 ∷ []) ∷ object (0x62 ∷
-    []) 2 3 None 0 4 (0x06 ∷ 0x07 ∷ 0x08 ∷ []) ∷ []) ((0, 5) ∷ (5, 3) ∷ []))
+    []) 2 3 None 0 4 (0x06 ∷ 0x07 ∷ 0x08 ∷ []) ∷ []) ((0, 5) ∷ (5, 3) ∷ []) ([]))
 unfolding stands_for records_of geometry_of read_slot fold_from is_utf8 chars encode
 second_gate_A5-stands = refl
 
@@ -233,7 +235,7 @@ third_gate_of_layout_two_5A =
 third_gate_of_layout_two_5A-stands : stands_for third_gate_of_layout_two_5A ≡
     Ok (standing 2 64 1 24 16 0 3 3 (object (0x61 ∷ []) 2 3 (Some (0x69 ∷ 0x6D ∷ 0x61 ∷ 0x67 ∷ 0x65
     ∷ 0x2F ∷ 0x70 ∷ 0x6E ∷ 0x67 ∷ [])) 0 2 (0x01 ∷ 0x02 ∷ 0x03 ∷ 0x04 ∷ 0x05 ∷ []) ∷ []) ((0, 5) ∷
-    []))
+    []) ([]))
 unfolding stands_for records_of geometry_of read_slot fold_from is_utf8 chars encode
 third_gate_of_layout_two_5A-stands = refl
 
@@ -256,7 +258,7 @@ third_gate_of_layout_two_00 =
 third_gate_of_layout_two_00-stands : stands_for third_gate_of_layout_two_00 ≡
     Ok (standing 2 64 1 24 16 0 3 3 (object (0x61 ∷ []) 2 3 (Some (0x69 ∷ 0x6D ∷ 0x61 ∷ 0x67 ∷ 0x65
     ∷ 0x2F ∷ 0x70 ∷ 0x6E ∷ 0x67 ∷ [])) 0 2 (0x01 ∷ 0x02 ∷ 0x03 ∷ 0x04 ∷ 0x05 ∷ []) ∷ []) ((0, 5) ∷
-    []))
+    []) ([]))
 unfolding stands_for records_of geometry_of read_slot fold_from is_utf8 chars encode
 third_gate_of_layout_two_00-stands = refl
 
@@ -279,7 +281,7 @@ third_gate_of_layout_two_A5 =
 third_gate_of_layout_two_A5-stands : stands_for third_gate_of_layout_two_A5 ≡
     Ok (standing 2 64 1 24 16 0 5 5 (object (0x61 ∷ []) 2 3 (Some (0x69 ∷ 0x6D ∷ 0x61 ∷ 0x67 ∷ 0x65
     ∷ 0x2F ∷ 0x70 ∷ 0x6E ∷ 0x67 ∷ [])) 0 2 (0x01 ∷ 0x02 ∷ 0x03 ∷ 0x04 ∷ 0x05 ∷ []) ∷ object (0x62 ∷
-    []) 2 3 None 0 4 (0x06 ∷ 0x07 ∷ 0x08 ∷ []) ∷ []) ((0, 5) ∷ (5, 3) ∷ []))
+    []) 2 3 None 0 4 (0x06 ∷ 0x07 ∷ 0x08 ∷ []) ∷ []) ((0, 5) ∷ (5, 3) ∷ []) ([]))
 unfolding stands_for records_of geometry_of read_slot fold_from is_utf8 chars encode
 third_gate_of_layout_two_A5-stands = refl
 
@@ -303,7 +305,8 @@ selector_00 =
     replicate 1271 0 ++ (0x01 ∷ 0x02 ∷ 0x03 ∷ 0x04 ∷ 0x05 ∷ 0x06 ∷ 0x07 ∷ 0x08 ∷ [])
 
 selector_00-stands : stands_for selector_00 ≡
-    Ok (standing 1 64 1 24 8 5 8 8 (object (0x61 ∷ []) 2 3 None 0 2 (0x01 ∷ []) ∷ []) ((0, 1) ∷ []))
+    Ok (standing 1 64 1 24 8 5 8 8 (object (0x61 ∷ []) 2 3 None 0 2 (0x01 ∷ []) ∷ []) ((0, 1) ∷ [])
+    ([]))
 unfolding stands_for records_of geometry_of read_slot fold_from is_utf8 chars encode
 selector_00-stands = refl
 
@@ -327,7 +330,8 @@ selector_77 =
     []) ++ replicate 1271 0 ++ (0x01 ∷ 0x02 ∷ 0x03 ∷ 0x04 ∷ 0x05 ∷ 0x06 ∷ 0x07 ∷ 0x08 ∷ [])
 
 selector_77-stands : stands_for selector_77 ≡
-    Ok (standing 1 64 1 24 8 5 8 8 (object (0x61 ∷ []) 2 3 None 0 2 (0x01 ∷ []) ∷ []) ((0, 1) ∷ []))
+    Ok (standing 1 64 1 24 8 5 8 8 (object (0x61 ∷ []) 2 3 None 0 2 (0x01 ∷ []) ∷ []) ((0, 1) ∷ [])
+    ([]))
 unfolding stands_for records_of geometry_of read_slot fold_from is_utf8 chars encode
 selector_77-stands = refl
 
@@ -351,7 +355,8 @@ selector_FF =
     []) ++ replicate 1271 0 ++ (0x01 ∷ 0x02 ∷ 0x03 ∷ 0x04 ∷ 0x05 ∷ 0x06 ∷ 0x07 ∷ 0x08 ∷ [])
 
 selector_FF-stands : stands_for selector_FF ≡
-    Ok (standing 1 64 1 24 8 5 8 8 (object (0x61 ∷ []) 2 3 None 0 2 (0x01 ∷ []) ∷ []) ((0, 1) ∷ []))
+    Ok (standing 1 64 1 24 8 5 8 8 (object (0x61 ∷ []) 2 3 None 0 2 (0x01 ∷ []) ∷ []) ((0, 1) ∷ [])
+    ([]))
 unfolding stands_for records_of geometry_of read_slot fold_from is_utf8 chars encode
 selector_FF-stands = refl
 
@@ -375,7 +380,8 @@ selector_01 =
     []) ++ replicate 1271 0 ++ (0x01 ∷ 0x02 ∷ 0x03 ∷ 0x04 ∷ 0x05 ∷ 0x06 ∷ 0x07 ∷ 0x08 ∷ [])
 
 selector_01-stands : stands_for selector_01 ≡
-    Ok (standing 1 64 1 24 8 6 9 9 (object (0x61 ∷ []) 2 3 None 0 2 (0x01 ∷ []) ∷ []) ((0, 1) ∷ []))
+    Ok (standing 1 64 1 24 8 6 9 9 (object (0x61 ∷ []) 2 3 None 0 2 (0x01 ∷ []) ∷ []) ((0, 1) ∷ [])
+    ([]))
 unfolding stands_for records_of geometry_of read_slot fold_from is_utf8 chars encode
 selector_01-stands = refl
 
@@ -399,7 +405,7 @@ replaced_in_place =
 replaced_in_place-stands : stands_for replaced_in_place ≡
     Ok (standing 2 64 1 24 16 0 7 7 (object (0x61 ∷ []) 2 3 None 1 6 (0x09 ∷ 0x0A ∷ 0x0B ∷ 0x0C ∷
     0x0D ∷ 0x0E ∷ 0x0F ∷ 0x10 ∷ []) ∷ object (0x62 ∷ []) 2 3 None 0 4 (0x06 ∷ 0x07 ∷ 0x08 ∷ []) ∷
-    []) ((8, 8) ∷ (5, 3) ∷ []))
+    []) ((8, 8) ∷ (5, 3) ∷ []) ([]))
 unfolding stands_for records_of geometry_of read_slot fold_from is_utf8 chars encode
 replaced_in_place-stands = refl
 
@@ -421,7 +427,7 @@ objects_without =
 
 objects_without-stands : stands_for objects_without ≡
     Ok (standing 2 64 1 24 16 0 6 6 (object (0x62 ∷ []) 2 3 None 0 4 (0x06 ∷ 0x07 ∷ 0x08 ∷ []) ∷ [])
-    ((5, 3) ∷ []))
+    ((5, 3) ∷ []) ([]))
 unfolding stands_for records_of geometry_of read_slot fold_from is_utf8 chars encode
 objects_without-stands = refl
 
@@ -445,7 +451,8 @@ removed_and_appended =
 
 removed_and_appended-stands : stands_for removed_and_appended ≡
     Ok (standing 2 64 1 24 16 0 8 8 (object (0x62 ∷ []) 2 3 None 0 4 (0x06 ∷ 0x07 ∷ 0x08 ∷ []) ∷
-    object (0x61 ∷ []) 2 3 None 0 7 (0x01 ∷ 0x02 ∷ 0x03 ∷ 0x04 ∷ []) ∷ []) ((5, 3) ∷ (0, 4) ∷ []))
+    object (0x61 ∷ []) 2 3 None 0 7 (0x01 ∷ 0x02 ∷ 0x03 ∷ 0x04 ∷ []) ∷ []) ((5, 3) ∷ (0, 4) ∷ [])
+    ([]))
 unfolding stands_for records_of geometry_of read_slot fold_from is_utf8 chars encode
 removed_and_appended-stands = refl
 
@@ -543,7 +550,7 @@ extents_touch =
 extents_touch-stands : stands_for extents_touch ≡
     Ok (standing 2 64 1 24 16 0 5 5 (object (0x61 ∷ []) 2 3 None 0 2 (0x01 ∷ 0x02 ∷ 0x03 ∷ 0x04 ∷
     0x05 ∷ 0x06 ∷ 0x07 ∷ 0x08 ∷ 0x09 ∷ 0x0A ∷ []) ∷ object (0x62 ∷ []) 2 3 None 0 4 (0x0B ∷ []) ∷
-    []) ((0, 10) ∷ (10, 1) ∷ []))
+    []) ((0, 10) ∷ (10, 1) ∷ []) ([]))
 unfolding stands_for records_of geometry_of read_slot fold_from is_utf8 chars encode
 extents_touch-stands = refl
 
@@ -575,7 +582,7 @@ gate_A4 =
     ∷ 0x08 ∷ 0x09 ∷ 0x0A ∷ 0x0B ∷ 0x0C ∷ 0x0D ∷ 0x0E ∷ 0x0F ∷ 0x10 ∷ [])
 
 gate_A4-stands : stands_for gate_A4 ≡
-    Ok (standing 2 64 1 24 16 0 1 1 ([]) ([]))
+    Ok (standing 2 64 1 24 16 0 1 1 ([]) ([]) ([]))
 unfolding stands_for records_of geometry_of read_slot fold_from is_utf8 chars encode
 gate_A4-stands = refl
 
@@ -595,7 +602,7 @@ gate_behind_a_closed_one =
     ∷ 0x07 ∷ 0x08 ∷ 0x09 ∷ 0x0A ∷ 0x0B ∷ 0x0C ∷ 0x0D ∷ 0x0E ∷ 0x0F ∷ 0x10 ∷ [])
 
 gate_behind_a_closed_one-stands : stands_for gate_behind_a_closed_one ≡
-    Ok (standing 2 64 1 24 16 0 1 1 ([]) ([]))
+    Ok (standing 2 64 1 24 16 0 1 1 ([]) ([]) ([]))
 unfolding stands_for records_of geometry_of read_slot fold_from is_utf8 chars encode
 gate_behind_a_closed_one-stands = refl
 
@@ -697,7 +704,7 @@ long_name_in_layout_two =
 
 long_name_in_layout_two-stands : stands_for long_name_in_layout_two ≡
     Ok (standing 2 64 1 24 16 0 3 3 (object (replicate 255 0x6E) 2 3 None 0 2 (0x01 ∷ []) ∷ [])
-    ((0, 1) ∷ []))
+    ((0, 1) ∷ []) ([]))
 unfolding stands_for records_of geometry_of read_slot fold_from is_utf8 chars encode
 long_name_in_layout_two-stands = refl
 
@@ -826,7 +833,7 @@ tid_zero_of_nothing =
     0x10 ∷ [])
 
 tid_zero_of_nothing-stands : stands_for tid_zero_of_nothing ≡
-    Ok (standing 2 64 1 24 16 0 2 2 ([]) ([]))
+    Ok (standing 2 64 1 24 16 0 2 2 ([]) ([]) ([]))
 unfolding stands_for records_of geometry_of read_slot fold_from is_utf8 chars encode
 tid_zero_of_nothing-stands = refl
 
@@ -924,7 +931,7 @@ random_0 =
 
 random_0-stands : stands_for random_0 ≡
     Ok (standing 2 64 1 24 16 0 7 7 (object (0x62 ∷ []) 2 3 None 0 6 (0x0D ∷ 0x0E ∷ 0x0F ∷ 0x10 ∷
-    []) ∷ []) ((12, 4) ∷ []))
+    []) ∷ []) ((12, 4) ∷ []) ([]))
 unfolding stands_for records_of geometry_of read_slot fold_from is_utf8 chars encode
 random_0-stands = refl
 
@@ -941,7 +948,7 @@ random_1 =
     0x0F ∷ 0x10 ∷ [])
 
 random_1-stands : stands_for random_1 ≡
-    Ok (standing 2 64 1 24 16 0 1 1 ([]) ([]))
+    Ok (standing 2 64 1 24 16 0 1 1 ([]) ([]) ([]))
 unfolding stands_for records_of geometry_of read_slot fold_from is_utf8 chars encode
 random_1-stands = refl
 
@@ -962,7 +969,8 @@ random_2 =
 
 random_2-stands : stands_for random_2 ≡
     Ok (standing 2 64 1 24 16 0 5 5 (object (0xC3 ∷ 0xA9 ∷ []) 2 3 None 0 2 (0x05 ∷ 0x06 ∷ 0x07 ∷
-    []) ∷ object (0x62 ∷ []) 2 165 None 0 4 (0x09 ∷ 0x0A ∷ 0x0B ∷ []) ∷ []) ((4, 3) ∷ (8, 3) ∷ []))
+    []) ∷ object (0x62 ∷ []) 2 165 None 0 4 (0x09 ∷ 0x0A ∷ 0x0B ∷ []) ∷ []) ((4, 3) ∷ (8, 3) ∷ [])
+    ([]))
 unfolding stands_for records_of geometry_of read_slot fold_from is_utf8 chars encode
 random_2-stands = refl
 
@@ -996,7 +1004,7 @@ random_4 =
     0x0D ∷ 0x0E ∷ 0x0F ∷ 0x10 ∷ [])
 
 random_4-stands : stands_for random_4 ≡
-    Ok (standing 2 64 1 24 16 0 9 9 ([]) ([]))
+    Ok (standing 2 64 1 24 16 0 9 9 ([]) ([]) ([]))
 unfolding stands_for records_of geometry_of read_slot fold_from is_utf8 chars encode
 random_4-stands = refl
 
@@ -1060,7 +1068,7 @@ random_7 =
 random_7-stands : stands_for random_7 ≡
     Ok (standing 2 64 1 24 16 0 7 7 (object (0x61 ∷ []) 2 3 None 0 4 (0x05 ∷ 0x06 ∷ 0x07 ∷ 0x08 ∷
     []) ∷ object (0x62 ∷ []) 2 3 None 0 6 (0x09 ∷ 0x0A ∷ 0x0B ∷ 0x0C ∷ []) ∷ []) ((4, 4) ∷ (8, 4) ∷
-    []))
+    []) ([]))
 unfolding stands_for records_of geometry_of read_slot fold_from is_utf8 chars encode
 random_7-stands = refl
 
@@ -1093,7 +1101,7 @@ random_9 =
 
 random_9-stands : stands_for random_9 ≡
     Ok (standing 2 64 1 24 16 0 3 3 (object (0x62 ∷ []) 2 3 None 0 2 (0x0D ∷ 0x0E ∷ []) ∷ [])
-    ((12, 2) ∷ []))
+    ((12, 2) ∷ []) ([]))
 unfolding stands_for records_of geometry_of read_slot fold_from is_utf8 chars encode
 random_9-stands = refl
 
@@ -1158,7 +1166,7 @@ random_12 =
 
 random_12-stands : stands_for random_12 ≡
     Ok (standing 2 64 1 24 16 86 13 13 (object (0x61 ∷ []) 2 3 None 0 6 (0x01 ∷ []) ∷ object (0xC3 ∷
-    0xA9 ∷ []) 2 3 None 0 10 (0x05 ∷ 0x06 ∷ 0x07 ∷ 0x08 ∷ []) ∷ []) ((0, 1) ∷ (4, 4) ∷ []))
+    0xA9 ∷ []) 2 3 None 0 10 (0x05 ∷ 0x06 ∷ 0x07 ∷ 0x08 ∷ []) ∷ []) ((0, 1) ∷ (4, 4) ∷ []) ([]))
 unfolding stands_for records_of geometry_of read_slot fold_from is_utf8 chars encode
 random_12-stands = refl
 
@@ -1185,7 +1193,8 @@ random_13 =
 
 random_13-stands : stands_for random_13 ≡
     Ok (standing 2 64 1 24 16 0 11 11 (object (0x61 ∷ []) 2 3 None 0 2 (0x01 ∷ 0x02 ∷ 0x03 ∷ 0x04 ∷
-    []) ∷ object (0xC3 ∷ 0xA9 ∷ []) 2 3 None 0 10 (0x09 ∷ 0x0A ∷ []) ∷ []) ((0, 4) ∷ (8, 2) ∷ []))
+    []) ∷ object (0xC3 ∷ 0xA9 ∷ []) 2 3 None 0 10 (0x09 ∷ 0x0A ∷ []) ∷ []) ((0, 4) ∷ (8, 2) ∷ [])
+    ([]))
 unfolding stands_for records_of geometry_of read_slot fold_from is_utf8 chars encode
 random_13-stands = refl
 
@@ -1204,7 +1213,7 @@ random_14 =
 
 random_14-stands : stands_for random_14 ≡
     Ok (standing 2 64 1 24 16 42 5 5 (object (0x61 ∷ []) 2 3 None 0 2 (0x01 ∷ 0x02 ∷ 0x03 ∷ 0x04 ∷
-    []) ∷ []) ((0, 4) ∷ []))
+    []) ∷ []) ((0, 4) ∷ []) ([]))
 unfolding stands_for records_of geometry_of read_slot fold_from is_utf8 chars encode
 random_14-stands = refl
 
@@ -1241,7 +1250,7 @@ random_16 =
 
 random_16-stands : stands_for random_16 ≡
     Ok (standing 2 64 1 24 16 0 9 9 (object (0x61 ∷ []) 2 3 None 0 2 (0x01 ∷ 0x02 ∷ 0x03 ∷ []) ∷
-    object (0x62 ∷ []) 2 3 None 0 8 (0x09 ∷ 0x0A ∷ 0x0B ∷ []) ∷ []) ((0, 3) ∷ (8, 3) ∷ []))
+    object (0x62 ∷ []) 2 3 None 0 8 (0x09 ∷ 0x0A ∷ 0x0B ∷ []) ∷ []) ((0, 3) ∷ (8, 3) ∷ []) ([]))
 unfolding stands_for records_of geometry_of read_slot fold_from is_utf8 chars encode
 random_16-stands = refl
 
@@ -1264,7 +1273,8 @@ random_17 =
 
 random_17-stands : stands_for random_17 ≡
     Ok (standing 2 64 1 24 16 0 7 7 (object (0xC3 ∷ 0xA9 ∷ []) 2 3 None 0 4 (0x05 ∷ 0x06 ∷ 0x07 ∷
-    0x08 ∷ []) ∷ object (0x61 ∷ []) 2 3 None 0 6 (0x01 ∷ 0x02 ∷ []) ∷ []) ((4, 4) ∷ (0, 2) ∷ []))
+    0x08 ∷ []) ∷ object (0x61 ∷ []) 2 3 None 0 6 (0x01 ∷ 0x02 ∷ []) ∷ []) ((4, 4) ∷ (0, 2) ∷ [])
+    ([]))
 unfolding stands_for records_of geometry_of read_slot fold_from is_utf8 chars encode
 random_17-stands = refl
 
@@ -1286,7 +1296,7 @@ random_18 =
 
 random_18-stands : stands_for random_18 ≡
     Ok (standing 2 64 1 24 16 0 9 9 (object (0xC3 ∷ 0xA9 ∷ []) 2 3 None 0 8 (0x05 ∷ 0x06 ∷ 0x07 ∷
-    0x08 ∷ []) ∷ []) ((4, 4) ∷ []))
+    0x08 ∷ []) ∷ []) ((4, 4) ∷ []) ([]))
 unfolding stands_for records_of geometry_of read_slot fold_from is_utf8 chars encode
 random_18-stands = refl
 
@@ -1308,7 +1318,7 @@ random_19 =
 
 random_19-stands : stands_for random_19 ≡
     Ok (standing 2 64 1 24 16 98 7 7 (object (0x61 ∷ []) 2 3 None 0 2 (0x05 ∷ []) ∷ object (0x62 ∷
-    []) 2 3 None 0 4 (0x09 ∷ 0x0A ∷ 0x0B ∷ []) ∷ []) ((4, 1) ∷ (8, 3) ∷ []))
+    []) 2 3 None 0 4 (0x09 ∷ 0x0A ∷ 0x0B ∷ []) ∷ []) ((4, 1) ∷ (8, 3) ∷ []) ([]))
 unfolding stands_for records_of geometry_of read_slot fold_from is_utf8 chars encode
 random_19-stands = refl
 
@@ -1349,7 +1359,7 @@ random_21 =
 
 random_21-stands : stands_for random_21 ≡
     Ok (standing 2 64 1 24 16 0 5 5 (object (0x62 ∷ []) 2 3 None 0 4 (0x09 ∷ 0x0A ∷ 0x0B ∷ 0x0C ∷
-    []) ∷ []) ((8, 4) ∷ []))
+    []) ∷ []) ((8, 4) ∷ []) ([]))
 unfolding stands_for records_of geometry_of read_slot fold_from is_utf8 chars encode
 random_21-stands = refl
 
@@ -1388,7 +1398,7 @@ random_23 =
 
 random_23-stands : stands_for random_23 ≡
     Ok (standing 2 64 1 24 16 0 11 11 (object (0x62 ∷ []) 2 3 None 0 8 (0x09 ∷ 0x0A ∷ []) ∷ object
-    (0x61 ∷ []) 2 3 None 0 10 (0x01 ∷ 0x02 ∷ []) ∷ []) ((8, 2) ∷ (0, 2) ∷ []))
+    (0x61 ∷ []) 2 3 None 0 10 (0x01 ∷ 0x02 ∷ []) ∷ []) ((8, 2) ∷ (0, 2) ∷ []) ([]))
 unfolding stands_for records_of geometry_of read_slot fold_from is_utf8 chars encode
 random_23-stands = refl
 

@@ -14,7 +14,7 @@ use Rattle.mot_journal.specs.Catalogue.{Placed, Catalogue, body_in_area}
 use Rattle.mot_journal.specs.Catalogue.{carousel_in, extents_of}
 use Rattle.mot_journal.specs.Image.{half_of, journal_in_half, or_not_formatted, records_of}
 use Rattle.mot_journal.specs.Image.{slots_of, has_clean_gates, are_gates_clean, DiskRecords}
-use Rattle.mot_journal.specs.Image.{Standing, area_of, stands_for, IsClean}
+use Rattle.mot_journal.specs.Image.{Standing, area_of, rest_of, stands_for, IsClean}
 use Rattle.mot_journal.specs.declared.layout.Layout.{Layout}
 use Rattle.mot_journal.specs.declared.record.Record.{Record}
 use Rattle.mot_journal.specs.Slot.{layout_of}
@@ -35,6 +35,14 @@ total [] = 0
 total (width ∷ widths) = width + total widths
 
 module _ (at n : ℕ) (a b : List ℕ) (agree : AgreeOutside at n a b) where
+  -- what comes after the range
+  pub drop_behind : (s : ℕ) → at + n ≤ s → drop s b ≡ drop s a
+  drop_behind s le =
+      let same : length (drop s b) ≡ length (drop s a) =
+      omega (arith, length-drop s b, length-drop s a, agree.len_is) in
+      ext_get_or 0 (drop s b) (drop s a) same (λ i lt.
+      get_or-drop s b i 0 ∙ agree.after (s + i) (omega (arith, le)) ∙ sym (get_or-drop s a i 0))
+
   -- a part before the range
   pub part : (s k : ℕ) → s + k ≤ at → take k (drop s b) ≡ take k (drop s a)
   part s k le =
@@ -130,7 +138,6 @@ module _ (g : Geometry) (from n : ℕ) (a b : List ℕ)
       let area : List ℕ = area_of g x in
       let k : ℕ = p.start + p.object.length - p.start in
       get_or-take k (drop p.start area) i 0 (omega (arith, lt)) ∙ get_or-drop p.start area i 0
-      ∙ get_or-take g.data_area (drop (area_start g) x) (p.start + i) 0 (omega (arith, lt, fits))
       ∙ get_or-drop (area_start g) x (p.start + i) 0
 
   same-byte : (p : Placed) (i : ℕ) → i < p.object.length → IsBeside g from n p
@@ -141,7 +148,7 @@ module _ (g : Geometry) (from n : ℕ) (a b : List ℕ)
   body-length : (x : List ℕ) (p : Placed)
       → length (body_in_area (area_of g x) p)
       ≡ length (take (p.start + p.object.length - p.start)
-      (drop p.start (take g.data_area (drop (area_start g) x))))
+      (drop p.start (drop (area_start g) x)))
   body-length x p = refl
 
   pub body_stays : (p : Placed) → IsBeside g from n p
@@ -157,8 +164,6 @@ module _ (g : Geometry) (from n : ℕ) (a b : List ℕ)
         length-take k (drop p.start (area_of g a)),
         length-drop p.start (area_of g b),
         length-drop p.start (area_of g a),
-        length-take g.data_area (drop far b),
-        length-take g.data_area (drop far a),
         length-drop far b,
         length-drop far a,
       ) in
@@ -198,19 +203,37 @@ stands_by_parts g j c image same read fold =
     ∙ ap (λ r. result_then r (λ d. Ok (standing_of j.geometry d image))) fold'
     ∙ ap (λ (h : Geometry). let r : Result Standing Refusal = Ok (standing_of h c image) in r) same
 
+-- a change within the data area leaves the bytes after it
+pub rest_stays : (g : Geometry) (from n : ℕ) (a b : List ℕ)
+    → AgreeOutside (area_start g + from) n a b → from + n ≤ g.data_area
+    → rest_of g b ≡ rest_of g a
+rest_stays g from n a b agree within =
+    let far : ℕ = area_start g + g.data_area in
+    drop-drop g.data_area (area_start g) b
+    ∙ drop_behind (area_start g + from) n a b agree far (omega (arith, within))
+    ∙ sym (drop-drop g.data_area (area_start g) a)
+
 -- an image after a write into a gap stands for what it stood for before
 pub standing_stays : (g : Geometry) (from n : ℕ) (a b : List ℕ)
     → AgreeOutside (area_start g + from) n a b
     → (j : DiskRecords) (c : Catalogue) → j.geometry ≡ g → geometry_of a ≡ Some g
     → records_of a ≡ Ok j
     → catalogue_of g.objects j.records ≡ Ok c → AreBeside g from n c.objects
-    → stands_for b ≡ stands_for a
-standing_stays g from n a b agree j c same is read fold beside =
+    → from + n ≤ g.data_area → stands_for b ≡ stands_for a
+standing_stays g from n a b agree j c same is read fold beside within =
     let read' = records_stay (area_start g + from) n a b agree g is (omega arith) ∙ read in
     let e : standing_of g c b ≡ standing_of g c a =
     ap (λ (k : whole.Carousel). let r : Standing =
-    record { geometry = g; carousel = k; extents = extents_of c } in r)
-    (carousel_stays g from n a b agree c beside) in
+    record { geometry = g; carousel = k; extents = extents_of c; rest = rest_of g b } in r)
+    (carousel_stays g from n a b agree c beside)
+    ∙ ap (λ (l : List ℕ). let r : Standing =
+    record {
+      geometry = g;
+      carousel = carousel_in (area_of g a) c;
+      extents = extents_of c;
+      rest = l;
+    } in r)
+    (rest_stays g from n a b agree within) in
     stands_by_parts g j c b same read' fold ∙ ap Ok e ∙ sym (stands_by_parts g j c a same read fold)
 
 -- a change behind the halves that leaves what the image stands for leaves it clean

@@ -10,11 +10,10 @@ use Rattle.mot_journal.specs.Geometry.{has_magic, magic}
 use Rattle.mot_journal.specs.Slot.{slot_count, slot_size, AreSound}
 use Rattle.mot_journal.specs.Inner.Format.{first_record, behind_magic, HasAllButMagic}
 use Rattle.mot_journal.specs.Inner.Steps.{ChangesWithin, HasSlots, Publishes, LeavesWritten}
-use Rattle.mot_journal.specs.Journal.{IsNewDisk, NoneOrFrom}
-use Rattle.mot_journal.proofs.Laws.{part}
+use Rattle.mot_journal.specs.Journal.{HasAreaOf, IsNewDisk, NoneOrFrom}
+use Rattle.mot_journal.proofs.Laws.{drop_behind, part}
 use Rattle.mot_journal.proofs.Fill.{unchanged, one_more, slot_ends, range_whole}
 use Rattle.mot_journal.proofs.NewDisk.{is_new}
-use Rattle.mot_journal.proofs.NextSlot.{drop_behind}
 use Rattle.mot_numbers.specs.declared.geometry.Geometry.{Geometry}
 use Rattle.mot_numbers.specs.Geometry.{IsValid, length_of, half_size, half_start, area_start}
 
@@ -162,3 +161,30 @@ module _ (g : Geometry) (directory : ℕ) (start filled : State)
       (λ c outcome.
       ⊎_elim (λ left. at_end start filled (NoneOrFrom g directory) sound1 filling c left)
       (λ agree. none_or_new g directory valid filled sound1 long made c agree) outcome)
+
+module _ (g : Geometry) (start filled : State)
+    (changes : ChangesWithin 8 (area_start g - 8) start filled) where
+  -- while all but the magic is written, the data area and what lies after it stay
+  pub area_filling : Throughout start filled (HasAreaOf g start)
+  area_filling = weakens start filled (Torn 8 (area_start g - 8) start) (HasAreaOf g start)
+      changes.time (λ c torn. (
+        torn.0,
+        torn.1,
+        drop_behind 8 (area_start g - 8) torn.0 c torn.2 (area_start g) (omega arith),
+      ))
+
+  -- and so they do until the magic is written
+  pub area_publishing : IsHonestDisk filled → (last : State)
+      → Publishes 0 8 filled last → Throughout start last (HasAreaOf g start)
+  area_publishing sound1 last publishes =
+      joins start filled last (HasAreaOf g start)
+      (λ c. filled.MayLeave c ⊎ AgreeOutside 0 8 filled.bytes c) area_filling publishes.time
+      (λ c outcome.
+      ⊎_elim (λ left. at_end start filled (HasAreaOf g start) sound1 area_filling c left)
+      (λ agree.
+      let was = at_end start filled (HasAreaOf g start) sound1 area_filling filled.bytes
+      sound1.bytes in (
+        was.0,
+        was.1,
+        drop_behind 0 8 filled.bytes c agree (area_start g) (omega arith) ∙ was.2,
+      )) outcome)

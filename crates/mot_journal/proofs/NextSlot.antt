@@ -21,7 +21,7 @@ use Rattle.mot_journal.specs.Image.{catalogue_of}
 use Rattle.mot_journal.specs.Image.{records_in, area_of}
 use Rattle.mot_journal.specs.Journal.{JournalView}
 use Rattle.mot_journal.specs.Inner.Places.{start_of_slot}
-use Rattle.mot_journal.proofs.Laws.{part, geometry_stays, half_selected_stays}
+use Rattle.mot_journal.proofs.Laws.{drop_behind, part, geometry_stays, half_selected_stays}
 use Rattle.mot_journal.proofs.OpenSlots.{AreShut, IsSplit, split_at, clean_of, length_read}
 use Rattle.mot_journal.proofs.OpenSlots.{shut_from}
 use Rattle.mot_journal.proofs.Parts.{half_at, slots_at, HasParts}
@@ -32,15 +32,6 @@ use Rattle.mot_numbers.specs.declared.geometry.Geometry.{Geometry}
 use Rattle.mot_numbers.specs.Geometry.{half_size, half_start, area_start}
 use Rattle.mot_numbers.specs.Geometry.{is_within}
 use Rattle.std.proofs.Math.Bool.{and-false}
-
--- behind the range two images are the same
-pub drop_behind : (at n : ℕ) (a b : List ℕ) → AgreeOutside at n a b → (s : ℕ) → at + n ≤ s
-    → drop s b ≡ drop s a
-drop_behind at n a b agree s le =
-    let same : length (drop s b) ≡ length (drop s a) =
-    omega (arith, length-drop s b, length-drop s a, agree.len_is) in
-    ext_get_or 0 (drop s b) (drop s a) same (λ i lt.
-    get_or-drop s b i 0 ∙ agree.after (s + i) (omega (arith, le)) ∙ sym (get_or-drop s a i 0))
 
 -- a slot of a half is a part of the image
 pub part_of_half : (st hs p size : ℕ) (x : List ℕ) → p + size ≤ hs
@@ -238,8 +229,7 @@ module _ (j : JournalView) (records : List Record) (d c : List ℕ) (parts : Has
 
   -- a change of that slot leaves the data area
   pub same_area : area_of g c ≡ area_of g d
-  same_area = ap (λ l. take g.data_area l)
-      (drop_behind place size d c agree (area_start g) slot_within)
+  same_area = drop_behind place size d c agree (area_start g) slot_within
 
   geometry_is : geometry_of c ≡ Some g
   geometry_is = geometry_stays place size d c agree begins ∙ parts.geometry

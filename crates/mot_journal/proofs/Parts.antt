@@ -11,7 +11,7 @@ use Rattle.mot_numbers.specs.Refusal.{◌>>=◌}
 use Rattle.mot_journal.specs.Catalogue.{carousel_in, extents_of}
 use Rattle.mot_journal.specs.Image.{DiskRecords, Standing, records_in, slots_of, are_gates_clean}
 use Rattle.mot_journal.specs.Image.{has_clean_gates, journal_in_half, or_not_formatted, half_of}
-use Rattle.mot_journal.specs.Image.{records_of, stands_for, area_of}
+use Rattle.mot_journal.specs.Image.{records_of, stands_for, area_of, rest_of}
 use Rattle.mot_journal.specs.Journal.{JournalView, with_records, HasRecords}
 use Rattle.mot_journal.proofs.Slots.{found, slots}
 use Rattle.mot_journal.proofs.Laws.{Fails, geometry_read, stands_by_parts}
@@ -105,8 +105,8 @@ module _ (j : JournalView) (records : List Record) (image : List ℕ) where
       Ok (record {
         geometry = g;
         carousel = carousel_in (area_of g image) c;
-        extents =
-            extents_of c;
+        extents = extents_of c;
+        rest = rest_of g image;
       }) in s)) =
       subst (λ r. IsOk (◌>>=◌ r
       (λ (k : DiskRecords). ◌>>=◌ (catalogue_of k.geometry.objects k.records)
@@ -115,6 +115,7 @@ module _ (j : JournalView) (records : List Record) (image : List ℕ) where
         geometry = k.geometry;
         carousel = carousel_in (area_of k.geometry image) c;
         extents = extents_of c;
+        rest = rest_of k.geometry image;
       }) in s)))) has.read has.clean.stands in
       record {
         geometry = told;

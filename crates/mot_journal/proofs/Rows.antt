@@ -37,7 +37,7 @@ usual_length = refl
 
 -- a new disk of layout 1, and one byte less
 new_disk_stands : stands_for (head_bytes usual 0 ++ replicate 83968 0) ≡
-    Ok (record { geometry = usual; carousel = new_carousel; extents = [] })
+    Ok (record { geometry = usual; carousel = new_carousel; extents = []; rest = [] })
 unfolding stands_for records_of geometry_of read_slot fold_from
 new_disk_stands = refl
 
@@ -94,7 +94,7 @@ first_is_written = refl
 -- a new disk of layout 2
 formatted_stands : stands_for
     (head_bytes usual 0 ++ bytes_of_slot Two first_record ++ replicate 83456 0) ≡
-    Ok (record { geometry = usual; carousel = new_carousel; extents = [] })
+    Ok (record { geometry = usual; carousel = new_carousel; extents = []; rest = [] })
 unfolding stands_for records_of geometry_of read_slot fold_from bytes_of_slot
 formatted_stands = refl
 

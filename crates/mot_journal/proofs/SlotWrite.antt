@@ -7,7 +7,7 @@ use Rattle.disk_model.specs.Disk.{State, AgreeOutside, IsHonestDisk, WritesWithi
 use Rattle.disk_model.proofs.Laws.{agree_refl, agree_trans, agree_more, at_end, begins, goes_on}
 use Rattle.disk_model.proofs.Laws.{joins}
 use Rattle.mot_journal.specs.Inner.Steps.{IsBehindGate, IsWritten, IsGated, Publishes}
-use Rattle.mot_journal.proofs.NextSlot.{drop_behind}
+use Rattle.mot_journal.proofs.Laws.{drop_behind}
 use Rattle.mot_journal.proofs.Publishing.{Outcome, first_of_one}
 
 -- all the bytes of a slot but one, from the second on, are those behind its gate

@@ -31,6 +31,8 @@ pub record Standing : Type 0 where
   pub carousel : Carousel
   -- for each object, where in the data area its body begins, and its length
   pub extents : List (ℕ × ℕ)
+  -- the bytes after the data area, which are not used
+  pub rest : List ℕ
 
 -- the bytes of the half that the selector names
 abbrev pub half_of : Geometry → List ℕ → List ℕ
@@ -88,8 +90,12 @@ fold_from limit number c (r ∷ records) = do
 abbrev pub catalogue_of : ℕ → List Record → Result Catalogue Refusal
 catalogue_of limit records = fold_from limit 0 new_catalogue records
 
+-- the data area, and the bytes after it
 abbrev pub area_of : Geometry → List ℕ → List ℕ
-area_of g image = take g.data_area (drop (area_start g) image)
+area_of g image = drop (area_start g) image
+
+abbrev pub rest_of : Geometry → List ℕ → List ℕ
+rest_of g image = drop g.data_area (area_of g image)
 
 -- What an image stands for, or why for nothing. A fault of the list is looked for only where no
 -- record has a fault of fields.
@@ -101,6 +107,7 @@ stands_for image = do
     geometry = j.geometry;
     carousel = carousel_in (area_of j.geometry image) c;
     extents = extents_of c;
+    rest = rest_of j.geometry image;
   })
 
 -- every gate after the first closed one is closed

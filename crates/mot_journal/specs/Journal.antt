@@ -9,6 +9,7 @@ use Rattle.mot_journal.specs.Geometry.{has_magic, geometry_of, selected_half}
 use Rattle.mot_journal.specs.Slot.{layout_of}
 use Rattle.mot_journal.specs.Image.{catalogue_of}
 use Rattle.mot_journal.specs.Image.{DiskRecords, Standing, records_of, stands_for, half_of, area_of}
+use Rattle.mot_journal.specs.Image.{rest_of}
 use Rattle.mot_journal.specs.Image.{IsClean, IsInLayoutTwo, IsSecondHalfEmpty}
 use Rattle.mot_numbers.specs.declared.refusal.Refusal.{Refusal}
 use Rattle.mot_numbers.specs.declared.refusal.Refusal.TheVariants.{OutOfMemory, DeviceFault}
@@ -50,10 +51,12 @@ pub record HoldsRecords (j : JournalView) (records : List Record) (state : State
 abbrev pub FoldOf : JournalView → List Record → Type 0
 FoldOf j records = IsOk (catalogue_of j.geometry.objects records)
 
--- the data area is that of an image that a crash at the start may leave
+-- from the data area on, the image is one that a crash at the start may leave
+abbrev pub HasAreaOf : Geometry → State → List ℕ → Type 0
+HasAreaOf g start image = (d : List ℕ) × start.MayLeave d × (area_of g image ≡ area_of g d)
+
 abbrev pub HasOldArea : JournalView → State → List ℕ → Type 0
-HasOldArea j start image = (d : List ℕ) × start.MayLeave d
-    × (area_of j.geometry image ≡ area_of j.geometry d)
+HasOldArea j start image = HasAreaOf j.geometry start image
 
 -- the data area is the one that the disk read at the start
 abbrev pub HasReadArea : JournalView → State → List ℕ → Type 0
@@ -95,15 +98,15 @@ pub record StandsWhere (j : JournalView) (bytes : List ℕ) : Type 0 where
   pub layout : layout_of (half_of j.geometry bytes) ≡ j.layout
 
 -- A new disk of this geometry: its carousel has no object, and its directory has this transport id,
--- which was taken last.
-abbrev pub standing_from : Geometry → ℕ → Standing
-standing_from g directory =
+-- which was taken last. These bytes come after its data area.
+abbrev pub standing_from : Geometry → ℕ → (rest : List ℕ) → Standing
+standing_from g directory rest =
     let first = record new_carousel { directory = directory; cursor = directory } in
-    record { geometry = g; carousel = first; extents = [] }
+    record { geometry = g; carousel = first; extents = []; rest = rest }
 
 -- the image is that, clean and in layout 2, and its other half is empty
 pub record IsNewDisk (g : Geometry) (directory : ℕ) (image : List ℕ) : Type 0 where
-  pub stands : stands_for image ≡ Ok (standing_from g directory)
+  pub stands : stands_for image ≡ Ok (standing_from g directory (rest_of g image))
   pub clean : IsClean image
   pub layout : IsInLayoutTwo image
   pub other : IsSecondHalfEmpty g image

@@ -6,7 +6,7 @@ use Rattle.disk_model.specs.Disk.{Throughout}
 use Rattle.disk_model.specs.Failures.{Rises}
 use Rattle.mot_journal.specs.declared.layout.Layout.TheVariants.{Two}
 use Rattle.mot_journal.specs.Geometry.{has_magic}
-use Rattle.mot_journal.specs.Journal.{IsNewDisk, NoneOrFrom}
+use Rattle.mot_journal.specs.Journal.{HasAreaOf, IsNewDisk, NoneOrFrom}
 use Rattle.mot_journal.specs.Slot.{slot_count}
 use Rattle.mot_numbers.specs.Geometry.{IsValid, length_of}
 use Rattle.mot_numbers.specs.Refusal.{IsCalm}
@@ -47,3 +47,5 @@ pub record MakesDisk (g : Geometry) (directory : ℕ) (old new : State)
       → Throughout old new (NoneOrFrom g directory)
   pub ok : new.IsHonest → OnOk result ((image : List ℕ) → new.MayLeave image
       → IsNewDisk g directory image)
+  -- the data area and all bytes after it stay
+  pub area : new.IsHonest → Throughout old new (HasAreaOf g old)

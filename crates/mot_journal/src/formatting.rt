@@ -7,7 +7,7 @@ ghost use Rattle.disk_model.specs.Disk.{Throughout, Costs, IsFirm};
 ghost use Rattle.mot_journal.specs.declared.layout.Layout.TheVariants.{Two};
 ghost use Rattle.mot_journal.specs.Geometry.{has_magic};
 ghost use Rattle.mot_journal.specs.Slot.{slot_count};
-ghost use Rattle.mot_journal.specs.Journal.{IsNewDisk, NoneOrFrom};
+ghost use Rattle.mot_journal.specs.Journal.{HasAreaOf, IsNewDisk, NoneOrFrom};
 ghost use Rattle.mot_journal.specs.Making.{MakesDisk};
 ghost use Rattle.mot_journal.specs.Inner.Steps.{ChangesWithin, HasCauseOf};
 ghost use Rattle.mot_journal.specs.Inner.Format.{HasAllButMagic, behind_magic};
@@ -88,6 +88,8 @@ fn make<D: Disk>(disk: &mut D, geometry: &Geometry, directory: TransportId) -> R
         → Throughout (D.state disk.old) (D.state disk.new) (NoneOrFrom geometry.now directory) }
     ensures ok { (D.state disk.old).IsHonest → OnOk result ((image : List ℕ)
         → (D.state disk.new).MayLeave image → IsNewDisk geometry.now directory image) }
+    ensures area { (D.state disk.old).IsHonest → Throughout (D.state disk.old) (D.state disk.new)
+        (HasAreaOf geometry.now (D.state disk.old)) }
 {
     fill(disk, geometry, directory)?;
     publish(disk, 0, &MAGIC)

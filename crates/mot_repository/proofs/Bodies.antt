@@ -21,9 +21,9 @@ use Rattle.mot_objects.specs.declared.object.Object.{Object}
 use Rattle.mot_repository.specs.Inner.Extents.{objects_in, catalogue_with}
 use Rattle.mot_repository.specs.Extents.{ArePaired}
 use Rattle.mot_repository.specs.OnDisk.{extent_at, body_on}
-use Rattle.mot_repository.specs.Repository.{RepositoryView, object_body, Holds}
+use Rattle.mot_repository.specs.Repository.{RepositoryView, object_body, HasStanding}
 use Rattle.mot_repository.specs.Inner.Whole.{IsSoundPlaced, IsWhole}
-use Rattle.mot_repository.proofs.Preparing.{kept, same-standing, wholes}
+use Rattle.mot_repository.proofs.Preparing.{kept_standing, same-standing, wholes}
 use Rattle.mot_repository.proofs.Soundness.{placed_in}
 use Rattle.mot_repository.proofs.Soundness.{extents-in}
 
@@ -42,14 +42,14 @@ part_of_part xs at size from n within =
     ∙ ap (take k) (drop-drop from at xs) ∙ ap (λ m. take m (drop (at + from) xs)) count
 
 -- a part of the data area
-area-part : (g : Geometry) (image : List ℕ) (from n : ℕ) → from + n ≤ g.data_area
+area-part : (g : Geometry) (image : List ℕ) (from n : ℕ)
     → slice_range (area_of g image) from (from + n)
     ≡ slice_range image (area_start g + from) (area_start g + from + n)
-area-part g image from n within =
+area-part g image from n =
     let at : ℕ = area_start g in
-    let whole : g.data_area ≡ at + g.data_area - at = omega arith in
-    ap (λ m. slice_range (take m (drop at image)) from (from + n)) whole
-    ∙ part_of_part image at g.data_area from n within
+    let k : ℕ = from + n - from in
+    let count : k ≡ at + from + n - (at + from) = omega arith in
+    ap (take k) (drop-drop from at image) ∙ ap (λ m. take m (drop (at + from) image)) count
 
 body-lies : (g : Geometry) (layout : Layout) (image : List ℕ) (objects : List Placed)
     → AllByRecursion (IsSoundPlaced g layout) objects
@@ -58,27 +58,25 @@ body-lies : (g : Geometry) (layout : Layout) (image : List ℕ) (objects : List 
     ≡ body_on g (extents-in objects) place image
 body-lies g layout image [] a place lt = absurd (omega (arith, lt))
 body-lies g layout image (p ∷ objects) a zero lt =
-    area-part g image p.start p.object.length (placed_in g layout p a.0).within
+    area-part g image p.start p.object.length
 body-lies g layout image (p ∷ objects) a (suc place) lt =
     body-lies g layout image objects a.1 place (omega (arith, lt))
 
 -- an object's body lies where its extent says
 pub body_held : (view : RepositoryView) (s : Standing) (state : State) → IsHonestDisk state
-    → Holds view s state
+    → HasStanding view s state
     → (place : ℕ) → place < length view.extents
     → object_body s.carousel.objects place
     ≡ body_on view.journal.geometry view.extents place state.bytes
-body_held view s state sound holds place lt =
-    let k = kept view s state sound holds in
+body_held view s state sound has place lt =
+    let k = kept_standing view s state sound has in
     let c = k.0 in
     let is = k.1 in
     let g = view.journal.geometry in
     let image = state.bytes in
-    let has = holds.journal.each image sound.bytes in
-    let here = stands_by_parts g (with_records view.journal holds.records) c image refl has.read
+    let here = stands_by_parts g (with_records view.journal has.records) c image refl has.read
     is.fold in
-    let standing = same-standing (standing_of g c image) s
-    (sym here ∙ (holds.each image sound.bytes).stands) in
+    let standing = same-standing (standing_of g c image) s (sym here ∙ has.stands) in
     let few : place < length (extents-in c.objects) =
     subst (λ (l : List (ℕ × ℕ)). place < length l) is.extents lt in
     sym (ap (λ (t : Standing). object_body t.carousel.objects place) standing)

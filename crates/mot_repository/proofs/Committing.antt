@@ -1,6 +1,6 @@
 -- What a body's write and then a record's append leave: the two halves of a commit.
 use Rattle.std.proofs.Common.{◌≡◌, ◌⊎◌, inl, inr, ⊎_elim, ℕ, ◌+◌, List, [], ◌∷◌, ◌++◌, length, Ok}
-use Rattle.std.proofs.Common.{refl, sym, ◌∙◌, ap, subst, arith}
+use Rattle.std.proofs.Common.{refl, sym, ◌∙◌, ap, subst, arith, drop, ◌≤◌}
 use Rattle.disk_model.specs.Disk.{State, Keeps, WritesWithin, Torn, Throughout, IsHonestDisk}
 use Rattle.disk_model.proofs.Laws.{begins, goes_on, joins, weakens, at_end}
 use Rattle.mot_journal.specs.declared.layout.Layout.{Layout}
@@ -42,7 +42,8 @@ is_read {mid = mid} wrote = (
 -- an image torn in a gap alone stands for the same, and has the same records
 module _ (view : RepositoryView) (s : Standing) (records : List Record) (c : Catalogue) (from n : ℕ)
     (fold : catalogue_of view.journal.geometry.objects records ≡ Ok c)
-    (beside : AreBeside view.journal.geometry from n c.objects) where
+    (beside : AreBeside view.journal.geometry from n c.objects)
+    (within : from + n ≤ view.journal.geometry.data_area) where
   pub torn_is_same : (old : State) (b : List ℕ) → ((a : List ℕ) → old.MayLeave a → IsOf s a)
       → ((a : List ℕ) → old.MayLeave a → HasRecords view.journal records a)
       → Torn (area_start view.journal.geometry + from) n old b
@@ -54,7 +55,7 @@ module _ (view : RepositoryView) (s : Standing) (records : List Record) (c : Cat
       let read = (has a torn.1).read in
       let is = geometry_read a (with_records view.journal records) read in
       let same = standing_stays g from n a b torn.2 (with_records view.journal records) c refl is
-      read fold beside in
+      read fold beside within in
       let clean = clean_stays g from n a b torn.2 is same of.clean in (
         record { stands = same ∙ of.stands; clean = clean },
         record {
@@ -102,8 +103,8 @@ module _ (view : RepositoryView) (s : Standing) (records : List Record) (r : Rec
       record {
         geometry = view.journal.geometry;
         carousel = carousel_in area k;
-        extents =
-            extents_of k;
+        extents = extents_of k;
+        rest = drop view.journal.geometry.data_area area;
       } in t) e
 
   pub outcome_is : (mid : State) (b : List ℕ) → ((a : List ℕ) → mid.MayLeave a → IsOf s a)
@@ -198,7 +199,12 @@ module _ (view : RepositoryView) (s : Standing) (layout : Layout) (records given
       let there = stands_by_parts g (with_records view.journal records) c a refl was.read fold in
       let same : standing_of g c b ≡ standing_of g c a =
       ap (λ l. let t : Standing =
-      record { geometry = g; carousel = carousel_in l c; extents = extents_of c } in t) area in
+      record {
+        geometry = g;
+        carousel = carousel_in l c;
+        extents = extents_of c;
+        rest = drop g.data_area l;
+      } in t) area in
       record { stands = here ∙ ap Ok same ∙ sym there ∙ of.stands; clean = has.clean }
 
   rewritten_is : (old : State) (b : List ℕ) → ((a : List ℕ) → old.MayLeave a → IsOf s a)

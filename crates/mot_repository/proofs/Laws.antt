@@ -3,6 +3,10 @@ use Rattle.mot_repository.specs.Inner.Following.{StandingsAreSound}
 use Rattle.mot_repository.proofs.Soundness.{keeps}
 -- an object's body lies where its extent says
 pub use Rattle.mot_repository.proofs.Bodies.{body_held}
+-- the bytes after a standing's data area are those of its image
+pub use Rattle.mot_repository.proofs.Soundness.{standings_rest}
+-- what is held is what is read
+pub use Rattle.mot_repository.proofs.Preparing.{read_standing}
 -- a journal stands where an image has its records
 pub use Rattle.mot_repository.proofs.Places.{stands_where}
 -- what a command comes to: the parts of an accepted one, and each refusal is one of five

@@ -14,7 +14,7 @@ use Rattle.mot_journal.specs.Slot.{is_sound}
 use Rattle.mot_journal.specs.Image.{catalogue_of}
 use Rattle.mot_numbers.specs.Refusal.{◌>>=◌}
 use Rattle.mot_journal.specs.Catalogue.{Placed, carousel_in, extents_of}
-use Rattle.mot_journal.specs.Image.{DiskRecords, records_of, stands_for, area_of}
+use Rattle.mot_journal.specs.Image.{DiskRecords, records_of, stands_for, area_of, rest_of}
 use Rattle.mot_journal.specs.Journal.{JournalView, with_records, IsLoadRefusal}
 use Rattle.mot_numbers.specs.Geometry.{length_of}
 use Rattle.mot_numbers.specs.declared.geometry.Geometry.{Geometry}
@@ -48,6 +48,7 @@ no-records image refusal e =
       geometry = j.geometry;
       carousel = carousel_in (area_of j.geometry image) c;
       extents = extents_of c;
+      rest = rest_of j.geometry image;
     })))) e
 
 no-catalogue : (image : List ℕ) (j : JournalView) (records : List Record) (refusal : Refusal)
@@ -61,13 +62,14 @@ no-catalogue image j records refusal read e =
       geometry = k.geometry;
       carousel = carousel_in (area_of k.geometry image) c;
       extents = extents_of c;
+      rest = rest_of k.geometry image;
     })))) read
     ∙ ap (λ o. ◌>>=◌ o
     (λ c. Ok (record {
       geometry = j.geometry;
-      carousel =
-          carousel_in (area_of j.geometry image) c;
+      carousel = carousel_in (area_of j.geometry image) c;
       extents = extents_of c;
+      rest = rest_of j.geometry image;
     }))) e
 
 -- what refuses a disk's loading refuses its opening

@@ -35,7 +35,8 @@ carousel period last objects =
     record { period = period; directory = last; cursor = last; objects = objects }
 
 abbrev disk : ℕ → Carousel → List (ℕ × ℕ) → Standing
-disk objects c extents = record { geometry = sizes objects; carousel = c; extents = extents }
+disk objects c extents =
+    record { geometry = sizes objects; carousel = c; extents = extents; rest = 7 ∷ 7 ∷ [] }
 
 -- one object, `a`, whose four bytes lie at the beginning
 abbrev a : Object

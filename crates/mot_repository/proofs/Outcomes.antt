@@ -46,6 +46,8 @@ pub record IsAccepted (layout : Layout) (s : Standing) (command : Command) (done
   pub geometry : next.geometry ≡ s.geometry
   -- the extents are those after the command
   pub extents : next.extents ≡ extents_after (names_of s.carousel) s.extents command start
+  -- and so do the bytes after the data area
+  pub rest : next.rest ≡ s.rest
 
 same_pair : (x y : Standing × Done) → ◌≡◌ {A = Result (Standing × Done) Refusal} (Ok x) (Ok y)
     → x ≡ y
@@ -86,14 +88,16 @@ module _ (layout : Layout) (s : Standing) (command : Command) where
   accepted-by false (Ok c) (Some start) done next short is at e =
       let same : ◌≡◌ {A = Standing × Done} (made c start, c.1) (next, done) =
       same_pair (made c start, c.1) (next, done) e in
-      let rest : Standing × Done → Result (Carousel × Done) Refusal = λ x. Ok (x.0.carousel, x.1) in
+      let ruled_by : Standing × Done → Result (Carousel × Done) Refusal =
+      λ x. Ok (x.0.carousel, x.1) in
       record {
         short = short;
-        rules = is ∙ ap rest same;
+        rules = is ∙ ap ruled_by same;
         start = start;
         lies = at;
         geometry = ap (λ (x : Standing × Done). x.0.geometry) (sym same);
         extents = ap (λ (x : Standing × Done). x.0.extents) (sym same);
+        rest = ap (λ (x : Standing × Done). x.0.rest) (sym same);
       }
 
   -- accepted is what has these parts
@@ -108,12 +112,13 @@ module _ (layout : Layout) (s : Standing) (command : Command) where
   pub accepted_of : (done : Done) (next : Standing) → IsAccepted layout s command done next
       → after_command layout s command ≡ Ok (next, done)
   accepted_of done next is =
-      let of_parts : Geometry → List (ℕ × ℕ) → Standing =
-      λ g l. record { geometry = g; carousel = next.carousel; extents = l } in
+      let of_parts : Geometry → List (ℕ × ℕ) → List ℕ → Standing =
+      λ g l r. record { geometry = g; carousel = next.carousel; extents = l; rest = r } in
       let same : made (next.carousel, done) is.start ≡ next =
-      ap (λ g. of_parts g (extents_after (names_of s.carousel) s.extents command is.start))
+      ap (λ g. of_parts g (extents_after (names_of s.carousel) s.extents command is.start) s.rest)
       (sym is.geometry)
-      ∙ ap (of_parts next.geometry) (sym is.extents) in
+      ∙ ap (λ l. of_parts next.geometry l s.rest) (sym is.extents)
+      ∙ ap (of_parts next.geometry next.extents) (sym is.rest) in
       let told : Standing → Result (Standing × Done) Refusal = λ k. Ok (k, done) in
       by-parts
       ∙ ap (λ b. whole b ruled lying) is.short
@@ -213,6 +218,7 @@ module _ (view view' : RepositoryView) (command : Command) (done : Done) (next :
         geometry = s.geometry;
         carousel = carousel_of next bodies;
         extents = extents_after (names_of s.carousel) s.extents command from;
+        rest = s.rest;
       } in (
         last,
         accepted_of view.journal.layout s command done last (record {
@@ -222,6 +228,7 @@ module _ (view view' : RepositoryView) (command : Command) (done : Done) (next :
           lies = sym (same_start view s agrees command) ∙ prepared.lies;
           geometry = refl;
           extents = refl;
+          rest = refl;
         }),
         record {
           geometry = same_geometry ∙ agrees.geometry;
@@ -262,6 +269,7 @@ some_standing view =
         geometry = view.journal.geometry;
         carousel = carousel_of view.carousel zeros;
         extents = view.extents;
+        rest = [];
       },
       record {
         geometry = refl;

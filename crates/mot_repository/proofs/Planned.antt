@@ -39,7 +39,8 @@ use Rattle.mot_repository.specs.Inner.Planned.{HasFields, IsTyped}
 use Rattle.mot_repository.specs.Inner.Whole.{IsWhole}
 use Rattle.mot_repository.specs.Inner.Laws.{records_of_catalogue}
 use Rattle.mot_repository.specs.Inner.Prepared.{ChangesTo, CanBeGiven, IsFull, IsPreparedFor}
-use Rattle.mot_repository.specs.Inner.Prepared.{kept_object_named, kept_set, kept_remove, kept_action}
+use Rattle.mot_repository.specs.Inner.Prepared.{kept_object_named, kept_set, kept_remove}
+use Rattle.mot_repository.specs.Inner.Prepared.{kept_action}
 use Rattle.mot_repository.specs.Inner.Prepared.{kept_record}
 use Rattle.mot_repository.specs.Inner.Ready.{IsPrepared}
 use Rattle.mot_repository.specs.Repository.{RepositoryView}
@@ -332,8 +333,10 @@ prepared_is view command p from is given at body extents =
       given = λ full. subst (λ (l : List Record). CanBeGiven view.journal l) (sym (given full))
           (record {
             some = rewriting.some;
-            few = few-slots g layout (length (records_of_catalogue (catalogue_in view))) rewriting.few;
-            sound = all-of (λ q. is_sound g layout q ≡ true) (records_of_catalogue (catalogue_in view))
+            few = few-slots g layout (length (records_of_catalogue
+                (catalogue_in view))) rewriting.few;
+            sound = all-of (λ q. is_sound g layout q ≡ true) (records_of_catalogue
+                (catalogue_in view))
                 rewriting.sound;
           });
       sound = (read view command p.inventory.carousel p.done from p.record is).sound;
@@ -349,11 +352,12 @@ is-memory : (r : Refusal) → (r ≡ OutOfMemory) ⊎ (r ≡ OutOfMemory → ⊥
 is-memory OutOfMemory = inl refl
 is-memory _ = inr (λ e. cc)
 
-module _ (view : RepositoryView) (command : Command) (going : IsFalse view.halted) where
+module _ (view : RepositoryView) (command : Command) (going : IsFalse view.halted)
+    (fits : has_long_name Two command ≡ false) where
   -- the name is too long
   pub name_refused : has_long_name view.journal.layout command ≡ true
       → IsRefusal view command BadName
-  name_refused long = IsRefusal.by_rules going
+  name_refused long = IsRefusal.by_rules going fits
       (λ s agrees. refused_name view.journal.layout s command long)
 
   -- the rules refuse
@@ -362,7 +366,7 @@ module _ (view : RepositoryView) (command : Command) (going : IsFalse view.halte
       → IsRefusal view command refusal
   plan_refused refusal short plan = ⊎_elim
       (λ memory. IsRefusal.no_memory going short memory)
-      (λ other. IsRefusal.by_rules going
+      (λ other. IsRefusal.by_rules going fits
       (λ s agrees. refused_rules view.journal.layout s command refusal short
       (same_rules view s agrees command
       ∙ ⊎_elim (λ memory. absurd (other memory)) (λ e. e)
@@ -375,7 +379,7 @@ module _ (view : RepositoryView) (command : Command) (going : IsFalse view.halte
       → ChangesTo view.carousel view.journal.geometry.objects command next done
       → start_of view.extents view.journal.geometry.data_area command ≡ None
       → IsRefusal view command NoRoom
-  room_refused next done short changes none = IsRefusal.by_rules going (λ s agrees.
+  room_refused next done short changes none = IsRefusal.by_rules going fits (λ s agrees.
       refused_room view.journal.layout s command
       (carousel_of next (bodies_after view.carousel command agrees.bodies), done) short
       (same_rules view s agrees command ∙ (changes agrees.bodies agrees.are_bodies).0)

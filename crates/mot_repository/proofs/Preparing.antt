@@ -2,9 +2,8 @@
 use Rattle.std.proofs.Common.{◌≡◌, ℕ, ◌+◌, ◌-◌, ◌<◌, ◌≤◌, Bool, true, false, List, [], ◌∷◌, ◌++◌}
 use Rattle.std.proofs.Common.{length, map, take, drop, replicate, slice_range, Option, Some, None}
 use Rattle.std.proofs.Common.{Result, Ok, refl, sym, ap, ◌∙◌, subst, arith, length-append}
-use Rattle.std.proofs.lemmas.List.{length-take-le, length-drop, length-replicate, take-take}
+use Rattle.std.proofs.lemmas.List.{length-take-le, length-drop, length-replicate}
 use Rattle.std.proofs.lemmas.List.{take-append-le, drop-append-le, drop_all, take_all, drop-drop}
-use Rattle.std.proofs.lemmas.List.{drop-take}
 use Rattle.std.specs.Prelude.{IsFalse, bytes_eq, if◌then◌else◌}
 use Rattle.std.specs.List.{AllByRecursion, list_all}
 use Rattle.disk_model.specs.Disk.{State, IsHonestDisk, IsFirm}
@@ -42,7 +41,7 @@ use Rattle.mot_repository.specs.Opening.{IsOpened}
 use Rattle.mot_repository.specs.Inner.Kept.{KeepsCatalogue}
 use Rattle.mot_repository.specs.Inner.Prepared.{IsFull, IsPreparedFor, kept_object_named, kept_set}
 use Rattle.mot_repository.specs.Inner.Prepared.{kept_remove, kept_action, kept_record}
-use Rattle.mot_repository.specs.Repository.{RepositoryView, Agrees, IsOf, Holds}
+use Rattle.mot_repository.specs.Repository.{RepositoryView, Agrees, HasStanding, IsOf, Holds}
 use Rattle.mot_repository.proofs.Extents.{placed-names}
 use Rattle.mot_repository.proofs.Following as following
 use Rattle.mot_repository.proofs.Gaps.{least_gap_is_least}
@@ -202,9 +201,7 @@ pub area-long : (image : List ℕ) (j : DiskRecords) → records_of image ≡ Ok
 area-long image j read =
     let g = j.geometry in
     let long = (geometry_is image g (geometry_read image j read)).1 in
-    let rest = length-drop (area_start g) image in
-    let size = length-take-le g.data_area (drop (area_start g) image) (omega (arith, long, rest)) in
-    omega (arith, size)
+    let size = length-drop (area_start g) image in omega (arith, long, size)
 
 -- catalogues of equal parts are equal
 pub same-catalogue : (p p' d d' k k' : ℕ) (os os' : List Placed) → p ≡ p' → d ≡ d' → k ≡ k'
@@ -219,31 +216,39 @@ same-carousel : (p p' d d' k k' : ℕ) (os os' : List whole.Object) → p ≡ p'
     (record { period = p'; directory = d'; cursor = k'; objects = os' })
 same-carousel p p' d d' k k' os os' e f h i = rw (e, f, h, i) refl
 
--- an honest disk's repository keeps the catalogue of the records that it holds
-pub kept : (view : RepositoryView) (s : Standing) (state : State) → IsHonestDisk state
-    → (holds : Holds view s state)
-    → (c : Catalogue) × IsKept view holds.records c
-kept view s state sound holds =
+-- what an honest disk's repository holds is what is read of it
+pub read_standing : (view : RepositoryView) (s : Standing) (state : State) → IsHonestDisk state
+    → Holds view s state → HasStanding view s state
+read_standing view s state sound holds = record {
+  agrees = holds.agrees;
+  records = holds.records;
+  read = (holds.journal.each state.bytes sound.bytes).read;
+  stands = (holds.each state.bytes sound.bytes).stands;
+}
+
+-- the repository of an honest disk keeps the catalogue of the records that are read of it
+pub kept_standing : (view : RepositoryView) (s : Standing) (state : State) → IsHonestDisk state
+    → (has : HasStanding view s state)
+    → (c : Catalogue) × IsKept view has.records c
+kept_standing view s state sound has =
     let g : Geometry = view.journal.geometry in
     let image : List ℕ = state.bytes in
-    let j : DiskRecords = with_records view.journal holds.records in
-    let of = holds.each image sound.bytes in
-    let has = holds.journal.each image sound.bytes in
-    let f = fold-of image s j has.read of.stands in
+    let j : DiskRecords = with_records view.journal has.records in
+    let f = fold-of image s j has.read has.stands in
     let c : Catalogue = f.0 in
     let area : List ℕ = area_of g image in
     let read = records_read image j
     (by_recursion (λ b. b < 256) image (sound.images image sound.bytes).are_bytes) has.read in
     let is : IsWhole g view.journal.layout c =
-    whole_fold g view.journal.layout holds.records c read.read f.1 in
-    let e : carousel_in area c ≡ carousel_of view.carousel holds.agrees.bodies =
-    ap (λ (t : Standing). t.carousel) f.2 ∙ holds.agrees.carousel in
+    whole_fold g view.journal.layout has.records c read.read f.1 in
+    let e : carousel_in area c ≡ carousel_of view.carousel has.agrees.bodies =
+    ap (λ (t : Standing). t.carousel) f.2 ∙ has.agrees.carousel in
     let m = matched g area (area-long image j has.read) view.carousel.objects.items
-    holds.agrees.bodies c.objects
-    (sym (ap (λ (d : whole.Carousel). d.objects) e)) holds.agrees.are_bodies
+    has.agrees.bodies c.objects
+    (sym (ap (λ (d : whole.Carousel). d.objects) e)) has.agrees.are_bodies
     (all-within g view c.objects is.each) in
     let extents : view.extents ≡ extents_of c =
-    holds.agrees.extents ∙ sym (ap (λ (t : Standing). t.extents) f.2) in
+    has.agrees.extents ∙ sym (ap (λ (t : Standing). t.extents) f.2) in
     let period : c.period ≡ view.carousel.period = ap (λ (d : whole.Carousel). d.period) e in
     let directory : c.directory ≡ view.carousel.directory =
     ap (λ (d : whole.Carousel). d.directory) e in
@@ -269,6 +274,14 @@ kept view s state sound holds =
         bodies = m.sizes;
       },
     )
+
+-- and of those that it holds
+pub kept : (view : RepositoryView) (s : Standing) (state : State) → IsHonestDisk state
+    → (holds : Holds view s state)
+    → (c : Catalogue) × IsKept view holds.records c
+unfolding read_standing
+kept view s state sound holds =
+    kept_standing view s state sound (read_standing view s state sound holds)
 
 -- ---- the record folds, and the body has its place
 
@@ -346,19 +359,14 @@ some-length from body n =
     omega (arith, a, b, d)
 
 -- the bytes of an image in its data area
-area-slice : (g : Geometry) (image body : List ℕ) (from n : ℕ) → from + n ≤ g.data_area
+area-slice : (g : Geometry) (image body : List ℕ) (from n : ℕ)
     → slice_range image (area_start g + from) (area_start g + from + n) ≡ body
     → slice_range (area_of g image) from (from + n) ≡ body
-area-slice g image body from n within is =
+area-slice g image body from n is =
     let far : ℕ = area_start g in
     let k : ℕ = from + n - from in
-    let rest : List ℕ = drop far image in
-    let parts : g.data_area ≡ from + (g.data_area - from) = omega (arith, within) in
     let count : k ≡ far + from + n - (far + from) = omega arith in
-    ap (λ m. take k (drop from (take m rest))) parts
-    ∙ ap (take k) (drop-take from (g.data_area - from) rest)
-    ∙ take-take k (g.data_area - from) (drop from rest) (omega (arith, within))
-    ∙ ap (take k) (drop-drop from far image) ∙ ap (λ m. take m (drop (far + from) image)) count ∙ is
+    ap (take k) (drop-drop from far image) ∙ ap (λ m. take m (drop (far + from) image)) count ∙ is
 
 -- ---- the record, by the carousels without their bodies
 
@@ -443,8 +451,9 @@ pub record IsReady (view : RepositoryView) (s : Standing) (command : Command) (d
   -- with the command's record, the given ones fold to the one after
   pub given_push : IsFull view.journal
       → catalogue_of view.journal.geometry.objects (given ++ r ∷ []) ≡ Ok after
-  -- each body lies in the data area, and beside the place of the command's
+  -- each body lies in the data area, and beside the place of the command's, which lies there too
   pub beside : AreBeside view.journal.geometry from (length (body_of command)) c.objects
+      × (from + length (body_of command) ≤ view.journal.geometry.data_area)
   -- an image of the standing that has the body in its place comes to the standing after
   pub step : (j : JournalView) (list : List Record) (image : List ℕ)
       → j.geometry ≡ view.journal.geometry
@@ -521,7 +530,10 @@ module _ (view : RepositoryView) (command : Command) (done : Done) (next : Carou
         push = fold-push g.objects 0 _ c first.0 records r is.fold first.1;
         given_fold = rewrites;
         given_push = λ full. fold-push g.objects 0 _ c first.0 given r (rewrites full) first.1;
-        beside = lie_beside g view.journal.layout from (length body) c.objects is.whole.each room.1;
+        beside = (
+          lie_beside g view.journal.layout from (length body) c.objects is.whole.each room.1,
+          room.0,
+        );
         step = λ j list image same fold has of lies.
             let here = stands_by_parts g (with_records j list) c image same has.read fold in
             let standing = same-standing (standing_of g c image) s (sym here ∙ of.stands) in
@@ -529,7 +541,7 @@ module _ (view : RepositoryView) (command : Command) (done : Done) (next : Carou
             subst (λ (h : Geometry). h.data_area ≤ length (area_of h image)) same
             (area-long image (with_records j list) has.read) in
             let here_made = made (area_of g image) long
-            (area-slice g image body from (length body) room.0 lies) in
+            (area-slice g image body from (length body) lies) in
             let after = same-some here_made.0 first.0 (sym here_made.1 ∙ first.1) in
             let accepted = subst (λ k.
             change (carousel_in (area_of g image) c) g.objects command
@@ -543,6 +555,7 @@ module _ (view : RepositoryView) (command : Command) (done : Done) (next : Carou
               lies = sym (same_start view s agrees command) ∙ prepared.lies;
               geometry = agrees.geometry;
               extents = lie ∙ same_extents view s agrees command from;
+              rest = ap (λ (t : Standing). t.rest) standing;
             });
       }
 

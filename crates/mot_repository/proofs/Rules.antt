@@ -22,22 +22,20 @@ use Rattle.mot_repository.proofs.Soundness.{is_folded, placed_in, whole_fold}
 use Rattle.mot_repository.specs.Inner.Whole.{IsSoundPlaced}
 
 area-length : (g : Geometry) (image : List ℕ) → length_of g ≤ length image
-    → length (area_of g image) ≡ g.data_area
+    → g.data_area ≤ length (area_of g image)
 area-length g image long =
     omega (
       arith,
       long,
-      length-take g.data_area (drop (area_start g) image),
       length-drop (area_start g) image,
     )
 
 area-bytes : (g : Geometry) (image : List ℕ) → All (λ b. b < 256) image
     → All (λ b. b < 256) (area_of g image)
 area-bytes g image bytes =
-    All-take (λ b. b < 256) g.data_area (drop (area_start g) image)
-    (All-drop (λ b. b < 256) (area_start g) image bytes)
+    All-drop (λ b. b < 256) (area_start g) image bytes
 
-module _ (g : Geometry) (layout : Layout) (area : List ℕ) (long : length area ≡ g.data_area)
+module _ (g : Geometry) (layout : Layout) (area : List ℕ) (long : g.data_area ≤ length area)
     (bytes : All (λ b. b < 256) area) where
   body-length : (p : Placed) → p.start + p.object.length ≤ g.data_area
       → length (body_in_area area p) ≡ p.object.length

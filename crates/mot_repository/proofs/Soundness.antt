@@ -23,7 +23,7 @@ use Rattle.mot_numbers.specs.Refusal.{◌>>=◌}
 use Rattle.mot_journal.specs.Catalogue.{Placed, Catalogue, new_catalogue}
 use Rattle.mot_journal.specs.Catalogue.{catalogue_after, are_all_apart, body_in_area, carousel_in}
 use Rattle.mot_journal.specs.Gaps.{AreBeside, standing_of}
-use Rattle.mot_journal.specs.Image.{DiskRecords, Standing, records_of, stands_for, area_of}
+use Rattle.mot_journal.specs.Image.{DiskRecords, Standing, records_of, stands_for, area_of, rest_of}
 use Rattle.mot_numbers.specs.declared.refusal.Refusal.{Refusal}
 use Rattle.mot_numbers.specs.declared.geometry.Geometry.{Geometry}
 use Rattle.mot_numbers.specs.Geometry.{is_valid, is_within, is_packet_length}
@@ -271,6 +271,14 @@ is_folded image s e = record-cases image s (records_of image) refl e
 abbrev Sound : Standing → Type 0
 Sound s = IsSound s.carousel × (length s.carousel.objects ≤ s.geometry.objects)
     × AllByRecursion (λ (e : ℕ × ℕ). (1 ≤ e.1) × (e.0 + e.1 ≤ s.geometry.data_area)) s.extents
+
+-- the bytes after its data area are those of the image
+pub standings_rest : (image : List ℕ) (s : Standing) → stands_for image ≡ Ok s
+    → s.rest ≡ rest_of s.geometry image
+standings_rest image s stands =
+    let f = is_folded image s stands in
+    sym (ap (λ (t : Standing). t.rest) f.is)
+    ∙ ap (λ (t : Standing). rest_of t.geometry image) f.is
 
 -- what an image of bytes stands for is sound, and its bodies lie in the data area
 pub keeps : StandingsAreSound

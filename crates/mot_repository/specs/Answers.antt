@@ -3,6 +3,7 @@ use Rattle.std.specs.Prelude.{◌≡◌, false, Result, Ok, Err, IsTrue, IsFalse
 use Rattle.disk_model.specs.Disk.{State, IsUnchanged}
 use Rattle.disk_model.specs.Failures.{Rises}
 use Rattle.mot_journal.specs.Image.{Standing}
+use Rattle.mot_journal.specs.declared.layout.Layout.TheVariants.{Two}
 use Rattle.mot_numbers.specs.declared.refusal.Refusal.{Refusal}
 use Rattle.mot_numbers.specs.declared.refusal.Refusal.TheVariants.{OutOfMemory, DeviceFault, Halted}
 use Rattle.mot_objects.specs.declared.command.Command.{Command}
@@ -11,10 +12,11 @@ use Rattle.mot_repository.specs.Outcome.{after_command, has_long_name}
 use Rattle.mot_repository.specs.Repository.{RepositoryView, Agrees}
 
 -- Why a command is refused before anything is written: the repository is halted; whatever the
--- bodies are, the command comes to this refusal; or memory is wanted, but not for too long a name.
+-- bodies are, the command, whose name has room in layout 2, comes to this refusal; or memory is
+-- wanted, but not for too long a name.
 pub data IsRefusal (view : RepositoryView) (command : Command) (refusal : Refusal) : Type 0 where
   halted : IsTrue view.halted → refusal ≡ Halted → IsRefusal view command refusal
-  by_rules : IsFalse view.halted
+  by_rules : IsFalse view.halted → has_long_name Two command ≡ false
       → ((s : Standing) → Agrees view s
       → after_command view.journal.layout s command ≡ Err refusal)
       → IsRefusal view command refusal

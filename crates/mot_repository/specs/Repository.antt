@@ -3,8 +3,8 @@ use Rattle.std.specs.Prelude.{◌≡◌, ◌⊎◌, ℕ, zero, suc, Bool, List, 
 use Rattle.disk_model.specs.Disk.{State}
 use Rattle.mot_journal.specs.declared.layout.Layout.{Layout}
 use Rattle.mot_journal.specs.declared.record.Record.{Record}
-use Rattle.mot_journal.specs.Journal.{JournalView, HoldsRecords}
-use Rattle.mot_journal.specs.Image.{Standing, stands_for, IsClean}
+use Rattle.mot_journal.specs.Journal.{JournalView, HoldsRecords, with_records}
+use Rattle.mot_journal.specs.Image.{Standing, records_of, stands_for, IsClean}
 use Rattle.mot_objects.specs.declared.carousel.Carousel.{Carousel}
 use Rattle.mot_objects.specs.declared.command.Command.{Command}
 use Rattle.mot_objects.specs.declared.command.Done.{Done}
@@ -42,6 +42,15 @@ pub record Agrees (view : RepositoryView) (s : Standing) : Type 0 where
   pub bodies : List (List ℕ)
   pub are_bodies : AreBodiesOf view.carousel bodies
   pub carousel : s.carousel ≡ carousel_of view.carousel bodies
+
+-- The bytes that the disk reads stand for what the repository keeps, and have its records. They
+-- need not be clean, nor does it matter what else a crash now may leave: calls that only read go by
+-- this.
+pub record HasStanding (view : RepositoryView) (s : Standing) (state : State) : Type 0 where
+  pub agrees : Agrees view s
+  pub records : List Record
+  pub read : records_of state.bytes ≡ Ok (with_records view.journal records)
+  pub stands : stands_for state.bytes ≡ Ok s
 
 -- The one fact that every call of an open repository or server starts from and leaves: it is not
 -- halted, the disk is honest, and each image that a crash now may leave is clean, has the same

@@ -1,5 +1,6 @@
 //! A command for which all memory was taken, and nothing was written.
 ghost use Rattle.std.specs.Prelude.{◌≡◌, ◌≤◌, ◌+◌, true, false, IsTrue, IsFalse, OnOk, IfOk, IfErr};
+ghost use Rattle.mot_journal.specs.declared.layout.Layout.TheVariants.{Two};
 ghost use Rattle.mot_numbers.specs.Geometry as Sizes;
 ghost use Rattle.mot_numbers.specs.Geometry.{is_valid};
 ghost use Rattle.mot_repository.specs.Answers.{IsRefusal};
@@ -118,7 +119,10 @@ fn records_to_give(
 
 /// Whether the slots of this layout have no room for the name that the command speaks of.
 fn is_name_too_long(layout: Layout, command: &Command) -> bool
-    ensures { result ≡ has_long_name layout command.now }
+    ensures value { result ≡ has_long_name layout command.now }
+
+    // no name is too long for layout 2
+    ensures fits { has_long_name Two command.now ≡ false }
 {
     match command {
         Command::Put { name, .. } => name.as_bytes().len() > layout.longest_name(),

@@ -71,6 +71,7 @@ impl<D: Disk> Repository<D> {
     ghost use Rattle.mot_repository.specs.Inner.InOrder.{view_with};
     ghost use Rattle.mot_repository.specs.Inner.Ready.{IsPrepared};
     ghost use Rattle.mot_repository.specs.Repository.{object_body, IsOf, Holds, IsBeforeOrAfter};
+    ghost use Rattle.mot_repository.specs.Repository.{HasStanding};
 
     /// An open repository of these parts, not halted.
     pub(crate) fn of(disk: D, journal: Journal, inventory: Inventory) -> Self
@@ -201,7 +202,7 @@ impl<D: Disk> Repository<D> {
             → (D.state self.new.disk).IsHonest }
 
         // That is the body of the carousel that the disk stands for.
-        ensures bytes { (s : Standing) → Holds self.old.view s (D.state self.old.disk)
+        ensures bytes { (s : Standing) → HasStanding self.old.view s (D.state self.old.disk)
             → (D.state self.new.disk).IsHonest → OnOk result
             (out.new ≡ slice_range (object_body s.carousel.objects place) from
             (from + length out.old)) }

@@ -9,7 +9,8 @@ use Rattle.mot_numbers.specs.declared.refusal.Refusal.{Refusal}
 use Rattle.mot_numbers.specs.declared.refusal.Refusal.TheVariants.{DeviceFault}
 use Rattle.mot_objects.specs.declared.command.Command.{Command}
 use Rattle.mot_objects.specs.declared.command.Done.{Done}
-use Rattle.mot_repository.specs.Outcome.{after_command}
+use Rattle.mot_journal.specs.declared.layout.Layout.TheVariants.{Two}
+use Rattle.mot_repository.specs.Outcome.{after_command, has_long_name}
 use Rattle.mot_repository.specs.Repository.{RepositoryView, Holds, IsBeforeOrAfter}
 use Rattle.mot_repository.specs.Answers.{IsRefusal, IsAnswered, halted, by_rules, no_memory}
 use Rattle.mot_repository.specs.Answers.{accepted, refused, failed}
@@ -45,8 +46,19 @@ refused_at : (view : RepositoryView) (s : Standing) (state : State) (command : C
     → after_command view.journal.layout s command ≡ Err refusal
 refused_at view s state command refusal holds (halted is e) goes_on =
     absurd (subst Yes (sym (ap is_run_ending e) ∙ goes_on) tt)
-refused_at view s state command refusal holds (by_rules going rules) goes_on = rules s holds.agrees
+refused_at view s state command refusal holds (by_rules going fits rules) goes_on =
+    rules s holds.agrees
 refused_at view s state command refusal holds (no_memory going short e) goes_on =
+    absurd (subst Yes (sym (ap is_run_ending e) ∙ goes_on) tt)
+
+-- and then its name is not too long for layout 2
+name_fits : (view : RepositoryView) (command : Command) (refusal : Refusal)
+    → IsRefusal view command refusal → is_run_ending refusal ≡ false
+    → has_long_name Two command ≡ false
+name_fits view command refusal (halted is e) goes_on =
+    absurd (subst Yes (sym (ap is_run_ending e) ∙ goes_on) tt)
+name_fits view command refusal (by_rules going fits rules) goes_on = fits
+name_fits view command refusal (no_memory going short e) goes_on =
     absurd (subst Yes (sym (ap is_run_ending e) ∙ goes_on) tt)
 
 -- a server whose answer ends no run is not halted
@@ -59,7 +71,8 @@ going_at view view' start now command refusal goes (failed e going rises halts) 
 going_at view view' start now command refusal goes (refused r e (halted is was) same still) =
     let same_refusal : refusal ≡ r = cc in
     absurd (subst Yes (sym (ap is_run_ending (same_refusal ∙ was)) ∙ goes) tt)
-going_at view view' start now command refusal goes (refused r e (by_rules going rules) same still) =
+going_at view view' start now command refusal goes (refused r e
+    (by_rules going fits rules) same still) =
     going
 going_at view view' start now command refusal goes
     (refused r e (no_memory going short was) same still) =
@@ -83,7 +96,7 @@ run_fault first view view' start mid now command refusal le later same ends
     let same_refusal : refusal ≡ r = cc in
     run_ends.halted (subst IsTrue same is) (same_refusal ∙ is_halted)
 run_fault first view view' start mid now command refusal le later same ends
-    (refused r e (by_rules going rules) same_view still) =
+    (refused r e (by_rules going fits rules) same_view still) =
     let same_refusal : refusal ≡ r = cc in
     let some = some_standing view in
     let no : is_run_ending r ≡ false =
@@ -154,6 +167,7 @@ module _ (layout : Layout) (view view' : RepositoryView) (start mid now : State)
       subst (λ v. Reached layout v start now s commands (marks ++ false ∷ [])) (sym same)
       (refuses layout view start mid now s commands marks command at so_far r
       (subst (λ l. after_command l so_far.last command ≡ Err r) so_far.layout_is why')
+      (name_fits view command r why (subst (λ x. is_run_ending x ≡ false) is goes_on))
       (holds_still view view so_far.last mid now so_far.holds
       (keeps.honest so_far.holds.journal.honest) still refl) still)
   goes_on_false refusal goes_on (failed e going rises halts) =

@@ -20,12 +20,14 @@ use Rattle.mot_server.proofs.Runs.{after_both, after_none}
 
 -- however often it crashed, a disk stands for what the commands that are done make
 pub histories_are : HistoriesAreCommands
-histories_are g first done s new = after_none (standing_from g first)
+histories_are g first done s (new rest) = after_none (standing_from g first rest)
 histories_are g first done s (one_more before sure others mid last history is) =
-    subst (λ l. IsAfter (standing_from g first) l last)
+    subst (λ l. IsAfter (standing_from g first last.rest) l last)
     (sym (append_assoc before sure (take is.count others)))
-    (after_both (standing_from g first) before (sure ++ take is.count others) mid last
-    (histories_are g first before mid history) is.after)
+    (subst (λ r. IsAfter (standing_from g first r) (before ++ (sure ++ take is.count others)) last)
+    (sym is.after.rest)
+    (after_both (standing_from g first mid.rest) before (sure ++ take is.count others) mid last
+    (histories_are g first before mid history) is.after))
 
 -- one run more
 pub goes_on : (g : Geometry) (first : ℕ) (before sure others : List Command) (s last : Standing)

@@ -5,15 +5,15 @@ pub use Rattle.mot_server.proofs.Runs.{after_none, after_one, after_both}
 pub use Rattle.mot_server.proofs.Runs.{more, less_sure, none_of, before_or_after}
 pub use Rattle.mot_server.proofs.Survival.{after_history_none}
 -- what was left of a disk that was formatted here
-pub use Rattle.mot_server.proofs.Lives.{none_or_left}
+pub use Rattle.mot_server.proofs.Lives.{keeps_commands, none_or_left}
 pub use Rattle.mot_server.proofs.Survival.{passing, if_err}
 -- why a command is refused on a disk of layout 2
 pub use Rattle.mot_server.proofs.Marked.{IsRefused, refused_by}
 -- calls that change nothing, one after the other, and how long a body is
-pub use Rattle.mot_server.proofs.Read.{body_length, holds_still, rises_on}
+pub use Rattle.mot_server.proofs.Read.{body_length, holds_still, rises_on, standing_still}
 pub use Rattle.mot_server.proofs.Openings.{still_unchanged}
 -- what a disk stands for is held once it is opened
-pub use Rattle.mot_server.proofs.Openings.{opened_holds}
+pub use Rattle.mot_server.proofs.Openings.{opened_holds, opened_standing}
 -- a device fault leaves the carousel in memory as it was
 pub use Rattle.mot_server.proofs.Runs.{still_agrees}
 -- a geometry that is valid

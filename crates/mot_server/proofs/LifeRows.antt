@@ -29,8 +29,7 @@ put_marked : (g : Geometry) (first : ℕ) (content : ContentNumbers) → 2 ≤ g
 unfolding change
 put_marked g first content area objects so =
     ⊎_elim {C = ⊥} (λ e. few (nat_le g.objects 0) (leb-over g.objects objects) _ e)
-    (λ lacks. ⊎_elim {C = ⊥} (λ long. omega (arith, long))
-    (λ full. omega (arith, full, area)) lacks) so.0
+    (λ full. omega (arith, full, area)) so.0
   where
     leb-over : (n : ℕ) → 1 ≤ n → nat_le n 0 ≡ false
     leb-over n le = grind (arith, nat_tests, le)

@@ -9,7 +9,7 @@ use Rattle.mot_numbers.specs.Refusal.{◌>>=◌}
 use Rattle.mot_journal.specs.Catalogue.{carousel_in, extents_of}
 use Rattle.mot_journal.specs.Geometry.{geometry_of, selected_half}
 use Rattle.mot_journal.specs.Image.{area_of, half_of, journal_in_half, or_not_formatted, records_of}
-use Rattle.mot_journal.specs.Image.{stands_for}
+use Rattle.mot_journal.specs.Image.{rest_of, stands_for}
 use Rattle.mot_numbers.specs.declared.refusal.Refusal.{Refusal}
 use Rattle.mot_numbers.specs.declared.refusal.Refusal.TheVariants.{NotFormatted}
 use Rattle.mot_journal.specs.Journal.IsReadingRefusal.{not_formatted, damaged, no_memory, device}
@@ -23,6 +23,8 @@ use Rattle.mot_journal.specs.Geometry.{has_magic}
 use Rattle.mot_journal.specs.Journal.{NoneOrFrom, standing_from}
 use Rattle.mot_numbers.specs.declared.geometry.Geometry.{Geometry}
 use Rattle.mot_objects.specs.declared.command.Command.{Command}
+use Rattle.mot_repository.proofs.Laws.{standings_rest}
+use Rattle.mot_server.specs.Lives.{KeepsCommands}
 use Rattle.mot_server.specs.Runs.{StandsAfterSome}
 use Rattle.mot_server.proofs.Runs.{after_none, none_of}
 
@@ -39,21 +41,35 @@ no_standing-cases image None is none =
       geometry = j.geometry;
       carousel = carousel_in (area_of j.geometry image) c;
       extents = extents_of c;
+      rest = rest_of j.geometry image;
     })))) is
 no_standing-cases image (Some h) is none = absurd (no-geometry image h none is)
 
+-- What stands so for commands since the formatting keeps them: the bytes after the data area are
+-- those of the image itself.
+pub keeps_commands : (g : Geometry) (first : ℕ) (rest : List ℕ) (sure others : List Command)
+    (image : List ℕ) → StandsAfterSome (standing_from g first rest) sure others image
+    → KeepsCommands g first sure others image
+keeps_commands g first rest sure others image is =
+    let after = is.after.after in
+    let same : rest ≡ rest_of g image = sym after.rest
+    ∙ standings_rest image is.last is.image_is.stands
+    ∙ ap (λ h. rest_of h image) after.geometry in
+    subst (λ r. StandsAfterSome (standing_from g first r) sure others image) same is
+
 -- what a crash left of a disk just formatted: no magic, or what commands have left
-pub none_or_left : (g : Geometry) (first : ℕ) (others : List Command) (image : List ℕ)
-    (Old : Type 0) → (Old → NoneOrFrom g first image)
-    → Old ⊎ StandsAfterSome (standing_from g first) [] others image
-    → (has_magic image ≡ false) ⊎ StandsAfterSome (standing_from g first) [] others image
-none_or_left g first others image Old new (inr stands) = inr stands
-none_or_left g first others image Old new (inl old) =
-    ⊎_elim {C = (has_magic image ≡ false)
-    ⊎ StandsAfterSome (standing_from g first) [] others image}
+pub none_or_left : (g : Geometry) (first : ℕ) (rest : List ℕ) (others : List Command)
+    (image : List ℕ) (Old : Type 0) → (Old → NoneOrFrom g first image)
+    → Old ⊎ StandsAfterSome (standing_from g first rest) [] others image
+    → (has_magic image ≡ false) ⊎ KeepsCommands g first [] others image
+none_or_left g first rest others image Old new (inr stands) =
+    inr (keeps_commands g first rest [] others image stands)
+none_or_left g first rest others image Old new (inl old) =
+    ⊎_elim {C = (has_magic image ≡ false) ⊎ KeepsCommands g first [] others image}
     (λ none. inl none)
-    (λ made. inr (none_of (standing_from g first) [] others (standing_from g first) image
-    (after_none (standing_from g first)) (record { stands = made.stands; clean = made.clean })))
+    (λ made. let s = standing_from g first (rest_of g image) in
+    inr (none_of s [] others s image (after_none s)
+    (record { stands = made.stands; clean = made.clean })))
     (new old)
 
 -- why one without the magic is not opened

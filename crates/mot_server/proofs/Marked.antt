@@ -2,7 +2,7 @@
 use Rattle.std.proofs.Common.{◌≡◌, ◌⊎◌, inl, inr, ℕ, suc, ◌+◌, ◌-◌, Bool, true, false, List, []}
 use Rattle.std.proofs.Common.{◌∷◌, Option, Some, None, Result, Ok, Err, refl, sym, ap, ◌∙◌, subst}
 use Rattle.std.proofs.Common.{arith, map}
-use Rattle.std.proofs.lemmas.Bool.{and_from, le-leb, ltb-true, or_left}
+use Rattle.std.proofs.lemmas.Bool.{and_from, le-leb, or_left}
 use Rattle.std.specs.List.{list_any}
 use Rattle.std.specs.Prelude.{◌<◌, ◌++◌, All, length, nat_le, if◌then◌else◌}
 use Rattle.mot_journal.specs.declared.layout.Layout.{Layout}
@@ -18,7 +18,6 @@ use Rattle.mot_objects.specs.Carousel.{Carousel, Object, carousel_if_accepted, c
 use Rattle.mot_objects.specs.Carousel.{change_if_named, free_object_id, has_name, new_object}
 use Rattle.mot_objects.specs.Carousel.{objects_with, objects_without, renewed_object}
 use Rattle.mot_objects.specs.Content.{ContentNumbers}
-use Rattle.mot_objects.specs.declared.name.TheConstants.{MAX_NAME}
 use Rattle.mot_numbers.specs.declared.refusal.Refusal.TheVariants.{BadName, NameTaken, NoRoom}
 use Rattle.mot_numbers.specs.declared.refusal.Refusal.TheVariants.{TooManyObjects}
 use Rattle.mot_journal.specs.Journal.{standing_from}
@@ -144,32 +143,22 @@ long_after s next (Period period) done is long =
     (sym (period-made s.carousel next.carousel limit period done is.rules)) long)
 
 -- what finds no gap
-no_gap : (extents : List (ℕ × ℕ)) (objects : List Object) (area : ℕ) (name body : List ℕ)
+no_gap : (extents : List (ℕ × ℕ)) (objects : List Object) (area : ℕ) (body : List ℕ)
     → AreAsLong extents objects → least_gap extents (length body) area ≡ None
-    → MayLackRoom area objects name body
-no_gap extents objects area name body long none =
-    inr (subst (λ n. area < n) (total-long body extents objects long)
-    (full extents (length body) area none))
+    → MayLackRoom area objects body
+no_gap extents objects area body long none =
+    subst (λ n. area < n) (total-long body extents objects long)
+    (full extents (length body) area none)
 
 no_room : (s : Standing) (command : Command) → AreAsLong s.extents s.carousel.objects
     → start_of s.extents s.geometry.data_area command ≡ None
     → LacksRoom s.geometry.data_area s.carousel.objects command
 no_room s (Put name content mime body) long none =
-    no_gap s.extents s.carousel.objects s.geometry.data_area name body long none
+    no_gap s.extents s.carousel.objects s.geometry.data_area body long none
 no_room s (Replace name content mime body) long none =
-    no_gap s.extents s.carousel.objects s.geometry.data_area name body long none
+    no_gap s.extents s.carousel.objects s.geometry.data_area body long none
 no_room s (Withdraw name) long none = absurd (no_bytes s.extents s.geometry.data_area none)
 no_room s (Period period) long none = absurd (no_bytes s.extents s.geometry.data_area none)
-
--- so does what has too long a name
-long_name : (area : ℕ) (objects : List Object) (command : Command)
-    → has_long_name Two command ≡ true → LacksRoom area objects command
-long_name area objects (Put name content mime body) long =
-    inl (ltb-true MAX_NAME (length name) long)
-long_name area objects (Replace name content mime body) long =
-    inl (ltb-true MAX_NAME (length name) long)
-long_name area objects (Withdraw name) long = ltb-true MAX_NAME (length name) long
-long_name area objects (Period period) long = cc
 
 abbrev Refuses : Standing → Command → Type 0
 Refuses s command =
@@ -179,18 +168,15 @@ Refuses s command =
 -- a command is refused by the rules, or there may be no room for it
 refuses-by : (s : Standing) (command : Command) (refusal : Refusal)
     → AreAsLong s.extents s.carousel.objects
-    → after_command Two s command ≡ Err refusal → (long : Bool)
-    (r : Result (Carousel × Done) Refusal)
-    (o : Option ℕ) → has_long_name Two command ≡ long
+    → after_command Two s command ≡ Err refusal → (r : Result (Carousel × Done) Refusal)
+    (o : Option ℕ) → has_long_name Two command ≡ false
     → change s.carousel s.geometry.objects command ≡ r
     → start_of s.extents s.geometry.data_area command ≡ o → Refuses s command
-refuses-by s command refusal sizes e true r o long is at =
-    inr (long_name s.geometry.data_area s.carousel.objects command long)
-refuses-by s command refusal sizes e false (Err x) o short is at =
+refuses-by s command refusal sizes e (Err x) o short is at =
     inl (ap carousel_if_accepted is)
-refuses-by s command refusal sizes e false (Ok made) None short is at =
+refuses-by s command refusal sizes e (Ok made) None short is at =
     inr (no_room s command sizes at)
-refuses-by s command refusal sizes e false (Ok made) (Some start) short is at =
+refuses-by s command refusal sizes e (Ok made) (Some start) short is at =
     let names : List (List ℕ) = map (λ (o : Object). o.name) s.carousel.objects in
     let next : Standing = record s {
       carousel = made.0;
@@ -204,6 +190,7 @@ refuses-by s command refusal sizes e false (Ok made) (Some start) short is at =
       lies = at;
       geometry = refl;
       extents = refl;
+      rest = refl;
     }) in
     let no : ◌≡◌ {A = Result (Standing × Done) Refusal} (Ok (next, made.1)) (Err refusal) =
     sym fine ∙ e in
@@ -211,11 +198,11 @@ refuses-by s command refusal sizes e false (Ok made) (Some start) short is at =
 
 refuses : (s : Standing) (command : Command) (refusal : Refusal)
     → AreAsLong s.extents s.carousel.objects
-    → after_command Two s command ≡ Err refusal → Refuses s command
-refuses s command refusal sizes e =
-    refuses-by s command refusal sizes e (has_long_name Two command)
-    (change s.carousel s.geometry.objects command)
-    (start_of s.extents s.geometry.data_area command) refl refl refl
+    → after_command Two s command ≡ Err refusal → has_long_name Two command ≡ false
+    → Refuses s command
+refuses s command refusal sizes e short =
+    refuses-by s command refusal sizes e (change s.carousel s.geometry.objects command)
+    (start_of s.extents s.geometry.data_area command) short refl refl
 
 -- marks that are right of a disk of layout 2 are right of its carousel
 marks_two : (s : Standing) (commands : List Command) (marks : List Bool) (last : Standing)
@@ -231,16 +218,16 @@ marks_two s (command ∷ commands) (true ∷ marks) last sizes so =
           (marks_two so.1 commands marks last (long_after s so.1 command so.0 step sizes) so.3),
     )
 marks_two s (command ∷ commands) (false ∷ marks) last sizes so =
-    (refuses s command so.0 sizes so.1, marks_two s commands marks last sizes so.2)
+    (refuses s command so.0 sizes so.1.0 so.1.1, marks_two s commands marks last sizes so.2)
 
 -- so of a new disk whose layout is that one
-pub marks_of_carousel : (layout : Layout) (g : Geometry) (first : ℕ) (commands : List Command)
-    (marks : List Bool) (last : Standing) → layout ≡ Two
-    → AreMarks layout (standing_from g first) commands marks last
+pub marks_of_carousel : (layout : Layout) (g : Geometry) (first : ℕ) (rest : List ℕ)
+    (commands : List Command) (marks : List Bool) (last : Standing) → layout ≡ Two
+    → AreMarks layout (standing_from g first rest) commands marks last
     → AreMarksOf g (carousel_from first) commands marks
-marks_of_carousel layout g first commands marks last is so =
-    marks_two (standing_from g first) commands marks last refl
-    (subst (λ l. AreMarks l (standing_from g first) commands marks last) is so)
+marks_of_carousel layout g first rest commands marks last is so =
+    marks_two (standing_from g first rest) commands marks last refl
+    (subst (λ l. AreMarks l (standing_from g first rest) commands marks last) is so)
 
 -- ---- why a command is refused on a disk of that layout
 

@@ -9,7 +9,7 @@ use Rattle.disk_model.specs.Disk.{State, Elapses, IsHonestDisk, IsStill, IsUncha
 use Rattle.disk_model.specs.Disk.{OnlyReads, OnlySyncs}
 use Rattle.disk_model.proofs.Laws.{keeps_on, only_bytes}
 use Rattle.mot_journal.specs.Geometry.{columns, geometry_in, geometry_of, has_magic}
-use Rattle.mot_journal.specs.Image.{Standing, stands_for}
+use Rattle.mot_journal.specs.Image.{Standing, records_of, stands_for}
 use Rattle.mot_journal.specs.Journal.{HasRecords, with_records}
 use Rattle.mot_journal.proofs.Laws.{geometry_read}
 use Rattle.mot_numbers.specs.declared.geometry.Geometry.{Geometry}
@@ -23,7 +23,7 @@ use Rattle.mot_player.specs.Continuity.{IsContinuous}
 use Rattle.mot_player.specs.Laws.{IsAtTurnsBeginning, StepsAreContinuous}
 use Rattle.mot_player.specs.Place.{Place, Request, opened_place}
 use Rattle.mot_player.specs.Turn.{Turn}
-use Rattle.mot_repository.specs.Repository.{RepositoryView, Agrees, IsOf, Holds}
+use Rattle.mot_repository.specs.Repository.{RepositoryView, Agrees, HasStanding, IsOf, Holds}
 use Rattle.mot_repository.specs.Opening.{IsOpened, IsOpeningRefusal}
 use Rattle.mot_journal.specs.Journal as openings
 use Rattle.mot_server.specs.Playing.{HasPlayedTurn, IsTurnRefusal, halted, no_memory, failed}
@@ -92,6 +92,22 @@ module _ (old new : State) (view : RepositoryView) (s : Standing) (image : IsOf 
     each = λ c left. subst (λ d. IsOf s d)
         (sym (only_bytes new sound opened.firm c left ∙ still.bytes)) image;
   }
+
+-- what the bytes stood for that it was opened of, clean or not, is what is read of it
+pub opened_standing : (old new : State) (view : RepositoryView) (s : Standing)
+    → stands_for old.bytes ≡ Ok s → IsOpened old new view → IsStill old new
+    → HasStanding view s new
+opened_standing old new view s stands opened still =
+    let same = sym still.bytes in
+    record {
+      agrees = subst (λ d. Agrees view d)
+          (same-standing (stands_for old.bytes) opened.standing s opened.stands stands)
+          opened.agrees;
+      records = opened.records;
+      read = subst (λ b. records_of b ≡ Ok (with_records view.journal opened.records)) same
+          opened.read;
+      stands = subst (λ b. stands_for b ≡ Ok s) same stands;
+    }
 
 valid-cases : (g h : Geometry) (b c : Bool)
     → (if b && is_valid g && c then Some g else None) ≡ Some h → is_valid h ≡ true

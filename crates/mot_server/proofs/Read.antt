@@ -1,17 +1,18 @@
 -- What calls that only read leave, and what they read.
 use Rattle.std.proofs.Common.{◌≡◌, false, true, inl, ⊎_elim, ℕ, zero, suc, ◌<◌, ◌≤◌, List, [], ◌∷◌}
-use Rattle.std.proofs.Common.{length, map, get_or, refl, sym, ap, ◌∙◌, subst, arith}
+use Rattle.std.proofs.Common.{Ok, length, map, get_or, refl, sym, ap, ◌∙◌, subst, arith}
 use Rattle.std.proofs.Math.Nat.{eq-or-lt_of_le}
 use Rattle.std.proofs.lemmas.List.{ext_get_or, get_or-map}
 use Rattle.disk_model.specs.Disk.{State, IsHonestDisk, IsUnchanged}
 use Rattle.disk_model.specs.Failures.{Rises}
-use Rattle.mot_journal.specs.Image.{Standing}
+use Rattle.mot_journal.specs.Image.{Standing, records_of, stands_for}
+use Rattle.mot_journal.specs.Journal.{with_records}
 use Rattle.mot_numbers.specs.declared.geometry.Geometry.{Geometry}
 use Rattle.mot_objects.specs.Carousel as whole
 use Rattle.mot_objects.specs.Stands.{AreBodiesOf}
 use Rattle.mot_repository.specs.Extents.{ArePaired}
 use Rattle.mot_repository.specs.OnDisk.{extent_at, body_on}
-use Rattle.mot_repository.specs.Repository.{RepositoryView, Agrees, Holds, object_body}
+use Rattle.mot_repository.specs.Repository.{RepositoryView, Agrees, HasStanding, Holds, object_body}
 use Rattle.mot_repository.proofs.Laws.{body_held}
 use Rattle.mot_server.specs.Inner.Bodies.{bodies_on}
 use Rattle.mot_server.specs.Server.{bodies_of}
@@ -41,16 +42,16 @@ length-same f h (x ∷ xs) (y ∷ ys) e =
 
 -- the bodies on the disk are those of the carousel that it stands for
 pub bodies_held : (view : RepositoryView) (s : Standing) (state : State) → IsHonestDisk state
-    → Holds view s state
+    → HasStanding view s state
     → ArePaired view.carousel view.extents
     → bodies_on view.journal.geometry view.extents state.bytes ≡ bodies_of s.carousel
-bodies_held view s state sound holds paired =
+bodies_held view s state sound has paired =
     let g : Geometry = view.journal.geometry in
     let image : List ℕ = state.bytes in
     let extents : List (ℕ × ℕ) = view.extents in
     let on : List (List ℕ) = bodies_on g extents image in
     let bodies : List (List ℕ) = bodies_of s.carousel in
-    let kept = bodies_kept view s holds.agrees in
+    let kept = bodies_kept view s has.agrees in
     let sizes : map length bodies ≡ map (λ (e : ℕ × ℕ). e.1) extents = kept.0 ∙ sym paired in
     let many : length bodies ≡ length extents =
     length-same length (λ (e : ℕ × ℕ). e.1) bodies extents sizes in
@@ -61,7 +62,7 @@ bodies_held view s state sound holds paired =
     let within : i < length bodies = omega (arith, below, many) in
     let held : get_or bodies i [] ≡ body_on g extents i image =
     sym (object_body-bodies s.carousel.objects i)
-    ∙ body_held view s state sound holds i below in
+    ∙ body_held view s state sound has i below in
     let size : length (get_or bodies i []) ≡ (extent_at extents i).1 =
     sym (get_or-map length bodies i [] 0 within) ∙ ap (λ (l : List ℕ). get_or l i 0) sizes
     ∙ get_or-map (λ (e : ℕ × ℕ). e.1) extents i (0, 0) 0 below in
@@ -116,4 +117,16 @@ holds_still view view' s old new holds honest still same =
         each = λ c left. holds.journal.each c ((still.images c).0 left);
       };
       each = λ c left. holds.each c ((still.images c).0 left);
+    })
+
+-- nor what is read of the disk
+pub standing_still : (view view' : RepositoryView) (s : Standing) (old new : State)
+    → HasStanding view s old → IsUnchanged old new → view' ≡ view → HasStanding view' s new
+standing_still view view' s old new has still same =
+    subst (λ v. HasStanding v s new) (sym same) (record {
+      agrees = has.agrees;
+      records = has.records;
+      read = subst (λ b. records_of b ≡ Ok (with_records view.journal has.records))
+          (sym still.bytes) has.read;
+      stands = subst (λ b. stands_for b ≡ Ok s) (sym still.bytes) has.stands;
     })

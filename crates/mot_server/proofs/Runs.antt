@@ -20,7 +20,8 @@ use Rattle.mot_objects.specs.Carousel.{Carousel, change, carousel_after, carouse
 use Rattle.mot_objects.specs.declared.carousel.Carousel as kept
 use Rattle.mot_objects.specs.Stands.{carousel_of, AreBodiesOf}
 use Rattle.mot_repository.specs.Answers.{IsHalted}
-use Rattle.mot_repository.specs.Outcome.{after_command}
+use Rattle.mot_journal.specs.declared.layout.Layout.TheVariants.{Two}
+use Rattle.mot_repository.specs.Outcome.{after_command, has_long_name}
 use Rattle.mot_repository.specs.Repository.{RepositoryView, IsOf, Agrees, Holds, IsBeforeOrAfter}
 use Rattle.mot_repository.proofs.Laws.{accepted_parts}
 use Rattle.mot_server.specs.Runs.{accepted_commands, commands_in_flight, IsAfter, StandsAfterSome}
@@ -72,20 +73,31 @@ pub one_false : (layout : Layout) (s : Standing) (commands : List Command) (mark
     (last : Standing)
     (command : Command) (refusal : Refusal) → slice_get commands (length marks) ≡ Some command
     → AreMarks layout s commands marks last → after_command layout last command ≡ Err refusal
+    → has_long_name Two command ≡ false
     → AreMarks layout s commands (marks ++ false ∷ []) last
-one_false layout s [] marks last command refusal at so_far refused = absurd (not_there command at)
-one_false layout s (c ∷ commands) [] last command refusal at so_far refused =
-    let here = subst (λ d. after_command layout last d ≡ Err refusal) (sym (same c command at))
-    refused in
-    (refusal, subst (λ d. after_command layout d c ≡ Err refusal) so_far here, so_far)
-one_false layout s (c ∷ commands) (true ∷ marks) last command refusal at so_far refused = (
+one_false layout s [] marks last command refusal at so_far refused short =
+    absurd (not_there command at)
+one_false layout s (c ∷ commands) [] last command refusal at so_far refused short =
+    let is = sym (same c command at) in
+    let here = subst (λ d. after_command layout last d ≡ Err refusal) is refused in (
+      refusal,
+      (
+        subst (λ d. after_command layout d c ≡ Err refusal) so_far here,
+        subst (λ d. has_long_name Two d ≡ false) is short,
+      ),
+      so_far,
+    )
+one_false layout s (c ∷ commands) (true ∷ marks) last command refusal at so_far refused short = (
   so_far.0,
   so_far.1,
   so_far.2,
-  one_false layout so_far.1 commands marks last command refusal at so_far.3 refused,
+  one_false layout so_far.1 commands marks last command refusal at so_far.3 refused short,
 )
-one_false layout s (c ∷ commands) (false ∷ marks) last command refusal at so_far refused =
-    (so_far.0, so_far.1, one_false layout s commands marks last command refusal at so_far.2 refused)
+one_false layout s (c ∷ commands) (false ∷ marks) last command refusal at so_far refused short = (
+  so_far.0,
+  so_far.1,
+  one_false layout s commands marks last command refusal at so_far.2 refused short,
+)
 
 -- a true mark more accepts the command that it stands at
 pub accepted-true : (commands : List Command) (marks : List Bool) (command : Command)
@@ -133,12 +145,13 @@ after_one layout s commands last next command done so_far accepted =
           ∙ ap (λ (o : Option Carousel). o >>= λ l. carousel_if_accepted (change l limit command))
           so_far.carousel
           ∙ ap carousel_if_accepted here;
+      rest = step.rest ∙ so_far.rest;
     }
 
 -- no commands leave what a disk stands for
 pub after_none : (s : Standing) → IsAfter s [] s
 unfolding carousel_after
-after_none s = record { geometry = refl; carousel = refl }
+after_none s = record { geometry = refl; carousel = refl; rest = refl }
 
 in_parts-step : (limit : ℕ) (commands others : List Command) (o : Option Carousel)
     → ((c : Carousel) → carousel_after c limit (commands ++ others)
@@ -168,6 +181,7 @@ marks_after layout s commands [] last so_far =
       geometry = ap (λ (d : Standing). d.geometry) so_far;
       carousel =
           ap (λ (d : Standing). Some d.carousel) (sym so_far);
+      rest = ap (λ (d : Standing). d.rest) so_far;
     }
 marks_after layout s [] (mark ∷ marks) last so_far = absurd so_far
 marks_after layout s (c ∷ commands) (true ∷ marks) last so_far =
@@ -181,6 +195,7 @@ marks_after layout s (c ∷ commands) (true ∷ marks) last so_far =
       carousel = ap (λ (r : Result (Carousel × Done) Refusal). carousel_if_accepted r >>= λ next.
           carousel_after next s.geometry.objects (accepted_commands commands marks)) step.rules
           ∙ here;
+      rest = rest.rest ∙ step.rest;
     }
 marks_after layout s (c ∷ commands) (false ∷ marks) last so_far =
     marks_after layout s commands marks last so_far.2
@@ -195,6 +210,7 @@ after_both s commands others mid last first second = record {
       first.carousel
       ∙ subst (λ (g : Geometry). carousel_after mid.carousel g.objects others ≡ Some last.carousel)
       first.geometry second.carousel;
+  rest = second.rest ∙ first.rest;
 }
 
 -- more commands that may have been done
@@ -337,12 +353,13 @@ module _ (layout : Layout) (view : RepositoryView) (start mid now : State) (s : 
 
   -- a refused command leads the run on by a false mark
   pub refuses : (refusal : Refusal) → after_command layout so_far.last command ≡ Err refusal
-      → Holds view so_far.last now → IsUnchanged mid now
+      → has_long_name Two command ≡ false → Holds view so_far.last now → IsUnchanged mid now
       → Reached layout view start now s commands (marks ++ false ∷ [])
-  refuses refusal refused holds same = record {
+  refuses refusal refused short holds same = record {
     last = so_far.last;
     layout_is = so_far.layout_is;
-    marked = one_false layout s commands marks so_far.last command refusal at so_far.marked refused;
+    marked = one_false layout s commands marks so_far.last command refusal at so_far.marked refused
+        short;
     holds = holds;
     time = subst (λ l. Throughout start now (StandsAfterSome s [] l))
         (sym (accepted-false commands marks command at))

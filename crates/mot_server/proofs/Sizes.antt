@@ -1,6 +1,6 @@
 -- What an image stands for has extents that are as long as the bodies.
 use Rattle.std.proofs.Common.{◌≡◌, ℕ, ◌+◌, ◌-◌, ◌≤◌, Bool, true, false, List, [], ◌∷◌, length, map}
-use Rattle.std.proofs.Common.{take, drop, Option, Some, None, Result, Ok, Err, refl, sym, ap, ◌∙◌}
+use Rattle.std.proofs.Common.{drop, Option, Some, None, Result, Ok, Err, refl, sym, ap, ◌∙◌}
 use Rattle.std.proofs.Common.{subst, arith}
 use Rattle.std.proofs.lemmas.Bool.{leb-true}
 use Rattle.std.proofs.lemmas.List.{length-drop, length-take}
@@ -11,7 +11,7 @@ use Rattle.mot_numbers.specs.Refusal.{◌>>=◌ as result_then}
 use Rattle.mot_journal.specs.Catalogue.{Catalogue, Placed, body_in_area, carousel_in}
 use Rattle.mot_journal.specs.Catalogue.{extents_of}
 use Rattle.mot_journal.specs.Geometry.{columns, geometry_in, geometry_of, has_magic}
-use Rattle.mot_journal.specs.Image.{DiskRecords, Standing, area_of, records_of, stands_for}
+use Rattle.mot_journal.specs.Image.{DiskRecords, Standing, area_of, records_of, rest_of, stands_for}
 use Rattle.mot_journal.proofs.Laws.{geometry_read}
 use Rattle.mot_numbers.specs.declared.geometry.Geometry.{Geometry}
 use Rattle.mot_numbers.specs.declared.refusal.Refusal.{Refusal}
@@ -63,15 +63,13 @@ body-long : (g : Geometry) (image : List ℕ) (p : Placed) → length_of g ≤ l
     → p.object.length ≡ length (body_in_area (area_of g image) p)
 body-long g image p long within =
     let rest : List ℕ = drop (area_start g) image in
-    let area : List ℕ = take g.data_area rest in
     omega (
       arith,
       long,
       within,
       length-drop (area_start g) image,
-      length-take g.data_area rest,
-      length-drop p.start area,
-      length-take (p.start + p.object.length - p.start) (drop p.start area),
+      length-drop p.start rest,
+      length-take (p.start + p.object.length - p.start) (drop p.start rest),
     )
 
 all-long : (g : Geometry) (image : List ℕ) (objects : List Placed) → length_of g ≤ length image
@@ -91,6 +89,7 @@ standing_by g c image = record {
   geometry = g;
   carousel = carousel_in (area_of g image) c;
   extents = extents_of c;
+  rest = rest_of g image;
 }
 
 abbrev IsLong : Standing → Type 0

@@ -10,7 +10,7 @@ use Rattle.mot_server.specs.Runs.{IsAfter, IsAfterSome}
 -- first, and this is what it stands for.
 pub data IsHistory (g : Geometry) (first : ℕ) : List Command → Standing → Type 0 where
   -- it was formatted
-  new : IsHistory g first [] (standing_from g first)
+  new : (rest : List ℕ) → IsHistory g first [] (standing_from g first rest)
   -- one run more, which ended or was cut off by a crash: all of the sure commands are done, and a
   -- beginning of the others
   one_more : (done sure others : List Command) (s last : Standing) → IsHistory g first done s
@@ -21,4 +21,4 @@ pub data IsHistory (g : Geometry) (first : ℕ) : List Command → Standing → 
 abbrev pub HistoriesAreCommands : Type 0
 HistoriesAreCommands =
     (g : Geometry) (first : ℕ) (done : List Command) (s : Standing) → IsHistory g first done s
-    → IsAfter (standing_from g first) done s
+    → IsAfter (standing_from g first s.rest) done s

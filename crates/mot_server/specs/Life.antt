@@ -9,7 +9,6 @@ use Rattle.mot_numbers.specs.declared.geometry.Geometry.{Geometry}
 use Rattle.mot_numbers.specs.declared.refusal.Refusal.{Refusal}
 use Rattle.mot_objects.specs.declared.command.Command.{Command}
 use Rattle.mot_objects.specs.declared.command.Command.TheVariants.{Put, Replace, Withdraw, Period}
-use Rattle.mot_objects.specs.declared.name.TheConstants.{MAX_NAME}
 use Rattle.mot_objects.specs.Carousel.{Carousel, Object, carousel_after, carousel_if_accepted}
 use Rattle.mot_objects.specs.Carousel.{change}
 use Rattle.mot_packets.specs.Packet.{PacketFields, read_packet}
@@ -44,17 +43,17 @@ pub record PlaysAfter (g : Geometry) (first : ℕ) (sure others : List Command)
   pub reads : ReadsAs packets carousel g.segment_size
   pub numbered : AreNumbered g 0 packets
 
--- A name is too long, or there may be no gap for a body: with as many bytes as it has in front of
--- each object's, and itself, the data area is more than full.
-abbrev pub MayLackRoom : ℕ → List Object → List ℕ → List ℕ → Type 0
-MayLackRoom area objects name body = (MAX_NAME < length name)
-    ⊎ (area < length (flat_map (λ (o : Object). body ++ o.body) objects ++ body))
+-- There may be no gap for a body: with as many bytes as it has in front of each object's, and
+-- itself, the data area is more than full.
+abbrev pub MayLackRoom : ℕ → List Object → List ℕ → Type 0
+MayLackRoom area objects body =
+    area < length (flat_map (λ (o : Object). body ++ o.body) objects ++ body)
 
 -- there may be no room for what a command brings
 abbrev pub LacksRoom : ℕ → List Object → Command → Type 0
-LacksRoom area objects (Put name content mime body) = MayLackRoom area objects name body
-LacksRoom area objects (Replace name content mime body) = MayLackRoom area objects name body
-LacksRoom area objects (Withdraw name) = MAX_NAME < length name
+LacksRoom area objects (Put name content mime body) = MayLackRoom area objects body
+LacksRoom area objects (Replace name content mime body) = MayLackRoom area objects body
+LacksRoom area objects (Withdraw name) = ⊥
 LacksRoom area objects (Period period) = ⊥
 
 -- Each mark is right where it stands: true where the carousel accepts the command, and goes on from

@@ -26,6 +26,8 @@ commands_in_flight commands marks fault =
 pub record IsAfter (s : Standing) (commands : List Command) (last : Standing) : Type 0 where
   pub geometry : last.geometry ≡ s.geometry
   pub carousel : carousel_after s.carousel s.geometry.objects commands ≡ Some last.carousel
+  -- the bytes after the data area stay
+  pub rest : last.rest ≡ s.rest
 
 -- all of the sure commands and a beginning of the others make the one of the other
 pub record IsAfterSome (s : Standing) (sure others : List Command) (last : Standing) : Type 0 where

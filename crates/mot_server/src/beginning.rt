@@ -2,6 +2,7 @@
 ghost use Rattle.std.specs.Prelude.{◌≡◌, List, ℕ, false, IfErr, IfOk, OnOk, MatchResult};
 ghost use Rattle.disk_model.specs.Disk.{OnlySyncs};
 ghost use Rattle.mot_journal.specs.Geometry.{has_magic};
+ghost use Rattle.mot_journal.specs.Image.{rest_of};
 ghost use Rattle.mot_journal.specs.Journal.{standing_from};
 ghost use Rattle.mot_journal.specs.Making.{MakesDisk};
 ghost use Rattle.mot_player.specs.Reading.{ReadsAs};
@@ -46,7 +47,8 @@ pub fn format_and_restart<D: Disk, E: Disk>(
         → ((image : List ℕ) → (D.state disk.old).MayLeave image → has_magic image ≡ false)
         → (D.state disk.new).LeftSince (D.state disk.old).moment (E.state left).bytes
         → IfOk result.restarted (λ r. (E.state r.server.disk).IsHonest
-        → Holds r.server.view (standing_from geometry.now directory) (E.state r.server.disk)
+        → Holds r.server.view (standing_from geometry.now directory
+        (rest_of geometry.now (E.state left).bytes)) (E.state r.server.disk)
         × ReadsAs (bytes_of_packets r.packets.items) (carousel_from directory)
         geometry.now.segment_size) }
 

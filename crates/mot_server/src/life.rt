@@ -5,6 +5,7 @@ ghost use Rattle.std.specs.Prelude.{IfErr, IfSome, IfNone, MatchResult};
 ghost use Rattle.disk_model.specs.Disk.{IsStill, KeepsLength, OnlySyncs, Throughout};
 ghost use Rattle.mot_journal.specs.Geometry.{has_magic};
 ghost use Rattle.mot_journal.specs.declared.layout.Layout.TheVariants.{Two};
+ghost use Rattle.mot_journal.specs.Image.{rest_of};
 ghost use Rattle.mot_journal.specs.Journal.{NoneOrFrom, standing_from};
 ghost use Rattle.mot_numbers.specs.declared.geometry.Geometry.{Geometry};
 ghost use Rattle.mot_numbers.specs.declared.refusal.Refusal.TheVariants.{AlreadyFormatted};
@@ -44,9 +45,9 @@ pub struct Life<D: Disk> {
 }
 
 /// Formats a disk, opens it and does the commands. A crash comes at any moment of that, before or
-/// inside any disk call, or after it. Each image that it may leave keeps a beginning of the accepted
-/// commands, with at most the one in flight; or it has no magic, if the crash came before that.
-/// After the call it keeps each command that was accepted.
+/// inside any disk call, or after it. Each image that it may leave keeps a beginning of the
+/// accepted commands, with at most the one in flight; or it has no magic, if the crash came before
+/// that. After the call it keeps each command that was accepted.
 ///
 /// The headline, with `first_turn`: whatever disk reads as such an image, the packets of its first
 /// turn read, by the standards' grammars, as exactly the carousel after the commands that the image
@@ -108,7 +109,8 @@ pub fn format_and_open<D: Disk>(
     ensures keeps { MatchResult result (λ server. KeepsLength (D.state disk) (D.state server.disk))
         (λ e. KeepsLength (D.state disk) (D.state e.disk)) }
     ensures holds { IfOk result (λ server. (D.state server.disk).IsHonest
-        → Holds server.view (standing_from geometry.now directory) (D.state server.disk)) }
+        → Holds server.view (standing_from geometry.now directory
+        (rest_of geometry.now (D.state server.disk).bytes)) (D.state server.disk)) }
     ensures layout { IfOk result (λ server. (D.state server.disk).IsHonest
         → server.view.journal.layout ≡ Two) }
     ensures calm { IfOk result (λ server.

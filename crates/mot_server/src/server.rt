@@ -13,7 +13,7 @@ ghost use Rattle.mot_player.specs.Place.{change_turn, changed, directory_packets
 ghost use Rattle.mot_player.specs.Place.{hear_directory, opened_place};
 ghost use Rattle.mot_player.specs.Turn.{turn_of_carousel};
 ghost use Rattle.mot_repository.specs.Outcome.{after_command};
-ghost use Rattle.mot_repository.specs.Repository.{Agrees, Holds, IsBeforeOrAfter};
+ghost use Rattle.mot_repository.specs.Repository.{Agrees, HasStanding, Holds, IsBeforeOrAfter};
 ghost use Rattle.mot_repository.specs.Repository.{IsOf, object_body};
 
 use crate::bodies::DiskBodies;
@@ -281,7 +281,7 @@ impl<D: Disk> Server<D> {
         ensures cost { (D.state self.new.disk).calls ≤ (D.state self.old.disk).calls + 1 }
 
         // It is the next packet of what the disk stands for.
-        ensures sent { (s : journal.Standing) → Holds self.old.view s (D.state self.old.disk)
+        ensures sent { (s : journal.Standing) → HasStanding self.old.view s (D.state self.old.disk)
             → (D.state self.new.disk).IsHonest → IfOk result (λ played. IsStep
             (place_in self.old s) played.packet.items played.ends_turn (place_in self.new s)) }
         ensures stays { OnErr result (self.new.player ≡ self.old.player) }
@@ -314,7 +314,7 @@ impl<D: Disk> Server<D> {
         ensures cost { (D.state self.new.disk).calls ≤ (D.state self.old.disk).calls + 1 }
 
         // It is the next packet of what the disk stands for.
-        ensures sent { (s : journal.Standing) → Holds self.old.view s (D.state self.old.disk)
+        ensures sent { (s : journal.Standing) → HasStanding self.old.view s (D.state self.old.disk)
             → (D.state self.new.disk).IsHonest → IfOk result (λ ends_turn. IsStep
             (place_in self.old s) packet.new.items ends_turn (place_in self.new s)) }
         ensures stays { OnErr result (self.new.player ≡ self.old.player) }

@@ -95,7 +95,7 @@ module _ {D : Type 0} (old new : ServerView D) (s : Standing) (start now : State
       (state_of new s now)
   unfolding IsAnswer
   why-refused r (repository.halted is e) same = session.halted is tt (ap session.refused e) same
-  why-refused r (repository.by_rules going rules) same =
+  why-refused r (repository.by_rules going fits rules) same =
       decided (λ needs. going) (refuses r refl (rules s stands.agrees) same)
   why-refused r (repository.no_memory going short e) same = no_memory tt (ap session.refused e) same
 

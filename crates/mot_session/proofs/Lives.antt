@@ -47,7 +47,7 @@ use Rattle.mot_session.proofs.Crashes.{halted_or_not}
 use Rattle.mot_session.proofs.Ends.{memory_not_read, read_not_write}
 use Rattle.mot_session.proofs.Outcomes.{Outcome, nothing, one, halts}
 use Rattle.mot_session.proofs.Ruled.{HasImage, carousel_at, layout_stays, line-short, right_more}
-use Rattle.mot_session.proofs.Ruled.{right_reply}
+use Rattle.mot_session.proofs.Ruled.{right_reply, rights_weaker}
 use Rattle.mot_session.proofs.Shown.{begun, front_begun, replied}
 use Rattle.mot_session.proofs.Telling.{begun_told, done_of_front, not_both, sure_flight}
 use Rattle.mot_session.proofs.Telling.{told_outcome}
@@ -475,7 +475,8 @@ module _ {D : Type 0} (state : D → State)
       × (front : List ℕ) × Begun front
       × (IsTrue (is_done front) → IsFalse old.view.halted × (flight ≡ next))
       × (old.view.journal.layout ≡ Two
-      → AreRightReplies s.geometry (carousel_at (state_of old standing (state old.disk))) told)
+      → AreRightReplies (Rises (state old.disk).failures last.failures) s.geometry
+      (carousel_at (state_of old standing (state old.disk))) told)
       × FailsSo (state old.disk).failures last.failures told
 
   -- what a server that stands for this keeps has objects by the rules
@@ -558,13 +559,21 @@ module _ {D : Type 0} (state : D → State)
                     others.4 is.0,
                 ap (λ l. l ++ others.1) none ∙ is.1,
               ),
-          λ two. right_more before behind two s.geometry after.geometry line (text_of served.reply)
+          λ two.
+              let first = (state old.disk).failures in
+              let middle = (state mid.disk).failures in
+              right_more before behind two (Rises first last.failures)
+              (rises-later first middle last.failures others.10.later)
+              s.geometry after.geometry line (text_of served.reply)
               others.0 (carousel_at before) (carousel_at behind)
               (right_reply before behind two (line_of line) served.reply (line-short line)
               (image_of old standing was_honest stands) (rules_of old standing was_honest stands)
               served.answers)
+              (rights_weaker (Rises middle last.failures) (Rises first last.failures)
+              (rises_on first middle last.failures one_line.goes.keeps.later others.10.later)
+              s.geometry (carousel_at behind) others.0
               (others.9 (layout_stays before behind two (line_of line) served.reply served.answers
-              ∙ two)),
+              ∙ two))),
           fails_more (state old.disk).failures (state mid.disk).failures last.failures t others.0
               one_line.goes.keeps.later
               (line_failed before behind (done_in t) (fails_in t) what) others.10,
@@ -720,7 +729,8 @@ module _ {D : Type 0} (state : D → State) (g : Geometry) (first : ℕ)
   done_stands = record { agrees = has.agrees; holds = λ going. (has.holds going).1 }
 
   -- and so does what a crash leaves
-  pub done_at : At (standing_from g first) (state server.disk) server.view.halted sure others
+  pub done_at : At (standing_from g first has.standing.rest)
+      (state server.disk) server.view.halted sure others
   done_at = record {
     leaves = has.leaves;
     going = λ going. (has.holds going).0;
@@ -743,8 +753,8 @@ module _ {D : Type 0} (state : D → State)
       × Tells s.geometry input left count fault told flight old now
       × Kept s (state new.disk) (state opened.disk) opened.view.halted done [] next told flight
       × (opened.view.journal.layout ≡ Two
-      → AreRightReplies s.geometry (carousel_at (state_of opened standing (state opened.disk)))
-      told)
+      → AreRightReplies (Rises (state opened.disk).failures (state new.disk).failures) s.geometry
+      (carousel_at (state_of opened standing (state opened.disk))) told)
       × ((commands_failing told ≡ [])
       ⊎ Rises (state opened.disk).failures (state new.disk).failures)
 
@@ -856,19 +866,19 @@ module _ {D : Type 0} (state : D → State)
       e.2))) ends
 
 -- the carousel that the commands make, of a server that may be halted
-pub kept_by : (g : Geometry) (first : ℕ) (done : List command.Command) (standing : Standing)
-    (halted : Bool) → IsAfter (standing_from g first) done standing
+pub kept_by : (g : Geometry) (first : ℕ) (rest : List ℕ) (done : List command.Command)
+    (standing : Standing) (halted : Bool) → IsAfter (standing_from g first rest) done standing
     → (if halted then None else Some standing.carousel)
     ≡ (if halted then None else carousel_after (carousel_from first) g.objects done)
-kept_by g first done standing halted after =
+kept_by g first rest done standing halted after =
     ap (λ (o : Option Carousel). if halted then None else o) (sym after.carousel)
 
 -- no commands make the new one
-pub kept_new : (g : Geometry) (first : ℕ) (standing : Standing) (halted : Bool)
-    → IsFalse halted → IsAfter (standing_from g first) [] standing
+pub kept_new : (g : Geometry) (first : ℕ) (rest : List ℕ) (standing : Standing) (halted : Bool)
+    → IsFalse halted → IsAfter (standing_from g first rest) [] standing
     → (if halted then None else Some standing.carousel) ≡ Some (carousel_from first)
 unfolding carousel_after
-kept_new g first standing halted going after =
+kept_new g first rest standing halted going after =
     ap (λ b. if b then None else Some standing.carousel) going ∙ sym after.carousel
 
 -- of two cases, the second of which says more
@@ -909,16 +919,18 @@ module _ {D A B : Type 0} (state : D → State) (result : Result A B) (server_of
     (numbers : (s : Standing) → IsOf s image → IfOk result (λ a.
     (state (server_of a).disk).IsHonest → AreNumbered s.geometry 0 (packets_of a))) where
   -- a server that opened what a crash left lives on, with the sure ones and some of the others
-  pub lives_on : (sure others : List command.Command)
-      → StandsAfterSome (standing_from g first) sure others image
+  pub lives_on : (rest : List ℕ) (sure others : List command.Command)
+      → StandsAfterSome (standing_from g first rest) sure others image
       → IfOk result (λ a. (state (server_of a).disk).IsHonest
       → LivesOn state g first sure others (server_of a) (packets_of a))
-  lives_on sure others stands =
+  lives_on rest sure others stands =
       let last = stands.last in
-      let is = stands.after.after in
       let all = sure ++ take stands.after.count others in
-      let none : IsAfter (standing_from g first) (all ++ []) last =
-      subst (λ l. IsAfter (standing_from g first) l last) (sym (append-nil all)) is in
+      let first_is = stands.after.after in
+      let is : IsAfter (standing_from g first last.rest) all last =
+      subst (λ r. IsAfter (standing_from g first r) all last) (sym first_is.rest) first_is in
+      let none : IsAfter (standing_from g first last.rest) (all ++ []) last =
+      subst (λ l. IsAfter (standing_from g first last.rest) l last) (sym (append-nil all)) is in
       three_ok _ _ _ _ result (λ a holds read numbered honest. record {
         count = stands.after.count;
         few = stands.after.few;
@@ -927,7 +939,7 @@ module _ {D A B : Type 0} (state : D → State) (result : Result A B) (server_of
           after = is;
           agrees = (holds honest).agrees;
           holds = λ going. (refl, holds honest);
-          leaves = λ left may. none_of (standing_from g first) all [] last left is
+          leaves = λ left may. none_of (standing_from g first last.rest) all [] last left is
               ((holds honest).each left may);
           few = omega arith;
         };

@@ -12,7 +12,7 @@ use Rattle.mot_objects.specs.declared.command.Command.{Command}
 use Rattle.mot_objects.specs.Carousel.{Carousel, carousel_after}
 use Rattle.mot_server.specs.Life.{carousel_from}
 use Rattle.mot_server.specs.Lives.{HasDone}
-use Rattle.mot_server.specs.Runs.{StandsAfterSome}
+use Rattle.mot_server.specs.Runs.{IsAfter, StandsAfterSome}
 use Rattle.mot_server.specs.Server.{ServerView}
 use Rattle.mot_session.specs.Life.{AreRightReplies, Told, TellsLine, done_in, fails_in, is_done}
 use Rattle.mot_session.specs.LineByLine.{BreaksOff, ServesOne}
@@ -32,6 +32,10 @@ module _ {D : Type 0} (state : D → State)
     (g : Geometry) (first : ℕ) (done others : List Command) (old new : ServerView D)
     (line : List ℕ) (written now : Option (List ℕ))
     (has : HasDone state g first done others old) (honest : (state new.disk).IsHonest) where
+  -- the disk failed in the line
+  abbrev Fails : Type 0
+  Fails = Rises (state old.disk).failures (state new.disk).failures
+
   -- the carousel before the line, unless the server was halted
   abbrev carousel_was : Option Carousel
   carousel_was =
@@ -42,12 +46,14 @@ module _ {D : Type 0} (state : D → State)
   pub record Leaves (made cut_off : List Command) : Type 0 where
     pub has_done : HasDone state g first (done ++ made) (others ++ cut_off) new
     pub since : (image : List ℕ) → (state new.disk).LeftSince (state old.disk).moment image
-        → StandsAfterSome (standing_from g first) done (others ++ (made ++ cut_off)) image
+        → StandsAfterSome (standing_from g first has.standing.rest) done (others ++
+        (made ++ cut_off)) image
     pub cause : (cut_off ≡ []) ⊎ Rises (state old.disk).failures (state new.disk).failures
 
   leaves_by : (last : Standing) (made cut_off : List Command) → IsHonestDisk (state old.disk)
       → StandsFor new.view last (state new.disk)
-      → Step (standing_from g first) (state old.disk) (state new.disk) old.view.halted
+      → Step (standing_from g first has.standing.rest) (state old.disk)
+      (state new.disk) old.view.halted
       new.view.halted last done others made cut_off
       → (cut_off ≡ []) ⊎ Rises (state old.disk).failures (state new.disk).failures
       → Leaves made cut_off
@@ -55,13 +61,17 @@ module _ {D : Type 0} (state : D → State)
     cause = cause;
     has_done = record {
       standing = last;
-      after = step.after;
+      after = subst (λ r. IsAfter (standing_from g first r) (done ++ made) last)
+          (sym step.after.rest) step.after;
       agrees = stands.agrees;
       holds = λ going. (step.going going, stands.holds going);
-      leaves = step.leaves;
+      leaves = λ image may. subst
+          (λ r. StandsAfterSome (standing_from g first r) (done ++ made) (others ++ cut_off) image)
+          (sym step.after.rest) (step.leaves image may);
       few = step.few;
     };
-    since = since_before (standing_from g first) (state new.disk) (state old.disk) (state new.disk)
+    since = since_before (standing_from g first has.standing.rest) (state new.disk)
+        (state old.disk) (state new.disk)
         old.view.halted new.view.halted last done others was
         (done_at state g first done others old has) made cut_off step;
   }
@@ -69,7 +79,8 @@ module _ {D : Type 0} (state : D → State)
   -- it was answered, and the whole reply was written
   pub line_served : (T E : Type 0) (it : T) → ServesOne state old line new written now
       → (made cut_off : List Command)
-      × TellsLine {T = T} {E = E} g old.view.journal.layout carousel_was (Ok it) line made cut_off
+      × TellsLine {T = T} {E = E} Fails g old.view.journal.layout carousel_was
+      (Ok it) line made cut_off
       written now × Leaves made cut_off
   line_served T E it one =
       let was_honest = one.goes.keeps.was_honest honest in
@@ -80,7 +91,8 @@ module _ {D : Type 0} (state : D → State)
       let behind = state_of new led.0 (state new.disk) in
       let t : Told = record { line = line; text = text_of served.reply } in
       let what = told_outcome before behind line served.reply served.answers in
-      let step = step_made (standing_from g first) (state old.disk) (state new.disk) before behind t
+      let step = step_made (standing_from g first has.standing.rest) (state old.disk)
+      (state new.disk) before behind t
       (sound new.disk honest) (λ h. (one.goes.halted h).1 honest) served.stored done others
       has.after (done_at state g first done others old has) what in (
         done_in t,
@@ -89,15 +101,19 @@ module _ {D : Type 0} (state : D → State)
           t,
           refl,
           replied g before behind (line_of line) served.reply has.after.geometry
-              (rules_of state sound (standing_from g first) old has.standing was_honest stands)
+              (rules_of state sound (standing_from g first has.standing.rest) old has.standing
+              was_honest stands)
               served.answers,
-          λ two. subst (λ o. AreRightReplies g o (t ∷ []))
-              (kept_by g first done has.standing old.view.halted has.after)
-              (right_more before behind two g has.after.geometry line (text_of served.reply) []
+          λ two. subst (λ o. AreRightReplies Fails g o (t ∷ []))
+              (kept_by g first has.standing.rest done has.standing old.view.halted has.after)
+              (right_more before behind two Fails (λ is. is) g has.after.geometry line
+              (text_of served.reply) []
               (carousel_at before) (carousel_at behind)
               (right_reply before behind two (line_of line) served.reply (line-short line)
-              (image_of state sound (standing_from g first) old has.standing was_honest stands)
-              (rules_of state sound (standing_from g first) old has.standing was_honest stands)
+              (image_of state sound (standing_from g first has.standing.rest) old has.standing
+              was_honest stands)
+              (rules_of state sound (standing_from g first has.standing.rest) old has.standing
+              was_honest stands)
               served.answers) tt),
           served.appended,
           refl,
@@ -110,7 +126,7 @@ module _ {D : Type 0} (state : D → State)
   -- the reply was broken off
   pub line_broken : (T E : Type 0) (fault : E) → BreaksOff state old line new written now
       → (made cut_off : List Command)
-      × TellsLine {T = T} {E = E} g old.view.journal.layout carousel_was (Err fault) line made
+      × TellsLine {T = T} {E = E} Fails g old.view.journal.layout carousel_was (Err fault) line made
       cut_off
       written now
       × Leaves made cut_off
@@ -123,13 +139,15 @@ module _ {D : Type 0} (state : D → State)
       let behind = state_of new led.0 (state new.disk) in
       let t : Told = record { line = line; text = text_of stopped.reply } in
       let what = begun_told before behind line stopped.reply stopped.broken.begins in
-      let step = step_made (standing_from g first) (state old.disk) (state new.disk) before behind t
+      let step = step_made (standing_from g first has.standing.rest) (state old.disk)
+      (state new.disk) before behind t
       (sound new.disk honest) (λ h. (breaks.goes.halted h).1 honest) stopped.stored done others
       has.after (done_at state g first done others old has) what in
       let goes = front_begun g (line_of line) (text_of stopped.reply)
       stopped.broken.written.written stopped.broken.written.unwritten stopped.broken.written.split
       (begun g before behind (line_of line) stopped.reply has.after.geometry
-      (rules_of state sound (standing_from g first) old has.standing was_honest stands)
+      (rules_of state sound (standing_from g first has.standing.rest) old has.standing was_honest
+      stands)
       stopped.broken.begins) in (
         done_in t,
         fails_in t,
@@ -153,7 +171,7 @@ module _ {D : Type 0} (state : D → State)
       → OnOk result (ServesOne state old line new written now)
       → OnErr result (BreaksOff state old line new written now)
       → (made cut_off : List Command)
-      × TellsLine g old.view.journal.layout carousel_was result line made cut_off written now
+      × TellsLine Fails g old.view.journal.layout carousel_was result line made cut_off written now
       × Leaves made cut_off
   line_told T E (Ok it) one breaks = line_served T E it one
   line_told T E (Err fault) one breaks = line_broken T E fault breaks

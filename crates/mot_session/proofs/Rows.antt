@@ -4,7 +4,7 @@ use Rattle.std.proofs.Common.{None}
 use Rattle.std.proofs.Common.{Result, Ok, Err, refl, sym, ap, ◌∙◌, subst}
 use Rattle.std.proofs.lemmas.Slice.Eq.{bytes_eq-Decides}
 use Rattle.std.specs.Fmt.{digits}
-use Rattle.std.specs.Prelude.{bytes_eq, codes, if◌then◌else◌, nat_le, take}
+use Rattle.std.specs.Prelude.{⊤, bytes_eq, codes, if◌then◌else◌, nat_le, take}
 use Rattle.mot_base.specs.Checksum.{crc_of, bits_of, bits_of_bytes, number_of_bits, added_to_front}
 use Rattle.mot_base.specs.Checksum.{remainder}
 use Rattle.mot_groups.specs.Group.{bytes_of_group}
@@ -58,8 +58,8 @@ no_silent_reply : (g : Geometry) (c : command.Command)
 no_silent_reply g c (inl (r, e)) = not-empty _ _ e
 no_silent_reply g c (inr (inl (d, ids, is, e))) = not-empty _ _ e
 no_silent_reply g c (inr (inr (IsShown.listed numbers objects is endless e))) = not-list c is
-no_silent_reply g c (inr (inr (IsShown.packets shown true asked e))) = asked
-no_silent_reply g c (inr (inr (IsShown.packets shown false asked e))) = asked
+no_silent_reply g c (inr (inr (IsShown.packets shown true asked why_so e))) = asked
+no_silent_reply g c (inr (inr (IsShown.packets shown false asked why_so e))) = asked
 
 -- a line that is no request is not done
 no_request_done : (g : Geometry) (r : Refusal) (text : List ℕ) → IsReply g (Err r) text
@@ -67,8 +67,8 @@ no_request_done : (g : Geometry) (r : Refusal) (text : List ℕ) → IsReply g (
 no_request_done g r text (inl (s, e)) so = not-so text (refusal_line s) e refl so
 no_request_done g r text (inr (inl (d, ids, is, e))) so = cc
 no_request_done g r text (inr (inr (IsShown.listed numbers objects is endless e))) so = cc
-no_request_done g r text (inr (inr (IsShown.packets shown true asked e))) so = asked
-no_request_done g r text (inr (inr (IsShown.packets shown false asked e))) so = asked
+no_request_done g r text (inr (inr (IsShown.packets shown true asked why_so e))) so = asked
+no_request_done g r text (inr (inr (IsShown.packets shown false asked why_so e))) so = asked
 
 -- ---- what no right answer is
 
@@ -93,18 +93,19 @@ taken_by false r made is e = cc
 -- so a session on a new disk does not answer `refused 9` to it
 refused_put : (g : Geometry) (first : ℕ) (content : ContentNumbers) (line : List ℕ)
     → line_of line ≡ Ok (asks.Command (small_put content))
-    → AreRightReplies g (Some (carousel_from first))
+    → AreRightReplies ⊤ g (Some (carousel_from first))
     (record { line = line; text = refusal_line why.NameTaken } ∷ []) → ⊥
 unfolding change digits
 refused_put g first content line asked (inl (needs, memory, rest)) =
     differ (refusal_line why.NameTaken) (refusal_line why.OutOfMemory) refl memory
 refused_put g first content line asked (inr (new, is, rest)) =
-    by new (subst (λ r. IsRightReply g (Some (carousel_from first)) r
+    by new (subst (λ r. IsRightReply ⊤ g (Some (carousel_from first)) r
     (refusal_line why.NameTaken) new) asked is)
   where
-    by : (new : Option Carousel) → IsRightReply g (Some (carousel_from first))
+    by : (new : Option Carousel) → IsRightReply ⊤ g (Some (carousel_from first))
         (Ok (asks.Command (small_put content))) (refusal_line why.NameTaken) new → ⊥
-    by None e = differ (refusal_line why.NameTaken) (refusal_line why.DeviceFault) refl e
+    by None (e, cause) =
+        differ (refusal_line why.NameTaken) (refusal_line why.DeviceFault) refl e
     by (Some c) (inl (d, is, e)) =
         not-so (done_line d) (refusal_line why.NameTaken) (sym e) refl refl
     by (Some c) (inr (inl (r, is, e, same))) = taken_by (nat_le g.objects 0) r _ is e
@@ -113,23 +114,24 @@ refused_put g first content line asked (inr (new, is, rest)) =
 
 -- nor does a halted server do it
 done_halted : (g : Geometry) (content : ContentNumbers) (done : Done) (new : Option Carousel)
-    → IsRightReply g None (Ok (asks.Command (small_put content))) (done_line done) new → ⊥
+    → IsRightReply ⊤ g None (Ok (asks.Command (small_put content))) (done_line done) new → ⊥
 done_halted g content done new is =
     not-so (done_line done) (refusal_line why.Halted) is.0 refl refl
 
 -- and a list is refused by no server that is not halted
 refused_list : (g : Geometry) (c : Carousel) (r : Refusal) (new : Option Carousel)
-    → IsRightReply g (Some c) (Ok asks.List) (refusal_line r) new → ⊥
+    → IsRightReply ⊤ g (Some c) (Ok asks.List) (refusal_line r) new → ⊥
 refused_list g c r new (same, IsShown.listed numbers objects is endless e) =
     let begins : false ≡ true = ap (λ t. bytes_eq (take 1 t) (codes "c")) e in cc
-refused_list g c r new (same, IsShown.packets shown true asked e) = asked
-refused_list g c r new (same, IsShown.packets shown false asked e) = asked
+refused_list g c r new (same, IsShown.packets shown true asked why_so e) = asked
+refused_list g c r new (same, IsShown.packets shown false asked why_so e) = asked
 
 -- nor is it answered, in a session, that there is no memory for it
 list_needs_none : (g : Geometry) (c : Carousel) (line : List ℕ) → line_of line ≡ Ok asks.List
-    → AreRightReplies g (Some c) (record { line = line; text = refusal_line why.OutOfMemory } ∷ [])
+    → AreRightReplies ⊤ g (Some c) (record { line = line; text = refusal_line why.OutOfMemory } ∷
+    [])
     → ⊥
 list_needs_none g c line asked (inl (needs, memory, rest)) = subst NeedsMemory asked needs
 list_needs_none g c line asked (inr (new, is, rest)) =
     refused_list g c why.OutOfMemory new
-    (subst (λ r. IsRightReply g (Some c) r (refusal_line why.OutOfMemory) new) asked is)
+    (subst (λ r. IsRightReply ⊤ g (Some c) r (refusal_line why.OutOfMemory) new) asked is)

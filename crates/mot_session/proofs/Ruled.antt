@@ -8,6 +8,7 @@ use Rattle.std.specs.Prelude.{⊤, All, IsTrue, IsFalse, bytes_eq, codes, if◌t
 use Rattle.std.specs.Prelude.{nat_lt}
 use Rattle.std.specs.Prelude.{◌&&◌, ◌==◌, not}
 use Rattle.std.specs.Str.{is_utf8}
+use Rattle.disk_model.specs.Failures.{Rises}
 use Rattle.mot_journal.specs.declared.layout.Layout.TheVariants.{Two}
 use Rattle.mot_journal.specs.Image.{Standing, stands_for}
 use Rattle.mot_lines.specs.declared.line.description.Description.{Description}
@@ -232,6 +233,46 @@ refused-text reply r e = ap text_of e ∙ text-refused r
 abbrev pub HasImage : Standing → Type 0
 HasImage s = (image : List ℕ) × All (λ b. b < 256) image × (stands_for image ≡ Ok s)
 
+-- ---- a cause that follows
+
+shown_weaker : (P Q : Type 0) → (P → Q) → (g : Geometry) (request : Result Line Refusal)
+    (text : List ℕ) → IsShown P g request text → IsShown Q g request text
+shown_weaker P Q so g request text (IsShown.listed numbers objects is endless e) =
+    IsShown.listed numbers objects is endless e
+shown_weaker P Q so g request text (IsShown.packets shown failed asked why_so e) =
+    IsShown.packets shown failed asked (λ is. so (why_so is)) e
+
+right_weaker : (P Q : Type 0) → (P → Q) → (g : Geometry) (c : Option Carousel)
+    (request : Result Line Refusal) (text : List ℕ) (new : Option Carousel)
+    → IsRightReply P g c request text new → IsRightReply Q g c request text new
+right_weaker P Q so g c (Err r) text new is = is
+right_weaker P Q so g c (Ok (asks.Raw kind tid body)) text new is =
+    (is.0, shown_weaker P Q so g (Ok (asks.Raw kind tid body)) text is.1)
+right_weaker P Q so g None (Ok (asks.Command x)) text new is = is
+right_weaker P Q so g None (Ok asks.List) text new is = is
+right_weaker P Q so g None (Ok (asks.Next count)) text new is = is
+right_weaker P Q so g None (Ok asks.Turn) text new is = is
+right_weaker P Q so g (Some c) (Ok (asks.Command x)) text None is = (is.0, so is.1)
+right_weaker P Q so g (Some c) (Ok (asks.Command x)) text (Some new) is = is
+right_weaker P Q so g (Some c) (Ok asks.List) text new is =
+    (is.0, shown_weaker P Q so g (Ok asks.List) text is.1)
+right_weaker P Q so g (Some c) (Ok (asks.Next count)) text new is =
+    (is.0, shown_weaker P Q so g (Ok (asks.Next count)) text is.1)
+right_weaker P Q so g (Some c) (Ok asks.Turn) text new is =
+    (is.0, shown_weaker P Q so g (Ok asks.Turn) text is.1)
+
+pub rights_weaker : (P Q : Type 0) → (P → Q) → (g : Geometry) (c : Option Carousel)
+    (told : List Told) → AreRightReplies P g c told → AreRightReplies Q g c told
+rights_weaker P Q so g c [] is = tt
+rights_weaker P Q so g c (t ∷ told) (inl (needs, e, rest)) =
+    inl (needs, e, rights_weaker P Q so g c told rest)
+rights_weaker P Q so g c (t ∷ told) (inr (new, is, rest)) =
+    inr (
+      new,
+      right_weaker P Q so g c (line_of t.line) t.text new is,
+      rights_weaker P Q so g new told rest,
+    )
+
 module _ (before after : ServerState) (layout : before.layout ≡ Two) where
   abbrev g : Geometry
   g = before.standing.geometry
@@ -239,37 +280,41 @@ module _ (before after : ServerState) (layout : before.layout ≡ Two) where
   abbrev c : Carousel
   c = before.standing.carousel
 
+  -- the disk failed in the line
+  abbrev Fails : Type 0
+  Fails = Rises before.failures after.failures
+
   -- right for the request, so told
   abbrev RightSo : Option Carousel → Result Line Refusal → List ℕ → Option Carousel → Type 0
   RightSo old request text new =
       (NeedsMemory request × (text ≡ refusal_line why.OutOfMemory) × (new ≡ old))
-      ⊎ IsRightReply g old request text new
+      ⊎ IsRightReply Fails g old request text new
 
   as_told : (old old' new new' : Option Carousel) (request : Result Line Refusal)
       (text text' : List ℕ) → old ≡ old' → new ≡ new' → text ≡ text'
-      → IsRightReply g old' request text' new' → IsRightReply g old request text new
+      → IsRightReply Fails g old' request text' new' → IsRightReply Fails g old request text new
   as_told old old' new new' request text text' e f h is =
-      subst (λ o. IsRightReply g o request text new) (sym e)
-      (subst (λ n. IsRightReply g old' request text n) (sym f)
-      (subst (λ t. IsRightReply g old' request t new') (sym h) is))
+      subst (λ o. IsRightReply Fails g o request text new) (sym e)
+      (subst (λ n. IsRightReply Fails g old' request text n) (sym f)
+      (subst (λ t. IsRightReply Fails g old' request t new') (sym h) is))
 
   accepted-right : (x : command.Command) (d : Done) (next : Standing)
       → after_command before.layout before.standing x ≡ Ok (next, d)
-      → IsRightReply g (Some c) (Ok (asks.Command x)) (done_line d) (Some next.carousel)
+      → IsRightReply Fails g (Some c) (Ok (asks.Command x)) (done_line d) (Some next.carousel)
   accepted-right x d next outcome =
       let parts = accepted_parts Two before.standing x d next
       (subst (λ l. after_command l before.standing x ≡ Ok (next, d)) layout outcome) in
       inl (d, parts.rules, refl)
 
   refused-so : (x : command.Command) (r : Refusal) → IsRefused before.standing x r
-      → IsRightReply g (Some c) (Ok (asks.Command x)) (refusal_line r) (Some c)
+      → IsRightReply Fails g (Some c) (Ok (asks.Command x)) (refusal_line r) (Some c)
   refused-so x r (inl is) = inr (inl (r, is, refl, refl))
   refused-so x r (inr (made, is, none, lacks)) =
       inr (inr (made, is, ap refusal_line none, refl, lacks))
 
   refused-right : (x : command.Command) (r : Refusal) → IsShort (Ok (asks.Command x))
       → HasImage before.standing → after_command before.layout before.standing x ≡ Err r
-      → IsRightReply g (Some c) (Ok (asks.Command x)) (refusal_line r) (Some c)
+      → IsRightReply Fails g (Some c) (Ok (asks.Command x)) (refusal_line r) (Some c)
   refused-right x r short has e =
       refused-so x r (refused_by has.0 before.standing x r has.1 has.2 short
       (subst (λ l. after_command l before.standing x ≡ Err r) layout e))
@@ -277,7 +322,7 @@ module _ (before after : ServerState) (layout : before.layout ≡ Two) where
   command-right : (x : command.Command) (reply : Reply) → IsFalse before.halted
       → IsShort (Ok (asks.Command x)) → HasImage before.standing
       → IsCommandAnswer before x reply after
-      → IsRightReply g (carousel_at before) (Ok (asks.Command x)) (text_of reply)
+      → IsRightReply Fails g (carousel_at before) (Ok (asks.Command x)) (text_of reply)
       (carousel_at after)
   command-right x reply going short has (accepts d next e outcome a) =
       as_told (carousel_at before) (Some c) (carousel_at after) (Some next.carousel)
@@ -292,7 +337,7 @@ module _ (before after : ServerState) (layout : before.layout ≡ Two) where
   command-right x reply going short has (fails e rises h) =
       as_told (carousel_at before) (Some c) (carousel_at after) None
       (Ok (asks.Command x)) (text_of reply) (refusal_line why.DeviceFault) (at_going before going)
-      (at_halted after h.halted) (refused-text reply why.DeviceFault e) refl
+      (at_halted after h.halted) (refused-text reply why.DeviceFault e) (refl, rises)
 
   -- a request that keeps the carousel, and is shown what it asks for
   abbrev IsRead : Result Line Refusal → Type 0
@@ -304,7 +349,7 @@ module _ (before after : ServerState) (layout : before.layout ≡ Two) where
   IsRead (Err r) = ⊥
 
   read-some : (request : Result Line Refusal) (text : List ℕ) → IsRead request
-      → IsShown g request text → IsRightReply g (Some c) request text (Some c)
+      → IsShown Fails g request text → IsRightReply Fails g (Some c) request text (Some c)
   read-some (Ok asks.List) text is shown = (refl, shown)
   read-some (Ok (asks.Next count)) text is shown = (refl, shown)
   read-some (Ok asks.Turn) text is shown = (refl, shown)
@@ -314,8 +359,8 @@ module _ (before after : ServerState) (layout : before.layout ≡ Two) where
 
   read-right : (request : Result Line Refusal) (reply : Reply) → IsRead request
       → IsFalse before.halted → carousel_at after ≡ carousel_at before
-      → IsShown g request (text_of reply)
-      → IsRightReply g (carousel_at before) request (text_of reply) (carousel_at after)
+      → IsShown Fails g request (text_of reply)
+      → IsRightReply Fails g (carousel_at before) request (text_of reply) (carousel_at after)
   read-right request reply is going same shown =
       as_told (carousel_at before) (Some c) (carousel_at after) (Some c) request (text_of reply)
       (text_of reply) (at_going before going) (same ∙ at_going before going) refl
@@ -326,7 +371,7 @@ module _ (before after : ServerState) (layout : before.layout ≡ Two) where
       → (IsFalse before.halted → HasImage before.standing)
       → (IsFalse before.halted → AllKeepRules before.standing.carousel)
       → IsAnswer before request reply after
-      → IsRightReply g (carousel_at before) request (text_of reply) (carousel_at after)
+      → IsRightReply Fails g (carousel_at before) request (text_of reply) (carousel_at after)
   unfolding IsAnswer
   answer-right (Err r) reply going short has rules a =
       (refused-text reply r a.0, at_stayed before after a.1)
@@ -334,22 +379,22 @@ module _ (before after : ServerState) (layout : before.layout ≡ Two) where
       command-right x reply (going tt) short (has (going tt)) a
   answer-right (Ok asks.List) reply going short has rules a =
       read-right (Ok asks.List) reply tt (going tt) (at_stayed before after a.1)
-      (subst (λ x. IsShown g (Ok asks.List) (text_of x)) (sym a.0)
+      (subst (λ x. IsShown Fails g (Ok asks.List) (text_of x)) (sym a.0)
       (list-reply g c (rules (going tt))))
   answer-right (Ok (asks.Raw kind tid body)) reply going short has rules a = (
     at_stayed before after a.1,
-    subst (λ x. IsShown g (Ok (asks.Raw kind tid body)) (text_of x)) (sym a.0)
+    subst (λ x. IsShown Fails g (Ok (asks.Raw kind tid body)) (text_of x)) (sym a.0)
         (raw-reply g kind tid body),
   )
   answer-right (Ok (asks.Next count)) reply going short has rules a =
       read-right (Ok (asks.Next count)) reply tt (going tt) (at_kept before after a.3.keeps)
-      (plays-shown g before after (Ok (asks.Next count)) reply a.0 a.1 refl a.2 a.3)
+      (plays-shown g before after (Ok (asks.Next count)) reply a.0 a.1 Fails refl a.2 a.3 a.4)
   answer-right (Ok asks.Turn) reply going short has rules a =
       read-right (Ok asks.Turn) reply tt (going tt) (at_kept before after a.3.keeps)
-      (plays-shown g before after (Ok asks.Turn) reply a.0 a.1 refl a.2 a.3)
+      (plays-shown g before after (Ok asks.Turn) reply a.0 a.1 Fails refl a.2 a.3 a.4)
 
   halted-some : (request : Result Line Refusal) → NeedsCarousel request
-      → IsRightReply g None request (refusal_line why.Halted) None
+      → IsRightReply Fails g None request (refusal_line why.Halted) None
   halted-some (Ok asks.List) needs = (refl, refl)
   halted-some (Ok (asks.Next count)) needs = (refl, refl)
   halted-some (Ok asks.Turn) needs = (refl, refl)
@@ -374,13 +419,20 @@ module _ (before after : ServerState) (layout : before.layout ≡ Two) where
       inl (needs, refused-text reply why.OutOfMemory e, at_stayed before after s)
 
   -- so are all where those behind it are
-  pub right_more : (h : Geometry) → g ≡ h → (line text : List ℕ) (told : List Told)
-      (old new : Option Carousel) → RightSo old (line_of line) text new → AreRightReplies h new told
-      → AreRightReplies h old (record { line = line; text = text } ∷ told)
-  right_more h same line text told old new (inl (needs, e, n)) rest =
-      inl (needs, e, subst (λ o. AreRightReplies h o told) n rest)
-  right_more h same line text told old new (inr is) rest =
-      inr (new, subst (λ (x : Geometry). IsRightReply x old (line_of line) text new) same is, rest)
+  pub right_more : (Cause : Type 0) → (Fails → Cause) → (h : Geometry) → g ≡ h
+      → (line text : List ℕ) (told : List Told)
+      (old new : Option Carousel) → RightSo old (line_of line) text new
+      → AreRightReplies Cause h new told
+      → AreRightReplies Cause h old (record { line = line; text = text } ∷ told)
+  right_more Cause so h same line text told old new (inl (needs, e, n)) rest =
+      inl (needs, e, subst (λ o. AreRightReplies Cause h o told) n rest)
+  right_more Cause so h same line text told old new (inr is) rest =
+      inr (
+        new,
+        subst (λ (x : Geometry). IsRightReply Cause x old (line_of line) text new) same
+            (right_weaker Fails Cause so g old (line_of line) text new is),
+        rest,
+      )
 
   command-layout : (x : command.Command) (reply : Reply)
       → IsCommandAnswer before x reply after → after.layout ≡ before.layout

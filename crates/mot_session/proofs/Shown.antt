@@ -11,7 +11,7 @@ use Rattle.std.specs.Fmt.{decimal, digit_glyph, digits, digits_onto}
 use Rattle.std.specs.Int.{div_ceil, to_be_bytes, w16}
 use Rattle.std.specs.List.{AllByRecursion, flat_map}
 use Rattle.std.specs.Prelude.{◌&&◌, ◌==◌, ⊤, MatchOption, codes, nat_eq, nat_lt, not, replicate}
-use Rattle.std.specs.Prelude.{if◌then◌else◌, IsFalse}
+use Rattle.std.specs.Prelude.{if◌then◌else◌, IsFalse, IsTrue}
 use Rattle.mot_base.specs.Checksum.{crc_of}
 use Rattle.mot_groups.specs.Group.{GroupFields, bytes_of_group, segment_content}
 use Rattle.mot_lines.specs.declared.line.Line.{Line}
@@ -274,6 +274,9 @@ sent-length (suc n) old new sents e =
 
 -- ---- a whole reply
 
+none-failed : {Cause : Type 0} → IsTrue false → Cause
+none-failed is = absurd (let e : false ≡ true = is in cc)
+
 module _ (g : Geometry) where
   -- what is shown of a reply that is this one
   as_reply : (request : Result Line Refusal) (reply shown : Reply) → reply ≡ shown
@@ -300,43 +303,47 @@ module _ (g : Geometry) where
       as_reply (Ok (asks.Command c)) reply (refused DeviceFault) e
       (refusal-shown (Ok (asks.Command c)) DeviceFault)
 
-  as_shown : (request : Result Line Refusal) (reply shown : Reply) → reply ≡ shown
-      → IsShown g request (text_of shown) → IsShown g request (text_of reply)
-  as_shown request reply shown e is = subst (λ r. IsShown g request (text_of r)) (sym e) is
+  as_shown : (Cause : Type 0) (request : Result Line Refusal) (reply shown : Reply)
+      → reply ≡ shown
+      → IsShown Cause g request (text_of shown) → IsShown Cause g request (text_of reply)
+  as_shown Cause request reply shown e is =
+      subst (λ r. IsShown Cause g request (text_of r)) (sym e) is
 
-  pub list-reply : (c : Carousel) → AllKeepRules c → IsShown g (Ok asks.List) (text_of (listing c))
+  pub list-reply : {Cause : Type 0} (c : Carousel) → AllKeepRules c
+      → IsShown Cause g (Ok asks.List) (text_of (listing c))
   unfolding text_of
   list-reply c rules =
       IsShown.listed (numbers_of c) (map words_of_object c.objects) refl
       (numbers-endless c, objects-endless c.objects rules.objects) (listing-shown c)
 
-  pub raw-reply : (kind : GroupKind) (tid : ℕ) (body : List ℕ)
-      → IsShown g (Ok (asks.Raw kind tid body)) (text_of (packets (raw_packets g kind tid body)))
+  pub raw-reply : {Cause : Type 0} (kind : GroupKind) (tid : ℕ) (body : List ℕ)
+      → IsShown Cause g (Ok (asks.Raw kind tid body)) (text_of (packets
+      (raw_packets g kind tid body)))
   unfolding text_of
   raw-reply kind tid body =
       let ps : List (List ℕ) = raw_packets g kind tid body in
       IsShown.packets (shown_raw ps) false
-      (raw-ends ps ∙ ap (λ n. replicate n false) (raw-count g kind tid body))
+      (raw-ends ps ∙ ap (λ n. replicate n false) (raw-count g kind tid body)) none-failed
       (raw-shown ps ∙ sym (append-nil (shown_lines (shown_raw ps))))
 
-  played-reply : (request : Result Line Refusal) (sents : List Sent)
+  played-reply : (Cause : Type 0) (request : Result Line Refusal) (sents : List Sent)
       → AreAsked g request false (ends_of (shown_of sents))
-      → IsShown g request (text_of (played sents false))
+      → IsShown Cause g request (text_of (played sents false))
   unfolding text_of
-  played-reply request sents asked = IsShown.packets (shown_of sents) false asked
+  played-reply Cause request sents asked = IsShown.packets (shown_of sents) false asked none-failed
       (sents-shown sents ∙ sym (append-nil (shown_lines (shown_of sents))))
 
-  cut-reply : (request : Result Line Refusal) (sents : List Sent)
-      → AreAsked g request true (ends_of (shown_of sents))
-      → IsShown g request (sent_lines sents ++ refusal_line DeviceFault)
-  cut-reply request sents asked = IsShown.packets (shown_of sents) true asked
+  cut-reply : (Cause : Type 0) (request : Result Line Refusal) (sents : List Sent)
+      → AreAsked g request true (ends_of (shown_of sents)) → Cause
+      → IsShown Cause g request (sent_lines sents ++ refusal_line DeviceFault)
+  cut-reply Cause request sents asked why = IsShown.packets (shown_of sents) true asked (λ is. why)
       (ap (λ l. l ++ refusal_line DeviceFault) (sents-shown sents))
 
-  cut-text : (request : Result Line Refusal) (sents : List Sent)
-      → IsShown g request (sent_lines sents ++ refusal_line DeviceFault)
-      → IsShown g request (text_of (played sents true))
+  cut-text : (Cause : Type 0) (request : Result Line Refusal) (sents : List Sent)
+      → IsShown Cause g request (sent_lines sents ++ refusal_line DeviceFault)
+      → IsShown Cause g request (text_of (played sents true))
   unfolding text_of
-  cut-text request sents is = is
+  cut-text Cause request sents is = is
 
   -- packets that were sent show what was asked for
   asked-so : (before after : ServerState) (request : Result Line Refusal) (some : Bool)
@@ -348,19 +355,21 @@ module _ (g : Geometry) where
       (subst (λ ends. AreAsked before.standing.geometry request some ends)
       (sym (sents-ends sents)) p.asked)
 
-  played-some : (request : Result Line Refusal) (sents : List Sent) (failed : Bool)
-      → AreAsked g request failed (ends_of (shown_of sents))
-      → IsShown g request (text_of (played sents failed))
-  played-some request sents true asked = cut-text request sents (cut-reply request sents asked)
-  played-some request sents false asked = played-reply request sents asked
+  played-some : (Cause : Type 0) (request : Result Line Refusal) (sents : List Sent)
+      (failed : Bool) → AreAsked g request failed (ends_of (shown_of sents))
+      → (IsTrue failed → Cause) → IsShown Cause g request (text_of (played sents failed))
+  played-some Cause request sents true asked why =
+      cut-text Cause request sents (cut-reply Cause request sents asked (why refl))
+  played-some Cause request sents false asked why = played-reply Cause request sents asked
 
   pub plays-shown : (before after : ServerState) (request : Result Line Refusal) (reply : Reply)
-      (sents : List Sent) (failed : Bool) → before.standing.geometry ≡ g
+      (sents : List Sent) (failed : Bool) (Cause : Type 0) → before.standing.geometry ≡ g
       → reply ≡ played sents failed → PlaysForRequest before request failed sents after
-      → IsShown g request (text_of reply)
-  plays-shown before after request reply sents failed same e p =
-      as_shown request reply (played sents failed) e
-      (played-some request sents failed (asked-so before after request failed sents same p))
+      → (IsTrue failed → Cause) → IsShown Cause g request (text_of reply)
+  plays-shown before after request reply sents failed Cause same e p why =
+      as_shown Cause request reply (played sents failed) e
+      (played-some Cause request sents failed
+      (asked-so before after request failed sents same p) why)
 
   answer-shown : (before after : ServerState) (request : Result Line Refusal) (reply : Reply)
       → before.standing.geometry ≡ g
@@ -379,9 +388,10 @@ module _ (g : Geometry) where
       (a.0 ∙ ap (λ h. packets (raw_packets h kind tid body)) same)
       (inr (inr (raw-reply kind tid body)))
   answer-shown before after (Ok (asks.Next count)) reply same rules a =
-      inr (inr (plays-shown before after (Ok (asks.Next count)) reply a.0 a.1 same a.2 a.3))
+      inr (inr (plays-shown before after (Ok (asks.Next count)) reply a.0 a.1 ⊤ same a.2 a.3
+      (λ is. tt)))
   answer-shown before after (Ok asks.Turn) reply same rules a =
-      inr (inr (plays-shown before after (Ok asks.Turn) reply a.0 a.1 same a.2 a.3))
+      inr (inr (plays-shown before after (Ok asks.Turn) reply a.0 a.1 ⊤ same a.2 a.3 (λ is. tt)))
 
   -- the text of a reply that answers a request is a whole reply to it
   pub replied : (before after : ServerState) (request : Result Line Refusal) (reply : Reply)
@@ -424,8 +434,8 @@ module _ (g : Geometry) where
       whole-goes request (text_of reply) (replied before after request reply same rules a)
   begun before after request reply same rules (Begins.begun sents going e p) =
       as_goes request reply (played sents false) e
-      (played-goes request sents (inr (inr (cut-reply request sents
-      (asked-so before after request true sents same p)))))
+      (played-goes request sents (inr (inr (cut-reply ⊤ request sents
+      (asked-so before after request true sents same p) tt))))
 
   -- and so is each front of it
   pub front_begun : (request : Result Line Refusal) (text front rest : List ℕ)

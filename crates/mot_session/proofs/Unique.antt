@@ -568,7 +568,7 @@ module _ (g : Geometry) where
       (done_lines c (ids_of d) (ids-endless d)))
   as_lines q text other proper (inr (inr (IsShown.listed numbers objects is endless e))) =
       absurd (subst IsNotList is other)
-  as_lines q text other proper (inr (inr (IsShown.packets shown failed asked e))) =
+  as_lines q text other proper (inr (inr (IsShown.packets shown failed asked why_so e))) =
       subst (λ t. AsLines q t) (sym e) (packet_lines q shown failed proper asked)
 
   -- ---- a listing
@@ -618,8 +618,8 @@ module _ (g : Geometry) where
   list_form text (inr (inl (c, d, is, e))) = cc
   list_form text (inr (inr (IsShown.listed numbers objects is endless e))) =
       inr (record { numbers = numbers; objects = objects; endless = endless; same = e })
-  list_form text (inr (inr (IsShown.packets shown true asked e))) = absurd asked
-  list_form text (inr (inr (IsShown.packets shown false asked e))) = absurd asked
+  list_form text (inr (inr (IsShown.packets shown true asked why_so e))) = absurd asked
+  list_form text (inr (inr (IsShown.packets shown false asked why_so e))) = absurd asked
 
   carousel-endless : (n : List ℕ) → HasNoLineEnd n → HasNoLineEnd (codes "carousel " ++ n)
   carousel-endless n h = joined (codes "carousel ") n (by_test (codes "carousel ") carousel-quiet) h
@@ -708,11 +708,11 @@ module _ (g : Geometry) where
   not_object q text rest proper (inr (inl (c, d, is, e))) = text-not text (done_line d) rest e refl
   not_object q text rest proper (inr (inr (IsShown.listed numbers objects is endless e))) =
       text-not text (codes "carousel " ++ numbers ++ 10 ∷ [] ++ objects_of objects) rest e refl
-  not_object q text rest proper (inr (inr (IsShown.packets [] false asked e))) =
+  not_object q text rest proper (inr (inr (IsShown.packets [] false asked why_so e))) =
       absurd (none-asked q proper asked)
-  not_object q text rest proper (inr (inr (IsShown.packets [] true asked e))) =
+  not_object q text rest proper (inr (inr (IsShown.packets [] true asked why_so e))) =
       text-not text (refusal_line why.DeviceFault) rest e refl
-  not_object q text rest proper (inr (inr (IsShown.packets (p ∷ shown) failed asked e))) =
+  not_object q text rest proper (inr (inr (IsShown.packets (p ∷ shown) failed asked why_so e))) =
       text-not text (texts_shown (p ∷ shown)
       ++ (if failed then refusal_line why.DeviceFault else [])) rest e refl
 

@@ -24,14 +24,15 @@ pub record Told : Type 0 where
   pub line : List ℕ
   pub text : List ℕ
 
--- each reply is right where it stands, from this carousel on, or there was no memory for what its
--- line asks for
-abbrev pub AreRightReplies : Geometry → Option Carousel → List Told → Type 0
-AreRightReplies g c [] = ⊤
-AreRightReplies g c (t ∷ told) =
-    (NeedsMemory (line_of t.line) × (t.text ≡ refusal_line OutOfMemory) × AreRightReplies g c told)
-    ⊎ ((new : Option Carousel) × IsRightReply g c (line_of t.line) t.text new
-    × AreRightReplies g new told)
+-- Each reply is right where it stands, from this carousel on, or there was no memory for what its
+-- line asks for. A fault of the disk is told for this cause alone.
+abbrev pub AreRightReplies : (Cause : Type 0) → Geometry → Option Carousel → List Told → Type 0
+AreRightReplies Cause g c [] = ⊤
+AreRightReplies Cause g c (t ∷ told) =
+    (NeedsMemory (line_of t.line) × (t.text ≡ refusal_line OutOfMemory)
+    × AreRightReplies Cause g c told)
+    ⊎ ((new : Option Carousel) × IsRightReply Cause g c (line_of t.line) t.text new
+    × AreRightReplies Cause g new told)
 
 -- the text accepts a command
 abbrev pub is_done : List ℕ → Bool
@@ -50,9 +51,10 @@ commands_done told = flat_map done_in told
 
 -- The first lines of the input, so many, were answered, each by one reply, and these were written.
 -- Where no fault ended that, the input is all that there is, and each line of it was answered; and
--- where a fault of the reader did, each line whose end was read. At most one command was in flight. Either nothing more was written, and it is the one that a fault
--- of the disk cut off. Or the writer failed in the reply to the next line, of which some first
--- bytes were written: then it may be that line's, and it is where they say `done`.
+-- where a fault of the reader did, each line whose end was read. At most one command was in flight.
+-- Either nothing more was written, and it is the one that a fault of the disk cut off. Or the
+-- writer failed in the reply to the next line, of which some first bytes were written: then it may
+-- be that line's, and it is where they say `done`.
 pub record Tells (g : Geometry) (input : List ℕ) (left : Option (List ℕ)) (count : ℕ)
     (fault : Option Refusal) (told : List Told) (in_flight : List Command)
     (old new : Option (List ℕ)) : Type 0 where
@@ -74,13 +76,14 @@ pub record Tells (g : Geometry) (input : List ℕ) (left : Option (List ℕ)) (c
 -- What was told of one line, which made these commands, and of which a fault of the disk cut off
 -- others: its whole reply, which on a disk of layout 2 is right where the carousel is so; or, where
 -- the writer failed, some first bytes of one, and then its command may be made, and it is where
--- they say `done`.
-abbrev pub TellsLine : {T E : Type 0} → Geometry → Layout → Option Carousel → Result T E → List ℕ
+-- they say `done`. A fault of the disk is told for this cause alone.
+abbrev pub TellsLine : {T E : Type 0} → (Cause : Type 0) → Geometry → Layout → Option Carousel
+    → Result T E → List ℕ
     → List Command → List Command → Option (List ℕ) → Option (List ℕ) → Type 0
-TellsLine g layout c (Ok it) line made cut_off old new = (t : Told) × (t.line ≡ line)
-    × IsReply g (line_of line) t.text × (layout ≡ Two → AreRightReplies g c (t ∷ []))
+TellsLine Cause g layout c (Ok it) line made cut_off old new = (t : Told) × (t.line ≡ line)
+    × IsReply g (line_of line) t.text × (layout ≡ Two → AreRightReplies Cause g c (t ∷ []))
     × Appends old new t.text × (made ≡ done_in t) × (cut_off ≡ fails_in t)
-TellsLine g layout c (Err fault) line made cut_off old new = (front rest : List ℕ)
+TellsLine Cause g layout c (Err fault) line made cut_off old new = (front rest : List ℕ)
     × IsReply g (line_of line) (front ++ rest) × Appends old new front
     × ((made ++ cut_off ≡ []) ⊎ (made ++ cut_off ≡ command_in (line_of line)))
     × (IsTrue (is_done front) → made ≡ command_in (line_of line))

@@ -1,5 +1,6 @@
 -- Whole replies to lines, and which of them are right where the carousel is so.
-use Rattle.std.specs.Prelude.{◌≡◌, ◌⊎◌, ℕ, ◌+◌, ◌-◌, ◌<◌, Bool, true, false, List, [], ◌∷◌, ◌++◌}
+use Rattle.std.specs.Prelude.{⊤, IsTrue, ◌≡◌, ◌⊎◌, ℕ, ◌+◌, ◌-◌, ◌<◌, Bool, true, false, List, []}
+use Rattle.std.specs.Prelude.{◌∷◌, ◌++◌}
 use Rattle.std.specs.Prelude.{length, map, replicate, Option, None, Some, Result, Ok, Err, codes}
 use Rattle.std.specs.Prelude.{if◌then◌else◌}
 use Rattle.std.specs.Int.{div_ceil}
@@ -40,38 +41,45 @@ AreAsked g (Ok Turn) false ends = (n : ℕ) × (ends ≡ replicate n false ++ tr
 AreAsked g (Ok Turn) true ends = (n : ℕ) × (ends ≡ replicate n false)
 AreAsked g request failed ends = ⊥
 
--- the text shows what the request asks for: lines of the carousel, or of packets
-pub data IsShown (g : Geometry) (request : Result Line Refusal) (text : List ℕ) : Type 0 where
+-- the text shows what the request asks for: lines of the carousel, or of packets; where the disk
+-- failed behind these, it does so for this cause
+pub data IsShown (Cause : Type 0) (g : Geometry) (request : Result Line Refusal) (text : List ℕ) :
+    Type 0 where
   listed : (numbers : List ℕ) (objects : List (List ℕ)) → request ≡ Ok asks.List
       → AllByRecursion HasNoLineEnd (numbers ∷ objects)
       → text ≡ codes "carousel " ++ numbers ++ 10 ∷ []
-      ++ flat_map (λ o. codes "object " ++ o ++ 10 ∷ []) objects → IsShown g request text
+      ++ flat_map (λ o. codes "object " ++ o ++ 10 ∷ []) objects
+      → IsShown Cause g request text
   packets : (shown : List Shown) (failed : Bool) → AreAsked g request failed (ends_of shown)
+      → (IsTrue failed → Cause)
       → text ≡ shown_lines shown ++ (if failed then refusal_line DeviceFault else [])
-      → IsShown g request text
+      → IsShown Cause g request text
 
 -- The text is a whole reply to the request. Where one such text ends is seen from the lines alone:
 -- so the bytes of replies say which of their lines answers which request.
 abbrev pub IsReply : Geometry → Result Line Refusal → List ℕ → Type 0
 IsReply g request text = ((r : Refusal) × (text ≡ refusal_line r))
     ⊎ ((c : command.Command) × (d : Done) × (request ≡ Ok (Command c)) × (text ≡ done_line d))
-    ⊎ IsShown g request text
+    ⊎ IsShown ⊤ g request text
 
 -- The text is right for the request where the carousel is so, and it is this then. A command is
 -- done where the rules accept it, with the ids that they give; or refused as they say, or since
 -- there is no room for what it brings, where that may be. A fault of the disk in a command halts
 -- the server, which has no carousel from then on, and refuses whatever needs one. A line that is no
--- request is refused as it is parsed.
-abbrev pub IsRightReply : Geometry → Option Carousel → Result Line Refusal → List ℕ
+-- request is refused as it is parsed. The disk failed for this cause alone.
+abbrev pub IsRightReply : (Cause : Type 0) → Geometry → Option Carousel → Result Line Refusal
+    → List ℕ
     → Option Carousel → Type 0
-IsRightReply g c (Err r) text new = (text ≡ refusal_line r) × (new ≡ c)
-IsRightReply g c (Ok (Raw kind tid body)) text new =
-    (new ≡ c) × IsShown g (Ok (Raw kind tid body)) text
-IsRightReply g None (Ok request) text new = (text ≡ refusal_line Halted) × (new ≡ None)
-IsRightReply g (Some c) (Ok (Command x)) text None = text ≡ refusal_line DeviceFault
-IsRightReply g (Some c) (Ok (Command x)) text (Some new) =
+IsRightReply Cause g c (Err r) text new = (text ≡ refusal_line r) × (new ≡ c)
+IsRightReply Cause g c (Ok (Raw kind tid body)) text new =
+    (new ≡ c) × IsShown Cause g (Ok (Raw kind tid body)) text
+IsRightReply Cause g None (Ok request) text new = (text ≡ refusal_line Halted) × (new ≡ None)
+IsRightReply Cause g (Some c) (Ok (Command x)) text None =
+    (text ≡ refusal_line DeviceFault) × Cause
+IsRightReply Cause g (Some c) (Ok (Command x)) text (Some new) =
     ((d : Done) × (change c g.objects x ≡ Ok (new, d)) × (text ≡ done_line d))
     ⊎ ((r : Refusal) × (change c g.objects x ≡ Err r) × (text ≡ refusal_line r) × (new ≡ c))
     ⊎ ((made : Carousel × Done) × (change c g.objects x ≡ Ok made) × (text ≡ refusal_line NoRoom)
     × (new ≡ c) × LacksRoom g.data_area c.objects x)
-IsRightReply g (Some c) (Ok request) text new = (new ≡ Some c) × IsShown g (Ok request) text
+IsRightReply Cause g (Some c) (Ok request) text new =
+    (new ≡ Some c) × IsShown Cause g (Ok request) text

@@ -16,7 +16,8 @@ ghost use Rattle.mot_objects.specs.Carousel.{carousel_after};
 ghost use Rattle.mot_server.specs.Life.{IsBlank, IsUnmade, carousel_from};
 ghost use Rattle.mot_server.specs.Lives.{HasDone, KeepsCommands, LivesOn};
 ghost use Rattle.mot_server.specs.Playing.{bytes_of_packets};
-ghost use Rattle.mot_session.specs.Life.{AreRightReplies, Told, Tells, TellsLine, commands_done, fails_in};
+ghost use Rattle.mot_session.specs.Life.{AreRightReplies, Told, Tells, TellsLine, commands_done};
+ghost use Rattle.mot_session.specs.Life.{fails_in};
 ghost use Rattle.mot_session.specs.Served.{EndsServing, TakesInput};
 
 use crate::{Geometry, MAX_READS, ServeEnd, WriteFault, serve, serve_line};
@@ -37,8 +38,8 @@ pub struct ServedLife<D: Disk> {
 
 /// Formats a disk, opens it and serves the reader's lines, as the program does. A crash comes at
 /// any moment of that, before or inside any disk call, or after it. Each image that it may leave
-/// keeps a beginning of the commands whose replies say `done`, with at most the one in flight; or it
-/// has no magic, if the crash came before that. After the call it keeps all of them.
+/// keeps a beginning of the commands whose replies say `done`, with at most the one in flight; or
+/// it has no magic, if the crash came before that. After the call it keeps all of them.
 ///
 /// The operator's promise, with `mot_server::first_turn`: for every input, whatever disk reads as
 /// such an image, the packets of its first turn read, by the standards' grammars, as exactly the
@@ -68,7 +69,8 @@ pub fn format_and_serve<R: Read, W: Write, D: Disk>(
         × (told : List Told) × (in_flight : List Command)
         × Tells geometry.now input (R.remaining reader.new) life.end.lines life.end.fault
         told in_flight (W.contents writer.old) (W.contents writer.new)
-        × AreRightReplies geometry.now (Some (carousel_from directory)) told
+        × AreRightReplies (Rises (D.state disk).failures (D.state life.disk).failures)
+        geometry.now (Some (carousel_from directory)) told
         × ((flat_map fails_in told ≡ [])
         ⊎ Rises (D.state disk).failures (D.state life.disk).failures)
         × (IsBlank (D.state disk) → (image : List ℕ)
@@ -135,7 +137,9 @@ pub fn serve_and_restart<R: Read, W: Write, D: Disk, E: Disk>(
         × (told : List Told) × (in_flight : List Command)
         × Tells g input (R.remaining reader.new) result.end.lines result.end.fault told in_flight
         (W.contents writer.old) (W.contents writer.new)
-        × (server.old.view.journal.layout ≡ Two → AreRightReplies g (if server.old.view.halted then None
+        × (server.old.view.journal.layout ≡ Two → AreRightReplies
+        (Rises (D.state server.old.disk).failures (D.state server.new.disk).failures) g
+        (if server.old.view.halted then None
         else carousel_after (carousel_from first) g.objects done) told)
         × ((flat_map fails_in told ≡ [])
         ⊎ Rises (D.state server.old.disk).failures (D.state server.new.disk).failures)
@@ -201,7 +205,9 @@ pub fn serve_line_and_restart<W: Write, D: Disk, E: Disk>(
     ensures told { (g : Geometry) (first : ℕ) (done others : List Command)
         → HasDone D.state g first done others server.old → (D.state server.new.disk).IsHonest
         → (made cut_off : List Command)
-        × TellsLine g server.old.view.journal.layout (if server.old.view.halted then None
+        × TellsLine (Rises (D.state server.old.disk).failures
+        (D.state server.new.disk).failures) g server.old.view.journal.layout
+        (if server.old.view.halted then None
         else carousel_after (carousel_from first) g.objects done)
         result.answered line.now made cut_off (W.contents writer.old) (W.contents writer.new)
         × ((cut_off ≡ [])

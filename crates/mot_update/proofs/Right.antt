@@ -108,7 +108,7 @@ by_refusal : (view : RepositoryView) (s : Standing) (c : Command) (refusal its :
     → IsRefusal view c its → ComesOf view.journal.layout s c (Refused refusal)
 by_refusal view s c refusal its same goes agrees going (IsRefusal.halted halted is) =
     absurd (going_on false view.halted view.halted refl going halted)
-by_refusal view s c refusal its same goes agrees going (IsRefusal.by_rules on rules) =
+by_refusal view s c refusal its same goes agrees going (IsRefusal.by_rules on fits rules) =
     (s, (refl, rules s agrees ∙ ap Err (sym same)))
 by_refusal view s c refusal its same goes agrees going (IsRefusal.no_memory on short is) =
     absurd (let e : true ≡ false = sym (ap is_run_ending (same ∙ is)) ∙ goes in cc)

@@ -11,7 +11,7 @@ use Rattle.disk_model.proofs.Laws.{reads_none, reads_on, reads_once}
 use Rattle.mot_export.proofs.Printed.{digits-more, digits-none, front-digits, front-piece}
 use Rattle.mot_export.proofs.exporting.write_body.Goals as goal
 use Rattle.mot_repository.specs.Repository.{object_body}
-use Rattle.mot_server.proofs.Laws.{body_length, holds_still, no_failure}
+use Rattle.mot_server.proofs.Laws.{body_length, standing_still, no_failure}
 
 pub loop-from-init : goal.loop-from-init
 loop-from-init g c =
@@ -41,7 +41,7 @@ loop-from-preserved g c =
       calm = no_failure _ _ one.cause.later one.cause.shown ∙ is.calm;
       written = λ s holds honest.
           let was = one.keeps.was_honest honest in
-          let held = holds_still old.view mid.view s (state old.disk) (state mid.disk) holds was
+          let held = standing_still old.view mid.view s (state old.disk) (state mid.disk) holds
           (is.reads.unchanged was) is.view in
           let body = object_body s.carousel.objects c.args.place in
           let min = c.min-count.ensures in
@@ -90,7 +90,7 @@ returns-in_err-write_digits-clause-written g c = λ s holds honest.
     let is = c.loop-from.invariant in
     let one = c.in_ok-read_body.ensures in
     let was = one.keeps.was_honest honest in
-    let held = holds_still old.view mid.view s (state old.disk) (state mid.disk) holds was
+    let held = standing_still old.view mid.view s (state old.disk) (state mid.disk) holds
     (is.reads.unchanged was) is.view in
     let body = object_body s.carousel.objects c.args.place in
     let min = c.min-count.ensures in

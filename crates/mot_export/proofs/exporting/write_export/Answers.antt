@@ -12,7 +12,7 @@ use Rattle.mot_export.proofs.Printed.{all_objects, front-lines, lines-more, some
 use Rattle.mot_export.specs.Inner.Printing.{IsPrintingFault}
 use Rattle.mot_export.proofs.exporting.write_export.Goals as goal
 use Rattle.mot_repository.specs.Repository.{RepositoryView}
-use Rattle.mot_server.proofs.Laws.{holds_still}
+use Rattle.mot_server.proofs.Laws.{standing_still}
 use Rattle.mot_session.proofs.Laws.{WritesFront-after, WritesFront-all}
 use Rattle.mot_session.specs.Served.{WritesFront}
 
@@ -41,7 +41,7 @@ loop-place-preserved g c =
       calm = one.calm ∙ is.calm;
       written = λ s holds honest.
           let was = one.only_reads.keeps.was_honest honest in
-          let held = holds_still old.view mid.view s (state old.disk) (state mid.disk) holds was
+          let held = standing_still old.view mid.view s (state old.disk) (state mid.disk) holds
           (is.reads.unchanged was) is.view in
           let count = c.len-place-end.ensures
           ∙ ap (λ (k : Carousel). vec_len k.objects) c.carousel.ensures.value
@@ -63,7 +63,7 @@ returns-in_err-write_object-clause-written g c = λ s holds honest.
     let is = c.loop-place.invariant in
     let one = c.in_err-write_object.ensures in
     let was = one.only_reads.keeps.was_honest honest in
-    let held = holds_still old.view mid.view s (state old.disk) (state mid.disk) holds was
+    let held = standing_still old.view mid.view s (state old.disk) (state mid.disk) holds
     (is.reads.unchanged was) is.view in
     let count = c.len-place-end.ensures
     ∙ ap (λ (k : Carousel). vec_len k.objects) c.carousel.ensures.value

@@ -2,7 +2,7 @@ use Rattle.std.proofs.Common.{◌∙◌, [], ◌∷◌, ◌++◌, length-append,
 use Rattle.disk_model.proofs.Laws.{reads_none, reads_on}
 use Rattle.mot_export.proofs.Inspected.{bytes_more}
 use Rattle.mot_export.proofs.inspecting.count_turn.Goals as goal
-use Rattle.mot_server.proofs.Laws.{HasPlayedTurn-ended, IsGoing-more, IsGoing-none, holds_still}
+use Rattle.mot_server.proofs.Laws.{HasPlayedTurn-ended, IsGoing-more, IsGoing-none, standing_still}
 use Rattle.mot_server.specs.Server.{place_in}
 
 pub loop-others-init : goal.loop-others-init
@@ -26,7 +26,7 @@ returns-then-ends_turn-clause-counted g c = λ s holds honest.
     let one = c.in_ok-packet.ensures in
     let packet = c.in_ok-packet.field-0.packet.items in
     let was = one.only_reads.keeps.was_honest honest in
-    let held = holds_still old.view mid.view s (state old.disk) (state mid.disk) holds was
+    let held = standing_still old.view mid.view s (state old.disk) (state mid.disk) holds
     (is.reads.unchanged was) is.view in
     let so_far = is.going s holds was in
     let size = length-append so_far.0 (packet ∷ []) in
@@ -63,7 +63,7 @@ loop-others-preserved g c =
       few = omega (arith, few, len, fits);
       going = λ s holds honest.
           let was = one.only_reads.keeps.was_honest honest in
-          let held = holds_still old.view mid.view s (state old.disk) (state mid.disk) holds was
+          let held = standing_still old.view mid.view s (state old.disk) (state mid.disk) holds
           (is.reads.unchanged was) is.view in
           let so_far = is.going s holds was in
           let size = length-append so_far.0 (packet ∷ []) in

@@ -2,7 +2,7 @@ use Rattle.std.proofs.Common.{◌≡◌, ◌≤◌, ◌*◌, ℕ, List, length}
 use Rattle.disk_model.specs.Disk.{OnlyReads}
 use Rattle.mot_journal.specs.Image.{Standing}
 use Rattle.mot_export.specs.Inspecting.{bytes_of_all}
-use Rattle.mot_repository.specs.Repository.{Holds}
+use Rattle.mot_repository.specs.Repository.{HasStanding}
 use Rattle.mot_server.specs.Playing.{IsGoing}
 use Rattle.mot_server.specs.Server.{place_in}
 use Rattle.mot_export.proofs.inspecting.count_turn.Given as goal
@@ -14,7 +14,8 @@ invariant-loop-others g l = record {
   calm : (g.D.Disk.state l.server.disk).failures
       ≡ (g.D.Disk.state l.initial.server.disk).failures;
   few : l.bytes ≤ l.others * 96;
-  going : (s : Standing) → Holds l.initial.server.view s (g.D.Disk.state l.initial.server.disk)
+  going : (s : Standing) → HasStanding l.initial.server.view s
+      (g.D.Disk.state l.initial.server.disk)
       → (g.D.Disk.state l.server.disk).IsHonest
       → (packets : List (List ℕ))
       × IsGoing (place_in l.initial.server s) packets (place_in l.server s)

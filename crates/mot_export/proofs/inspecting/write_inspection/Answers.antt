@@ -15,7 +15,7 @@ use Rattle.mot_export.specs.Inspecting.{turn_text}
 use Rattle.mot_export.specs.Inspecting.{use_text}
 use Rattle.mot_export.specs.Inner.Inspected.{HasInspected}
 use Rattle.mot_repository.specs.Gap.{IsLongestGap}
-use Rattle.mot_repository.specs.Repository.{Agrees, Holds, RepositoryView}
+use Rattle.mot_repository.specs.Repository.{Agrees, HasStanding, RepositoryView}
 use Rattle.mot_server.specs.Server.{place_in}
 use Rattle.mot_session.specs.Served.{WritesFront}
 use Rattle.mot_export.proofs.inspecting.write_inspection.Given as given
@@ -31,7 +31,7 @@ if_err (Err e) more p = more e p
 -- what is known of the text that was to be printed is known of what is told of the disk
 inspected : (g : given.Over) (c : After-drop-text-2 g) (is_printed : List ℕ → Type 0)
     → is_printed c.deref.result.now → (s : Standing)
-    → Holds c.args.server.now.view s (g.D.Disk.state c.args.server.now.disk)
+    → HasStanding c.args.server.now.view s (g.D.Disk.state c.args.server.now.disk)
     → (g.D.Disk.state c.count_turn.new.server.disk).IsHonest
     → HasInspected c.args.rate c.args.server.now.view.journal (place_in c.args.server.now s) s
     is_printed
@@ -63,7 +63,8 @@ inspected g c is_printed printed s holds honest =
       last = size.last;
       turn = size.turn;
       printed = subst (λ (v : RepositoryView). is_printed
-          (inspection_text s v.journal.layout v.journal.count gap size.packets (rates_of c.args.rate))) same
+          (inspection_text s v.journal.layout v.journal.count gap size.packets
+          (rates_of c.args.rate))) same
           (subst is_printed (text ∙ told_text now s agrees now.journal.geometry gap packets bytes
           size.packets (rates_of c.args.rate) refl size.count_is size.bytes_are) printed);
     }

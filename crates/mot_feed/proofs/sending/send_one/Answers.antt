@@ -6,6 +6,7 @@ use Rattle.mot_feed.proofs.Sent.{not_written, same_place, some_bytes, unread}
 use Rattle.mot_feed.proofs.sending.send_one.Goals as goal
 use Rattle.mot_numbers.proofs.Laws.{same_error}
 use Rattle.mot_packets.specs.Outlet.{Grows}
+use Rattle.mot_repository.proofs.Laws.{read_standing}
 
 pub returns-in_err-ends_turn-clause-sent : goal.returns-in_err-ends_turn-clause-sent
 returns-in_err-ends_turn-clause-sent g c = λ s holds honest.
@@ -18,10 +19,13 @@ returns-in_err-ends_turn-clause-sent g c = λ s holds honest.
 
 pub returns-then-count-bytes-clause-sent : goal.returns-then-count-bytes-clause-sent
 returns-then-count-bytes-clause-sent g c = λ s holds honest.
+    let server = c.args.server.now in
+    let read = read_standing server.view s (g.D.Disk.state server.disk)
+    (g.met.D.Disk.sound server.disk holds.journal.honest) holds in
     let items = c.next_into.new.packet.items in
     let ends_turn = c.in_ok-ends_turn.ends_turn in
     let same = c.as_slice-bytes.ensures.value in
-    short items ends_turn c.in-Ok.count refl (c.in_ok-ends_turn.ensures.sent s holds honest)
+    short items ends_turn c.in-Ok.count refl (c.in_ok-ends_turn.ensures.sent s read honest)
     (subst (λ l. c.in-Ok.count < length l) same c.if-count-bytes.true)
     (subst (λ l. Grows (g.O.Outlet.writes c.args.outlet.now)
     (g.O.Outlet.writes c.write_once.new.self) (take c.in-Ok.count l ∷ [])) same
@@ -29,19 +33,25 @@ returns-then-count-bytes-clause-sent g c = λ s holds honest.
 
 pub returns-else-count-bytes-clause-sent : goal.returns-else-count-bytes-clause-sent
 returns-else-count-bytes-clause-sent g c = λ s holds honest.
+    let server = c.args.server.now in
+    let read = read_standing server.view s (g.D.Disk.state server.disk)
+    (g.met.D.Disk.sound server.disk holds.journal.honest) holds in
     let items = c.next_into.new.packet.items in
     let ends_turn = c.in_ok-ends_turn.ends_turn in
     let same = take_all c.in-Ok.count c.as_slice-bytes.result.now c.if-count-bytes.false
     ∙ c.as_slice-bytes.ensures.value in
-    whole items ends_turn refl (c.in_ok-ends_turn.ensures.sent s holds honest)
+    whole items ends_turn refl (c.in_ok-ends_turn.ensures.sent s read honest)
     (subst (λ l. Grows (g.O.Outlet.writes c.args.outlet.now)
     (g.O.Outlet.writes c.write_once.new.self) (l ∷ [])) same c.in-Ok.ensures.one)
 
 pub returns-in-Err-clause-sent : goal.returns-in-Err-clause-sent
 returns-in-Err-clause-sent g c = λ s holds honest.
+    let server = c.args.server.now in
+    let read = read_standing server.view s (g.D.Disk.state server.disk)
+    (g.met.D.Disk.sound server.disk holds.journal.honest) holds in
     let items = c.next_into.new.packet.items in
     let ends_turn = c.in_ok-ends_turn.ends_turn in
-    let step = c.in_ok-ends_turn.ensures.sent s holds honest in
+    let step = c.in_ok-ends_turn.ensures.sent s read honest in
     short items ends_turn 0 refl step
     (some_bytes items step.sent.packet step.reads) c.in-Err.ensures.one
 

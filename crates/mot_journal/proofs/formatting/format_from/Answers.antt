@@ -6,7 +6,7 @@ use Rattle.disk_model.specs.Disk.{State, IsHonestDisk, IsStill, Throughout}
 use Rattle.disk_model.specs.Failures.{Rises}
 use Rattle.disk_model.proofs.Laws.{unchanged_none, keeps_none, keeps_on, begins, stays, joins}
 use Rattle.mot_journal.specs.Geometry.{has_magic}
-use Rattle.mot_journal.specs.Journal.{NoneOrFrom}
+use Rattle.mot_journal.specs.Journal.{HasAreaOf, NoneOrFrom}
 use Rattle.mot_journal.specs.Making.{IsFormatRefusal}
 use Rattle.mot_journal.proofs.Calls.{calm}
 use Rattle.mot_journal.proofs.Decoded.{wrong-ok}
@@ -94,6 +94,21 @@ module _ (geometry : Geometry) (directory : ℕ) {old : State} (sound : IsHonest
       (asked still)
       (then (λ image left. none image (still.images image left))) (λ image has. has)
 
+-- while nothing is written, the data area and what lies after it stay
+module _ (geometry : Geometry) {old : State} (sound : IsHonestDisk old) where
+  area_at_start : Throughout old old (HasAreaOf geometry old)
+  area_at_start = begins old (HasAreaOf geometry old) sound (λ image left. (image, left, refl))
+
+  area_asked : {mid : State} → IsStill old mid → Throughout old mid (HasAreaOf geometry old)
+  area_asked {mid} still = stays old old mid (HasAreaOf geometry old) area_at_start still.time
+
+  -- and while the disk is made
+  area_made : {mid new : State} → IsStill old mid → Throughout mid new (HasAreaOf geometry mid)
+      → Throughout old new (HasAreaOf geometry old)
+  area_made {mid} {new} still then =
+      joins old mid new (HasAreaOf geometry old) (HasAreaOf geometry mid) (area_asked still) then
+      (λ image has. (has.0, still.images has.0 has.1, has.2))
+
 -- the length that was asked for, and that of the geometry
 not-below : (len' len most' most : ℕ) → len' ≡ len → most' ≡ most → most' ≤ len' → len < most → ⊥
 not-below len' len most' most e f fits less = omega arith
@@ -142,6 +157,8 @@ returns-then-not-is_valid g c = record {
     any_moment = λ honest none.
         at_start c.args.geometry.now c.args.directory
         (g.met.D.Disk.sound c.args.disk.now honest) none;
+    area = λ honest.
+        area_at_start c.args.geometry.now (g.met.D.Disk.sound c.args.disk.now honest);
     ok = λ honest. tt;
   };
 }
@@ -170,6 +187,8 @@ returns-then-len-length g c = record {
     any_moment = λ honest none.
         at_start c.args.geometry.now c.args.directory
         (g.met.D.Disk.sound c.args.disk.now honest) none;
+    area = λ honest.
+        area_at_start c.args.geometry.now (g.met.D.Disk.sound c.args.disk.now honest);
     ok = λ honest. tt;
   };
 }
@@ -198,6 +217,10 @@ returns-in_default g c = record {
         asked c.args.geometry.now c.args.directory
         (g.met.D.Disk.sound c.args.disk.now (asks.keeps.was_honest honest)) none
         (asks.still honest);
+    area = λ honest.
+        let asks = c.reads_magic.ensures.only_syncs in
+        area_asked c.args.geometry.now
+        (g.met.D.Disk.sound c.args.disk.now (asks.keeps.was_honest honest)) (asks.still honest);
     ok = λ honest. tt;
   };
 }
@@ -228,6 +251,10 @@ returns-then-is_formatted g c = record {
         asked c.args.geometry.now c.args.directory
         (g.met.D.Disk.sound c.args.disk.now (asks.keeps.was_honest honest)) none
         (asks.still honest);
+    area = λ honest.
+        let asks = c.reads_magic.ensures.only_syncs in
+        area_asked c.args.geometry.now
+        (g.met.D.Disk.sound c.args.disk.now (asks.keeps.was_honest honest)) (asks.still honest);
     ok = λ honest. tt;
   };
 }
@@ -265,6 +292,12 @@ returns-in_default-make g c = record {
         (g.met.D.Disk.sound c.args.disk.now (asks.keeps.was_honest honest1)) none
         (asks.still honest1)
         (c.make.ensures.any_moment honest1);
+    area = λ honest.
+        let asks = c.reads_magic.ensures.only_syncs in
+        let honest1 = c.make.ensures.keeps.frame.was_honest honest in
+        area_made c.args.geometry.now
+        (g.met.D.Disk.sound c.args.disk.now (asks.keeps.was_honest honest1)) (asks.still honest1)
+        (c.make.ensures.area honest1);
     ok = λ honest. tt;
   };
 }
@@ -301,6 +334,12 @@ returns g c = record {
         (g.met.D.Disk.sound c.args.disk.now (asks.keeps.was_honest honest1)) none
         (asks.still honest1)
         (c.make.ensures.any_moment honest1);
+    area = λ honest.
+        let asks = c.reads_magic.ensures.only_syncs in
+        let honest1 = c.make.ensures.keeps.frame.was_honest honest in
+        area_made c.args.geometry.now
+        (g.met.D.Disk.sound c.args.disk.now (asks.keeps.was_honest honest1)) (asks.still honest1)
+        (c.make.ensures.area honest1);
     ok = λ honest image left.
         c.in-Ok-make.ensures.ok (c.make.ensures.keeps.frame.was_honest honest) image left;
   };

@@ -4,7 +4,7 @@ use Rattle.disk_model.proofs.Laws.{keeps_all_on}
 use Rattle.mot_journal.specs.declared.layout.Layout.TheVariants.{Two}
 use Rattle.mot_journal.specs.Slot.{slot_count}
 use Rattle.mot_journal.proofs.Calls.{calm_of, fails_run, caused, costs_on}
-use Rattle.mot_journal.proofs.Making.{filling, publishing, published}
+use Rattle.mot_journal.proofs.Making.{area_filling, area_publishing, filling, publishing, published}
 use Rattle.mot_journal.proofs.formatting.make.Goals as goal
 use Rattle.mot_numbers.specs.Geometry.{length_of}
 
@@ -32,6 +32,20 @@ returns-clause-any_moment g c = λ honest no_magic.
     (g.met.D.Disk.sound c.fill.new.disk honest1) long (c.in_ok-fill.ensures.made honest)
     (state c.publish.new.disk)
     (c.publish.ensures.any_moment honest1)
+
+pub returns-in_err-fill-clause-area : goal.returns-in_err-fill-clause-area
+returns-in_err-fill-clause-area g c = λ honest.
+    let state = g.D.Disk.state in
+    area_filling c.args.geometry.now (state c.args.disk.now) (state c.fill.new.disk)
+    (c.fill.ensures.range honest)
+
+pub returns-clause-area : goal.returns-clause-area
+returns-clause-area g c = λ honest.
+    let state = g.D.Disk.state in
+    let honest1 = c.fill.ensures.keeps.honest honest in
+    area_publishing c.args.geometry.now (state c.args.disk.now) (state c.fill.new.disk)
+    (c.fill.ensures.range honest) (g.met.D.Disk.sound c.fill.new.disk honest1)
+    (state c.publish.new.disk) (c.publish.ensures.any_moment honest1)
 
 pub returns-clause-ok : goal.returns-clause-ok
 returns-clause-ok g c = λ honest.

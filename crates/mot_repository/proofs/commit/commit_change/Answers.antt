@@ -1,5 +1,5 @@
 use Rattle.std.proofs.Common.{◌≡◌, ◌∙◌, ◌+◌, inl, refl, sym, ap, subst, List, ℕ, length}
-use Rattle.std.proofs.Common.{slice_range}
+use Rattle.std.proofs.Common.{slice_range, ◌≤◌}
 use Rattle.disk_model.proofs.Laws.{weakens, joins}
 use Rattle.mot_journal.specs.Gaps.{AreBeside}
 use Rattle.mot_journal.specs.Journal.{JournalView}
@@ -52,7 +52,8 @@ returns-clause-any_moment g c = λ view s command done next from is at body prep
     (λ full. is_ready.given_fold (subst IsFull (sym is) full))
     (λ full. is_ready.given_push (subst IsFull (sym is) full)) in
     let beside = subst (λ (l : List ℕ).
-    AreBeside view.journal.geometry from (length l) is_ready.c.objects) (sym body)
+    AreBeside view.journal.geometry from (length l) is_ready.c.objects
+    × (from + length l ≤ view.journal.geometry.data_area)) (sym body)
     is_ready.beside in
     joins (state old) (state mid) (state c.write_change.new.disk)
     (IsBeforeOrAfter view.journal.layout s command)
@@ -87,7 +88,8 @@ returns-clause-ok g c = λ view s command done next from is at body prepared hol
     (λ full. is_ready.given_fold (subst IsFull (sym is) full))
     (λ full. is_ready.given_push (subst IsFull (sym is) full)) in
     let beside = subst (λ (l : List ℕ).
-    AreBeside view.journal.geometry from (length l) is_ready.c.objects) (sym body)
+    AreBeside view.journal.geometry from (length l) is_ready.c.objects
+    × (from + length l ≤ view.journal.geometry.data_area)) (sym body)
     is_ready.beside in
     let wrote = c.write_change.ensures.ok there s room.list is_ready.c is_ready.after from
     view.journal.layout command done same at folds.0 folds.1 beside now.0 now.1

@@ -11,8 +11,8 @@ use Rattle.mot_repository.proofs.prepared.prepare_change.Goals as goal
 
 pub returns-then-is_name_too_long-clause-refused : goal.returns-then-is_name_too_long-clause-refused
 returns-then-is_name_too_long-clause-refused c = λ view k going.
-    name_refused view c.args.command.now going
-    (ap (λ l. has_long_name l c.args.command.now) k.layout_is ∙ sym c.is_name_too_long.ensures
+    name_refused view c.args.command.now going c.is_name_too_long.ensures.fits
+    (ap (λ l. has_long_name l c.args.command.now) k.layout_is ∙ sym c.is_name_too_long.ensures.value
     ∙ c.if-is_name_too_long.true)
 
 pub returns-in_err-change-clause-refused : goal.returns-in_err-change-clause-refused
@@ -20,10 +20,11 @@ returns-in_err-change-clause-refused c = λ view k going.
     let geometry : view.journal.geometry ≡ c.args.geometry.now = k.geometry_is in
     let carousel : view.carousel ≡ c.args.inventory.now.carousel = k.carousel_is in
     let short : has_long_name view.journal.layout c.args.command.now ≡ false =
-    ap (λ l. has_long_name l c.args.command.now) k.layout_is ∙ sym c.is_name_too_long.ensures
+    ap (λ l. has_long_name l c.args.command.now) k.layout_is ∙ sym c.is_name_too_long.ensures.value
     ∙ c.if-is_name_too_long.false in
     let p = err_from_is_err_and c.from_residual.result c.from_residual.ensures.1 in
-    rw (p.1, p.2) (plan_refused view c.args.command.now going c.in_err-change.field-0.0 short
+    rw (p.1, p.2) (plan_refused view c.args.command.now going c.is_name_too_long.ensures.fits
+    c.in_err-change.field-0.0 short
     (rw (geometry, carousel) c.in_err-change.ensures.planned))
 
 pub returns-in_default-clause-refused : goal.returns-in_default-clause-refused
@@ -32,7 +33,7 @@ returns-in_default-clause-refused c = λ view k going.
     let carousel : view.carousel ≡ c.args.inventory.now.carousel = k.carousel_is in
     let extents : view.extents ≡ c.args.inventory.now.extents.items = k.extents_are in
     let short : has_long_name view.journal.layout c.args.command.now ≡ false =
-    ap (λ l. has_long_name l c.args.command.now) k.layout_is ∙ sym c.is_name_too_long.ensures
+    ap (λ l. has_long_name l c.args.command.now) k.layout_is ∙ sym c.is_name_too_long.ensures.value
     ∙ c.if-is_name_too_long.false in
     let nowhere : start_of view.extents view.journal.geometry.data_area c.args.command.now ≡ None =
     rw (geometry, extents)
@@ -40,14 +41,15 @@ returns-in_default-clause-refused c = λ view k going.
     c.args.geometry.now.data_area c.args.command.now c.args.inventory.now.reordered
     ∙ ap (λ l. start_of l c.args.geometry.now.data_area c.args.command.now)
     (sym c.deref.ensures.value) ∙ sym c.body_start-start.ensures ∙ c.in_default.is) in
-    room_refused view c.args.command.now going c.in_ok-change.change.next c.in_ok-change.change.done
+    room_refused view c.args.command.now going c.is_name_too_long.ensures.fits
+    c.in_ok-change.change.next c.in_ok-change.change.done
     short
     (rw (geometry, carousel) c.in_ok-change.ensures.planned) nowhere
 
 pub returns-in_err-extents-clause-refused : goal.returns-in_err-extents-clause-refused
 returns-in_err-extents-clause-refused c = λ view k going.
     let short : has_long_name view.journal.layout c.args.command.now ≡ false =
-    ap (λ l. has_long_name l c.args.command.now) k.layout_is ∙ sym c.is_name_too_long.ensures
+    ap (λ l. has_long_name l c.args.command.now) k.layout_is ∙ sym c.is_name_too_long.ensures.value
     ∙ c.if-is_name_too_long.false in
     let p = err_from_is_err_and c.from_residual-in_err-extents.result
     c.from_residual-in_err-extents.ensures.1 in
@@ -56,7 +58,7 @@ returns-in_err-extents-clause-refused c = λ view k going.
 pub returns-in_err-by_start-clause-refused : goal.returns-in_err-by_start-clause-refused
 returns-in_err-by_start-clause-refused c = λ view k going.
     let short : has_long_name view.journal.layout c.args.command.now ≡ false =
-    ap (λ l. has_long_name l c.args.command.now) k.layout_is ∙ sym c.is_name_too_long.ensures
+    ap (λ l. has_long_name l c.args.command.now) k.layout_is ∙ sym c.is_name_too_long.ensures.value
     ∙ c.if-is_name_too_long.false in
     let p = err_from_is_err_and c.from_residual-in_err-by_start.result
     c.from_residual-in_err-by_start.ensures.1 in
@@ -78,7 +80,7 @@ invariant_of-result c =
       valid = c.requires.valid;
       whole = c.requires.whole;
       paired = old.paired;
-      short = sym c.is_name_too_long.ensures ∙ c.if-is_name_too_long.false;
+      short = sym c.is_name_too_long.ensures.value ∙ c.if-is_name_too_long.false;
       changes = c.in_ok-change.ensures.planned;
       lies = start-reordered old.extents.items old.by_start.items c.args.geometry.now.data_area
           c.args.command.now old.reordered
@@ -105,7 +107,8 @@ returns-clause-prepared c = λ view k told.
       valid = rw geometry c.requires.valid;
       whole = rw (geometry, layout, carousel, extents) c.requires.whole;
       paired = rw (carousel, extents) c.args.inventory.now.paired;
-      short = ap (λ l. has_long_name l c.args.command.now) layout ∙ sym c.is_name_too_long.ensures
+      short = ap (λ l. has_long_name l c.args.command.now) layout
+          ∙ sym c.is_name_too_long.ensures.value
           ∙ c.if-is_name_too_long.false;
       changes = rw (geometry, carousel) c.in_ok-change.ensures.planned;
       lies = rw (geometry, extents)

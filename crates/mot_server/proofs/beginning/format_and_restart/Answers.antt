@@ -1,4 +1,5 @@
 use Rattle.std.proofs.Common.{⊎_elim}
+use Rattle.mot_journal.specs.Image.{rest_of}
 use Rattle.mot_journal.specs.Journal.{standing_from}
 use Rattle.mot_repository.specs.Repository.{IsOf}
 use Rattle.mot_server.proofs.Histories.{histories_are, not_opened}
@@ -16,12 +17,15 @@ returns-clause-begins g c = λ honest none left.
     absurd (not_opened first (g.E.Disk.state r.server.disk) r.server.view magic
     (opened still_honest))) opens.opened)
     (λ made.
-    let image : IsOf (standing_from c.args.geometry.now c.args.directory) first.bytes =
+    let image : IsOf (standing_from c.args.geometry.now c.args.directory
+    (rest_of c.args.geometry.now first.bytes)) first.bytes =
     record { stands = made.stands; clean = made.clean } in
     if_both_ok _ _ _ c.restart-restarted.result
     (λ r holds reads still_honest. (holds still_honest, reads still_honest))
-    (opens.holds (standing_from c.args.geometry.now c.args.directory) image)
-    (opens.reads (standing_from c.args.geometry.now c.args.directory) image))
+    (opens.holds (standing_from c.args.geometry.now c.args.directory
+    (rest_of c.args.geometry.now first.bytes)) image)
+    (opens.reads (standing_from c.args.geometry.now c.args.directory
+    (rest_of c.args.geometry.now first.bytes)) image))
     (time.each first.bytes left)
 
 pub returns-clause-histories : goal.returns-clause-histories
@@ -34,13 +38,15 @@ pub returns-clause-opens : goal.returns-clause-opens
 returns-clause-opens g c = λ honest left.
     let first = g.E.Disk.state c.args.left in
     on_ok c.format_from-formatted.result (λ made.
-    let image : IsOf (standing_from c.args.geometry.now c.args.directory) first.bytes =
+    let image : IsOf (standing_from c.args.geometry.now c.args.directory
+    (rest_of c.args.geometry.now first.bytes)) first.bytes =
     record {
       stands = (made first.bytes left).stands;
       clean = (made first.bytes left).clean;
     } in
     if_err _ _ c.restart-restarted.result
     (λ e refused still_honest. passing first (g.E.Disk.state e.disk)
-    (standing_from c.args.geometry.now c.args.directory) e.refusal still_honest image refused)
+    (standing_from c.args.geometry.now c.args.directory
+    (rest_of c.args.geometry.now first.bytes)) e.refusal still_honest image refused)
     c.restart-restarted.ensures.refused)
     (c.format_from-formatted.ensures.makes.ok honest)

@@ -9,6 +9,7 @@ use Rattle.disk_model.proofs.Laws.{reads_none, reads_on, reads_once}
 use Rattle.disk_model.specs.Failures.{Rises}
 use Rattle.mot_numbers.proofs.Laws.{same_error}
 use Rattle.std.proofs.lemmas.Result.{IfOk-from_err}
+use Rattle.mot_repository.proofs.Laws.{read_standing}
 use Rattle.mot_repository.specs.Repository.{object_body}
 use Rattle.mot_server.proofs.Going.{OnErr-always}
 use Rattle.mot_server.proofs.Answered.{not_halted}
@@ -152,7 +153,9 @@ returns-then-ne-clause-exact g c = λ s holds honest.
           c.read_body.new.out c.loop-from.from c.min-count.result
           (length (take c.min-count.result c.loop-from.piece))
           (let x = length-take c.min-count.result c.loop-from.piece in
-          omega (arith, x, long, min)) (one.bytes s held honest) same)),
+          omega (arith, x, long, min)) (one.bytes s
+          (read_standing mid.view s (state mid.disk) (g.met.D.Disk.sound mid.disk was) held) honest)
+          same)),
     )
 
 pub returns-clause-only_reads : goal.returns-clause-only_reads
@@ -198,7 +201,9 @@ loop-from-preserved g c =
           let was = one.keeps.was_honest honest in
           let held = holds_still start.view mid.view s (state start.disk) (state mid.disk) holds was
           (is.reads.unchanged was) is.view in
-          let read = one.bytes s held honest in
+          let read = one.bytes s
+          (read_standing mid.view s (state mid.disk) (g.met.D.Disk.sound mid.disk was) held)
+          honest in
           let so_far = is.same s holds was in
           let min = c.min-count.ensures in
           let long = c.min-count.array_long in

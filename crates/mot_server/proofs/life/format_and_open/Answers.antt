@@ -10,7 +10,7 @@ use Rattle.mot_journal.specs.declared.record.Record.{Record}
 use Rattle.mot_journal.specs.Geometry.{has_magic}
 use Rattle.mot_journal.specs.Making.{IsFormatRefusal}
 use Rattle.mot_journal.specs.Making.IsFormatRefusal.{bad, small, already, device}
-use Rattle.mot_journal.specs.Image.{DiskRecords, IsInLayoutTwo, records_of}
+use Rattle.mot_journal.specs.Image.{DiskRecords, IsInLayoutTwo, records_of, rest_of}
 use Rattle.mot_journal.specs.Journal.{NoneOrFrom, standing_from, with_records}
 use Rattle.mot_numbers.proofs.Laws.{same_error}
 use Rattle.mot_numbers.specs.declared.geometry.Geometry.{Geometry}
@@ -19,7 +19,7 @@ use Rattle.mot_numbers.specs.declared.refusal.Refusal.TheVariants.{AlreadyFormat
 use Rattle.mot_numbers.specs.declared.refusal.Refusal.TheVariants.{DeviceFault, DiskTooSmall}
 use Rattle.mot_numbers.specs.declared.refusal.Refusal.TheVariants.{OutOfMemory}
 use Rattle.mot_repository.specs.Opening.{IsPassing}
-use Rattle.mot_repository.specs.Repository.{RepositoryView}
+use Rattle.mot_repository.specs.Repository.{Holds, RepositoryView}
 use Rattle.mot_server.proofs.Survival.{passing}
 use Rattle.mot_server.proofs.Openings.{opened_holds}
 use Rattle.mot_server.proofs.Runs.{after_none, none_of}
@@ -58,7 +58,8 @@ stays_formatted g old new refusal stays (device is rises) honest e =
 -- no passing reason is that
 not_passing : (old new : State) (refusal : Refusal) → IsPassing old new refusal
     → refusal ≡ AlreadyFormatted → ⊥
-not_passing old new refusal (inl is) e = let same : OutOfMemory ≡ AlreadyFormatted = sym is ∙ e in cc
+not_passing old new refusal (inl is) e = let same : OutOfMemory ≡ AlreadyFormatted = sym is
+    ∙ e in cc
 not_passing old new refusal (inr (is, rises)) e =
     let same : DeviceFault ≡ AlreadyFormatted = sym is ∙ e in cc
 
@@ -130,7 +131,7 @@ returns-in_err-server-clause-refused g c =
     inr (passing_since (state c.args.disk) (state formatted)
     (state failed.disk) failed.refusal c.in_default.ensures.makes.calm
     (passing (state formatted) (state failed.disk) (standing_from c.args.geometry.now
-    c.args.directory)
+    c.args.directory (rest_of c.args.geometry.now (state formatted).bytes))
     failed.refusal honest (record { stands = made.stands; clean = made.clean }) opens.refused)))
 
 pub returns-in_err-server-clause-still : goal.returns-in_err-server-clause-still
@@ -145,7 +146,7 @@ returns-in_err-server-clause-still g c =
     (g.met.D.Disk.sound formatted was).bytes in
     absurd (not_passing (state formatted) (state failed.disk) failed.refusal
     (passing (state formatted) (state failed.disk) (standing_from c.args.geometry.now
-    c.args.directory)
+    c.args.directory (rest_of c.args.geometry.now (state formatted).bytes))
     failed.refusal honest (record { stands = made.stands; clean = made.clean }) opens.refused) e))
 
 pub returns-clause-refused : goal.returns-clause-refused
@@ -169,10 +170,14 @@ returns-clause-holds g c = λ honest.
     let was = opens.only_syncs.keeps.was_honest honest in
     let made = c.in_default.ensures.makes.ok was (state formatted).bytes
     (g.met.D.Disk.sound formatted was).bytes in
-    opened_holds (state formatted) (state server.disk) server.view
-    (standing_from c.args.geometry.now c.args.directory)
+    subst (λ b. Holds server.view (standing_from c.args.geometry.now c.args.directory
+    (rest_of c.args.geometry.now b)) (state server.disk)) (sym
+    (opens.only_syncs.still honest).bytes)
+    (opened_holds (state formatted) (state server.disk) server.view
+    (standing_from c.args.geometry.now c.args.directory
+    (rest_of c.args.geometry.now (state formatted).bytes))
     (record { stands = made.stands; clean = made.clean }) (opens.opened honest) honest
-    (g.met.D.Disk.sound server.disk honest) (opens.only_syncs.still honest) opens.going
+    (g.met.D.Disk.sound server.disk honest) (opens.only_syncs.still honest) opens.going)
 
 pub returns-clause-any_moment : goal.returns-clause-any_moment
 returns-clause-any_moment g c = λ honest blank.
@@ -198,14 +203,16 @@ pub returns-clause-calm : goal.returns-clause-calm
 returns-clause-calm g c = c.in_ok-server.ensures.calm ∙ c.in_default.ensures.makes.calm
 
 pub returns-clause-begins : goal.returns-clause-begins
-returns-clause-begins g c = λ honest. record {
-  standing = standing_from c.args.geometry.now c.args.directory;
-  after = after_none (standing_from c.args.geometry.now c.args.directory);
-  agrees = (returns-clause-holds g c honest).agrees;
-  holds = λ going. (refl, returns-clause-holds g c honest);
-  leaves = λ image may. none_of (standing_from c.args.geometry.now c.args.directory) [] []
-      (standing_from c.args.geometry.now c.args.directory) image
-      (after_none (standing_from c.args.geometry.now c.args.directory))
-      ((returns-clause-holds g c honest).each image may);
-  few = omega arith;
-}
+returns-clause-begins g c = λ honest.
+    let bytes = (g.D.Disk.state c.in_ok-server.server.disk).bytes in
+    let s = standing_from c.args.geometry.now c.args.directory
+    (rest_of c.args.geometry.now bytes) in
+    record {
+      standing = s;
+      after = after_none s;
+      agrees = (returns-clause-holds g c honest).agrees;
+      holds = λ going. (refl, returns-clause-holds g c honest);
+      leaves = λ image may. none_of s [] [] s image (after_none s)
+          ((returns-clause-holds g c honest).each image may);
+      few = omega arith;
+    }

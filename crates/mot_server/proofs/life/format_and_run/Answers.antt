@@ -1,8 +1,9 @@
 use Rattle.std.proofs.Common.{◌++◌, sym, subst}
+use Rattle.mot_journal.specs.Image.{rest_of}
 use Rattle.mot_journal.specs.Journal.{standing_from}
 use Rattle.mot_server.specs.Runs.{accepted_commands, commands_in_flight}
 use Rattle.mot_repository.specs.Opening.{IsPassing}
-use Rattle.mot_server.proofs.Lives.{if_some, none_or_left, run_fault}
+use Rattle.mot_server.proofs.Lives.{if_some, keeps_commands, none_or_left, run_fault}
 use Rattle.mot_server.proofs.Marked.{marks_of_carousel}
 use Rattle.mot_server.proofs.life.format_and_run.Goals as goal
 
@@ -14,10 +15,11 @@ returns-clause-any_moment g c = λ honest blank image left.
     let run_honest = subst (λ d. (state d).IsHonest) c.into_disk.ensures honest in
     let open_honest = run.keeps.frame.was_honest run_honest in
     let time = opens.any_moment open_honest blank in
-    let leaves = run.leaves (standing_from c.args.geometry.now c.args.directory)
+    let rest = rest_of c.args.geometry.now (state c.in_ok-server.server.disk).bytes in
+    let leaves = run.leaves (standing_from c.args.geometry.now c.args.directory rest)
     (opens.holds open_honest) in
     let done = c.run-end.result.done.items in
-    none_or_left c.args.geometry.now c.args.directory
+    none_or_left c.args.geometry.now c.args.directory rest
     (accepted_commands c.args.commands.now done
     ++ commands_in_flight c.args.commands.now done c.run-end.result.fault) image
     ((state c.in_ok-server.server.disk).LeftSince (state c.args.disk).moment image)
@@ -30,9 +32,12 @@ returns-clause-acknowledged g c = λ honest image may.
     let state = g.D.Disk.state in
     let run_honest = subst (λ d. (state d).IsHonest) c.into_disk.ensures honest in
     let open_honest = c.run-end.ensures.runs.keeps.frame.was_honest run_honest in
-    let leaves = c.run-end.ensures.runs.leaves (standing_from c.args.geometry.now c.args.directory)
+    let rest = rest_of c.args.geometry.now (state c.in_ok-server.server.disk).bytes in
+    let leaves = c.run-end.ensures.runs.leaves
+    (standing_from c.args.geometry.now c.args.directory rest)
     (c.in_ok-server.ensures.holds open_honest) in
-    leaves.at_end image (subst (λ d. (state d).MayLeave image) c.into_disk.ensures may)
+    keeps_commands c.args.geometry.now c.args.directory rest _ _ image
+    (leaves.at_end image (subst (λ d. (state d).MayLeave image) c.into_disk.ensures may))
 
 -- the marks are right of the carousel
 pub returns-clause-marks : goal.returns-clause-marks
@@ -42,10 +47,11 @@ returns-clause-marks g c = λ honest.
     let run = c.run-end.ensures.runs in
     let run_honest = subst (λ d. (state d).IsHonest) c.into_disk.ensures honest in
     let open_honest = run.keeps.frame.was_honest run_honest in
-    let leaves = run.leaves (standing_from c.args.geometry.now c.args.directory)
+    let rest = rest_of c.args.geometry.now (state c.in_ok-server.server.disk).bytes in
+    let leaves = run.leaves (standing_from c.args.geometry.now c.args.directory rest)
     (opens.holds open_honest) in
     marks_of_carousel c.in_ok-server.server.view.journal.layout
-    c.args.geometry.now c.args.directory c.args.commands.now
+    c.args.geometry.now c.args.directory rest c.args.commands.now
     c.run-end.result.done.items leaves.last (opens.layout open_honest) leaves.marked
 
 pub returns-clause-whole : goal.returns-clause-whole

@@ -1,8 +1,9 @@
-use Rattle.std.proofs.Common.{◌≡◌, ◌⊎◌, [], ◌++◌, subst, sym}
+use Rattle.std.proofs.Common.{◌≡◌, ◌⊎◌, [], ◌++◌, Some, subst, sym}
 use Rattle.std.specs.List.{flat_map}
 use Rattle.disk_model.specs.Failures.{Rises}
 use Rattle.mot_journal.specs.Journal.{standing_from}
-use Rattle.mot_server.proofs.Laws.{none_or_left}
+use Rattle.mot_server.specs.Life.{carousel_from}
+use Rattle.mot_server.proofs.Laws.{keeps_commands, none_or_left}
 use Rattle.mot_session.specs.Life.{AreRightReplies, commands_done, fails_in}
 use Rattle.mot_session.proofs.Lives.{done_at, done_stands, kept_new, left_or_stands}
 use Rattle.mot_session.proofs.Lives.{served_so, some_of}
@@ -18,7 +19,8 @@ returns-clause-told g c = λ honest.
     let now_honest = subst (λ d. (state d).IsHonest) c.into_disk.ensures honest in
     let open_honest = serve.goes.keeps.was_honest now_honest in
     let has = c.in_ok-server.ensures.begins open_honest in
-    let all = served_so state g.met.D.Disk.sound (standing_from g0 c.args.directory) []
+    let all = served_so state g.met.D.Disk.sound
+    (standing_from g0 c.args.directory has.standing.rest) []
     has.standing has.after
     opened new c.args.reads (g.R.Read.remaining c.args.reader.now)
     (g.R.Read.remaining c.serve-end.new.reader)
@@ -33,9 +35,15 @@ returns-clause-told g c = λ honest.
       all.2,
       all.3,
       all.5,
-      subst (λ o. AreRightReplies g0 o all.2) (kept_new g0 c.args.directory has.standing
-          opened.view.halted (c.in_ok-server.ensures.holds open_honest).going has.after)
-          (all.7 (c.in_ok-server.ensures.layout open_honest)),
+      subst (λ d. AreRightReplies (Rises (state c.args.disk).failures (state d).failures) g0
+          (Some (carousel_from c.args.directory)) all.2) (sym c.into_disk.ensures)
+          (subst (λ n. AreRightReplies (Rises n (state new.disk).failures) g0
+          (Some (carousel_from c.args.directory)) all.2) c.in_ok-server.ensures.calm
+          (subst (λ o. AreRightReplies
+          (Rises (state opened.disk).failures (state new.disk).failures) g0 o all.2)
+          (kept_new g0 c.args.directory has.standing.rest has.standing opened.view.halted
+          (c.in_ok-server.ensures.holds open_honest).going has.after)
+          (all.7 (c.in_ok-server.ensures.layout open_honest)))),
       subst (λ d. (flat_map fails_in all.2 ≡ [])
           ⊎ Rises (state c.args.disk).failures (state d).failures) (sym c.into_disk.ensures)
           (subst (λ n. (flat_map fails_in all.2 ≡ []) ⊎ Rises n (state new.disk).failures)
@@ -43,16 +51,17 @@ returns-clause-told g c = λ honest.
       λ blank image left.
           let time = c.in_ok-server.ensures.any_moment open_honest blank in
           let flown = commands_done all.2 ++ all.3 in
-          none_or_left g0 c.args.directory flown image
+          none_or_left g0 c.args.directory has.standing.rest flown image
           ((state opened.disk).LeftSince (state c.args.disk).moment image)
           (λ old. time.each image old)
-          (left_or_stands (standing_from g0 c.args.directory) flown image opened.view.halted
+          (left_or_stands (standing_from g0 c.args.directory has.standing.rest) flown image
+          opened.view.halted
           ((state opened.disk).LeftSince (state c.args.disk).moment image)
           (all.6.before (state c.args.disk).moment image time.later
           (subst (λ d. (state d).LeftSince (state c.args.disk).moment image) c.into_disk.ensures
           left))),
-      λ image may. all.6.at_end image
-          (subst (λ d. (state d).MayLeave image) c.into_disk.ensures may),
+      λ image may. keeps_commands g0 c.args.directory has.standing.rest _ _ image
+          (all.6.at_end image (subst (λ d. (state d).MayLeave image) c.into_disk.ensures may)),
     )
 
 pub returns-clause-ends : goal.returns-clause-ends

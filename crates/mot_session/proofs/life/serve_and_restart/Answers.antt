@@ -1,7 +1,8 @@
 use Rattle.std.proofs.Common.{[], ◌++◌, subst}
+use Rattle.disk_model.specs.Failures.{Rises}
 use Rattle.mot_journal.specs.Journal.{standing_from}
 use Rattle.mot_server.specs.Playing.{bytes_of_packets}
-use Rattle.mot_server.proofs.Laws.{if_err, passing}
+use Rattle.mot_server.proofs.Laws.{if_err, keeps_commands, passing}
 use Rattle.mot_session.specs.Life.{AreRightReplies, commands_done}
 use Rattle.mot_session.specs.Kept.{HoldsSince}
 use Rattle.mot_session.proofs.Lives.{done_at, done_stands, kept_by, kept_first, lives_on, served_so}
@@ -15,7 +16,8 @@ returns-clause-in_a_row g c = λ geometry first_id done has honest.
     let serve = c.serve-end.ensures in
     let opened = c.args.server.now in
     let new = c.serve-end.new.server in
-    let all = served_so state g.met.D.Disk.sound (standing_from geometry first_id) done
+    let all = served_so state g.met.D.Disk.sound
+    (standing_from geometry first_id has.standing.rest) done
     has.standing has.after
     opened new c.args.reads (g.R.Read.remaining c.args.reader.now)
     (g.R.Read.remaining c.serve-end.new.reader)
@@ -35,15 +37,20 @@ returns-clause-in_a_row g c = λ geometry first_id done has honest.
       all.2,
       all.3,
       all.5,
-      λ two. subst (λ o. AreRightReplies geometry o all.2)
-          (kept_by geometry first_id done has.standing opened.view.halted has.after) (all.7 two),
+      λ two. subst (λ o. AreRightReplies
+          (Rises (state opened.disk).failures (state new.disk).failures) geometry o all.2)
+          (kept_by geometry first_id has.standing.rest done has.standing opened.view.halted
+          has.after) (all.7 two),
       all.8,
-      λ left. on done (commands_done all.2 ++ all.3)
+      λ left. on has.standing.rest done (commands_done all.2 ++ all.3)
           (kept_first (λ t sure others.
-          HoldsSince (state new.disk) t (standing_from geometry first_id) sure others)
+          HoldsSince (state new.disk) t (standing_from geometry first_id has.standing.rest) sure
+          others)
           (state opened.disk).moment done all.2 all.3 all.6.since first.bytes left),
-      λ may. on (done ++ commands_done all.2) all.3 (all.6.at_end first.bytes may),
-      λ image may. all.6.at_end image may,
+      λ may. on has.standing.rest (done ++ commands_done all.2) all.3
+          (all.6.at_end first.bytes may),
+      λ image may. keeps_commands geometry first_id has.standing.rest _ _ image
+          (all.6.at_end image may),
     )
 
 pub returns-clause-opens : goal.returns-clause-opens
@@ -53,7 +60,8 @@ returns-clause-opens g c = λ geometry first_id done has honest left.
     let serve = c.serve-end.ensures in
     let opened = c.args.server.now in
     let new = c.serve-end.new.server in
-    let all = served_so state g.met.D.Disk.sound (standing_from geometry first_id) done
+    let all = served_so state g.met.D.Disk.sound
+    (standing_from geometry first_id has.standing.rest) done
     has.standing has.after
     opened new c.args.reads (g.R.Read.remaining c.args.reader.now)
     (g.R.Read.remaining c.serve-end.new.reader)
@@ -64,7 +72,7 @@ returns-clause-opens g c = λ geometry first_id done has honest left.
     serve.ended serve.unread (λ is. let e = serve.unwritten is in (e.0, e.1, some_of e.2))
     serve.none in
     let stands = kept_first (λ t sure others.
-    HoldsSince (state new.disk) t (standing_from geometry first_id) sure others)
+    HoldsSince (state new.disk) t (standing_from geometry first_id has.standing.rest) sure others)
     (state opened.disk).moment done all.2 all.3 all.6.since first.bytes left in
     if_err _ _ c.restart-restarted.result
     (λ e why e_honest. passing first (g.E.Disk.state e.disk) stands.last e.refusal e_honest

@@ -23,8 +23,9 @@ returns-clause-told g c = λ geometry first_id done others has honest.
       all.2,
       all.3.cause,
       all.3.has_done,
-      λ left. on done (others ++ (all.0 ++ all.1)) (all.3.since first.bytes left),
-      λ may. on (done ++ all.0) (others ++ all.1) (all.3.has_done.leaves first.bytes may),
+      λ left. on has.standing.rest done (others ++ (all.0 ++ all.1)) (all.3.since first.bytes left),
+      λ may. on all.3.has_done.standing.rest (done ++ all.0) (others ++ all.1)
+          (all.3.has_done.leaves first.bytes may),
     )
 
 pub returns-clause-opens : goal.returns-clause-opens

@@ -38,6 +38,7 @@ body_left : (g : given.Over) (c : After-write_body g) (view : RepositoryView) (s
     → c.args.at ≡ area_start view.journal.geometry + from
     → catalogue_of view.journal.geometry.objects records ≡ Ok before
     → AreBeside view.journal.geometry from (length c.args.body.now) before.objects
+    × (from + length c.args.body.now ≤ view.journal.geometry.data_area)
     → (holds : Holds view s (g.D.Disk.state c.args.disk.now)) → holds.records ≡ records
     → WroteBody view s records (g.D.Disk.state c.args.disk.now)
     (g.D.Disk.state c.write_body.new.disk)
@@ -46,7 +47,8 @@ body_left g c view s records before from at fold beside holds same =
     let mid = c.write_body.new.disk in
     let n = length c.args.body.now in
     let honest = holds.journal.honest in
-    wrote_body view s records before from n fold beside (g.D.Disk.state old) (g.D.Disk.state mid)
+    wrote_body view s records before from n fold beside.0 beside.1 (g.D.Disk.state old)
+    (g.D.Disk.state mid)
     (g.met.D.Disk.sound old honest)
     (g.met.D.Disk.sound mid (c.write_body.ensures.keeps.honest honest)) holds same
     c.write_body.ensures.keeps

@@ -48,14 +48,17 @@ returns-clause-honest g c = rw (← c.self.view_is) (λ honest is.
     ∙ sym (ap (λ k. slice_range bytes k (k + n)) at) in
     c.in-Ok.ensures.honest honest (◌∙◌ {b = whole} is part))
 
+pub returns-clause-keeps : goal.returns-clause-keeps
+returns-clause-keeps g c = rw (← c.self.view_is) c.read.ensures.keeps
+
 pub returns-clause-bytes : goal.returns-clause-bytes
-returns-clause-bytes g c = λ s holds honest.
+returns-clause-bytes g c = λ s has honest.
     let old = c.args.self.now in
     let n = length c.args.out.now in
-    let sound = g.met.D.Disk.sound old.disk holds.journal.honest in
+    let sound = g.met.D.Disk.sound old.disk ((returns-clause-keeps g c).was_honest honest) in
     returns-clause-read g c honest
     ∙ sym (ap (λ body. slice_range body c.args.from (c.args.from + n))
-    (body_held old.view s (g.D.Disk.state old.disk) sound holds c.args.place c.requires.place))
+    (body_held old.view s (g.D.Disk.state old.disk) sound has c.args.place c.requires.place))
 
 pub returns-in_default-clause-keeps : goal.returns-in_default-clause-keeps
 returns-in_default-clause-keeps g c = rw (← c.self.view_is) c.read.ensures.keeps
@@ -77,9 +80,6 @@ returns-in_default-clause-unchanged g c = rw (← c.self.view_is) c.read.ensures
 
 pub returns-in_default-clause-lies : goal.returns-in_default-clause-lies
 returns-in_default-clause-lies g c = c.place_on_disk-at.ensures.room
-
-pub returns-clause-keeps : goal.returns-clause-keeps
-returns-clause-keeps g c = rw (← c.self.view_is) c.read.ensures.keeps
 
 pub returns-clause-cause : goal.returns-clause-cause
 returns-clause-cause g c = rw (← c.self.view_is) (

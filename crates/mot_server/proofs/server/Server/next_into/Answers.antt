@@ -5,7 +5,7 @@ use Rattle.disk_model.proofs.Laws.{reads_none, reads_once}
 use Rattle.mot_journal.specs.Image.{Standing}
 use Rattle.mot_player.specs.Laws.{IsStep, bytes_left}
 use Rattle.mot_player.specs.PlayerView as player
-use Rattle.mot_repository.specs.Repository.{Holds}
+use Rattle.mot_repository.specs.Repository.{HasStanding}
 use Rattle.mot_server.specs.Inner.Bodies.{bodies_on}
 use Rattle.mot_server.specs.Playing.IsReadRefusal.{halted}
 use Rattle.mot_server.specs.Server.{bodies_of}
@@ -21,23 +21,24 @@ next_into-requires g c =
     (are_bodies_on r.view image c.body_count.ensures.paired)
 
 pub returns-clause-sent : goal.returns-clause-sent
-returns-clause-sent g c = λ s holds honest.
+returns-clause-sent g c = λ s has honest.
     let now = c.args.self.now in
     let r = c.self.inside.bodies.repository in
     let state = g.D.Disk.state in
-    let kept : (d : Standing) → Holds now.view d (state now.disk) → Holds r.view d (state r.disk) =
-    rw (← c.self.view_is) (λ d held. held) in
-    let held = kept s holds in
+    let kept : (d : Standing) → HasStanding now.view d (state now.disk)
+    → HasStanding r.view d (state r.disk) = rw (← c.self.view_is) (λ d held. held) in
+    let was = c.next_into.ensures.reads.only_read.keeps.was_honest honest in
     let same : bodies_on r.view.journal.geometry r.view.extents (state r.disk).bytes
     ≡ bodies_of s.carousel =
-    bodies_held r.view s (state r.disk) (g.met.D.Disk.sound r.disk held.journal.honest) held
+    bodies_held r.view s (state r.disk) (g.met.D.Disk.sound r.disk was) (kept s has)
     c.body_count.ensures.paired in
     let same_player : c.self.inside.player ≡ now.player = rw (← c.self.view_is) refl in
     let new : player.PlayerView = c.next_into.new.self in
     subst (λ (p : player.PlayerView).
     IfOk c.next_into.result
     (λ (ends_turn : Bool). IsStep (player.place_of p (bodies_of s.carousel))
-    c.next_into.new.packet.items ends_turn (player.place_of new (bodies_of s.carousel)))) same_player
+    c.next_into.new.packet.items ends_turn (player.place_of new
+    (bodies_of s.carousel)))) same_player
     (subst (λ (bodies : List (List ℕ)).
     IfOk c.next_into.result
     (λ (ends_turn : Bool). IsStep (player.place_of c.self.inside.player bodies)
@@ -54,7 +55,7 @@ pub returns-then-halted-clause-cost : goal.returns-then-halted-clause-cost
 returns-then-halted-clause-cost g c = le-add_right _ 1
 
 pub returns-then-halted-clause-sent : goal.returns-then-halted-clause-sent
-returns-then-halted-clause-sent g c = λ s holds honest. tt
+returns-then-halted-clause-sent g c = λ s has honest. tt
 
 pub returns-then-halted-clause-stays : goal.returns-then-halted-clause-stays
 returns-then-halted-clause-stays g c = refl

@@ -7,7 +7,8 @@ use Rattle.mot_numbers.proofs.Laws.{same_error}
 use Rattle.mot_numbers.specs.declared.refusal.Refusal.TheVariants.{OutOfMemory}
 use Rattle.mot_player.specs.AnyBodies.{IsStepOfSome, PlaysOn, PlaysToTheEnd}
 use Rattle.mot_player.specs.PlayerView as player
-use Rattle.mot_repository.specs.Repository.{Holds}
+use Rattle.mot_repository.specs.Repository.{HasStanding, Holds}
+use Rattle.mot_repository.proofs.Laws.{read_standing}
 use Rattle.mot_server.specs.Playing.{IsGoing}
 use Rattle.mot_server.specs.Playing.{HasPlayed, HasPlayedTurn, bytes_of_packets}
 use Rattle.mot_server.specs.Playing.IsTurnRefusal.{halted, no_memory}
@@ -16,25 +17,26 @@ use Rattle.mot_server.proofs.Going.{HasPlayed-more, HasPlayedTurn-ended, IsGoing
 use Rattle.mot_server.proofs.Going.{MatchResult-failed, OnErr-always, PlaysOn-more}
 use Rattle.mot_server.proofs.Going.{bytes_of_packets-more, plays_one_more}
 use Rattle.mot_server.proofs.Going.{HasPlayed-none}
-use Rattle.mot_server.proofs.Read.{holds_still}
+use Rattle.mot_server.proofs.Read.{standing_still}
 use Rattle.mot_server.proofs.ReadRefusals.{turn_of_read, fault_of_read}
 use Rattle.mot_server.proofs.Whole.{turn_reads}
 use Rattle.mot_server.proofs.server.Server.play_turn.Given as given
 use Rattle.mot_server.proofs.server.Server.play_turn.Goals as goal
 use Rattle.mot_server.proofs.server.Server.play_turn.Goals.{After-next_packet, In_ok-push}
 
--- what was kept of the disk at the beginning is kept of it before the next packet
+-- what was held of the disk at the beginning is read of it before the next packet
 held_before : (g : given.Over) (c : After-next_packet g) (s : Standing)
     → Holds c.args.self.now.view s (g.D.Disk.state c.args.self.now.disk)
     → (g.D.Disk.state c.loop-packets.self.disk).IsHonest
-    → Holds c.loop-packets.self.view s (g.D.Disk.state c.loop-packets.self.disk)
+    → HasStanding c.loop-packets.self.view s (g.D.Disk.state c.loop-packets.self.disk)
 held_before g c s holds was =
     let state = g.D.Disk.state in
     let start = c.args.self.now in
     let mid = c.loop-packets.self in
     let is = c.loop-packets.invariant in
-    holds_still start.view mid.view s (state start.disk) (state mid.disk) holds was
-    (is.reads.unchanged was) is.view
+    let sound = g.met.D.Disk.sound start.disk holds.journal.honest in
+    standing_still start.view mid.view s (state start.disk) (state mid.disk)
+    (read_standing start.view s (state start.disk) sound holds) (is.reads.unchanged was) is.view
 
 -- the packets are those before, and the next
 one_more : (g : given.Over) (c : In_ok-push g) → bytes_of_packets c.push.new.self.items
