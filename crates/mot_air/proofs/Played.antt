@@ -1,6 +1,6 @@
 -- Playing a disk, from its opening on.
 use Rattle.std.proofs.Common.{◌≡◌, ◌<◌, arith, ℕ, Bool, true, List, Option}
-use Rattle.std.proofs.Common.{Result, Ok, Err, inl, inr, subst}
+use Rattle.std.proofs.Common.{Result, Ok, Err, inl, inr, subst, sym, ◌++◌}
 use Rattle.std.specs.Prelude.{IsFalse, OnOk, IfErr, MatchResult}
 use Rattle.std.proofs.lemmas.Bool.Decides.{nat_tests}
 use Rattle.disk_model.proofs.Laws.{keeps_on}
@@ -10,7 +10,8 @@ use Rattle.mot_air.specs.Program.{PlaysInto}
 use Rattle.mot_air.proofs.Opened.{ends_off, opened_leaves}
 use Rattle.mot_endpoints.specs.declared.packets.Target.{Target}
 use Rattle.mot_feed.specs.Feeding.{AreOf, AreTold, Event, FedPacketsAreContinuous}
-use Rattle.mot_feed.specs.Feeding.{Feeds, Happen, HasFed, IsFeedFault, Stage, fault_at}
+use Rattle.mot_feed.specs.Feeding.{Feeds, Happen, HasFed, IsFeedFault, RulesAreKept, Stage}
+use Rattle.mot_feed.specs.Feeding.{fault_at}
 use Rattle.mot_feed.specs.Often.{place_for, server_for}
 use Rattle.mot_feed.specs.OnAir.{ChangedTurnsOnAirRead, TurnsOnAirRead}
 use Rattle.mot_journal.specs.Image.{Standing}
@@ -23,6 +24,7 @@ use Rattle.mot_objects.specs.declared.command.Command.{Command}
 use Rattle.mot_player.specs.Place.{Place}
 use Rattle.mot_player.specs.Turn.{turn_of_carousel}
 use Rattle.mot_export.proofs.Laws.{AllAre, all_hold, openable}
+use Rattle.mot_feed.proofs.Laws.{rules_behind, rules_of_turn}
 use Rattle.mot_export.specs.Opening.{IsOpenable, first_place}
 use Rattle.mot_repository.proofs.Laws.{standings-are_sound}
 use Rattle.mot_repository.specs.Opening.{IsOpened}
@@ -128,9 +130,14 @@ module _ {D : Type 0} (state : D → State) (disk : D) (server new : ServerView 
               (turn_of_carousel s.carousel s.geometry.segment_size)
               (place_for how.directory (first_place s)).follows events (place_in new made) packets
               (room s holds.agrees) happened are;
-          turns_read = λ before during others all_of c then place after of came rules goes is_one
+          turns_read = λ before during others all_of c then place after of came goes is_one
               are_of.
-              let is_valid = sizes s holds.agrees in (
+              let is_valid = sizes s holds.agrees in
+              let limit = s.geometry.objects in
+              let rules = rules_of_turn limit c during others is_one
+              (rules_behind limit s.geometry.segment_size s.carousel c
+              (place_for how.directory (first_place s)) place before (during ++ others)
+              (subst (λ l. RulesAreKept limit s.carousel l) (sym all_of) fed.rules) came) in (
                 (λ begins. turns_read s.geometry.objects s.geometry.segment_size s.carousel c then
                     s.geometry.address (packet_room s.geometry)
                     (place_for how.directory (first_place s)).follows before during place after of

@@ -12,7 +12,6 @@ use Rattle.mot_journal.specs.Image.{Standing}
 use Rattle.mot_numbers.specs.Refusal.{is_device_fault}
 use Rattle.mot_numbers.specs.declared.refusal.Refusal.{Refusal}
 use Rattle.mot_objects.specs.Carousel.{Carousel}
-use Rattle.mot_objects.specs.Rules.{AllKeepRules}
 use Rattle.mot_objects.specs.declared.command.Command.{Command}
 use Rattle.mot_packets.specs.Outlet.{Grows}
 use Rattle.mot_player.specs.Continuity.{IsContinuous}
@@ -51,14 +50,14 @@ tale_of tells how first last limit c stage events commands marks made =
     AreTold tells (look_of_feed how) limit first c stage events commands marks last made
 
 -- Where a whole turn comes behind these events of a server just opened, its packets read as exactly
--- the carousel that stands there, if that keeps the rules of its fields. If the turn before ended,
--- they do so whatever commands came since, and of each segment that is sent again the first counts.
+-- the carousel that stands there. If the turn before ended, they do so whatever commands came
+-- since, and of each segment that is sent again the first counts.
 abbrev pub TurnReads : Standing → Manner → (before during : List Event) → Type 0
 TurnReads s how before during =
     (c made : Carousel) (place new : Place) (packets : List (List ℕ))
     → Happen s.geometry.objects s.geometry.segment_size s.carousel
     (place_for how.directory (first_place s)) before c place
-    → AllKeepRules c → Happen s.geometry.objects s.geometry.segment_size c place during made new
+    → Happen s.geometry.objects s.geometry.segment_size c place during made new
     → is_turn during ≡ true → AreOf during packets
     → (begins_turn (place_for how.directory (first_place s)).follows true true before ≡ true
     → ReadAsTurn (asks during) packets c s.geometry.segment_size)

@@ -9,7 +9,8 @@ use Rattle.std.specs.Prelude.{◌⊎◌, ◌≢◌, if◌then◌else◌}
 use Rattle.std.specs.Option.{option_map_or}
 use Rattle.disk_model.specs.Disk.{State, IsHonestDisk, IsUnchanged}
 use Rattle.mot_feed.specs.Feeding.{AreOf, AreTold, EndsFeed, Event, FedPacketsAreContinuous}
-use Rattle.mot_feed.specs.Feeding.{Feeds, Happen, HasFed, Stage}
+use Rattle.mot_feed.specs.Feeding.{Feeds, Happen, HasFed, RulesAreKept, Stage}
+use Rattle.mot_feed.specs.OnAir.{is_turn}
 use Rattle.mot_feed.specs.Feeding.{commands_among, is_between_turns, left_after}
 use Rattle.mot_feed.specs.Feeding.{left_behind, moment_at, moment_behind, sents_in, turns_in}
 use Rattle.mot_feed.specs.Feeding.AreTold.{no_call, one_asked, one_call, one_played}
@@ -40,7 +41,9 @@ use Rattle.mot_player.specs.Place.{Place, Sent, Step, Request, NewTurn, Director
 use Rattle.mot_player.specs.Place.{change_turn, changed, follow, hear_directory, opened_place}
 use Rattle.mot_player.specs.Place.{sent_by}
 use Rattle.mot_player.specs.Turn.{Turn, turn_of_carousel}
+use Rattle.mot_objects.specs.Rules.{AllKeepRules}
 use Rattle.mot_repository.specs.Repository.{Holds, RepositoryView}
+use Rattle.mot_repository.proofs.Laws.{rules_kept}
 use Rattle.mot_server.specs.RunEnds.{place_after}
 use Rattle.mot_server.specs.Runs.{accepted_commands}
 use Rattle.mot_server.specs.Server.{ServerView, place_in}
@@ -194,6 +197,66 @@ are-more events commands packets are =
       read = subst (λ l. AreSent l packets) same are.read;
     }
 
+-- ---- rules that are kept
+
+-- commands send no packet
+rules-commands : (limit : ℕ) (commands : List Command) (c : Carousel)
+    → RulesAreKept limit c (map Accepted commands)
+rules-commands limit [] c = tt
+rules-commands limit (command ∷ commands) c =
+    λ next made. rules-commands limit commands next
+
+-- without a command the same carousel stands
+rules-packets : (limit : ℕ) (events : List Event) (c : Carousel) → commands_among events ≡ []
+    → AllKeepRules c → RulesAreKept limit c events
+rules-packets limit [] c none rules = tt
+rules-packets limit (Played sent ∷ events) c none rules =
+    (rules, rules-packets limit events c none rules)
+rules-packets limit (Asked ∷ events) c none rules = rules-packets limit events c none rules
+rules-packets limit (Accepted command ∷ events) c none rules = absurd (cc)
+
+-- events, and then others
+rules-join : (limit size : ℕ) (c mid : Carousel) (place between : Place)
+    (events others : List Event) → RulesAreKept limit c events
+    → Happen limit size c place events mid between → RulesAreKept limit mid others
+    → RulesAreKept limit c (events ++ others)
+rules-join limit size c mid place between [] others one happen two =
+    subst (λ d. RulesAreKept limit d others) (sym happen.0) two
+rules-join limit size c mid place between (Played sent ∷ events) others one happen two =
+    (one.0, rules-join limit size c mid sent.place between events others one.1 happen.1 two)
+rules-join limit size c mid place between (Asked ∷ events) others one happen two =
+    rules-join limit size c mid (hear_directory place) between events others one happen two
+rules-join limit size c mid place between (Accepted command ∷ events) others one happen two =
+    λ next made.
+    let same : happen.0 ≡ next = same_some happen.0 next (sym happen.1 ∙ made) in
+    let kept = rules-join limit size happen.0 mid
+    (changed (turn_of_carousel happen.0 size) place) between events others
+    (one happen.0 happen.1) happen.2 two in
+    subst (λ d. RulesAreKept limit d (events ++ others)) same kept
+
+-- what comes behind events
+pub rules_behind : (limit size : ℕ) (c mid : Carousel) (place between : Place)
+    (events others : List Event) → RulesAreKept limit c (events ++ others)
+    → Happen limit size c place events mid between → RulesAreKept limit mid others
+rules_behind limit size c mid place between [] others rules happen =
+    subst (λ d. RulesAreKept limit d others) happen.0 rules
+rules_behind limit size c mid place between (Played sent ∷ events) others rules happen =
+    rules_behind limit size c mid sent.place between events others rules.1 happen.1
+rules_behind limit size c mid place between (Asked ∷ events) others rules happen =
+    rules_behind limit size c mid (hear_directory place) between events others rules happen
+rules_behind limit size c mid place between (Accepted command ∷ events) others rules happen =
+    rules_behind limit size happen.0 mid (changed (turn_of_carousel happen.0 size) place) between
+    events others (rules happen.0 happen.1) happen.2
+
+-- a whole turn is sent of a carousel that keeps the rules
+pub rules_of_turn : (limit : ℕ) (c : Carousel) (during others : List Event) → is_turn during ≡ true
+    → RulesAreKept limit c (during ++ others) → AllKeepRules c
+rules_of_turn limit c [] others is rules = absurd (cc)
+rules_of_turn limit c (Accepted command ∷ during) others is rules = absurd (cc)
+rules_of_turn limit c (Asked ∷ during) others is rules =
+    rules_of_turn limit c during others is rules
+rules_of_turn limit c (Played sent ∷ during) others is rules = rules.0
+
 -- ---- the directory asked for, or not
 
 commands-asked : (due : Bool) → commands_among (asks due) ≡ []
@@ -328,6 +391,10 @@ module _ {D : Type 0} where
               (happen-join s.geometry.objects s.geometry.segment_size s.carousel d.carousel
               two.leaves.last.carousel (place_in old s) (place_in mid d)
               (place_in new two.leaves.last) events more first.happened happened);
+          rules = rules-join s.geometry.objects s.geometry.segment_size s.carousel d.carousel
+              (place_in old s) (place_in mid d) events more first.rules first.happened
+              (subst (λ (g : Geometry). RulesAreKept g.objects d.carousel more)
+              first.leaves.after.geometry two.rules);
         },
         joined.1 ∙ second.1,
       )
@@ -349,6 +416,7 @@ module _ {D : Type 0} where
               s.carousel (place_in old s) (map Accepted done) last.carousel p) (sym run.place)
               (happen-commands s.geometry.objects s.geometry.segment_size done s.carousel
               last.carousel (place_in old s) run.leaves.after.carousel);
+          rules = rules-commands s.geometry.objects done s.carousel;
         },
         refl,
       )
@@ -370,6 +438,9 @@ module _ {D : Type 0} where
           accepted = none;
           happened = subst (λ (d : Standing). Happen s.geometry.objects s.geometry.segment_size
               s.carousel (place_in old s) events d.carousel (place_in new d)) (sym last) happened;
+          rules = rules-packets s.geometry.objects events s.carousel none
+              (rules_kept start.bytes s (sound.images start.bytes sound.bytes).are_bytes
+              (holds.each start.bytes sound.bytes).stands);
         },
         last,
       )

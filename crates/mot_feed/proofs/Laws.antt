@@ -1,4 +1,6 @@
 -- What holds of the definitions, for the crates above.
 
+-- at each packet the carousel keeps its rules, so of each whole turn
+pub use Rattle.mot_feed.proofs.Fed.{rules_behind, rules_of_turn}
 -- nothing was added
 pub use Rattle.mot_feed.proofs.Grown.{grows_nil}

@@ -1,12 +1,13 @@
 -- What taking turns between updates and packets does.
 use Rattle.std.specs.Prelude.{ℕ, ◌≡◌, ◌≢◌, ◌==◌, ◌⊎◌, ◌+◌, ◌-◌, ◌<◌, nat_eq, nat_lt, Bool, true}
 use Rattle.std.specs.Prelude.{false, ◌&&◌, if◌then◌else◌, List, [], ◌∷◌, ◌++◌, length, map, Option}
-use Rattle.std.specs.Prelude.{Some, None, take}
+use Rattle.std.specs.Prelude.{Some, None, take, ⊤}
 use Rattle.disk_model.specs.Disk.{State}
 use Rattle.mot_journal.specs.Image.{Standing}
 use Rattle.mot_numbers.specs.declared.refusal.Refusal.{Refusal}
 use Rattle.mot_numbers.specs.declared.refusal.Refusal.TheVariants.{WriteFault}
 use Rattle.mot_objects.specs.Carousel.{Carousel, carousel_after, carousel_if_accepted, change}
+use Rattle.mot_objects.specs.Rules.{AllKeepRules}
 use Rattle.mot_objects.specs.declared.command.Command.{Command}
 use Rattle.mot_packets.specs.Outlet.{Grows}
 use Rattle.mot_player.specs.Continuity.{IsContinuous}
@@ -53,6 +54,15 @@ Happen limit size c place (Accepted command ∷ events) last new =
     × Happen limit size next (changed (turn_of_carousel next size) place) events last new
 Happen limit size c place (Asked ∷ events) last new =
     Happen limit size c (hear_directory place) events last new
+
+-- at each packet the carousel that stands there keeps the rules of its fields
+abbrev pub RulesAreKept : ℕ → Carousel → List Event → Type 0
+RulesAreKept limit c [] = ⊤
+RulesAreKept limit c (Played sent ∷ events) = AllKeepRules c × RulesAreKept limit c events
+RulesAreKept limit c (Accepted command ∷ events) =
+    (next : Carousel) → carousel_if_accepted (change c limit command) ≡ Some next
+    → RulesAreKept limit next events
+RulesAreKept limit c (Asked ∷ events) = RulesAreKept limit c events
 
 -- whether a turn has ended behind these, or none was begun
 abbrev pub is_between_turns : Bool → List Event → Bool
@@ -146,6 +156,7 @@ pub record HasFed {D : Type 0} (old new : ServerView D) (start now : State) (s :
   pub accepted : commands_among events ≡ accepted_commands commands marks
   pub happened : Happen s.geometry.objects s.geometry.segment_size s.carousel (place_in old s)
       events leaves.last.carousel (place_in new leaves.last)
+  pub rules : RulesAreKept s.geometry.objects s.carousel events
 
 -- In these, before and after are the writes of an outlet, as far as they are known.
 
