@@ -16,6 +16,9 @@ top = pathlib.Path(__file__).resolve().parent.parent
 PLACES = ("build/motcar", "crates/motcar/out/motcar")
 SECONDS = 60
 SHOWN = 600
+# A line, and the reply to it: one packet, where packets may have 24 bytes.
+HELLO = b"raw 4 2 68656c6c6f\n"
+PACKET = b"packet 0c011074008000120002000568656c6c6f34cf0000008561\n"
 
 
 def find():
@@ -120,6 +123,12 @@ class Case(Rows):
         ended = self.motcar("format", name, *options)
         self.assertEqual((0, b""), (ended[0], ended[2]), f"format {name}")
         return self.room / name
+
+    def write(self, name, held):
+        """Makes a file in the test's folder; its path."""
+        path = self.room / name
+        path.write_bytes(held)
+        return path
 
     def objects(self, disk):
         """Each object as `check` shows it, by its name: id, version, type and subtype, length, MIME type."""
