@@ -14,7 +14,7 @@ import time
 import unittest
 
 from . import dab
-from .program import Case, plain
+from .program import Case, plain, run
 
 NOBODY = 65_534
 MINUTE = 60
@@ -61,6 +61,12 @@ def samples(path):
     return {re.sub(r'disk="[^"]*",?', "", front).replace("{}", ""): int(value) for front, _, value in parts}
 
 
+def whole_packets(stream):
+    """The packets in a stream that ends anywhere, but for one of which a part is missing."""
+    packets = dab.packets_in(stream)
+    return packets[:-1] if packets and len(packets[-1]) < dab.length_of(packets[-1][0]) else packets
+
+
 class Player:
     """A program that plays while a row changes what it reads. Its log is a file; with `of_page` its packets go into a
     pipe that holds 4,096 bytes, so that it stands still until the row hears them."""
@@ -72,6 +78,7 @@ class Player:
             self.ear, mouth = os.pipe()
             # (before the first packet: a pipe that holds more can't be made so short)
             fcntl.fcntl(self.ear, fcntl.F_SETPIPE_SZ, 4096)
+            os.set_blocking(self.ear, False)
         with open(log, "wb") as out:
             streams = {"stdout": mouth, "stderr": out} if of_page else {"stdout": out}
             self.ran = subprocess.Popen([str(it) for it in words], start_new_session=True, **streams, **more)
@@ -90,16 +97,16 @@ class Player:
         """Waits until its log has this line so often, or a minute; whether it has."""
         return until(lambda: self.told().count(line) >= times)
 
+    def read(self, most=4096):
+        """What is in the pipe, so many bytes at most."""
+        try:
+            return os.read(self.ear, most)
+        except BlockingIOError:
+            return b""
+
     def hear(self, is_done):
         """Reads packets until it is so, or for a minute; whether it is so."""
-        end = time.monotonic() + MINUTE
-        os.set_blocking(self.ear, False)
-        while not is_done() and time.monotonic() < end:
-            try:
-                os.read(self.ear, 4096)
-            except BlockingIOError:
-                time.sleep(0.01)
-        return is_done()
+        return until(lambda: is_done() or not self.read() and is_done())
 
     def kill(self):
         """Ends it, and who looks at its system calls."""
@@ -142,6 +149,12 @@ class AirCase(Case):
         """What `play` gives, its log as `plain` leaves it."""
         status, printed, said = self.motcar("play", disk, packets, *more, **how)
         return status, printed if packets == "-" else plain(printed), plain(said)
+
+    def traced(self, words, *expressions, **more):
+        """What a program gives under strace, its log as `plain` leaves it."""
+        status, printed, said = run(traced(words, *expressions, **more), cwd=self.room)
+        # (of a path that ends in a dot strace has a line of its own)
+        return status, plain(printed), re.sub(rb"(?m)^strace: Requested path .*\n", b"", plain(said))
 
     def turns(self, disk, count):
         """The packets of the first turns, as a multiplexer should get them."""
