@@ -4,17 +4,19 @@ The program is the one that the environment variable MOTCAR names, or else the o
 left. A test has a folder of its own, `self.room`, in which the program runs. A row is one call of `self.expect`: a row
 that fails does not hide the ones after it, and the runner (`python3 -m tests`) counts them.
 """
+import contextlib
 import os
 import pathlib
 import re
 import shutil
+import signal
 import subprocess
 import tempfile
 import unittest
 
 top = pathlib.Path(__file__).resolve().parent.parent
 PLACES = ("build/motcar", "crates/motcar/out/motcar")
-SECONDS = 60
+SECONDS, TEST_SECONDS = 60, 300  # that one run of the program may take, and one test
 SHOWN = 600
 # A line, and the reply to it: one packet, where packets may have 24 bytes.
 HELLO = b"raw 4 2 68656c6c6f\n"
@@ -93,10 +95,17 @@ class Rows(unittest.TestCase):
             self.skipTest(why)
 
 
+def end_test(*_):
+    raise TimeoutError(f"a test of more than {TEST_SECONDS} seconds")
+
+
 class Case(Rows):
     """A test of the program, in a folder of its own."""
 
     def setUp(self):
+        signal.signal(signal.SIGALRM, end_test)
+        signal.alarm(TEST_SECONDS)
+        self.addCleanup(signal.alarm, 0)
         self.program = find()
         self.room = pathlib.Path(tempfile.mkdtemp(prefix="motcar-test-"))
         # (a test may run the program as another user)
@@ -106,6 +115,14 @@ class Case(Rows):
     def motcar(self, *words, given=b"", **more):
         """Runs the program in the test's folder."""
         return run([self.program, *words], given, **{"cwd": self.room, **more})
+
+    def begin(self, *words, **more):
+        """Starts the program with pipes to and from it; a test that ends leaves none running."""
+        words = [it if isinstance(it, bytes) else str(it) for it in (self.program, *words)]
+        pipes = {"stdin": subprocess.PIPE, "stdout": subprocess.PIPE, "cwd": self.room}
+        begun = subprocess.Popen(words, **{**pipes, **more})
+        self.addCleanup(end, begun)
+        return begun
 
     def memory(self, given, *options):
         """The program with a carousel in memory; the lines are bytes, a text, or a list of lines."""
@@ -134,6 +151,16 @@ class Case(Rows):
         """Each object as `check` shows it, by its name: id, version, type and subtype, length, MIME type."""
         found = [it.split() for it in self.motcar("check", disk)[1].decode().splitlines() if it.startswith("object ")]
         return {it[6]: (int(it[1]), int(it[2]), f"{it[3]} {it[4]}", int(it[5]), it[7]) for it in found}
+
+
+def end(begun):
+    """Ends a program, and closes the pipes to and from it."""
+    begun.kill()
+    begun.wait()
+    for pipe in (begun.stdin, begun.stdout, begun.stderr):
+        if pipe:
+            with contextlib.suppress(OSError):
+                pipe.close()
 
 
 def as_lines(given):

@@ -12,7 +12,7 @@ import stat
 import struct
 import subprocess
 
-from .program import Case
+from .program import SECONDS, Case
 
 NOBODY = 65_534
 F_OFD_SETLK = 37  # (fcntl.F_OFD_SETLK is newer)
@@ -153,7 +153,8 @@ class FileSize(Limits):
         beside = self.room / "second-wal"
         for given in (b"mine\n", b""):
             beside.write_bytes(given)
-            self.motcar("format", "second", *SIZES, **self.limit(4_096))
+            ended = self.motcar("format", "second", *SIZES, **self.limit(4_096))
+            self.expect_fault("format", "second", "too large", ended)
             self.expect(f"a file of {given}", [beside], list(self.room.glob("second*")))
             self.expect("and its bytes", given, beside.read_bytes() if beside.exists() else None)
 
@@ -210,15 +211,15 @@ class Rights(Limits):
 class InUse(Limits):
     def test_a_disk_that_another_has_open(self):
         self.made("held", b"")
-        disk, pipes = self.room / "held", {"stdin": subprocess.PIPE, "stdout": subprocess.PIPE}
-        with subprocess.Popen([self.program, "serve", disk], **pipes) as first:
-            for line, reply in ((b"period 1\n", b"done directory 2\n"), (b"period 2\n", b"done directory 3\n")):
-                first.stdin.write(line)
-                first.stdin.flush()
-                self.expect("the first that has it open", reply, first.stdout.readline())
-                for command in ("serve", "check", "migrate", "format"):
-                    self.expect_fault(f"{command} beside it", disk, "", self.motcar(command, disk, given=b"period 9\n"))
-            first.stdin.close()
+        disk = self.room / "held"
+        first = self.begin("serve", disk)
+        for line, reply in ((b"period 1\n", b"done directory 2\n"), (b"period 2\n", b"done directory 3\n")):
+            first.stdin.write(line)
+            first.stdin.flush()
+            self.expect("the first that has it open", reply, first.stdout.readline())
+            for command in ("serve", "check", "migrate", "format"):
+                self.expect_fault(f"{command} beside it", disk, "", self.motcar(command, disk, given=b"period 9\n"))
+        first.communicate(timeout=SECONDS)
         self.expect_kept("what another had open", disk, b"carousel 2 3 3 0\nclean\nlayout 2\n")
 
     def test_a_lock_of_the_bytes_that_sqlite_locks(self):
