@@ -171,6 +171,9 @@ class AirCase(Case):
         words = [self.program, "play", *words]
         if tracing:
             words = traced(words, *tracing[0], paths=tracing[1])
+        return self.started(words, of_page, **more)
+
+    def started(self, words, of_page=False, **more):
         player = Player(words, self.room / "log", of_page, cwd=self.room, **more)
         self.addCleanup(player.kill)
         return player

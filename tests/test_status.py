@@ -1,0 +1,281 @@
+"""What monitoring sees of `play`: the file of `--status`, when it is written, how it comes to its place, what it has."""
+import os
+import re
+import resource
+import shutil
+import time
+
+from .air import AirCase, needs_strace, samples, send, traced, until
+from .program import run
+
+
+class Status(AirCase):
+    """A folder of which one file is taken and four are refused."""
+
+    def setUp(self):
+        super().setUp()
+        self.place, self.path = self.disk(), self.room / "status"
+        empty = {it: b"" for it in ("b.txt", 'c"\\.txt', "d\1.txt", "d\2.txt")}
+        self.objects_of = self.folder({"a.txt": b"x" * 5_000, **empty})
+
+    def shown(self, *more, turns="1", to=None, **how):
+        """The status of the program, and its log with levels."""
+        ended = self.motcar("play", self.place, "/dev/null", "--at-once", "--allow-empty", "--folder", self.objects_of,
+                            "--turns", turns, "--levels", "--status", to or self.path, *more, **how)
+        return ended[0], ended[1].decode().splitlines()
+
+    def count(self, name):
+        return samples(self.path).get(f"motcar_{name}")
+
+
+class Samples(Status):
+    def test_all(self):
+        self.shown()
+        inspected, version = self.inspected(self.place), self.motcar("--version")[1].split()[1].decode()
+        packets, size = map(int, inspected["turn"].split()[0::2][:2])
+        reasons = {"b.txt": "6 EmptyBody", 'c\\"\\\\.txt': "6 EmptyBody", "d?.txt": "2 BadName: a control character"}
+        files = {f'motcar_file_refused{{command="read",name="{it}",reason="{why}"}}': 1 for it, why in reasons.items()}
+        wanted = {"packets_total": 0, "turns_total": 0, "looks_total": 1, "changes_total": 1, "refusals_total": 4,
+                  "objects": 1, "directory_id": 3, "turn_packets": packets, "turn_bytes": size, "folder_listed": 1,
+                  "free_bytes": int(inspected["data"].split()[-1]), "gap_bytes": int(inspected["gap"]),
+                  f'info{{version="{version}"}}': 1}
+        wanted = {f"motcar_{it}": value for it, value in wanted.items()}
+        self.expect("a status", {**wanted, **files}, samples(self.path))
+        others = [it for it in self.path.read_text().splitlines() if not re.match(r"# (HELP|TYPE) motcar_|motcar_", it)]
+        self.expect("with help and a kind for each family", [], others)
+        self.expect("for any reader", 0o644, self.path.stat().st_mode & 0o777)
+        self.expect("and nothing is left beside it", False, (self.room / "status.new").exists())
+
+    def test_the_log_beside_it(self):
+        status, told = self.shown()
+        packets, version = self.count("turn_packets"), self.motcar("--version")[1].split()[1].decode()
+        first = f"play: motcar {version}, {self.place}, 0 objects, 1 packets a turn"
+        wanted = 0, first, f"play: ended, 1 turns, {packets} packets"
+        self.expect("lines at the start and the end", wanted, (status, told[0][3:], told[-1][3:]))
+        levels = ["<4>" if " refused " in it else "<6>" for it in told]
+        self.expect("and the levels of all lines", (levels, 4), ([it[:3] for it in told], levels.count("<4>")))
+
+    def test_when_it_is_written(self):
+        self.shown()
+        packets = self.count("turn_packets")
+        turns = 3_500 // packets
+        self.shown(turns=str(turns))
+        # (a look begins a turn)
+        between = -(-1_000 // packets) * packets
+        self.expect("after each look", (4, 3 * between), (self.count("looks_total"), self.count("packets_total")))
+        self.expect("with the turns up to there", 3 * between // packets, self.count("turns_total"))
+        self.motcar("play", self.place, "/dev/null", "--turns", str(turns), "--status", self.path)
+        wanted = 0, 3_000, 3_000 // packets
+        came = [self.count(it) for it in ("looks_total", "packets_total", "turns_total")]
+        self.expect("after each thousand packets", wanted, tuple(came))
+
+    def test_a_file_that_is_mended(self):
+        self.shown()
+        (self.objects_of / "b.txt").write_bytes(b"b")
+        self.shown()
+        came = self.count("objects"), sum("b.txt" in it for it in samples(self.path))
+        self.expect("a file that is mended", (2, 0), came)
+
+    def test_control_characters_above_ascii(self):
+        (self.objects_of / "e\u0085.txt").write_bytes(b"")
+        self.expect("a control character above ASCII", True, "<4>read e?.txt refused 6 EmptyBody" in self.shown()[1])
+        name = 'motcar_file_refused{command="read",name="e?.txt",reason="6 EmptyBody"}'
+        self.expect("and in a status", True, name in samples(self.path))
+        told = self.sync(self.place, self.objects_of)[1]
+        came = b"\nread e?.txt refused 6 EmptyBody\n" in told, b"\xc2\x85" in told
+        self.expect("and in the log of sync", (True, False), came)
+
+    def test_folders_that_are_empty_or_gone(self):
+        for it in self.objects_of.iterdir():
+            it.unlink()
+        self.serve(self.place, ["put a 1 0 - 61", "put b 1 0 - 62"])
+        words = ["--folder", self.objects_of, "--turns", "1", "--levels", "--status", self.path]
+        kept = self.motcar("play", self.place, "/dev/null", *words)[1].decode().splitlines()
+        wanted = 0, 2, True
+        came = self.count("folder_listed"), self.count("objects"), f"<4>look {self.objects_of} empty, kept" in kept
+        self.expect("an empty folder", wanted, came)
+        shutil.rmtree(self.objects_of)
+        told = self.shown()[1]
+        self.expect("a folder that is gone", (0, 2), (self.count("folder_listed"), self.count("objects")))
+        reason = f"<4>look {self.objects_of} refused 22 ReadFault: No such file or directory"
+        self.expect("with the reason", True, reason in told)
+
+    def test_an_object_that_is_replaced(self):
+        """Another length of it is another turn, though there are as many objects as before."""
+        asked = self.folder(name="lines")
+        self.serve(self.place, ["put a 1 0 - 61", "put b 1 0 - 62"])
+        player = self.player(self.place, "/dev/null", "--lines", asked, "--status", self.path)
+        until(lambda: self.count("turn_packets"))
+        before = self.count("turn_packets"), self.count("turn_bytes")
+        send(asked, "1.lines", b"replace a 1 0 - " + b"61" * 5_000 + b"\n")
+        until(lambda: self.count("changes_total") == 1)
+        at = self.count("packets_total")
+        until(lambda: self.count("packets_total") > at)
+        after = self.count("turn_packets"), self.count("turn_bytes")
+        player.end()
+        packets, size = map(int, self.inspected(self.place)["turn"].split()[0::2][:2])
+        came = after, after[1] > before[1] + 5_000
+        self.expect("a turn after an object was replaced", ((packets, size), True), came)
+
+    @needs_strace
+    def test_a_disk_fault_in_a_look(self):
+        """What the look did that ended the program is counted, and no end is told."""
+        (self.objects_of / "e.txt").write_bytes(b"e")
+        words = ["play", self.place, "/dev/null", "--at-once", "--folder", self.objects_of, "--status", self.path]
+        fault = "inject=fdatasync:error=EIO:when=4"
+        ended = run(traced([self.program, *words], fault, paths=[self.place]))
+        self.expect("a disk fault in the first look", (1, 1, 1, 0),
+                    (ended[0], *[self.count(it) for it in ("looks_total", "changes_total", "packets_total")]))
+
+
+class Places(Status):
+    """How the status comes to its place, and where it does not."""
+
+    def told(self, log):
+        return [it for it in log if it[3:].startswith("status")]
+
+    def test_places_that_are_none(self):
+        self.shown()
+        before = self.place.read_bytes()
+        folder, link, none = self.folder(name="folder"), self.room / "link", self.room / "link.to.nothing"
+        link.symlink_to(self.path.name)
+        none.symlink_to("nothing")
+        os.mkfifo(self.room / "pipe")
+        others = "/dev/null", folder, link, none, self.room / "pipe"
+        rows = [("nowhere/status", "No such file or directory"), (self.place, "the disk itself"),
+                ("disk", "the disk itself"), *[(it, "a link, or not a regular file") for it in others]]
+        for path, why in rows:
+            status, log = self.shown(to=path)
+            wanted = 0, [f"<4>status {path} refused 23 WriteFault: {why}"]
+            self.expect(f"a status that can't be written: {path}", wanted, (status, self.told(log)))
+        self.expect("leaves the disk", before, self.place.read_bytes())
+        self.expect("and links", ("status", "nothing"), (os.readlink(link), os.readlink(none)))
+        self.expect("and makes nothing", False, (self.room / "nothing").exists())
+
+    def test_what_stands_beside_it(self):
+        """What a killed run left is written over; what is no regular file stays."""
+        new, victim = self.room / "status.new", self.room / "victim"
+        new.write_bytes(b"half a sta")
+        self.expect("a status beside one that was left", (0, []), (lambda it: (it[0], self.told(it[1])))(self.shown()))
+        self.expect("is written", (1, False), (self.count("objects"), new.exists()))
+        victim.write_bytes(b"mine")
+        before = self.path.read_bytes()
+        for row, make in (("a link", lambda: new.symlink_to(victim)), ("a pipe", lambda: os.mkfifo(new))):
+            make()
+            wanted = [f"<4>status {self.path} refused 23 WriteFault: a link, or not a regular file"]
+            self.expect(f"{row} beside it", (0, wanted), (lambda it: (it[0], self.told(it[1])))(self.shown(turns="2")))
+            self.expect(f"{row} stays, and the old status", (True, before, b"mine"),
+                        (os.path.lexists(new), self.path.read_bytes(), victim.read_bytes()))
+            new.unlink()
+
+    @needs_strace
+    def test_that_a_reader_sees_it_whole(self):
+        trace = self.room / "trace"
+        words = ["play", self.place, "/dev/null", "--turns", "1", "--status", self.path]
+        for _ in range(2):
+            run(traced([self.program, *words], "trace=open,openat,creat,truncate,rename,renameat,renameat2", out=trace))
+            calls = [it for it in trace.read_text().splitlines() if f'"{self.path}' in it]
+            opened = [re.search(r'"([^"]*)"', it)[1] for it in calls if "rename" not in it]
+            renamed = [re.findall(r'"([^"]*)"', it) for it in calls if "rename" in it]
+            self.expect("only the file beside it is opened", {f"{self.path}.new"}, set(opened))
+            self.expect("and takes its place", [[f"{self.path}.new", str(self.path)]], renamed)
+
+    def test_a_full_file_system(self):
+        self.shown()
+        before = self.path.read_bytes()
+        def limit():
+            resource.setrlimit(resource.RLIMIT_FSIZE, (1_024, 1_024))
+
+        status, log = self.shown(turns="2", preexec_fn=limit, restore_signals=False)
+        wanted = 0, [f"<4>status {self.path} refused 23 WriteFault: File too large"]
+        self.expect("no room for a status", wanted, (status, self.told(log)))
+        self.expect("the old one stays, and no half of a new one", (before, False),
+                    (self.path.read_bytes(), (self.room / "status.new").exists()))
+
+    def test_a_place_that_goes_and_comes_back(self):
+        """Each time that it can't be written is told once, and each time that it can be again."""
+        folder = self.folder(name="shown")
+        path = folder / "status"
+        player = self.player(self.place, "/dev/null", "--levels", "--status", path)
+        self.expect("a status is written", True, until(path.exists))
+        refused = f"<4>status {path} refused 23 WriteFault: No such file or directory"
+        for number in (1, 2, 3):
+            os.rename(folder, self.room / "away")
+            self.expect(f"that it can't be written is told: {number}", True, player.until(refused, number))
+            at = samples(self.room / "away/status").get("motcar_packets_total")
+            os.rename(self.room / "away", folder)
+            self.expect(f"and that it can be again: {number}", True, player.until(f"<6>status {path} written", number))
+            is_written = until(lambda: samples(path).get("motcar_packets_total", 0) > at)
+            self.expect(f"it is written: {number}", True, is_written)
+        told = [it for it in player.end() if "status" in it]
+        self.expect("each once", [refused, f"<6>status {path} written"] * 3, told)
+
+
+class Counts(Status):
+    """Names that have the words of replies in them count as nothing, in lines that tell of no reply."""
+
+    def setUp(self):
+        super().setUp()
+        self.objects_of = self.room / "words refused 9 done .folder"
+        (self.objects_of / "x refused 3 BadType").mkdir(parents=True)
+        for name in ("a refused 6 EmptyBody", "b done directory 3", "c refused 2 BadName.doc",
+                     "d done object 2 directory 3.doc", "e.txt", "f.txt", "done", "refused"):
+            (self.objects_of / name).write_bytes(b"x")
+
+    def counts(self):
+        return {it: value for it, value in samples(self.path).items() if "refus" in it or "changes" in it}
+
+    def wanted(self, changes, refusals, *files):
+        counts = {"motcar_changes_total": changes, "motcar_refusals_total": refusals}
+        told = [f'command="read",name="{name}",reason="{why}"' for name, why in files]
+        return {**counts, **{f"motcar_file_refused{{{it}}}": 1 for it in told}}
+
+    def test_names_that_are_skipped(self):
+        status, told = self.shown()
+        self.expect("names that are skipped count as nothing", self.wanted(2, 0), self.counts())
+        skipped = [it for it in told if it.startswith("<6>skip ")]
+        warnings = [it for it in told if it.startswith("<4>")]
+        self.expect("and are no warning", (0, 7, []), (status, len(skipped), warnings))
+
+    def test_a_note(self):
+        self.shown()
+        for name in ("e.txt", "f.txt"):
+            (self.objects_of / name).unlink()
+        (self.objects_of / "g.txt").write_bytes(b"")
+        told = self.shown()[1]
+        self.expect("nor does a note of such a folder", self.wanted(2, 1, ("g.txt", "6 EmptyBody")), self.counts())
+        notes = [it[:8] for it in told if it[3:].startswith("note ")]
+        self.expect("which is no warning", (1, ["<6>note "]), (sum(it.startswith("<4>") for it in told), notes))
+
+    def test_a_young_file(self):
+        (self.objects_of / "g.txt").write_bytes(b"")
+        for it in self.objects_of.iterdir():
+            os.utime(it, (time.time() - 10,) * 2)
+        self.shown()
+        (self.objects_of / "h.txt").write_bytes(b"h")
+        words = ["--folder", self.objects_of, "--turns", "1", "--levels", "--status", self.path]
+        told = self.motcar("play", self.place, "/dev/null", *words)[1].splitlines()
+        self.expect("a young file counts as none that was refused",
+                    (self.wanted(0, 1, ("g.txt", "6 EmptyBody")), [b"<6>read h.txt too young, next look"]),
+                    (self.counts(), [it for it in told if b" h.txt " in it]))
+
+    def test_names_with_the_words_of_a_refusal(self):
+        """The name of a refused file is what stands before its last reason."""
+        names = ("a refused 6 EmptyBody.txt", "x refused 9 NameTaken refused 1 BadLine.txt",
+                 "done object 2 directory 3.txt")
+        for name in names:
+            (self.objects_of / name).write_bytes(b"x")
+        told = self.shown()[1]
+        files = [(it, "2 BadName: a space") for it in names]
+        self.expect("a refused file whose name has the words of a refusal", self.wanted(2, 3, *files), self.counts())
+        lines = [f"<4>read {it} refused 2 BadName: a space" for it in sorted(names)]
+        self.expect("and the lines about it", lines, sorted(it for it in told if it.startswith("<4>")))
+
+    def test_names_in_front_of_a_reply(self):
+        lines, disk = self.folder(name="lines"), self.disk("other")
+        puts = "put done 2 3 image/png 00\nput refused 2 3 image/png 00\nlist\nput done 2 3 image/png 00\n"
+        (lines / "a refused 9 NameTaken.lines").write_text(puts)
+        words = ["--lines", lines, "--turns", "2000", "--levels", "--status", self.path]
+        told = self.motcar("play", disk, "/dev/null", *words)[1]
+        counts = self.count("changes_total"), self.count("refusals_total"), told.count(b"<4>")
+        self.expect("a name in front of a reply counts as nothing", (2, 1, 1), counts)
