@@ -36,6 +36,25 @@ class Serve(Case):
             held = (self.room / name).read_bytes()
             self.expect(f"of the {name} disk", (0, begin + record), (status, held[place:place + 35]))
 
+    def test_the_worked_disk_of_the_formats(self):
+        """All its bytes, which section 7 of docs/FORMATS.md shows."""
+        path = self.new_disk("disk", "--objects", "1", "--data", "8", "--segment", "64", "--packet", "24")
+        nothing = disk.slot(17, layout=2, directory=1, last=1)[:9].ljust(512, b"\0")
+        sizes = {"objects": 1, "segment": 64, "packet": 24, "area": 8}
+        self.expect("new", disk.disk_of(nothing, **sizes), path.read_bytes())
+        self.serve(path, b"put a 2 3 image/png 68656c6c6f\n")
+        sets = disk.slot(18, layout=2, directory=3, last=3, tid=2, subtype=3, size=5, mime=b"image/png")
+        self.expect("with an object", disk.disk_of(nothing, sets, body=b"hello", **sizes), path.read_bytes())
+        # All slots are open, so a withdrawal goes to slot 2, and the next command to the other half.
+        self.serve(path, b"withdraw a\n")
+        removes = disk.slot(19, layout=2, directory=4, last=4, tid=2)[:11].ljust(512, b"\0")
+        self.expect("without it", disk.disk_of(nothing, sets, removes, body=b"hello", **sizes), path.read_bytes())
+        self.serve(path, b"period 9\n")
+        rewritten = disk.slot(17, layout=2, directory=4, last=4)[:9].ljust(512, b"\0")
+        period = disk.slot(17, layout=2, period=9, directory=5, last=5)[:9].ljust(512, b"\0")
+        wanted = disk.disk_of(rewritten, period, half=1, other=nothing + sets + removes, body=b"hello", **sizes)
+        self.expect("in the other half", wanted, path.read_bytes())
+
     def test_a_disk_that_loses_its_end_while_it_is_open(self):
         path = self.new_disk("disk")
         self.serve(path, b"put a 2 3 image/png 0102030405\n")
