@@ -17,11 +17,11 @@ FLUSHED = [
     ("put a 2 3 - 00", 1), ("replace a 2 3 - 01", 1), ("period 5", 1), ("list", 2), ("next 1", 1), ("next 3", 3),
     ("turn", None), ("withdraw a", 1), ("raw 4 2 00", 1), ("bogus", 1),
 ]
-WAITED = 5  # seconds
+WAITED = 20  # seconds: a reply that is not flushed never comes
 
 
 def reply(pipe, lines):
-    """So many lines, or those up to the end of a turn, that come within five seconds."""
+    """So many lines, or those up to the end of a turn, that come within the time."""
     told = b""
     while told.count(b"\n") < lines if lines else not told.endswith(b" end\n"):
         more = os.read(pipe.fileno(), 65_536) if select.select([pipe], [], [], WAITED)[0] else b""
