@@ -88,18 +88,6 @@ class Inspect(AirCase):
         wanted = 1, b"", b"motcar: 23 WriteFault\n"
         self.expect("a full standard output takes no inspection", wanted, self.to_full("inspect", self.place))
 
-    def test_the_most_objects(self):
-        most = self.new_disk("most", "--objects", "250", "--data", "600000")
-        lines = [f"put o{it} 1 0 - {it:04x}" for it in range(250)]
-        self.serve(most, lines)
-        status, printed, said = self.motcar("inspect", most)
-        wanted = 0, "objects 250 used 250 free 0", b""
-        self.expect("a disk of 250 objects inspected", wanted, (status, printed.decode().splitlines()[3], said))
-        wanted = lengths_told(self.turn(most)[1], 1024, USUAL)
-        self.expect("and a turn of it", wanted, printed.decode().splitlines()[8:])
-        exported = "".join(f"{it}\n" for it in lines).encode()
-        self.expect("and exported", (0, exported, b""), self.motcar("export", most))
-
     def test_words_and_disks_that_are_none(self):
         for command in ("export", "inspect"):
             self.expect(f"wrong words: {command}", (2, b""), self.motcar(command)[:2])

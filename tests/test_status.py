@@ -1,4 +1,4 @@
-"""What monitoring sees of `play`: the file of `--status`, when it is written, how it comes to its place, what it has."""
+"""What monitoring sees of `play`: the file of `--status`, when it is written, how it takes its place, what it has."""
 import os
 import re
 import resource
