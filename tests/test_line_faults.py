@@ -1,5 +1,4 @@
 """Files of lines that can't be read, removed or looked at, that are exchanged, and folders that go and come back."""
-import errno
 import os
 import shutil
 
@@ -247,3 +246,5 @@ class Folders(LineFiles):
         counts = told.count(b"done object"), told.count(b"ReadFault")
         self.expect("a listing that fails in its middle", (0, 200, 1), (status, *counts))
         self.expect("in the order of their names", names, list(self.objects(disk)))
+
+    test_a_listing_that_fails_in_its_middle.takes_long = True

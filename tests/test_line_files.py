@@ -187,6 +187,11 @@ class Pace(LineFiles):
         self.expect("are all sent", wanted, bodies)
 
 
+for test in (Pace.test_many_files_that_wait, Pace.test_many_files_that_are_left, Pace.test_the_order_of_many_names,
+             Pace.test_many_objects_within_one_group):
+    test.takes_long = True
+
+
 class Left(LineFiles):
     """What is none of ours stays where it is, and is told once for as long as it stays as it is."""
 

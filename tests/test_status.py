@@ -131,8 +131,10 @@ class Samples(Status):
 class Places(Status):
     """How the status comes to its place, and where it does not."""
 
-    def told(self, log):
-        return [it for it in log if it[3:].startswith("status")]
+    def told(self, **how):
+        """The status of the program, and the lines of its log about the status."""
+        status, log = self.shown(**how)
+        return status, [it for it in log if it[3:].startswith("status")]
 
     def test_places_that_are_none(self):
         self.shown()
@@ -145,9 +147,8 @@ class Places(Status):
         rows = [("nowhere/status", "No such file or directory"), (self.place, "the disk itself"),
                 ("disk", "the disk itself"), *[(it, "a link, or not a regular file") for it in others]]
         for path, why in rows:
-            status, log = self.shown(to=path)
             wanted = 0, [f"<4>status {path} refused 23 WriteFault: {why}"]
-            self.expect(f"a status that can't be written: {path}", wanted, (status, self.told(log)))
+            self.expect(f"a status that can't be written: {path}", wanted, self.told(to=path))
         self.expect("leaves the disk", before, self.place.read_bytes())
         self.expect("and links", ("status", "nothing"), (os.readlink(link), os.readlink(none)))
         self.expect("and makes nothing", False, (self.room / "nothing").exists())
@@ -156,14 +157,14 @@ class Places(Status):
         """What a killed run left is written over; what is no regular file stays."""
         new, victim = self.room / "status.new", self.room / "victim"
         new.write_bytes(b"half a sta")
-        self.expect("a status beside one that was left", (0, []), (lambda it: (it[0], self.told(it[1])))(self.shown()))
+        self.expect("a status beside one that was left", (0, []), self.told())
         self.expect("is written", (1, False), (self.count("objects"), new.exists()))
         victim.write_bytes(b"mine")
         before = self.path.read_bytes()
         for row, make in (("a link", lambda: new.symlink_to(victim)), ("a pipe", lambda: os.mkfifo(new))):
             make()
             wanted = [f"<4>status {self.path} refused 23 WriteFault: a link, or not a regular file"]
-            self.expect(f"{row} beside it", (0, wanted), (lambda it: (it[0], self.told(it[1])))(self.shown(turns="2")))
+            self.expect(f"{row} beside it", (0, wanted), self.told(turns="2"))
             self.expect(f"{row} stays, and the old status", (True, before, b"mine"),
                         (os.path.lexists(new), self.path.read_bytes(), victim.read_bytes()))
             new.unlink()
@@ -186,9 +187,9 @@ class Places(Status):
         def limit():
             resource.setrlimit(resource.RLIMIT_FSIZE, (1_024, 1_024))
 
-        status, log = self.shown(turns="2", preexec_fn=limit, restore_signals=False)
         wanted = 0, [f"<4>status {self.path} refused 23 WriteFault: File too large"]
-        self.expect("no room for a status", wanted, (status, self.told(log)))
+        ended = self.told(turns="2", preexec_fn=limit, restore_signals=False)
+        self.expect("no room for a status", wanted, ended)
         self.expect("the old one stays, and no half of a new one", (before, False),
                     (self.path.read_bytes(), (self.room / "status.new").exists()))
 

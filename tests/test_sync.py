@@ -185,17 +185,17 @@ class Young(AirCase):
 
     def test_while_it_plays(self):
         self.aged("old.txt", 10)
-        self.motcar("sync", self.place, self.objects_of)
-        (self.objects_of / "old.txt").write_bytes(b"another")
         player = self.player(self.place, "/dev/null", "--folder", self.objects_of)
-        self.expect("a young file is left for a later look", True, player.until("read old.txt too young, next look"))
+        self.expect("an old file is taken at once", True, until(lambda: "put old.txt" in player.log.read_text()))
         began = time.monotonic()
+        (self.objects_of / "old.txt").write_bytes(b"another")
         (self.objects_of / "new.txt").write_bytes(b"more")
         until(lambda: {it.split(" done")[0] for it in player.told()} >= {"replace old.txt", "put new.txt"})
         waited = time.monotonic() - began
         told = player.end()
         self.expect("while it plays it is taken once it is old", True, 1.5 < waited < 30)
-        self.expect("and was told once", 1, told.count("read old.txt too young, next look"))
+        young = [it.split()[1] for it in told if it.endswith(" too young, next look")]
+        self.expect("and was told once", ["new.txt", "old.txt"], sorted(young))
 
 
 class Bounds(AirCase):
