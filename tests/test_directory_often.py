@@ -54,7 +54,7 @@ class Often(AirCase):
         before = self.turns(disk, 2)
         self.expect("turns as ever", (0, b"".join(before), b""), self.play(disk, "-", "--turns", "2"))
         ended = self.play(disk, "-", "--turns", "2", "--directory", "0")
-        self.expect("and where none is asked for", (0, b"".join(before), b""), ended)
+        self.expect("and if none is asked for", (0, b"".join(before), b""), ended)
         status, stream, _ = self.play(disk, "-", "--turns", "2", "--directory", "40")
         self.expect("2 turns with it", 0, status)
         self.expect_often("2 turns", before, dab.packets_in(stream), 40)
@@ -143,7 +143,7 @@ def split_at_change(groups):
 class Changes(AirCase):
     """What a change made is sent next, and then the turn goes on with its next segment; or a change begins a turn."""
 
-    def begin(self, *more):
+    def playing(self, *more):
         """A disk of six objects that is played, and 300 packets were heard."""
         self.place = self.disk()
         self.objects_of = self.folder({f"{it}.txt": bytes([it]) * 20_000 for it in range(6)})
@@ -162,7 +162,7 @@ class Changes(AirCase):
     def asked(self, packets, *more):
         """What is heard of a disk to which a line puts a new object of three segments while it plays."""
         asked = self.folder(name="lines")
-        heard = self.begin("--lines", asked, "--every", "1", *more)
+        heard = self.playing("--lines", asked, "--every", "1", *more)
         send(asked, "1.lines", b"put new 1 0 - " + b"61" * 3000 + b"\n")
         heard.hear_packets(packets)
         return split_at_change(heard.groups()), self.objects(self.place)["new"][0]
@@ -183,25 +183,25 @@ class Changes(AirCase):
     def test_often_in_turns(self):
         self.goes_on("--turns", "3", "--directory", "340")
 
-    def begins_anew(self, *more):
+    def begins_a_turn(self, *more):
         (before, _, _, after), new = self.asked(1000, *more)
         self.expect("the turn up to the change", self.turn()[:len(before)], before)
         self.expect("then the new turn begins", self.turn(new)[:len(after)], after)
 
-    def test_in_turns_it_begins_anew(self):
-        self.begins_anew("--turns", "3")
+    def test_in_turns_it_begins_a_turn(self):
+        self.begins_a_turn("--turns", "3")
 
-    def test_without_the_directory_it_begins_anew(self):
-        self.begins_anew("--directory", "0")
+    def test_without_the_directory_it_begins_a_turn(self):
+        self.begins_a_turn("--directory", "0")
 
     def looked(self, *more):
         """What is heard of a disk whose folder gets a new file of three segments while it plays."""
-        heard = self.begin("--at-once", "--folder", self.room / "objects", *more)
+        heard = self.playing("--at-once", "--folder", self.room / "objects", *more)
         send(self.objects_of, "new.txt", b"z" * 3000)
         heard.hear_packets(2400)
         parts = split_at_change(heard.groups())
         new = self.objects(self.place)["new.txt"][0]
-        self.expect("the look is told", True, "put new.txt done object" in heard.log.read_text())
+        self.expect("the look is logged", True, "put new.txt done object" in heard.log.read_text())
         return *parts, new, [(new, number) for number in range(3)]
 
     def comes_within(self, first, *more):

@@ -45,11 +45,11 @@ class Follow(AirCase):
         told = [re.sub(r"\d+", "N", it) for it in player.end()]
         done = [it for it in told if not it.startswith(("read ", "skip "))]
         wanted = [*[f"put {it}.png done object N directory N" for it in "ijk"], "withdraw i.png done directory N"]
-        self.expect("changes are told once", wanted, sorted(done))
+        self.expect("changes are logged once", wanted, sorted(done))
         objects = self.objects(self.place)
         self.expect("and stored", (True, False), ("k.png" in objects, "i.png" in objects))
         self.expect("clean after a kill", True, b"\nclean\n" in self.motcar("check", self.place)[1])
-        self.expect("a refusal is told once", 4, sum("refused" in it for it in told))
+        self.expect("a refusal is logged once", 4, sum("refused" in it for it in told))
         self.expect("and a name that is skipped", 1, told.count("skip notes.doc suffix"))
 
     def test_a_refusal_that_comes_again(self):
@@ -71,7 +71,7 @@ class Follow(AirCase):
         player.until(again, 2)
         told = sorted(re.sub(r"\d+ directory \d+", "N", it) for it in player.end())
         wanted = ["put a.svg done object N", "put b.s249 done object N", again, again]
-        self.expect("what is refused again is told again", wanted, told)
+        self.expect("what is refused again is logged again", wanted, told)
         wanted = {"a.svg": ("2 0", 1, "image/svg+xml"), "b.s249": ("2 249", 1, "image/s249")}
         came = {name: it[2:] for name, it in self.objects(self.place).items()}
         self.expect("by suffixes of one's own", wanted, came)
@@ -95,7 +95,7 @@ class Follow(AirCase):
             self.expect(f"{name} comes at another place", True, order != os.listdir(self.objects_of))
             self.looks(2)
         told = [it for it in player.end() if it.startswith("skip ")]
-        self.expect("names that are skipped are told once", [f"skip {it} suffix" for it in names], sorted(told))
+        self.expect("names that are skipped are logged once", [f"skip {it} suffix" for it in names], sorted(told))
 
     def test_how_often_it_looks(self):
         """A file that may be taken soon brings the next look soon; one that is refused does not."""

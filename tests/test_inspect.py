@@ -20,7 +20,7 @@ def turn_seconds(lengths, rate):
 
 
 def lengths_told(groups, segment, rates):
-    """What is told of a turn of these groups in packets of each length."""
+    """What `inspect` prints of a turn of these groups, in packets of each length."""
     def sizes(word, of):
         return " ".join([word, *(str(it) if 64 <= it <= 8189 else "none" for it in map(of, (19, 43, 67, 91)))])
 
@@ -34,7 +34,7 @@ def lengths_told(groups, segment, rates):
 
 
 class Inspect(AirCase):
-    """What is told of a disk is what its lines show, and of a turn what its packets do."""
+    """What is printed of a disk is what its lines show, and of a turn what its packets do."""
 
     def setUp(self):
         super().setUp()
@@ -65,7 +65,7 @@ class Inspect(AirCase):
         self.expect("a disk inspected", (0, wanted, b""), (status, printed.decode().splitlines(), said))
         self.expect("stays as it was", before, self.place.read_bytes())
         self.expect("and has so many slots left", b"done", self.serve(self.place, "period 1\n")[1][:4])
-        self.expect("told", "used 6 free 36", self.inspected(self.place)["slots"].split(" ", 1)[1])
+        self.expect("and says so", "used 6 free 36", self.inspected(self.place)["slots"].split(" ", 1)[1])
 
     def test_rates(self):
         groups = self.turn(self.place)[1]

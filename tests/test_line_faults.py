@@ -40,7 +40,7 @@ class Permissions(AirCase):
     def test_a_file_that_cant_be_taken_away(self):
         asked = self.lines(0o555, ("1.lines", "2.lines"))
         wanted = 0, b"done directory 2\nlines 1.lines refused 22 ReadFault\n", b""
-        self.expect("a file that can't be taken away is told", wanted, self.answered(asked))
+        self.expect("a file that can't be taken away is logged", wanted, self.answered(asked))
         asked.chmod(0o755)
         self.expect("and is the last", ["1.lines", "2.lines"], sorted(os.listdir(asked)))
 
@@ -48,7 +48,7 @@ class Permissions(AirCase):
         asked = self.lines(0o755, ("1.lines", "2.lines"))
         (asked / "1.lines").chmod(0)
         wanted = 0, b"lines 1.lines refused 22 ReadFault\ndone directory 2\n", b""
-        self.expect("a file that can't be opened is told once", wanted, self.answered(asked))
+        self.expect("a file that can't be opened is logged once", wanted, self.answered(asked))
         self.expect("and the next is taken", ["1.lines"], os.listdir(asked))
 
 
@@ -57,7 +57,7 @@ class Faults(LineFiles):
     """System calls that fail. A file of which a read fails is left, and its lines are not done again."""
 
     def faulty(self, *expressions, paths=None):
-        """What is told of lines under faults, without the lines of the start and the end."""
+        """The log of lines under faults, without the lines of the start and the end."""
         words = [self.program, "play", self.place, "/dev/null", "--lines", self.asked, "--every", "1", "--turns", "20"]
         paths = paths or [self.asked / "1.lines"]
         status, told, said = self.traced(words, *expressions, paths=paths)
@@ -68,7 +68,7 @@ class Faults(LineFiles):
             send(self.asked, f"{name}.lines", f"put {name} 1 0 - 61\n".encode())
         told = ["done object 2 directory 3", UNREAD.format("1.lines"), "done object 4 directory 5"]
         ended = self.faulty("inject=read:error=EIO:when=2+2")
-        self.expect("a file whose reading fails is told once", (0, told, b""), ended)
+        self.expect("a file whose reading fails is logged once", (0, told, b""), ended)
         self.expect("and stays, and the next is taken", ["1.lines"], self.left())
 
     def test_a_line_that_was_read_in_part(self):
@@ -92,7 +92,7 @@ class Faults(LineFiles):
             send(self.asked, "2.lines", b"period 2\n")
             status, told, said = self.faulty(f"inject=statx:error={error}:when=1")
             told = [it.split(" directory")[0] for it in told]
-            self.expect(f"one that can't be looked at is told before the next is taken: {error}",
+            self.expect(f"one that can't be looked at is logged before the next is taken: {error}",
                         (0, [UNREAD.format("1.lines"), "done", "done"], b"", []), (status, told, said, self.left()))
 
     def test_a_file_that_cant_be_opened_for_a_moment(self):
@@ -197,7 +197,7 @@ class Folders(LineFiles):
         send(self.asked, "1.lines", b"list\n")
         player.until("carousel 1 2 2 0")
         wanted = ["done directory 2", *[unread, readable] * 2, "carousel 1 2 2 0"]
-        self.expect("a folder that can't be read is told once", wanted, player.end())
+        self.expect("a folder that can't be read is logged once", wanted, player.end())
 
     def many(self):
         """A folder of 80 files, of which 64 names are kept, and a program that stands still among the first of them."""

@@ -193,7 +193,7 @@ for test in (Pace.test_many_files_that_wait, Pace.test_many_files_that_are_left,
 
 
 class Left(LineFiles):
-    """What is none of ours stays where it is, and is told once for as long as it stays as it is."""
+    """Files of another kind stay, and each has one line in the log for as long as it is as it is."""
 
     def test_what_is_told_once(self):
         texts = {"1": b"MZ is no line\n", "2": b"putt a 1 0 - 61\n", "3": b"\nperiod 1\n"}
@@ -209,7 +209,7 @@ class Left(LineFiles):
         first = [it for it in player.told() if "carousel" not in it]
         names = [f"lines {it}.lines refused 2 BadName" for it in ("?", "a?b")]
         wanted = sorted(["done directory 2", *names, *left])
-        self.expect("what is none of ours is told once", wanted, sorted(first))
+        self.expect("files of another kind are logged once", wanted, sorted(first))
         told = [it for it in first if "BadName" not in it]
         self.expect("before what comes after it is taken", [*left, "done directory 2"], told)
         send(self.asked, "2.lines", b"period 3\n")
@@ -233,14 +233,14 @@ class Left(LineFiles):
         self.expect("are not taken away", before, self.left())
 
     def test_a_hundred_that_are_left(self):
-        """A hundred files are told of, and no more; once they are gone, further ones are told of again."""
+        """A hundred files are logged, and no more; once they are gone, others are logged."""
         names = [f"{number:03}" for number in range(100)]
         for name in (*names, "over"):
             (self.asked / f"{name}.lines").write_bytes(b"no line\n")
         player = self.playing()
         self.passes(4)
         told = [it for it in player.told() if "carousel" not in it]
-        self.expect("a hundred files are told of once", [LEFT.format(it) for it in names], told)
+        self.expect("a hundred files are logged once", [LEFT.format(it) for it in names], told)
         for name in names:
             (self.asked / f"{name}.lines").unlink()
         self.passes(4)

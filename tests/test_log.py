@@ -36,9 +36,9 @@ class Log(AirCase):
     def test_the_digits_of_a_line(self):
         wanted = ["lines 1.lines:1 raw ", "lines 1.lines:2 put new "]
         told = self.told("raw 4 2 00\nput new 1 0 - 61626364\n")
-        is_told = any(it in " ".join(told) for it in ("4 2 00", "6162"))
+        is_logged = any(it in " ".join(told) for it in ("4 2 00", "6162"))
         begins = [it[:len(line)] for it, line in zip(told, wanted)]
-        self.expect("no digits of a body are told", (wanted, False), (begins, is_told))
+        self.expect("no digits of a body are logged", (wanted, False), (begins, is_logged))
 
     def test_long_names(self):
         """A line with the longest names of a file and of an object is whole, counted, and has its level."""
@@ -53,7 +53,7 @@ class Log(AirCase):
                 words, status = " ".join(text.split()[:2]), self.room / f"status.{size}.{counts[0]}"
                 send(self.asked, file, f"{text}\n".encode())
                 player = self.player(self.place, "/dev/null", "--lines", self.asked, "--levels", "--status", status)
-                until(lambda: sum(counts_of(status)) > 0)
+                until(lambda: sum(counts_of(status)) > 0, 20)
                 player.kill()
                 told, wanted = player.lines()[1], f"{'<4>' if counts[1] else '<6>'}lines {file}:1 {words} {reply}"
                 self.expect(f"a long line: {reply}, {size}", (wanted, counts), (told[:len(wanted)], counts_of(status)))
@@ -69,7 +69,7 @@ class Log(AirCase):
                 player.kill()
             self.expect(f"the first line: {' '.join(map(str, more[:1]))}", b"play: motcar ", line[:13])
 
-    def test_no_end_is_told_of_a_run_that_a_fault_ended(self):
+    def test_no_end_is_logged_of_a_run_that_a_fault_ended(self):
         folder = self.folder({"there": b"x"})
         for more in ([], ["--folder", folder], ["--lines", self.asked], ["--folder", folder, "--lines", self.asked]):
             for turns in ([], ["--turns", "3"]):
@@ -81,7 +81,7 @@ class Log(AirCase):
 
     @needs_strace
     def test_a_log_that_fails_once(self):
-        """A reply that the log does not take ends nothing, and the next one is told."""
+        """A reply that the log does not take ends nothing, and the next one is logged."""
         disk, log = self.disk("other"), self.room / "log"
         send(self.asked, "1.lines", b"period 3\nperiod 4\n")
         words = [self.program, "play", disk, "-", "--lines", self.asked, "--every", "1", "--turns", "3"]

@@ -119,7 +119,7 @@ class Samples(Status):
 
     @needs_strace
     def test_a_disk_fault_in_a_look(self):
-        """What the look did that ended the program is counted, and no end is told."""
+        """What the look did that ended the program is counted, and no end is logged."""
         (self.objects_of / "e.txt").write_bytes(b"e")
         words = ["play", self.place, "/dev/null", "--at-once", "--folder", self.objects_of, "--status", self.path]
         fault = "inject=fdatasync:error=EIO:when=4"
@@ -129,7 +129,7 @@ class Samples(Status):
 
 
 class Places(Status):
-    """How the status comes to its place, and where it does not."""
+    """How the status comes to its place, and which places it does not take."""
 
     def told(self, **how):
         """The status of the program, and the lines of its log about the status."""
@@ -194,7 +194,7 @@ class Places(Status):
                     (self.path.read_bytes(), (self.room / "status.new").exists()))
 
     def test_a_place_that_goes_and_comes_back(self):
-        """Each time that it can't be written is told once, and each time that it can be again."""
+        """Each time that it can't be written is logged once, and each time that it can be again."""
         folder = self.folder(name="shown")
         path = folder / "status"
         player = self.player(self.place, "/dev/null", "--levels", "--status", path)
@@ -202,12 +202,14 @@ class Places(Status):
         refused = f"<4>status {path} refused 23 WriteFault: No such file or directory"
         for number in (1, 2, 3):
             os.rename(folder, self.room / "away")
-            self.expect(f"that it can't be written is told: {number}", True, player.until(refused, number))
+            is_logged = player.until(refused, number)
             at = samples(self.room / "away/status").get("motcar_packets_total")
             os.rename(self.room / "away", folder)
-            self.expect(f"and that it can be again: {number}", True, player.until(f"<6>status {path} written", number))
-            is_written = until(lambda: samples(path).get("motcar_packets_total", 0) > at)
-            self.expect(f"it is written: {number}", True, is_written)
+            is_logged = is_logged and player.until(f"<6>status {path} written", number)
+            is_written = is_logged and until(lambda: samples(path).get("motcar_packets_total", 0) > at)
+            self.expect(f"that it can't be written is logged, and that it is again: {number}", True, is_written)
+            if not is_written:
+                break
         told = [it for it in player.end() if "status" in it]
         self.expect("each once", [refused, f"<6>status {path} written"] * 3, told)
 

@@ -33,7 +33,7 @@ class Looks(AirCase):
         status, told, _ = self.first
         self.expect("a first look", (0, len(KINDS), self.skipped),
                     (status, len(beginning(b"put", told)), beginning(b"skip", told)))
-        self.expect("tells what it skips first", len(self.skipped), len(told[: told.index(b"put ")].splitlines()))
+        self.expect("logs what it skips first", len(self.skipped), len(told[: told.index(b"put ")].splitlines()))
         wanted = {name: (kind, number, mime) for number, (name, kind, mime) in enumerate(KINDS, 1)}
         self.expect("types by suffixes", wanted, {name: it[2:] for name, it in self.objects(self.place).items()})
 
@@ -53,7 +53,7 @@ class Looks(AirCase):
         words = [re.sub(rb"\d+", b"N", it) for it in told.splitlines() if not it.startswith(b"skip ")]
         wanted = [b"withdraw b.html done directory N", b"replace a.txt done object N directory N",
                   b"put j.png done object N directory N"]
-        self.expect("what changed is told", (0, wanted), (status, words))
+        self.expect("what changed is logged", (0, wanted), (status, words))
         now = self.objects(self.place)
         kept = [it for it in there if it not in ("a.txt", "b.html")]
         self.expect("what is right stays, with its id", [there[it] for it in kept], [now[it] for it in kept])
@@ -81,7 +81,7 @@ class Looks(AirCase):
 
 
 class Withdrawals(AirCase):
-    """What goes where files go. A folder that has no object takes none off the air, but where that is allowed."""
+    """What goes where files go. A folder that has no object takes none off the air, unless that is allowed."""
 
     def emptied(self):
         """A disk of three objects, and their folder without them."""
@@ -115,12 +115,12 @@ class Withdrawals(AirCase):
         wanted = [f"note {folder} 2 of 3 objects go", "withdraw 2.png", "withdraw 3.png"]
         self.expect("more than half of the objects go", (0, wanted), (status, without_ids(told)))
 
-    def test_all_where_that_is_allowed(self):
+    def test_all_if_that_is_allowed(self):
         disk, folder, there = self.emptied()
         (folder / "notes.doc").write_bytes(b"x")
         status, told, _ = self.motcar("sync", disk, folder, "--allow-empty")
         wanted = ["skip notes.doc suffix", f"note {folder} 3 of 3 objects go", *[f"withdraw {it}" for it in there]]
-        self.expect("all go where that is allowed", (0, wanted, {}), (status, without_ids(told), self.objects(disk)))
+        self.expect("all go if that is allowed", (0, wanted, {}), (status, without_ids(told), self.objects(disk)))
         ended = self.motcar("sync", disk, folder)
         self.expect("an empty folder of an empty carousel", (0, b"skip notes.doc suffix\n", b""), ended)
 
@@ -131,7 +131,7 @@ class Withdrawals(AirCase):
 
 
 class Skips(AirCase):
-    """What is no object is told, but for hidden names and those that are no text; a hundred of a look at most."""
+    """Names that are no objects are logged, but for hidden ones and those that are no text; a hundred at most."""
 
     def test_pipes_and_names_that_are_no_text(self):
         disk, folder = self.disk(), self.folder({"a.txt": b"x", ".b.txt": b"x", b"\xe9.txt": b"x", b"\xe9.doc": b"x"})
@@ -149,7 +149,7 @@ class Skips(AirCase):
         self.expect("each once", 100, len(set(beginning(b"skip", told))))
         status, told, _ = self.play(disk, "/dev/null", "--turns", "3000", "--at-once", "--folder", folder)
         counts = len(beginning(b"skip", told)), len(told.splitlines())
-        self.expect("and play tells them once", (0, 100, 100), (status, *counts))
+        self.expect("and play logs them once", (0, 100, 100), (status, *counts))
 
 
 class Young(AirCase):
@@ -195,7 +195,7 @@ class Young(AirCase):
         told = player.end()
         self.expect("while it plays it is taken once it is old", True, 1.5 < waited < 30)
         young = [it.split()[1] for it in told if it.endswith(" too young, next look")]
-        self.expect("and was told once", ["new.txt", "old.txt"], sorted(young))
+        self.expect("and was logged once", ["new.txt", "old.txt"], sorted(young))
 
 
 class Bounds(AirCase):
@@ -207,7 +207,7 @@ class Bounds(AirCase):
         self.expect("20,000 files", (1, many, b""), self.sync(disk, folder))
         status, packets, told = self.play(disk, "-", "--at-once", "--folder", folder, "--turns", "3000")
         turn = len(b"".join(self.turns(disk, 1)))
-        self.expect("are told once, and packets go on", (0, 3000 * turn, many), (status, len(packets), told))
+        self.expect("are logged once, and packets go on", (0, 3000 * turn, many), (status, len(packets), told))
 
     def test_a_thousand_files(self):
         disk, folder = self.disk(), self.folder({f"{it}.png": b"" for it in range(1_000)})

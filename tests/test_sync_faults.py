@@ -1,7 +1,7 @@
 """What a look does if the system fails, if a file is exchanged while it is read, and if memory is refused.
 
-What can't be read withdraws nothing and is told with the system's words, whatever the error is; what changed is not
-taken.
+What can't be read withdraws nothing and is logged with the system's words, whatever the error is; what changed is
+not taken.
 """
 import errno
 import os
@@ -71,7 +71,7 @@ class Faults(AirCase):
         done = [it for it, now in self.objects(disk).items() if now != there[it]]
         self.expect("a disk that fails in a look of sync", (1, b"motcar: 15 DeviceFault\n", True),
                     (status, said, len(done) in (1, 2)))
-        self.expect("what was done before is told", [b"replace"], [it.split()[0] for it in told.splitlines()])
+        self.expect("what was done before is logged", [b"replace"], [it.split()[0] for it in told.splitlines()])
 
     def test_a_disk_that_fails_while_it_plays(self):
         disk, folder, there = self.three()
@@ -166,10 +166,10 @@ class Races(AirCase):
 
 
 class Memory(AirCase):
-    """Each request for memory is refused in turn: what is done is told, or the status is 1."""
+    """Each request for memory is refused in turn: what is done is logged, or the status is 1."""
 
     def shim(self):
-        """A library that refuses one request for memory, or None where there is no way to have it."""
+        """A library that refuses one request for memory, or None if there is no way to have it."""
         path = self.room / "refuse.so"
         if not shutil.which("cc") or is_tried(self.program):
             return None
