@@ -18,6 +18,8 @@ from .program import Case, plain, run
 
 NOBODY = 65_534
 MINUTE = 60
+# How many seconds a command may take that makes many changes, each of which waits for the drive.
+LONG = 240
 
 needs_strace = unittest.skipUnless(shutil.which("strace"), "there is no strace")
 
@@ -143,16 +145,16 @@ class AirCase(Case):
 
     def sync(self, disk, folder, *more):
         """A look that takes each file however young it is."""
-        return self.motcar("sync", "--at-once", disk, folder, *more)
+        return self.motcar("sync", "--at-once", disk, folder, *more, timeout=LONG)
 
     def play(self, disk, packets, *more, **how):
         """What `play` gives, its log as `plain` leaves it."""
-        status, printed, said = self.motcar("play", disk, packets, *more, **how)
+        status, printed, said = self.motcar("play", disk, packets, *more, **{"timeout": LONG, **how})
         return status, printed if packets == "-" else plain(printed), plain(said)
 
     def traced(self, words, *expressions, **more):
         """What a program gives under strace, its log as `plain` leaves it."""
-        status, printed, said = run(traced(words, *expressions, **more), cwd=self.room)
+        status, printed, said = run(traced(words, *expressions, **more), cwd=self.room, timeout=LONG)
         # (of a path that ends in a dot strace has a line of its own)
         return status, plain(printed), re.sub(rb"(?m)^strace: Requested path .*\n", b"", plain(said))
 

@@ -173,13 +173,12 @@ class Pace(LineFiles):
         self.beside_many(b"no line\n")
 
     def test_many_objects_within_one_group(self):
-        """120 objects come one by one while one long group is sent, and all of them are sent after it."""
+        """120 objects come while one long group is sent, and all of them are sent after it."""
         disk = self.new_disk("long", "--objects", "250", "--data", "600000", "--segment", "8189", "--packet", "24")
         self.serve(disk, ["put long 1 0 - " + "61" * 8_000])
-        for number in range(120):
-            send(self.asked, f"{number:03}.lines", f"put o{number} 1 0 - {number:02x}\n".encode())
-        words = ["--every", "1", "--turns", "3", "--directory", "340"]
-        status, packets, log = self.answered(*words, to="-", disk=disk)
+        send(self.asked, "1.lines", "".join(f"put o{number} 1 0 - {number:02x}\n" for number in range(120)).encode())
+        words = ["--lines", self.asked, "--every", "1", "--turns", "2", "--directory", "340"]
+        status, packets, log = self.play(disk, "-", *words)
         counts = log.count(b"done object"), log.count(b"refused")
         self.expect("120 objects while a group is sent", (0, 120, 0), (status, *counts))
         bodies = dab.carousel_of(dab.packets_in(packets))[1]
