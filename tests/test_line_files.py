@@ -243,7 +243,7 @@ class Left(LineFiles):
         for name in names:
             (self.asked / f"{name}.lines").unlink()
         self.passes(4)
-        (self.asked / "new.lines").write_bytes(b"no line\n")
+        send(self.asked, "new.lines", b"no line\n")
         player.until(LEFT.format("new"))
         self.passes(2)
         told = [it for it in player.end() if "carousel" not in it][100:]
