@@ -34,8 +34,10 @@ def checksum(message):
 
 def checked(bytes_, what):
     """The bytes before their checksum word, which has to be right."""
-    need(len(bytes_) >= 2 and checksum(bytes_[:-2]) == bytes_[-2:], f"{what}: a wrong checksum")
-    return bytes_[:-2]
+    held = bytes_[:-2]
+    if len(bytes_) < 2 or checksum(held) != bytes_[-2:]:
+        raise Wrong(f"{what}: a wrong checksum")
+    return held
 
 
 # --- Packets.
@@ -54,14 +56,14 @@ class Packet(typing.NamedTuple):
 
 def packet_of(bytes_):
     """The fields of one packet; the data are the useful ones."""
-    need(len(bytes_) in LENGTHS, f"a packet of {len(bytes_)} bytes")
+    if len(bytes_) not in LENGTHS:
+        raise Wrong(f"a packet of {len(bytes_)} bytes")
     held = checked(bytes_, "a packet")
-    useful = held[2] & 0x7F
-    need(length_of(bytes_[0]) == len(bytes_), "a packet that says another length")
-    need(useful <= len(held) - 3, "a packet with more useful data than data")
-    return Packet(length=len(bytes_), index=held[0] >> 4 & 3, is_first=bool(held[0] & 8), is_last=bool(held[0] & 4),
-                  address=number(held[:2]) & 0x3FF, is_command=bool(held[2] & 0x80), data=held[3:3 + useful],
-                  padding=held[3 + useful:])
+    first, end = held[0], 3 + (held[2] & 0x7F)
+    need(length_of(first) == len(bytes_), "a packet that says another length")
+    need(end <= len(held), "a packet with more useful data than data")
+    return Packet(len(bytes_), first >> 4 & 3, first & 8 != 0, first & 4 != 0, (first & 3) << 8 | held[1],
+                  held[2] & 0x80 != 0, held[3:end], held[end:])
 
 
 def length_of(byte):
@@ -106,19 +108,18 @@ class Group(typing.NamedTuple):
 
 def groups_of(packets):
     """The data groups that packets of one address carry; the last may be under way."""
-    groups, address = [], None
+    groups, parts, begin, address = [], [], 0, None
     for at, packet in enumerate(map(packet_of, packets)):
         address = packet.address if address is None else address
         need(packet.address == address and not packet.is_command, "packets of two addresses, or of a command")
-        is_open = bool(groups) and not groups[-1].is_whole
-        need(packet.is_first is not is_open, "a group that begins within another, or goes on without one")
-        if packet.is_first:
-            groups.append(Group(at, 0, b"", False))
-        old = groups[-1]
-        groups[-1] = Group(old.at, old.packets + 1, old.bytes + packet.data, packet.is_last)
+        need(packet.is_first is (not parts), "a group that begins within another, or goes on without one")
+        begin = at if packet.is_first else begin
+        parts.append(packet.data)
         if packet.is_last:
+            groups.append(Group(begin, len(parts), b"".join(parts), True))
             checked(groups[-1].bytes, "a data group")
-    return groups
+            parts = []
+    return [*groups, Group(begin, len(parts), b"".join(parts), False)] if parts else groups
 
 
 def cut_lengths(size, length):
@@ -197,8 +198,8 @@ def counts_on(packets):
             if index != (before if old == content else (before + 1) % 16):
                 return False
             last[kind] = index, content
-    begin = packet_of(packets[0]).index if packets else 0
-    return all(packet_of(it).index == (begin + at) % 4 for at, it in enumerate(packets))
+    indexes = [it[0] >> 4 & 3 for it in packets]
+    return all(later == (earlier + 1) % 4 for earlier, later in zip(indexes, indexes[1:]))
 
 
 # --- The directory and its headers.
