@@ -2,6 +2,7 @@
 left out: what it counts, what it prints last, and its status.
 """
 import os
+import pathlib
 import shutil
 import sys
 
@@ -38,6 +39,21 @@ class Planted(Case):
 
     def test_another_folder(self):
         self.test_a_folder_of_its_own()
+'''
+
+WAITING = '''
+import pathlib
+from . import program
+
+program.TEST_SECONDS = 1
+
+
+class Waiting(program.Case):
+    def test_for_ever(self):
+        self.program = "sleep"
+        begun = self.begin("1000", stdin=None)
+        pathlib.Path(program.top / "begun").write_text(str(begun.pid))
+        begun.wait()
 '''
 
 
@@ -89,6 +105,14 @@ class Runner(Case):
         self.write("tests/test_broken.py", b"import nothing_of_this_name\n")
         status, lines = self.ran("-k", "hold")
         self.expect("it counts as failed", (1, "tests: 2 rows in 1 tests, 1 failed, 1 skipped"), (status, lines[-1]))
+
+    def test_a_test_that_waits_for_ever(self):
+        self.write("tests/test_planted.py", WAITING.encode())
+        status, lines = self.ran()
+        self.expect("it counts as failed", (1, "tests: 0 rows in 1 tests, 1 failed, 0 skipped"), (status, lines[-1]))
+        self.expect("says why", 1, lines.count("TimeoutError: a test of more than 1 seconds"))
+        begun = (self.room / "begun").read_text()
+        self.expect("and leaves no program running", False, pathlib.Path("/proc", begun).exists())
 
     def test_a_test_that_ends_its_process(self):
         self.write("tests/test_planted.py", PLANTED.replace("[][0]", "os._exit(0)").encode())

@@ -16,11 +16,6 @@ def program():
     raise SystemExit("there is no built program: MOTCAR_BUILD=proved ./motcar help makes it")
 
 
-def is_tried(program):
-    """Whether a program was built to be tried, with address checks: less memory ends it, and valgrind runs none of it."""
-    return b"__asan_init" in pathlib.Path(program).read_bytes()
-
-
 def run(words, given=b"", **more):
     """The status, what was printed, and what was said on standard error."""
     done = subprocess.run(words, input=given, capture_output=True, timeout=60, **more)
@@ -38,9 +33,6 @@ class Rows:
         if wanted != came:
             self.failed += 1
             print(f"{row}: wanted {wanted!r}, came {came!r}", flush=True)
-
-    def skip(self, row, why):
-        print(f"tools/{self.name}: skipped: {row}: {why}", flush=True)
 
     def end(self):
         print(f"tools/{self.name}: {self.number - self.failed} of {self.number} rows as they should be", flush=True)
