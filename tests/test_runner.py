@@ -67,7 +67,9 @@ class Runner(Case):
 
     def python(self, *words):
         """The status of Python with these words, what it printed and what it said."""
-        return run([sys.executable, "-B", "-m", *words], cwd=self.room, env={**os.environ, "MOTCAR": self.program})
+        # (the folders of tests that end their process stay, so they are made in this test's own)
+        more = {"MOTCAR": self.program, "TMPDIR": str(self.room)}
+        return run([sys.executable, "-B", "-m", *words], cwd=self.room, env={**os.environ, **more})
 
     def ran(self, *words):
         """The status of the runner, and the lines that it printed."""
