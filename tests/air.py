@@ -6,6 +6,7 @@ of system calls are strace's.
 """
 import fcntl
 import os
+import pathlib
 import re
 import shutil
 import signal
@@ -69,6 +70,18 @@ def whole_packets(stream):
     return packets[:-1] if packets and len(packets[-1]) < dab.length_of(packets[-1][0]) else packets
 
 
+def is_running(group):
+    """Whether a process of the group runs."""
+    for it in pathlib.Path("/proc").glob("[0-9]*/stat"):
+        try:
+            state, _, of = it.read_text().rpartition(")")[2].split()[:3]
+        except OSError:
+            continue
+        if int(of) == group and state not in "ZX":
+            return True
+    return False
+
+
 class Player:
     """A program that plays while a row changes what it reads. Its log is a file; with `of_page` its packets go into a
     pipe that holds 4,096 bytes, so that it stands still until the row hears them."""
@@ -115,6 +128,8 @@ class Player:
         if self.ran.poll() is None:
             os.killpg(self.ran.pid, signal.SIGKILL)
         self.ran.wait()
+        # (a program whose system calls are looked at ends after who looks at them)
+        until(lambda: not is_running(self.ran.pid), 10)
         if self.ear is not None:
             os.close(self.ear)
             self.ear = None
