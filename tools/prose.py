@@ -35,7 +35,7 @@ def units(text):
             here = None
         elif line.startswith("|"):
             here = None
-            # (a row that quotes the first line of a file of definitions is printed by tools/believed)
+            # (a row that quotes the first line of a file of definitions is printed by tools/believed.py)
             if not re.match(r"\|[-| ]+\|$|\| `\w+/specs/", line):
                 found += [(number, [cell], True) for cell in re.split(r"(?<!\\)\|", line.strip("|"))]
         elif here is None or re.match(r"\s*(?:[-*]|\d+\.) ", line):

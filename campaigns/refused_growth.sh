@@ -1,7 +1,7 @@
 #!/bin/sh
 # Runs a test of a crate once for each refused request for memory, from the first to the Nth, and prints the runs that
 # fail. It takes the proved tests, which `rt test` in the crate's folder makes.
-# Usage: tools/refused_growth CRATE TEST N
+# Usage: campaigns/refused_growth.sh CRATE TEST N
 set -u
 cd "$(dirname "$0")/.." || exit 2
 tests=crates/$1/out/$1_tests
@@ -11,7 +11,7 @@ trap 'rm -rf "$room"' EXIT
 # (its whole name, as the tests list it)
 test=$("$tests" --list | grep -oE "[a-z0-9_:]*\b$2\b" | head -n 1)
 [ -n "$test" ] || { echo "there is no test $2"; exit 2; }
-cc -O2 -shared -fPIC -o "$room/refuse.so" tools/refuse.c -ldl || exit 2
+cc -O2 -shared -fPIC -o "$room/refuse.so" campaigns/refuse.c -ldl || exit 2
 status=0
 for n in $(seq 1 "$3"); do
     if ! LD_PRELOAD="$room/refuse.so" REFUSE=$n "$tests" "$test" > "$room/said" 2>&1; then

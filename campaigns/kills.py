@@ -1,7 +1,7 @@
 #!/usr/bin/env python3
 """Kills the built program at a random moment while it serves a disk, a few hundred times, and looks what it left.
 
-    tools/power_cut [ROUNDS] [SEED]      300 rounds
+    campaigns/kills.py [ROUNDS] [SEED]      300 rounds
 
 Takes the proved build (MOTCAR_BUILD=proved ./motcar makes it). Each round serves the same file: random commands are
 fed to the program as fast as it takes them, and after some milliseconds it gets SIGKILL. Then the file is opened again:

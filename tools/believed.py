@@ -6,9 +6,9 @@ cite and those that these cite; the clauses of the traits that a function is tol
 and views of the types that it takes and gives. (What a type always holds, its invariant, is proved where a value is made.)
 Each definition counts with its own lines, without blank ones and comments, under the first promise that reaches it.
 
-    tools/believed            prints the tables
-    tools/believed --names    prints each definition with its lines
-    tools/believed --check    prints nothing, and fails where docs/BELIEVE.md has other tables
+    tools/believed.py            prints the tables
+    tools/believed.py --names    prints each definition with its lines
+    tools/believed.py --check    prints nothing, and fails where docs/BELIEVE.md has other tables
 
 It fails, too, where a word is named below as only handed on and is not: some clause has to give it and some clause has to
 ask for it; and of a value that is handed on with it no clause looks at more than its disk and what a public call answers.
@@ -273,7 +273,7 @@ class Sources:
             # a constructor, by the data that it stands in
             found = self.files[crate, ".".join(path[1:-1])].get(path[-1])
         if found is None:
-            sys.exit(f"tools/believed: {module} has no {name}")
+            sys.exit(f"tools/believed.py: {module} has no {name}")
         return found
 
     def type_named(self, crate, name):
@@ -559,7 +559,7 @@ def main():
     else:
         print(page)
     for it in wrong:
-        print(f"tools/believed: {it}", file=sys.stderr)
+        print(f"tools/believed.py: {it}", file=sys.stderr)
     return 1 if wrong else 0
 
 

@@ -72,7 +72,7 @@ class Clone:
         (self.top / "crates/motcar/src/version.rt").write_text('const VERSION: &str = "motcar 7.8.9\\n";\n')
         for it in ("docs/help", "tools", "examples"):
             (self.top / it).mkdir(parents=True)
-        for it in ("tools/from_help", *(f"docs/help/{it}.txt" for it in ("motcar", "memory", *ON_FILES))):
+        for it in ("tools/from_help.py", *(f"docs/help/{it}.txt" for it in ("motcar", "memory", *ON_FILES))):
             shutil.copy(top / it, self.top / it)
         (self.top / "examples/motcar.service").write_text("ExecStart=/usr/local/bin/motcar\n")
         (self.top / "CHANGELOG.md").touch()
@@ -460,7 +460,7 @@ def main():
             if fault:
                 failed += 1
                 print(f"{row.__name__.replace('_', ' ')}: {type(fault).__name__}: {fault}; said last: {clone.said!r}")
-    print(f"tools/check_launcher: {len(ROWS) - failed} of {len(ROWS)} rows as they should be")
+    print(f"tools/check_launcher.py: {len(ROWS) - failed} of {len(ROWS)} rows as they should be")
     return 1 if failed else 0
 
 

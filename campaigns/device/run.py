@@ -1,7 +1,7 @@
 #!/usr/bin/env python3
 """Cuts the power and fails the device below motcar on real file systems. README.md beside this file tells all.
 
-    tools/device/run [PROGRAM] [--systems ext4,xfs,btrfs] [--campaigns cuts,faults,full,holes] ..
+    campaigns/device/run.py [PROGRAM] [--systems ext4,xfs,btrfs] [--campaigns cuts,faults,full,holes] ..
 
 PROGRAM is build/motcar where none is named. Exit status 1 where anything was lost or unclean.
 """
@@ -105,7 +105,7 @@ def print_table(rows):
 def main():
     given, why_not = words_given(), lacking()
     if why_not:
-        print(f"tools/device/run: {why_not}", file=sys.stderr)
+        print(f"campaigns/device/run.py: {why_not}", file=sys.stderr)
         return 2
     in_memory = "/dev/shm" if os.path.isdir("/dev/shm") else None
     with tempfile.TemporaryDirectory(prefix="motcar-device-", dir=in_memory) as room:

@@ -2,8 +2,8 @@
 """Shows by strace which system calls the built program makes on a disk's file and its folder, and what it answers where one
 of them fails or moves one byte alone. Only this sees a method of a file disk that makes no call, or another one.
 
-    tools/file_calls [PROGRAM]            prints it all
-    tools/file_calls [PROGRAM] --check    compares with tools/file_calls.txt (needs strace and cc)
+    tools/file_calls.py [PROGRAM]            prints it all
+    tools/file_calls.py [PROGRAM] --check    compares with tools/file_calls.txt (needs strace and cc)
 """
 import os
 import pathlib

@@ -1,9 +1,9 @@
 #!/usr/bin/env python3
 """Makes the manual page and the completions of the help texts in docs/help, which the gate compares with the program's.
 
-    tools/from_help manual VERSION      the manual page, for section 1
-    tools/from_help bash                completions for bash
-    tools/from_help zsh                 completions for zsh
+    tools/from_help.py manual VERSION      the manual page, for section 1
+    tools/from_help.py bash                completions for bash
+    tools/from_help.py zsh                 completions for zsh
 """
 import pathlib
 import re

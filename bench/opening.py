@@ -1,7 +1,7 @@
 #!/usr/bin/env python3
 """How long an opening takes, beside bench/opening.c and SQLite on the same file system in the same run.
 
-    bench/opening [FOLDER]      the disks are made in FOLDER, or else here
+    bench/opening.py [FOLDER]      the disks are made in FOLDER, or else here
 
 Takes the proved build (MOTCAR_BUILD=proved ./motcar makes it). Each of 101 rounds runs, from their start to their end:
 `motcar check` on disks of 250 objects, whose bodies have 1 byte and 262,144; the C program, which reads the same bytes of

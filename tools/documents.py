@@ -3,7 +3,7 @@
 the repository, and in docs/PROMISES.md each function, each label of a clause and each definition; whether their prose
 keeps the rules of tools/prose.py; and whether each name in crates.txt is used by the crate that names it.
 
-    tools/documents
+    tools/documents.py
 """
 import pathlib
 import re
@@ -14,7 +14,8 @@ import prose
 
 top = pathlib.Path(__file__).resolve().parent.parent
 README_LINES = 100
-PAGES = [*sorted(top.glob("*.md")), *sorted(top.glob("docs/*.md")), *sorted(top.glob("tools/**/*.md"))]
+FOLDERS = ("docs", "tools", "tests", "campaigns", "bench", "packaging", "examples")
+PAGES = [*sorted(top.glob("*.md")), *(page for folder in FOLDERS for page in sorted(top.glob(f"{folder}/**/*.md")))]
 wrong = []
 
 
@@ -39,7 +40,7 @@ def links(page):
 
 def paths(page):
     """Paths of the repository, and of a crate's files."""
-    for path in re.findall(r"(?<![\w/.])((?:tools|tests|bench|docs|examples|crates)/(?!NAME)[\w./@-]*\w)", page.read_text()):
+    for path in re.findall(r"(?<![\w/.])((?:tools|tests|campaigns|bench|packaging|docs|examples|crates)/(?!NAME)[\w./@-]*\w)", page.read_text()):
         if not (top / path).exists() and not (page.parent / path).exists():
             wrong.append(f"{page.name}: no {path}")
     for path in re.findall(r"`((?:mot_\w+|disk_\w+|motcar)/(?:src|specs|proofs)/[\w./-]*\w)`", page.read_text()):
@@ -155,6 +156,6 @@ for it in PAGES:
 promises()
 names_of_crates()
 for it in wrong:
-    print(f"tools/documents: {it}")
-print(f"tools/documents: {len(PAGES)} pages, {len(wrong)} faults")
+    print(f"tools/documents.py: {it}")
+print(f"tools/documents.py: {len(PAGES)} pages, {len(wrong)} faults")
 sys.exit(1 if wrong else 0)

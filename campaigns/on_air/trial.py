@@ -1,4 +1,4 @@
-"""A year of service in an hour, for `examples/on-air --trial MINUTES`: three stations play into one multiplexer in real time, each of them restarted
+"""A year of service in an hour, for `campaigns/on_air/run.py --trial MINUTES`: three stations play into one multiplexer in real time, each of them restarted
 as a supervisor does. Programs and multiplexer are killed, files change, and the folders meet what folders meet in service. Each file and each line
 is kept, so that whatever comes on air can be compared with what was given.
 """

@@ -1,4 +1,4 @@
-"""The radio after the multiplexer, for `examples/on-air --radio`: ODR-DabMod makes samples of an ETI file, as a transmitter would send
+"""The radio after the multiplexer, for `campaigns/on_air/run.py --radio`: ODR-DabMod makes samples of an ETI file, as a transmitter would send
 them, and two receivers that share no code with it, nor with one another, take the sub-channel out of them again: welle-cli and gr-dab.
 """
 import binascii

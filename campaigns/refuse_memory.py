@@ -134,7 +134,7 @@ def main():
     subprocess.run([str(top / "motcar"), "help"], check=True, stdout=subprocess.DEVNULL, env=environment)
     with tempfile.TemporaryDirectory() as room:
         shim = f"{room}/refuse.so"
-        subprocess.run(["cc", "-O2", "-shared", "-fPIC", "-o", shim, str(top / "tools/refuse.c"), "-ldl"], check=True)
+        subprocess.run(["cc", "-O2", "-shared", "-fPIC", "-o", shim, str(top / "campaigns/refuse.c"), "-ldl"], check=True)
         refuse_each(InMemory(), shim)
         refuse_each(OnFile(room), shim)
         format_anew(room, shim)

@@ -2,8 +2,8 @@
 """Writes crates/mot_journal/proofs/Images.antt: images of disks, and what they stand for by a model of section 7 of
 docs/FORMATS.md, written from that page alone; the prover computes the same from the definitions.
 
-    tools/images            writes the file
-    tools/images --check    fails where the file is not what it would write
+    tools/images.py            writes the file
+    tools/images.py --check    fails where the file is not what it would write
 """
 import collections
 import pathlib
@@ -386,9 +386,9 @@ def main():
     wanted = PREAMBLE + "".join(rows_of(name, image) for name, image in images.items())
     if sys.argv[1:] == ["--check"]:
         if FILE.read_text() != wanted:
-            print("tools/images: crates/mot_journal/proofs/Images.antt is not what this tool writes")
+            print("tools/images.py: crates/mot_journal/proofs/Images.antt is not what this tool writes")
             return 1
-        print(f"tools/images: {len(images)} images, as they should be")
+        print(f"tools/images.py: {len(images)} images, as they should be")
         return 0
     FILE.write_text(wanted)
     return 0

@@ -2,7 +2,7 @@
 """Durable commands per second as the carousel grows, beside bench/commands.c and SQLite on the same file system in the
 same run.
 
-    bench/commands [FOLDER]      the disks are made in FOLDER, or else here
+    bench/commands.py [FOLDER]      the disks are made in FOLDER, or else here
 
 Takes the proved build (MOTCAR_BUILD=proved ./motcar makes it). For 1, 40 and 250 objects, on disks with slack in their
 slots and on full ones, each of 15 rounds gives the same lines `replace NAME 2 3 image/png HEX` of 1,024 bytes to `motcar

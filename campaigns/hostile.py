@@ -1,7 +1,7 @@
 #!/usr/bin/env python3
 """Gives the built program disks and lines that nobody should: each outcome has to be one that docs/FORMATS.md tells.
 
-    tools/hostile [SEED]        10,000 disks and 100,000 lines
+    campaigns/hostile.py [SEED]        10,000 disks and 100,000 lines
 
 Takes the proved build (MOTCAR_BUILD=proved ./motcar makes it). Good disks of both layouts are flipped, cut and shuffled;
 each is given to `check`, and then to `serve` with a list, a turn and a command. The lines are random bytes and lines

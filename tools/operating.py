@@ -2,7 +2,7 @@
 """Runs every command of README.md and of docs/OPERATING.md, in their order, and compares what each block prints with what
 stands there; and looks that those of README leave nothing in a clone that git does not ignore.
 
-    tools/operating [PROGRAM]
+    tools/operating.py [PROGRAM]
 
 The commands run in a temporary folder with examples/, and for the manual a copy of its logo.png; `motcar` is the built program.
 What only a test needs stands in a page as a comment that begins with the word test, which no reader sees; it runs in front of

@@ -2,7 +2,7 @@
 """A folder on air, as a station has it: `motcar play` writes packets into a pipe, and ODR-DabMux reads them in real time and writes an
 ETI file. On the way files change, and the program is killed, twice. Then the packets are read back out of the file and compared.
 
-    examples/on-air [--delays | --radio | --trial MINUTES] [PROGRAM]
+    campaigns/on_air/run.py [--delays | --radio | --trial MINUTES] [PROGRAM]
 
 PROGRAM is `motcar` by default; `odr-dabmux` has to be installed. It takes two and a half minutes, works in a temporary folder, and ends
 with status 1 if a packet is bad, missing or out of turn, or an object is not that of its file. With strace it compares, too,
@@ -34,7 +34,7 @@ import radio
 import trial
 from received import FRAME, LENGTH, checked, groups_of, jumps_in, objects_of, segments_in, sendings, timed_packets
 
-here = pathlib.Path(__file__).resolve().parent
+examples = pathlib.Path(__file__).resolve().parent.parent.parent / "examples"
 ADDRESS = 7
 SECONDS = 150
 DELAYS = 750
@@ -87,7 +87,7 @@ class Station:
 
 def multiplexer_of(station, seconds):
     """The multiplexer, which runs so long and writes an ETI file."""
-    configuration = (here / "odr-dabmux.mux").read_text().replace("nbframes 0 ", f"nbframes {round(seconds / FRAME)} ")
+    configuration = (examples / "odr-dabmux.mux").read_text().replace("nbframes 0 ", f"nbframes {round(seconds / FRAME)} ")
     (station.room / "odr-dabmux.mux").write_text(configuration)
     with open(station.room / "multiplexer", "wb") as said:
         return subprocess.Popen(["odr-dabmux", "odr-dabmux.mux"], cwd=station.room, stdout=said, stderr=said)
@@ -95,7 +95,7 @@ def multiplexer_of(station, seconds):
 
 def on_air(station, seconds):
     """Plays, changes files and kills the program, while the multiplexer runs."""
-    logo = (here / "logo.png").read_bytes()
+    logo = (examples / "logo.png").read_bytes()
     station.file("logo.png", logo)
     station.file("guide.xml", b"<guide>" + b"one " * 500 + b"</guide>")
     station.file("page.html", b"<p>" + b"page " * 3000 + b"</p>")
@@ -256,12 +256,12 @@ def main():
     minutes = int(words.pop(0)) if mode == "--trial" else 0
     program = shutil.which(words[0] if words else "motcar")
     if mode not in ("", "--delays", "--radio", "--trial") or not program or not shutil.which("odr-dabmux"):
-        sys.exit("usage: examples/on-air [--delays | --radio | --trial MINUTES] [PROGRAM]; motcar, or PROGRAM, and odr-dabmux have to be installed")
+        sys.exit("usage: campaigns/on_air/run.py [--delays | --radio | --trial MINUTES] [PROGRAM]; motcar, or PROGRAM, and odr-dabmux have to be installed")
     program = str(pathlib.Path(program).resolve())
     with tempfile.TemporaryDirectory() as name:
         room = pathlib.Path(name)
         if mode == "--trial":
-            trial.trial(room, program, (here / "odr-dabmux.mux").read_text(), minutes, faults.expect)
+            trial.trial(room, program, (examples / "odr-dabmux.mux").read_text(), minutes, faults.expect)
         elif mode == "--delays":
             delays(Station(room, program, False))
         else:
