@@ -75,6 +75,7 @@ class Clone:
         for it in ("tools/from_help.py", *(f"docs/help/{it}.txt" for it in ("motcar", "memory", *ON_FILES))):
             shutil.copy(top / it, self.top / it)
         (self.top / "examples/motcar.service").write_text("ExecStart=/usr/local/bin/motcar\n")
+        (self.top / "examples/motcar.sysusers").touch()
         (self.top / "CHANGELOG.md").touch()
         (self.top / "README.md").touch()
         (self.top / "crates/motcar/must-fail").mkdir()
@@ -82,6 +83,7 @@ class Clone:
         (self.top / "crates.txt").write_text("motcar:\nmot_tests: motcar\n")
         (self.top / "HANDLES").write_text("Handles allowed: none.\n")
         shutil.copy(top / "motcar", self.top)
+        shutil.copytree(top / "packaging", self.top / "packaging")
         # Older than any proof, also where the clock is set while this runs.
         for it in self.top.rglob("*"):
             os.utime(it, (time.time() - 3600,) * 2)
@@ -373,9 +375,10 @@ def a_clone_that_cannot_be_written(clone):
 
 
 def installed_and_taken_away(clone):
-    prefix = clone.room / "a prefix"
+    prefix = clone.room / "a prefix of $HOME"
     files = ["bin/motcar", "share/man/man1/motcar.1", "share/motcar/README.md", "share/motcar/VERSION", "share/motcar/CHANGELOG.md",
-             "share/bash-completion/completions/motcar", "share/zsh/site-functions/_motcar", "share/motcar/examples/motcar.service"]
+             "share/bash-completion/completions/motcar", "share/zsh/site-functions/_motcar", "share/motcar/examples/motcar.service",
+             "share/motcar/examples/motcar.sysusers"]
     files += [f"share/motcar/docs/help/{it}.txt" for it in ("motcar", "memory", *ON_FILES)]
     for _ in range(2):
         status, _, said = clone.run("install", str(prefix))
@@ -403,6 +406,34 @@ def installed_below_another_root(clone):
     expect([], [it for it in root.rglob("*") if it.is_file()])
 
 
+def installed_by_make_alone(clone):
+    root = clone.room / "root"
+    words = ["make", "-C", clone.top / "packaging", "install", f"DESTDIR={root}", "prefix=/usr"]
+    done = subprocess.run(words, env=clone.environment, capture_output=True, text=True)
+    expect((2, False), (done.returncode, root.exists()))
+    expect_in("build/motcar is missing, or older than its sources: ./motcar install proves it first\n", done.stderr)
+    expect([], clone.calls("ci"))
+    clone.proved()
+    subprocess.run(words, env=clone.environment, capture_output=True, check=True)
+    expect("ExecStart=/usr/bin/motcar\n", (root / "usr/share/motcar/examples/motcar.service").read_text())
+    expect("motcar 7.8.9\nproved with stand-in 1\n", (root / "usr/share/motcar/VERSION").read_text())
+    expect(0o755, (root / "usr/bin/motcar").stat().st_mode & 0o777)
+    subprocess.run([*words[:3], "uninstall", *words[4:]], env=clone.environment, capture_output=True, check=True)
+    expect([], [it for it in root.rglob("*") if it.is_file()])
+
+
+def without_make_nothing_is_installed(clone):
+    others = clone.room / "others"
+    others.mkdir()
+    for it in pathlib.Path("/usr/bin").iterdir():
+        if it.name not in ("make", "gmake"):
+            (others / it.name).symlink_to(it)
+    for command in ("install", "uninstall", "package"):
+        expect((1, "", f"motcar: {command} needs make, which is not on the path\n"),
+               clone.run(command, str(clone.room / "prefix"), PATH=f"{clone.room / 'bin'}:{others}"))
+    expect([], clone.calls("ci"))
+
+
 def others_can_read_what_is_installed(clone):
     prefix = clone.room / "prefix"
     done = subprocess.run([clone.top / "motcar", "install", prefix], env=clone.environment, umask=0o077, capture_output=True, text=True)
@@ -424,7 +455,6 @@ def wrong_folders_are_refused(clone):
 
 def packed(clone):
     folder = clone.room / "packages"
-    (clone.top / "examples/motcar.sysusers").touch()
     expect(0, clone.run("package", str(folder))[0])
     files = sorted(it.name for it in folder.iterdir() if it.suffix in (".deb", ".gz"))
     expect(len(files), len((folder / "SHA256SUMS").read_text().splitlines()))
@@ -434,6 +464,7 @@ def packed(clone):
         expect_in(f"/{it}\n", held)
     for it in (it for it in files if it.endswith(".deb")):
         held = subprocess.run(["dpkg-deb", "-c", it], cwd=folder, capture_output=True, text=True, check=True).stdout
+        expect("drwxr-xr-x root/root", held[:20])
         for name in ("usr/bin/motcar", "usr/lib/systemd/system/motcar.service", "usr/lib/sysusers.d/motcar.conf", "usr/share/motcar/VERSION",
                      "usr/share/man/man1/motcar.1.gz"):
             expect_in(f" ./{name}\n", held)
