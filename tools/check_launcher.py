@@ -17,8 +17,8 @@ ENDING = (signal.SIGTERM, signal.SIGHUP, signal.SIGINT)
 top = pathlib.Path(__file__).resolve().parent.parent
 ON_FILES = ("format", "serve", "check", "migrate", "play", "sync", "export", "inspect")
 STAND_IN = r"""#!/bin/sh
-# A stand-in for the toolchain: its proof takes PROOF seconds, or, where that is "held", until $ROOM/released is there; its unproved
-# run takes TRY seconds. It proves crates by name, and has a folder to keep proofs in, if CHAIN is set.
+# A stand-in for the toolchain: its proof takes PROOF seconds, or, where that is "held", until $ROOM/released is there;
+# its unproved run takes TRY seconds. It proves crates by name, and has a folder to keep proofs in, if CHAIN is set.
 echo "$*" >> "$ROOM/calls"
 trap 'kill $!; exit 143' TERM
 case $1 in
@@ -31,7 +31,11 @@ doc) [ -z "${CHAIN:-}" ] || { mkdir -p "$ROOM/kit/rattle" && echo "$ROOM/kit/rat
 ci)
     [ $# -eq 1 ] || [ -n "${CHAIN:-}" ] || { echo "usage: rt ci"; exit 2; }
     find . -type f | sort > "$ROOM/read"
-    if [ "${PROOF:-}" = held ]; then until [ -e "$ROOM/released" ]; do sleep 0.1; done; else sleep "${PROOF:-0.2}" & wait $!; fi
+    if [ "${PROOF:-}" = held ]; then
+        until [ -e "$ROOM/released" ]; do sleep 0.1; done
+    else
+        sleep "${PROOF:-0.2}" & wait $!
+    fi
     [ -z "${BROKEN:-}" ] || exit 1
     mkdir -p crates/motcar/out
     printf '%s\n' '#!/bin/sh' '[ "$*" != --help ] || printf ".a \\\\e-\\n"' 'echo "proved $*"' > crates/motcar/out/motcar
@@ -57,8 +61,9 @@ esac
 class Clone:
     """A copy of the launcher with a crate, and the stand-in on its path.
 
-    All are made before the first row runs, and none writes a program while rows run: what another thread starts in that moment has the
-    file open for writing as well until it is a program of its own, and the system runs no file that is ("Text file busy").
+    All are made before the first row runs, and none writes a program while rows run: what another thread starts in that
+    moment has the file open for writing as well until it is a program of its own, and the system runs no file that is
+    ("Text file busy").
     """
 
     def __init__(self, room):
@@ -103,7 +108,8 @@ class Clone:
         """Starts the launcher; `streams` are redirections of the shell."""
         command = ["sh", "-c", f'exec "$0" "$@" {streams}', str(self.top / "motcar"), *words]
         pipes = {it: subprocess.PIPE for it in ("stdin", "stdout", "stderr")}
-        return subprocess.Popen(command, env={**self.environment, **settings}, text=True, start_new_session=True, **pipes)
+        environment = {**self.environment, **settings}
+        return subprocess.Popen(command, env=environment, text=True, start_new_session=True, **pipes)
 
     def run(self, *words, given="", **settings):
         """Its status, what it printed, and its messages."""
@@ -173,7 +179,8 @@ def help_is_there_at_once(clone):
     asked |= {it: (["help", it], [it, "--help"], [it, "-h"]) for it in ("memory", *ON_FILES)}
     for command, forms in asked.items():
         for words in forms:
-            expect((0, (top / f"docs/help/{command}.txt").read_text(), ""), clone.run(*words, MOTCAR_BUILD="unproved", PATH="/usr/bin:/bin"))
+            text = (top / f"docs/help/{command}.txt").read_text()
+            expect((0, text, ""), clone.run(*words, MOTCAR_BUILD="unproved", PATH="/usr/bin:/bin"))
     expect([], clone.calls("try"))
     started = clone.start("help", streams=">&-")
     expect("motcar: 23 WriteFault\n", started.communicate(timeout=60)[1])
@@ -220,7 +227,8 @@ def a_proof_reads_what_the_program_is_made_of(clone):
 def twenty_starts_at_once(clone):
     started = [clone.start("serve", "disk", MOTCAR_BUILD="proved", PROOF="held") for _ in range(20)]
     for it in started:
-        expect("motcar: proving and building the program, which takes half an hour or more, in one run of the toolchain\n", it.stderr.readline())
+        expect("motcar: proving and building the program, which takes half an hour or more, in one run of the toolchain\n",
+               it.stderr.readline())
     clone.release()
     for it in started:
         printed, _ = it.communicate(timeout=60)
@@ -366,7 +374,8 @@ def a_clone_that_cannot_be_written(clone):
     for it in [clone.top, *clone.top.rglob("*")]:
         it.chmod(0o555)
     settings = {**clone.environment, "PROOF": "0"}
-    done = subprocess.run([*words, clone.top / "motcar", "memory"], env=settings, input="a line\n", capture_output=True, text=True)
+    memory = [*words, clone.top / "motcar", "memory"]
+    done = subprocess.run(memory, env=settings, input="a line\n", capture_output=True, text=True)
     expect((0, "a line\n"), (done.returncode, done.stdout))
     expect_in("this clone can't be written, so no proved build is made", done.stderr)
     done = subprocess.run([*words, clone.top / "motcar", "check", "disk"], env=settings, capture_output=True, text=True)
@@ -376,8 +385,9 @@ def a_clone_that_cannot_be_written(clone):
 
 def installed_and_taken_away(clone):
     prefix = clone.room / "a prefix of $HOME"
-    files = ["bin/motcar", "share/man/man1/motcar.1", "share/motcar/README.md", "share/motcar/VERSION", "share/motcar/CHANGELOG.md",
-             "share/bash-completion/completions/motcar", "share/zsh/site-functions/_motcar", "share/motcar/examples/motcar.service",
+    files = ["bin/motcar", "share/man/man1/motcar.1", "share/motcar/README.md", "share/motcar/VERSION",
+             "share/motcar/CHANGELOG.md", "share/bash-completion/completions/motcar",
+             "share/zsh/site-functions/_motcar", "share/motcar/examples/motcar.service",
              "share/motcar/examples/motcar.sysusers"]
     files += [f"share/motcar/docs/help/{it}.txt" for it in ("motcar", "memory", *ON_FILES)]
     for _ in range(2):
@@ -388,12 +398,13 @@ def installed_and_taken_away(clone):
     expect_in('.TH MOTCAR 1 "" "motcar 7.8.9" "User Commands"\n', page)
     for command in ("memory", *ON_FILES):
         expect_in(f"\n.SS motcar {command} ", page)
-    # Lines that are not filled stand in 80 columns, behind the indents of a section and of an example.
-    kept = [it for part in page.split(".nf\n")[1:] for it in part.split(".fi\n")[0].splitlines() if not it.startswith(".")]
+    # Lines that are not filled stand in 80 columns, after the indents of a section and of an example.
+    parts = [part.split(".fi\n")[0].splitlines() for part in page.split(".nf\n")[1:]]
+    kept = [it for part in parts for it in part if not it.startswith(".")]
     expect([], [it for it in kept if len(it.replace("\\(aq", "'").replace("\\", "")) > 66])
     expect(True, len(kept) > 3)
     expect("motcar 7.8.9\nproved with stand-in 1\n", (prefix / files[3]).read_text())
-    expect(f"ExecStart={prefix}/bin/motcar\n", (prefix / files[7]).read_text())
+    expect(f"ExecStart={prefix}/bin/motcar\n", (prefix / "share/motcar/examples/motcar.service").read_text())
     expect(0, clone.run("uninstall", str(prefix))[0])
     expect([], [it for it in prefix.rglob("*") if it.is_file()])
 
@@ -436,7 +447,8 @@ def without_make_nothing_is_installed(clone):
 
 def others_can_read_what_is_installed(clone):
     prefix = clone.room / "prefix"
-    done = subprocess.run([clone.top / "motcar", "install", prefix], env=clone.environment, umask=0o077, capture_output=True, text=True)
+    words = [clone.top / "motcar", "install", prefix]
+    done = subprocess.run(words, env=clone.environment, umask=0o077, capture_output=True, text=True)
     expect((0, []), (done.returncode, [it for it in prefix.rglob("*") if it.stat().st_mode & 0o044 != 0o044]))
     expect(0o755, (prefix / "bin/motcar").stat().st_mode & 0o777)
     expect_nothing_left(clone)
@@ -459,14 +471,15 @@ def packed(clone):
     files = sorted(it.name for it in folder.iterdir() if it.suffix in (".deb", ".gz"))
     expect(len(files), len((folder / "SHA256SUMS").read_text().splitlines()))
     subprocess.run(["sha256sum", "--quiet", "-c", "SHA256SUMS"], cwd=folder, check=True)
-    held = subprocess.run(["tar", "-tzf", next(it for it in files if it.endswith(".gz"))], cwd=folder, capture_output=True, text=True, check=True).stdout
+    archive = next(it for it in files if it.endswith(".gz"))
+    held = subprocess.run(["tar", "-tzf", archive], cwd=folder, capture_output=True, text=True, check=True).stdout
     for it in ("bin/motcar", "share/man/man1/motcar.1", "share/motcar/VERSION"):
         expect_in(f"/{it}\n", held)
     for it in (it for it in files if it.endswith(".deb")):
         held = subprocess.run(["dpkg-deb", "-c", it], cwd=folder, capture_output=True, text=True, check=True).stdout
         expect("drwxr-xr-x root/root", held[:20])
-        for name in ("usr/bin/motcar", "usr/lib/systemd/system/motcar.service", "usr/lib/sysusers.d/motcar.conf", "usr/share/motcar/VERSION",
-                     "usr/share/man/man1/motcar.1.gz"):
+        for name in ("usr/bin/motcar", "usr/lib/systemd/system/motcar.service", "usr/lib/sysusers.d/motcar.conf",
+                     "usr/share/motcar/VERSION", "usr/share/man/man1/motcar.1.gz"):
             expect_in(f" ./{name}\n", held)
     expect("motcar 7.8.9\nproved with stand-in 1\n", (folder / "VERSION").read_text())
     expect_nothing_left(clone)
@@ -482,7 +495,8 @@ def main():
     for number in ENDING:
         signal.signal(number, signal.SIG_DFL)
     # A proof that a row has left in the background may still write as the folder goes.
-    with tempfile.TemporaryDirectory(ignore_cleanup_errors=True) as room, concurrent.futures.ThreadPoolExecutor(len(ROWS)) as pool:
+    pool = concurrent.futures.ThreadPoolExecutor(len(ROWS))
+    with tempfile.TemporaryDirectory(ignore_cleanup_errors=True) as room, pool:
         os.chmod(room, 0o755)
         clones = [Clone(room) for _ in ROWS]
         running = [pool.submit(row, clone) for row, clone in zip(ROWS, clones)]

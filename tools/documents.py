@@ -1,7 +1,7 @@
 #!/usr/bin/env python3
-"""Looks whether the documents name what is there: README's length and its clauses, links and their headings, the paths of
-the repository, and in docs/PROMISES.md each function, each label of a clause and each definition; whether their prose
-keeps the rules of tools/prose.py; and whether each name in crates.txt is used by the crate that names it.
+"""Looks whether the documents name what is there: README's length and its clauses, links and their headings, the
+paths of the repository, and in docs/PROMISES.md each function, each label of a clause and each definition; whether
+their prose keeps the rules of tools/prose.py; and whether each name in crates.txt is used by the crate that names it.
 
     tools/documents.py
 """
@@ -40,7 +40,8 @@ def links(page):
 
 def paths(page):
     """Paths of the repository, and of a crate's files."""
-    for path in re.findall(r"(?<![\w/.])((?:tools|tests|campaigns|bench|packaging|docs|examples|crates)/(?!NAME)[\w./@-]*\w)", page.read_text()):
+    folders = "|".join((*FOLDERS, "crates"))
+    for path in re.findall(rf"(?<![\w/.])((?:{folders})/(?!NAME)[\w./@-]*\w)", page.read_text()):
         if not (top / path).exists() and not (page.parent / path).exists():
             wrong.append(f"{page.name}: no {path}")
     for path in re.findall(r"`((?:mot_\w+|disk_\w+|motcar)/(?:src|specs|proofs)/[\w./-]*\w)`", page.read_text()):
@@ -79,7 +80,8 @@ def spread(name):
     """`crate::{A, B}::f` as its names."""
     if not (braces := re.search(r"\{(.*?)\}", name)):
         return [name]
-    return [full for it in braces[1].split(",") for full in spread(name[: braces.start()] + it.strip() + name[braces.end():])]
+    before, after = name[: braces.start()], name[braces.end():]
+    return [full for it in braces[1].split(",") for full in spread(before + it.strip() + after)]
 
 
 def row(text):
@@ -112,7 +114,8 @@ def promises():
                 for label in re.findall(r"`(\w+)`", clauses):
                     if label not in known[function]:
                         wrong.append(f"{page.name}: no clause {label} of {name}")
-            wrong.extend(f"{page.name}: no definition {it}" for it in re.findall(r"`(\w+)`", cited) if it not in known_words)
+            unknown = [it for it in re.findall(r"`(\w+)`", cited) if it not in known_words]
+            wrong.extend(f"{page.name}: no definition {it}" for it in unknown)
 
 
 def crates():
@@ -126,8 +129,8 @@ def crates():
 def unused():
     """The crates that a crate names, and of which its code, definitions and proofs use nothing."""
     for crate, below in crates():
-        files = [it for part in ("src", "specs", "proofs") for it in (top / "crates" / crate / part).rglob("*") if it.is_file()]
-        text = "".join(it.read_text() for it in files)
+        parts = [top / "crates" / crate / part for part in ("src", "specs", "proofs")]
+        text = "".join(it.read_text() for part in parts for it in part.rglob("*") if it.is_file())
         yield from (f"{crate} {it}" for it in below if not re.search(rf"\bRattle\.{it}\b|\b{it}::|\buse {it}\b", text))
 
 

@@ -1,5 +1,6 @@
-"""The rules of prose that a program can see, for the pages of this repository: words that a reader stumbles over, a sentence or a
-paragraph that is too long. Outside of code blocks, inline code, quotations, headings and what a program has printed into a page.
+"""The rules of prose that a program can see, for the pages of this repository: words that a reader stumbles over, a
+sentence or a paragraph that is too long. Outside of code blocks, inline code, quotations, headings and what a program
+has printed into a page.
 """
 import re
 
@@ -23,7 +24,8 @@ STUMBLES = [
 
 
 def units(text):
-    """The paragraphs, items of lists and cells of tables of a page: the number of the first line, the lines, whether it is a cell."""
+    """The paragraphs, items of lists and cells of tables of a page: the number of the first line, the lines, whether it
+    is a cell."""
     found, here, fenced, hidden = [], None, False, False
     for number, line in enumerate(text.splitlines(), 1):
         fence = re.match(r"\s*```", line)
@@ -81,5 +83,6 @@ def faults(name, text):
                 starts = [own, *re.split(r"; ?", own)[1:]] if "^" in pattern else [own]
                 for it in starts:
                     # (a title such as "What to do" is no sentence)
-                    if (found := re.search(pattern, it, re.I)) and ("^" not in pattern or len(it.split()) > WORDS_OF_A_TITLE):
+                    is_title = "^" in pattern and len(it.split()) <= WORDS_OF_A_TITLE
+                    if (found := re.search(pattern, it, re.I)) and not is_title:
                         yield f"{name}:{number}: `{found[0]}`: write: {instead}: {shown[:60]}.."
