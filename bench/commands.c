@@ -1,8 +1,8 @@
-// Answers lines `replace NAME 2 3 image/png HEX` of 1,024 bytes on the file of a disk of motcar in layout 2, in plain C, by
-// the same reads, writes and syncs as `motcar serve`: of an opening, a sync, the head, the selected half; of a command the
-// body, a slot's bytes behind its gate, a sync, the gate, a sync; and where a half is full its slots into the other one, a
-// sync, the selector, a sync. Every body on the disk has to have 1,024 bytes, and one place of so many has to be free: then
-// it leaves the same bytes.
+// Answers lines `replace NAME 2 3 image/png HEX` of 1,024 bytes on the file of a disk of motcar in layout 2, in plain
+// C, by the same reads, writes and syncs as `motcar serve`: of an opening, a sync, the head, the selected half; of a
+// command the body, a slot's bytes behind its gate, a sync, the gate, a sync; and where a half is full its slots into
+// the other one, a sync, the selector, a sync. Every body on the disk has to have 1,024 bytes, and one place of so
+// many has to be free: then it leaves the same bytes.
 //
 //     commands DISK < LINES > REPLIES
 #include <fcntl.h>

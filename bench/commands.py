@@ -1,15 +1,15 @@
 #!/usr/bin/env python3
-"""Durable commands per second as the carousel grows, beside bench/commands.c and SQLite on the same file system in the
-same run.
+"""Durable commands per second as the carousel grows, beside bench/commands.c and SQLite on the same file system in
+the same run.
 
-    bench/commands.py [FOLDER]      the disks are made in FOLDER, or else here
+    bench/commands.py [FOLDER] [--rounds N]      the disks are made in FOLDER, or else here
 
-Takes the proved build (MOTCAR_BUILD=proved ./motcar makes it). For 1, 40 and 250 objects, on disks with slack in their
-slots and on full ones, each of 15 rounds gives the same lines `replace NAME 2 3 image/png HEX` of 1,024 bytes to `motcar
-serve`, to the C program, which makes the same writes and syncs and has to leave the same replies and the same disk, and
-the same bodies to SQLite, as one update of one row each, with its default journal and with a write-ahead log (both with
-synchronous=FULL). Prints the medians of the rates, the medians of the rounds' own ratios, above 1 where the program is
-the faster one, and where valgrind is there how many instructions a command takes.
+For 1, 40 and 250 objects, on disks with slack in their slots and on full ones, each of 15 rounds gives the same lines
+`replace NAME 2 3 image/png HEX` of 1,024 bytes to `motcar serve`, to the C program, which makes the same writes and
+syncs and has to leave the same replies and the same disk, and the same bodies to SQLite, as one update of one row
+each, with its default journal and with a write-ahead log (both with synchronous=FULL). Prints the medians of the
+rates, the medians of the rounds' own ratios, above 1 where the program is the faster one, and where valgrind is there
+how many instructions a command takes.
 """
 import os
 import pathlib
@@ -19,16 +19,14 @@ import shutil
 import sqlite3
 import statistics
 import subprocess
-import sys
 import tempfile
 import time
+
+from programs import compiled, program, words
 
 BODY, LINES, ROUNDS = 1024, 2_000, 15
 # how many objects there are, and how many a disk has room for
 DISKS = ((1, 16), (1, 1), (40, 80), (40, 40), (250, 250))
-
-top = pathlib.Path(__file__).resolve().parent.parent
-program = str(top / "build/motcar")
 
 
 class Carousel:
@@ -37,9 +35,9 @@ class Carousel:
     def __init__(self, room, objects, most, choices):
         self.room, self.made, self.disk, self.given = room, f"{room}/made", f"{room}/disk", f"{room}/lines"
         # (one place more than there are objects, so that a body has one gap)
-        words = [program, "format", self.made, "--objects", str(most), "--data", str((objects + 1) * BODY)]
+        sizes = f"--objects {most} --data {(objects + 1) * BODY}"
         pathlib.Path(self.made).unlink(missing_ok=True)
-        subprocess.run(words, stdout=subprocess.DEVNULL, check=True)
+        subprocess.run([program, "format", self.made, *sizes.split()], stdout=subprocess.DEVNULL, check=True)
         self.first = [choices.randbytes(BODY) for _ in range(objects)]
         puts = "".join(f"put name{place} 2 3 image/png {body.hex()}\n" for place, body in enumerate(self.first))
         subprocess.run([program, "serve", self.made], input=puts.encode(), stdout=subprocess.DEVNULL, check=True)
@@ -72,7 +70,8 @@ class Carousel:
         rows.execute("PRAGMA synchronous=FULL")
         rows.execute("CREATE TABLE object (name TEXT PRIMARY KEY, version INTEGER, body BLOB)")
         rows.execute("BEGIN")
-        rows.executemany("INSERT INTO object VALUES (?, 0, ?)", [(f"name{place}", body) for place, body in enumerate(self.first)])
+        first = [(f"name{place}", body) for place, body in enumerate(self.first)]
+        rows.executemany("INSERT INTO object VALUES (?, 0, ?)", first)
         rows.execute("COMMIT")
         began = time.perf_counter()
         for name, body in self.changes:
@@ -89,13 +88,13 @@ class Carousel:
             shutil.copy(self.made, self.disk)
             counting = ["valgrind", "--tool=callgrind", "--callgrind-out-file=/dev/null", *words, self.disk]
             with open(self.given, "rb") as lines:
-                said = subprocess.run(counting, stdin=lines, stdout=subprocess.DEVNULL, stderr=subprocess.PIPE, text=True).stderr
-            counted.append(int(re.search(r"Collected : (\d+)", said)[1]))
+                ended = subprocess.run(counting, stdin=lines, capture_output=True, text=True)
+            counted.append(int(re.search(r"Collected : (\d+)", ended.stderr)[1]))
         self.write_lines(LINES)
         return (counted[1] - counted[0]) / (LINES // 10)
 
 
-def measure(carousel, reference):
+def measure(carousel, reference, rounds):
     """The times of each in each round."""
     serve, commands = (program, "serve"), (reference,)
     if carousel.left_by(*serve) != carousel.left_by(*commands):
@@ -107,29 +106,35 @@ def measure(carousel, reference):
         "SQLite, write-ahead log": lambda: carousel.sqlite_seconds("wal"),
     }
     took = {name: [] for name in runs}
-    for number in range(ROUNDS):
+    for number in range(rounds):
         for name in list(runs)[:: 1 if number % 2 else -1]:
             took[name].append(runs[name]())
     counted = {"motcar serve": serve, "C, the same writes and syncs": commands} if shutil.which("valgrind") else {}
     return took, {name: carousel.instructions(*words) for name, words in counted.items()}
 
 
+def print_rates(took, counted):
+    """The median rates, the medians and quartiles of the rounds' own ratios, and the instructions."""
+    ours = took["motcar serve"]
+    for name, times in took.items():
+        low, ratio, high = statistics.quantiles([theirs / mine for theirs, mine in zip(times, ours)], n=4)
+        rate = LINES / statistics.median(times)
+        taken = f"{counted[name]:15,.0f}" if name in counted else ""
+        print(f"{name:30} {rate:10,.0f} {ratio:16.2f}  {low:.2f} to {high:.2f} {taken}")
+
+
 def main():
-    folder = sys.argv[1] if len(sys.argv) > 1 else os.getcwd()
-    with tempfile.TemporaryDirectory(dir=folder) as room:
-        reference = f"{room}/commands"
-        subprocess.run(["cc", "-O2", "-o", reference, str(top / "bench/commands.c")], check=True)
-        kind = subprocess.run(["stat", "-f", "-c", "%T", room], stdout=subprocess.PIPE, check=True).stdout.decode().strip()
-        print(f"commands of {BODY} bytes on {kind}")
-        choices = random.Random(1)
+    options = words(__doc__, ROUNDS)
+    options.add_argument("folder", nargs="?", default=os.getcwd(), metavar="FOLDER", help="where the disks are made")
+    given = options.parse_args()
+    with tempfile.TemporaryDirectory(dir=given.folder) as room:
+        reference, choices = compiled(room, "commands"), random.Random(1)
+        kind = subprocess.run(["stat", "-f", "-c", "%T", room], capture_output=True, text=True, check=True)
+        print(f"commands of {BODY} bytes on {kind.stdout.strip()}")
         for objects, most in DISKS:
-            print(f"\n{f'{objects} objects of at most {most}':30} commands/s   motcar's ratio  quartiles      instructions")
-            took, counted = measure(Carousel(room, objects, most, choices), reference)
-            for name, times in took.items():
-                low, ratio, high = statistics.quantiles([theirs / ours for theirs, ours in zip(times, took["motcar serve"])], n=4)
-                rate = LINES / statistics.median(times)
-                taken = f"{counted[name]:15,.0f}" if name in counted else ""
-                print(f"{name:30} {rate:10,.0f} {ratio:16.2f}  {low:.2f} to {high:.2f} {taken}")
+            title = f"{objects} objects of at most {most}"
+            print(f"\n{title:30} commands/s   motcar's ratio  quartiles      instructions")
+            print_rates(*measure(Carousel(room, objects, most, choices), reference, given.rounds))
 
 
 main()

@@ -1,4 +1,5 @@
-// Reads the files of a folder and as many bytes of a disk's file, which is what a look at a folder has to read, in plain C.
+// Reads the files of a folder and as many bytes of a disk's file, which is what a look at a folder has to read, in
+// plain C.
 //
 //     look FOLDER DISK
 #include <dirent.h>

@@ -1,6 +1,6 @@
-// Reads what `motcar check` reads of the file of a disk, in plain C: the head, the selected half, and the half once more in
-// pieces of 4,096 bytes, for its gates. Before that it makes the syncs that an opening makes of the file and its folder, and
-// drops the system's pages; with a second word, it only reads. Prints how many gates are open.
+// Reads what `motcar check` reads of the file of a disk, in plain C: the head, the selected half, and the half once
+// more in pieces of 4,096 bytes, for its gates. Before that it makes the syncs that an opening makes of the file and
+// its folder, and drops the system's pages; with a second word, it only reads. Prints how many gates are open.
 //
 //     opening DISK [reads]
 #define _GNU_SOURCE

@@ -1,10 +1,11 @@
 #!/usr/bin/env python3
 """Packets and bytes per second of `raw` lines of 8,189 bytes, beside bench/raw.c on the same machine in the same run.
 
-Takes the proved build (MOTCAR_BUILD=proved ./motcar makes it). Prints the medians of five rounds, in which the two
-programs take turns, and their ratio: above 1 the program is the faster one.
+    bench/raw.py [--rounds N]
+
+Prints the medians of five rounds, in which the two programs take turns, and their ratio: above 1 the program is the
+faster one.
 """
-import os
 import pathlib
 import random
 import statistics
@@ -12,10 +13,9 @@ import subprocess
 import tempfile
 import time
 
-LINES, BODY, ROUNDS = 400, 8189, 5
+from programs import compiled, program, words
 
-top = pathlib.Path(__file__).resolve().parent.parent
-program = [str(top / "build/motcar"), "memory", "--packet", "24"]
+LINES, BODY, ROUNDS = 400, 8189, 5
 
 
 def seconds(words, given, taken):
@@ -26,17 +26,16 @@ def seconds(words, given, taken):
 
 
 def main():
-    subprocess.run([str(top / "motcar"), "memory"], stdin=subprocess.DEVNULL, check=True, env={**os.environ, "MOTCAR_BUILD": "proved"})
+    rounds = words(__doc__, ROUNDS).parse_args().rounds
     with tempfile.TemporaryDirectory() as room:
-        reference, given = f"{room}/raw", f"{room}/lines"
-        subprocess.run(["cc", "-O2", "-o", reference, str(top / "bench/raw.c")], check=True)
+        reference, given = compiled(room, "raw"), f"{room}/lines"
         choices = random.Random(1)
         with open(given, "w") as lines:
             for _ in range(LINES):
                 lines.write(f"raw 4 2 {choices.randbytes(BODY).hex()}\n")
         ours, theirs = [], []
-        for _ in range(ROUNDS):
-            ours.append(seconds(program, given, f"{room}/ours"))
+        for _ in range(rounds):
+            ours.append(seconds([program, "memory", "--packet", "24"], given, f"{room}/ours"))
             theirs.append(seconds([reference], given, f"{room}/theirs"))
         answered = pathlib.Path(f"{room}/ours").read_bytes()
         if answered != pathlib.Path(f"{room}/theirs").read_bytes():
