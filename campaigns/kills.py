@@ -1,18 +1,19 @@
 #!/usr/bin/env python3
 """Kills the built program at a random moment while it serves a disk, a few hundred times, and looks what it left.
 
-    campaigns/kills.py [ROUNDS] [SEED]      300 rounds
+    campaigns/kills.py [PROGRAM] [--seed N] [--rounds N] [--folder DIR]
 
-Takes the proved build (MOTCAR_BUILD=proved ./motcar makes it). Each round serves the same file: random commands are
-fed to the program as fast as it takes them, and after some milliseconds it gets SIGKILL. Then the file is opened again:
-`check` has to tell the carousel after the acknowledged commands or one more, and `clean`; `turn` has to play a turn
-whose bodies are that carousel's. What the program wrote stays in the system's cache when it is killed, so this shows
-crashes of the program between any two of its calls and inside them. That a cut of the power loses no more is the disk
-model and the theorem; no file system is tested here.
+Each round serves the same file: random commands are fed to the program as fast as it takes them, and after some
+milliseconds it gets SIGKILL. Then the file is opened again: `check` has to print the carousel after the acknowledged
+commands or one more, and `clean`; `turn` has to play a turn whose bodies are that carousel's. What the program wrote
+stays in the system's cache when it is killed, so this shows crashes of the program between any two of its calls and
+inside them. That a cut of the power loses no more is the disk model and the theorem; no file system is tested here. A
+seed makes the same commands and delays again, but the system decides how far the program comes in a delay. Seeds that
+once failed come first.
 """
-import os
 import pathlib
 import random
+import shutil
 import signal
 import subprocess
 import sys
@@ -20,13 +21,18 @@ import tempfile
 import threading
 import time
 
-top = pathlib.Path(__file__).resolve().parent.parent
-program = str(top / "build/motcar")
-OBJECTS, AREA = 6, 4_000
+import campaign
+from tests import dab
+
+OBJECTS, AREA, ROUNDS = 6, 4_000, 300
+
+
+class Wrong(Exception):
+    """A reply, or a disk that was left, that is not as it should be."""
 
 
 class Carousel:
-    """The rules of the commands, as docs/FORMATS.md tells them."""
+    """The rules of the commands, as docs/FORMATS.md has them."""
 
     def __init__(self):
         self.period, self.directory, self.cursor, self.objects = 0, 1, 1, []
@@ -99,7 +105,7 @@ def random_line(choices):
     return f"{kind} {name} 2 3 - {choices.randbytes(choices.randint(1, 900)).hex()}"
 
 
-def kill_while_serving(disk, lines, delay):
+def kill_while_serving(program, disk, lines, delay):
     """The replies that were complete when the program was killed."""
     serving = subprocess.Popen([program, "serve", disk], stdin=subprocess.PIPE, stdout=subprocess.PIPE)
 
@@ -124,62 +130,83 @@ def kill_while_serving(disk, lines, delay):
     return printed.decode().split("\n")[:-1]
 
 
-def bodies_of(packets):
-    """The bodies that the packets carry, by transport id: data groups of type 4, whose segments come in order."""
-    group, bodies = b"", {}
-    for packet in packets:
-        group += packet[3 : 3 + packet[2]]
-        if packet[0] >> 2 & 1:
-            if group[0] & 15 == 4:
-                tid = int.from_bytes(group[5:7], "big")
-                bodies[tid] = bodies.get(tid, b"") + group[9:-2]
-            group = b""
-    return bodies
-
-
 def answer(words, given=b""):
-    done = subprocess.run([program, *words], input=given, stdout=subprocess.PIPE, check=True)
-    return done.stdout.decode().split("\n")[:-1]
+    done = subprocess.run(words, input=given, capture_output=True, timeout=60)
+    if done.returncode:
+        raise Wrong(f"{words[1]} ended with {done.returncode}: {done.stderr!r}")
+    return done.stdout
 
 
-def look(disk, carousels):
+def look(program, disk, carousels):
     """The first of these carousels that the disk has; its turn plays its bodies."""
-    told = answer(["check", disk])
+    told = answer([program, "check", disk]).decode().split("\n")[:-1]
     left = next((c for c in carousels if told == c.listing() + ["clean", "layout 2"]), None)
     if left is None:
-        raise SystemExit(f"the disk has none of the carousels that may have been left: {told}")
-    turn = answer(["serve", disk], b"turn\n")
-    if not turn[-1].endswith(" end"):
-        raise SystemExit(f"no turn was played: {turn}")
-    played = bodies_of([bytes.fromhex(line.split(" ")[1]) for line in turn])
+        raise Wrong(f"the disk has none of the carousels that may have been left: {told}")
+    turn = answer([program, "serve", disk], b"turn\n")
+    if not turn.endswith(b" end\n"):
+        raise Wrong(f"no turn was played: {turn!r}")
+    try:
+        played = dab.bodies_of(dab.packets_told(turn))
+    except dab.Wrong as wrong:
+        raise Wrong(f"the turn has {wrong}") from wrong
     if played != {o["tid"]: o["body"] for o in left.objects}:
-        raise SystemExit("the turn has other bodies than the carousel")
+        raise Wrong("the turn has other bodies than the carousel")
     return left
 
 
+class Life:
+    """A disk that is served and killed, round by round."""
+
+    def __init__(self, program, seed, room):
+        self.program, self.disk, self.choices = program, f"{room}/disk", random.Random(seed)
+        self.carousel, self.acknowledged, self.ahead = Carousel(), 0, 0
+        sizes = f"--objects {OBJECTS} --data {AREA} --packet 24 --segment 64"
+        answer([program, "format", self.disk, *sizes.split()])
+
+    def round(self):
+        lines = [random_line(self.choices) for _ in range(400)]
+        replies = kill_while_serving(self.program, self.disk, lines, self.choices.uniform(0, 0.12))
+        for line, reply in zip(lines, replies):
+            wanted = self.carousel.execute(line)
+            if reply != wanted:
+                raise Wrong(f"wanted {wanted}, came {reply}")
+        more = self.carousel.copy()
+        if len(replies) < len(lines):
+            more.execute(lines[len(replies)])
+        left = look(self.program, self.disk, [self.carousel, more])
+        self.acknowledged += len(replies)
+        self.ahead += left is more and left.directory != self.carousel.directory
+        self.carousel = left
+
+
+def lived(options, seed, rounds):
+    """Whether a disk of this seed came through so many kills."""
+    with tempfile.TemporaryDirectory(dir=options.folder) as room:
+        life, number = Life(options.program, seed, room), 0
+        try:
+            for number in range(1, rounds + 1):
+                life.round()
+        except (Wrong, subprocess.TimeoutExpired) as wrong:
+            left = pathlib.Path(tempfile.gettempdir(), f"killed-{seed}-{number}.disk")
+            shutil.copy(life.disk, left)
+            print(f"kill {number} of seed {seed}: {wrong}; the disk that was left: {left}")
+            campaign.keep("kills", f"{seed} {number}")
+            return False
+    print(f"seed {seed}: {rounds} kills, {life.acknowledged} replies read: each disk opened clean to the carousel")
+    print(f"after the acknowledged commands, {life.ahead} times with the one in flight, and played its bodies")
+    return True
+
+
 def main():
-    rounds = int(sys.argv[1]) if len(sys.argv) > 1 else 300
-    choices = random.Random(int(sys.argv[2]) if len(sys.argv) > 2 else 1)
-    acknowledged, ahead = 0, 0
-    with tempfile.TemporaryDirectory(dir=os.getcwd()) as room:
-        disk, carousel = f"{room}/disk", Carousel()
-        answer(["format", disk, "--objects", str(OBJECTS), "--data", str(AREA), "--packet", "24", "--segment", "64"])
-        for _ in range(rounds):
-            lines = [random_line(choices) for _ in range(400)]
-            replies = kill_while_serving(disk, lines, choices.uniform(0, 0.12))
-            for line, reply in zip(lines, replies):
-                wanted = carousel.execute(line)
-                if reply != wanted:
-                    raise SystemExit(f"wanted {wanted}, came {reply}")
-            more = carousel.copy()
-            if len(replies) < len(lines):
-                more.execute(lines[len(replies)])
-            left = look(disk, [carousel, more])
-            acknowledged += len(replies)
-            ahead += left is more and left.directory != carousel.directory
-            carousel = left
-    print(f"{rounds} kills, {acknowledged} replies read: each disk opened clean to the carousel after the acknowledged")
-    print(f"commands, {ahead} times with the one in flight, and played a turn of its bodies")
+    words = campaign.words(__doc__)
+    words.add_argument("--rounds", type=int, default=ROUNDS, help=f"how many kills ({ROUNDS})")
+    words.add_argument("--folder", help="where the disk is made (where the system has its temporary files)")
+    options = campaign.given(words)
+    kept = [map(int, it.split()) for it in campaign.corpus("kills")]
+    done = [lived(options, *it) for it in [*kept, (options.seed, options.rounds)]]
+    return 0 if all(done) else 1
 
 
-main()
+if __name__ == "__main__":
+    sys.exit(main())

@@ -1,8 +1,9 @@
 """Single faults: each write and each flush that the device gets in one command fails once.
 
-The program is ended, started again on the same mounted file system, and goes on; what it acknowledges then has to be there
-in three ways: after a power cut, with all that reached the device and with what a flush covers alone, and after the file
-system was unmounted in good order. What the disk has to hold is told by the same lines given to a disk that is well.
+The program is ended, started again on the same mounted file system, and goes on; what it acknowledges then has to be
+there in three ways: after a power cut, with all that reached the device and with what a flush covers alone, and after
+the file system was unmounted in good order. What the disk has to hold is told by the same lines given to a disk that
+is well.
 """
 import collections
 import dataclasses
@@ -65,7 +66,7 @@ class Twin:
 @dataclasses.dataclass
 class Trial:
     is_met: bool = False  # whether the fault came to pass
-    was_stopped: bool = False  # whether the file system had to be mounted anew
+    was_stopped: bool = False  # whether the file system had to be mounted again
     wrong: str = ""
 
 
@@ -124,7 +125,8 @@ def meet_when_killed(device, program, scenario, kind, number, trial, room):
         session.ask(line)
     session.end()
     when = syncs_of_an_opening(program, disk, room) + 2
-    words = ["strace", "-f", "-o", "/dev/null", "-e", "trace=fdatasync", "-e", f"inject=fdatasync:signal=KILL:when={when}"]
+    inject = f"inject=fdatasync:signal=KILL:when={when}"
+    words = ["strace", "-f", "-o", "/dev/null", "-e", "trace=fdatasync", "-e", inject]
     told = program.run("serve", disk, given=scenario.victim + b"\n", before=words).stdout
     if told:
         raise RuntimeError(f"it was not killed: {told}")
@@ -204,8 +206,9 @@ def campaign(room, system, program, scenarios, kinds, most, show):
             if not trial.is_met:
                 break
             notes["faults"] += 1
-            notes["until mounted anew"] += trial.was_stopped
+            notes["until mounted again"] += trial.was_stopped
             if trial.wrong:
                 faults.append(f"{name}, {kind} {number}: {trial.wrong}")
-            show(f"{name}, {kind} {number}: {trial.wrong or 'all there'}{', refused until mounted anew' * trial.was_stopped}")
+            stopped = ", refused until mounted again" * trial.was_stopped
+            show(f"{name}, {kind} {number}: {trial.wrong or 'all there'}{stopped}")
     return faults, notes

@@ -44,7 +44,8 @@ def tried(room, system, program, seed, notes):
     folder.mkdir(exist_ok=True)
     with devices.Device(room, system) as device:
         disk = device.disk()
-        program.run("format", disk, "--objects", str(OBJECTS), "--data", str(AREA), "--segment", "8189").check_returncode()
+        sizes = f"--objects {OBJECTS} --data {AREA} --segment 8189"
+        program.run("format", disk, *sizes.split()).check_returncode()
         given, kept = motcar.Commands(choices, OBJECTS), judge.Kept(b"carousel 0 1 1 0", {})
         kept = served(program, disk, given, kept, 4, collections.Counter())
         fill(device.mounted_at)

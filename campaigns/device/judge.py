@@ -5,6 +5,7 @@ import os
 
 import program as motcar
 import systems
+from tests import dab
 
 LOST, UNCLEAN = "LOST", "UNCLEAN"
 
@@ -34,9 +35,9 @@ def look(program, disk):
     lines = checked.stdout.rstrip(b"\n").split(b"\n")
     objects = [line.split(b" ") for line in lines[1:-2]]
     try:
-        by_number = motcar.received(program.run("serve", disk, given=b"turn\n").stdout)
+        by_number = dab.bodies_of(dab.packets_told(program.run("serve", disk, given=b"turn\n").stdout))
         bodies = {words[6]: by_number.get(int(words[1])) for words in objects}
-    except (ValueError, IndexError) as fault:
+    except (dab.Wrong, ValueError, IndexError) as fault:
         bodies = {"packets": repr(fault)}
     return Found("", b"\n".join(lines[:-2]), lines[-2] == b"clean", bodies)
 

@@ -1,9 +1,9 @@
 """Power cuts: images that a cut at any moment of the program's life may have left.
 
-A life: a new file system, other work beside the program on it, `format`, and sessions of random commands, half of them
-ended by SIGKILL. An image: every write before the last flush that was done, and of those since it none, all, one, all but
-one, the last ones, some, or some sectors of some. The disk in it has to open clean to the carousel after the acknowledged
-commands or one more, with its bodies; a quarter of the disks are served one command more.
+A life: a new file system, other work beside the program on it, `format`, and sessions of random commands, half of
+them ended by SIGKILL. An image: every write before the last flush that was done, and of those since it none, all,
+one, all but one, the last ones, some, or some sectors of some. The disk in it has to open clean to the carousel after
+the acknowledged commands or one more, with its bodies; a quarter of the disks are served one command more.
 """
 import collections
 import dataclasses
@@ -82,7 +82,8 @@ def recorded(room, system, program, seed, commands):
             other.start()
         time.sleep(choices.random() * 0.3)
         objects, area = life.geometry
-        refusal = program.refusal("format", device.disk(), "--objects", str(objects), "--data", str(area), "--segment", "8189")
+        sizes = f"--objects {objects} --data {area} --segment 8189"
+        refusal = program.refusal("format", device.disk(), *sizes.split())
         life.formatted = device.position()
         if refusal:
             raise RuntimeError(f"format: {refusal}")

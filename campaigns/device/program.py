@@ -1,5 +1,4 @@
-"""motcar as a running program, the carousel that its replies tell of, and a receiver of its packets."""
-import binascii
+"""motcar as a running program, and the carousel that its replies are about."""
 import subprocess
 
 
@@ -119,26 +118,3 @@ class Commands:
         most = [3_000, 20_000, self.longest]
         size = min(self.longest, choices.choice(self.SIZES + [choices.randint(1, it) for it in most]))
         return body_line(word, name, choices.randbytes(size))
-
-
-def checked(bytes_):
-    """The bytes in front of a checksum, which has to be right."""
-    if binascii.crc_hqx(bytes_[:-2], 0xFFFF) ^ 0xFFFF != int.from_bytes(bytes_[-2:], "big"):
-        raise ValueError("a wrong checksum")
-    return bytes_[:-2]
-
-
-def received(text):
-    """The bodies by transport id, from the replies to `turn`: the groups of type 4, whose segments come in order."""
-    group, bodies = b"", {}
-    for line in text.splitlines():
-        packet = checked(bytes.fromhex(line.split()[1].decode()))
-        if packet[0] & 8:
-            group = b""
-        group += packet[3 : 3 + (packet[2] & 0x7F)]
-        if packet[0] & 4:
-            whole = checked(group)
-            if whole[0] & 15 == 4:
-                number = int.from_bytes(whole[5:7], "big")
-                bodies[number] = bodies.get(number, b"") + whole[9:]
-    return bodies

@@ -100,5 +100,6 @@ def mend(system, loop):
     if system.kind == "ext4":
         return run("e2fsck", "-fy", loop, is_checked=False).returncode
     if system.kind == "xfs":
-        return run("xfs_repair", loop, is_checked=False).returncode and run("xfs_repair", "-L", loop, is_checked=False).returncode
+        mended = run("xfs_repair", loop, is_checked=False)
+        return mended.returncode and run("xfs_repair", "-L", loop, is_checked=False).returncode
     return run("btrfs", "rescue", "super-recover", "-y", loop, is_checked=False).returncode

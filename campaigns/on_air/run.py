@@ -1,22 +1,26 @@
 #!/usr/bin/env python3
-"""A folder on air, as a station has it: `motcar play` writes packets into a pipe, and ODR-DabMux reads them in real time and writes an
-ETI file. On the way files change, and the program is killed, twice. Then the packets are read back out of the file and compared.
+"""A folder on air, as a station has it: `motcar play` writes packets into a pipe, and ODR-DabMux reads them in real
+time and writes an ETI file. On the way files change, and the program is killed, twice. Then the packets are read back
+out of the file and compared.
 
-    campaigns/on_air/run.py [--delays | --radio | --trial MINUTES] [PROGRAM]
+    campaigns/on_air/run.py [PROGRAM] [--seed N] [--delays | --radio | --trial MINUTES]
 
-PROGRAM is `motcar` by default; `odr-dabmux` has to be installed. It takes two and a half minutes, works in a temporary folder, and ends
-with status 1 if a packet is bad, missing or out of turn, or an object is not that of its file. With strace it compares, too,
-each packet in the file with what the program wrote.
+`odr-dabmux` has to be installed. It takes two and a half minutes, works in a temporary folder, and ends with status 1
+if a packet is bad, missing or out of turn, or an object is not that of its file. With strace it compares, too, each
+packet in the file with what the program wrote.
 
-With --radio the frames after the last change go on through ODR-DabMod to samples of a radio signal, and back through two radios that share no
-code, welle-cli and gr-dab; what each gathers is compared with the files, too. It says which of these programs are missing.
+With --radio the frames after the last change go on through ODR-DabMod to samples of a radio signal, and back through
+two radios that share no code, welle-cli and gr-dab; what each gathers is compared with the files, too. It says which
+of these programs are missing.
 
-With --delays it plays fifty logos of 20,000 bytes, which its disk has, for twelve and a half minutes. One changes every 30 seconds for ten minutes. It prints
-how long receivers wait: for the directory, from twenty random moments on; for a change, from the file to its first packet; and for each object,
-from one whole sending to the next.
+With --delays it plays fifty logos of 20,000 bytes, which its disk has, for twelve and a half minutes. One changes
+every 30 seconds for ten minutes. It prints how long receivers wait: for the directory, from twenty random moments on;
+for a change, from the file to its first packet; and for each object, from one whole sending to the next.
 
-With --trial three stations play for so many minutes (an hour says something) as `trial.py` tells: killed programs and multiplexers, and folders as
-they are met in service.
+With --trial three stations play for so many minutes (an hour says something) as `trial.py` has it: killed programs
+and multiplexers, and folders as they are met in service.
+
+The seed makes the bodies of files and which of them change, not the moments of packets.
 """
 import os
 import pathlib
@@ -29,12 +33,17 @@ import sys
 import tempfile
 import time
 
-sys.dont_write_bytecode = True
+here = pathlib.Path(__file__).resolve().parent
+sys.path[:0] = [str(here), str(here.parent)]
+
+import campaign
+
 import radio
 import trial
-from received import FRAME, LENGTH, checked, groups_of, jumps_in, objects_of, segments_in, sendings, timed_packets
+from received import FRAME, LENGTH, groups_of, is_right, jumps_in, objects_of, segments_in, sendings, timed_packets
+from tests import dab
 
-examples = pathlib.Path(__file__).resolve().parent.parent.parent / "examples"
+examples = campaign.top / "examples"
 ADDRESS = 7
 SECONDS = 150
 DELAYS = 750
@@ -53,7 +62,6 @@ class Station:
         self.folder, self.pipe, self.disk = room / "objects", room / "packets.pipe", room / "air.disk"
         self.folder.mkdir()
         os.mkfifo(self.pipe)
-        self.heard = []
         words = [program, "format", self.disk, "--address", str(ADDRESS), "--objects", "60", "--data", "2000000"]
         subprocess.run(words, check=True, stdout=subprocess.DEVNULL)
 
@@ -66,7 +74,8 @@ class Station:
         words = [self.program, "play", self.disk, self.pipe, "--folder", self.folder]
         if self.traced:
             trace = self.room / f"trace{self.starts}"
-            words = ["strace", "-f", "-qq", "-e", "trace=write", "-e", "signal=none", "-xx", "-s", "128", "-o", trace] + words
+            only = ["-e", "trace=write", "-e", "signal=none"]
+            words = ["strace", "-f", "-qq", *only, "-xx", "-s", "128", "-o", trace, *words]
         self.starts += 1
         self.log = open(self.room / "log", "ab")
         self.playing = subprocess.Popen(words, stdout=self.log, start_new_session=True)
@@ -81,13 +90,14 @@ class Station:
         for it in sorted(self.room.glob("trace*")):
             calls = re.findall(r'write\(\d+, "([^"]*)", (\d+)\) += (\d+)', it.read_text())
             packets = [bytes.fromhex(text.replace("\\x", "")) for text, _, _ in calls]
-            runs.append([it for it in packets if len(it) % 24 == 0 and checked(it)])
+            runs.append([it for it in packets if is_right(it)])
         return runs
 
 
 def multiplexer_of(station, seconds):
     """The multiplexer, which runs so long and writes an ETI file."""
-    configuration = (examples / "odr-dabmux.mux").read_text().replace("nbframes 0 ", f"nbframes {round(seconds / FRAME)} ")
+    frames = f"nbframes {round(seconds / FRAME)} "
+    configuration = (examples / "odr-dabmux.mux").read_text().replace("nbframes 0 ", frames)
     (station.room / "odr-dabmux.mux").write_text(configuration)
     with open(station.room / "multiplexer", "wb") as said:
         return subprocess.Popen(["odr-dabmux", "odr-dabmux.mux"], cwd=station.room, stdout=said, stderr=said)
@@ -129,12 +139,11 @@ def on_air(station, seconds):
     return contents
 
 
-def changing(station):
-    """Plays fifty logos that the disk has, of which one changes every 30 seconds for ten minutes. Each change: its name, and how many frames the file
-    had then."""
-    number = random.Random(1)
+def changing(station, dice):
+    """Plays fifty logos that the disk has, of which one changes every 30 seconds for ten minutes. Each change: its
+    name, and how many frames the file had then."""
     for logo in range(50):
-        station.file(f"logo{logo:02}.png", number.randbytes(20_000))
+        station.file(f"logo{logo:02}.png", dice.randbytes(20_000))
     with open(station.room / "log", "wb") as log:
         subprocess.run([station.program, "sync", station.disk, station.folder, "--at-once"], check=True, stdout=log)
     station.start()
@@ -142,8 +151,8 @@ def changing(station):
     begin, changes = time.monotonic(), []
     for change in range(20):
         time.sleep(max(0, begin + 60 + 30 * change - time.monotonic()))
-        name = f"logo{number.randrange(50):02}.png"
-        station.file(name, number.randbytes(20_000))
+        name = f"logo{dice.randrange(50):02}.png"
+        station.file(name, dice.randbytes(20_000))
         changes.append((name, (station.room / "on-air.eti").stat().st_size // LENGTH))
     multiplexer.wait(timeout=DELAYS + 60)
     station.kill()
@@ -153,38 +162,46 @@ def changing(station):
 def worst(what, waits):
     """Prints the mean and the worst of some waits in frames, and how many never ended."""
     ended = [it * FRAME for it in waits if it is not None]
-    print(f"{what}: mean {sum(ended) / max(1, len(ended)):.1f} s, worst {max(ended, default=0):.1f} s, of {len(waits)}; never: {len(waits) - len(ended)}")
+    mean, most, never = sum(ended) / max(1, len(ended)), max(ended, default=0), len(waits) - len(ended)
+    print(f"{what}: mean {mean:.1f} s, worst {most:.1f} s, of {len(waits)}; never: {never}")
 
 
-def delays(station):
-    """How long receivers wait for the directory, for a change and for each object."""
-    changes = changing(station)
-    packets = list(timed_packets((station.room / "on-air.eti").read_bytes(), ADDRESS))
-    segments, end = list(segments_in(packets)), packets[-1][0]
-    directories = [it[1:] for it in sendings(segments, 6)]
-    first = directories[0][1]
-    moments = [random.Random(it).randrange(first, end - round(60 / FRAME)) for it in range(20)]
-    worst("from tuning in to a whole directory", [next((ended - moment for begun, ended in directories if begun >= moment), None) for moment in moments])
-
-    told = re.findall(r"^replace (\S+) done object (\d+) ", (station.room / "log").read_text(), re.M)
+def waits_for_changes(changes, log, segments):
+    """Of each change, from the file to its first packet."""
+    told = re.findall(r"^replace (\S+) done object (\d+) ", log, re.M)
     begun = {}
-    for own, tid, _, _, frame, _ in segments:
-        if own == 4:
-            begun.setdefault(tid, frame)
-    waits = []
+    for it, frame, _ in segments:
+        if it.kind == dab.BODY:
+            begun.setdefault(it.tid, frame)
     for number, (name, frame) in enumerate(changes):
         later = sum(it[0] == name for it in changes[: number + 1]) - 1
         ids = [int(tid) for it, tid in told if it == name][later:]
-        waits.append(begun[ids[0]] - frame if ids and ids[0] in begun else None)
-    worst("from a changed file to its first packet", waits)
+        yield begun[ids[0]] - frame if ids and ids[0] in begun else None
 
-    names = {int(tid): name for name, tid in re.findall(r"^(?:put|replace) (\S+) done object (\d+) ", (station.room / "log").read_text(), re.M)}
+
+def longest_gaps(log, segments, first, end):
+    """Of each object, the longest time between the ends of two whole sendings."""
+    names = {int(tid): name for name, tid in re.findall(r"^(?:put|replace) (\S+) done object (\d+) ", log, re.M)}
     whole = {name: [first] for name in names.values()}
-    for tid, _, ended in sendings(segments, 4):
+    for tid, _, ended in sendings(segments, dab.BODY):
         whole[names[tid]].append(ended)
-    gaps = [max(b - a for a, b in zip(ends, [*ends[1:], end])) for ends in whole.values()]
-    worst("from one whole sending of an object to the next", gaps)
-    print("log:", *(station.room / "log").read_text().splitlines()[-25:], sep="\n  ")
+    return [max(b - a for a, b in zip(ends, [*ends[1:], end])) for ends in whole.values()]
+
+
+def delays(station, dice):
+    """How long receivers wait for the directory, for a change and for each object."""
+    changes = changing(station, dice)
+    packets = list(timed_packets((station.room / "on-air.eti").read_bytes(), ADDRESS))
+    segments, end = list(segments_in(packets)), packets[-1][0]
+    directories = [it[1:] for it in sendings(segments, dab.DIRECTORY)]
+    first = directories[0][1]
+    moments = [dice.randrange(first, end - round(60 / FRAME)) for _ in range(20)]
+    whole = [next((ended - moment for begun, ended in directories if begun >= moment), None) for moment in moments]
+    worst("from tuning in to a whole directory", whole)
+    log = (station.room / "log").read_text()
+    worst("from a changed file to its first packet", list(waits_for_changes(changes, log, segments)))
+    worst("from one whole sending of an object to the next", longest_gaps(log, segments, first, end))
+    print("log:", *log.splitlines()[-25:], sep="\n  ")
 
 
 def hear(station, expect):
@@ -204,7 +221,7 @@ def hear(station, expect):
         packets, bad = radio.packets_in(heard(), RATE, ADDRESS)
         objects = objects_of(packets)
         print(f"{name}: {len(packets)} packets, {len(objects)} objects received whole")
-        expect(f"{name}: packets with a wrong checksum", bad)
+        expect(f"{name}: packets that are wrong", bad)
         expect(f"{name}: objects that are no file's", sum(wanted.get(it) != body for it, body in objects))
         expect(f"{name}: files that did not come", sum((it, body) not in objects for it, body in wanted.items()))
 
@@ -214,11 +231,11 @@ def compare(station, seconds, by_radio, expect):
     contents = on_air(station, seconds)
     packets = [packet for _, packet in timed_packets((station.room / "on-air.eti").read_bytes(), ADDRESS)]
     print(f"packets on air in {seconds} seconds: {len(packets)}, with {station.starts} starts of the program")
-    expect("packets with a wrong checksum", sum(checked(it) is None for it in packets))
+    expect("packets that are wrong", sum(not is_right(it) for it in packets))
     groups = list(groups_of(packets))
     print(f"data groups: {len(groups)}")
-    # A start begins with a first packet: the group before it may have been broken off by the kill, and is then not whole.
-    expect("data groups with a wrong checksum", sum(group is None for _, group in groups))
+    # A start begins with a first packet: so the group before it, which the kill may have broken off, is none of these.
+    expect("data groups that are not whole", sum(segment is None for _, _, segment in groups))
     expect("jumps of the continuity index beside those at a start", max(0, jumps_in(packets) - station.starts + 1))
     objects = objects_of(packets)
     print(f"objects received whole: {len(objects)}")
@@ -226,16 +243,23 @@ def compare(station, seconds, by_radio, expect):
     last = dict(objects[-3 * len(list(station.folder.iterdir())) :])
     wanted = {it.name: it.read_bytes() for it in station.folder.iterdir()}
     expect("files that are not on air at the end", sum(last.get(name) != body for name, body in wanted.items()))
-    expect("contents of files that were never on air", sum((name, body) not in objects for name in contents for body in contents[name]))
-    runs = station.written()
-    if runs:
-        written = [packet for run in runs for packet in run]
-        expect("packets that differ from what was written", sum(a != b for a, b in zip(packets, written)) + max(0, len(packets) - len(written)))
-        print(f"packets written and still in the pipe: {len(written) - len(packets)}")
-        expect("jumps of the continuity index within a start", sum(jumps_in(run) for run in runs))
+    never = sum((name, body) not in objects for name in contents for body in contents[name])
+    expect("contents of files that were never on air", never)
+    compare_written(station.written(), packets, expect)
     if by_radio:
         hear(station, expect)
     print("log:", *(station.room / "log").read_text().splitlines(), sep="\n  ")
+
+
+def compare_written(runs, packets, expect):
+    """Compares the packets on air with those that each start wrote, if that was traced."""
+    if not runs:
+        return
+    written = [packet for run in runs for packet in run]
+    differing = sum(a != b for a, b in zip(packets, written)) + max(0, len(packets) - len(written))
+    expect("packets that differ from what was written", differing)
+    print(f"packets written and still in the pipe: {len(written) - len(packets)}")
+    expect("jumps of the continuity index within a start", sum(jumps_in(run) for run in runs))
 
 
 class Faults:
@@ -251,22 +275,24 @@ class Faults:
 
 
 def main():
-    words, faults = sys.argv[1:], Faults()
-    mode = words.pop(0) if words and words[0].startswith("--") else ""
-    minutes = int(words.pop(0)) if mode == "--trial" else 0
-    program = shutil.which(words[0] if words else "motcar")
-    if mode not in ("", "--delays", "--radio", "--trial") or not program or not shutil.which("odr-dabmux"):
-        sys.exit("usage: campaigns/on_air/run.py [--delays | --radio | --trial MINUTES] [PROGRAM]; motcar, or PROGRAM, and odr-dabmux have to be installed")
-    program = str(pathlib.Path(program).resolve())
+    words, faults = campaign.words(__doc__), Faults()
+    way = words.add_mutually_exclusive_group()
+    way.add_argument("--delays", action="store_true", help="how long receivers wait (12.5 minutes)")
+    way.add_argument("--radio", action="store_true", help="on to a radio signal, and back (4 minutes)")
+    way.add_argument("--trial", type=int, metavar="MINUTES", help="three stations in service (9 at least)")
+    options = campaign.given(words)
+    if not shutil.which("odr-dabmux"):
+        sys.exit("odr-dabmux is not installed")
     with tempfile.TemporaryDirectory() as name:
         room = pathlib.Path(name)
-        if mode == "--trial":
-            trial.trial(room, program, (examples / "odr-dabmux.mux").read_text(), minutes, faults.expect)
-        elif mode == "--delays":
-            delays(Station(room, program, False))
+        if options.trial:
+            trial.trial(room, options, (examples / "odr-dabmux.mux").read_text(), faults.expect)
+        elif options.delays:
+            delays(Station(room, options.program, False), random.Random(options.seed))
         else:
-            compare(Station(room, program, True), SECONDS + RADIO * (mode == "--radio"), mode == "--radio", faults.expect)
-    sys.exit(1 if faults.found else 0)
+            seconds = SECONDS + RADIO * options.radio
+            compare(Station(room, options.program, True), seconds, options.radio, faults.expect)
+    return 1 if faults.found else 0
 
 
-main()
+sys.exit(main())

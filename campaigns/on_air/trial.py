@@ -1,10 +1,10 @@
-"""A year of service in an hour, for `campaigns/on_air/run.py --trial MINUTES`: three stations play into one multiplexer in real time, each of them restarted
-as a supervisor does. Programs and multiplexer are killed, files change, and the folders meet what folders meet in service. Each file and each line
-is kept, so that whatever comes on air can be compared with what was given.
+"""A year of service in an hour, for `campaigns/on_air/run.py --trial MINUTES`: three stations play into one
+multiplexer in real time, each of them restarted as a supervisor does. Programs and multiplexer are killed, files
+change, and the folders meet what folders meet in service. Each file and each line is kept, so that whatever comes on
+air can be compared with what was given.
 """
 import mmap
 import os
-import pathlib
 import random
 import re
 import shutil
@@ -13,29 +13,43 @@ import subprocess
 import threading
 import time
 
-from received import FRAME, LENGTH, checked, groups_of, jumps_in, numbered_objects, timed_packets
+from received import FRAME, LENGTH, groups_of, is_right, jumps_in, numbered_objects, timed_packets
 
-# What each station is: the name, the address, the bytes of a packet, the rate of its sub-channel, its type, and how many files it begins with.
-STATIONS = (("logos", 7, 96, 32, "packet", 50), ("guide", 9, 24, 8, "packet", 4), ("sports", 11, 72, 48, "enhancedpacket", 12))
+# What each station is: the name, the address, the bytes of a packet, the rate of its sub-channel, its type, and how
+# many files it begins with.
+STATIONS = (("logos", 7, 96, 32, "packet", 50), ("guide", 9, 24, 8, "packet", 4),
+            ("sports", 11, 72, 48, "enhancedpacket", 12))
 # What a program that ends waits for before it is started again.
 PAUSE = 1
+# How often it is looked at how much memory it has.
+LOOK = 0.5
+
+
+def peak(process):
+    """The most memory that a program had so far, in kB, by the system's own account of it; 0 once it has ended. (What
+    `wait4` says of a program begins with what its parent had when it was started.)"""
+    try:
+        with open(f"/proc/{process}/status") as status:
+            return next((int(it.split()[1]) for it in status if it.startswith("VmHWM:")), 0)
+    except (FileNotFoundError, ProcessLookupError):
+        return 0
 
 
 class Station:
     """A disk, a folder, a pipe, and the program that plays, which is started again whenever it ends."""
 
-    def __init__(self, room, program, number):
+    def __init__(self, room, program, number, seed):
         self.name, self.address, self.length, self.rate, self.type, self.files = STATIONS[number]
         self.number, self.program, self.room = number, program, room / self.name
-        self.folder, self.lines, self.pipe, self.status = (self.room / it for it in ("objects", "lines", "packets.pipe", "status.prom"))
+        self.folder, self.lines, self.pipe = (self.room / it for it in ("objects", "lines", "packets.pipe"))
         self.starts, self.ends, self.contents, self.changes, self.memory = [], [], {}, [], 0
         self.room.mkdir()
         self.folder.mkdir()
         self.lines.mkdir()
         os.mkfifo(self.pipe)
-        subprocess.run([program, "format", self.room / "air.disk", "--address", str(self.address), "--objects", "80", "--data", "3000000",
-                        "--packet", str(self.length)], check=True, stdout=subprocess.DEVNULL)
-        self.random = random.Random(number)
+        words = f"--address {self.address} --objects 80 --data 3000000 --packet {self.length}".split()
+        subprocess.run([program, "format", self.room / "air.disk", *words], check=True, stdout=subprocess.DEVNULL)
+        self.random = random.Random(f"{seed} {self.name}")
         for it in range(self.files):
             self.file(f"logo{it:02}.png", self.body())
         self.stopping, self.thread = False, threading.Thread(target=self.supervise)
@@ -58,15 +72,23 @@ class Station:
         os.rename(self.room / "line", self.lines / f"{number:04}.lines")
 
     def supervise(self):
-        words = [self.program, "play", "air.disk", "packets.pipe", "--folder", "objects", "--lines", "lines", "--status", "status.prom"]
+        options = {"--folder": "objects", "--lines": "lines", "--status": "status.prom"}
+        words = [self.program, "play", "air.disk", "packets.pipe", *(it for option in options.items() for it in option)]
         with open(self.room / "log", "ab") as log:
             while not self.stopping:
                 self.starts.append(time.time())
                 self.playing = subprocess.Popen(words, cwd=self.room, stdout=log, stderr=log)
-                _, status, used = os.wait4(self.playing.pid, 0)
-                self.memory = max(self.memory, used.ru_maxrss)
-                self.ends.append((time.time(), os.waitstatus_to_exitcode(status)))
+                self.ends.append((time.time(), self.watched(self.playing)))
                 time.sleep(PAUSE)
+
+    def watched(self, playing):
+        """How a program ended, whose memory is looked at until then."""
+        while True:
+            self.memory = max(self.memory, peak(playing.pid))
+            try:
+                return playing.wait(LOOK)
+            except subprocess.TimeoutExpired:
+                pass
 
     def kill(self, number=signal.SIGKILL):
         self.playing.send_signal(number)
@@ -89,9 +111,10 @@ class Multiplexer:
         return head + "\n".join(self.of(station, body) for station in self.stations) + tail
 
     def of(self, station, text):
-        for old, new in (("logos", station.name), ("0xe1400001", f"0xe140000{station.number + 1}"), ("id 1\n", f"id {station.number + 1}\n"),
-                         ("type packet", f"type {station.type}"), ("bitrate 32 ", f"bitrate {station.rate} "),
-                         ("packets.pipe", f"{station.name}/packets.pipe"), ("address 7 ", f"address {station.address} ")):
+        for old, new in (("logos", station.name), ("0xe1400001", f"0xe140000{station.number + 1}"),
+                         ("id 1\n", f"id {station.number + 1}\n"), ("type packet", f"type {station.type}"),
+                         ("bitrate 32 ", f"bitrate {station.rate} "), ("packets.pipe", f"{station.name}/packets.pipe"),
+                         ("address 7 ", f"address {station.address} ")):
             text = text.replace(old, new)
         return text
 
@@ -165,7 +188,9 @@ def switched_by_a_link(station):
 
 
 def strange_names(station):
-    made = [station.folder / it for it in ("two words.png", ".hidden.png", "x" * 240 + ".png", "picture.webp", "caf\u00e9.png", "line\nend.png", "empty.png")]
+    names = ("two words.png", ".hidden.png", "x" * 240 + ".png", "picture.webp", "caf\u00e9.png", "line\nend.png",
+             "empty.png")
+    made = [station.folder / it for it in names]
     for it in made:
         it.write_bytes(b"" if it.name == "empty.png" else station.random.randbytes(500))
         station.given(it.name, it.read_bytes())
@@ -206,33 +231,36 @@ def second_programs(station):
     """One on the same disk, and one with a disk of its own into the same pipe: neither may write a packet."""
     subprocess.run([station.program, "format", station.room / "second.disk"], capture_output=True, check=True)
     for disk in ("air.disk", "second.disk"):
-        done = subprocess.run([station.program, "play", disk, "packets.pipe"], cwd=station.room, capture_output=True, timeout=60)
+        words = [station.program, "play", disk, "packets.pipe"]
+        done = subprocess.run(words, cwd=station.room, capture_output=True, timeout=60)
         with open(station.room / "log", "ab") as log:
             log.write(b"second program: status %d, %s\n" % (done.returncode, done.stderr.replace(b"\n", b" / ")))
     (station.room / "second.disk").unlink()
 
 
-HOSTILE = (mounted_late, copied_slowly, strange_names, unmounted, rewritten_in_place, switched_by_a_link, too_long, withdrawn_and_put, second_programs)
+HOSTILE = (mounted_late, copied_slowly, strange_names, unmounted, rewritten_in_place, switched_by_a_link, too_long,
+           withdrawn_and_put, second_programs)
 
 
 def live(stations, multiplexer, minutes):
-    """What happens, minute by minute: a logo changes each half minute; a program is killed each five, the multiplexer each seven, once for a minute."""
+    """What happens, minute by minute: a logo changes each half minute; a program is killed each five, the multiplexer
+    each seven, once for a minute. The last eight minutes are quiet."""
     begin, hostile = time.monotonic(), []
     logos, guide, sports = stations
     for half in range(2 * minutes):
         time.sleep(max(0, begin + 30 * half - time.monotonic()))
-        quiet = half >= 2 * minutes - 16
-        if not quiet:
-            logos.file(f"logo{logos.random.randrange(50):02}.png", logos.body())
-        if half % 10 == 5 and not quiet:
-            station = stations[half // 10 % 3]
-            station.kill(signal.SIGKILL if half % 20 == 5 else signal.SIGTERM)
-        if half % 14 == 9 and not quiet:
+        if half >= 2 * minutes - 16:
+            continue
+        logos.file(f"logo{logos.random.randrange(50):02}.png", logos.body())
+        if half % 10 == 5:
+            stations[half // 10 % 3].kill(signal.SIGKILL if half % 20 == 5 else signal.SIGTERM)
+        if half % 14 == 9:
             multiplexer.kill()
             time.sleep(60 if half == 23 else 5)
             multiplexer.start()
-        if half % 4 == 1 and not quiet and not any(it.is_alive() for it in hostile):
-            hostile = [threading.Thread(target=HOSTILE[half // 4 % len(HOSTILE)], args=(sports,)), threading.Thread(target=by_lines, args=(guide,))]
+        if half % 4 == 1 and not any(it.is_alive() for it in hostile):
+            meets = HOSTILE[half // 4 % len(HOSTILE)]
+            hostile = [threading.Thread(target=meets, args=(sports,)), threading.Thread(target=by_lines, args=(guide,))]
             for it in hostile:
                 it.start()
     time.sleep(max(0, begin + 60 * minutes - time.monotonic()))
@@ -240,59 +268,74 @@ def live(stations, multiplexer, minutes):
         it.join()
 
 
-def judge(station, multiplexer, expect):
-    """Reads back what a station's sub-channel carried, in each file of the multiplexer."""
-    packets_all, bad, broken, jumps, strange, heard, waits = 0, 0, 0, 0, [], {}, []
-    last = {}
-    for started, eti in multiplexer.files():
-        timed = list(timed_packets(eti, station.address, station.number))
+class Heard:
+    """What a station's sub-channel carried, in each file of the multiplexer."""
+
+    def __init__(self, station, multiplexer):
+        self.station, self.packets, self.bad, self.broken, self.jumps = station, 0, 0, 0, 0
+        self.strange, self.heard, self.last = [], {}, {}
+        for started, eti in multiplexer.files():
+            self.hear(started, eti)
+
+    def hear(self, started, eti):
+        timed = list(timed_packets(eti, self.station.address, self.station.number))
         # (what a multiplexer's file begins with may be the rest of a group, whose beginning was taken before)
         timed = timed[next((it for it, (_, packet) in enumerate(timed) if packet[0] & 8), len(timed)) :]
         packets = [packet for _, packet in timed]
         ended = started + len(eti) // LENGTH * FRAME
-        starts = sum(started < it < ended for it in station.starts)
-        packets_all += len(packets)
-        bad += sum(checked(it) is None for it in packets)
-        broken += sum(group is None for _, group in groups_of(packets))
-        jumps += max(0, jumps_in(packets) - starts)
+        self.packets += len(packets)
+        self.bad += sum(not is_right(it) for it in packets)
+        self.broken += sum(segment is None for _, _, segment in groups_of(packets))
+        self.jumps += max(0, jumps_in(packets) - sum(started < it < ended for it in self.station.starts))
         for number, name, body in numbered_objects(packets):
-            moment = started + timed[number][0] * FRAME
-            if body not in station.contents.get(name, ()):
-                strange.append((name, len(body)))
-            heard.setdefault((name, body), moment)
-            last[name] = body
-    first = {}
-    for given, name, body in station.changes:
-        first.setdefault((name, body), given)
-    for (name, body), given in first.items():
-        if (name, body) in heard and given > station.starts[0] + 60:
-            waits.append(heard[name, body] - given)
-    print(f"{station.name}: {packets_all} packets of {station.length} bytes, {len(station.starts)} starts, {len(heard)} contents of files whole on air, "
-          f"at most {station.memory} kB of memory")
+            if body not in self.station.contents.get(name, ()):
+                self.strange.append((name, len(body)))
+            self.heard.setdefault((name, body), started + timed[number][0] * FRAME)
+            self.last[name] = body
+
+    def waits(self):
+        """How long each change took to the end of its body on air."""
+        first = {}
+        for given, name, body in self.station.changes:
+            first.setdefault((name, body), given)
+        begin = self.station.starts[0] + 60
+        return [self.heard[it] - given for it, given in first.items() if it in self.heard and given > begin]
+
+
+def judge(station, multiplexer, expect):
+    """Compares what was heard of a station with what it was given."""
+    name, heard = station.name, Heard(station, multiplexer)
+    waits = heard.waits()
+    print(f"{name}: {heard.packets} packets of {station.length} bytes, {len(station.starts)} starts, "
+          f"{len(heard.heard)} contents of files whole on air, at most {station.memory} kB of memory")
     if waits:
-        print(f"{station.name}: from a change to the end of its body on air: mean {sum(waits) / len(waits):.0f} s, worst {max(waits):.0f} s, of {len(waits)}")
-    expect(f"{station.name}: packets with a wrong checksum", bad)
-    expect(f"{station.name}: data groups with a wrong checksum", broken)
-    expect(f"{station.name}: jumps of the continuity index beside those at a start", jumps)
-    expect(f"{station.name}: objects that are no file's ({strange[:5]})", len(strange))
+        mean = sum(waits) / len(waits)
+        print(f"{name}: from a change to the end of its body on air: mean {mean:.0f} s, worst {max(waits):.0f} s, "
+              f"of {len(waits)}")
+    expect(f"{name}: packets that are wrong", heard.bad)
+    expect(f"{name}: data groups that are not whole", heard.broken)
+    expect(f"{name}: jumps of the continuity index beside those at a start", heard.jumps)
+    expect(f"{name}: objects that are no file's ({heard.strange[:5]})", len(heard.strange))
     wanted = {it.name: it.read_bytes() for it in station.folder.iterdir()}
-    expect(f"{station.name}: files that are not on air at the end", sum(last.get(name) != body for name, body in wanted.items()))
+    missing = sum(heard.last.get(it) != body for it, body in wanted.items())
+    expect(f"{name}: files that are not on air at the end", missing)
     status = [status for _, status in station.ends]
-    print(f"{station.name}: the program ended with {({it: status.count(it) for it in sorted(set(status))})}")
-    words = [" ".join(re.sub(r"\d+", "N", it).split()[:1]) for it in (station.room / "log").read_text(errors="replace").splitlines()]
-    print(f"{station.name}: lines of the log: {({it: words.count(it) for it in sorted(set(words))})}")
+    print(f"{name}: the program ended with {({it: status.count(it) for it in sorted(set(status))})}")
+    log = (station.room / "log").read_text(errors="replace").splitlines()
+    words = [" ".join(re.sub(r"\d+", "N", it).split()[:1]) for it in log]
+    print(f"{name}: lines of the log: {({it: words.count(it) for it in sorted(set(words))})}")
 
 
-def trial(room, program, plain, minutes, expect):
-    stations = [Station(room, program, it) for it in range(len(STATIONS))]
+def trial(room, options, plain, expect):
+    stations = [Station(room, options.program, it, options.seed) for it in range(len(STATIONS))]
     multiplexer = Multiplexer(room, stations, plain)
     for it in stations:
         it.thread.start()
     multiplexer.start()
-    live(stations, multiplexer, minutes)
+    live(stations, multiplexer, options.trial)
     multiplexer.kill()
     for it in stations:
         it.end()
-    print(f"{minutes} minutes, {len(multiplexer.starts)} starts of the multiplexer")
+    print(f"{options.trial} minutes, {len(multiplexer.starts)} starts of the multiplexer")
     for it in stations:
         judge(it, multiplexer, expect)
