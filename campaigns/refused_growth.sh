@@ -1,9 +1,15 @@
 #!/bin/sh
 # Runs a test of a crate once for each refused request for memory, from the first to the Nth, and prints the runs that
 # fail. It takes the proved tests, which `rt test` in the crate's folder makes.
-# Usage: campaigns/refused_growth.sh CRATE TEST N
+#
+#     campaigns/refused_growth.sh CRATE TEST N
 set -u
 cd "$(dirname "$0")/.." || exit 2
+case "$# ${1:-}" in
+    "1 --help" | "1 -h") sed -n '2,/^set/s/^# \{0,1\}//p' campaigns/refused_growth.sh; exit 0 ;;
+    "3 "*) ;;
+    *) echo "usage: campaigns/refused_growth.sh CRATE TEST N" >&2; exit 2 ;;
+esac
 tests=crates/$1/out/$1_tests
 [ -x "$tests" ] || { echo "there is no $tests: run rt test in crates/$1"; exit 2; }
 room=$(mktemp -d) || exit 2
