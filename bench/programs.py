@@ -10,7 +10,8 @@ here = pathlib.Path(__file__).resolve().parent
 sys.path.insert(0, str(here.parent))
 from tests import program as built
 
-program = built.find()
+# (help is there without a program)
+program = "" if {"-h", "--help"} & set(sys.argv[1:]) else built.find()
 
 
 def words(page, rounds):
