@@ -73,7 +73,8 @@ class Command:
 
     def words(self):
         """Its options by name, each with what stands for its value, or nothing for one that takes none."""
-        return [(name, value.strip("<>"), help) for (name, _, value), help in ((it.partition(" "), help) for it, help in self.options)]
+        parted = ((it.partition(" "), help) for it, help in self.options)
+        return [(name, value.strip("<>"), help) for (name, _, value), help in parted]
 
 
 def commands():
@@ -94,32 +95,40 @@ def manual(version):
     notes = top.partition("Print help\n\n")[2]
     status = re.search(r"Exit status: ([\s\S]*)\.", notes)[1]
     done, refused, wrong = re.match(r"0 (.*), 1 (.*), 2 (.*)", " ".join(status.split())).groups()
-    page = f'.TH MOTCAR 1 "" "motcar {version}" "User Commands"\n.SH NAME\nmotcar \\- {roff(top[0].lower() + top.split(chr(10))[0][1:])}\n.SH SYNOPSIS\n.nf\n'
+    about = roff(top[0].lower() + top.split("\n")[0][1:])
+    page = f'.TH MOTCAR 1 "" "motcar {version}" "User Commands"\n.SH NAME\nmotcar \\- {about}\n.SH SYNOPSIS\n.nf\n'
     page += "".join(f".B {roff(it.usage)}\n" for it in all_commands)
-    page += (".fi\n.SH DESCRIPTION\nmotcar keeps a carousel of MOT objects (station logos, programme guides) on a disk, and plays it as packets of a "
-             "packet\\-mode sub\\-channel. Each change that it acknowledged survives a crash.\n.SH COMMANDS\n")
+    page += (".fi\n.SH DESCRIPTION\nmotcar keeps a carousel of MOT objects (station logos, programme guides) on a disk, and plays "
+             "it as packets of a packet\\-mode sub\\-channel. Each change that it acknowledged survives a crash.\n"
+             ".SH COMMANDS\n")
     for it in all_commands:
         page += f".SS {roff(it.usage)}\n{roff(it.about)}.\n{terms(it.arguments + it.options)}"
-    page += ".SH OPTIONS\n" + terms([("-h, --help", "Print the help of motcar, or of the command before it"),
-                                    ("-V, --version", "Print the version, the commit and the toolchain that proved it")])
+    options = [("-h, --help", "Print the help of motcar, or of the command before it"),
+               ("-V, --version", "Print the version, the commit and the toolchain that proved it")]
+    page += ".SH OPTIONS\n" + terms(options)
     page += ".SH EXIT STATUS\n" + terms([("0", done), ("1", refused), ("2", wrong)])
     return page + "".join(f".SH {title}\n{text.strip()}\n" for title, text in MANUAL.items())
 
 
 def bash():
     _, all_commands = commands()
-    text = "# Completions of motcar for bash.\n_motcar() {\n    local word=${COMP_WORDS[COMP_CWORD]} before=${COMP_WORDS[COMP_CWORD-1]} options=\n"
-    text += f'    if [ "$COMP_CWORD" -eq 1 ]; then\n        COMPREPLY=($(compgen -W "{" ".join(it.name for it in all_commands)} help --help --version" -- "$word"))\n'
+    names = " ".join(it.name for it in all_commands)
+    text = "# Completions of motcar for bash.\n_motcar() {\n"
+    text += "    local word=${COMP_WORDS[COMP_CWORD]} before=${COMP_WORDS[COMP_CWORD-1]} options=\n"
+    text += '    if [ "$COMP_CWORD" -eq 1 ]; then\n'
+    text += f'        COMPREPLY=($(compgen -W "{names} help --help --version" -- "$word"))\n'
     text += "        return\n    fi\n    case \"${COMP_WORDS[1]}\" in\n"
     for it in all_commands:
         text += f'        {it.name}) options="{" ".join([*(name for name, _, _ in it.words()), "--help"])}" ;;\n'
-    text += f'        help) options="{" ".join(it.name for it in all_commands)}" ;;\n    esac\n'
+    text += f'        help) options="{names}" ;;\n    esac\n'
     folders = sorted({name for it in all_commands for name, value, _ in it.words() if value == "DIR"})
     numbers = sorted({name for it in all_commands for name, value, _ in it.words() if value == "N"})
     text += f'    case "$before" in\n        {" | ".join(folders)}) COMPREPLY=($(compgen -d -- "$word")); return ;;\n'
     text += f'        {" | ".join(numbers)}) return ;;\n    esac\n'
-    text += '    case "${COMP_WORDS[1]} $word" in\n        "help "* | *" -"*) COMPREPLY=($(compgen -W "$options" -- "$word")) ;;\n'
-    return text + '        *) COMPREPLY=($(compgen -f -- "$word")) ;;\n    esac\n}\ncomplete -o filenames -F _motcar motcar\n'
+    text += '    case "${COMP_WORDS[1]} $word" in\n'
+    text += '        "help "* | *" -"*) COMPREPLY=($(compgen -W "$options" -- "$word")) ;;\n'
+    text += '        *) COMPREPLY=($(compgen -f -- "$word")) ;;\n    esac\n}\n'
+    return text + "complete -o filenames -F _motcar motcar\n"
 
 
 def zsh():
@@ -129,12 +138,17 @@ def zsh():
         return re.sub(r"([\[\]:'])", lambda it: "'\\''" if it[1] == "'" else "\\" + it[1], help)
 
     actions = {"DIR": "_files -/", "FILE": "_files", "N": " "}
-    text = "#compdef motcar\n# Completions of motcar for zsh.\n_motcar() {\n    if (( CURRENT == 2 )); then\n        local -a commands=(\n"
-    text += "".join(f"            '{it.name}:{quoted(it.about)}'\n" for it in all_commands) + "            'help:Print help'\n        )\n"
+    text = "#compdef motcar\n# Completions of motcar for zsh.\n_motcar() {\n"
+    text += "    if (( CURRENT == 2 )); then\n        local -a commands=(\n"
+    text += "".join(f"            '{it.name}:{quoted(it.about)}'\n" for it in all_commands)
+    text += "            'help:Print help'\n        )\n"
     text += "        _describe command commands\n        return\n    fi\n    case $words[2] in\n"
     for it in all_commands:
-        parts = [f"'{name}[{quoted(help)}]{f':{value}:{actions[value]}' if value else ''}'" for name, value, help in it.words()]
-        parts += [f"'{number}:{name.strip('<>')}:{'_files -/' if name == '<DIR>' else '_files'}'" for number, (name, _) in enumerate(it.arguments, 2)]
+        parts = []
+        for name, value, help in it.words():
+            parts.append(f"'{name}[{quoted(help)}]{f':{value}:{actions[value]}' if value else ''}'")
+        for number, (name, _) in enumerate(it.arguments, 2):
+            parts.append(f"'{number}:{name.strip('<>')}:{'_files -/' if name == '<DIR>' else '_files'}'")
         text += f"        {it.name}) _arguments {' '.join([*parts, chr(39) + '--help[Print help]' + chr(39)])} ;;\n"
     text += f"        help) _values command {' '.join(it.name for it in all_commands)} ;;\n"
     return text + "    esac\n}\n_motcar \"$@\"\n"

@@ -62,7 +62,8 @@ gates_of image = has_clean_gates (geometry_of image) image
 # --- The model: what an image stands for.
 
 Geometry = collections.namedtuple("Geometry", "objects segment address packet area")
-Record = collections.namedtuple("Record", "kind period directory cursor tid version type subtype start length name mime")
+Record = collections.namedtuple(
+    "Record", "kind period directory cursor tid version type subtype start length name mime")
 Standing = collections.namedtuple("Standing", "geometry period directory cursor records")
 
 
@@ -75,7 +76,7 @@ def number(bytes_, at, count):
 
 
 def geometry_of(image):
-    found = Geometry(number(image, 16, 2), number(image, 18, 2), number(image, 20, 2), number(image, 22, 2), number(image, 24, 4))
+    found = Geometry(*(number(image, at, 2) for at in (16, 18, 20, 22)), number(image, 24, 4))
     is_valid = (1 <= found.objects <= 250 and 64 <= found.segment <= 8189 and 1 <= found.address <= 1023
                 and found.packet in (24, 48, 72, 96) and 1 <= found.area <= 268_435_456)
     if image[:8] != MAGIC or not is_valid or len(image) < 2112 + 1024 * found.objects + found.area:
@@ -116,14 +117,16 @@ def record_of(geometry, layout, slot):
     tid = number(slot, 9, 2)
     if kind == 3:
         return Record(kind, *numbers, tid, *[None] * 7) if tid else None
-    version, type_, subtype, start, length = slot[11], slot[12], number(slot, 13, 2), number(slot, 15, 4), number(slot, 19, 4)
+    version, type_, subtype = slot[11], slot[12], number(slot, 13, 2)
+    start, length = number(slot, 15, 4), number(slot, 19, 4)
     name = slot[24 : 24 + slot[23]]
     mime_at = 25 + slot[23]
     if mime_at > len(slot):
         return None
     mime = slot[mime_at : mime_at + slot[mime_at - 1]]
     is_right = (tid and type_ <= 63 and subtype <= 511 and 1 <= length <= 262_144 and start + length <= geometry.area
-                and len(name) == slot[23] and is_name(name, layout) and len(mime) == slot[mime_at - 1] and is_mime(mime))
+                and len(name) == slot[23] and is_name(name, layout)
+                and len(mime) == slot[mime_at - 1] and is_mime(mime))
     return Record(kind, *numbers, tid, version, type_, subtype, start, length, name, mime) if is_right else None
 
 
@@ -178,7 +181,8 @@ def big(value, count):
 
 
 def slot(kind, directory, cursor=None, period=0, rest=b"", gate=OPEN):
-    return bytes([gate, kind]) + big(period, 3) + big(directory, 2) + big(directory if cursor is None else cursor, 2) + rest
+    cursor = directory if cursor is None else cursor
+    return bytes([gate, kind]) + big(period, 3) + big(directory, 2) + big(cursor, 2) + rest
 
 
 def nothing(directory, **others):
@@ -201,7 +205,8 @@ def in_layout_two(slots):
 
 
 def disk(*halves, objects=2, segment=64, address=1, packet=24, area=16, size=256, selector=0, body=None):
-    head = MAGIC + bytes([selector]) + bytes(7) + b"".join(big(it, 2) for it in (objects, segment, address, packet)) + big(area, 4)
+    numbers = b"".join(big(it, 2) for it in (objects, segment, address, packet)) + big(area, 4)
+    head = MAGIC + bytes([selector]) + bytes(7) + numbers
     head += bytes(HEAD - len(head))
     for half in (*halves, [], [])[:2]:
         head += b"".join(it + bytes(size - len(it)) for it in half).ljust(512 * objects + 1024, b"\0")
@@ -286,7 +291,8 @@ def random_image(dice):
             records.append(removed(tids.pop(), taken))
         elif what == "put":
             place = dice.randrange(3)
-            records.append(put("aéb"[place].encode(), taken - 1, 4 * place + dice.choice([0, 0, 0, 4]), dice.randint(1, 4)))
+            start = 4 * place + dice.choice([0, 0, 0, 4])
+            records.append(put("aéb"[place].encode(), taken - 1, start, dice.randint(1, 4)))
             tids.append(taken - 1)
         else:
             records.append(nothing(taken, period=dice.randrange(100)))
@@ -347,7 +353,7 @@ def outcome_text(image):
         return f"Err {refused}"
     area_at = 2112 + 1024 * found.geometry.objects
     geometry = found.geometry
-    numbers = (geometry.objects, geometry.segment, geometry.address, geometry.packet, geometry.area, found.period, found.directory, found.cursor)
+    numbers = (*geometry, found.period, found.directory, found.cursor)
     objects = list_text(object_text(it, image, area_at) for it in found.records)
     extents = list_text(f"({it.start},{KEPT}{it.length})" for it in found.records)
     rest = argument(image[area_at + geometry.area :])
@@ -355,7 +361,8 @@ def outcome_text(image):
 
 
 def filled(text):
-    lines = textwrap.fill(text, 100, initial_indent="    ", subsequent_indent="    ", break_on_hyphens=False, break_long_words=False)
+    indents = {"initial_indent": "    ", "subsequent_indent": "    "}
+    lines = textwrap.fill(text, 100, **indents, break_on_hyphens=False, break_long_words=False)
     return lines.replace(KEPT, " ")
 
 
