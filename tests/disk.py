@@ -1,6 +1,6 @@
 """Images of disks, written from section 7 of docs/FORMATS.md: slots, halves and heads of both layouts.
 
-(`tools/images` has a writer of its own, which stays independent of this one: what it writes, the prover computes.)
+(`tools/images.py` has a writer of its own, which stays independent of this one: what it writes, the prover computes.)
 """
 OPEN = 0xA5
 SLOT = {1: 256, 2: 512}
