@@ -173,7 +173,7 @@ class Memory(AirCase):
         path = self.room / "refuse.so"
         if not shutil.which("cc") or is_tried(self.program):
             return None
-        subprocess.run(["cc", "-O2", "-shared", "-fPIC", "-o", path, top / "tools/refuse.c", "-ldl"], check=True)
+        subprocess.run(["cc", "-O2", "-shared", "-fPIC", "-o", path, top / "campaigns/refuse.c", "-ldl"], check=True)
         return path
 
     def test_each_request(self):
