@@ -1,5 +1,6 @@
 """Files of lines that `play --lines` answers between packets: in which order, which are left, and what the log says."""
 import os
+import re
 import shutil
 import subprocess
 
@@ -154,6 +155,17 @@ class Pace(LineFiles):
         status, told, _ = self.answered("--every", "1", "--turns", "6", disk=disk)
         self.expect("lines of many files", (0, 200), (status, told.count(b"done object")))
         self.expect("in the order of their names", names, list(self.objects(disk)))
+
+    def test_the_order_of_names_of_many_reads(self):
+        """Names that take more reads of a folder than one call makes: none is answered before all of them are known."""
+        names = [f"{number:04}" for number in range(2_000)]
+        for name in [*names[1_000:], *reversed(names[:1_000])]:
+            (self.asked / f"{name}{'x' * 40}.lines").write_bytes(b"withdraw none\n")
+        player = self.playing()
+        until(lambda: not self.left())
+        player.kill()
+        answers = [re.match(r"lines (\d+)x+\.lines:1 ", it) for it in player.lines()]
+        self.expect("in the order of their names", names, [it[1] for it in answers if it])
 
     def beside_many(self, text):
         count = len(self.turns(self.place, 1))

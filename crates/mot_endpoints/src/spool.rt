@@ -94,7 +94,8 @@ impl<'a, T: Files<File = File>, W: Write + Drop> Spool<'a, T, W> {
 
     /// Opens the next file of lines, if there is one among the names that are looked at.
     fn open_next(&mut self) -> io::Result<()> {
-        if self.names.is_empty() && !self.list()? {
+        let is_listing = self.names.is_empty() || self.listing.is_some();
+        if is_listing && !self.list()? {
             return Ok(());
         }
         for _ in 0..LOOKS {
