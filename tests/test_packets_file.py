@@ -8,6 +8,7 @@ from .air import AirCase, needs_strace, traced, until, without_ids
 from .program import refused, run
 
 LINK = "a link, or not a regular file"
+OF_DISK = "the name of a file of the disk"
 
 
 def about(path, why):
@@ -158,6 +159,31 @@ class PacketsFile(AirCase):
         beside = self.disk("packets/file.new")
         self.expect("nor is it beside one", about(self.new, "the disk itself"), self.write("1", beside))
         self.expect("a disk stays", True, b"\nclean\n" in self.motcar("check", beside)[1])
+
+    def test_names_of_files_of_the_disk(self):
+        """With a file of such a name the disk would not be opened again; in another folder it is any file."""
+        (self.room / "link").symlink_to(self.room)
+        names = [f"disk{end}" for end in ("-journal", "-wal", "-shm")]
+        before = self.held()
+        for name in names:
+            for path in (self.room / name, name, f"packets/../{name}", self.room / "link" / name):
+                for turns in ((), ("--turns", "1")):
+                    ended = self.motcar("play", self.place, path, *turns)
+                    self.expect(f"{path} {turns} is no place for packets", about(path, OF_DISK), ended)
+        self.expect("and nothing is written", before, self.held())
+        for path in (*[f"packets/{it}" for it in names], "disk-journals", "a-wal", "isk-shm"):
+            self.expect(f"{path} is one", 0, self.motcar("play", self.place, path, "--turns", "1")[0])
+        self.expect("the disk opens again", 0, self.motcar("check", self.place)[0])
+
+    def held(self):
+        return {it.name: it.read_bytes() for it in self.room.iterdir() if it.is_file()}
+
+    def test_a_path_without_a_name(self):
+        before = self.held()
+        for turns in ((), ("--turns", "1")):
+            ended = self.motcar("play", self.place, "", *turns)
+            self.expect(f"no name {turns}", about("", "No such file or directory"), ended)
+        self.expect("nothing is made", before, self.held())
 
 
 class WithFolder(AirCase):

@@ -145,13 +145,17 @@ class Places(Status):
         os.mkfifo(self.room / "pipe")
         others = "/dev/null", folder, link, none, self.room / "pipe"
         rows = [("nowhere/status", "No such file or directory"), (self.place, "the disk itself"),
-                ("disk", "the disk itself"), *[(it, "a link, or not a regular file") for it in others]]
+                ("disk", "the disk itself"), *[(it, "a link, or not a regular file") for it in others],
+                *[(f"{it}{end}", "the name of a file of the disk") for it in (self.place, "disk", "folder/../disk")
+                  for end in ("-journal", "-wal", "-shm")]]
         for path, why in rows:
             wanted = 0, [f"<4>status {path} refused 23 WriteFault: {why}"]
             self.expect(f"a status that can't be written: {path}", wanted, self.told(to=path))
         self.expect("leaves the disk", before, self.place.read_bytes())
         self.expect("and links", ("status", "nothing"), (os.readlink(link), os.readlink(none)))
-        self.expect("and makes nothing", False, (self.room / "nothing").exists())
+        made = [it for it in ("nothing", "disk-journal", "disk-shm") if (self.room / it).exists()]
+        self.expect("and makes nothing", [], made)
+        self.expect("and the disk opens again", 0, self.motcar("check", self.place)[0])
 
     def test_what_stands_beside_it(self):
         """What a killed run left is written over; what is no regular file stays."""

@@ -14,6 +14,9 @@ use std::rt::Files;
 /// The end of the name of the file that is written.
 pub const SUFFIX: &str = ".new";
 
+/// What the names of files that the disk's store may have beside the disk have behind its name.
+const STORE_ENDS: [&str; 3] = ["-journal", "-wal", "-shm"];
+
 /// A new file of `PATH.new`, which no other program of ours writes.
 #[derive(Drop)]
 pub struct NewFile<'a> {
@@ -152,6 +155,28 @@ pub(crate) fn folder_of(path: &str) -> &str {
 pub(crate) fn is_file_at(rt: &HostRuntime, path: &str, device: u64, number: u64) -> bool {
     match rt.metadata(path) {
         Ok(found) => found.dev() == device && found.ino() == number,
+        Err(_) => false,
+    }
+}
+
+/// Whether the path names a file that the disk's store may have beside the disk, there or not: with
+/// such a file the disk would not be opened again.
+pub(crate) fn is_of_disk(rt: &HostRuntime, path: &str, disk: &str) -> bool {
+    let is_one = name_behind(path, disk).is_some_and(|end| STORE_ENDS.contains(&end));
+    is_one && is_same_folder(rt, folder_of(path), folder_of(disk))
+}
+
+/// What the name of a file has behind the name of the disk, if it begins with that.
+fn name_behind<'a>(path: &'a str, disk: &str) -> Option<&'a str> {
+    let name = Path::new(path).file_name()?;
+    let disk_name = Path::new(disk).file_name()?;
+    name.strip_prefix(disk_name)
+}
+
+/// Whether both paths name one folder.
+fn is_same_folder(rt: &HostRuntime, path: &str, other: &str) -> bool {
+    match rt.metadata(path) {
+        Ok(found) => is_file_at(rt, other, found.dev(), found.ino()),
         Err(_) => false,
     }
 }

@@ -17,6 +17,8 @@ pub enum PacketsFault {
     InUse,
     /// It is the disk.
     IsDisk,
+    /// It is a file that the disk has beside it, or would be one.
+    IsOfDisk,
     /// It is a link, or no regular file.
     NoFile,
     /// A write took less than a packet.
@@ -137,6 +139,7 @@ impl Display for PacketsFault {
             PacketsFault::System(error) => OpenFault::System(*error).fmt(f),
             PacketsFault::InUse => f.pad("in use by another program"),
             PacketsFault::IsDisk => f.pad("the disk itself"),
+            PacketsFault::IsOfDisk => f.pad("the name of a file of the disk"),
             PacketsFault::NoFile => f.pad("a link, or not a regular file"),
             PacketsFault::Cut => f.pad("a packet was cut"),
             PacketsFault::NoTurns => f.pad("no turns to write"),

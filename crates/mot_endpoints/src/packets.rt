@@ -8,7 +8,7 @@ ghost use Rattle.mot_endpoints.specs.Packets.{IsTarget, begun_of, target_of};
 ghost use Rattle.mot_endpoints.specs.declared.packets.Target.{Target};
 ghost use Rattle.mot_packets.specs.Outlet.{Grows};
 
-use crate::beside::{NewFile, is_file_at, lock};
+use crate::beside::{NewFile, is_file_at, is_of_disk, lock};
 use crate::fault::{Cause, PacketsFault};
 use crate::taken::Taken;
 use mot_packets::Outlet;
@@ -119,13 +119,17 @@ fn open_stream(rt: &HostRuntime, path: &str) -> Result<PacketWriter<File>, Packe
     Ok(PacketWriter::of(file, Taken::of(path)))
 }
 
-/// What is at the path, to which a link may lead. The disk itself is refused.
+/// What is at the path, to which a link may lead. The disk itself is refused, and so are a name of a
+/// file of it and a path without a name.
 fn place_at(rt: &HostRuntime, path: &str, disk: &str) -> Result<Place, PacketsFault> {
+    if is_of_disk(rt, path, disk) {
+        return Err(PacketsFault::IsOfDisk);
+    }
     match rt.metadata(path) {
         Ok(found) if is_file_at(rt, disk, found.dev(), found.ino()) => Err(PacketsFault::IsDisk),
         Ok(found) if found.is_file() => Ok(Place::File),
         Ok(_) => Ok(Place::Stream),
-        Err(error) if error.kind() == ErrorKind::NotFound => Ok(Place::Nothing),
+        Err(error) if error.kind() == ErrorKind::NotFound && path != "" => Ok(Place::Nothing),
         Err(error) => Err(PacketsFault::System(error)),
     }
 }

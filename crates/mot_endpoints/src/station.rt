@@ -54,8 +54,8 @@ impl<'a> Station<'a> {
     /// Opens what the path names, to write packets to it. A pipe or a device is opened for reading
     /// and writing: so a pipe's opening waits for no reader, and its reader may go and come back.
     /// The pipe is locked, so that no other program of ours writes to it. A file is written only if
-    /// some turns are asked for: so a pipe that is not there is refused. So is the disk itself, and
-    /// a terminal.
+    /// some turns are asked for: so a pipe that is not there is refused. So are the disk itself,
+    /// the names of its files, and a terminal.
     pub fn packets(
         &mut self,
         path: &'a str,

@@ -1,7 +1,7 @@
 //! The file that monitoring reads. No contract says what these calls do to files.
 ghost use Rattle.std.specs.Prelude.{◌≡◌};
 
-use crate::beside::{SUFFIX, clear, is_file_at};
+use crate::beside::{SUFFIX, clear, is_file_at, is_of_disk};
 use crate::fault::PacketsFault;
 use std::alloc::AllocError;
 use std::fs::{self, OpenOptions};
@@ -52,6 +52,9 @@ impl<'a> StatusFile<'a> {
 
     /// Whether the text may take the place.
     fn check_place(&self) -> Result<(), PacketsFault> {
+        if is_of_disk(self.rt, self.path, self.disk) {
+            return Err(PacketsFault::IsOfDisk);
+        }
         match self.rt.symlink_metadata(self.path) {
             Ok(found) if !found.is_file() => Err(PacketsFault::NoFile),
             Ok(found) if is_file_at(self.rt, self.disk, found.dev(), found.ino()) => {
