@@ -156,24 +156,23 @@ def mounted_late(station):
     os.rename(away, station.folder)
 
 
+def write_slowly(station, name, mode, body, piece, seconds):
+    """Writes the file in pieces, with so many seconds after each."""
+    with open(station.folder / name, mode, buffering=0) as out:
+        for at in range(0, len(body), piece):
+            out.write(body[at : at + piece])
+            time.sleep(seconds)
+    station.given(name, body)
+
+
 def copied_slowly(station):
-    body = station.random.randbytes(12_000)
-    with open(station.folder / "slow.png", "wb", buffering=0) as out:
-        for at in range(0, len(body), 1_000):
-            out.write(body[at : at + 1_000])
-            time.sleep(1)
-    station.given("slow.png", body)
+    write_slowly(station, "slow.png", "wb", station.random.randbytes(12_000), 1_000, 1)
 
 
 def rewritten_in_place(station):
     station.file("same.png", station.random.randbytes(6_000))
     time.sleep(40)
-    body = station.random.randbytes(6_000)
-    with open(station.folder / "same.png", "r+b", buffering=0) as out:
-        for at in range(0, len(body), 500):
-            out.write(body[at : at + 500])
-            time.sleep(0.7)
-    station.given("same.png", body)
+    write_slowly(station, "same.png", "r+b", station.random.randbytes(6_000), 500, 0.7)
 
 
 def switched_by_a_link(station):
