@@ -1,0 +1,6 @@
+pub mod Call
+pub mod Inner
+pub mod Listing
+pub mod Placing
+pub mod Reading
+pub mod Writing

@@ -1,0 +1,84 @@
+//! A file that is written beside the one whose place it takes once it is whole.
+ghost use Rattle.mot_files.specs.Placing.{Holds, Places, Replaces};
+
+use crate::reading::is_same;
+use crate::system::{Fault, Handle, How, System};
+use crate::writing::write_all;
+
+/// Takes the lock of the file, and looks that its path still names it: else another program went on
+/// between.
+pub fn hold<S: System>(system: &mut S, handle: Handle, beside: &str) -> Result<(), Fault>
+    ensures { Holds handle beside.now result (S.calls system.old) (S.calls system.new) }
+{
+    if let Err(fault) = system.lock(handle) {
+        return Err(fault);
+    }
+    let named = match system.look(beside) {
+        Ok(named) => named,
+        Err(fault) => return Err(fault),
+    };
+    let held = match system.look_at(handle) {
+        Ok(held) => held,
+        Err(fault) => return Err(fault),
+    };
+    if is_same(&held, &named) {
+        Ok(())
+    } else {
+        Err(Fault::Busy)
+    }
+}
+
+/// Makes the file last, and then its name: at each moment the name is that of the old file, or of
+/// the new one, whole.
+pub fn take_place<S: System>(
+    system: &mut S,
+    handle: Handle,
+    beside: &str,
+    path: &str,
+    folder: &str,
+) -> Result<(), Fault>
+    ensures { Places handle beside.now path.now folder.now result (S.calls system.old)
+        (S.calls system.new) }
+{
+    if let Err(fault) = system.sync(handle) {
+        return Err(fault);
+    }
+    if let Err(fault) = system.rename(beside, path) {
+        return Err(fault);
+    }
+    let inside = match system.open(folder, How::Read) {
+        Ok(inside) => inside,
+        Err(fault) => return Err(fault),
+    };
+    let answer = system.sync(inside);
+    system.close(inside);
+    answer
+}
+
+/// Writes the text beside the file, and gives it the file's name. What could not be finished is
+/// taken away.
+pub fn replace<S: System>(
+    system: &mut S,
+    beside: &str,
+    path: &str,
+    text: &[u8],
+) -> Result<(), Fault>
+    ensures { Replaces beside.now path.now text.now result (S.calls system.old)
+        (S.calls system.new) }
+{
+    let handle = match system.open(beside, How::New) {
+        Ok(handle) => handle,
+        Err(fault) => return Err(fault),
+    };
+    let written = write_all(system, handle, text);
+    system.close(handle);
+    if let Err(fault) = written {
+        let _ = system.remove(beside);
+        return Err(fault);
+    }
+    if let Err(fault) = system.rename(beside, path) {
+        let _ = system.remove(beside);
+        return Err(fault);
+    }
+    Ok(())
+}

@@ -1,0 +1,198 @@
+//! The files of the machine. Each method makes the one call of its name, on what it is given, and
+//! notes it with its answer: no contract can say so, and a reader of this file has to see it.
+ghost use Rattle.std.specs.Prelude.{◌≡◌, []};
+
+use crate::answers::{closed, locked, real_path, seen, time_of_day, told};
+use crate::call_log::CallLog;
+use crate::system::{Event, Fault, Handle, How, Seen, System, Time};
+use crate::table::Table;
+use std::alloc::Global;
+use std::fs::{File, OpenOptions, TryLockError};
+use std::io::{self, IsTerminal, Read, Write};
+use std::os::unix::fs::FileExt;
+use std::rt::{Clock, Files, Stdout};
+use std::time::SystemTime;
+
+/// What is open.
+#[derive(Drop)]
+enum Open<D: Read + Drop> {
+    File(File),
+    Folder(D),
+    Output(Stdout),
+}
+
+/// The files of the machine.
+#[derive(Drop)]
+pub struct HostSystem<'a, T: Files<File = File> + Clock> {
+    rt: &'a T,
+    alloc: Global,
+    output: Stdout,
+    open: Table<Open<T::Dir>>,
+    calls: CallLog,
+}
+
+impl<'a, T: Files<File = File> + Clock> HostSystem<'a, T> {
+    /// The files of this runtime, and its standard output. Nothing was asked.
+    pub fn new(rt: &'a T, alloc: Global, output: Stdout) -> HostSystem<'a, T>
+        ensures { result.calls.all ≡ [] }
+    {
+        HostSystem {
+            rt,
+            alloc,
+            output,
+            open: Table::new(alloc),
+            calls: CallLog::new(),
+        }
+    }
+
+    /// Opens what the path names.
+    fn open_path(&self, path: &str, how: How) -> io::Result<Open<T::Dir>> {
+        let mut options = OpenOptions::new();
+        let options = match how {
+            How::Read => options.read(true),
+            How::New => options.read(true).write(true).create_new(true),
+            How::Stream => options.read(true).write(true),
+            How::Folder => return Ok(Open::Folder(self.rt.open_dir(path)?)),
+            How::Output => return Ok(Open::Output(self.output)),
+        };
+        Ok(Open::File(options.open(self.rt, path)?))
+    }
+
+    /// The file that the handle stands for.
+    fn file(&self, handle: Handle) -> Option<&File> {
+        match self.open.get(handle) {
+            Some(Open::File(file)) => Some(file),
+            _ => None,
+        }
+    }
+}
+
+impl<'a, T: Files<File = File> + Clock> System for HostSystem<'a, T> {
+    ghost calls = { λ system. system.calls.all };
+
+    fn look(&mut self, path: &str) -> Result<Seen, Fault> {
+        let answer = seen(self.rt.symlink_metadata(path));
+        self.calls
+            .note(&Event::Looked(answer), path.as_bytes(), &[]);
+        answer
+    }
+
+    fn follow(&mut self, path: &str) -> Result<Seen, Fault> {
+        let answer = seen(self.rt.metadata(path));
+        self.calls
+            .note(&Event::Followed(answer), path.as_bytes(), &[]);
+        answer
+    }
+
+    fn resolve(&mut self, path: &str, room: &mut [u8]) -> Result<usize, Fault> {
+        let answer = told(real_path(self.rt.canonicalize(self.alloc, path), room));
+        self.calls
+            .note_given(&Event::Resolved(answer), room, answer, path.as_bytes());
+        answer
+    }
+
+    fn open(&mut self, path: &str, how: How) -> Result<Handle, Fault> {
+        let answer = match told(self.open_path(path, how)) {
+            Ok(open) => self.open.keep(open),
+            Err(fault) => Err(fault),
+        };
+        self.calls
+            .note(&Event::Opened(how, answer), path.as_bytes(), &[]);
+        answer
+    }
+
+    fn look_at(&mut self, handle: Handle) -> Result<Seen, Fault> {
+        let answer = match self.file(handle) {
+            Some(file) => seen(file.metadata()),
+            None => told(Err(closed())),
+        };
+        self.calls.note(&Event::LookedAt(handle, answer), &[], &[]);
+        answer
+    }
+
+    fn is_terminal(&mut self, handle: Handle) -> bool {
+        let answer = match self.open.get(handle) {
+            Some(Open::File(file)) => file.is_terminal(),
+            Some(Open::Output(output)) => output.is_terminal(),
+            _ => false,
+        };
+        self.calls
+            .note(&Event::IsTerminal(handle, answer), &[], &[]);
+        answer
+    }
+
+    fn read(&mut self, handle: Handle, room: &mut [u8]) -> Result<usize, Fault> {
+        let answer = told(match self.open.get_mut(handle) {
+            Some(Open::File(file)) => file.read(room),
+            Some(Open::Folder(names)) => names.read(room),
+            _ => Err(closed()),
+        });
+        self.calls
+            .note_given(&Event::Read(handle, answer), room, answer, &[]);
+        answer
+    }
+
+    fn peek(&mut self, handle: Handle, room: &mut [u8]) -> Result<usize, Fault> {
+        let asked = room.len();
+        let answer = told(match self.file(handle) {
+            Some(file) => file.read_at(room, 0),
+            None => Err(closed()),
+        });
+        self.calls
+            .note_given(&Event::Peeked(handle, asked, answer), room, answer, &[]);
+        answer
+    }
+
+    fn write(&mut self, handle: Handle, bytes: &[u8]) -> Result<usize, Fault> {
+        let answer = told(match self.open.get_mut(handle) {
+            Some(Open::File(file)) => file.write(bytes),
+            Some(Open::Output(output)) => output.write(bytes),
+            _ => Err(closed()),
+        });
+        self.calls.note(&Event::Wrote(handle, answer), bytes, &[]);
+        answer
+    }
+
+    fn lock(&mut self, handle: Handle) -> Result<(), Fault> {
+        let answer = locked(match self.file(handle) {
+            Some(file) => file.try_lock(),
+            None => Err(TryLockError::Error(closed())),
+        });
+        self.calls.note(&Event::Locked(handle, answer), &[], &[]);
+        answer
+    }
+
+    fn sync(&mut self, handle: Handle) -> Result<(), Fault> {
+        let answer = told(match self.file(handle) {
+            Some(file) => file.sync_all(),
+            None => Err(closed()),
+        });
+        self.calls.note(&Event::Synced(handle, answer), &[], &[]);
+        answer
+    }
+
+    fn rename(&mut self, from: &str, to: &str) -> Result<(), Fault> {
+        let answer = told(self.rt.rename(from, to));
+        self.calls
+            .note(&Event::Renamed(answer), from.as_bytes(), to.as_bytes());
+        answer
+    }
+
+    fn remove(&mut self, path: &str) -> Result<(), Fault> {
+        let answer = told(self.rt.remove_file(path));
+        self.calls
+            .note(&Event::Removed(answer), path.as_bytes(), &[]);
+        answer
+    }
+
+    fn close(&mut self, handle: Handle) {
+        self.open.close(handle);
+        self.calls.note(&Event::Closed(handle), &[], &[]);
+    }
+
+    fn now(&mut self) -> Option<Time> {
+        let answer = time_of_day(SystemTime::now(self.rt));
+        self.calls.note(&Event::Told(answer), &[], &[]);
+        answer
+    }
+}

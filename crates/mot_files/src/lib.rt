@@ -1,0 +1,28 @@
+//! The files of a system, by calls that are noted one by one, so that clauses can say which calls
+//! were made and what follows from their answers.
+#![tactic(auto)]
+
+mod answers;
+mod beside;
+mod call_log;
+mod host;
+mod listing;
+mod memory;
+mod memory_calls;
+mod memory_folder;
+mod memory_state;
+mod reading;
+mod system;
+mod table;
+mod writing;
+
+pub use beside::{hold, replace, take_place};
+pub use call_log::CallLog;
+pub use host::HostSystem;
+pub use listing::{is_file, path_in};
+pub use memory::MemorySystem;
+pub use memory_folder::{Removed, Version};
+pub use memory_state::Plan;
+pub use reading::{Unread, is_regular, is_same, read_file};
+pub use system::{Event, Fault, Handle, How, Kind, Seen, System, Time};
+pub use writing::write_all;

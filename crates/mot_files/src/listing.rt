@@ -1,0 +1,34 @@
+//! What the names of a folder stand for.
+ghost use Rattle.std.specs.Prelude.{◌≡◌, ◌∷◌, ◌++◌, [], IfOk, Result, string_bytes};
+ghost use Rattle.mot_files.specs.Call.{looked};
+ghost use Rattle.mot_files.specs.Listing.{file_of, path_in};
+ghost use Rattle.mot_files.specs.declared.system.Fault.{Fault};
+ghost use Rattle.mot_files.specs.declared.system.Seen.{Seen};
+
+use crate::system::{Fault, Kind, System};
+use std::alloc::{AllocError, Global};
+
+/// Whether the path names a regular file. A link is none, and nothing is none.
+pub fn is_file<S: System>(system: &mut S, path: &str) -> Result<bool, Fault>
+    ensures { (answer : Result Seen Fault) × (S.calls system.new
+        ≡ S.calls system.old ++ looked path.now answer ∷ []) × (result ≡ file_of answer) }
+{
+    match system.look(path) {
+        Ok(named) => match named.kind {
+            Kind::File => Ok(true),
+            _ => Ok(false),
+        },
+        Err(Fault::Absent(_)) => Ok(false),
+        Err(fault) => Err(fault),
+    }
+}
+
+/// The path of a file of this name in a folder.
+pub fn path_in(alloc: Global, folder: &str, name: &str) -> Result<String, AllocError>
+    ensures { IfOk result (λ path. string_bytes path ≡ path_in folder.now name.now) }
+{
+    let mut path = String::from_str(alloc, folder)?;
+    path.push_str("/")?;
+    path.push_str(name)?;
+    Ok(path)
+}

@@ -1,0 +1,197 @@
+//! What a program asks of a system about its files.
+ghost use Rattle.std.specs.Prelude.{◌≡◌, ◌≤◌, List, [], ◌∷◌, ◌++◌, IfOk, length};
+ghost use Rattle.mot_files.specs.Call.{Call, closed, followed, locked, looked, looked_at, opened};
+ghost use Rattle.mot_files.specs.Call.{peeked, read, removed, renamed, resolved, synced, told_time};
+ghost use Rattle.mot_files.specs.Call.{told_terminal, wrote};
+
+use std::io::{self, ErrorKind};
+
+/// The number of what is open. It means what the system says that handed it out.
+#[derive(Clone, Copy, PartialEq, Eq)]
+pub struct Handle {
+    /// Its place among what is open.
+    pub slot: u64,
+}
+
+/// What a name or a handle stands for.
+#[derive(Clone, Copy, PartialEq, Eq)]
+pub enum Kind {
+    /// A regular file.
+    File,
+    /// A folder.
+    Folder,
+    /// A symbolic link.
+    Link,
+    /// A named pipe.
+    Pipe,
+    /// Anything else: a socket or a device.
+    Special,
+}
+
+/// A moment, in nanoseconds since one long ago.
+#[derive(Clone, Copy, PartialEq, Eq)]
+pub struct Time {
+    /// How many.
+    pub nanos: u128,
+}
+
+/// What the system says of a file.
+#[derive(Clone, Copy)]
+pub struct Seen {
+    /// What it is.
+    pub kind: Kind,
+    /// The device that it stands on.
+    pub device: u64,
+    /// Its number there.
+    pub number: u64,
+    /// How many bytes it has.
+    pub len: u64,
+    /// When its bytes were changed last.
+    pub written: Time,
+    /// When anything of it was changed last.
+    pub changed: Time,
+}
+
+/// Why a call was refused.
+#[derive(Clone, Copy)]
+pub enum Fault {
+    /// Nothing stands at the path, which the system said so.
+    Absent(io::Error),
+    /// Another program holds the lock.
+    Busy,
+    /// For another reason.
+    System(io::Error),
+}
+
+impl Fault {
+    /// What the system said.
+    pub fn error(self) -> io::Error {
+        match self {
+            Fault::Absent(error) | Fault::System(error) => error,
+            Fault::Busy => io::Error::from(ErrorKind::WouldBlock),
+        }
+    }
+}
+
+/// How a path is opened.
+#[derive(Clone, Copy)]
+pub enum How {
+    /// What is there, to be read.
+    Read,
+    /// A file that was not there, to be read and written.
+    New,
+    /// A pipe or a device that is there, to be read and written: so its opening waits for no other
+    /// program.
+    Stream,
+    /// A folder, whose names are read.
+    Folder,
+    /// Standard output, whatever the path is.
+    Output,
+}
+
+/// A call and its answer. Its bytes, and the path or the paths, stand beside it.
+#[derive(Clone, Copy)]
+pub enum Event {
+    /// What a path names; a link is not followed.
+    Looked(Result<Seen, Fault>),
+    /// What a path names, or what a link there leads to.
+    Followed(Result<Seen, Fault>),
+    /// The path without links of what a path names: so many bytes, which come first.
+    Resolved(Result<usize, Fault>),
+    /// A path was opened.
+    Opened(How, Result<Handle, Fault>),
+    /// What a handle stands for.
+    LookedAt(Handle, Result<Seen, Fault>),
+    /// So many bytes were read of it.
+    Read(Handle, Result<usize, Fault>),
+    /// So many of its first bytes were asked for, and so many came; what is read next stays.
+    Peeked(Handle, usize, Result<usize, Fault>),
+    /// These bytes were to be written to it, and so many were.
+    Wrote(Handle, Result<usize, Fault>),
+    /// Whether it is a terminal.
+    IsTerminal(Handle, bool),
+    /// Its lock was taken, which shows other programs that it is written.
+    Locked(Handle, Result<(), Fault>),
+    /// It was made to last.
+    Synced(Handle, Result<(), Fault>),
+    /// It was closed.
+    Closed(Handle),
+    /// A path took the place of another.
+    Renamed(Result<(), Fault>),
+    /// A path was removed.
+    Removed(Result<(), Fault>),
+    /// The time of day.
+    Told(Option<Time>),
+}
+
+/// A system of files. Each call is noted, with its answer.
+pub trait System {
+    // The calls so far, the first of them first.
+    ghost calls: { Self → List Call };
+
+    /// What the path names. A link is not followed.
+    fn look(&mut self, path: &str) -> Result<Seen, Fault>
+        ensures { calls self.new ≡ calls self.old ++ looked path.now result ∷ [] };
+
+    /// What the path names, or what a link there leads to.
+    fn follow(&mut self, path: &str) -> Result<Seen, Fault>
+        ensures { calls self.new ≡ calls self.old ++ followed path.now result ∷ [] };
+
+    /// The path from the topmost folder, without links, of what the path names; how many bytes it
+    /// has.
+    fn resolve(&mut self, path: &str, room: &mut [u8]) -> Result<usize, Fault>
+        ensures fits { IfOk result (λ count. count ≤ length room.new) }
+        ensures noted { calls self.new ≡ calls self.old ++ resolved path.now room.new result ∷ [] };
+
+    /// Opens what the path names.
+    fn open(&mut self, path: &str, how: How) -> Result<Handle, Fault>
+        ensures { calls self.new ≡ calls self.old ++ opened path.now how result ∷ [] };
+
+    /// What the handle stands for.
+    fn look_at(&mut self, handle: Handle) -> Result<Seen, Fault>
+        ensures { calls self.new ≡ calls self.old ++ looked_at handle result ∷ [] };
+
+    /// The next bytes, or names, each ended by a zero byte; how many bytes they are.
+    fn read(&mut self, handle: Handle, room: &mut [u8]) -> Result<usize, Fault>
+        ensures fits { IfOk result (λ count. count ≤ length room.new) }
+        ensures noted { calls self.new ≡ calls self.old ++ read handle room.new result ∷ [] };
+
+    /// Its first bytes, and how many they are. What is read next stays the same.
+    fn peek(&mut self, handle: Handle, room: &mut [u8]) -> Result<usize, Fault>
+        ensures fits { IfOk result (λ count. count ≤ length room.new) }
+        ensures noted { calls self.new
+            ≡ calls self.old ++ peeked handle (length room.old) room.new result ∷ [] };
+
+    /// Writes these bytes, or the first of them, in one write; how many it took.
+    fn write(&mut self, handle: Handle, bytes: &[u8]) -> Result<usize, Fault>
+        ensures fits { IfOk result (λ count. count ≤ length bytes.now) }
+        ensures noted { calls self.new ≡ calls self.old ++ wrote handle bytes.now result ∷ [] };
+
+    /// Whether it is a terminal.
+    fn is_terminal(&mut self, handle: Handle) -> bool
+        ensures { calls self.new ≡ calls self.old ++ told_terminal handle result ∷ [] };
+
+    /// Takes its lock: `Busy` if another program has it.
+    fn lock(&mut self, handle: Handle) -> Result<(), Fault>
+        ensures { calls self.new ≡ calls self.old ++ locked handle result ∷ [] };
+
+    /// Makes it last: its bytes, or the names of a folder.
+    fn sync(&mut self, handle: Handle) -> Result<(), Fault>
+        ensures { calls self.new ≡ calls self.old ++ synced handle result ∷ [] };
+
+    /// The first path takes the place of the second.
+    fn rename(&mut self, from: &str, to: &str) -> Result<(), Fault>
+        ensures { calls self.new ≡ calls self.old ++ renamed from.now to.now result ∷ [] };
+
+    /// Removes the file of this path.
+    fn remove(&mut self, path: &str) -> Result<(), Fault>
+        ensures { calls self.new ≡ calls self.old ++ removed path.now result ∷ [] };
+
+    /// Closes it.
+    fn close(&mut self, handle: Handle)
+        ensures { calls self.new ≡ calls self.old ++ closed handle ∷ [] };
+
+    /// The time of day, if it is known.
+    fn now(&mut self) -> Option<Time>
+        ensures { calls self.new ≡ calls self.old ++ told_time result ∷ [] };
+}

@@ -1,0 +1,86 @@
+//! What a system has open, by the numbers that it handed out.
+ghost use Rattle.std.specs.Prelude.{◌≡◌, ◌≢◌, ℕ, IfSome, MatchResult, None, Some, slice_get};
+ghost use Rattle.std.specs.Option.{option_copied, option_copied_mut};
+ghost use Rattle.mot_files.specs.Inner.Holding.{held};
+
+use crate::system::{Fault, Handle};
+use std::alloc::Global;
+use std::io::{self, ErrorKind};
+
+/// What is open.
+#[derive(Drop)]
+pub(crate) struct Table<T: Drop> {
+    /// By its handle; nothing, once it was closed.
+    places: Vec<Option<T>>,
+}
+
+impl<T: Drop> Table<T> {
+    /// Nothing is open.
+    pub(crate) fn new(alloc: Global) -> Table<T> {
+        Table {
+            places: Vec::new(alloc),
+        }
+    }
+
+    /// Gives what was opened a handle that stood for nothing. The other handles stay as they are.
+    pub(crate) fn keep(&mut self, opened: T) -> Result<Handle, Fault>
+        ensures { MatchResult result
+            (λ handle. (held self.old.places.items handle.slot ≡ None)
+            × (held self.new.places.items handle.slot ≡ Some opened)
+            × ((other : ℕ) → other ≢ handle.slot → held self.new.places.items other ≡ held self.old.places.items other))
+            (λ _. self.new.places.items ≡ self.old.places.items) }
+    {
+        if let Some(at) = self.free() {
+            self.places[at] = Some(opened);
+            return Ok(Handle { slot: at as u64 });
+        }
+        let slot = self.places.len() as u64;
+        match self.places.push(Some(opened)) {
+            Ok(()) => Ok(Handle { slot }),
+            Err(_) => Err(Fault::System(io::Error::from(ErrorKind::OutOfMemory))),
+        }
+    }
+
+    /// The first place at which nothing is open.
+    fn free(&self) -> Option<usize>
+        ensures { IfSome result (λ at. slice_get self.now.places.items at ≡ Some None) }
+    {
+        for (at, place) in self.places.iter().enumerate() {
+            if place.is_none() {
+                return Some(at);
+            }
+        }
+        None
+    }
+
+    /// What the handle stands for.
+    pub(crate) fn get(&self, handle: Handle) -> Option<&T>
+        ensures { option_copied result ≡ held self.now.places.items handle.slot }
+    {
+        match self.places.get(handle.slot as usize) {
+            Some(Some(open)) => Some(open),
+            _ => None,
+        }
+    }
+
+    /// What the handle stands for.
+    pub(crate) fn get_mut(&mut self, handle: Handle) -> Option<&mut T>
+        ensures { option_copied_mut result ≡ held self.old.places.items handle.slot }
+    {
+        match self.places.get_mut(handle.slot as usize) {
+            Some(Some(open)) => Some(open),
+            _ => None,
+        }
+    }
+
+    /// The handle stands for nothing.
+    pub(crate) fn close(&mut self, handle: Handle)
+        ensures nothing { held self.new.places.items handle.slot ≡ None }
+        ensures others { (other : ℕ) → other ≢ handle.slot
+            → held self.new.places.items other ≡ held self.old.places.items other }
+    {
+        if let Some(place) = self.places.get_mut(handle.slot as usize) {
+            *place = None;
+        }
+    }
+}
